@@ -1,5 +1,6 @@
 -- No mount(2) with MS_BIND by a task of a sealed set gives others a foothold.
-use Rattle.std.proofs.Common.{◌≡◌, refl, sym, ap, subst, ◌∙◌, inl, ℕ, nat_eq, Bool, true, false, List, [], Option, Some, None, Ok, Err}
+use Rattle.std.proofs.Common.{arith, ◌≡◌, refl, sym, ap, subst, ◌∙◌, inl, ℕ, nat_eq, Bool, true, false, List, [], Option, Some, None, Ok, Err}
+use Rattle.std.proofs.lemmas.Grind.{common_steps}
 use Rattle.std.specs.Prelude.{IfOk, is_ok}
 use Rattle.vt_spec.specs.Language.Calls.{TaskName}
 use Rattle.vt_spec.specs.Language.Calls.Call.{Bind}
@@ -10,7 +11,7 @@ use Rattle.vt_spec.specs.Machine.Judge.{Judgement, judge_in}
 use Rattle.vt_spec.specs.Machine.Mounts.{Location, Mount, source_of}
 use Rattle.vt_spec.specs.Machine.Permits.Permit.{ToBind}
 use Rattle.vt_spec.specs.Machine.Run.{Serves}
-use Rattle.vt_spec.specs.Machine.Sealed.{is_own_mount, members, sealed, used_directly}
+use Rattle.vt_spec.specs.Machine.Sealed.{members, sealed, used_directly}
 use Rattle.vt_spec.specs.Machine.World.{Task, World, mount_at, task_called}
 use Rattle.vt_spec.proofs.Lists.{Among, among-filter}
 use Rattle.vt_laws_sealed.proofs.part.part.PartOfPart.{is_own}
@@ -68,8 +69,7 @@ module _ (world : World ℕ) (names : List TaskName) (is : IsWorld nat_eq world)
       → Ours world names is sealed_off fresh serves g
   sources o m g e =
       let x = all_copied world names is from recursive (from_there, from_own) o m in
-      source_ours world names is sealed_off fresh serves x.0
-      (among-filter (is_own_mount nat_eq world names) world.mounts x.0 x.1.0 x.1.1) g (ap source_of (sym x.3) ∙ e)
+      grind (arith, common_steps, source_ours, among-filter)
 
   pub bound_as_before : OthersAsBefore world (bound_at nat_eq fresh world from here recursive) names names
   bound_as_before = subst (λ w. OthersAsBefore world w names names)

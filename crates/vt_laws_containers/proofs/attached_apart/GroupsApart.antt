@@ -1,5 +1,6 @@
 -- Where mounts of a sealed set come, in groups that the set hears or in new ones, mounts share no events with others.
-use Rattle.std.proofs.Common.{◌≡◌, refl, sym, ap, ◌∙◌, ◌⊎◌, inl, inr, ⊎_elim, ℕ, nat_eq, Bool, true, false, cond, true≢false, List, [], ◌∷◌, ◌++◌, Option, Some, None, map, not, eqb-true}
+use Rattle.std.proofs.Common.{arith, ◌≡◌, refl, sym, ap, ◌∙◌, ◌⊎◌, inl, inr, ⊎_elim, ℕ, nat_eq, true, false, true≢false, List, [], ◌∷◌, ◌++◌, Option, Some, None, map, not, eqb-true}
+use Rattle.std.proofs.lemmas.Grind.{common_steps}
 use Rattle.std.specs.List.{list_all}
 use Rattle.std.proofs.lemmas.Bool.{false_from_ne_true, or_cases}
 use Rattle.std.proofs.lemmas.Option.{same_Some}
@@ -32,17 +33,7 @@ masters_how : (group : ℕ) (made : List (ℕ × Option ℕ)) (master : ℕ → 
     × (folded (masters_with nat_eq) master made group ≡ entry.1))
 masters_how group [] master = inl refl
 masters_how group (entry ∷ rest) master =
-    ⊎_elim (λ same. by (nat_eq group entry.0) refl same) (λ set. inr (set.0, inr set.1, set.2, set.3))
-    (masters_how group rest (masters_with nat_eq master entry))
-  where
-    by : (b : Bool) → nat_eq group entry.0 ≡ b
-        → folded (masters_with nat_eq) (masters_with nat_eq master entry) rest group
-        ≡ cond (nat_eq group entry.0) entry.1 (master group)
-        → (folded (masters_with nat_eq) master (entry ∷ rest) group ≡ master group)
-        ⊎ ((one : ℕ × Option ℕ) × Among one (entry ∷ rest) × (group ≡ one.0)
-        × (folded (masters_with nat_eq) master (entry ∷ rest) group ≡ one.1))
-    by true e same = inr (entry, inl refl, eqb-true group entry.0 e, same ∙ ap (λ b. cond b entry.1 (master group)) e)
-    by false e same = inl (same ∙ ap (λ b. cond b entry.1 (master group)) e)
+    grind (arith, common_steps, eqb-true, masters_how group rest (masters_with nat_eq master entry))
 
 -- the master of a mount in a group is that of the group
 master_in : (world : World ℕ) (kind : Propagation ℕ) (group : ℕ) → group_of kind ≡ Some group

@@ -75,8 +75,7 @@ module _ (world : World ℕ) (names : List TaskName) (is : IsWorld nat_eq world)
       → is_among nat_eq l.mount (map (λ (m : Mount ℕ). m.number) world.mounts) ≡ true
   numbered_there l m =
       let at = located_there world names apart l m in
-      any_from_among (nat_eq l.mount) (map (λ (x : Mount ℕ). x.number) world.mounts) at.0.number
-      (among-map (λ (x : Mount ℕ). x.number) world.mounts at.0 at.1) at.2
+      grind (arith, common_steps, any_from_among, among-map)
 
   placed : (test : Task ℕ → Bool) (l : Location ℕ) → Among l (locations (filter test world.tasks))
       → Among l (all_locations world)

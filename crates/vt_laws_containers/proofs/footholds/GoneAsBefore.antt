@@ -115,11 +115,4 @@ module _ (world : World ℕ) (names : List TaskName) (name : TaskName) (call : C
           (among_numbers (gone_there world gone) number h) in
           let at = any_among (λ (mount : Mount ℕ). nat_eq number mount.number) world.mounts from.1 in
           let same : number ≡ at.0.number = eqb-true number at.0.number at.2 in
-          let its = placed_by at.0 (own at.0 at.1
-          (ap (is_going nat_eq gone) (sym same) ∙ is_among_numbers gone number from.0)) in (
-            its.0,
-            ap (λ (x : Mount ℕ). x.namespace)
-                (ap (mount_numbered nat_eq world) same ∙ found_itself world.mounts it.is.mounts.one_number at.0 at.1)
-                ∙ its.1,
-            its.2,
-          )
+          grind (arith, common_steps, placed_by, is_among_numbers, found_itself)

@@ -79,16 +79,7 @@ module _ (world : World ℕ) (names : List TaskName) (apart : IsApart world name
       let task = any_among (λ (t : Task ℕ). nat_eq space.0.number t.namespace) world.tasks
       (among_from_list_all (has_tasks nat_eq world) world.namespaces apart.is.namespaces.namespaces_live space.0
       space.1) in
-      by task.0 task.1 (eq-eqb n task.0.namespace
-      (eqb-true n at.0 at.2 ∙ space.2 ∙ eqb-true space.0.number task.0.namespace task.2))
-      (is_member_task names task.0) refl
-    where
-      by : (t : Task ℕ) → Among t world.tasks → nat_eq n t.namespace ≡ true → (b : Bool)
-          → is_member_task names t ≡ b → (is_ours n ≡ true) ⊎ (is_out n ≡ true)
-      by t m e true is = inl (any_from_among (λ (x : Task ℕ). nat_eq n x.namespace) (members world names) t
-          (among-filter (is_member_task names) world.tasks t m is) e)
-      by t m e false is = inr (any_from_among (λ (x : Task ℕ). nat_eq n x.namespace) out t
-          (among-filter (λ (x : Task ℕ). not (is_member_task names x)) world.tasks t m (ap not is)) e)
+      grind (arith, common_steps, eq-eqb, eqb-true, any_from_among, among-filter)
 
   pub out_is_not_ours : (n : ℕ) → is_out n ≡ true → is_ours n ≡ false
   out_is_not_ours n h =

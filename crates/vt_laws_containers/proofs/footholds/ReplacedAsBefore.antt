@@ -1,7 +1,6 @@
 -- Where mounts of a sealed set get other flags or mount points, others are as they were.
 use Rattle.std.proofs.lemmas.Grind.{common_steps}
-use Rattle.std.proofs.Common.{◌≡◌, refl, sym, ap, subst, ◌∙◌, ◌⊎◌, inl, inr, ⊎_elim, ℕ, nat_eq, Bool, true, false, cond, true≢false, List, [], ◌∷◌, Option, Some, None, Ok, filter, find, map, not, eq-eqb, eqb-true, arith}
-use Rattle.std.specs.Prelude.{unwrap_or}
+use Rattle.std.proofs.Common.{◌≡◌, refl, sym, ap, subst, ◌∙◌, ◌⊎◌, inl, inr, ⊎_elim, ℕ, nat_eq, Bool, true, false, cond, true≢false, List, [], ◌∷◌, Option, Some, None, Ok, filter, map, not, eq-eqb, eqb-true, arith}
 use Rattle.std.specs.List.{list_all, list_any}
 use Rattle.std.proofs.lemmas.Bool.{not-true}
 use Rattle.std.proofs.lemmas.Option.{same_Some}
@@ -78,16 +77,7 @@ module _ (world : World ℕ) (names : List TaskName) (is : IsWorld nat_eq world)
       → (number : ℕ) (list : List (Mount ℕ))
       → value (mount_in nat_eq (map change list) number) ≡ value (mount_in nat_eq list number)
   found_in value same number [] = refl
-  found_in {B} value same number (mount ∷ rest) =
-      cc (replaces.number mount, by (nat_eq number mount.number) (found_in value same number rest))
-    where
-      by : (b : Bool) → value (mount_in nat_eq (map change rest) number) ≡ value (mount_in nat_eq rest number)
-          → value (unwrap_or (cond b (Some (change mount))
-          (find (λ (m : Mount ℕ). nat_eq number m.number) (map change rest))) (no_mount number))
-          ≡ value (unwrap_or (cond b (Some mount) (find (λ (m : Mount ℕ). nat_eq number m.number) rest))
-          (no_mount number))
-      by true later = same mount
-      by false later = later
+  found_in {B} value same number (mount ∷ rest) = grind (arith, common_steps, found_in value same number rest)
 
   shown_same : (l : Location ℕ) → (mount_at nat_eq left l).filesystem ≡ (mount_at nat_eq world l).filesystem
   shown_same l = found_in (λ (m : Mount ℕ). m.filesystem) replaces.filesystem l.mount world.mounts

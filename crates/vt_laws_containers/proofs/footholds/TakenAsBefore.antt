@@ -214,9 +214,7 @@ module _ (world : World ℕ) (names set : List TaskName) (is : IsWorld nat_eq wo
   number_there : (location : Location ℕ) → Among location (all_locations world) → is_mount world location.mount ≡ true
   number_there location m =
       let at = located_there world names apart location m in
-      is_among_numbers (map (λ (x : Mount ℕ). x.number) world.mounts) location.mount
-      (subst (λ n. Among n (map (λ (x : Mount ℕ). x.number) world.mounts))
-      (sym (eqb-true location.mount at.0.number at.2)) (among-map (λ (x : Mount ℕ). x.number) world.mounts at.0 at.1))
+      grind (arith, common_steps, is_among_numbers, eqb-true, among-map)
 
   shown_still : (location : Location ℕ) → Among location (all_locations world)
       → (mount_at nat_eq left location).filesystem ≡ (mount_at nat_eq world location).filesystem

@@ -1,6 +1,6 @@
 -- Permits to look, to change tasks, and to change files leave others as they were.
 use Rattle.std.proofs.lemmas.Grind.{common_steps}
-use Rattle.std.proofs.Common.{◌≡◌, refl, sym, ap, subst, ◌∙◌, ◌⊎◌, inl, inr, ⊎_elim, ℕ, nat_eq, nat_lt, Bool, true, false, true≢false, cond, List, [], ◌∷◌, Some, Ok, filter, map, not, arith}
+use Rattle.std.proofs.Common.{◌≡◌, refl, sym, ap, subst, ◌∙◌, ◌⊎◌, inl, inr, ⊎_elim, ℕ, nat_eq, Bool, true, false, true≢false, List, [], ◌∷◌, Some, Ok, filter, map, not, arith}
 use Rattle.std.specs.Prelude.{IfOk, ◌==◌}
 use Rattle.vt_spec.specs.Language.Calls.{Access, Call, TaskName}
 use Rattle.vt_spec.specs.Lists.{Fresh, evens, odds}
@@ -42,15 +42,7 @@ opened_at : (new : Descriptor ℕ) (list : List (Descriptor ℕ)) (location : Lo
     → Among location (map (λ (d : Descriptor ℕ). d.location) (inserted new list))
     → (location ≡ new.location) ⊎ Among location (map (λ (d : Descriptor ℕ). d.location) list)
 opened_at new [] location m = ⊎_elim inl (λ none. absurd none) m
-opened_at new (first ∷ rest) location m = by (nat_lt new.number first.number) m (opened_at new rest location)
-  where
-    by : (b : Bool) → Among location (map (λ (d : Descriptor ℕ). d.location)
-        (cond b (new ∷ first ∷ rest) (first ∷ inserted new rest)))
-        → (Among location (map (λ (d : Descriptor ℕ). d.location) (inserted new rest))
-        → (location ≡ new.location) ⊎ Among location (map (λ (d : Descriptor ℕ). d.location) rest))
-        → (location ≡ new.location) ⊎ Among location (map (λ (d : Descriptor ℕ). d.location) (first ∷ rest))
-    by true k later = k
-    by false k later = ⊎_elim (λ e. inr (inl e)) (λ r. ⊎_elim inl (λ old. inr (inr old)) (later r)) k
+opened_at new (first ∷ rest) location m = grind (arith, common_steps, opened_at new rest location)
 
 -- the place that a permit names
 abbrev place_of : Location ℕ → Permit ℕ → Location ℕ

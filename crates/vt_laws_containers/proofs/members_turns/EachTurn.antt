@@ -113,10 +113,7 @@ module _ (sched : Sched ℕ) (names : List TaskName) (name : TaskName) (is : IsW
         (queue_turn nat_eq part (Someone name) (first ∷ rest) fresh) → Alike
     refused first rest e stay alike =
         let turned = turned_by (first ∷ rest) e in
-        as_turned names (ap (λ (o : Option Queued). grown_after names name o whole.reply) (ap first_of_list e)
-        ∙ ap (λ (t : Turned ℕ). grown_after names name (Some first) t.reply) turned.0 ∙ stay)
-        (subst (λ (t : Turned ℕ). LeaveAlike names t in_part) (sym turned.0)
-        (subst (LeaveAlike names (queue_turn nat_eq sched (Someone name) (first ∷ rest) fresh)) (sym turned.1) alike))
+        grind (arith, common_steps, as_turned)
 
   module _ (given : Fresh ℕ) (it : IsTurnOfTheirs sched names name (Some given))
       (answers : is_some (turn nat_eq sched (Someone name) (Some given)).reply ≡ true) where

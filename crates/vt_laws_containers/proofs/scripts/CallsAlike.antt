@@ -1,5 +1,6 @@
 -- Calls that end alike in every world, and the scripts of these.
-use Rattle.std.proofs.Common.{◌≡◌, refl, sym, ap, ◌∙◌, ℕ, nat_eq, Bool, true, false, true≢false, List, [], ◌∷◌, Option, Some, None, Ok, Err, map, ◌||◌}
+use Rattle.std.proofs.Common.{arith, ◌≡◌, refl, sym, ap, ◌∙◌, ℕ, nat_eq, Bool, true, false, true≢false, List, [], ◌∷◌, Option, Some, None, Ok, Err, map, ◌||◌}
+use Rattle.std.proofs.lemmas.Grind.{common_steps}
 use Rattle.std.specs.Prelude.{is_ok}
 use Rattle.vt_spec.specs.Language.Calls.{Call, TaskName, same_name}
 use Rattle.vt_spec.specs.Language.Calls.Call.{Bind, MountOverlay, MountPlain, MoveMount, SetType, Unshare}
@@ -9,7 +10,7 @@ use Rattle.vt_spec.specs.Machine.Permits.{Permit}
 use Rattle.vt_spec.specs.Machine.Permits.Permit.{Allowed, ToBind, ToChange, ToClose, ToEnterNamespace, ToExit, ToFork, ToList, ToListMounts, ToMake, ToMountOverlay, ToMountPlain, ToMove, ToOpen, ToOpenNew, ToPivot, ToRead, ToReadPart, ToRemoveDirectory, ToRename, ToSetCredentials, ToSetDirectory, ToSetFlags, ToSetRoot, ToSetType, ToSetUmask, ToStat, ToUnmount, ToUnmountLazily, ToUnshare, ToWritePart}
 use Rattle.vt_spec.specs.Machine.Outcomes.{denied}
 use Rattle.vt_spec.specs.Machine.Policy.{finished_by, only_looks}
-use Rattle.vt_spec.specs.Machine.Run.{Serves, numbers_for}
+use Rattle.vt_spec.specs.Machine.Run.{Serves}
 use Rattle.vt_spec.specs.Machine.World.{Task, World, task_called}
 use Rattle.vt_laws_rules.proofs.given.GivenPermits.{permits_are_for_their_calls}
 use Rattle.vt_laws_trees.specs.Trees.Limits.{names_few_groups}
@@ -151,20 +152,9 @@ each_so : (others : Bool) (calls : List Asked) → AreFew calls → (at : Stand)
     → EachEndsAlike others at calls
 each_so others [] few at always = record { in_part = tt; footholds = tt }
 each_so others (None ∷ calls) few at always =
-    let rest = each_so others calls few.1 (next others at None) always.1 in
-    record { in_part = (tt, rest.in_part); footholds = (tt, rest.footholds) }
+    grind (arith, common_steps, each_so others calls few.1 (next others at None) always.1)
 each_so others (Some call ∷ calls) few at always =
-    let rest = each_so others calls few.1 (next others at (Some call)) always.1 in
-    record {
-      in_part = (
-        λ it serves. (always.0 it.theirs at.world at.names call.0 (numbers_for at.number) it few.0 serves).0,
-        rest.in_part,
-      );
-      footholds = (
-        λ it serves. (always.0 it.theirs at.world at.names call.0 (numbers_for at.number) it few.0 serves).1,
-        rest.footholds,
-      );
-    }
+    grind (arith, common_steps, each_so others calls few.1 (next others at (Some call)) always.1)
 
 pub runs_end_alike : RunsEndAlike
 runs_end_alike others at grammar lines always =
@@ -174,10 +164,8 @@ runs_end_alike others at grammar lines always =
 all_in_part : (others : Bool) (calls : List Asked) (at : Stand) → Along EndsInThePart others at calls
 all_in_part others [] at = tt
 all_in_part others (None ∷ calls) at = (tt, all_in_part others calls (next others at None))
-all_in_part others (Some call ∷ calls) at = (
-  λ it serves. each_call_ends_alike at.world at.names call.0 call.1 it (numbers_for at.number) serves,
-  all_in_part others calls (next others at (Some call)),
-)
+all_in_part others (Some call ∷ calls) at =
+    grind (arith, common_steps, each_call_ends_alike, all_in_part others calls (next others at (Some call)))
 
 pub sets_that_keep_others_out_are_answered_as_alone : SetsThatKeepOthersOutAreAnsweredAsAlone
 sets_that_keep_others_out_are_answered_as_alone at grammar lines off stays full lone =

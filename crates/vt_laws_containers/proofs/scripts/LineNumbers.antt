@@ -64,11 +64,7 @@ module _ (line : ℕ) (world : World ℕ) (has : HasEarlierNumbers (suc line) wo
     where
       by : (other place : ℕ) → suc line + 1 ≤ other → named_now (numbers_for other place) ≡ false
       by zero place less = absurd (omega (arith, less))
-      by (suc other) place less = cc (
-        has.later (suc other) place (omega (arith, less)),
-        row_of other place,
-        ne_eqb (suc other) (suc line) (λ e. omega (arith, less, e)),
-      )
+      by (suc other) place less = grind (arith, common_steps, row_of, ne_eqb)
 
   numbers_left_here : (name : TaskName) (call : Call)
       → HasEarlierNumbers (suc line + 1) (policy nat_eq (numbers_for (suc line)) world name call).world

@@ -14,7 +14,7 @@ use Rattle.vt_spec.specs.Machine.Receives.{groups_up, has_members, heir, inherit
 use Rattle.vt_spec.specs.Machine.Run.{Serves}
 use Rattle.vt_spec.specs.Machine.Sealed.{is_own_mount, is_own_namespace, master_of, other_mounts, own_mounts, receives_events_of, sealed, share_events, shares_no_events}
 use Rattle.vt_spec.specs.Machine.Types.{master_after, type_after, with_master, with_new_groups}
-use Rattle.vt_spec.specs.Machine.World.{World, mount_numbered}
+use Rattle.vt_spec.specs.Machine.World.{World}
 use Rattle.vt_spec.proofs.Found.{find-chain_start, found_among}
 use Rattle.vt_spec.proofs.Lists.{Among, among-from_filter, among-from_map, among-map, any_among, any_from_among, is_among_numbers, list_all_from_among, map_same}
 use Rattle.vt_spec.proofs.Options.{none_is_some}
@@ -144,9 +144,7 @@ module _ (world : World ℕ) (names : List TaskName) (is : IsWorld nat_eq world)
       let other = any_among (λ (o : Mount ℕ). nat_eq m.number o.number) named h in
       let own = named_own other.0 other.1 in
       let there = (among-from_filter (is_own_mount nat_eq world names) world.mounts other.0 own).0 in
-      subst (λ k. Among k owns) (sym (found_itself world.mounts is.mounts.one_number other.0 there)
-      ∙ ap (mount_numbered nat_eq world) (sym (eqb-true m.number other.0.number other.2))
-      ∙ found_itself world.mounts is.mounts.one_number m n) own
+      grind (arith, common_steps, found_itself, there, eqb-true)
 
   other_unnamed : (other : Mount ℕ) → Among other others → is_named fresh word named other ≡ false
   other_unnamed other m = false_from_ne_true (is_named fresh word named other) (λ h.
@@ -158,16 +156,12 @@ module _ (world : World ℕ) (names : List TaskName) (is : IsWorld nat_eq world)
   masters_how : (g : ℕ) (list : List (Mount ℕ)) (a : ℕ → Option ℕ)
       → (with_new_groups nat_eq (numbers_by nat_eq fresh named) a list g ≡ a g) ⊎ IsNewBy fresh g
   masters_how g [] a = inl refl
-  masters_how g (m ∷ rest) a = ⊎_elim (λ same. by (nat_eq g (numbers_by nat_eq fresh named m.number)) refl same) inr
-      (masters_how g rest (with_master nat_eq a (numbers_by nat_eq fresh named m.number) (master_after m.propagation)))
-    where
-      by : (b : Bool) → nat_eq g (numbers_by nat_eq fresh named m.number) ≡ b
-          → with_new_groups nat_eq (numbers_by nat_eq fresh named)
-          (with_master nat_eq a (numbers_by nat_eq fresh named m.number) (master_after m.propagation)) rest g
-          ≡ cond (nat_eq g (numbers_by nat_eq fresh named m.number)) (master_after m.propagation) (a g)
-          → (with_new_groups nat_eq (numbers_by nat_eq fresh named) a (m ∷ rest) g ≡ a g) ⊎ IsNewBy fresh g
-      by true e same = inr (index_of nat_eq named m.number, eqb-true g (numbers_by nat_eq fresh named m.number) e)
-      by false e same = inl (same ∙ ap (λ b. cond b (master_after m.propagation) (a g)) e)
+  masters_how g (m ∷ rest) a = grind (
+    arith,
+    common_steps,
+    eqb-true,
+    masters_how g rest (with_master nat_eq a (numbers_by nat_eq fresh named m.number) (master_after m.propagation)),
+  )
 
   masters_ours : (g above : ℕ) (a : ℕ → Option ℕ) → (a g ≡ Some above → Ours above) → (list : List (Mount ℕ))
       → ((m : Mount ℕ) → Among m list → Among m owns)

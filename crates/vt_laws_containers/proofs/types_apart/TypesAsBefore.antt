@@ -1,10 +1,10 @@
 -- Where mounts of a sealed set change their types, others are as they were.
-use Rattle.std.proofs.Common.{◌≡◌, refl, ap, subst, ◌∙◌, inl, ℕ, nat_eq, Bool, true, false, cond, List, [], ◌∷◌, ◌++◌, Some, find, map, not}
-use Rattle.std.specs.Prelude.{unwrap_or}
+use Rattle.std.proofs.Common.{arith, ◌≡◌, refl, ap, subst, ◌∙◌, inl, ℕ, nat_eq, Bool, true, List, [], ◌∷◌, ◌++◌, map, not}
+use Rattle.std.proofs.lemmas.Grind.{common_steps}
 use Rattle.vt_spec.specs.Language.Calls.{TaskName, TypeWord}
 use Rattle.vt_spec.specs.Lists.{Fresh}
 use Rattle.vt_spec.specs.Machine.Invariants.{IsWorld}
-use Rattle.vt_spec.specs.Machine.Mounts.{Location, Mount, Propagation, mount_in, no_mount}
+use Rattle.vt_spec.specs.Machine.Mounts.{Location, Mount, Propagation, mount_in}
 use Rattle.vt_spec.specs.Machine.Run.{Serves}
 use Rattle.vt_spec.specs.Machine.Sealed.{is_own_mount, locations, members, outsiders, own_mounts, sealed, used_directly}
 use Rattle.vt_spec.specs.Machine.World.{World, mount_at}
@@ -23,14 +23,7 @@ module _ {A : Type 0} (kind : Mount ℕ → Propagation ℕ) (f : Mount ℕ → 
   kept_at : (mounts : List (Mount ℕ))
       → f (mount_in nat_eq (map after mounts) number) ≡ f (mount_in nat_eq mounts number)
   kept_at [] = refl
-  kept_at (m ∷ rest) = by (nat_eq number m.number) (kept_at rest)
-    where
-      by : (b : Bool) → f (mount_in nat_eq (map after rest) number) ≡ f (mount_in nat_eq rest number)
-          → f (unwrap_or (cond b (Some (after m)) (find (λ (x : Mount ℕ). nat_eq number x.number) (map after rest)))
-          (no_mount number))
-          ≡ f (unwrap_or (cond b (Some m) (find (λ (x : Mount ℕ). nat_eq number x.number) rest)) (no_mount number))
-      by true e = same m
-      by false e = e
+  kept_at (m ∷ rest) = grind (arith, common_steps, kept_at rest)
 
 module _ (world : World ℕ) (names : List TaskName) (is : IsWorld nat_eq world)
     (sealed_off : sealed nat_eq world names ≡ true) (fresh : Fresh ℕ) (serves : Serves nat_eq world fresh)

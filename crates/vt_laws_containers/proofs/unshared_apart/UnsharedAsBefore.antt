@@ -102,8 +102,7 @@ module _ (world : World ℕ) (names : List TaskName) (name : TaskName) (it : IsC
   not_new : (n : ℕ) → is_listed nat_eq world n ≡ true → nat_eq n s ≡ false
   not_new n listed =
       let at = listed_in world n listed in
-      false_from_ne_true (nat_eq n s) (λ e. true≢false
-      (sym (eq-eqb s at.0.number (sym (eqb-true n s e) ∙ at.2)) ∙ new_among_spaces world fresh serves at.0 at.1))
+      grind (arith, common_steps, false_from_ne_true, true≢false, eq-eqb, eqb-true, new_among_spaces)
 
   task_listed : (t : Task ℕ) → Among t world.tasks → is_listed nat_eq world t.namespace ≡ true
   task_listed t m = among_from_list_all (λ (t : Task ℕ). is_listed nat_eq world t.namespace) world.tasks
@@ -176,9 +175,7 @@ module _ (world : World ℕ) (names : List TaskName) (name : TaskName) (it : IsC
 
   none_come : (list : List (Mount ℕ)) → filter is_out_left (map copy list) ≡ []
   none_come [] = refl
-  none_come (x ∷ rest) =
-      ap (λ c. cond c (copy x ∷ filter is_out_left (map copy rest)) (filter is_out_left (map copy rest))) (ap not s_own)
-      ∙ none_come rest
+  none_come (x ∷ rest) = grind (arith, common_steps, s_own, none_come rest)
 
   others_are : filter (λ (t : Task ℕ). not (is_member_task names t)) (map replaced world.tasks) ≡ outsiders world names
   others_are = others_unmoved world names name Unshare it task called moved refl
@@ -279,9 +276,8 @@ module _ (world : World ℕ) (names : List TaskName) (name : TaskName) (it : IsC
         theirs : (t : Task ℕ) → Among t world.tasks → t.namespace ≡ k → (b : Bool)
             → is_member_task names t ≡ b → Among t old
         theirs t m together true f = among-filter (is_member_task names) world.tasks t m f
-        theirs t m together false f = absurd (true≢false (sym (ap ours together ∙ k_own)
-            ∙ namespace_outside world names its_apart t
-            (among-filter (λ x. not (is_member_task names x)) world.tasks t m (ap not f))))
+        theirs t m together false f =
+            grind (arith, common_steps, true≢false, k_own, namespace_outside, its_apart, among-filter)
 
         by : (b : Bool) → Ends b world task → is_out_left (cut b k m) ≡ false
         by true alone = ap (λ c. is_out_left (cond c (detached m) m)) e
@@ -397,8 +393,7 @@ module _ (world : World ℕ) (names : List TaskName) (name : TaskName) (it : IsC
         → Among n (used_directly nat_eq world names)
     shown_was y m own n e =
         let of = origin y m own in
-        among-append_left mounted (map shows (locations old)) n (subst (λ i. Among i mounted) (sym (e ∙ of.2))
-        (among-map (λ (m : Mount ℕ). m.filesystem) (own_mounts nat_eq world names) of.0 of.1))
+        grind (arith, common_steps, among-append_left, among-map)
 
     copy_owned : (y : Mount ℕ) → Among y copies → owns_left y ≡ true
     copy_owned y m = ap owns_left (among-from_map copy copied y m).2 ∙ s_own

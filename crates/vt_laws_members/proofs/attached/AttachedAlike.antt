@@ -1,8 +1,9 @@
 -- Where copies come at a mount of theirs and at its receivers, the worlds that are left have one part.
-use Rattle.std.proofs.Common.{◌≡◌, refl, sym, ap, ◌∙◌, ⊎_elim, ℕ, nat_eq, Bool, true, false, cond, List, [], ◌++◌, Option, Some, None, append_assoc, filter, flat_map, map}
+use Rattle.std.proofs.Common.{arith, ◌≡◌, refl, sym, ap, ◌∙◌, ⊎_elim, ℕ, nat_eq, Bool, true, false, cond, List, [], ◌++◌, Option, Some, None, append_assoc, filter, map}
+use Rattle.std.proofs.lemmas.Grind.{common_steps}
 use Rattle.std.specs.List.{list_any}
 use Rattle.vt_spec.specs.Language.Calls.{TaskName}
-use Rattle.vt_spec.specs.Lists.{folded, is_among, rest_of, then_some}
+use Rattle.vt_spec.specs.Lists.{folded, is_among}
 use Rattle.vt_spec.specs.Machine.Attach.{Copies, attached_by, masters_with}
 use Rattle.vt_spec.specs.Machine.Invariants.{IsWorld}
 use Rattle.vt_spec.specs.Machine.Mounts.{Location, Mount, source_of}
@@ -82,11 +83,7 @@ module _ (world : World ℕ) (names : List TaskName) (is : IsWorld nat_eq world)
 
   above_alike : (m : Mount ℕ) → Among m u.mounts → is_own world names theirs m ≡ true
       → master_above u_part m ≡ master_above u m
-  above_alike m n own = by (source_of m.propagation) refl
-    where
-      by : (o : Option ℕ) → source_of m.propagation ≡ o → then_some o master_too ≡ then_some o master
-      by None e = refl
-      by (Some g) e = known m n own g e
+  above_alike m n own = grind (arith, common_steps, known)
 
   pub grown_alike : (name : TaskName) → part_of nat_eq (numbers_raised nat_eq world name [] u) names
       ≡ part_of nat_eq (numbers_raised nat_eq part name [] u_part) names
@@ -138,11 +135,7 @@ module _ (world : World ℕ) (names : List TaskName) (is : IsWorld nat_eq world)
   -- the worlds that are left
   as_grown : (w : World ℕ) → attached_as world names is sealed_off new_ones unused place there own new false origins w
       ≡ grown_world w names up added new_ones (with_made w.master)
-  as_grown w = ap (λ l. record w { mounts = l; master = with_made w.master; filesystems = w.filesystems ++ new_ones })
-      (append_assoc (map up w.mounts)
-      (copies world names is sealed_off new_ones unused place there own new false origins (mount_at nat_eq world place))
-      (flat_map (copies world names is sealed_off new_ones unused place there own new false origins)
-      (rest_of (parts world names is sealed_off new_ones unused place there own))))
+  as_grown w = grind (arith, common_steps, append_assoc, copies, parts)
 
   pub copies_alike : (name : TaskName) → part_of nat_eq (numbers_raised nat_eq world name []
       (attached_by nat_eq (base world names is sealed_off new_ones unused place there own) new place false origins))

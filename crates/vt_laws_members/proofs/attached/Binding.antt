@@ -1,5 +1,6 @@
 -- Each mount(2) with MS_BIND, recursive or not, ends in the part as in the world.
-use Rattle.std.proofs.Common.{◌≡◌, refl, sym, ap, subst, ◌∙◌, inl, ⊎_elim, ℕ, zero, suc, nat_eq, Bool, true, false, List, [], Option, Some, None, Ok, Err, filter, length, not}
+use Rattle.std.proofs.Common.{arith, ◌≡◌, refl, sym, ap, subst, ◌∙◌, ⊎_elim, ℕ, zero, suc, nat_eq, Bool, true, false, List, [], Option, Some, None, Ok, Err, filter, length, not}
+use Rattle.std.proofs.lemmas.Grind.{common_steps}
 use Rattle.std.specs.Prelude.{IfOk, is_ok}
 use Rattle.std.specs.List.{list_any}
 use Rattle.std.proofs.lemmas.Bool.{or_parts}
@@ -33,7 +34,7 @@ use Rattle.vt_laws_members.proofs.judging.AllJudged.{owned}
 use Rattle.vt_laws_members.proofs.judging.Grounds.{IsTheirs, numbered, theirs_from}
 use Rattle.vt_laws_members.proofs.judging.MountTrees.{bind_alike, children_own, own_theirs}
 use Rattle.vt_laws_members.proofs.judging.SeenInPart.{theirs_directly}
-use Rattle.vt_laws_members.specs.Changes.Changes.{EndAlike, EndsAlike, IsCallOfTheirs, grown}
+use Rattle.vt_laws_members.specs.Changes.Changes.{EndAlike, EndsAlike, IsCallOfTheirs}
 use Rattle.vt_laws_members.proofs.changes.letting_go.Heard.{heard_by_own, master_same}
 use Rattle.vt_laws_members.proofs.changes.letting_go.Moving.{StandsHere, one}
 use Rattle.vt_laws_members.proofs.changes.letting_go.Umounting.{of_passed}
@@ -182,12 +183,7 @@ module _ (world : World ℕ) (names : List TaskName) (name : TaskName) (source p
       (own_theirs world names it.is x.0 x.1.0 x.1.1))
 
   shows : ShowTheirs world names it.is it.sealed_off [] unused here here_there own new false origins
-  shows = record {
-    shown = λ o m. inl (shown o m);
-    unlisted = λ f m. refl;
-    layers = λ f m. absurd m;
-    mounted = λ f m. absurd m;
-  }
+  shows = grind (arith, common_steps, shown)
 
   sources : (o : Mount ℕ) → Among o origins → (g : ℕ) → source_of o.propagation ≡ Some g
       → part.master g ≡ world.master g
@@ -247,12 +243,7 @@ module _ (world : World ℕ) (names : List TaskName) (name : TaskName) (source p
       name ∙ sym (ap (λ w. part_of nat_eq (numbers_raised nat_eq part name [] w) names) there_so)
 
   bind_ends : EndsAlike world names name (Bind source path recursive) fresh fresh
-  bind_ends = subst (λ p. EndAlike (grown names name (Bind source path recursive) (policy nat_eq fresh world name
-      (Bind source path recursive)).answer)
-      (policy nat_eq fresh world name (Bind source path recursive)) p) (sym second)
-      (subst (λ o. EndAlike (grown names name (Bind source path recursive) o.answer) o
-      (granted Done (numbers_raised nat_eq part name [] now_there))) (sym first)
-      (record { answer = refl; part = parts_same }))
+  bind_ends = grind (arith, common_steps, second, first, parts_same)
 
 pub binds_end_alike : BindsEndAlike
 binds_end_alike world names name source path recursive it fresh serves = by (task_called world name) refl

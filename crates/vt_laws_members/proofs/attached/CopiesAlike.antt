@@ -1,13 +1,14 @@
 -- Copies that are attached at a mount of theirs, at its receivers and what they push up, are the same in the part.
-use Rattle.std.proofs.Common.{◌≡◌, refl, sym, ap, subst, ◌∙◌, inl, inr, ⊎_elim, ℕ, nat_eq, Bool, true, false, cond, List, [], ◌∷◌, ◌++◌, Option, Some, None, append-nil, filter, find, flat_map, is_some, map, not, ◌&&◌}
+use Rattle.std.proofs.Common.{arith, ◌≡◌, refl, sym, ap, subst, ◌∙◌, inl, inr, ⊎_elim, ℕ, nat_eq, Bool, true, false, cond, List, [], ◌∷◌, ◌++◌, Option, Some, None, append-nil, filter, find, flat_map, is_some, map, not, ◌&&◌}
+use Rattle.std.proofs.lemmas.Grind.{common_steps}
 use Rattle.std.specs.Prelude.{option_map}
 use Rattle.std.specs.List.{filter_map, list_any}
 use Rattle.vt_spec.specs.FileTree.{is_directory_under}
 use Rattle.vt_spec.specs.Language.Calls.{TaskName}
 use Rattle.vt_spec.specs.Lists.{folded, is_among, rest_of, then_some, when}
-use Rattle.vt_spec.specs.Machine.Attach.{Copies, Graft, Twig, added_mounts, all_groups_made, attached_at, attached_by, copies_at, copy_at, copy_mount_point, copy_number, copy_type, graft_of, group_made, image, is_destination, masters_with, nearest_image, parts_of, pushed_onto, pushed_up, receiver_stood_on, receivers_of, takes_part, top_of_copies, twig_master, twig_of, with_moved_mounts}
+use Rattle.vt_spec.specs.Machine.Attach.{Copies, Graft, Twig, added_mounts, all_groups_made, attached_at, attached_by, copies_at, copy_at, copy_mount_point, copy_number, copy_type, graft_of, group_made, image, is_destination, masters_with, nearest_image, parts_of, pushed_up, receivers_of, takes_part, twig_master, twig_of, with_moved_mounts}
 use Rattle.vt_spec.specs.Machine.Invariants.{IsWorld}
-use Rattle.vt_spec.specs.Machine.Mounts.{Location, Mount, Propagation, group_of, source_of, stands_at}
+use Rattle.vt_spec.specs.Machine.Mounts.{Location, Mount, Propagation, group_of, source_of}
 use Rattle.vt_spec.specs.Machine.Mounts.Propagation.{Private, Shared, Slave, Unbindable}
 use Rattle.vt_spec.specs.Machine.Receives.{has_members, is_member_of, slave_of_heir}
 use Rattle.vt_spec.specs.Machine.Sealed.{is_own_mount, members, part_of, sealed, used_filesystems}
@@ -29,10 +30,7 @@ use Rattle.vt_laws_members.proofs.attached.GrownPart.{found_before}
 
 -- a mount's group is its source
 pub group_source : (kind : Propagation ℕ) (g : ℕ) → group_of kind ≡ Some g → source_of kind ≡ Some g
-group_source (Shared h) g e = e
-group_source (Slave h) g e = none_is_some g e
-group_source Private g e = none_is_some g e
-group_source Unbindable g e = none_is_some g e
+group_source kind g e = grind (arith, common_steps, none_is_some)
 
 -- a world without new filesystems
 pub no_new_ones : (w : World ℕ) → w ≡ record w { filesystems = w.filesystems ++ [] }
@@ -174,15 +172,7 @@ module _ (world : World ℕ) (names : List TaskName) (is : IsWorld nat_eq world)
         (λ twig m. copy_alike p n twig)
 
     push_alike : (m : Mount ℕ) → pushed_up nat_eq base_part new tree parts m ≡ push m
-    push_alike m = by (receiver_stood_on nat_eq tree parts m) refl
-      where
-        by : (o : Option (Mount ℕ)) → receiver_stood_on nat_eq tree parts m ≡ o
-            → pushed_onto nat_eq base_part new tree parts m o ≡ pushed_onto nat_eq base new tree parts m o
-        by None e = refl
-        by (Some p) e = ap (λ l. record m { mount_point = Some (top_of_copies nat_eq l place) })
-            (copies_alike p (inr (found_among
-            (λ (x : Mount ℕ). stands_at nat_eq (record { mount = x.number; node = place.node }) m)
-            (rest_of parts) p e)))
+    push_alike m = grind (arith, common_steps, copies_alike, found_among)
 
     -- groups that copies form
     made_alike : (p : Mount ℕ) → Among p parts → (twig : Twig ℕ)

@@ -1,13 +1,14 @@
 -- The part of a sealed set is fit for what is attached to a mount of theirs: mounts and locations stand in it.
-use Rattle.std.proofs.Common.{◌≡◌, refl, sym, ap, subst, ◌∙◌, ⊎_elim, ℕ, nat_eq, true, List, Option, Some, None, is_some, map, eq-eqb}
+use Rattle.std.proofs.Common.{arith, ◌≡◌, sym, ap, subst, ◌∙◌, ⊎_elim, ℕ, nat_eq, true, List, is_some, map, eq-eqb}
+use Rattle.std.proofs.lemmas.Grind.{common_steps}
 use Rattle.std.specs.Prelude.{IfOk}
 use Rattle.std.proofs.lemmas.Bool.{and_parts}
 use Rattle.vt_spec.specs.Language.Calls.{TaskName}
-use Rattle.vt_spec.specs.Lists.{holds_of, is_among}
+use Rattle.vt_spec.specs.Lists.{is_among}
 use Rattle.vt_spec.specs.Machine.Invariants.{IsWorld, is_located_well, is_there}
 use Rattle.vt_spec.specs.Machine.Mounts.{Location, Mount}
 use Rattle.vt_spec.specs.Machine.Rules.Mounting.{destination_walk, source_walk}
-use Rattle.vt_spec.specs.Machine.Sealed.{is_member_task, is_own_namespace, locations, members, part_of, sealed}
+use Rattle.vt_spec.specs.Machine.Sealed.{is_member_task, locations, members, part_of, sealed}
 use Rattle.vt_spec.specs.Machine.World.{Task, World, all_locations, locations_of, mount_at}
 use Rattle.vt_spec.proofs.Lists.{Among, among-filter_map, among-flat_map, among-from_filter, among-from_flat_map, among-from_map, among-map, among_from_list_all, among_numbers, any_from_among, is_among_numbers, list_all_from_among}
 use Rattle.vt_laws_mounts.specs.LettingGo.Attaching.{is_attached}
@@ -70,11 +71,7 @@ module _ (world : World ℕ) (names : List TaskName) (is : IsWorld nat_eq world)
       there = subst (λ m. Among m world.mounts) (sym (its_mount world names is.mounts here.mount theirs)) theirs.1
 
       pub placed : is_attached world here.mount ≡ true
-      placed = by (mount_at nat_eq world here).namespace own
-        where
-          by : (o : Option ℕ) → holds_of (is_own_namespace nat_eq world names) o ≡ true → is_some o ≡ true
-          by None h = h
-          by (Some n) h = refl
+      placed = grind (arith, common_steps)
 
       pub placed_there : is_attached part here.mount ≡ true
       placed_there =

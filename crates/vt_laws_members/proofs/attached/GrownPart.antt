@@ -1,6 +1,7 @@
 -- The part of a world in which mounts of theirs changed, others came after all, and show filesystems of theirs or new
 -- ones.
-use Rattle.std.proofs.Common.{◌≡◌, refl, sym, ap, subst, ◌∙◌, ◌⊎◌, inl, inr, ⊎_elim, ℕ, nat_eq, Bool, true, false, cond, true≢false, List, [], ◌∷◌, ◌++◌, Option, Some, None, find, flat_map, map, ◌||◌, ◌&&◌, eqb-true}
+use Rattle.std.proofs.Common.{arith, ◌≡◌, refl, sym, ap, subst, ◌∙◌, ◌⊎◌, inl, inr, ⊎_elim, ℕ, nat_eq, Bool, true, false, cond, true≢false, List, [], ◌∷◌, ◌++◌, Option, Some, None, find, flat_map, map, ◌||◌, ◌&&◌, eqb-true}
+use Rattle.std.proofs.lemmas.Grind.{common_steps}
 use Rattle.std.specs.Prelude.{option_map, option_to_list, unwrap_or}
 use Rattle.std.specs.List.{cons_option, filter_map, list_any}
 use Rattle.std.specs.Option.{option_or}
@@ -10,7 +11,7 @@ use Rattle.std.proofs.lemmas.List.Folds.{find-append}
 use Rattle.vt_spec.specs.FileTree.{is_under}
 use Rattle.vt_spec.specs.Language.Calls.{TaskName}
 use Rattle.vt_spec.specs.Lists.{is_among, when}
-use Rattle.vt_spec.specs.Machine.Locked.{lies_in_layer, of_overlay, overlay_or}
+use Rattle.vt_spec.specs.Machine.Locked.{lies_in_layer, of_overlay}
 use Rattle.vt_spec.specs.Machine.Mounts.{Location, Mount, mount_in, no_mount}
 use Rattle.vt_spec.specs.Machine.Sealed.{change_layers, is_at, is_own_mount, lies_in_own_lower, locations, members, own_lowers, own_mounts, part_of, part_of_filesystem, part_of_lower, part_of_master, roots_and_directories, seen_by_descriptor, used_directly, used_filesystems}
 use Rattle.vt_spec.specs.Machine.Settled.{only_among}
@@ -26,13 +27,7 @@ use Rattle.vt_laws_sealed.proofs.part.part.PartOfPart.{is_own, keep, kept_how, k
 filter_map_changed : {A : Type 0} (k : A → Option A) (f : A → A) (xs : List A)
     → ((x : A) → Among x xs → k (f x) ≡ option_map f (k x)) → filter_map k (map f xs) ≡ map f (filter_map k xs)
 filter_map_changed k f [] same = refl
-filter_map_changed {A} k f (x ∷ xs) same = ap (λ o. cons_option o (filter_map k (map f xs))) (same x (inl refl))
-    ∙ by (k x) (filter_map_changed k f xs (λ y m. same y (inr m)))
-  where
-    by : (o : Option A) → filter_map k (map f xs) ≡ map f (filter_map k xs)
-        → cons_option (option_map f o) (filter_map k (map f xs)) ≡ map f (cons_option o (filter_map k xs))
-    by None later = later
-    by (Some y) later = ap (λ l. f y ∷ l) later
+filter_map_changed {A} k f (x ∷ xs) same = grind (arith, common_steps, filter_map_changed k f xs)
 
 filter_map_all : {A : Type 0} (k : A → Option A) (xs : List A) → ((x : A) → Among x xs → k x ≡ Some x)
     → filter_map k xs ≡ xs
@@ -147,16 +142,7 @@ module _ (v : World ℕ) (names : List TaskName) (change : Mount ℕ → Mount �
   own_kept x own = kept_whole v names theirs x (or_left (owns x) (is_at nat_eq (roots_and_directories theirs) x) own)
 
   kept_changed : (x : Mount ℕ) → Among x v.mounts → kept (change x) ≡ option_map change (kept x)
-  kept_changed x m = by (owns x) refl
-    where
-      still : owns x ≡ false → (o : Option (Mount ℕ)) → kept x ≡ o → o ≡ option_map change o
-      still other None e = refl
-      still other (Some y) e = ap Some (⊎_elim (λ same. subst (λ z. z ≡ change z) same (sym (it.others x m other).0))
-          (λ stub. subst (λ z. z ≡ change z) stub.0 (sym (it.others x m other).1)) (kept_how v names theirs x y e))
-
-      by : (b : Bool) → owns x ≡ b → kept (change x) ≡ option_map change (kept x)
-      by true own = own_kept (change x) (it.kept x m own).0 ∙ sym (ap (option_map change) (own_kept x own))
-      by false other = ap kept (it.others x m other).0 ∙ still other (kept x) refl
+  kept_changed x m = grind (arith, common_steps, kept_how, own_kept)
 
   mounts_grown : filter_map kept u.mounts ≡ map change (filter_map kept v.mounts) ++ added
   mounts_grown = filter_map-append kept (map change v.mounts) added
@@ -166,13 +152,7 @@ module _ (v : World ℕ) (names : List TaskName) (change : Mount ℕ → Mount �
 
   pub as_before : (x : Mount ℕ) → Among x v.mounts
       → ((change x).number ≡ x.number) × ((change x).filesystem ≡ x.filesystem)
-  as_before x m = by (owns x) refl
-    where
-      by : (b : Bool) → owns x ≡ b → ((change x).number ≡ x.number) × ((change x).filesystem ≡ x.filesystem)
-      by true own = let its = it.kept x m own in (its.1, its.2)
-      by false other =
-          let same = (it.others x m other).0 in
-          (ap (λ (z : Mount ℕ). z.number) same, ap (λ (z : Mount ℕ). z.filesystem) same)
+  as_before x m = grind (arith, common_steps)
 
   -- a mount of theirs afterwards
   pub own_how : (y : Mount ℕ) → Among y u.mounts → owns y ≡ true
@@ -291,11 +271,7 @@ module _ (v : World ℕ) (names : List TaskName) (change : Mount ℕ → Mount �
 
   -- what is used is not new
   used_is_old : (n : ℕ) → is_among nat_eq n (used_filesystems nat_eq v names) ≡ true → fresh_one n ≡ false
-  used_is_old n used = by (fresh_one n) refl
-    where
-      by : (b : Bool) → fresh_one n ≡ b → b ≡ false
-      by true e = absurd (true≢false (sym used ∙ it.unused n e))
-      by false e = refl
+  used_is_old n used = grind (arith, common_steps, true≢false)
 
   direct_is_old : (d : ℕ) → Among d (used_directly nat_eq v names) → fresh_one d ≡ false
   direct_is_old d m = used_is_old d (used_directly_used v names d m)
@@ -319,29 +295,12 @@ module _ (v : World ℕ) (names : List TaskName) (change : Mount ℕ → Mount �
 
   new_changes : (f : Filesystem ℕ) → Among f new → (n : ℕ) → Among n (change_layers f)
       → is_among nat_eq n (used_filesystems nat_eq v names) ≡ true
-  new_changes f at n = by f.overlay refl
-    where
-      by : (o : Option (Overlay ℕ)) → f.overlay ≡ o → Among n (overlay_or [] changes o)
-          → is_among nat_eq n (used_filesystems nat_eq v names) ≡ true
-      by None e m = absurd m
-      by (Some overlay) e m =
-          let above = option_to_list overlay.upper ++ option_to_list overlay.work in
-          let layer = among-from_map (λ (layer : Layer ℕ). layer.filesystem) above n m in
-          subst (λ k. is_among nat_eq k (used_filesystems nat_eq v names) ≡ true) (sym layer.2)
-          (layer_used f at layer.0 (subst (Among layer.0) (sym (ap (overlay_or [] layers_of) e))
-          (among-append_left above overlay.lowers layer.0 layer.1)))
+  new_changes f at n = grind (arith, common_steps, among-from_map, layer_used, among-append_left)
 
   new_lowers : (f : Filesystem ℕ) → Among f new → (layer : Layer ℕ)
       → Among layer (of_overlay [] (λ (overlay : Overlay ℕ). overlay.lowers) f)
       → is_among nat_eq layer.filesystem (used_filesystems nat_eq v names) ≡ true
-  new_lowers f at layer = by f.overlay refl
-    where
-      by : (o : Option (Overlay ℕ)) → f.overlay ≡ o
-          → Among layer (overlay_or [] (λ (overlay : Overlay ℕ). overlay.lowers) o)
-          → is_among nat_eq layer.filesystem (used_filesystems nat_eq v names) ≡ true
-      by None e m = absurd m
-      by (Some overlay) e m = layer_used f at layer (subst (Among layer) (sym (ap (overlay_or [] layers_of) e))
-          (among-append_right (option_to_list overlay.upper ++ option_to_list overlay.work) overlay.lowers layer m))
+  new_lowers f at layer = grind (arith, common_steps, layer_used, among-append_right)
 
   pub used_same : (n : ℕ) → fresh_one n ≡ false → is_among nat_eq n (used_filesystems nat_eq u names)
       ≡ is_among nat_eq n (used_filesystems nat_eq v names)
@@ -406,25 +365,11 @@ module _ (v : World ℕ) (names : List TaskName) (change : Mount ℕ → Mount �
         (λ layer h. eqb-true f.number layer.filesystem (and_parts (nat_eq f.number layer.filesystem) _ h).0)))
 
     outside_same : part_of_filesystem nat_eq u names f ≡ part_of_filesystem nat_eq v names f
-    outside_same = ap (λ b. cond b (Some f) (when (has_lower (own_lowers nat_eq u names) f.number)
-        (part_of_lower nat_eq u names f))) (used_same f.number (it.unlisted f m))
-        ∙ ap (λ b. cond (is_among nat_eq f.number (used_filesystems nat_eq v names)) (Some f)
-        (when b (part_of_lower nat_eq u names f))) (lowers_same (λ (layer : Layer ℕ). nat_eq f.number layer.filesystem)
-        (λ layer h. eqb-true f.number layer.filesystem h))
-        ∙ ap (λ g. cond (is_among nat_eq f.number (used_filesystems nat_eq v names)) (Some f)
-        (when (has_lower (own_lowers nat_eq v names) f.number) g)) lower_part_same
+    outside_same = grind (arith, common_steps, used_same, lowers_same, eqb-true, lower_part_same)
 
   filesystem_same : (f : Filesystem ℕ) → Among f v.filesystems
       → part_of_filesystem nat_eq u names f ≡ part_of_filesystem nat_eq v names f
-  filesystem_same f m = by (is_among nat_eq f.number (used_filesystems nat_eq v names)) refl
-    where
-      by : (b : Bool) → is_among nat_eq f.number (used_filesystems nat_eq v names) ≡ b
-          → part_of_filesystem nat_eq u names f ≡ part_of_filesystem nat_eq v names f
-      by true e = ap (λ b. cond b (Some f) (when (has_lower (own_lowers nat_eq u names) f.number)
-          (part_of_lower nat_eq u names f))) (used_same f.number (it.unlisted f m) ∙ e)
-          ∙ sym (ap (λ b. cond b (Some f) (when (has_lower (own_lowers nat_eq v names) f.number)
-          (part_of_lower nat_eq v names f))) e)
-      by false e = outside_same f m e
+  filesystem_same f m = grind (arith, common_steps, used_same, outside_same)
 
   filesystems_grown : filter_map (part_of_filesystem nat_eq u names) u.filesystems
       ≡ filter_map (part_of_filesystem nat_eq v names) v.filesystems ++ new

@@ -1,13 +1,14 @@
 -- A world that is ready to be swept for a set is ready still, where mounts of theirs change and more come.
-use Rattle.std.proofs.Common.{◌≡◌, refl, sym, ap, subst, ◌∙◌, ◌⊎◌, inl, inr, ⊎_elim, ℕ, nat_eq, Bool, true, false, true≢false, List, [], ◌++◌, Option, Some, None, filter, is_some, map, ◌&&◌}
+use Rattle.std.proofs.Common.{arith, ◌≡◌, refl, sym, ap, subst, ◌∙◌, ◌⊎◌, inl, inr, ⊎_elim, ℕ, nat_eq, Bool, true, false, true≢false, List, [], ◌++◌, Option, Some, None, filter, is_some, map, ◌&&◌}
+use Rattle.std.proofs.lemmas.Grind.{common_steps}
 use Rattle.std.specs.List.{list_all, list_any}
 use Rattle.std.proofs.lemmas.Bool.{or_left}
 use Rattle.vt_spec.specs.FileTree.{is_under}
 use Rattle.vt_spec.specs.Language.Calls.{TaskName}
-use Rattle.vt_spec.specs.Lists.{holds_of, is_among}
+use Rattle.vt_spec.specs.Lists.{is_among}
 use Rattle.vt_spec.specs.Machine.Invariants.{Stands, is_nowhere_or_attached}
 use Rattle.vt_spec.specs.Machine.Mounts.{Location, Mount}
-use Rattle.vt_spec.specs.Machine.Sealed.{is_at, is_own_namespace, locations, members, own_lowers, part_of, roots_and_directories, used_filesystems}
+use Rattle.vt_spec.specs.Machine.Sealed.{is_at, locations, members, own_lowers, part_of, roots_and_directories, used_filesystems}
 use Rattle.vt_spec.specs.Machine.Settled.{is_located, mount_lives, settled}
 use Rattle.vt_spec.specs.Machine.World.{Filesystem, Layer, World, all_locations, mount_at, with_mounts}
 use Rattle.vt_spec.proofs.Found.{filter_all}
@@ -57,17 +58,10 @@ module _ (v : World ℕ) (names : List TaskName) (change : Mount ℕ → Mount �
     where
       by : (x : Mount ℕ) → Among x v.mounts → y ≡ change x → (b : Bool) → owns x ≡ b
           → (owns y ≡ true) ⊎ (Among y v.mounts × (owns y ≡ false))
-      by x n e true own = inl (ap owns e ∙ (grows.kept x n own).0)
-      by x n e false other =
-          let same : y ≡ x = e ∙ (grows.others x n other).0 in
-          inr (subst (λ z. Among z v.mounts) (sym same) n, ap owns same ∙ other)
+      by x n e b own = grind (arith, common_steps)
 
   own_placed : (y : Mount ℕ) → owns y ≡ true → is_some y.namespace ≡ true
-  own_placed y = by y.namespace
-    where
-      by : (o : Option ℕ) → holds_of (is_own_namespace nat_eq v names) o ≡ true → is_some o ≡ true
-      by None h = h
-      by (Some n) h = refl
+  own_placed y = grind (arith, common_steps)
 
   lives_now : (y : Mount ℕ) → Among y grown.mounts → mount_lives nat_eq grown y ≡ true
   lives_now y m = ⊎_elim (λ own. or_left (is_some y.namespace) (is_located nat_eq grown y.number) (own_placed y own))
@@ -136,17 +130,7 @@ module _ (v : World ℕ) (names : List TaskName) (change : Mount ℕ → Mount �
           by : (o : Option ℕ) → y.namespace ≡ o
               → (n : ℕ) × (y.namespace ≡ Some n) × (k : Mount ℕ) × Among k grown.mounts × (l.mount ≡ k.number)
               × (k.namespace ≡ Some n)
-          by None e = absurd (true≢false (sym attached ∙ ap is_some e))
-          by (Some n) e = (
-            n,
-            e,
-            mount_at nat_eq grown l,
-            ⊎_elim (λ found. found) (λ none. absurd (true≢false
-                (sym (ap is_some (sym below ∙ e)) ∙ ap (λ (z : Mount ℕ). is_some z.namespace) none)))
-                (found_or_none grown.mounts l.mount),
-            sym (number-mount_in grown.mounts l.mount),
-            sym below ∙ e,
-          )
+          by o e = grind (arith, common_steps, true≢false, attached, below, found_or_none, number-mount_in)
 
       grown_ready : Ready grown names (used_filesystems nat_eq grown names) (own_lowers nat_eq grown names)
       grown_ready = record {

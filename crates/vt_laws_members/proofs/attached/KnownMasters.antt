@@ -1,18 +1,15 @@
 -- The groups and masters of what is attached to mounts of theirs are heard, or new: their masters are the same in the
 -- part.
-use Rattle.std.proofs.Common.{arith, ◌≡◌, refl, sym, ap, subst, ◌∙◌, ℕ, nat_eq, Bool, true, false, cond, List, Option, Some, None, find}
+use Rattle.std.proofs.Common.{arith, ◌≡◌, ◌∙◌, ℕ, nat_eq, Bool, true, false, List, Some, None}
 use Rattle.std.proofs.lemmas.Grind.{common_steps}
-use Rattle.std.specs.Prelude.{option_map, unwrap_or}
 use Rattle.std.specs.List.{list_any}
 use Rattle.std.proofs.lemmas.Option.{same_Some}
 use Rattle.vt_spec.specs.Language.Calls.{TaskName}
 use Rattle.vt_spec.specs.Lists.{is_among}
-use Rattle.vt_spec.specs.Machine.Attach.{Copies, Twig, copy_type, image, is_destination, type_at}
+use Rattle.vt_spec.specs.Machine.Attach.{Copies, Twig, copy_type, image, type_at}
 use Rattle.vt_spec.specs.Machine.Invariants.{IsWorld}
 use Rattle.vt_spec.specs.Machine.Mounts.{Location, Mount, Propagation, group_of, source_of}
-use Rattle.vt_spec.specs.Machine.Mounts.Propagation.{Private, Shared, Slave, Unbindable}
-use Rattle.vt_spec.specs.Machine.Receives.{groups_up, has_members, is_member_of, slave_of_heir}
-use Rattle.vt_spec.specs.Machine.Sealed.{members, own_mounts, part_of, sealed, used_filesystems}
+use Rattle.vt_spec.specs.Machine.Sealed.{members, part_of, sealed, used_filesystems}
 use Rattle.vt_spec.specs.Machine.World.{Filesystem, World, mount_at}
 use Rattle.vt_spec.proofs.Lists.{Among}
 use Rattle.vt_spec.proofs.Options.{none_is_some}
@@ -23,11 +20,7 @@ use Rattle.vt_laws_members.proofs.attached.PushedUp.{copy, twig}
 -- a group without master has none in the part
 pub none_known : (world : World ℕ) (names : List TaskName) (g : ℕ) → world.master g ≡ None
     → (part_of nat_eq world names).master g ≡ world.master g
-none_known world names g e = by (list_any (is_member_of nat_eq g) (own_mounts nat_eq world names))
-  where
-    by : (b : Bool) → cond b (world.master g) None ≡ world.master g
-    by true = refl
-    by false = sym e
+none_known world names g e = grind (arith, common_steps)
 
 module _ (world : World ℕ) (names : List TaskName) (is : IsWorld nat_eq world)
     (sealed_off : sealed nat_eq world names ≡ true) (new_ones : List (Filesystem ℕ))
@@ -66,39 +59,14 @@ module _ (world : World ℕ) (names : List TaskName) (is : IsWorld nat_eq world)
   its_twig = twig world names is sealed_off new_ones unused place there own new moves origins
 
   image_known : (o : Mount ℕ) → Among o origins → (group : ℕ) → Known (image nat_eq new destination (its_twig o) group)
-  image_known o m group = by (is_member_of nat_eq group destination)
-    where
-      of_twig : (k : Option ℕ) → group_of (its_twig o).propagation ≡ k → Known (unwrap_or k (new.image group o.number))
-      of_twig None e = new_known group o.number
-      of_twig (Some g) e = twig_known o m g (group_source (its_twig o).propagation g e)
-
-      by : (b : Bool) → Known (cond b (unwrap_or (group_of (its_twig o).propagation) (new.image group o.number))
-          (new.image group o.number))
-      by true = of_twig (group_of (its_twig o).propagation) refl
-      by false = new_known group o.number
+  image_known o m group = grind (arith, common_steps, new_known, twig_known, group_source)
 
   -- at a receiver
   type_known : (o : Mount ℕ) → Among o origins → (kind : Propagation ℕ) (g : ℕ)
       → source_of (copy_type nat_eq at_base new at_parts destination (its_twig o) kind) ≡ Some g → Known g
-  type_known o m (Shared group) g h =
-      subst Known (same_Some (image nat_eq new destination (its_twig o) group) g h) (image_known o m group)
-  type_known o m (Slave master) g h = by (find (has_members nat_eq at_parts) (groups_up at_base master)) h
-    where
-      by : (k : Option ℕ) → source_of (slave_of_heir (option_map (image nat_eq new destination (its_twig o)) k))
-          ≡ Some g → Known g
-      by None e = none_is_some g e
-      by (Some group) e =
-          subst Known (same_Some (image nat_eq new destination (its_twig o) group) g e) (image_known o m group)
-  type_known o m Private g h = none_is_some g h
-  type_known o m Unbindable g h = none_is_some g h
+  type_known o m kind g h = grind (arith, common_steps, same_Some, image_known, none_is_some)
 
   pub copy_known : (p o : Mount ℕ) → Among o origins → (g : ℕ)
       → source_of (copy world names is sealed_off new_ones unused place there own new moves origins p o).propagation
       ≡ Some g → Known g
-  copy_known p o m g = by (is_destination nat_eq
-      (tree world names is sealed_off new_ones unused place there own new moves origins) p.number)
-    where
-      by : (b : Bool) → source_of (cond b (its_twig o).propagation
-          (copy_type nat_eq at_base new at_parts destination (its_twig o) p.propagation)) ≡ Some g → Known g
-      by true h = twig_known o m g h
-      by false h = type_known o m p.propagation g h
+  copy_known p o m g = grind (arith, common_steps, tree, twig_known, type_known)

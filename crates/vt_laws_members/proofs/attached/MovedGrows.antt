@@ -1,5 +1,6 @@
 -- A tree of theirs moves, with copies at receivers: it grows the world.
-use Rattle.std.proofs.Common.{◌≡◌, refl, sym, ap, subst, ◌∙◌, ◌⊎◌, inl, inr, ⊎_elim, ℕ, zero, suc, nat_eq, Bool, true, false, cond, true≢false, List, [], ◌∷◌, ◌++◌, Option, Some, None, append-nil, flat_map, length, map, eq-eqb, eqb-true}
+use Rattle.std.proofs.Common.{arith, ◌≡◌, refl, sym, ap, subst, ◌∙◌, ◌⊎◌, inl, inr, ⊎_elim, ℕ, zero, suc, nat_eq, Bool, true, false, cond, true≢false, List, [], ◌∷◌, ◌++◌, Option, Some, None, append-nil, flat_map, length, map, eq-eqb, eqb-true}
+use Rattle.std.proofs.lemmas.Grind.{common_steps}
 use Rattle.std.specs.List.{list_any}
 use Rattle.std.proofs.lemmas.List.{map-id}
 use Rattle.vt_spec.specs.Language.Calls.{TaskName}
@@ -42,15 +43,7 @@ swapped_is (copy ∷ copied) mount = by (nat_eq copy.number mount.number) refl (
         → (swapped copied (cond (nat_eq copy.number mount.number) copy mount) ≡ mount)
         ⊎ ((c : Mount ℕ) × Among c (copy ∷ copied)
         × (swapped copied (cond (nat_eq copy.number mount.number) copy mount) ≡ c) × (c.number ≡ mount.number))
-    by true e rest =
-        let first : cond (nat_eq copy.number mount.number) copy mount ≡ copy = ap (λ b. cond b copy mount) e in
-        let number : copy.number ≡ mount.number = eqb-true copy.number mount.number e in
-        ⊎_elim (λ same. inr (copy, inl refl, ap (swapped copied) first ∙ same, number))
-        (λ later. inr (later.0, inr later.1, ap (swapped copied) first ∙ later.2, later.3 ∙ number)) (rest copy)
-    by false e rest =
-        let first : cond (nat_eq copy.number mount.number) copy mount ≡ mount = ap (λ b. cond b copy mount) e in
-        ⊎_elim (λ same. inl (ap (swapped copied) first ∙ same))
-        (λ later. inr (later.0, inr later.1, ap (swapped copied) first ∙ later.2, later.3)) (rest mount)
+    by b e rest = grind (arith, common_steps, copy, eqb-true)
 
 pub none_new : (world : World ℕ) (names : List TaskName) (n : ℕ)
     → is_among nat_eq n (used_filesystems nat_eq world names) ≡ true
@@ -234,9 +227,4 @@ module _ (world : World ℕ) (names : List TaskName) (is : IsWorld nat_eq world)
   pub moved_as : (w : World ℕ)
       → attached_as world names is sealed_off [] (none_new world names) place there own new true origins w
       ≡ grown_world w names moved at_receivers [] (moved_master w.master)
-  moved_as w = ap (λ l. left ((map up l ++ []) ++ at_receivers)) (swapped_all (made_at destination) w.mounts)
-      ∙ ap (λ l. left (l ++ at_receivers)) (append-nil (map up (map went w.mounts)))
-      ∙ ap (λ l. left (l ++ at_receivers)) (map_twice up went w.mounts)
-    where
-      left : List (Mount ℕ) → World ℕ
-      left l = record w { mounts = l; master = moved_master w.master; filesystems = w.filesystems ++ [] }
+  moved_as w = grind (arith, common_steps, swapped_all, append-nil, map_twice)

@@ -1,7 +1,7 @@
 -- Each mount(2) with MS_MOVE ends in the part as in the world.
-use Rattle.std.proofs.Common.{◌≡◌, refl, sym, ap, subst, ◌∙◌, ℕ, nat_eq, Bool, true, false, true≢false, List, [], Option, Some, None, Ok, Err, is_some, not, eqb-true}
+use Rattle.std.proofs.Common.{arith, ◌≡◌, refl, sym, ap, subst, ◌∙◌, ℕ, nat_eq, Bool, true, false, true≢false, List, [], Option, Some, None, Ok, Err, is_some, not, eqb-true}
+use Rattle.std.proofs.lemmas.Grind.{common_steps}
 use Rattle.std.specs.Prelude.{IfOk, is_ok}
-use Rattle.std.specs.List.{list_any}
 use Rattle.std.proofs.lemmas.Bool.{or_parts}
 use Rattle.vt_spec.specs.Errors.{and_then}
 use Rattle.vt_spec.specs.Language.Answers.Answer.{Done}
@@ -232,14 +232,7 @@ module _ (world : World ℕ) (names : List TaskName) (name : TaskName) (source p
       to.from_own))))
 
   can_there : CanMove part from here
-  can_there = record {
-    placed = ap (λ (m : Mount ℕ). is_some m.mount_point) (same_mount world names it.is.mounts from.mount from_theirs)
-        ∙ to.can.placed;
-    one_namespace = ap (λ (m : Mount ℕ). m.namespace) (same_mount world names it.is.mounts here.mount here_theirs)
-        ∙ to.can.one_namespace
-        ∙ sym (ap (λ (m : Mount ℕ). m.namespace) (same_mount world names it.is.mounts from.mount from_theirs));
-    outside = ap (list_any (λ (m : Mount ℕ). nat_eq m.number here.mount)) same_tree ∙ to.can.outside;
-  }
+  can_there = grind (arith, common_steps, placed, same_mount, from_theirs, here_theirs, same_tree)
 
   stays : Stays left
   stays = subst Stays now_so (moves_stay world fresh from here serves it.is.mounts to.can

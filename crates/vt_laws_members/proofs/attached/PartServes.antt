@@ -1,5 +1,6 @@
 -- A supply of numbers that a world does not use serves its part.
-use Rattle.std.proofs.Common.{sym, subst, ◌∙◌, inl, inr, ⊎_elim, ℕ, nat_eq, true≢false, List, [], ◌∷◌, ◌++◌, filter, flat_map, map}
+use Rattle.std.proofs.Common.{arith, sym, subst, ◌∙◌, inl, inr, ⊎_elim, ℕ, nat_eq, true≢false, List, [], ◌∷◌, ◌++◌, filter, flat_map, map}
+use Rattle.std.proofs.lemmas.Grind.{common_steps}
 use Rattle.std.proofs.lemmas.Bool.{false_from_ne_true}
 use Rattle.vt_spec.specs.Language.Calls.{TaskName}
 use Rattle.vt_spec.specs.Lists.{Fresh, is_among}
@@ -62,9 +63,5 @@ module _ (world : World ℕ) (names : List TaskName) where
       (map (λ (k : Namespace ℕ). k.number) part.namespaces) n m)
 
   pub serves_there : (fresh : Fresh ℕ) → Serves nat_eq world fresh → Serves nat_eq part fresh
-  serves_there fresh serves = record {
-    unused = λ k. false_from_ne_true (is_among nat_eq (fresh k) (numbers_in_use part)) (λ is.
-        true≢false (sym (is_among_numbers (numbers_in_use world) (fresh k)
-        (used_too (fresh k) (among_numbers (numbers_in_use part) (fresh k) is))) ∙ serves.unused k));
-    apart = serves.apart;
-  }
+  serves_there fresh serves =
+      grind (arith, common_steps, false_from_ne_true, true≢false, is_among_numbers, used_too, among_numbers)

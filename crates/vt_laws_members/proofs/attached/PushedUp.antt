@@ -1,9 +1,10 @@
 -- What copies push up at receivers is theirs, and copies grow the world.
-use Rattle.std.proofs.Common.{◌≡◌, refl, sym, ap, subst, ◌∙◌, ◌⊎◌, inl, inr, ℕ, nat_eq, Bool, true, false, true≢false, List, [], Option, Some, None, flat_map, map}
+use Rattle.std.proofs.Common.{arith, ◌≡◌, refl, sym, ap, subst, ◌∙◌, ◌⊎◌, inl, inr, ℕ, nat_eq, Bool, true, false, true≢false, List, [], Option, flat_map, map}
+use Rattle.std.proofs.lemmas.Grind.{common_steps}
 use Rattle.std.specs.List.{list_any}
 use Rattle.vt_spec.specs.Language.Calls.{TaskName}
 use Rattle.vt_spec.specs.Lists.{is_among, rest_of}
-use Rattle.vt_spec.specs.Machine.Attach.{Copies, Twig, copy_at, pushed_onto, receiver_stood_on, twig_of}
+use Rattle.vt_spec.specs.Machine.Attach.{Copies, Twig, copy_at, pushed_onto, twig_of}
 use Rattle.vt_spec.specs.Machine.Invariants.{IsWorld}
 use Rattle.vt_spec.specs.Machine.Locked.{of_overlay}
 use Rattle.vt_spec.specs.Machine.Mounts.{Location, Mount, group_of, stands_at}
@@ -55,15 +56,7 @@ module _ (world : World ℕ) (names : List TaskName) (is : IsWorld nat_eq world)
   pub push_keeps : {A : Type 0} (what : Mount ℕ → A)
       → ((m : Mount ℕ) (at : Option (Location ℕ)) → what (record m { mount_point = at }) ≡ what m)
       → (m : Mount ℕ) → what (up m) ≡ what m
-  push_keeps {A} what same m =
-      by (receiver_stood_on nat_eq (tree world names is sealed_off new_ones unused place there own new moves origins)
-      at_parts m)
-    where
-      by : (o : Option (Mount ℕ)) → what (pushed_onto nat_eq
-          (base world names is sealed_off new_ones unused place there own) new
-          (tree world names is sealed_off new_ones unused place there own new moves origins) at_parts m o) ≡ what m
-      by None = refl
-      by (Some p) = same m _
+  push_keeps what same m = grind (arith, common_steps, tree, base)
 
   -- what stands elsewhere stays there
   stays_put : (m : Mount ℕ) → ((p : Mount ℕ) → Among p (rest_of at_parts)
@@ -133,11 +126,7 @@ module _ (world : World ℕ) (names : List TaskName) (is : IsWorld nat_eq world)
     pub mounted : (f : Filesystem ℕ) → Among f new_ones → (o : Mount ℕ) × Among o origins × (o.filesystem ≡ f.number)
 
   fresh_unused : (n : ℕ) → is_fresh n ≡ true → is_among nat_eq n (used_filesystems nat_eq world names) ≡ false
-  fresh_unused n is_new = by (is_among nat_eq n (used_filesystems nat_eq world names)) refl
-    where
-      by : (b : Bool) → is_among nat_eq n (used_filesystems nat_eq world names) ≡ b → b ≡ false
-      by true e = absurd (true≢false (sym is_new ∙ unused n e))
-      by false e = refl
+  fresh_unused n is_new = grind (arith, common_steps, true≢false)
 
   pub copies_grow : ShowTheirs → (master : ℕ → Option ℕ) → Grows world names up all_copies new_ones master
   copies_grow it master = record {

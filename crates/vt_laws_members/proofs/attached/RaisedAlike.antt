@@ -1,6 +1,7 @@
 -- Where a set sees the same after a change of mounts, masters and filesystems in the world and in its part, the worlds
 -- that are left have one part, with their change numbers.
-use Rattle.std.proofs.Common.{◌≡◌, refl, sym, ap, ◌∙◌, ⊎_elim, ℕ, nat_eq, Bool, true, cond, true≢false, List, [], Option, Some, None, filter, map, ◌&&◌, eqb-true}
+use Rattle.std.proofs.Common.{arith, ◌≡◌, refl, sym, ap, ◌∙◌, ⊎_elim, ℕ, nat_eq, Bool, true, cond, true≢false, List, [], Option, Some, None, filter, map, ◌&&◌, eqb-true}
+use Rattle.std.proofs.lemmas.Grind.{common_steps}
 use Rattle.std.specs.List.{list_any}
 use Rattle.std.proofs.lemmas.Bool.{or_left}
 use Rattle.vt_spec.specs.Language.Calls.{TaskName}
@@ -41,11 +42,7 @@ shown_in w names n own = filter_both (keep w names theirs) (its_in n) (its_in n)
     theirs = members w names
 
     its : (m : Mount ℕ) → its_in n m ≡ true → is_own w names (members w names) m ≡ true
-    its m = by m.namespace
-      where
-        by : (o : Option ℕ) → holds_of (nat_eq n) o ≡ true → holds_of (has_one (members w names)) o ≡ true
-        by None h = absurd (true≢false (sym h))
-        by (Some j) h = ap (has_one (members w names)) (sym (eqb-true n j h)) ∙ own
+    its m = grind (arith, common_steps, true≢false, eqb-true)
 
 module _ (world : World ℕ) (names : List TaskName) (is : IsWorld nat_eq world)
     (sealed_off : sealed nat_eq world names ≡ true) (mounts mounts_too : List (Mount ℕ))

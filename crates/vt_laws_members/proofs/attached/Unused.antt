@@ -1,6 +1,7 @@
 -- Numbers of a supply are no group of the world, and no filesystem that tasks use.
-use Rattle.std.proofs.Common.{◌≡◌, refl, sym, ap, subst, ◌∙◌, inl, inr, ⊎_elim, ℕ, nat_eq, Bool, true, false, true≢false, List, [], ◌++◌, Option, Some, None, find, flat_map, map, eqb-true}
-use Rattle.std.specs.Prelude.{option_to_list, unwrap_or}
+use Rattle.std.proofs.Common.{arith, ◌≡◌, refl, sym, ap, subst, ◌∙◌, inl, inr, ⊎_elim, ℕ, nat_eq, Bool, true, false, true≢false, List, [], ◌++◌, Option, Some, None, flat_map, map, eqb-true}
+use Rattle.std.proofs.lemmas.Grind.{common_steps}
+use Rattle.std.specs.Prelude.{option_to_list}
 use Rattle.std.proofs.lemmas.Bool.{and_parts}
 use Rattle.vt_spec.specs.Language.Calls.{TaskName}
 use Rattle.vt_spec.specs.Lists.{Fresh, is_among}
@@ -10,7 +11,7 @@ use Rattle.vt_spec.specs.Machine.Mounts.{Location, Mount, source_of}
 use Rattle.vt_spec.specs.Machine.Receives.{is_member_of}
 use Rattle.vt_spec.specs.Machine.Run.{Serves, numbers_in_use, used_by_filesystem, used_by_mount}
 use Rattle.vt_spec.specs.Machine.Sealed.{change_layers, is_own_mount, locations, members, own_mounts, used_directly, used_filesystems}
-use Rattle.vt_spec.specs.Machine.World.{Filesystem, Layer, Namespace, Overlay, World, filesystem_numbered, layers_of, mount_at, mount_numbered, no_filesystem}
+use Rattle.vt_spec.specs.Machine.World.{Filesystem, Layer, Namespace, Overlay, World, filesystem_numbered, layers_of, mount_at, mount_numbered}
 use Rattle.vt_spec.specs.Tree.{is_directory_node}
 use Rattle.vt_spec.proofs.Found.{found_among, found_passes}
 use Rattle.vt_spec.proofs.Lists.{Among, among-append, among-append_left, among-append_right, among-flat_map, among-from_filter, among-from_map, among_from_list_all, among_numbers, is_among_numbers, none_from_among}
@@ -30,16 +31,7 @@ module _ (world : World ℕ) (names : List TaskName) (is : IsWorld nat_eq world)
 
   listed_by : (n directory : ℕ)
       → is_directory_node ((filesystem_numbered nat_eq world n).files.tree.node directory) ≡ true → IsListed n
-  listed_by n directory = by (find (λ (f : Filesystem ℕ). nat_eq n f.number) world.filesystems) refl
-    where
-      by : (o : Option (Filesystem ℕ)) → find (λ (f : Filesystem ℕ). nat_eq n f.number) world.filesystems ≡ o
-          → is_directory_node ((unwrap_or o (no_filesystem n)).files.tree.node directory) ≡ true → IsListed n
-      by None e h = absurd (true≢false (sym h))
-      by (Some f) e h = (
-        f,
-        found_among (λ (x : Filesystem ℕ). nat_eq n x.number) world.filesystems f e,
-        sym (eqb-true n f.number (found_passes (λ (x : Filesystem ℕ). nat_eq n x.number) world.filesystems f e)),
-      )
+  listed_by n directory = grind (arith, common_steps, true≢false, found_among, eqb-true, found_passes)
 
   listed_mount : (m : Mount ℕ) → Among m world.mounts → IsListed m.filesystem
   listed_mount m n = listed_by m.filesystem m.root

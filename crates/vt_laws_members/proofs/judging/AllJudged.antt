@@ -1,7 +1,8 @@
 -- Calls of members are judged in their part as in the world.
-use Rattle.std.proofs.Common.{◌≡◌, refl, sym, ap, subst, ◌∙◌, inr, ℕ, nat_eq, Bool, true, false, cond, true≢false, List, [], ◌∷◌, filter, find, Option, Some, None, Ok, not, length, ◌&&◌, ◌||◌, ◌+◌}
-use Rattle.std.specs.Prelude.{nat_lt, ok_or, option_map, option_to_list, ◌==◌}
-use Rattle.vt_spec.specs.declared.errors.Rule.TheVariants.{E6, K1, L1, S2, S4}
+use Rattle.std.proofs.Common.{arith, ◌≡◌, refl, sym, ap, subst, ◌∙◌, inr, ℕ, nat_eq, Bool, true, false, cond, true≢false, List, [], ◌∷◌, filter, find, Option, Some, None, Ok, not, length, ◌&&◌, ◌||◌, ◌+◌}
+use Rattle.std.proofs.lemmas.Grind.{common_steps}
+use Rattle.std.specs.Prelude.{nat_lt, ok_or, option_to_list, ◌==◌}
+use Rattle.vt_spec.specs.declared.errors.Rule.TheVariants.{E6, L1, S4}
 use Rattle.vt_spec.specs.Errors.{and_then, denial, unless}
 use Rattle.vt_spec.specs.FileTree.{is_removed}
 use Rattle.vt_spec.specs.Language.Calls.{Call, TaskName, same_name}
@@ -16,13 +17,12 @@ use Rattle.vt_spec.specs.Machine.Locked.{is_locked_at, live_layers, live_upper_a
 use Rattle.vt_spec.specs.Machine.Looks.{Looks, looks_of}
 use Rattle.vt_spec.specs.Machine.Mounts.{Location, Mount, mount_tree}
 use Rattle.vt_spec.specs.Machine.Permits.{Permit}
-use Rattle.vt_spec.specs.Machine.Permits.Permit.{ToEnterNamespace, ToWritePart}
-use Rattle.vt_spec.specs.Machine.Rules.Conditions.{is_elsewhere, lacks}
+use Rattle.vt_spec.specs.Machine.Permits.Permit.{ToWritePart}
+use Rattle.vt_spec.specs.Machine.Rules.Conditions.{is_elsewhere}
 use Rattle.vt_spec.specs.Machine.Rules.Descriptors.{descriptor_numbered, pwrite_rules}
 use Rattle.vt_spec.specs.Machine.Sealed.{is_member_task, locations, members, part_of, sealed, used_filesystems}
 use Rattle.vt_spec.specs.Machine.World.{Descriptor, Filesystem, Task, World, locations_of, mount_at}
 use Rattle.vt_spec.specs.PathText.{is_empty}
-use Rattle.vt_spec.specs.Rights.{cap_sys_admin, cap_sys_chroot}
 use Rattle.vt_spec.proofs.Found.{found_among}
 use Rattle.vt_spec.proofs.Lists.{Among, among-append_left, among-append_right, among-flat_map, among-map, among_from_contains, contains_from_among}
 use Rattle.vt_spec.proofs.Worlds.{number-mount_in, same_task_name}
@@ -166,18 +166,12 @@ module _ (world : World ℕ) (names : List TaskName) (is : IsWorld nat_eq world)
           (Ok (ToWritePart descriptor.location offset bytes))) (descriptor_locked descriptor m)
 
       by : (o : Option (Descriptor ℕ)) → descriptor_numbered task number ≡ o → of_found one o ≡ of_found other o
-      by None e = refl
-      by (Some descriptor) e =
-          which descriptor (found_among (λ (d : Descriptor ℕ). number == d.number) task.descriptors descriptor e)
-          descriptor.writes
+      by o e = grind (arith, common_steps, which, found_among)
 
   setns_alike : (name : TaskName) → is_among same_name name names ≡ true
       → setns_permit one task name ≡ setns_permit other task name
   unfolding setns_permit
-  setns_alike name theirs =
-      ap (λ o. and_then (ok_or (option_map (λ (t : Task ℕ). t.namespace) o) (denial S2)) (λ namespace.
-      unless ((lacks task cap_sys_admin || lacks task cap_sys_chroot, K1) ∷ []) (Ok (ToEnterNamespace namespace))))
-      (sym (called_alike names name theirs world.tasks))
+  setns_alike name theirs = grind (arith, common_steps, called_alike)
 
   renames : RenamesAlike one other own
   renames = record {

@@ -185,11 +185,7 @@ module _ (world : World ℕ) (names : List TaskName) (is : IsWorld nat_eq world)
               → Among p (of_overlay []
               (λ (overlay : Overlay ℕ). upper_points world (filesystem_at nat_eq world here) overlay
               here.node) (filesystem_at nat_eq world here)) → is_point nat_eq world p.0 p.1 mount ≡ true → ⊥
-          by None e p m h = absurd (subst (λ o. Among p (overlay_or [] (λ (overlay : Overlay ℕ).
-              upper_points world (filesystem_at nat_eq world here) overlay here.node) o)) e m)
-          by (Some overlay) e p m h =
-              not_above overlay e p (subst (λ o. Among p (overlay_or [] (λ (overlay : Overlay ℕ).
-              upper_points world (filesystem_at nat_eq world here) overlay here.node) o)) e m) h
+          by o e p m h = grind (arith, common_steps, not_above)
 
     pub anywhere_alike : list_any (λ (mount : Mount ℕ). is_some mount.namespace) (mounts_on nat_eq world here)
         ≡ list_any (λ (mount : Mount ℕ). is_some mount.namespace) (mounts_on nat_eq (part_of nat_eq world names) here)

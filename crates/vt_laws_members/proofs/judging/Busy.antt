@@ -156,12 +156,7 @@ module _ (world : World ℕ) (names : List TaskName) (is : IsWorld nat_eq world)
 
       by : (parent : Mount ℕ) → Among parent world.mounts → owns parent ≡ true → (b : Bool)
           → by_parent part parent b ≡ by_parent world parent b
-      by parent there its true = ap (map (λ (gone : Mount ℕ). gone.number))
-          (ap (filter_map (goes_at nat_eq part point.node)) (receivers_alike parent there its)
-          ∙ filter_map_same (goes_at nat_eq part point.node) (goes_at nat_eq world point.node)
-          (receivers_of nat_eq world parent) (λ receiver at.
-          let t = receivers_own parent receiver there its at in goes_alike point.node receiver t.0 t.1))
-      by parent there its false = refl
+      by parent there its b = grind (arith, common_steps, receivers_alike, filter_map_same, receivers_own, goes_alike)
 
   pub going_alike : (mount : Mount ℕ) → Among mount world.mounts → owns mount ≡ true
       → going nat_eq part mount ≡ going nat_eq world mount

@@ -1,6 +1,6 @@
 -- Where members get: their part has these mounts as they are, and no step leads to another one.
 use Rattle.std.proofs.lemmas.Grind.{common_steps}
-use Rattle.std.proofs.Common.{◌≡◌, refl, sym, ap, subst, ◌∙◌, ◌⊎◌, inl, inr, ⊎_elim, ℕ, zero, suc, nat_eq, Bool, true, false, cond, true≢false, List, [], ◌∷◌, Option, Some, None, map, find, length, not, ◌||◌, ◌&&◌, ◌≤◌, arith, is_some, eqb-true}
+use Rattle.std.proofs.Common.{◌≡◌, refl, sym, ap, subst, ◌∙◌, ◌⊎◌, inl, inr, ⊎_elim, ℕ, zero, suc, nat_eq, Bool, true, false, cond, true≢false, List, [], ◌∷◌, Option, Some, None, map, find, length, ◌||◌, ◌&&◌, ◌≤◌, arith, is_some, eqb-true}
 use Rattle.std.specs.Prelude.{option_map, unwrap_or}
 use Rattle.std.specs.List.{cons_option, filter_map}
 use Rattle.std.proofs.lemmas.List.{length-map}
@@ -8,7 +8,7 @@ use Rattle.std.proofs.lemmas.Bool.{and_from, and_parts, or_cases, or_left, or_ri
 use Rattle.std.proofs.lemmas.Option.{same_Some}
 use Rattle.vt_spec.specs.Language.Calls.{TaskName}
 use Rattle.vt_spec.specs.Lists.{chain}
-use Rattle.vt_spec.specs.Machine.Invariants.{MountInvariants, Stands, is_nowhere_or_attached, is_private}
+use Rattle.vt_spec.specs.Machine.Invariants.{MountInvariants, Stands}
 use Rattle.vt_spec.specs.Machine.Mounts.{Location, Mount, child_at, mounts_over, no_mount, root_of, stands_at}
 use Rattle.vt_spec.specs.Machine.Sealed.{is_at, members, part_of, roots_and_directories}
 use Rattle.vt_spec.specs.Machine.World.{Task, World, mount_numbered}
@@ -113,12 +113,7 @@ module _ (world : World ℕ) (names : List TaskName) (is : MountInvariants nat_e
 
   pub nowhere_stands : (mount : Mount ℕ) (at : Location ℕ) → Among mount world.mounts → mount.namespace ≡ None
       → mount.mount_point ≡ Some at → ⊥
-  nowhere_stands mount at m n p =
-      let test = among_from_list_all is_nowhere_or_attached world.mounts is.nowhere mount m in
-      let none : (not (is_some mount.mount_point) && is_private mount.propagation) ≡ true =
-      sym (ap (λ x. is_some x || (not (is_some mount.mount_point) && is_private mount.propagation)) n) ∙ test in
-      true≢false (sym (and_parts (not (is_some mount.mount_point)) (is_private mount.propagation) none).0
-      ∙ ap (λ x. not (is_some x)) p)
+  nowhere_stands mount at m n p = grind (arith, common_steps, among_from_list_all, true≢false, and_parts)
 
   pub stands_itself : (mount : Mount ℕ) → Among mount world.mounts → Stands nat_eq world mount.number
   stands_itself mount m =

@@ -1,5 +1,6 @@
 -- Mounts of overlays are judged alike.
-use Rattle.std.proofs.Common.{◌≡◌, refl, sym, ap, subst, ◌∙◌, inl, inr, ⊎_elim, ℕ, nat_eq, Bool, true, not, List, [], ◌∷◌, ◌++◌, Option, Some, None, Ok, Err, Result, length, is_some, ◌||◌, ◌&&◌}
+use Rattle.std.proofs.Common.{arith, ◌≡◌, refl, sym, ap, subst, ◌∙◌, inl, inr, ⊎_elim, ℕ, nat_eq, Bool, true, not, List, [], ◌∷◌, ◌++◌, Option, Some, None, Ok, Err, Result, length, is_some, ◌||◌, ◌&&◌}
+use Rattle.std.proofs.lemmas.Grind.{common_steps}
 use Rattle.std.specs.Prelude.{nat_lt, option_map, option_to_list}
 use Rattle.std.specs.List.{list_any}
 use Rattle.vt_spec.specs.declared.errors.Deny.{Deny}
@@ -93,11 +94,7 @@ module _ (one other : Looks ℕ) (task : Task ℕ) (own uses : ℕ → Bool) (al
       → Agree (λ o. Each At (option_to_list o)) (walked_if_given nat_eq one task path)
       (walked_if_given nat_eq other task path)
   given_agrees None = (refl, λ l m. absurd m)
-  given_agrees (Some path) =
-      and_agree StandsThere (λ o. Each At (option_to_list o)) (walk_end (source_walk nat_eq one task path))
-      (walk_end (source_walk nat_eq other task path)) (λ here. Ok (Some here.location))
-      (λ here. Ok (Some here.location)) (walked_one path)
-      (λ here on. (refl, λ l m. ⊎_elim (λ first. subst At (sym first) on) (λ none. absurd none) m))
+  given_agrees (Some path) = grind (arith, common_steps, and_agree, walked_one)
 
   layers_agree : (words : OverlayWords)
       → Agree AreAt (layers_walked nat_eq one task words) (layers_walked nat_eq other task words)

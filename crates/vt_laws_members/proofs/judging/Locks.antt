@@ -9,7 +9,7 @@ use Rattle.vt_spec.specs.Language.Calls.{TaskName}
 use Rattle.vt_spec.specs.Lists.{holds_of, is_among, when}
 use Rattle.vt_spec.specs.Machine.Invariants.{IsWorld, ListsNumbers, is_there}
 use Rattle.vt_spec.specs.Machine.Locked.{counts_in_layer, is_locked, is_object_of, is_real_upper, lies_in_layer, lies_or_counts_under, live_layers, of_overlay, overlays}
-use Rattle.vt_spec.specs.Machine.Sealed.{all_named, is_lower_root, no_outsider_on, own_lowers, part_of, part_of_filesystem, part_of_lower, sealed, used_alone, used_filesystems, wholly_locked}
+use Rattle.vt_spec.specs.Machine.Sealed.{all_named, is_lower_root, own_lowers, part_of, part_of_filesystem, part_of_lower, sealed, used_alone, used_filesystems, wholly_locked}
 use Rattle.vt_spec.specs.Machine.Settled.{has_layer_on, named_in}
 use Rattle.vt_spec.specs.Machine.World.{Filesystem, Layer, Overlay, World, filesystem_numbered, is_overlay, layers_of, no_filesystem}
 use Rattle.vt_spec.specs.Tree.{is_directory_node}
@@ -103,14 +103,7 @@ module _ (world : World ℕ) (names : List TaskName) (is : IsWorld nat_eq world)
   pub alone_in_part : (number : ℕ) → used_alone nat_eq world names number ≡ true → (merged : Filesystem ℕ)
       → Among merged (overlays world) → has_layer_on nat_eq number merged ≡ true → Among merged (overlays part)
   alone_in_part number alone merged m has =
-      let each = among_from_list_all (λ (f : Filesystem ℕ). Rattle.std.proofs.Common.not (has_layer_on nat_eq number f)
-      || no_outsider_on nat_eq world names f.number) (overlays world)
-      (and_parts (no_outsider_on nat_eq world names number) (list_all
-      (λ (f : Filesystem ℕ). Rattle.std.proofs.Common.not (has_layer_on nat_eq number f)
-      || no_outsider_on nat_eq world names f.number) (overlays world)) alone).1 merged m in
-      let free : no_outsider_on nat_eq world names merged.number ≡ true =
-      sym (ap (λ b. Rattle.std.proofs.Common.not b || no_outsider_on nat_eq world names merged.number) has) ∙ each in
-      used_in_part merged m (overlay_without_others world names is merged m free)
+      grind (arith, common_steps, among_from_list_all, and_parts, used_in_part, overlay_without_others)
 
   -- an overlay of the part is one of the world
   pub part_in_world : (merged : Filesystem ℕ) → Among merged (overlays part) → Among merged (overlays world)

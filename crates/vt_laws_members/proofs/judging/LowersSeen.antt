@@ -183,13 +183,7 @@ module _ (world : World ℕ) (names : List TaskName) (is : IsWorld nat_eq world)
   pub overlay_there : (number : ℕ) (overlay : Overlay ℕ)
       → (filesystem_numbered nat_eq world number).overlay ≡ Some overlay
       → Among (filesystem_numbered nat_eq world number) world.filesystems
-  overlay_there number overlay = by (find (λ (f : Filesystem ℕ). nat_eq number f.number) world.filesystems) refl
-    where
-      by : (o : Option (Filesystem ℕ)) → find (λ (f : Filesystem ℕ). nat_eq number f.number) world.filesystems ≡ o
-          → (unwrap_or o (no_filesystem number)).overlay ≡ Some overlay
-          → Among (unwrap_or o (no_filesystem number)) world.filesystems
-      by None e h = none_is_some overlay h
-      by (Some x) e h = found_among (λ (f : Filesystem ℕ). nat_eq number f.number) world.filesystems x e
+  overlay_there number overlay = grind (arith, common_steps, none_is_some, found_among)
 
   module _ (here : Location ℕ) (own : OnTheirs world names is here) where
     abbrev number : ℕ

@@ -28,13 +28,7 @@ use Rattle.vt_laws_members.proofs.judging.SeenInPart.{filesystem_alike}
 -- the mount point of a child
 pub stands_where : (number : ℕ) (mount : Mount ℕ) → stands_on nat_eq number mount ≡ true
     → (point : Location ℕ) × (mount.mount_point ≡ Some point) × (number ≡ point.mount)
-stands_where number mount h = by mount.mount_point refl h
-  where
-    by : (o : Option (Location ℕ)) → mount.mount_point ≡ o
-        → holds_of (λ (point : Location ℕ). nat_eq number point.mount) o ≡ true
-        → (point : Location ℕ) × (mount.mount_point ≡ Some point) × (number ≡ point.mount)
-    by None e h = absurd (true≢false (sym h))
-    by (Some point) e h = (point, e, eqb-true number point.mount h)
+stands_where number mount h = grind (arith, common_steps, true≢false, eqb-true)
 
 -- a child lies one mount deeper
 pub child_deeper : (world : World ℕ) (one : OneNumberEach world) (all : AllStand world) (mount child : Mount ℕ)

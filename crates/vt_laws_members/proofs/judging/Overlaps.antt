@@ -1,5 +1,6 @@
 -- Layers of a new overlay overlap others in the part as in the world: overlayfs, "sharing and copying layers".
-use Rattle.std.proofs.Common.{◌≡◌, refl, sym, ap, subst, ◌∙◌, inl, ⊎_elim, ℕ, nat_eq, true, List, [], ◌++◌, Option, Some, None, ◌&&◌, eqb-true}
+use Rattle.std.proofs.Common.{arith, ◌≡◌, refl, sym, ap, subst, ◌∙◌, inl, ⊎_elim, ℕ, nat_eq, true, List, [], ◌++◌, Some, ◌&&◌, eqb-true}
+use Rattle.std.proofs.lemmas.Grind.{common_steps}
 use Rattle.std.specs.Prelude.{option_to_list}
 use Rattle.std.specs.List.{list_any}
 use Rattle.std.proofs.lemmas.Bool.{or_cases, or_left}
@@ -7,7 +8,7 @@ use Rattle.vt_spec.specs.FileTree.{is_under}
 use Rattle.vt_spec.specs.Language.Calls.{TaskName}
 use Rattle.vt_spec.specs.Lists.{is_among}
 use Rattle.vt_spec.specs.Machine.Invariants.{IsWorld}
-use Rattle.vt_spec.specs.Machine.Locked.{counts_in_layer, lies_in_layer, lies_or_counts_under, live_layers, live_upper_and_work, of_overlay, overlaps_one_of, overlay_or, overlays, upper_and_work}
+use Rattle.vt_spec.specs.Machine.Locked.{counts_in_layer, lies_in_layer, lies_or_counts_under, live_layers, live_upper_and_work, of_overlay, overlaps_one_of, overlays, upper_and_work}
 use Rattle.vt_spec.specs.Machine.Sealed.{part_of, sealed, used_alone, used_filesystems, wholly_locked}
 use Rattle.vt_spec.specs.Machine.World.{Filesystem, Layer, Overlay, World, filesystem_numbered, is_overlay, layers_of}
 use Rattle.vt_spec.proofs.Lists.{Among, among-append_left, among-flat_map, among-from_filter, among-from_flat_map, among_numbers, any_among, any_from_among}
@@ -21,19 +22,7 @@ use Rattle.vt_laws_members.proofs.judging.Locks.{alone_in_part, counts_how, has_
 written_layer : (merged : Filesystem ℕ) (layer : Layer ℕ) → Among layer (of_overlay [] upper_and_work merged)
     → (overlay : Overlay ℕ) × (merged.overlay ≡ Some overlay) × Among layer (upper_and_work overlay)
     × Among layer (of_overlay [] layers_of merged)
-written_layer merged layer m = by merged.overlay refl m
-  where
-    by : (o : Option (Overlay ℕ)) → merged.overlay ≡ o → Among layer (overlay_or [] upper_and_work o)
-        → (overlay : Overlay ℕ) × (merged.overlay ≡ Some overlay) × Among layer (upper_and_work overlay)
-        × Among layer (of_overlay [] layers_of merged)
-    by None e m = absurd m
-    by (Some overlay) e m = (
-      overlay,
-      e,
-      m,
-      subst (λ o. Among layer (overlay_or [] layers_of o)) (sym e)
-          (among-append_left (option_to_list overlay.upper ++ option_to_list overlay.work) overlay.lowers layer m),
-    )
+written_layer merged layer m = grind (arith, common_steps, among-append_left)
 
 module _ (world : World ℕ) (names : List TaskName) (is : IsWorld nat_eq world)
     (sealed_off : sealed nat_eq world names ≡ true) (number : ℕ)

@@ -1,8 +1,8 @@
 -- What members see on the mounts that they get to is what their part shows.
 use Rattle.std.proofs.lemmas.Grind.{common_steps}
-use Rattle.std.proofs.Common.{◌≡◌, refl, sym, ap, subst, ◌∙◌, inl, inr, ⊎_elim, ℕ, nat_eq, Bool, true, List, [], ◌∷◌, Option, Some, None, map, ◌&&◌, eq-eqb, eqb-true, arith}
+use Rattle.std.proofs.Common.{◌≡◌, refl, sym, ap, subst, ◌∙◌, inl, inr, ⊎_elim, ℕ, nat_eq, Bool, true, List, [], ◌∷◌, Option, Some, map, ◌&&◌, eq-eqb, eqb-true, arith}
 use Rattle.std.specs.Prelude.{option_to_list}
-use Rattle.std.specs.List.{list_all, list_any}
+use Rattle.std.specs.List.{list_all}
 use Rattle.std.proofs.lemmas.Bool.{and_parts}
 use Rattle.vt_spec.specs.Language.Calls.{TaskName}
 use Rattle.vt_spec.specs.FileTree.{is_directory_under}
@@ -44,11 +44,7 @@ module _ (world : World ℕ) (names : List TaskName) (is : IsWorld nat_eq world)
   -- the filesystem of a location that they use is used
   located_directly : (l : Location ℕ) → Among l (locations theirs)
       → Among (mount_at nat_eq world l).filesystem (used_directly nat_eq world names)
-  located_directly l m =
-      among-append_right (map (λ (mount : Mount ℕ). mount.filesystem) (own_mounts nat_eq world names))
-      (map (λ location. (mount_at nat_eq world location).filesystem) (locations theirs))
-      (mount_at nat_eq world l).filesystem
-      (among-map (λ location. (mount_at nat_eq world location).filesystem) (locations theirs) l m)
+  located_directly l m = grind (arith, common_steps, among-append_right, among-map)
 
   pub located_used : (l : Location ℕ) → Among l (locations theirs) → uses (mount_at nat_eq world l).filesystem ≡ true
   located_used l m = used_directly_used world names (mount_at nat_eq world l).filesystem (located_directly l m)
@@ -125,16 +121,7 @@ module _ (world : World ℕ) (names : List TaskName) (is : IsWorld nat_eq world)
         by : (mount : Mount ℕ) (o : Option ℕ) → mount.namespace ≡ o
             → list_all (nat_eq task.namespace) (option_to_list mount.namespace) ≡ true
             → is_at nat_eq (roots_and_directories theirs) mount ≡ true → IsGround world names is.mounts mount
-        by mount None e h stood = inr (e, stood)
-        by mount (Some n) e h stood =
-            let in_it : (nat_eq task.namespace n && true) ≡ true =
-            sym (ap (λ o. list_all (nat_eq task.namespace) (option_to_list o)) e) ∙ h in
-            let same : task.namespace ≡ n =
-            eqb-true task.namespace n (and_parts (nat_eq task.namespace n) true in_it).0 in
-            inl (ap (Rattle.vt_spec.specs.Lists.holds_of
-            (λ k. list_any (λ (t : Task ℕ). nat_eq k t.namespace) theirs)) e
-            ∙ any_from_among (λ (t : Task ℕ). nat_eq n t.namespace) theirs task member
-            (eq-eqb n task.namespace (sym same)))
+        by mount o e h stood = grind (arith, common_steps, stood, eqb-true, and_parts, any_from_among, eq-eqb)
 
     stood : (is_directory_seen_in nat_eq world task.namespace task.root ≡ true)
         × (is_directory_seen_in nat_eq world task.namespace task.directory ≡ true)

@@ -70,11 +70,7 @@ module _ (one other : Looks ℕ) (task : Task ℕ) (Own : ℕ → Type 0) (alike
   found_none object e = none_is_some object e
 
   pub start_at : (text : List ℕ) → HereAt (walk_start task text)
-  start_at text = by (is_absolute text)
-    where
-      by : (b : Bool) → Own (cond b task.root task.directory).mount
-      by true = alike.root
-      by false = directory
+  start_at text = grind (arith, common_steps)
 
   follows : FollowsAgree one other task Own alike (followed nat_eq one task) (followed nat_eq other task)
   follows = texts_agree one other task Own alike (most_symlinks + 1)
@@ -152,11 +148,7 @@ module _ (one other : Looks ℕ) (task : Task ℕ) (Own : ℕ → Type 0) (alike
   -- Places
 
   entry_at : (here : Location ℕ) (name : List ℕ) → Own here.mount → FoundAt (entry_location nat_eq one here name)
-  entry_at here name own = by _
-    where
-      by : (o : Option ℕ) → FoundAt (option_map (λ object. record { mount = here.mount; node = object }) o)
-      by None = found_none
-      by (Some object) = found_some (record { mount = here.mount; node = object }) own
+  entry_at here name own = grind (arith, common_steps, found_none, found_some)
 
   named_agrees : (here : Location ℕ) → Own here.mount → (word : LastWord)
       → Agree FoundAt (object_named nat_eq one task here word) (object_named nat_eq other task here word)
@@ -354,11 +346,7 @@ module _ (one other : Looks ℕ) (task : Task ℕ) (Own : ℕ → Type 0) (alike
       by (Some object) f = f object refl
 
   inner_at : (from : Location ℕ) → Own from.mount → (text : List ℕ) → Own (start_of task from text).mount
-  inner_at from own text = by (is_absolute text)
-    where
-      by : (b : Bool) → Own (cond b task.root from).mount
-      by true = alike.root
-      by false = own
+  inner_at from own text = grind (arith, common_steps)
 
   start_agrees : (from : Location ℕ) → Own from.mount → (link : Here ℕ) → HereAt link → (text : List ℕ) → Agree HereAt
       (walk_unless link.steps (follow_rules nat_eq one link text) (symlink_start nat_eq one task from link text))

@@ -1,10 +1,10 @@
 -- What a granted pivot_root(2) has passed, in any world whose mounts have their invariants.
-use Rattle.std.proofs.Common.{◌≡◌, sym, ap, ℕ, nat_eq, Bool, true, false, true≢false, List, [], ◌∷◌, Option, Some, None, Ok, Err, Result, not, eqb-true}
+use Rattle.std.proofs.Common.{arith, ◌≡◌, ℕ, nat_eq, Bool, true, false, true≢false, List, [], ◌∷◌, None, Ok, Err, Result, not, eqb-true}
+use Rattle.std.proofs.lemmas.Grind.{common_steps}
 use Rattle.std.specs.Prelude.{⊤, IfOk}
 use Rattle.std.proofs.lemmas.Bool.{not-false, or_parts}
 use Rattle.vt_spec.specs.declared.errors.Rule.TheVariants.{W8}
 use Rattle.vt_spec.specs.Errors.{unless}
-use Rattle.vt_spec.specs.Lists.{holds_of}
 use Rattle.vt_spec.specs.Machine.Invariants.{MountInvariants}
 use Rattle.vt_spec.specs.Machine.Judge.{pivot_permit}
 use Rattle.vt_spec.specs.Machine.Looks.{Looks, looks_of, topmost}
@@ -39,11 +39,7 @@ module _ (w : World ℕ) (kept : MountInvariants nat_eq w) (task : Task ℕ) whe
 
   -- M2
   inside : (l : Location ℕ) → is_elsewhere nat_eq looks task l ≡ false → IsIn w task.namespace l.mount
-  inside l = by (mount_at nat_eq w l).namespace
-    where
-      by : (o : Option ℕ) → not (holds_of (nat_eq task.namespace) o) ≡ false → o ≡ Some task.namespace
-      by None h = absurd (true≢false h)
-      by (Some n) h = ap Some (sym (eqb-true task.namespace n (not-false (nat_eq task.namespace n) h)))
+  inside l = grind (arith, common_steps, true≢false, eqb-true, not-false)
 
   -- no mount is attached where a destination is
   abbrev Free : Here ℕ → Type 0

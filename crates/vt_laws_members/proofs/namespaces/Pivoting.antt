@@ -1,5 +1,6 @@
 -- Each pivot_root(2) ends in the part as in the world.
-use Rattle.std.proofs.Common.{◌≡◌, refl, sym, ap, subst, ◌∙◌, ◌⊎◌, inl, inr, ⊎_elim, ℕ, nat_eq, Bool, true, false, cond, true≢false, List, [], ◌∷◌, Option, Some, None, Ok, Err, filter, map, not, eq-eqb, eqb-true}
+use Rattle.std.proofs.Common.{arith, ◌≡◌, refl, sym, ap, subst, ◌∙◌, ◌⊎◌, inl, inr, ⊎_elim, ℕ, nat_eq, Bool, true, false, cond, true≢false, List, [], ◌∷◌, Option, Some, None, Ok, Err, filter, map, not, eq-eqb, eqb-true}
+use Rattle.std.proofs.lemmas.Grind.{common_steps}
 use Rattle.std.specs.Prelude.{IfOk, is_ok}
 use Rattle.std.proofs.lemmas.Bool.{false_from_ne_true}
 use Rattle.std.proofs.lemmas.List.{append-nil}
@@ -9,7 +10,7 @@ use Rattle.vt_spec.specs.Language.Calls.Call.{PivotRoot}
 use Rattle.vt_spec.specs.Lists.{Fresh, holds_of, is_among}
 use Rattle.vt_spec.specs.Machine.Invariants.{MountInvariants}
 use Rattle.vt_spec.specs.Machine.Judge.{Judgement, judge_in}
-use Rattle.vt_spec.specs.Machine.Mounts.{Location, Mount, root_of, same_location}
+use Rattle.vt_spec.specs.Machine.Mounts.{Location, Mount, root_of}
 use Rattle.vt_spec.specs.Machine.Mounts.Propagation.{Private}
 use Rattle.vt_spec.specs.Machine.Namespaces.{pivoted, pivoted_location, pivoted_mount, pivoted_task}
 use Rattle.vt_spec.specs.Machine.Outcomes.{granted}
@@ -50,20 +51,10 @@ module _ (root new : Mount ℕ) (put : Location ℕ) where
       cond p (record m { mount_point = root.mount_point }) (cond q (record m { mount_point = Some put }) m)
 
   turned_shape : (m : Mount ℕ) → KeepsShape m (turned m)
-  turned_shape m = by (nat_eq m.number new.number) (nat_eq m.number root.number)
-    where
-      by : (p q : Bool) → KeepsShape m (turned_by p q m)
-      by true q = record { number = refl; filesystem = refl; stub = refl; root = refl }
-      by false true = record { number = refl; filesystem = refl; stub = refl; root = refl }
-      by false false = record { number = refl; filesystem = refl; stub = refl; root = refl }
+  turned_shape m = grind (arith, common_steps)
 
   turned_kind : (m : Mount ℕ) → ((turned m).propagation ≡ m.propagation) ⊎ ((turned m).propagation ≡ Private)
-  turned_kind m = inl (by (nat_eq m.number new.number) (nat_eq m.number root.number))
-    where
-      by : (p q : Bool) → (turned_by p q m).propagation ≡ m.propagation
-      by true q = refl
-      by false true = refl
-      by false false = refl
+  turned_kind m = grind (arith, common_steps)
 
   -- a task after it
   abbrev moved : ℕ → Task ℕ → Task ℕ
@@ -76,45 +67,25 @@ module _ (root new : Mount ℕ) (put : Location ℕ) where
   }) t
 
   moved_name : (namespace : ℕ) (t : Task ℕ) → (moved namespace t).name ≡ t.name
-  moved_name namespace t = by (nat_eq namespace t.namespace)
-    where
-      by : (b : Bool) → (moved_by b t).name ≡ t.name
-      by true = refl
-      by false = refl
+  moved_name namespace t = grind (arith, common_steps)
 
   moved_space : (namespace : ℕ) (t : Task ℕ) → (moved namespace t).namespace ≡ t.namespace
-  moved_space namespace t = by (nat_eq namespace t.namespace)
-    where
-      by : (b : Bool) → (moved_by b t).namespace ≡ t.namespace
-      by true = refl
-      by false = refl
+  moved_space namespace t = grind (arith, common_steps)
 
   -- a root or working directory stays, or is the new root
   location_how : (l : Location ℕ)
       → (pivoted_location nat_eq root new l ≡ l) ⊎ (pivoted_location nat_eq root new l ≡ root_of new)
-  location_how l = by (same_location nat_eq l (root_of root))
-    where
-      by : (b : Bool) → (cond b (root_of new) l ≡ l) ⊎ (cond b (root_of new) l ≡ root_of new)
-      by true = inr refl
-      by false = inl refl
+  location_how l = grind (arith, common_steps)
 
   listed_how : (t : Task ℕ) (rest : List (Location ℕ)) (l : Location ℕ)
       → Among l (pivoted_location nat_eq root new t.root ∷ pivoted_location nat_eq root new t.directory ∷ rest)
       → Among l (t.root ∷ t.directory ∷ rest) ⊎ (l ≡ root_of new)
-  listed_how t rest l m = ⊎_elim
-      (λ e. ⊎_elim (λ same. inl (inl (e ∙ same))) (λ top. inr (e ∙ top)) (location_how t.root)) (λ more. ⊎_elim
-      (λ e. ⊎_elim (λ same. inl (inr (inl (e ∙ same)))) (λ top. inr (e ∙ top)) (location_how t.directory))
-      (λ later. inl (inr (inr later))) more) m
+  listed_how t rest l m = grind (arith, common_steps, location_how)
 
   stood_how : (namespace : ℕ) (t : Task ℕ) (l : Location ℕ)
       → Among l ((moved namespace t).root ∷ (moved namespace t).directory ∷ [])
       → Among l (t.root ∷ t.directory ∷ []) ⊎ (l ≡ root_of new)
-  stood_how namespace t l = by (nat_eq namespace t.namespace)
-    where
-      by : (b : Bool) → Among l ((moved_by b t).root ∷ (moved_by b t).directory ∷ [])
-          → Among l (t.root ∷ t.directory ∷ []) ⊎ (l ≡ root_of new)
-      by true m = listed_how t [] l m
-      by false m = inl m
+  stood_how namespace t l = grind (arith, common_steps, listed_how)
 
   located_how : (namespace : ℕ) (t : Task ℕ) (l : Location ℕ) → Among l (locations_of (moved namespace t))
       → Among l (locations_of t) ⊎ (l ≡ root_of new)

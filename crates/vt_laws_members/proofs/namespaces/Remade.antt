@@ -1,5 +1,6 @@
 -- Where mounts of theirs change, new ones come, and namespaces come and go, a set sees what is made of its part.
-use Rattle.std.proofs.Common.{◌≡◌, refl, sym, ap, subst, ◌∙◌, ◌⊎◌, inl, inr, ⊎_elim, ℕ, nat_eq, Bool, true, false, cond, true≢false, List, [], ◌∷◌, ◌++◌, Option, Some, None, filter, map, not, ◌||◌, eq-eqb, eqb-true}
+use Rattle.std.proofs.Common.{arith, ◌≡◌, refl, sym, ap, subst, ◌∙◌, ◌⊎◌, inl, inr, ⊎_elim, ℕ, nat_eq, Bool, true, false, cond, true≢false, List, [], ◌∷◌, ◌++◌, Option, Some, None, filter, map, not, ◌||◌, eq-eqb, eqb-true}
+use Rattle.std.proofs.lemmas.Grind.{common_steps}
 use Rattle.std.specs.List.{filter_map, list_any}
 use Rattle.std.proofs.lemmas.Bool.{or_cases, or_left, or_parts}
 use Rattle.std.proofs.lemmas.List.Elements.{filter-append, filter_map-append}
@@ -7,7 +8,7 @@ use Rattle.vt_spec.specs.Language.Calls.{TaskName}
 use Rattle.vt_spec.specs.Lists.{holds_of, then_some, when}
 use Rattle.vt_spec.specs.Machine.Invariants.{IsWorld, MountInvariants}
 use Rattle.vt_spec.specs.Machine.Mounts.{Location, Mount, Propagation, group_of, source_of}
-use Rattle.vt_spec.specs.Machine.Mounts.Propagation.{Private, Shared, Slave, Unbindable}
+use Rattle.vt_spec.specs.Machine.Mounts.Propagation.{Private}
 use Rattle.vt_spec.specs.Machine.Receives.{is_member_of}
 use Rattle.vt_spec.specs.Machine.Sealed.{is_at, is_member_task, is_own_mount, locations, members, outsiders, own_mounts, part_of, roots_and_directories, sealed, seen_by_descriptor, used_directly}
 use Rattle.vt_spec.specs.Machine.World.{Namespace, Task, World, locations_of, mount_at, mount_numbered}
@@ -125,10 +126,7 @@ no_group : (kind : Propagation ℕ) → kind ≡ Private → (g : ℕ) → sourc
 no_group kind e g f = none_is_some g (sym (ap source_of e) ∙ f)
 
 pub group_source : (kind : Propagation ℕ) (g : ℕ) → group_of kind ≡ Some g → source_of kind ≡ Some g
-group_source (Shared h) g e = e
-group_source (Slave h) g e = none_is_some g e
-group_source Private g e = none_is_some g e
-group_source Unbindable g e = none_is_some g e
+group_source kind g e = grind (arith, common_steps, none_is_some)
 
 module _ (it : Remaking) (does : ChangesTheirs it) (moves : MovesTheirs it) where
   abbrev world : World ℕ
@@ -203,12 +201,7 @@ module _ (it : Remaking) (does : ChangesTheirs it) (moves : MovesTheirs it) wher
 
   less_whole : (m : Mount ℕ) → Among m world.mounts → (owns old m || stands old m) ≡ false
       → (owns new m || stands new m) ≡ false
-  less_whole m n e = by (owns new m || stands new m) refl
-    where
-      by : (b : Bool) → (owns new m || stands new m) ≡ b → (owns new m || stands new m) ≡ false
-      by false f = f
-      by true f = absurd (true≢false (sym (⊎_elim (λ own. or_left (owns old m) (stands old m) (own_was m n own))
-          (stands_was m n) (or_cases (owns new m) (stands new m) f)) ∙ e))
+  less_whole m n e = grind (arith, common_steps, true≢false, or_left, own_was, stands_was, or_cases)
 
   -- what is kept of what is kept
   abbrev stub : Mount ℕ → Mount ℕ
@@ -324,10 +317,7 @@ module _ (it : Remaking) (does : ChangesTheirs it) (moves : MovesTheirs it) wher
 
   shown_was : (y : Mount ℕ) → Among y v.mounts → owns new y ≡ true → (n : ℕ) → n ≡ y.filesystem
       → Among n (used_directly nat_eq world names)
-  shown_was y m own n e =
-      let of = origin y m own in
-      among-append_left mounted (map shows (locations old)) n (subst (λ i. Among i mounted) (sym (e ∙ of.2))
-      (among-map (λ (m : Mount ℕ). m.filesystem) (own_mounts nat_eq world names) of.0 of.1))
+  shown_was y m own n e = grind (arith, common_steps, origin, among-append_left, among-map)
 
   located_was : (l : Location ℕ) → Among l (locations new)
       → Among (mount_at nat_eq v l).filesystem (used_directly nat_eq world names)

@@ -1,5 +1,6 @@
 -- Where mounts of theirs change and new ones come, the change numbers of namespaces are raised alike.
-use Rattle.std.proofs.Common.{◌≡◌, refl, sym, ap, subst, ◌∙◌, ⊎_elim, ℕ, nat_eq, Bool, true, cond, true≢false, List, ◌++◌, Option, Some, None, filter, is_some, map, not, ◌&&◌, ◌||◌, eqb-true}
+use Rattle.std.proofs.Common.{arith, ◌≡◌, refl, sym, ap, subst, ◌∙◌, ⊎_elim, ℕ, nat_eq, Bool, true, cond, true≢false, List, ◌++◌, Option, Some, None, filter, is_some, map, not, ◌&&◌, ◌||◌, eqb-true}
+use Rattle.std.proofs.lemmas.Grind.{common_steps}
 use Rattle.std.proofs.lemmas.Bool.{and_parts, or_left}
 use Rattle.std.proofs.lemmas.List.Elements.{filter-append}
 use Rattle.vt_spec.specs.Language.Calls.{TaskName}
@@ -28,11 +29,7 @@ abbrev its_in : ℕ → Mount ℕ → Bool
 its_in n m = holds_of (nat_eq n) m.namespace
 
 attached : (n : ℕ) (m : Mount ℕ) → its_in n m ≡ true → is_some m.namespace ≡ true
-attached n m = by m.namespace
-  where
-    by : (o : Option ℕ) → holds_of (nat_eq n) o ≡ true → is_some o ≡ true
-    by None h = h
-    by (Some j) h = refl
+attached n m = grind (arith, common_steps)
 
 -- The sweep leaves mounts of namespaces,
 settled_mounts : (w : World ℕ) (n : ℕ) → mounts_of nat_eq (settled nat_eq w) n ≡ filter (its_in n) w.mounts

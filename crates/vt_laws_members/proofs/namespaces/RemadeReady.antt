@@ -1,13 +1,14 @@
 -- Where mounts of theirs change and new ones come, the world is ready to be swept.
-use Rattle.std.proofs.Common.{◌≡◌, refl, sym, ap, subst, ◌∙◌, ◌⊎◌, inl, inr, ⊎_elim, ℕ, nat_eq, Bool, true, false, true≢false, List, Option, Some, None, filter, is_some, map, not, ◌||◌, ◌&&◌, eq-eqb, eqb-true}
+use Rattle.std.proofs.Common.{arith, ◌≡◌, refl, sym, ap, subst, ◌∙◌, ◌⊎◌, inl, inr, ⊎_elim, ℕ, nat_eq, Bool, true, false, true≢false, List, Option, Some, None, filter, is_some, map, not, ◌||◌, ◌&&◌, eq-eqb, eqb-true}
+use Rattle.std.proofs.lemmas.Grind.{common_steps}
 use Rattle.std.specs.List.{list_all, list_any}
 use Rattle.std.proofs.lemmas.Bool.{and_parts, not-true, or_cases, or_left, or_right}
 use Rattle.vt_spec.specs.Language.Calls.{TaskName}
 use Rattle.vt_spec.specs.Lists.{holds_of}
-use Rattle.vt_spec.specs.Machine.Invariants.{MountInvariants, is_nowhere_or_attached, is_private}
+use Rattle.vt_spec.specs.Machine.Invariants.{MountInvariants}
 use Rattle.vt_spec.specs.Machine.Locked.{overlays}
 use Rattle.vt_spec.specs.Machine.Mounts.{Location, Mount}
-use Rattle.vt_spec.specs.Machine.Sealed.{is_at, is_member_task, is_own_namespace, locations, members, no_outsider_on, other_mounts, outsiders, own_lowers, roots_and_directories, used_alone, used_filesystems, wholly_locked}
+use Rattle.vt_spec.specs.Machine.Sealed.{is_at, is_member_task, locations, members, no_outsider_on, other_mounts, outsiders, own_lowers, roots_and_directories, used_alone, used_filesystems, wholly_locked}
 use Rattle.vt_spec.specs.Machine.Settled.{has_layer_on, is_located, mount_lives, without_dead_mounts}
 use Rattle.vt_spec.specs.Machine.World.{Filesystem, Task, World, all_locations, is_overlay, locations_of, mount_at, mount_numbered}
 use Rattle.vt_spec.proofs.Lists.{Among, among-append, among-append_right, among-filter, among-flat_map, among-from_filter, among-from_flat_map, among-from_map, among_from_list_all, among_numbers, any_among, any_from_among, none_among, pair-filter}
@@ -27,13 +28,7 @@ use Rattle.vt_laws_members.proofs.namespaces.Remade.{ChangesTheirs, MovesTheirs,
 -- a mount of no namespace has no mount point
 pub nowhere_pointed : (b : World ℕ) → MountInvariants nat_eq b → (m : Mount ℕ) → Among m b.mounts
     → m.namespace ≡ None → m.mount_point ≡ None
-nowhere_pointed b kept m n none = by m.mount_point (and_parts (not (is_some m.mount_point)) (is_private m.propagation)
-    (sym (ap (λ o. is_some o || (not (is_some m.mount_point) && is_private m.propagation)) none)
-    ∙ among_from_list_all is_nowhere_or_attached b.mounts kept.nowhere m n)).0
-  where
-    by : (o : Option (Location ℕ)) → not (is_some o) ≡ true → o ≡ None
-    by None e = refl
-    by (Some l) e = absurd (true≢false (sym e))
+nowhere_pointed b kept m n none = grind (arith, common_steps, and_parts, among_from_list_all, true≢false)
 
 -- a parent lives
 pub parent_lives : (b : World ℕ) → MountInvariants nat_eq b → (y : Mount ℕ) (l : Location ℕ)
@@ -54,10 +49,7 @@ parent_lives b kept y l n point =
 -- a mount with a location lives
 pub located_lives : (b : World ℕ) (y : Mount ℕ) (l : Location ℕ) → Among y b.mounts → Among l (all_locations b)
     → l.mount ≡ y.number → Among y (without_dead_mounts nat_eq b).mounts
-located_lives b y l n m e = among-filter (mount_lives nat_eq b) b.mounts y n
-    (or_right (is_some y.namespace) (is_located nat_eq b y.number)
-    (any_from_among (λ (p : Location ℕ). nat_eq y.number p.mount) (all_locations b) l m
-    (eq-eqb y.number l.mount (sym e))))
+located_lives b y l n m e = grind (arith, common_steps, among-filter, or_right, any_from_among, eq-eqb)
 
 -- of some of the tasks
 pub of_all : (names : List TaskName) (tasks : List (Task ℕ)) (l : Location ℕ)
@@ -122,15 +114,8 @@ module _ (it : Remaking) (does : ChangesTheirs it) (moves : MovesTheirs it) wher
 
     by_mount : (m : Mount ℕ) → Among m world.mounts → m.filesystem ≡ number → (o : Option ℕ) → m.namespace ≡ o
         → Fits (turn m)
-    by_mount m n e None f = none_after m n f
-    by_mount m n e (Some j) f = which (is_own_namespace nat_eq world names j) refl
-      where
-        which : (c : Bool) → is_own_namespace nat_eq world names j ≡ c → Fits (turn m)
-        which true own = own_after m n (ap (holds_of (is_own_namespace nat_eq world names)) f ∙ own)
-        which false other = absurd (true≢false (sym (eq-eqb number m.filesystem (sym e))
-            ∙ none_among (λ (y : Mount ℕ). nat_eq number y.filesystem) (other_mounts nat_eq world names) nobody.0 m
-            (among-filter (λ (y : Mount ℕ). holds_of (λ i. not (is_own_namespace nat_eq world names i)) y.namespace)
-            world.mounts m n (ap (holds_of (λ i. not (is_own_namespace nat_eq world names i))) f ∙ ap not other))))
+    by_mount m n e o f =
+        grind (arith, common_steps, none_after, own_after, true≢false, eq-eqb, none_among, among-filter)
 
     mounts_own : (y : Mount ℕ) → Among y living.mounts → y.filesystem ≡ number → Fits y
     mounts_own y n e = ⊎_elim (λ turned. let from = among-from_map turn world.mounts y turned in

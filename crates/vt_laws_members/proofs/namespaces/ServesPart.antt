@@ -1,6 +1,6 @@
 -- Numbers that serve a world serve the part of a set.
-use Rattle.std.proofs.Common.{sym, subst, ◌∙◌, inl, inr, ⊎_elim, ℕ, nat_eq, true≢false, List, ◌∷◌, ◌++◌, filter, flat_map, map}
-use Rattle.std.specs.List.{list_any}
+use Rattle.std.proofs.Common.{arith, sym, subst, ◌∙◌, inl, inr, ⊎_elim, ℕ, nat_eq, true≢false, List, ◌∷◌, ◌++◌, filter, flat_map, map}
+use Rattle.std.proofs.lemmas.Grind.{common_steps}
 use Rattle.std.proofs.lemmas.Bool.{false_from_ne_true}
 use Rattle.vt_spec.specs.Language.Calls.{TaskName}
 use Rattle.vt_spec.specs.Lists.{Fresh, is_among}
@@ -49,11 +49,7 @@ module _ (world : World ℕ) (names : List TaskName) where
           (λ later. inr (among-from_filter (λ i. is_among nat_eq i (chosen x)) x.files.numbers n later).0) k
 
   of_namespace : (n : ℕ) → Among n (map number_of part.namespaces) → Among n (map number_of world.namespaces)
-  of_namespace n m =
-      let s = among-from_map number_of part.namespaces n m in
-      subst (λ i. Among i (map number_of world.namespaces)) (sym s.2) (among-map number_of world.namespaces s.0
-      (among-from_filter (λ (x : Namespace ℕ). list_any (λ (t : Task ℕ). nat_eq x.number t.namespace)
-      (members world names)) world.namespaces s.0 s.1).0)
+  of_namespace n m = grind (arith, common_steps, among-from_map, among-map, among-from_filter)
 
   -- a number in use in the part is in use in the world
   used_was : (n : ℕ) → Among n (numbers_in_use part) → Among n (numbers_in_use world)
@@ -76,9 +72,5 @@ module _ (world : World ℕ) (names : List TaskName) where
           n k
 
   pub serves_part : (fresh : Fresh ℕ) → Serves nat_eq world fresh → Serves nat_eq part fresh
-  serves_part fresh serves = record {
-    unused = λ k. false_from_ne_true (is_among nat_eq (fresh k) (numbers_in_use part)) (λ used.
-        true≢false (sym (is_among_numbers (numbers_in_use world) (fresh k)
-        (used_was (fresh k) (among_numbers (numbers_in_use part) (fresh k) used))) ∙ serves.unused k));
-    apart = serves.apart;
-  }
+  serves_part fresh serves =
+      grind (arith, common_steps, false_from_ne_true, true≢false, is_among_numbers, used_was, among_numbers)

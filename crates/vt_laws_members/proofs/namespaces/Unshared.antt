@@ -1,5 +1,6 @@
 -- A world after an unshare(2), whether the namespace that the caller leaves ends or not.
-use Rattle.std.proofs.Common.{◌≡◌, refl, sym, ap, subst, ◌∙◌, ◌⊎◌, inl, ⊎_elim, ℕ, zero, suc, nat_eq, Bool, true, false, cond, true≢false, List, [], ◌∷◌, ◌++◌, Option, Some, None, filter, flat_map, map, not, ◌||◌, ◌&&◌, eq-eqb, eqb-true}
+use Rattle.std.proofs.Common.{arith, ◌≡◌, refl, sym, ap, subst, ◌∙◌, ◌⊎◌, inl, ⊎_elim, ℕ, zero, suc, nat_eq, Bool, true, false, cond, true≢false, List, [], ◌∷◌, ◌++◌, Option, Some, None, filter, flat_map, map, not, ◌||◌, ◌&&◌, eq-eqb, eqb-true}
+use Rattle.std.proofs.lemmas.Grind.{common_steps}
 use Rattle.std.specs.Prelude.{option_map, option_to_list}
 use Rattle.std.specs.List.{list_all, list_any}
 use Rattle.std.proofs.lemmas.Bool.{and_parts, false_from_ne_true, or_left, or_right}
@@ -132,15 +133,7 @@ module _ (w : World ℕ) (fresh : Fresh ℕ) (task : Task ℕ) (can : CanUnshare
   moved_in = subst (λ t. Among t base.tasks) its (among-map replaced w.tasks task can.there)
 
   pub none_in_new : (m : Mount ℕ) → Among m w.mounts → in_space s m ≡ false
-  none_in_new m n =
-      by m.namespace (among_from_list_all (λ (x : Mount ℕ). list_all (is_listed nat_eq w) (option_to_list x.namespace))
-      w.mounts can.listed m n)
-    where
-      by : (o : Option ℕ) → list_all (is_listed nat_eq w) (option_to_list o) ≡ true → holds_of (nat_eq s) o ≡ false
-      by None h = refl
-      by (Some i) h =
-          let at = listed_in w i (and_parts (is_listed nat_eq w i) true h).0 in
-          ap (nat_eq s) at.2 ∙ new_among_spaces w fresh can.serves at.0 at.1
+  none_in_new m n = grind (arith, common_steps, among_from_list_all, listed_in, and_parts, new_among_spaces)
 
   base_listed : MountsAreListed base
   base_listed =
@@ -158,13 +151,7 @@ module _ (w : World ℕ) (fresh : Fresh ℕ) (task : Task ℕ) (can : CanUnshare
 
       old : (o : Option ℕ) → list_all (is_listed nat_eq w) (option_to_list o) ≡ true
           → list_all (is_listed nat_eq base) (option_to_list o) ≡ true
-      old None h = refl
-      old (Some i) h =
-          let at = listed_in w i (and_parts (is_listed nat_eq w i) true h).0 in
-          ap (λ b. b && true) (is_among_numbers (map (λ (x : Namespace ℕ). x.number) base.namespaces) i
-          (subst (λ j. Among j (map (λ (x : Namespace ℕ). x.number) base.namespaces)) (sym at.2)
-          (among-map (λ (x : Namespace ℕ). x.number) base.namespaces at.0
-          (among-append_left w.namespaces (new ∷ []) at.0 at.1))))
+      old o h = grind (arith, common_steps, listed_in, and_parts, is_among_numbers, among-map, among-append_left)
 
   -- a namespace with a task of another name, or with the caller where another task is, still has one
   task_in : (n : ℕ) (t : Task ℕ) → Among t w.tasks → same_name task.name t.name ≡ false → n ≡ t.namespace

@@ -1,12 +1,13 @@
 -- Each unshare(2) ends in the part as in the world.
-use Rattle.std.proofs.Common.{◌≡◌, refl, sym, ap, subst, ◌∙◌, ◌⊎◌, inl, inr, ⊎_elim, ℕ, nat_eq, Bool, true, false, cond, true≢false, List, [], ◌∷◌, Option, Some, None, Ok, Err, filter, map, not, ◌&&◌, ◌+◌, ◌*◌, eq-eqb, eqb-true}
+use Rattle.std.proofs.Common.{arith, ◌≡◌, refl, sym, ap, subst, ◌∙◌, ◌⊎◌, inl, inr, ⊎_elim, ℕ, nat_eq, Bool, true, false, cond, true≢false, List, [], ◌∷◌, Option, Some, None, Ok, Err, filter, map, not, ◌&&◌, ◌+◌, ◌*◌, eq-eqb, eqb-true}
+use Rattle.std.proofs.lemmas.Grind.{common_steps}
 use Rattle.std.specs.Prelude.{IfOk, is_ok}
 use Rattle.std.specs.List.{list_any}
 use Rattle.std.proofs.lemmas.Bool.{false_from_ne_true, not-true}
 use Rattle.vt_spec.specs.Language.Answers.Answer.{Done}
 use Rattle.vt_spec.specs.Language.Calls.{Call, TaskName, same_name}
 use Rattle.vt_spec.specs.Language.Calls.Call.{Exit, Unshare}
-use Rattle.vt_spec.specs.Lists.{Fresh, holds_of, is_among, odds}
+use Rattle.vt_spec.specs.Lists.{Fresh, is_among, odds}
 use Rattle.vt_spec.specs.Machine.Invariants.{MountInvariants, is_listed}
 use Rattle.vt_spec.specs.Machine.Judge.{Judgement, judge_in, unshare_permit}
 use Rattle.vt_spec.specs.Machine.Mounts.{Location, Mount, detached, index_of, numbers_by}
@@ -94,12 +95,7 @@ module _ (world : World ℕ) (names : List TaskName) (name : TaskName) (it : IsC
   member = member_called world names it.is it.sealed_off name it.theirs task called
 
   only : (t : Task ℕ) → Among t world.tasks → (task ≡ t) ⊎ (same_name task.name t.name ≡ false)
-  only t m = by (same_name task.name t.name) refl
-    where
-      by : (b : Bool) → same_name task.name t.name ≡ b → (task ≡ t) ⊎ (same_name task.name t.name ≡ false)
-      by true e = inl (only_task world.tasks it.is.tasks.one_task task t (in_world task member) m
-          (same_task_name task.name t.name e))
-      by false e = inr e
+  only t m = grind (arith, common_steps, only_task, in_world, member, same_task_name)
 
   k_own : is_own_namespace nat_eq world names k ≡ true
   k_own = any_from_among (λ (t : Task ℕ). nat_eq k t.namespace) old task member (eq-eqb k k refl)
@@ -113,16 +109,7 @@ module _ (world : World ℕ) (names : List TaskName) (name : TaskName) (it : IsC
 
   -- both worlds can
   can_world : CanUnshare world fresh task
-  can_world = record {
-    kept = it.is.mounts;
-    serves = serves;
-    listed = it.is.namespaces.mounts_listed;
-    live = it.is.namespaces.namespaces_live;
-    there = in_world task member;
-    named = same_name_itself task.name;
-    left = k_left;
-    only = only;
-  }
+  can_world = grind (arith, common_steps, in_world, member, same_name_itself, k_left, only)
 
   can_part : CanUnshare part fresh task
   can_part = record {
@@ -172,10 +159,7 @@ module _ (world : World ℕ) (names : List TaskName) (name : TaskName) (it : IsC
       (ap (λ (x : Task ℕ). nat_eq n x.namespace) (sym (u.2 ∙ same)) ∙ t.2))) (replaced_how u.0 (in_world u.0 u.1))
     where
       in_new : n ≡ s → IsNewSpace world n
-      in_new e = (
-        λ m k. ap (λ i. in_space i m) e ∙ none_in_new world fresh task can_world m k,
-        λ x k. ap (λ i. nat_eq i x.number) e ∙ new_among_spaces world fresh serves x k,
-      )
+      in_new e = grind (arith, common_steps, in_space, none_in_new, can_world, new_among_spaces)
 
   abbrev OnTheirs : Location ℕ → Type 0
   OnTheirs l = IsTheirs world names it.is.mounts l.mount
@@ -286,27 +270,15 @@ module _ (world : World ℕ) (names : List TaskName) (name : TaskName) (it : IsC
         by false = record { number = refl; filesystem = refl; stub = refl; root = refl }
 
     turned_kind : (m : Mount ℕ) → ((turn m).propagation ≡ m.propagation) ⊎ ((turn m).propagation ≡ Private)
-    turned_kind m = by (ends && in_space k m)
-      where
-        by : (b : Bool) → ((cond b (detached m) m).propagation ≡ m.propagation)
-            ⊎ ((cond b (detached m) m).propagation ≡ Private)
-        by true = inr refl
-        by false = inl refl
+    turned_kind m = grind (arith, common_steps, in_space)
 
     not_cut : (m : Mount ℕ) → in_space k m ≡ false → turn m ≡ m
-    not_cut m e = ap (λ b. cond b (detached m) m) (ap (λ b. ends && b) e ∙ none ends)
-      where
-        none : (b : Bool) → (b && false) ≡ false
-        none true = refl
-        none false = refl
+    not_cut m e = grind (arith, common_steps)
 
     stays_whole : (m : Mount ℕ) → Among m world.mounts → is_own world names old m ≡ false
         → (turn m ≡ m) × (turn (seen_by_descriptor m) ≡ seen_by_descriptor m)
-    stays_whole m n other = (
-      not_cut m (false_from_ne_true (in_space k m) (λ e.
-          true≢false (sym (own_in world names it.is it.sealed_off k k_own m e) ∙ other))),
-      not_cut (seen_by_descriptor m) refl,
-    )
+    stays_whole m n other =
+        grind (arith, common_steps, not_cut, false_from_ne_true, in_space, true≢false, own_in, k_own)
 
     -- a namespace that does not end has its tasks
     still_in : (n : ℕ) → (ends && nat_eq k n) ≡ false → in_spaces old n ≡ true → in_spaces new n ≡ true
@@ -325,17 +297,7 @@ module _ (world : World ℕ) (names : List TaskName) (name : TaskName) (it : IsC
 
     placed : (m : Mount ℕ) → Among m world.mounts → is_own world names old m ≡ true
         → ((turn m).namespace ≡ None) ⊎ (((turn m).namespace ≡ m.namespace) × (is_own world names new m ≡ true))
-    placed m n own = by (ends && in_space k m) refl
-      where
-        still : (o : Option ℕ) → (ends && holds_of (nat_eq k) o) ≡ false → holds_of (in_spaces old) o ≡ true
-            → holds_of (in_spaces new) o ≡ true
-        still None e h = h
-        still (Some i) e h = still_in i e h
-
-        by : (b : Bool) → (ends && in_space k m) ≡ b → ((cond b (detached m) m).namespace ≡ None)
-            ⊎ (((cond b (detached m) m).namespace ≡ m.namespace) × (is_own world names new m ≡ true))
-        by true e = inl refl
-        by false e = inr (refl, still m.namespace e own)
+    placed m n own = grind (arith, common_steps, in_space, in_spaces, still_in, is_own)
 
     changes : ChangesTheirs remaking
     changes = record {
@@ -419,13 +381,7 @@ module _ (world : World ℕ) (names : List TaskName) (name : TaskName) (it : IsC
       unshare_alike false (at.0, from.0, together, differ) (at.0, theirs at.0 from.0 together, together, differ) judged
     where
       theirs : (t : Task ℕ) → Among t world.tasks → t.namespace ≡ k → Among t old
-      theirs t m together = among-filter (is_member_task names) world.tasks t m (by (is_member_task names t) refl)
-        where
-          by : (b : Bool) → is_member_task names t ≡ b → is_member_task names t ≡ true
-          by true f = f
-          by false f = absurd (true≢false (sym (ap (is_own_namespace nat_eq world names) together ∙ k_own)
-              ∙ namespace_outside world names (apart world names it.is it.sealed_off) t
-              (among-filter (λ x. not (is_member_task names x)) world.tasks t m (ap not f))))
+      theirs t m together = grind (arith, common_steps, among-filter, true≢false, k_own, namespace_outside, apart)
 
 -- The permit of unshare(2)
 abbrev Unshares : Permit ℕ → Type 0

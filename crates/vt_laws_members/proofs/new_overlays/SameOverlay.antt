@@ -2,7 +2,7 @@
 use Rattle.std.proofs.Common.{◌≡◌, ◌≤◌, refl, sym, ap, subst, ◌∙◌, inl, inr, true≢false, arith, ℕ, zero, suc, ◌+◌, nat_eq, true, List, [], ◌∷◌, ◌++◌, flat_map, length, map, not, Bool, Option, Some, None, is_some, option_and_then, slice_get}
 use Rattle.std.proofs.lemmas.Grind.{common_steps}
 use Rattle.std.specs.List.{filter_map, find, sum}
-use Rattle.std.specs.Prelude.{option_map, unwrap_or}
+use Rattle.std.specs.Prelude.{option_map}
 use Rattle.std.proofs.lemmas.Bool.{and_parts}
 use Rattle.std.proofs.lemmas.List.Sums.{sum_by-cons}
 use Rattle.std.proofs.lemmas.Option.{same_Some, slice_get-map}
@@ -14,7 +14,7 @@ use Rattle.vt_spec.specs.Machine.Layers.{OpenLayer, Shown, names_shown, paths_fr
 use Rattle.vt_spec.specs.Machine.Merging.{merged_at, merged_inodes, merged_objects}
 use Rattle.vt_spec.specs.Machine.NewMounts.{inode_count, overlay_filesystem, overlay_of_inodes}
 use Rattle.vt_spec.specs.Machine.Sealed.{part_of, used_filesystems}
-use Rattle.vt_spec.specs.Machine.World.{Filesystem, Layer, Overlay, World, filesystem_numbered, is_overlay, no_filesystem, open_layer, shown_layers}
+use Rattle.vt_spec.specs.Machine.World.{Filesystem, Layer, Overlay, World, filesystem_numbered, is_overlay, open_layer, shown_layers}
 use Rattle.vt_spec.specs.Tree.{is_directory_node}
 use Rattle.vt_spec.specs.TreeInvariant.{IsTree, entry_at, led}
 use Rattle.vt_spec.proofs.Lists.{Among, among_from_list_all, contains_from_among, map_alike}
@@ -78,13 +78,7 @@ in_sum test (first ∷ list) filesystem e =
 found_there : (w : World ℕ) (n directory : ℕ)
     → is_directory_node ((filesystem_numbered nat_eq w n).files.tree.node directory) ≡ true
     → find (λ (f : Filesystem ℕ). nat_eq n f.number) w.filesystems ≡ Some (filesystem_numbered nat_eq w n)
-found_there w n directory is = by (find (λ (f : Filesystem ℕ). nat_eq n f.number) w.filesystems) refl
-  where
-    by : (o : Option (Filesystem ℕ)) → find (λ (f : Filesystem ℕ). nat_eq n f.number) w.filesystems ≡ o
-        → find (λ (f : Filesystem ℕ). nat_eq n f.number) w.filesystems ≡ Some (filesystem_numbered nat_eq w n)
-    by None e = absurd (true≢false (sym is
-        ∙ ap (λ o. is_directory_node ((unwrap_or o (no_filesystem n)).files.tree.node directory)) e))
-    by (Some f) e = e ∙ ap Some (sym (ap (λ o. unwrap_or o (no_filesystem n)) e))
+found_there w n directory is = grind (arith, common_steps, true≢false)
 
 -- Paths of what layers show
 module _ (layers : List (OpenLayer ℕ)) where

@@ -4,7 +4,6 @@ use Rattle.std.proofs.lemmas.Grind.{common_steps}
 use Rattle.std.specs.List.{list_any}
 use Rattle.std.proofs.lemmas.Bool.{not-false, or_parts}
 use Rattle.vt_spec.specs.Machine.Mounts.{Mount, Propagation, group_of, source_of}
-use Rattle.vt_spec.specs.Machine.Mounts.Propagation.{Private, Shared, Slave, Unbindable}
 use Rattle.vt_spec.specs.Machine.Receives.{has_members, heir, inherited, inheriting, lost_a_group, regrouped, regrouped_by}
 use Rattle.vt_spec.specs.Machine.Settled.{settled}
 use Rattle.vt_spec.specs.Machine.World.{World}
@@ -19,10 +18,7 @@ use Rattle.vt_laws_sealed.proofs.part.groups.ReceiversAlike.{member_group}
 
 -- a member of a group receives from it
 pub source_from : (kind : Propagation ℕ) (group : ℕ) → group_of kind ≡ Some group → source_of kind ≡ Some group
-source_from (Shared g) group e = e
-source_from (Slave g) group e = none_is_some group e
-source_from Private group e = none_is_some group e
-source_from Unbindable group e = none_is_some group e
+source_from kind group e = grind (arith, common_steps, none_is_some)
 
 -- a group that has a member inherits its master, also where nothing is lost
 pub master-inherited : (t : World ℕ) (group : ℕ) → has_members nat_eq t.mounts group ≡ true

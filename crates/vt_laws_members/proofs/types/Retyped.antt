@@ -1,14 +1,14 @@
 -- Where mounts of a sealed set change their types, types and masters are left in the part as in the world.
-use Rattle.std.proofs.Common.{◌≡◌, refl, sym, ap, subst, ◌∙◌, ◌⊎◌, inl, inr, ⊎_elim, ℕ, zero, suc, nat_eq, Bool, true, false, cond, true≢false, List, [], ◌∷◌, Option, Some, None, find, is_some, length, not, ◌||◌, ◌&&◌, eq-eqb, eqb-true}
+use Rattle.std.proofs.Common.{arith, ◌≡◌, refl, sym, ap, subst, ◌∙◌, ◌⊎◌, inl, inr, ⊎_elim, ℕ, zero, suc, nat_eq, Bool, true, false, cond, true≢false, List, [], ◌∷◌, Option, Some, None, find, is_some, length, ◌||◌, ◌&&◌, eq-eqb, eqb-true}
+use Rattle.std.proofs.lemmas.Grind.{common_steps}
 use Rattle.std.specs.Prelude.{option_to_list}
 use Rattle.std.specs.List.{list_any}
 use Rattle.std.proofs.lemmas.Bool.{and_parts, false_from_ne_true}
 use Rattle.std.proofs.lemmas.List.{length-map}
 use Rattle.std.proofs.lemmas.Option.{same_Some}
 use Rattle.vt_spec.specs.Language.Calls.{TaskName, TypeWord}
-use Rattle.vt_spec.specs.Language.Calls.TypeWord.{ToPrivate, ToShared, ToSlave, ToUnbindable}
 use Rattle.vt_spec.specs.Lists.{Fresh, chain, holds_of}
-use Rattle.vt_spec.specs.Machine.Invariants.{IsWorld, is_nowhere_or_attached, is_private}
+use Rattle.vt_spec.specs.Machine.Invariants.{IsWorld, is_private}
 use Rattle.vt_spec.specs.Machine.Mounts.{Mount, Propagation, group_of, index_of, numbers_by, source_of}
 use Rattle.vt_spec.specs.Machine.Mounts.Propagation.{Private, Shared, Slave, Unbindable}
 use Rattle.vt_spec.specs.Machine.Receives.{groups_up, has_members, heir, inherited, is_member_of, slave_of_heir}
@@ -41,65 +41,31 @@ find_alike p q (x ∷ xs) same = ap (λ b. cond b (Some x) (find p xs)) (same x 
 chain_alike : (f g : ℕ → Option ℕ) (P : ℕ → Type 0) → ((a b : ℕ) → f a ≡ Some b → P a → P b)
     → ((a : ℕ) → P a → g a ≡ f a) → (n a : ℕ) → P a → chain n g a ≡ chain n f a
 chain_alike f g P on same zero a p = refl
-chain_alike f g P on same (suc n) a p = by (f a) refl (chain_alike f g P on same n)
-  where
-    by : (o : Option ℕ) → f a ≡ o → ((b : ℕ) → P b → chain n g b ≡ chain n f b) → chain (suc n) g a ≡ chain (suc n) f a
-    by None e later = chain_ends g n a (same a p ∙ e) ∙ sym (chain_ends f n a e)
-    by (Some b) e later =
-        chain_goes_on g n a b (same a p ∙ e) ∙ ap (λ l. a ∷ l) (later b (on a b e p)) ∙ sym (chain_goes_on f n a b e)
+chain_alike f g P on same (suc n) a p =
+    grind (arith, common_steps, chain_ends, chain_goes_on, chain_alike f g P on same n)
 
 -- what a private mount inherits
 private_alike : (t u : World ℕ) (kind : Propagation ℕ) → is_private kind ≡ true
     → inherited nat_eq t kind ≡ inherited nat_eq u kind
-private_alike t u (Shared g) e = absurd (true≢false (sym e))
-private_alike t u (Slave g) e = absurd (true≢false (sym e))
-private_alike t u Private e = refl
-private_alike t u Unbindable e = absurd (true≢false (sym e))
+private_alike t u kind e = grind (arith, common_steps, true≢false)
 
 -- who becomes a slave was one, or a member
 slave_was : (new : ℕ) (word : TypeWord) (kind : Propagation ℕ) (g : ℕ)
     → master_after (type_after new word kind) ≡ Some g → source_of kind ≡ Some g
-slave_was new ToShared (Shared h) g e = none_is_some g e
-slave_was new ToShared (Slave h) g e = none_is_some g e
-slave_was new ToShared Private g e = none_is_some g e
-slave_was new ToShared Unbindable g e = none_is_some g e
-slave_was new ToSlave (Shared h) g e = e
-slave_was new ToSlave (Slave h) g e = e
-slave_was new ToSlave Private g e = none_is_some g e
-slave_was new ToSlave Unbindable g e = none_is_some g e
-slave_was new ToPrivate kind g e = none_is_some g e
-slave_was new ToUnbindable kind g e = none_is_some g e
+slave_was new word kind g e = grind (arith, common_steps, none_is_some)
 
 -- who becomes shared was so, or has a new group
 shared_was : (new : ℕ) (word : TypeWord) (kind : Propagation ℕ) (g : ℕ) → group_of (type_after new word kind) ≡ Some g
     → (source_of kind ≡ Some g) ⊎ ((takes_groups word ≡ true) × (new ≡ g))
-shared_was new ToShared (Shared h) g e = inl e
-shared_was new ToShared (Slave h) g e = inr (refl, same_Some new g e)
-shared_was new ToShared Private g e = inr (refl, same_Some new g e)
-shared_was new ToShared Unbindable g e = inr (refl, same_Some new g e)
-shared_was new ToSlave (Shared h) g e = none_is_some g e
-shared_was new ToSlave (Slave h) g e = none_is_some g e
-shared_was new ToSlave Private g e = none_is_some g e
-shared_was new ToSlave Unbindable g e = none_is_some g e
-shared_was new ToPrivate kind g e = none_is_some g e
-shared_was new ToUnbindable kind g e = none_is_some g e
+shared_was new word kind g e = grind (arith, common_steps, same_Some, none_is_some)
 
 -- the type does not depend on the number of a group that is not taken
 same_after : (a b : ℕ) (word : TypeWord) (kind : Propagation ℕ) → takes_groups word ≡ false
     → type_after a word kind ≡ type_after b word kind
-same_after a b ToShared kind e = absurd (true≢false e)
-same_after a b ToSlave (Shared h) e = refl
-same_after a b ToSlave (Slave h) e = refl
-same_after a b ToSlave Private e = refl
-same_after a b ToSlave Unbindable e = refl
-same_after a b ToPrivate kind e = refl
-same_after a b ToUnbindable kind e = refl
+same_after a b word kind e = grind (arith, common_steps, true≢false)
 
 master_source : (kind : Propagation ℕ) (g : ℕ) → master_after kind ≡ Some g → source_of kind ≡ Some g
-master_source (Shared h) g e = none_is_some g e
-master_source (Slave h) g e = e
-master_source Private g e = none_is_some g e
-master_source Unbindable g e = none_is_some g e
+master_source kind g e = grind (arith, common_steps, none_is_some)
 
 module _ (fresh : Fresh ℕ) (word : TypeWord) (named : List (Mount ℕ)) where
   abbrev number_for : ℕ → ℕ
@@ -125,12 +91,7 @@ module _ (fresh : Fresh ℕ) (word : TypeWord) (named : List (Mount ℕ)) where
   cut m = record m { propagation = new_kind m }
 
   pub retyped_so : (m : Mount ℕ) → retyped_mount nat_eq number_for word named m ≡ cut m
-  retyped_so m = by (is_named m)
-    where
-      by : (b : Bool) → cond b (record m { propagation = type_after (number_for m.number) word m.propagation }) m
-          ≡ record m { propagation = kind_by b m }
-      by true = refl
-      by false = refl
+  retyped_so m = grind (arith, common_steps)
 
   -- masters of new groups are set alike
   new_alike : (a b : ℕ → Option ℕ) (g : ℕ) → a g ≡ b g → (list : List (Mount ℕ))
@@ -342,18 +303,8 @@ module _ (world : World ℕ) (names : List TaskName) (is : IsWorld nat_eq world)
 
   nowhere_alike : (m : Mount ℕ) → Among m world.mounts → m.namespace ≡ None
       → inherited nat_eq t_part (kind m) ≡ inherited nat_eq t (kind m)
-  nowhere_alike m n none = by (is_named fresh word named m) refl
-    where
-      alone : is_private m.propagation ≡ true
-      alone = (and_parts (not (is_some m.mount_point)) (is_private m.propagation)
-          (sym (ap (λ o. is_some o || (not (is_some m.mount_point) && is_private m.propagation)) none)
-          ∙ among_from_list_all is_nowhere_or_attached world.mounts is.mounts.nowhere m n)).1
-
-      by : (b : Bool) → is_named fresh word named m ≡ b → inherited nat_eq t_part (kind m) ≡ inherited nat_eq t (kind m)
-      by true e = own_alike m (own_named m n e)
-      by false e = ap (λ c. inherited nat_eq t_part (kind_by fresh word named c m)) e
-          ∙ private_alike t_part t m.propagation alone
-          ∙ sym (ap (λ c. inherited nat_eq t (kind_by fresh word named c m)) e)
+  nowhere_alike m n none =
+      grind (arith, common_steps, none, and_parts, among_from_list_all, own_alike, own_named, private_alike)
 
   -- Groups after
   abbrev HasGroup : ℕ → Type 0
@@ -426,16 +377,7 @@ module _ (world : World ℕ) (names : List TaskName) (is : IsWorld nat_eq world)
   -- one supply for both
   new_agree : (g : ℕ) → IsNewGroup fresh word g
       → new_masters fresh word named there g ≡ new_masters fresh word named world g
-  new_agree g new = new_alike fresh word named there.master world.master g
-      (ap (cond (list_any (is_member_of nat_eq g) (own_mounts nat_eq world names)) (world.master g)) (sym none)
-      ∙ by (list_any (is_member_of nat_eq g) (own_mounts nat_eq world names))) named
-    where
-      none : world.master g ≡ None
-      none = ap world.master (sym new.2) ∙ new_none world is fresh serves new.1
-
-      by : (b : Bool) → cond b (world.master g) (world.master g) ≡ world.master g
-      by true = refl
-      by false = refl
+  new_agree g new = grind (arith, common_steps, new_alike, new_none)
 
   pub alike_by_one : AreTypedAlike world names is sealed_off
       (kind_left world taken (new_masters fresh word named world))
@@ -451,12 +393,7 @@ module _ (world : World ℕ) (names : List TaskName) (is : IsWorld nat_eq world)
   module _ (other : Fresh ℕ) (serves_there : Serves nat_eq (part_of nat_eq world names) other)
       (no_groups : takes_groups word ≡ false) where
     pub same_kind : (m : Mount ℕ) → new_kind other word named m ≡ taken m
-    same_kind m = by (is_named fresh word named m)
-      where
-        by : (b : Bool) → kind_by other word named b m ≡ kind_by fresh word named b m
-        by true = same_after (numbers_by nat_eq other named m.number) (numbers_by nat_eq fresh named m.number) word
-            m.propagation no_groups
-        by false = refl
+    same_kind m = grind (arith, common_steps, same_after)
 
     pub alike_by_any : AreTypedAlike world names is sealed_off
         (kind_left world taken (new_masters fresh word named world))

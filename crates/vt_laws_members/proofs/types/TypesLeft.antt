@@ -1,13 +1,13 @@
 -- Where mounts of theirs have other types, and their groups other masters: the world that a call leaves, and its part.
-use Rattle.std.proofs.Common.{◌≡◌, refl, sym, ap, subst, ◌∙◌, ◌⊎◌, inl, ⊎_elim, ℕ, nat_eq, Bool, true, false, cond, List, [], ◌∷◌, ◌++◌, Option, Some, None, filter, find, map, ◌||◌, ◌&&◌}
-use Rattle.std.specs.Prelude.{unwrap_or}
+use Rattle.std.proofs.Common.{arith, ◌≡◌, refl, sym, ap, subst, ◌∙◌, ◌⊎◌, inl, ⊎_elim, ℕ, nat_eq, Bool, true, false, cond, List, [], ◌∷◌, ◌++◌, Option, Some, None, filter, map, ◌||◌, ◌&&◌}
+use Rattle.std.proofs.lemmas.Grind.{common_steps}
 use Rattle.std.specs.List.{filter_map, list_any}
 use Rattle.std.proofs.lemmas.Bool.{or_cases, or_parts}
 use Rattle.vt_spec.specs.Language.Calls.{TaskName}
 use Rattle.vt_spec.specs.Lists.{holds_of, same_list, same_option, then_some, when}
 use Rattle.vt_spec.specs.Machine.Filesystems.{raised, raised_if_changed}
 use Rattle.vt_spec.specs.Machine.Invariants.{IsWorld}
-use Rattle.vt_spec.specs.Machine.Mounts.{Location, Mount, Propagation, mount_in, no_mount, same_location, source_of}
+use Rattle.vt_spec.specs.Machine.Mounts.{Location, Mount, Propagation, mount_in, same_location, source_of}
 use Rattle.vt_spec.specs.Machine.Policy.{master_above, numbers_raised, raised_namespace, raised_task, same_flags, same_mount, same_mounts_in, same_propagation}
 use Rattle.vt_spec.specs.Machine.Receives.{is_member_of}
 use Rattle.vt_spec.specs.Machine.Sealed.{is_at, is_member_task, is_own_mount, locations, members, own_mounts, part_of, roots_and_directories, sealed, seen_by_descriptor, used_directly}
@@ -102,11 +102,7 @@ module _ (world : World ℕ) (names : List TaskName) (is : IsWorld nat_eq world)
         stub : (owned m || stood m) ≡ false → (a : Bool) → located m ≡ a
             → then_some (when (located m) (seen_by_descriptor m)) (λ y. kept (after_there y))
             ≡ when (located m) (seen_by_descriptor m)
-        stub e true f = ap (λ c. then_some (when c (seen_by_descriptor m)) (λ y. kept (after_there y))) f
-            ∙ ap (λ c. cond c (Some (after_there (seen_by_descriptor m))) (when (located m) (seen_by_descriptor m)))
-            (or_parts (owned m) (stood m) e).1
-        stub e false f = ap (λ c. then_some (when c (seen_by_descriptor m)) (λ y. kept (after_there y))) f
-            ∙ sym (ap (λ c. when c (seen_by_descriptor m)) f)
+        stub e a f = grind (arith, common_steps, or_parts)
 
         by : (b : Bool) → (owned m || stood m) ≡ b → then_some (kept m) (λ y. kept (after_there y)) ≡ kept (after m)
         by true e = ap (λ c. then_some (kept_as c m) (λ y. kept (after_there y))) e
@@ -125,16 +121,7 @@ module _ (world : World ℕ) (names : List TaskName) (is : IsWorld nat_eq world)
     same_shown : (number : ℕ) (mounts : List (Mount ℕ))
         → (mount_in nat_eq (map after mounts) number).filesystem ≡ (mount_in nat_eq mounts number).filesystem
     same_shown number [] = refl
-    same_shown number (m ∷ rest) = by (nat_eq number m.number) (same_shown number rest)
-      where
-        by : (b : Bool)
-            → (mount_in nat_eq (map after rest) number).filesystem ≡ (mount_in nat_eq rest number).filesystem
-            → (unwrap_or (cond b (Some (after m)) (find (λ (x : Mount ℕ). nat_eq number x.number) (map after rest)))
-            (no_mount number)).filesystem
-            ≡ (unwrap_or (cond b (Some m) (find (λ (x : Mount ℕ). nat_eq number x.number) rest))
-            (no_mount number)).filesystem
-        by true e = refl
-        by false e = e
+    same_shown number (m ∷ rest) = grind (arith, common_steps, same_shown number rest)
 
     abbrev shows : Mount ℕ → ℕ
     shows m = m.filesystem
@@ -154,12 +141,7 @@ module _ (world : World ℕ) (names : List TaskName) (is : IsWorld nat_eq world)
     masters_alike : (group : ℕ) → list_any (is_member_of nat_eq group) (own_mounts nat_eq later names) ≡ true
         → master_there group ≡ master group
     masters_alike group h =
-        let y = any_among (is_member_of nat_eq group) (own_mounts nat_eq later names) h in
-        let own = among-from_filter (is_own_mount nat_eq world names) (map after world.mounts) y.0 y.1 in
-        let from = among-from_map after world.mounts y.0 own.0 in
-        alike.masters from.0 (mine from.0 from.1 (ap (is_own_mount nat_eq world names) (sym from.2) ∙ own.1)) group
-        (source_from (kind from.0) group
-        (member_group group (after from.0) (ap (is_member_of nat_eq group) (sym from.2) ∙ y.2)))
+        grind (arith, common_steps, any_among, among-from_filter, among-from_map, mine, source_from, member_group)
 
     less : AreLess world names names later later_part
     less = record {
@@ -179,16 +161,7 @@ module _ (world : World ℕ) (names : List TaskName) (is : IsWorld nat_eq world)
     module _ (n : ℕ) (space : list_any (λ (t : Task ℕ). nat_eq n t.namespace) theirs ≡ true) where
       above_later : (y : Mount ℕ) → Among y later.mounts → its_in n y ≡ true
           → master_above later_part y ≡ master_above later y
-      above_later y m h =
-          let from = among-from_map after world.mounts y m in
-          subst (λ (q : Mount ℕ). master_above later_part q ≡ master_above later q) (sym from.2) (by from.0
-          (mine from.0 from.1 (own_in world names is sealed_off n space from.0 (ap (its_in n) (sym from.2) ∙ h)))
-          (source_of (kind from.0)) refl)
-        where
-          by : (x : Mount ℕ) → Among x owns → (o : Option ℕ) → source_of (kind x) ≡ o
-              → then_some o master_there ≡ then_some o master
-          by x own None e = refl
-          by x own (Some g) e = alike.masters x own g e
+      above_later y m h = grind (arith, common_steps, among-from_map, mine, own_in)
 
       later_in_part : mounts_of nat_eq later_part n ≡ mounts_of nat_eq later n
       later_in_part =

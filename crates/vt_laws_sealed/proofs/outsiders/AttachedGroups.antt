@@ -1,15 +1,16 @@
 -- The groups that mounts of others form where they are attached: those of others, and new ones.
-use Rattle.std.proofs.Common.{◌≡◌, refl, sym, ap, subst, ◌∙◌, ◌⊎◌, inl, inr, ⊎_elim, ℕ, nat_eq, Bool, true, false, cond, true≢false, List, [], ◌∷◌, ◌*◌, Option, Some, None, find, length, not, ◌+◌, eqb-true}
+use Rattle.std.proofs.Common.{arith, ◌≡◌, refl, sym, ap, subst, ◌∙◌, ◌⊎◌, inl, inr, ⊎_elim, ℕ, nat_eq, Bool, true, false, cond, true≢false, List, [], ◌∷◌, ◌*◌, Option, Some, None, length, not, ◌+◌, eqb-true}
+use Rattle.std.proofs.lemmas.Grind.{common_steps}
 use Rattle.std.specs.Prelude.{option_map, unwrap_or}
 use Rattle.std.specs.List.{filter_map, list_any}
 use Rattle.std.proofs.lemmas.Bool.{false_from_ne_true}
 use Rattle.std.proofs.lemmas.Option.{same_Some}
 use Rattle.vt_spec.specs.Language.Calls.{TaskName}
-use Rattle.vt_spec.specs.Lists.{Fresh, folded, holds_of, then_some, when}
+use Rattle.vt_spec.specs.Lists.{Fresh, folded, then_some, when}
 use Rattle.vt_spec.specs.Machine.Attach.{Copies, Graft, index_in_rows, index_of_group, all_groups_made, attach, copies_from, copy_at, copy_type, graft_of, group_made, image, is_destination, masters_with, nearest_image, parts_of, twig_master, twig_of, type_at, type_on_shared}
 use Rattle.vt_spec.specs.Machine.Mounts.{Location, Mount, Propagation, group_of, index_of, is_shared}
 use Rattle.vt_spec.specs.Machine.Mounts.Propagation.{Private, Shared, Slave, Unbindable}
-use Rattle.vt_spec.specs.Machine.Receives.{groups_up, has_members, is_member_of, slave_of_heir}
+use Rattle.vt_spec.specs.Machine.Receives.{is_member_of, slave_of_heir}
 use Rattle.vt_spec.specs.Machine.Run.{Serves}
 use Rattle.vt_spec.specs.Machine.Sealed.{is_own_mount, master_of, other_mounts, own_mounts}
 use Rattle.vt_spec.specs.Machine.Types.{master_after}
@@ -27,25 +28,15 @@ masters_stay : (group : ℕ) (made : List (ℕ × Option ℕ)) (master : ℕ →
     → folded (masters_with nat_eq) master made group ≡ master group
 masters_stay group [] master differ = refl
 masters_stay group (entry ∷ rest) master differ =
-    masters_stay group rest (masters_with nat_eq master entry) (λ e m. differ e (inr m))
-    ∙ ap (λ b. cond b entry.1 (master group)) (differ entry (inl refl))
+    grind (arith, common_steps, masters_stay group rest (masters_with nat_eq master entry))
 
 -- a master is one that was set, or the old one
 masters_from : (group : ℕ) (made : List (ℕ × Option ℕ)) (master : ℕ → Option ℕ)
     → (folded (masters_with nat_eq) master made group ≡ master group)
     ⊎ ((entry : ℕ × Option ℕ) × Among entry made × (folded (masters_with nat_eq) master made group ≡ entry.1))
 masters_from group [] master = inl refl
-masters_from group (entry ∷ rest) master = ⊎_elim (λ same. by (nat_eq group entry.0) refl same)
-    (λ set. inr (set.0, inr set.1, set.2)) (masters_from group rest (masters_with nat_eq master entry))
-  where
-    by : (b : Bool) → nat_eq group entry.0 ≡ b
-        → folded (masters_with nat_eq) (masters_with nat_eq master entry) rest group
-        ≡ cond (nat_eq group entry.0) entry.1 (master group)
-        → (folded (masters_with nat_eq) master (entry ∷ rest) group ≡ master group)
-        ⊎ ((one : ℕ × Option ℕ) × Among one (entry ∷ rest)
-        × (folded (masters_with nat_eq) master (entry ∷ rest) group ≡ one.1))
-    by true e same = inr (entry, inl refl, same ∙ ap (λ b. cond b entry.1 (master group)) e)
-    by false e same = inl (same ∙ ap (λ b. cond b entry.1 (master group)) e)
+masters_from group (entry ∷ rest) master =
+    grind (arith, common_steps, masters_from group rest (masters_with nat_eq master entry))
 
 -- what is attached: a mount with the type and the filesystem of one of the others, or a private one of a new filesystem
 abbrev pub OriginOf : World ℕ → Fresh ℕ → List TaskName → Mount ℕ → Type 0
@@ -131,26 +122,12 @@ module _ (world : World ℕ) (names : List TaskName) (apart : IsApart world name
   nearest_foreign : (origin : Mount ℕ) → Among origin mounts → (above : Option ℕ) (group : ℕ)
       → nearest_image nat_eq base new parts destination (twig_of new (group_of destination.propagation) origin) above
       ≡ Some group → IsForeign group
-  nearest_foreign origin m None group e = none_is_some group e
-  nearest_foreign origin m (Some above) group e = by (find (has_members nat_eq parts) (groups_up world above)) e
-    where
-      by : (o : Option ℕ) → option_map (image nat_eq new destination
-          (twig_of new (group_of destination.propagation) origin)) o ≡ Some group → IsForeign group
-      by None f = none_is_some group f
-      by (Some found) f = subst IsForeign
-          (same_Some (image nat_eq new destination (twig_of new (group_of destination.propagation) origin) found) group
-          f) (image_foreign found origin m)
+  nearest_foreign origin m above group e = search (arith, common_steps, none_is_some, same_Some, image_foreign)
 
   -- a master of an origin
   after_foreign : (origin : Mount ℕ) → Among origin mounts → (group : ℕ)
       → master_after origin.propagation ≡ Some group → IsForeign group
-  after_foreign origin m group e = by origin.propagation refl e
-    where
-      by : (kind : Propagation ℕ) → origin.propagation ≡ kind → master_after kind ≡ Some group → IsForeign group
-      by (Shared g) f h = none_is_some group h
-      by (Slave g) f h = origin_hears origin m (Slave g) f group (inr h)
-      by Private f h = none_is_some group h
-      by Unbindable f h = none_is_some group h
+  after_foreign origin m group e = search (arith, common_steps, none_is_some, origin_hears)
 
   abbrev IsMade : ℕ × Option ℕ → Type 0
   IsMade entry = ((k : ℕ) × (entry.0 ≡ fresh k)) × ((group : ℕ) → entry.1 ≡ Some group → IsForeign group)
@@ -170,13 +147,7 @@ module _ (world : World ℕ) (names : List TaskName) (apart : IsApart world name
       at : (kind : Propagation ℕ) → origin.propagation ≡ kind → (o : Option ℕ)
           → cond (is_shared kind) None (option_map (λ group. (group, master_after origin.propagation))
           (group_of (type_at new o (record origin { propagation = kind })))) ≡ Some entry → IsMade entry
-      at (Shared g) f o h = none_is_some entry h
-      at (Slave g) f None h = none_is_some entry h
-      at Private f None h = none_is_some entry h
-      at Unbindable f None h = none_is_some entry h
-      at (Slave g) f (Some there) h = made (new.image there origin.number) (new_image there origin.number) h
-      at Private f (Some there) h = made (new.image there origin.number) (new_image there origin.number) h
-      at Unbindable f (Some there) h = made (new.image there origin.number) (new_image there origin.number) h
+      at kind f o h = search (arith, common_steps, none_is_some, made, new_image)
 
       by : (kind : Propagation ℕ) → origin.propagation ≡ kind → (o : Option ℕ)
           → twig_master (twig_of new o origin) ≡ Some entry → IsMade entry
@@ -256,11 +227,7 @@ module _ (world : World ℕ) (names : List TaskName) (apart : IsApart world name
     where
       member_of : (group : ℕ) (mount : Mount ℕ) → is_member_of nat_eq group mount ≡ true
           → group_of mount.propagation ≡ Some group
-      member_of group mount h = by (group_of mount.propagation) h
-        where
-          by : (o : Option ℕ) → holds_of (nat_eq group) o ≡ true → o ≡ Some group
-          by None f = absurd (true≢false (sym f))
-          by (Some x) f = ap Some (sym (eqb-true group x f))
+      member_of group mount h = grind (arith, common_steps, true≢false, eqb-true)
 
   foreign_master : (group above : ℕ) → IsForeign group → left.master group ≡ Some above → IsForeign above
   foreign_master group above foreign e = ⊎_elim
@@ -304,11 +271,7 @@ module _ (world : World ℕ) (names : List TaskName) (apart : IsApart world name
 
       on : (g : ℕ) (kind : Propagation ℕ) → origin.propagation ≡ kind → (group : ℕ)
           → HearsGroup world names so_far left (type_on_shared (new.image g origin.number) kind) group → IsForeign group
-      on g (Shared h) e group how =
-          old group (subst (λ kind. HearsGroup world names so_far left kind group) (sym e) how)
-      on g (Slave h) e group how = shared (new.image g origin.number) (new_image g origin.number) group how
-      on g Private e group how = shared (new.image g origin.number) (new_image g origin.number) group how
-      on g Unbindable e group how = shared (new.image g origin.number) (new_image g origin.number) group how
+      on g kind e group how = search (arith, common_steps, old, shared, new_image)
 
       by : (o : Option ℕ) (kind : Propagation ℕ) → origin.propagation ≡ kind → (group : ℕ)
           → HearsGroup world names so_far left (type_at new o origin) group → IsForeign group

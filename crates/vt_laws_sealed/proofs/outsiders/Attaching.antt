@@ -1,12 +1,13 @@
 -- Copies of mounts of others, attached at a mount of others and at its receivers.
-use Rattle.std.proofs.Common.{◌≡◌, refl, sym, ap, subst, ◌∙◌, ◌⊎◌, inl, inr, ⊎_elim, ℕ, nat_eq, Bool, true, false, cond, true≢false, List, [], ◌∷◌, ◌++◌, ◌*◌, append-nil, append_assoc, Option, Some, None, filter, find, flat_map, is_some, length, map, not, ◌&&◌, ◌||◌, eq-eqb, eqb-true}
+use Rattle.std.proofs.Common.{arith, ◌≡◌, refl, sym, ap, subst, ◌∙◌, ◌⊎◌, inl, inr, ⊎_elim, ℕ, nat_eq, Bool, true, false, cond, true≢false, List, [], ◌∷◌, ◌++◌, ◌*◌, append-nil, append_assoc, Option, Some, None, filter, find, flat_map, is_some, length, map, not, ◌&&◌, ◌||◌, eq-eqb, eqb-true}
+use Rattle.std.proofs.lemmas.Grind.{common_steps}
 use Rattle.std.specs.Prelude.{option_map, unwrap_or}
 use Rattle.std.specs.List.{cons_option, filter_map, list_any}
 use Rattle.std.proofs.lemmas.Bool.{and_from, and_parts, false_from_ne_true, not-true}
 use Rattle.std.proofs.lemmas.List.Elements.{filter_map-append}
 use Rattle.vt_spec.specs.Language.Calls.{TaskName}
 use Rattle.vt_spec.specs.Lists.{Fresh, folded, holds_of, rest_of, when}
-use Rattle.vt_spec.specs.Machine.Attach.{Copies, Graft, index_in_rows, added_mounts, attach, copies_at, copies_from, copy_at, graft_of, is_destination, parts_of, pushed_onto, pushed_up, receiver_stood_on, receivers_of, takes_part, top_of_copies, twig_of, with_moved_mounts}
+use Rattle.vt_spec.specs.Machine.Attach.{Copies, Graft, index_in_rows, added_mounts, attach, copies_at, copies_from, copy_at, graft_of, is_destination, parts_of, pushed_onto, pushed_up, receiver_stood_on, receivers_of, takes_part, twig_of, with_moved_mounts}
 use Rattle.vt_spec.specs.Machine.Invariants.{Stands}
 use Rattle.vt_spec.specs.Machine.Locked.{overlays}
 use Rattle.vt_spec.specs.Machine.Mounts.{Location, Mount, Propagation, group_of, index_of, mount_in, no_mount, replaced_if_same, stands_at, with_mount}
@@ -221,14 +222,8 @@ module _ (world : World ℕ) (names : List TaskName) (apart : IsApart world name
       and_no false b e = refl
 
       not_destination : (part : Mount ℕ) → Among part (rest_of parts) → is_destination nat_eq tree part.number ≡ false
-      not_destination part m = false_from_ne_true (nat_eq part.number place.mount) (λ e.
-          true≢false (sym (and_parts (not (nat_eq place.mount part.number)) (is_some part.namespace)
-          (and_parts (not (nat_eq place.mount part.number) && is_some part.namespace)
-          (nat_eq destination.filesystem part.filesystem)
-          (and_parts (not (nat_eq place.mount part.number) && is_some part.namespace
-          && nat_eq destination.filesystem part.filesystem) _
-          (among-from_filter (takes_part nat_eq base place) (receivers_of nat_eq base destination) part m).1).0).0).0
-          ∙ ap not (eq-eqb place.mount part.number (sym (eqb-true part.number place.mount e)))))
+      not_destination part m =
+          search (arith, common_steps, false_from_ne_true, true≢false, and_parts, among-from_filter, eq-eqb, eqb-true)
 
       there : (b : Bool) → moves ≡ b
           → Among mount (added_mounts b (copies_at nat_eq base new tree parts destination)) → IsAdded mount
@@ -309,11 +304,7 @@ module _ (world : World ℕ) (names : List TaskName) (apart : IsApart world name
   pushed_value : {B : Type 0} (value : Mount ℕ → B)
       → ((mount : Mount ℕ) (at : Option (Location ℕ)) → value (record mount { mount_point = at }) ≡ value mount)
       → (mount : Mount ℕ) → value (pushed mount) ≡ value mount
-  pushed_value value same mount = by (receiver_stood_on nat_eq tree parts mount)
-    where
-      by : (o : Option (Mount ℕ)) → value (pushed_onto nat_eq base new tree parts mount o) ≡ value mount
-      by None = refl
-      by (Some part) = same mount (Some (top_of_copies nat_eq (copies_at nat_eq base new tree parts part) place))
+  pushed_value value same mount = grind (arith, common_steps)
 
   -- A mount that moves keeps its number, and has the namespace of its destination, which is its own.
   abbrev put : Mount ℕ → Mount ℕ → Mount ℕ
@@ -395,8 +386,7 @@ module _ (world : World ℕ) (names : List TaskName) (apart : IsApart world name
       → (mount : Mount ℕ) → Among mount world.mounts → value (change mount) ≡ value mount
   change_value value same mount there =
       let plain = relocated_plain mount there in
-      pushed_value value (λ x at. same x at x.propagation) (relocated moves mount)
-      ∙ ap value plain.2 ∙ same mount plain.0 plain.1
+      grind (arith, common_steps, pushed_value)
 
   change_shape : (mount : Mount ℕ) → Among mount world.mounts → IsReshaped mount (change mount)
   change_shape mount there =
@@ -406,25 +396,12 @@ module _ (world : World ℕ) (names : List TaskName) (apart : IsApart world name
     where
       by : (x : Mount ℕ) (o : Option (Mount ℕ)) → IsReshaped x (pushed_onto nat_eq base new tree parts x o)
       by x None = (x.namespace, x.mount_point, x.propagation, refl, inl refl)
-      by x (Some part) = (
-        x.namespace,
-        Some (top_of_copies nat_eq (copies_at nat_eq base new tree parts part) place),
-        x.propagation,
-        refl,
-        inl refl,
-      )
+      by x (Some part) = grind (arith, common_steps)
 
   -- a mount that is not of others stays as it was
   stays : (mount : Mount ℕ) → Among mount world.mounts
       → ((n : ℕ) → mount.namespace ≡ Some n → is_own_namespace nat_eq world names n ≡ false → ⊥) → change mount ≡ mount
-  stays mount there none = ap pushed (⊎_elim (λ same. same)
-      (λ goes. absurd (none namespace (in_place goes.1 mount goes.0).1 outside)) (relocated_is mount there moves refl))
-      ∙ by (receiver_stood_on nat_eq tree parts mount) refl
-    where
-      by : (o : Option (Mount ℕ)) → receiver_stood_on nat_eq tree parts mount ≡ o
-          → pushed_onto nat_eq base new tree parts mount o ≡ mount
-      by None e = refl
-      by (Some part) e = let at = stood_in_other mount part there e in absurd (none at.0 at.1 at.2)
+  stays mount there none = search (arith, common_steps, there, relocated_is, stood_in_other)
 
   change_kept : (mount : Mount ℕ) → Among mount world.mounts → kept (change mount) ≡ kept mount
   change_kept mount there = reshaped_kept world names so_far mount there (change mount) (change_shape mount there)
@@ -492,14 +469,7 @@ module _ (world : World ℕ) (names : List TaskName) (apart : IsApart world name
       (relocated_is old (other_there old m) moves refl)
 
   sees : SeesTheSame world left names
-  sees = record {
-    tasks = sees_base.tasks;
-    mounts = mounts_kept;
-    masters = own_master_stays world names apart fresh serves filesystems supply supplied place mounts origins moves;
-    direct = sees_base.direct;
-    filesystems = sees_base.filesystems;
-    namespaces = sees_base.namespaces;
-  }
+  sees = search (arith, common_steps, mounts_kept, own_master_stays)
 
   own_masters : (own : Mount ℕ) → Among own (own_mounts nat_eq world names)
       → master_of left own.propagation ≡ master_of world own.propagation

@@ -1,5 +1,6 @@
 -- Binds and new mounts of others: mount(2) with MS_BIND, and with MS_REC, and of a tmpfs.
-use Rattle.std.proofs.Common.{◌≡◌, refl, sym, ap, subst, ◌∙◌, inl, inr, ⊎_elim, ℕ, zero, suc, nat_eq, Bool, true, false, true≢false, List, [], ◌∷◌, ◌++◌, append-nil, ◌*◌, ◌+◌, Some, Ok, filter, length, not}
+use Rattle.std.proofs.Common.{arith, ◌≡◌, refl, sym, ap, subst, ◌∙◌, inl, inr, ⊎_elim, ℕ, zero, suc, nat_eq, Bool, true, false, true≢false, List, [], ◌∷◌, ◌++◌, append-nil, ◌*◌, ◌+◌, Some, Ok, filter, length, not}
+use Rattle.std.proofs.lemmas.Grind.{common_steps}
 use Rattle.vt_spec.specs.Language.Calls.{Call, MountFlags, TaskName}
 use Rattle.vt_spec.specs.Lists.{Fresh, odds}
 use Rattle.vt_spec.specs.Machine.Apply.{apply}
@@ -51,11 +52,7 @@ module _ (world : World ℕ) (names : List TaskName) (apart : IsApart world name
   module _ (fresh : Fresh ℕ) (source : Location ℕ)
       (placed : (mount_at nat_eq world source).namespace ≡ Some namespace) where
     source_in : IsIn world namespace (mount_at nat_eq world source)
-    source_in = (
-      ⊎_elim (λ m. m) (λ none. none_is_some namespace (sym (ap (λ (m : Mount ℕ). m.namespace) none) ∙ placed))
-          (found_or_none world.mounts source.mount),
-      placed,
-    )
+    source_in = grind (arith, common_steps, none_is_some, found_or_none)
 
     of_bound : (origin : Mount ℕ) → origin ≡ bound nat_eq world source → OriginOf world fresh names origin
     of_bound origin e = inl (

@@ -1,11 +1,11 @@
 -- A world in which mounts of others, others themselves and their namespaces are changed, and what the set sees is not.
-use Rattle.std.proofs.Common.{◌≡◌, refl, sym, ap, subst, ◌∙◌, ◌⊎◌, inl, ⊎_elim, ℕ, nat_eq, Bool, true, false, cond, true≢false, List, [], ◌∷◌, Option, Some, None, filter, find, map, not}
-use Rattle.std.specs.Prelude.{unwrap_or}
+use Rattle.std.proofs.Common.{arith, ◌≡◌, refl, sym, ap, subst, ◌∙◌, ◌⊎◌, ⊎_elim, ℕ, nat_eq, Bool, true, false, true≢false, List, [], ◌∷◌, Option, None, filter, map, not}
+use Rattle.std.proofs.lemmas.Grind.{common_steps}
 use Rattle.std.specs.List.{filter_map, list_all, list_any}
 use Rattle.std.proofs.lemmas.Bool.{and_from, and_parts, not-true}
 use Rattle.vt_spec.specs.Language.Calls.{TaskName}
 use Rattle.vt_spec.specs.Lists.{holds_of}
-use Rattle.vt_spec.specs.Machine.Mounts.{Location, Mount, mount_in, no_mount}
+use Rattle.vt_spec.specs.Machine.Mounts.{Location, Mount, mount_in}
 use Rattle.vt_spec.specs.Machine.Receives.{is_member_of}
 use Rattle.vt_spec.specs.Machine.Sealed.{is_member_task, is_own_namespace, locations, members, no_outsider_on, other_mounts, outsiders, own_mounts, shares_no_events}
 use Rattle.vt_spec.specs.Machine.World.{Namespace, Task, World, mount_at, mount_numbered}
@@ -79,18 +79,7 @@ module _ (world : World ℕ) (names : List TaskName) {New : ℕ → Type 0} (apa
       → (number : ℕ)
       → (list : List (Mount ℕ)) → value (mount_in nat_eq (map change list) number) ≡ value (mount_in nat_eq list number)
   found_in value same number [] = refl
-  found_in {B} value same number (mount ∷ rest) =
-      ap (λ n. value (unwrap_or (cond (nat_eq number n) (Some (change mount))
-      (find (λ (m : Mount ℕ). nat_eq number m.number) (map change rest))) (no_mount number))) (keeps.number mount)
-      ∙ by (nat_eq number mount.number) (found_in value same number rest)
-    where
-      by : (b : Bool) → value (mount_in nat_eq (map change rest) number) ≡ value (mount_in nat_eq rest number)
-          → value (unwrap_or (cond b (Some (change mount))
-          (find (λ (m : Mount ℕ). nat_eq number m.number) (map change rest))) (no_mount number))
-          ≡ value (unwrap_or (cond b (Some mount) (find (λ (m : Mount ℕ). nat_eq number m.number) rest))
-          (no_mount number))
-      by true later = same mount
-      by false later = later
+  found_in {B} value same number (mount ∷ rest) = grind (arith, common_steps, found_in value same number rest)
 
   abbrev is_out : Mount ℕ → Bool
   is_out mount = not (holds_of theirs mount.namespace)
@@ -103,29 +92,14 @@ module _ (world : World ℕ) (names : List TaskName) {New : ℕ → Type 0} (apa
   found_out : (number : ℕ) → (list : List (Mount ℕ)) → is_out (mount_in nat_eq list number) ≡ true
       → is_out (mount_in nat_eq (map change list) number) ≡ true
   found_out number [] h = h
-  found_out number (mount ∷ rest) h = ap (λ n. is_out (unwrap_or (cond (nat_eq number n) (Some (change mount))
-      (find (λ (m : Mount ℕ). nat_eq number m.number) (map change rest))) (no_mount number))) (keeps.number mount)
-      ∙ by (nat_eq number mount.number) h (found_out number rest)
-    where
-      by : (b : Bool) → is_out (unwrap_or (cond b (Some mount) (find (λ (m : Mount ℕ). nat_eq number m.number) rest))
-          (no_mount number)) ≡ true
-          → (is_out (mount_in nat_eq rest number) ≡ true → is_out (mount_in nat_eq (map change rest) number) ≡ true)
-          → is_out (unwrap_or (cond b (Some (change mount))
-          (find (λ (m : Mount ℕ). nat_eq number m.number) (map change rest))) (no_mount number)) ≡ true
-      by true g later = still_out mount g
-      by false g later = later g
+  found_out number (mount ∷ rest) h = grind (arith, common_steps, still_out, found_out number rest)
 
   shown_at : (location : Location ℕ)
       → (mount_at nat_eq left location).filesystem ≡ (mount_at nat_eq world location).filesystem
   shown_at location = found_in (λ (mount : Mount ℕ). mount.filesystem) keeps.filesystem location.mount world.mounts
 
   other_out : (mount : Mount ℕ) → Among mount (other_mounts nat_eq world names) → is_out mount ≡ true
-  other_out mount m = by mount.namespace
-      (among-from_filter (λ (x : Mount ℕ). holds_of (λ n. not (theirs n)) x.namespace) world.mounts mount m).1
-    where
-      by : (o : Option ℕ) → holds_of (λ n. not (theirs n)) o ≡ true → not (holds_of theirs o) ≡ true
-      by None h = refl
-      by (Some n) h = h
+  other_out mount m = grind (arith, common_steps, among-from_filter)
 
   abbrev those_outside : List (Task ℕ)
   those_outside = filter (λ (t : Task ℕ). not (is_member_task names t)) tasks
@@ -154,17 +128,7 @@ module _ (world : World ℕ) (names : List TaskName) {New : ℕ → Type 0} (apa
 
   pub sees : ((group : ℕ) → list_any (is_member_of nat_eq group) (own_mounts nat_eq world names) ≡ true
       → master group ≡ world.master group) → SeesTheSame world left names
-  sees own_masters = record {
-    tasks = moved.members;
-    mounts = ap (λ some. filter_map (keep world names some) (map change world.mounts)) moved.members
-        ∙ filter_map_map kept change world.mounts
-        ∙ filter_map_same (λ mount. kept (change mount)) kept world.mounts kept_same;
-    masters = own_masters;
-    direct = λ number m. refl;
-    filesystems = refl;
-    namespaces =
-        ap (λ some. filter (λ (n : Namespace ℕ). own_by some n.number) namespaces) moved.members ∙ moved.listed;
-  }
+  sees own_masters = grind (arith, common_steps, keep, filter_map_map, filter_map_same)
 
   pub changing_leaves_apart : ((group : ℕ) → list_any (is_member_of nat_eq group) (own_mounts nat_eq world names) ≡ true
       → master group ≡ world.master group) → shares_no_events nat_eq left names ≡ true → LeavesApart world left names []
@@ -191,11 +155,4 @@ module _ (world : World ℕ) (names : List TaskName) {New : ℕ → Type 0} (apa
 -- the world's own tasks and namespaces
 pub others_rest : (world : World ℕ) (names : List TaskName) {New : ℕ → Type 0} → StandsApart world names New
     → OthersMove world names world.tasks world.namespaces
-others_rest world names apart = record {
-  members = refl;
-  outside = λ task m. not-true (is_own_namespace nat_eq world names task.namespace)
-      (among_from_list_all (λ (t : Task ℕ). not (is_own_namespace nat_eq world names t.namespace))
-      (outsiders world names) apart.tasks task m);
-  located = λ location m. inl (location, m, refl);
-  listed = refl;
-}
+others_rest world names apart = grind (arith, common_steps, not-true, among_from_list_all)

@@ -1,12 +1,12 @@
 -- Mounts of others that change, and stay where they are.
-use Rattle.std.proofs.Common.{◌≡◌, refl, ap, ◌∙◌, ℕ, nat_eq, Bool, true, false, cond, List, [], ◌∷◌, Option, Some, find, map, not, ◌&&◌, ◌||◌}
-use Rattle.std.specs.Prelude.{unwrap_or}
+use Rattle.std.proofs.Common.{arith, ◌≡◌, refl, ap, ◌∙◌, ℕ, nat_eq, Bool, true, List, [], ◌∷◌, Option, map, ◌&&◌, ◌||◌}
+use Rattle.std.proofs.lemmas.Grind.{common_steps}
 use Rattle.std.specs.List.{list_all, list_any}
 use Rattle.vt_spec.specs.Language.Calls.{TaskName}
 use Rattle.vt_spec.specs.Lists.{holds_of}
-use Rattle.vt_spec.specs.Machine.Mounts.{Location, Mount, mount_in, no_mount}
+use Rattle.vt_spec.specs.Machine.Mounts.{Location, Mount, mount_in}
 use Rattle.vt_spec.specs.Machine.Receives.{is_member_of}
-use Rattle.vt_spec.specs.Machine.Sealed.{is_own_namespace, locations, members, no_outsider_on, other_mounts, outsiders, own_mounts, shares_no_events}
+use Rattle.vt_spec.specs.Machine.Sealed.{is_own_namespace, members, no_outsider_on, other_mounts, own_mounts, shares_no_events}
 use Rattle.vt_spec.specs.Machine.World.{World, mount_at}
 use Rattle.vt_spec.proofs.Lists.{Among}
 use Rattle.vt_laws_mounts.proofs.letting_go.Lists.{any-map, filter-map}
@@ -40,28 +40,14 @@ module _ (world : World ℕ) (names : List TaskName) (apart : IsApart world name
   own_changed = filter-map (is_own world names (members world names)) change world.mounts own_kept
 
   pub others_changed : other_mounts nat_eq left names ≡ map change (other_mounts nat_eq world names)
-  others_changed =
-      filter-map (λ (mount : Mount ℕ). holds_of (λ n. not (is_own_namespace nat_eq world names n)) mount.namespace)
-      change world.mounts
-      (λ mount. ap (holds_of (λ n. not (is_own_namespace nat_eq world names n))) (keeps.namespace mount))
+  others_changed = search (arith, common_steps, filter-map)
 
   -- what is found is changed alike
   found_in : {B : Type 0} (value : Mount ℕ → B) → ((mount : Mount ℕ) → value (change mount) ≡ value mount)
       → (number : ℕ)
       → (list : List (Mount ℕ)) → value (mount_in nat_eq (map change list) number) ≡ value (mount_in nat_eq list number)
   found_in value same number [] = refl
-  found_in {B} value same number (mount ∷ rest) =
-      ap (λ n. value (unwrap_or (cond (nat_eq number n) (Some (change mount))
-      (find (λ (m : Mount ℕ). nat_eq number m.number) (map change rest))) (no_mount number))) (keeps.number mount)
-      ∙ by (nat_eq number mount.number) (found_in value same number rest)
-    where
-      by : (b : Bool) → value (mount_in nat_eq (map change rest) number) ≡ value (mount_in nat_eq rest number)
-          → value (unwrap_or (cond b (Some (change mount))
-          (find (λ (m : Mount ℕ). nat_eq number m.number) (map change rest))) (no_mount number))
-          ≡ value (unwrap_or (cond b (Some mount) (find (λ (m : Mount ℕ). nat_eq number m.number) rest))
-          (no_mount number))
-      by true later = same mount
-      by false later = later
+  found_in {B} value same number (mount ∷ rest) = grind (arith, common_steps, found_in value same number rest)
 
   shown_at : (location : Location ℕ)
       → (mount_at nat_eq left location).filesystem ≡ (mount_at nat_eq world location).filesystem
@@ -82,42 +68,13 @@ module _ (world : World ℕ) (names : List TaskName) (apart : IsApart world name
   all_same p q same (x ∷ rest) = ap (λ b. b && list_all p rest) (same x) ∙ ap (λ b. q x && b) (all_same p q same rest)
 
   no_outsider_same : (number : ℕ) → no_outsider_on nat_eq left names number ≡ no_outsider_on nat_eq world names number
-  no_outsider_same number =
-      ap (λ b. not b && not (list_any (λ location. nat_eq number (mount_at nat_eq left location).filesystem)
-      (locations (outsiders world names))))
-      (ap (list_any (λ (mount : Mount ℕ). nat_eq number mount.filesystem)) others_changed
-      ∙ any-map (λ (mount : Mount ℕ). nat_eq number mount.filesystem) change (other_mounts nat_eq world names)
-      (λ mount. ap (nat_eq number) (keeps.filesystem mount)))
-      ∙ ap (λ b. not (list_any (λ (mount : Mount ℕ). nat_eq number mount.filesystem) (other_mounts nat_eq world names))
-      && not b) (any_same (λ location. nat_eq number (mount_at nat_eq left location).filesystem)
-      (λ location. nat_eq number (mount_at nat_eq world location).filesystem)
-      (λ location. ap (nat_eq number) (shown_at location)) (locations (outsiders world names)))
+  no_outsider_same number = grind (arith, common_steps, others_changed, any-map, any_same, shown_at)
 
   pub sees : ((group : ℕ) → list_any (is_member_of nat_eq group) (own_mounts nat_eq world names) ≡ true
       → master group ≡ world.master group) → SeesTheSame world left names
-  sees own_masters = record {
-    tasks = refl;
-    mounts = filter_map_map kept change world.mounts
-        ∙ filter_map_same (λ mount. kept (change mount)) kept world.mounts kept_same;
-    masters = own_masters;
-    direct = λ number m. refl;
-    filesystems = refl;
-    namespaces = refl;
-  }
+  sees own_masters = grind (arith, common_steps, filter_map_map, filter_map_same)
 
   pub changing_leaves_apart : ((group : ℕ) → list_any (is_member_of nat_eq group) (own_mounts nat_eq world names) ≡ true
       → master group ≡ world.master group) → shares_no_events nat_eq left names ≡ true → LeavesApart world left names []
-  changing_leaves_apart own_masters events = record {
-    sees = sees own_masters;
-    others = record {
-      tasks = apart.tasks;
-      events = events;
-      locations = all_same (λ location. not (holds_of (is_own_namespace nat_eq world names)
-          (mount_at nat_eq left location).namespace))
-          (λ location. not (holds_of (is_own_namespace nat_eq world names) (mount_at nat_eq world location).namespace))
-          (λ location. ap (λ o. not (holds_of (is_own_namespace nat_eq world names) o)) (placed_at location))
-          (locations (outsiders world names)) ∙ apart.locations;
-      free = free_from world left names refl (λ number of free. no_outsider_same number ∙ free);
-    };
-    unraised = λ number m. refl;
-  }
+  changing_leaves_apart own_masters events =
+      search (arith, common_steps, sees, all_same, placed_at, free_from, no_outsider_same)

@@ -1,5 +1,7 @@
 -- Files that others change, make and write to: chmod(2), mkdir(2), link(2), unlink(2), open(2), write(2), pwrite(2).
-use Rattle.std.proofs.Common.{◌≡◌, refl, sym, ap, subst, ◌∙◌, ℕ, nat_eq, Bool, true, false, List, [], ◌∷◌, Some, Ok}
+use Rattle.std.proofs.Common.{arith, ◌≡◌, refl, sym, ap, subst, ◌∙◌, ℕ, nat_eq, Bool, true, false, List, [], ◌∷◌, Some}
+use Rattle.std.proofs.Common.{Ok}
+use Rattle.std.proofs.lemmas.Grind.{common_steps}
 use Rattle.vt_spec.specs.Language.Calls.{Access, Call, TaskName}
 use Rattle.vt_spec.specs.Language.Changes.{Change}
 use Rattle.vt_spec.specs.Language.Changes.Change.{CopyUp, Make, SetBytes}
@@ -124,13 +126,7 @@ module _ (world : World ℕ) (fresh : Fresh ℕ) (names : List TaskName) (name :
       left = (apply nat_eq fresh world task (ToOpen file access)).world
 
       beside : left ≡ record (with_open file access) { filesystems = left.filesystems }
-      beside = opened_beside (with_copy nat_eq (is_copied_up nat_eq world file access) fresh world file)
-          (copied (is_copied_up nat_eq world file access)) file access
-        where
-          copied : (b : Bool) → with_copy nat_eq b fresh world file
-              ≡ record world { filesystems = (with_copy nat_eq b fresh world file).filesystems }
-          copied true = the_rest_stays fresh world file (CopyUp file.node)
-          copied false = refl
+      beside = grind (arith, common_steps, opened_beside, the_rest_stays)
 
       by : (b : Bool) → is_copied_up nat_eq world file access ≡ b
           → LeavesApart world (settled nat_eq left) names (filesystems_changed nat_eq world (ToOpen file access))

@@ -1,5 +1,6 @@
 -- Descriptors of others that are closed: close(2).
-use Rattle.std.proofs.Common.{◌≡◌, refl, sym, subst, inl, inr, ⊎_elim, ℕ, nat_eq, List, [], Some, map, not}
+use Rattle.std.proofs.Common.{arith, ◌≡◌, refl, inl, inr, ⊎_elim, ℕ, nat_eq, List, [], Some, map}
+use Rattle.std.proofs.lemmas.Grind.{common_steps}
 use Rattle.std.specs.Prelude.{◌==◌}
 use Rattle.vt_spec.specs.Language.Calls.{Call, TaskName}
 use Rattle.vt_spec.specs.Lists.{Fresh}
@@ -30,9 +31,4 @@ close_leaves world fresh names name call task outsider called number =
     left_open : (location : Location ℕ)
         → Among location (map (λ (d : Descriptor ℕ). d.location) (without_descriptor task number).descriptors)
         → Among location (map (λ (d : Descriptor ℕ). d.location) task.descriptors)
-    left_open location m =
-        let from = among-from_map (λ (d : Descriptor ℕ). d.location)
-        (without_descriptor task number).descriptors location m in
-        subst (λ l. Among l (map (λ (d : Descriptor ℕ). d.location) task.descriptors)) (sym from.2)
-        (among-map (λ (d : Descriptor ℕ). d.location) task.descriptors from.0
-        (among-from_filter (λ (d : Descriptor ℕ). not (number == d.number)) task.descriptors from.0 from.1).0)
+    left_open location m = grind (arith, common_steps, among-from_map, among-map, among-from_filter)

@@ -1,5 +1,6 @@
 -- What lies under a directory of a tree lies there, too, once what nothing uses is gone.
-use Rattle.std.proofs.Common.{◌≡◌, refl, sym, ap, ◌∙◌, inl, inr, ℕ, nat_eq, Bool, true, false, cond, true≢false, List, [], ◌∷◌, Option, Some, None, filter, ◌&&◌, ◌||◌}
+use Rattle.std.proofs.Common.{arith, ◌≡◌, refl, sym, ap, ◌∙◌, inl, inr, ℕ, nat_eq, Bool, true, false, cond, true≢false, List, [], ◌∷◌, Option, Some, None, filter, ◌&&◌, ◌||◌}
+use Rattle.std.proofs.lemmas.Grind.{common_steps}
 use Rattle.std.specs.Prelude.{option_and_then}
 use Rattle.std.specs.List.{list_any}
 use Rattle.std.proofs.lemmas.Bool.{and_parts}
@@ -27,12 +28,7 @@ module _ (used : List ℕ) (files : FileTree ℕ) (holds : HoldsTree used files)
 
   entry_was : (directory : ℕ) (name : List ℕ) (number : ℕ) → entry_at cut.tree directory name ≡ Some number
       → entry_at files.tree directory name ≡ Some number
-  entry_was directory name number = by (is_among nat_eq directory used)
-    where
-      by : (b : Bool) → entry_named name (entries_in (cond b (files.tree.node directory) None)) ≡ Some number
-          → entry_named name (entries_in (files.tree.node directory)) ≡ Some number
-      by true e = e
-      by false e = none_is_some number e
+  entry_was directory name number = search (arith, common_steps, none_is_some)
 
   entry_kept : (directory : ℕ) (name : List ℕ) (number : ℕ) → entry_at files.tree directory name ≡ Some number
       → entry_at cut.tree directory name ≡ Some number
@@ -109,18 +105,7 @@ filter_within : (p : ℕ → Bool) (used : List ℕ) (xs : List ℕ)
     → ((x : ℕ) → Among x xs → p x ≡ true → is_among nat_eq x used ≡ true)
     → filter p (filter (λ x. is_among nat_eq x used) xs) ≡ filter p xs
 filter_within p used [] within = refl
-filter_within p used (x ∷ xs) within =
-    by (is_among nat_eq x used) refl (filter_within p used xs (λ y m. within y (inr m)))
-  where
-    skip : (b : Bool) → p x ≡ b → is_among nat_eq x used ≡ false → cond b (x ∷ filter p xs) (filter p xs) ≡ filter p xs
-    skip true e f = absurd (true≢false (sym (within x (inl refl) e) ∙ f))
-    skip false e f = refl
-
-    by : (b : Bool) → is_among nat_eq x used ≡ b → filter p (filter (λ y. is_among nat_eq y used) xs) ≡ filter p xs
-        → filter p (cond b (x ∷ filter (λ y. is_among nat_eq y used) xs) (filter (λ y. is_among nat_eq y used) xs))
-        ≡ cond (p x) (x ∷ filter p xs) (filter p xs)
-    by true e later = ap (λ l. cond (p x) (x ∷ l) l) later
-    by false e later = later ∙ sym (skip (p x) refl e)
+filter_within p used (x ∷ xs) within = grind (arith, common_steps, true≢false, filter_within p used xs)
 
 -- The part of a lower tree is the same once what nothing uses is gone.
 module _ (used : List ℕ) (files : FileTree ℕ) (holds : HoldsTree used files) (conditions : IsFileTree files)

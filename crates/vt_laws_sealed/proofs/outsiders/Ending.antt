@@ -1,5 +1,6 @@
 -- Namespaces of others that end with their last tasks: _exit(2).
-use Rattle.std.proofs.Common.{◌≡◌, refl, sym, ap, subst, ◌∙◌, inl, ℕ, nat_eq, Bool, true, false, true≢false, List, [], Option, Some, None, filter, map, not, ◌&&◌, eqb-true}
+use Rattle.std.proofs.Common.{arith, ◌≡◌, refl, sym, ap, ◌∙◌, inl, ℕ, nat_eq, Bool, true, false, true≢false, List, [], Option, Some, filter, map, not, ◌&&◌, eqb-true}
+use Rattle.std.proofs.lemmas.Grind.{common_steps}
 use Rattle.std.specs.List.{list_any}
 use Rattle.std.proofs.lemmas.Bool.{and_from, false_from_ne_true, not-false}
 use Rattle.vt_spec.specs.Language.Calls.{Call, TaskName, same_name}
@@ -49,17 +50,11 @@ module _ (world : World ℕ) (names : List TaskName) {New : ℕ → Type 0} (apa
   -- a namespace of theirs has tasks
   own_has_tasks : (number : ℕ) → is_own number ≡ true
       → list_any (λ (t : Task ℕ). nat_eq number t.namespace) tasks ≡ true
-  own_has_tasks number own =
-      let member = any_among (λ (t : Task ℕ). nat_eq number t.namespace) (members world names) own in
-      any_from_among (λ (t : Task ℕ). nat_eq number t.namespace) tasks member.0
-      (among-from_filter (is_member_task names) tasks member.0 (subst (Among member.0) (sym same) member.1)).0 member.2
+  own_has_tasks number own = grind (arith, common_steps, any_among, any_from_among, among-from_filter)
 
   listed_at : (number : ℕ) → is_listed nat_eq world number ≡ true
       → (namespace : Namespace ℕ) × Among namespace world.namespaces × (nat_eq number namespace.number ≡ true)
-  listed_at number h =
-      let at = any_among (nat_eq number) (map (λ (n : Namespace ℕ). n.number) world.namespaces) h in
-      let from = among-from_map (λ (n : Namespace ℕ). n.number) world.namespaces at.0 at.1 in
-      (from.0, from.1, ap (nat_eq number) (sym from.2) ∙ at.2)
+  listed_at number h = grind (arith, common_steps, any_among, among-from_map)
 
   own_lives : (number : ℕ) → is_own number ≡ true → lives_on number ≡ true
   own_lives number own =
@@ -81,8 +76,7 @@ module _ (world : World ℕ) (names : List TaskName) {New : ℕ → Type 0} (apa
       let from = among-from_map (λ (mount : Mount ℕ). mount.number) (filter ends world.mounts) number
       (among_numbers gone number h) in
       let at = among-from_filter ends world.mounts from.0 from.1 in
-      ap ends (ap (mount_numbered nat_eq world) from.2
-      ∙ found_itself world.mounts apart.mounts.one_number from.0 at.0) ∙ at.1
+      grind (arith, common_steps, found_itself)
 
   others_go : (number : ℕ) → is_going nat_eq gone number ≡ true
       → (namespace : ℕ) × ((mount_numbered nat_eq world number).namespace ≡ Some namespace) × (is_own namespace ≡ false)
@@ -92,12 +86,7 @@ module _ (world : World ℕ) (names : List TaskName) {New : ℕ → Type 0} (apa
           → holds_of (λ n. not (lives_on n)) o ≡ true
           → (namespace : ℕ) × ((mount_numbered nat_eq world number).namespace ≡ Some namespace)
           × (is_own namespace ≡ false)
-      by None e ended = absurd (true≢false (sym ended))
-      by (Some n) e ended = (
-        n,
-        e,
-        false_from_ne_true (is_own n) (λ own. true≢false (sym ended ∙ ap not (own_lives n own))),
-      )
+      by o e ended = grind (arith, common_steps, true≢false, false_from_ne_true, own_lives)
 
   abbrev namespaces_left : List (Namespace ℕ)
   namespaces_left = filter (has_tasks nat_eq before) world.namespaces
@@ -152,10 +141,7 @@ module _ (world : World ℕ) (fresh : Fresh ℕ) (names : List TaskName) (name :
 
   out_before : (t : Task ℕ) → Among t (filter (λ (x : Task ℕ). not (is_member_task names x)) others)
       → Among t (outsiders world names)
-  out_before t m =
-      let out = among-from_filter (λ (x : Task ℕ). not (is_member_task names x)) others t m in
-      among-filter (λ (x : Task ℕ). not (is_member_task names x)) world.tasks t
-      (among-from_filter (λ (x : Task ℕ). not (same_name task.name x.name)) world.tasks t out.0).0 out.1
+  out_before t m = grind (arith, common_steps, among-from_filter, among-filter)
 
   pub exit_leaves : LeavesApart world (settled nat_eq (apply nat_eq fresh world task ToExit).world) names []
   exit_leaves = ending_leaves_apart world names set_apart outsider.sealed_off others members_there

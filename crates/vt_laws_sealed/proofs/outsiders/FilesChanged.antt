@@ -1,11 +1,12 @@
 -- What others change of filesystems is nothing that a sealed set uses, and nothing of its lower layers.
-use Rattle.std.proofs.Common.{◌≡◌, ◌≢◌, refl, sym, ap, subst, ◌∙◌, inl, inr, ⊎_elim, ℕ, nat_eq, Bool, true, false, cond, true≢false, List, [], ◌∷◌, Option, Some, None, is_some, map, eqb-true, ne_eqb}
+use Rattle.std.proofs.Common.{arith, ◌≡◌, ◌≢◌, refl, sym, ap, subst, ◌∙◌, inl, inr, ℕ, nat_eq, Bool, true, false, cond, true≢false, List, [], ◌∷◌, Some, None, is_some, map, eqb-true, ne_eqb}
+use Rattle.std.proofs.lemmas.Grind.{common_steps}
 use Rattle.std.specs.Prelude.{⊤, option_map}
 use Rattle.std.specs.List.{list_any}
 use Rattle.std.proofs.lemmas.Bool.{false_from_ne_true}
 use Rattle.vt_spec.specs.FileTree.{FileTree}
 use Rattle.vt_spec.specs.Language.Calls.{TaskName}
-use Rattle.vt_spec.specs.Language.Changes.{Change, changed, node_with_attr, node_with_mark, node_with_parent, node_without_entry, with_inode, with_name, without_name, without_parent}
+use Rattle.vt_spec.specs.Language.Changes.{Change, changed}
 use Rattle.vt_spec.specs.Language.Changes.Change.{AddName, CopyUp, Make, Move, Remove, SetAttr, SetBytes, SetMark}
 use Rattle.vt_spec.specs.Lists.{is_among}
 use Rattle.vt_spec.specs.Machine.CopyUp.{Merge}
@@ -15,7 +16,6 @@ use Rattle.vt_spec.specs.Machine.Mounts.{Location}
 use Rattle.vt_spec.specs.Machine.Sealed.{own_lowers, used_filesystems}
 use Rattle.vt_spec.specs.Machine.Settled.{has_layer_on}
 use Rattle.vt_spec.specs.Machine.World.{Filesystem, Layer, Overlay, World, files_at, filesystem_numbered, is_overlay, layers_of, replaced_if_numbered}
-use Rattle.vt_spec.specs.Tree.{entries_in, entry_named, node_with_bytes, node_with_entry}
 use Rattle.vt_spec.proofs.Lists.{Among, map_twice}
 use Rattle.vt_spec.proofs.Nodes.{directory_used}
 use Rattle.vt_laws_mounts.proofs.letting_go.sweeps.OfWorlds.{found_filesystem}
@@ -46,20 +46,7 @@ written_to (CopyUp object) = object
 pub written_there : (world : World ℕ) (location : Location ℕ) (change : Change ℕ) → AsksWell world location change
     → MarksWhatIsThere world location change
     → is_some ((files_at nat_eq world location).tree.node (written_to change)) ≡ true
-written_there world location (Make directory name number node) asked marked =
-    directory_used (files_at nat_eq world location).tree directory asked.0.name_is_free.in_directory
-written_there world location (AddName directory name object) asked marked =
-    directory_used (files_at nat_eq world location).tree directory asked.name_is_free.in_directory
-written_there world location (Remove directory name object) asked marked =
-    directory_used (files_at nat_eq world location).tree directory
-    (has_entries (files_at nat_eq world location).tree directory name object asked.named)
-written_there world location (Move from old to new object) asked marked =
-    directory_used (files_at nat_eq world location).tree from
-    (has_entries (files_at nat_eq world location).tree from old object asked.0.named)
-written_there world location (SetBytes file bytes) asked marked = asked
-written_there world location (SetAttr object attr) asked marked = asked
-written_there world location (SetMark directory opaque) asked marked = marked
-written_there world location (CopyUp object) asked marked = asked
+written_there world location change asked marked = grind (arith, common_steps, directory_used, has_entries)
 
 -- it is not spared, but for what is copied up
 abbrev pub IsCopy : Change ℕ → Type 0
@@ -68,63 +55,18 @@ IsCopy change = ⊥
 
 pub written_not_spared : (files : FileTree ℕ) (change : Change ℕ) → SparesInode files change (written_to change)
     → IsCopy change
-written_not_spared files (Make directory name number node) spares = spares refl
-written_not_spared files (AddName directory name object) spares = spares refl
-written_not_spared files (Remove directory name object) spares = spares.0 refl
-written_not_spared files (Move from old to new object) spares = spares.0 refl
-written_not_spared files (SetBytes file bytes) spares = spares refl
-written_not_spared files (SetAttr object attr) spares = spares refl
-written_not_spared files (SetMark directory opaque) spares = spares refl
-written_not_spared files (CopyUp object) spares = tt
+written_not_spared files change spares = grind (arith, common_steps)
 
 -- what a plain change makes was not there
 pub made_was_not_there : (world : World ℕ) (location : Location ℕ) (change : Change ℕ)
     → AsksWell world location change → (object : ℕ) → Among object (numbers_made change)
     → (files_at nat_eq world location).tree.node object ≡ None
-made_was_not_there world location (Make directory name number node) asked object m =
-    ⊎_elim (λ e. ap (files_at nat_eq world location).tree.node e ∙ asked.0.number_is_new) (λ none. absurd none) m
-made_was_not_there world location (AddName directory name object) asked made m = absurd m
-made_was_not_there world location (Remove directory name object) asked made m = absurd m
-made_was_not_there world location (Move from old to new object) asked made m = absurd m
-made_was_not_there world location (SetBytes file bytes) asked made m = absurd m
-made_was_not_there world location (SetAttr object attr) asked made m = absurd m
-made_was_not_there world location (SetMark directory opaque) asked made m = absurd m
-made_was_not_there world location (CopyUp object) asked made m = absurd m
+made_was_not_there world location change asked object m = grind (arith, common_steps)
 
 -- a plain change leaves what it spares, if that is not what it makes
 pub spared_stays : (files : FileTree ℕ) (change : Change ℕ) (inode : ℕ) → SparesInode files change inode
     → (Among inode (numbers_made change) → ⊥) → (changed nat_eq files change).tree.node inode ≡ files.tree.node inode
-spared_stays files (Make directory name number node) inode spares old =
-    kept_elsewhere (with_inode nat_eq files number node) directory (node_with_entry name number) inode
-    (ne_eqb inode directory spares)
-    ∙ ap (λ b. cond b (Some node) (files.tree.node inode)) (ne_eqb inode number (λ e. old (inl e)))
-spared_stays files (AddName directory name object) inode spares old =
-    kept_elsewhere files directory (node_with_entry name object) inode (ne_eqb inode directory spares)
-spared_stays files (Remove directory name object) inode spares old =
-    kept_elsewhere (without_name nat_eq files directory name) object (node_with_parent object) inode
-    (ne_eqb inode object spares.1)
-    ∙ kept_elsewhere files directory (node_without_entry name) inode (ne_eqb inode directory spares.0)
-spared_stays files (Move from name to new object) inode spares old =
-    let freed = without_parent nat_eq files (entry_named new (entries_in (files.tree.node to))) in
-    let left = without_name nat_eq freed from name in
-    kept_elsewhere (with_name nat_eq left to new object) object (node_with_parent to) inode
-    (ne_eqb inode object spares.2)
-    ∙ kept_elsewhere left to (node_with_entry new object) inode (ne_eqb inode to spares.1)
-    ∙ kept_elsewhere freed from (node_without_entry name) inode (ne_eqb inode from spares.0)
-    ∙ replaced_stays (entry_named new (entries_in (files.tree.node to))) spares.3
-  where
-    replaced_stays : (o : Option ℕ) → o ≢ Some inode
-        → (without_parent nat_eq files o).tree.node inode ≡ files.tree.node inode
-    replaced_stays None differs = refl
-    replaced_stays (Some replaced) differs = kept_elsewhere files replaced (node_with_parent replaced) inode
-        (ne_eqb inode replaced (λ same. differs (ap Some (sym same))))
-spared_stays files (SetBytes file bytes) inode spares old =
-    kept_elsewhere files file (node_with_bytes bytes) inode (ne_eqb inode file spares)
-spared_stays files (SetAttr object attr) inode spares old =
-    kept_elsewhere files object (node_with_attr attr) inode (ne_eqb inode object spares)
-spared_stays files (SetMark directory opaque) inode spares old =
-    kept_elsewhere files directory (node_with_mark opaque) inode (ne_eqb inode directory spares)
-spared_stays files (CopyUp object) inode spares old = refl
+spared_stays files change inode spares old = grind (arith, common_steps, kept_elsewhere, ne_eqb)
 
 -- A filesystem that is replaced
 abbrev rewritten : ℕ → FileTree ℕ → Filesystem ℕ → Filesystem ℕ
@@ -139,62 +81,22 @@ remerged number merge x = cond (nat_eq number x.number)
 
 -- with its number, its layers, and what is an overlay
 rewritten_number : (number : ℕ) (files : FileTree ℕ) (x : Filesystem ℕ) → (rewritten number files x).number ≡ x.number
-rewritten_number number files x = by (nat_eq number x.number)
-  where
-    by : (b : Bool) → (cond b (record x { files = files }) x).number ≡ x.number
-    by true = refl
-    by false = refl
+rewritten_number number files x = grind (arith, common_steps)
 
 rewritten_overlay : (number : ℕ) (files : FileTree ℕ) (x : Filesystem ℕ)
     → (rewritten number files x).overlay ≡ x.overlay
-rewritten_overlay number files x = by (nat_eq number x.number)
-  where
-    by : (b : Bool) → (cond b (record x { files = files }) x).overlay ≡ x.overlay
-    by true = refl
-    by false = refl
+rewritten_overlay number files x = grind (arith, common_steps)
 
 remerged_number : (number : ℕ) (merge : Merge ℕ) (x : Filesystem ℕ) → (remerged number merge x).number ≡ x.number
-remerged_number number merge x = by (nat_eq number x.number)
-  where
-    by : (b : Bool) → (cond b (record x {
-      files = merge.files;
-      overlay = option_map (with_real_objects merge) x.overlay;
-    }) x).number ≡ x.number
-    by true = refl
-    by false = refl
+remerged_number number merge x = grind (arith, common_steps)
 
 remerged_overlay : (number : ℕ) (merge : Merge ℕ) (x : Filesystem ℕ)
     → is_overlay (remerged number merge x) ≡ is_overlay x
-remerged_overlay number merge x = by (nat_eq number x.number)
-  where
-    of : (o : Option (Overlay ℕ)) → is_some (option_map (with_real_objects merge) o) ≡ is_some o
-    of None = refl
-    of (Some overlay) = refl
-
-    by : (b : Bool) → is_overlay (cond b (record x {
-      files = merge.files;
-      overlay = option_map (with_real_objects merge) x.overlay;
-    }) x) ≡ is_overlay x
-    by true = of x.overlay
-    by false = refl
+remerged_overlay number merge x = grind (arith, common_steps)
 
 remerged_layers : (layer number : ℕ) (merge : Merge ℕ) (x : Filesystem ℕ)
     → has_layer_on nat_eq layer (remerged number merge x) ≡ has_layer_on nat_eq layer x
-remerged_layers layer number merge x = by (nat_eq number x.number)
-  where
-    on : Option (Overlay ℕ) → Bool
-    on o = overlay_or false (λ overlay. list_any (λ l. nat_eq layer l.filesystem) (layers_of overlay)) o
-
-    of : (o : Option (Overlay ℕ)) → on (option_map (with_real_objects merge) o) ≡ on o
-    of None = refl
-    of (Some overlay) = refl
-
-    by : (b : Bool) → has_layer_on nat_eq layer (cond b (record x {
-      files = merge.files;
-      overlay = option_map (with_real_objects merge) x.overlay;
-    }) x) ≡ has_layer_on nat_eq layer x
-    by true = of x.overlay
-    by false = refl
+remerged_layers layer number merge x = grind (arith, common_steps)
 
 -- lists that are changed alike
 map_alike : {A B : Type 0} (f g : A → B) (xs : List A) → ((x : A) → Among x xs → f x ≡ g x) → map f xs ≡ map g xs
@@ -254,19 +156,10 @@ module _ (world : World ℕ) (names : List TaskName) (apart : IsApart world name
             files = merge.files;
             overlay = option_map (with_real_objects merge) x.overlay;
           }) x
-      merged x m true e =
-          ap (λ (f : Filesystem ℕ). record f { files = merge.files; overlay = Some (with_real_objects merge overlay) })
-          (found x m number e)
-          ∙ ap (λ o. record x { files = merge.files; overlay = option_map (with_real_objects merge) o })
-          (sym is ∙ ap (λ (f : Filesystem ℕ). f.overlay) (found x m number e))
-      merged x m false e = refl
+      merged x m b e = grind (arith, common_steps, found)
 
       other_there : (x : Filesystem ℕ) → nat_eq upper x.number ≡ true → remerged number merge x ≡ x
-      other_there x e = ap (λ b. cond b (record x {
-        files = merge.files;
-        overlay = option_map (with_real_objects merge) x.overlay;
-      }) x) (false_from_ne_true (nat_eq number x.number) (λ f.
-          elsewhere (eqb-true upper x.number e ∙ sym (eqb-true number x.number f))))
+      other_there x e = grind (arith, common_steps, eqb-true upper x.number e)
 
       above : (x : Filesystem ℕ) → Among x world.filesystems → (b : Bool)
           → nat_eq upper (remerged number merge x).number ≡ b
@@ -352,7 +245,4 @@ module _ (world : World ℕ) (names : List TaskName) (apart : IsApart world name
       lowered y = lowered_by (used_filesystems nat_eq world names) (own_lowers nat_eq world names) y.files y
 
       stays : (x : Filesystem ℕ) → nat_eq number x.number ≡ false → remerged number merge x ≡ x
-      stays x e = ap (λ b. cond b (record x {
-        files = merge.files;
-        overlay = option_map (with_real_objects merge) x.overlay;
-      }) x) e
+      stays x e = grind (arith, common_steps)

@@ -1,17 +1,16 @@
 -- The filesystems after a call of others that changes something: the change of one, and of its upper layer.
-use Rattle.std.proofs.Common.{◌≡◌, ◌≢◌, refl, sym, ap, subst, ◌∙◌, inl, inr, ⊎_elim, ℕ, nat_eq, Bool, true, false, true≢false, List, [], ◌∷◌, Option, Some, None, Ok, is_some, not, ◌&&◌, ◌||◌, eq-eqb, eqb-true}
-use Rattle.std.specs.Prelude.{option_to_list}
+use Rattle.std.proofs.Common.{arith, ◌≡◌, ◌≢◌, refl, sym, ap, subst, ◌∙◌, inr, ⊎_elim, ℕ, nat_eq, Bool, true, false, true≢false, List, [], ◌∷◌, Option, Some, None, Ok, is_some, not, ◌&&◌, ◌||◌, eq-eqb, eqb-true}
+use Rattle.std.proofs.lemmas.Grind.{common_steps}
 use Rattle.std.specs.List.{list_all, list_any}
 use Rattle.std.proofs.lemmas.Bool.{and_from, and_parts, false_from_ne_true, not-true, or_cases, or_left}
 use Rattle.std.proofs.lemmas.Option.{same_Some}
 use Rattle.vt_spec.specs.FileTree.{is_under}
-use Rattle.vt_spec.specs.Language.Calls.{Call, TaskName, opens_for_writing}
+use Rattle.vt_spec.specs.Language.Calls.{Call, TaskName}
 use Rattle.vt_spec.specs.Language.Changes.{Change, changed}
-use Rattle.vt_spec.specs.Language.Changes.Change.{AddName, CopyUp, Make, Move, Remove, SetAttr, SetBytes, SetMark}
+use Rattle.vt_spec.specs.Language.Changes.Change.{CopyUp}
 use Rattle.vt_spec.specs.Lists.{Fresh, is_among, when}
 use Rattle.vt_spec.specs.Machine.Apply.{overfills}
 use Rattle.vt_spec.specs.Machine.CopyUp.{Merge, merge_changed}
-use Rattle.vt_spec.specs.Machine.Descriptors.{is_copied_up}
 use Rattle.vt_spec.specs.Machine.Filesystems.{changed_at, filesystem_changed, lies_only_in_lowers, merge_of, numbers_of_change, numbers_over, overlay_changed, stack_of, with_change}
 use Rattle.vt_spec.specs.Machine.Invariants.{ListsNumbers, is_plain_layer, live_lowers}
 use Rattle.vt_spec.specs.Machine.Judge.{judge_in}
@@ -19,7 +18,6 @@ use Rattle.vt_spec.specs.Machine.Locked.{counts_in_layer, is_locked, lies_in_lay
 use Rattle.vt_spec.specs.Machine.Looks.{looks_of}
 use Rattle.vt_spec.specs.Machine.Mounts.{Location}
 use Rattle.vt_spec.specs.Machine.Permits.{Permit}
-use Rattle.vt_spec.specs.Machine.Permits.Permit.{ToChange, ToOpen, ToWritePart}
 use Rattle.vt_spec.specs.Machine.Sealed.{is_lower_root, no_outsider_on, own_lowers, used_alone, used_directly, used_filesystems, wholly_locked}
 use Rattle.vt_spec.specs.Machine.Settled.{has_layer_on}
 use Rattle.vt_spec.specs.Machine.World.{Filesystem, Layer, Overlay, Task, World, filesystem_at, filesystem_numbered, files_at, is_overlay, layers_of, mount_at, task_called}
@@ -88,19 +86,7 @@ copies_are_of_overlays world fresh task call permit for made asks copy =
     by : (permit : Permit ℕ) → IsFor (looks_of nat_eq world) task call permit
         → IsCopyIf (change_asked fresh world permit) → (one : Location ℕ × Change ℕ)
         → change_asked fresh world permit ≡ Some one → is_some (filesystem_at nat_eq world one.0).overlay ≡ true
-    by (ToChange location (CopyUp object)) for copied one e = absurd for
-    by (ToOpen file access) for copied one e = opened file (is_copied_up nat_eq world file access) (λ is.
-        layered file (filesystem_at nat_eq world file).overlay (and_parts (opens_for_writing access) _ is).1) one e
-    by (ToWritePart file offset []) for copied one e = none_is_some one e
-    by (ToWritePart file offset (byte ∷ bytes)) for copied one e = absurd copied
-    by (ToChange location (Make directory name number node)) for copied one e = absurd copied
-    by (ToChange location (AddName directory name object)) for copied one e = absurd copied
-    by (ToChange location (Remove directory name object)) for copied one e = absurd copied
-    by (ToChange location (Move from old to new object)) for copied one e = absurd copied
-    by (ToChange location (SetBytes file bytes)) for copied one e = absurd copied
-    by (ToChange location (SetAttr object attr)) for copied one e = absurd copied
-    by (ToChange location (SetMark directory opaque)) for copied one e = absurd copied
-    by permit for copied one e = absurd copied
+    by permit for copied one e = search (arith, common_steps, opened, layered, and_parts, none_is_some)
 
 module _ (world : World ℕ) (fresh : Fresh ℕ) (names : List TaskName) (name : TaskName) (call : Call)
     (task : Task ℕ) (outsider : IsOutsidersCall world fresh names name call)
@@ -184,12 +170,7 @@ module _ (world : World ℕ) (fresh : Fresh ℕ) (names : List TaskName) (name :
       let from = among-from_flat_map
       (λ n. of_overlay [] (λ (overlay : Overlay ℕ). overlay.lowers) (filesystem_numbered nat_eq world n))
       (used_directly nat_eq world names) layer m in
-      by from.0 (filesystem_numbered nat_eq world from.0).overlay refl from.2
-    where
-      by : (n : ℕ) (o : Option (Overlay ℕ)) → (filesystem_numbered nat_eq world n).overlay ≡ o
-          → Among layer (overlay_or [] (λ (overlay : Overlay ℕ). overlay.lowers) o) → IsLowerOf layer
-      by n None e h = absurd h
-      by n (Some overlay) e h = (n, overlay, e, h)
+      grind (arith, common_steps)
 
   lower_plain : (layer : Layer ℕ) → IsLowerOf layer → is_plain_layer nat_eq world layer ≡ true
   lower_plain layer of = layer_plain world outsider.is of.0 of.1 of.2 layer
@@ -247,14 +228,7 @@ module _ (world : World ℕ) (fresh : Fresh ℕ) (names : List TaskName) (name :
   locked_root : (n : ℕ) → wholly_locked nat_eq world names n ≡ true
       → (layer : Layer ℕ) × Among layer (live_lowers nat_eq world) × (n ≡ layer.filesystem)
       × ((filesystem_numbered nat_eq world n).files.tree.root ≡ layer.directory)
-  locked_root n locked =
-      let at = any_among (λ (merged : Filesystem ℕ). is_lower_root nat_eq n
-      (filesystem_numbered nat_eq world n).files.tree.root merged && used_alone nat_eq world names merged.number)
-      (overlays world) (and_parts (list_any (λ (merged : Filesystem ℕ). is_lower_root nat_eq n
-      (filesystem_numbered nat_eq world n).files.tree.root merged && used_alone nat_eq world names merged.number)
-      (overlays world)) _ locked).0 in
-      lower_root n (filesystem_numbered nat_eq world n).files.tree.root at.0 at.1
-      (and_parts (is_lower_root nat_eq n (filesystem_numbered nat_eq world n).files.tree.root at.0) _ at.2).0
+  locked_root n locked = grind (arith, common_steps, any_among, and_parts, lower_root)
 
   -- Of a plain filesystem
   module _ (plain : there.overlay ≡ None) where
@@ -324,18 +298,7 @@ module _ (world : World ℕ) (fresh : Fresh ℕ) (names : List TaskName) (name :
 
     live_plain : (layer : Layer ℕ) → Among layer (live_lowers nat_eq world) → is_plain_layer nat_eq world layer ≡ true
     live_plain layer m =
-        let from = among-from_flat_map (of_overlay [] (λ (o : Overlay ℕ). o.lowers)) (overlays world) layer m in
-        by from.0.overlay from.2
-        (among_from_list_all (of_overlay true (λ o. list_all (is_plain_layer nat_eq world) (layers_of o)))
-        world.filesystems outsider.is.overlays.plain_layers from.0
-        (among-from_filter is_overlay world.filesystems from.0 from.1).0)
-      where
-        by : (o : Option (Overlay ℕ)) → Among layer (overlay_or [] (λ (v : Overlay ℕ). v.lowers) o)
-            → overlay_or true (λ v. list_all (is_plain_layer nat_eq world) (layers_of v)) o ≡ true
-            → is_plain_layer nat_eq world layer ≡ true
-        by None n e = absurd n
-        by (Some v) n e = among_from_list_all (is_plain_layer nat_eq world) (layers_of v) e layer
-            (among-append_right (upper_and_work v) v.lowers layer n)
+        search (arith, common_steps, among-from_flat_map, among_from_list_all, among-from_filter, among-append_right)
 
     merged_unused : is_used number ≡ false
     merged_unused = not_used number not_alone (λ locked.
@@ -377,13 +340,7 @@ module _ (world : World ℕ) (fresh : Fresh ℕ) (names : List TaskName) (name :
           (and_parts (not (is_overlay (filesystem_numbered nat_eq world upper.filesystem))) _ upper_plain).1
 
       has_layer : has_layer_on nat_eq upper.filesystem there ≡ true
-      has_layer = ap (overlay_or false (λ v. list_any (λ (layer : Layer ℕ). nat_eq upper.filesystem layer.filesystem)
-          (layers_of v))) is
-          ∙ any_from_among (λ (layer : Layer ℕ). nat_eq upper.filesystem layer.filesystem) (layers_of overlay) upper
-          (among-append_left (upper_and_work overlay) overlay.lowers upper
-          (among-append_left (option_to_list overlay.upper) (option_to_list overlay.work) upper
-          (subst (λ o. Among upper (option_to_list o)) (sym has) (inl refl))))
-          (eq-eqb upper.filesystem upper.filesystem refl)
+      has_layer = grind (arith, common_steps, any_from_among, among-append_left, eq-eqb)
 
       -- others have a foothold on the overlay, and so on what it has a layer in
       upper_not_alone : used_alone nat_eq world names upper.filesystem ≡ true → ⊥
@@ -393,8 +350,7 @@ module _ (world : World ℕ) (fresh : Fresh ℕ) (names : List TaskName) (name :
           (among_from_list_all (λ merged. not (has_layer_on nat_eq upper.filesystem merged)
           || no_outsider_on nat_eq world names merged.number) (overlays world)
           (and_parts (no_outsider_on nat_eq world names upper.filesystem) _ alone).1 there merged_overlay) in
-          ⊎_elim (λ none. true≢false (sym has_layer ∙ not-true _ none)) (λ nobody. true≢false (sym nobody
-          ∙ ap (no_outsider_on nat_eq world names) (number_of_filesystem world number) ∙ on_it)) free
+          grind (arith, common_steps, true≢false, has_layer, not-true, number_of_filesystem, on_it)
 
       -- the upper layer lies in no lower one
       upper_not_locked : wholly_locked nat_eq world names upper.filesystem ≡ true → ⊥
@@ -477,11 +433,7 @@ module _ (world : World ℕ) (fresh : Fresh ℕ) (names : List TaskName) (name :
 
   -- What others change they do not use.
   pub changed_is_unused : is_used number ≡ false
-  changed_is_unused = by there.overlay refl
-    where
-      by : (o : Option (Overlay ℕ)) → there.overlay ≡ o → is_used number ≡ false
-      by None plain = plain_unused plain
-      by (Some overlay) is = merged_unused overlay is
+  changed_is_unused = grind (arith, common_steps, plain_unused, merged_unused)
 
   pub upper_is_unused : (overlay : Overlay ℕ) → there.overlay ≡ Some overlay → (upper : Layer ℕ)
       → overlay.upper ≡ Some upper → is_used upper.filesystem ≡ false
@@ -495,11 +447,7 @@ module _ (world : World ℕ) (fresh : Fresh ℕ) (names : List TaskName) (name :
     where
       over : (overlay : Overlay ℕ) → there.overlay ≡ Some overlay → (upper : Option (Layer ℕ)) → overlay.upper ≡ upper
           → LeavesApart world left names (changed_at nat_eq world location)
-      over overlay is None has = subst (LeavesApart world left names)
-          (sym (ap (numbers_of_change nat_eq world there) is ∙ ap (numbers_over nat_eq world there) has))
-          (subst (λ w. LeavesApart world w names []) (sym (left_is ∙ ap (λ list. record base { filesystems = list })
-          (ap (λ o. (filesystem_changed nat_eq supply world there o change).filesystems) is
-          ∙ ap (λ o. (overlay_changed nat_eq supply world there overlay o change).filesystems) has ∙ sym same))) leaves)
+      over overlay is None has = grind (arith, common_steps)
       over overlay is (Some upper) has = merged_leaves overlay is upper has base left same left_is leaves
 
       by : (o : Option (Overlay ℕ)) → there.overlay ≡ o

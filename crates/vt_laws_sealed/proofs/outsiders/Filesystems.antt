@@ -1,5 +1,6 @@
 -- Filesystems that a set of tasks uses are there, and a new one is none of them.
-use Rattle.std.proofs.Common.{◌≡◌, refl, sym, ap, subst, ◌∙◌, inl, ⊎_elim, ℕ, nat_eq, Bool, true, false, cond, true≢false, List, [], ◌∷◌, ◌++◌, append-nil, Option, Some, None, filter, find, flat_map, is_some, map, not, ◌&&◌, ◌||◌, eqb-true}
+use Rattle.std.proofs.Common.{arith, ◌≡◌, refl, sym, ap, subst, ◌∙◌, inl, ⊎_elim, ℕ, nat_eq, true, false, cond, true≢false, List, [], ◌∷◌, ◌++◌, append-nil, Option, Some, None, filter, find, flat_map, is_some, map, not, ◌&&◌, ◌||◌, eqb-true}
+use Rattle.std.proofs.lemmas.Grind.{common_steps}
 use Rattle.std.specs.Prelude.{option_to_list, unwrap_or}
 use Rattle.std.specs.List.{cons_option, filter_map, list_all, list_any}
 use Rattle.std.proofs.lemmas.Bool.{and_parts, false_from_ne_true}
@@ -38,17 +39,7 @@ module _ (world : World ℕ) (names : List TaskName) (apart : IsApart world name
           (no_filesystem number)).files.tree.node object) ≡ true
           → is_among nat_eq number (map (λ (f : Filesystem ℕ). f.number) list) ≡ true
       search [] h = absurd (true≢false (sym h))
-      search (f ∷ rest) h = by (nat_eq number f.number) h (search rest)
-        where
-          by : (b : Bool)
-              → is_some ((unwrap_or (cond b (Some f) (find (λ (x : Filesystem ℕ). nat_eq number x.number) rest))
-              (no_filesystem number)).files.tree.node object) ≡ true
-              → (is_some ((unwrap_or (find (λ (x : Filesystem ℕ). nat_eq number x.number) rest)
-              (no_filesystem number)).files.tree.node object) ≡ true
-              → is_among nat_eq number (map (λ (x : Filesystem ℕ). x.number) rest) ≡ true)
-              → (b || is_among nat_eq number (map (λ (x : Filesystem ℕ). x.number) rest)) ≡ true
-          by true h later = refl
-          by false h later = later h
+      search (f ∷ rest) h = grind (arith, common_steps, search rest)
 
   -- a mount shows a filesystem that is there, and so does the mount of a location
   directly_there : (number : ℕ) → Among number (used_directly nat_eq world names)
@@ -107,20 +98,11 @@ module _ (world : World ℕ) (names : List TaskName) (apart : IsApart world name
       by : (o : Option (Filesystem ℕ)) → find (λ (f : Filesystem ℕ). nat_eq number f.number) world.filesystems ≡ o
           → Among layer (of_overlay [] some (unwrap_or o (no_filesystem number)))
           → is_among nat_eq layer.filesystem numbers ≡ true
-      by None e m = absurd m
-      by (Some merged) e m =
-          layer_there merged (found_among (λ (f : Filesystem ℕ). nat_eq number f.number) world.filesystems merged e)
-          layer (up merged.overlay m)
+      by o e m = grind (arith, common_steps, layer_there, found_among, up)
 
   lower_there : (layer : Layer ℕ) → Among layer (own_lowers nat_eq world names)
       → is_among nat_eq layer.filesystem numbers ≡ true
-  lower_there layer m =
-      let from = among-from_flat_map
-      (λ n. of_overlay [] (λ (overlay : Overlay ℕ). overlay.lowers) (filesystem_numbered nat_eq world n))
-      (used_directly nat_eq world names) layer m in
-      found_layer_there from.0 (λ (overlay : Overlay ℕ). overlay.lowers)
-      (λ overlay l n. among-append_right (option_to_list overlay.upper ++ option_to_list overlay.work) overlay.lowers l
-      n) layer from.2
+  lower_there layer m = search (arith, common_steps, among-from_flat_map, found_layer_there, among-append_right)
 
   -- each filesystem that they use
   pub used_there : (number : ℕ) → Among number (used_filesystems nat_eq world names)
@@ -140,19 +122,7 @@ module _ (world : World ℕ) (names : List TaskName) (apart : IsApart world name
           → ((layer : Layer ℕ) → Among layer (of_overlay []
           (λ overlay. option_to_list overlay.upper ++ option_to_list overlay.work) merged)
           → is_among nat_eq layer.filesystem numbers ≡ true) → is_among nat_eq number numbers ≡ true
-      changed merged number h there = by merged.overlay h there
-        where
-          by : (o : Option (Overlay ℕ))
-              → Among number (overlay_or [] (λ overlay. map (λ (layer : Layer ℕ). layer.filesystem)
-              (option_to_list overlay.upper ++ option_to_list overlay.work)) o)
-              → ((layer : Layer ℕ) → Among layer (overlay_or []
-              (λ overlay. option_to_list overlay.upper ++ option_to_list overlay.work) o)
-              → is_among nat_eq layer.filesystem numbers ≡ true) → is_among nat_eq number numbers ≡ true
-          by None n all = absurd n
-          by (Some overlay) n all =
-              let layer = among-from_map (λ (layer : Layer ℕ). layer.filesystem)
-              (option_to_list overlay.upper ++ option_to_list overlay.work) number n in
-              ap (λ k. is_among nat_eq k numbers) layer.2 ∙ all layer.0 layer.1
+      changed merged number h there = grind (arith, common_steps, among-from_map)
 
   pub of_the_world_there : (number : ℕ) → IsOfTheWorld world names number → is_among nat_eq number numbers ≡ true
   of_the_world_there number of = ⊎_elim (λ there. there) (used_there number) of
@@ -195,42 +165,18 @@ module _ (world : World ℕ) (names : List TaskName) (apart : IsApart world name
               (no_filesystem number)
               ≡ unwrap_or (find (λ (f : Filesystem ℕ). nat_eq number f.number) list) (no_filesystem number)
           search [] h = absurd (true≢false (sym h))
-          search (f ∷ rest) h = by (nat_eq number f.number) h (search rest)
-            where
-              by : (b : Bool) → (b || is_among nat_eq number (map (λ (x : Filesystem ℕ). x.number) rest)) ≡ true
-                  → (is_among nat_eq number (map (λ (x : Filesystem ℕ). x.number) rest) ≡ true
-                  → unwrap_or (find (λ (x : Filesystem ℕ). nat_eq number x.number) (rest ++ added ∷ []))
-                  (no_filesystem number)
-                  ≡ unwrap_or (find (λ (x : Filesystem ℕ). nat_eq number x.number) rest) (no_filesystem number))
-                  → unwrap_or (cond b (Some f)
-                  (find (λ (x : Filesystem ℕ). nat_eq number x.number) (rest ++ added ∷ []))) (no_filesystem number)
-                  ≡ unwrap_or (cond b (Some f) (find (λ (x : Filesystem ℕ). nat_eq number x.number) rest))
-                  (no_filesystem number)
-              by true h later = refl
-              by false h later = later h
+          search (f ∷ rest) h = grind (arith, common_steps, search rest)
 
       added_unused : is_among nat_eq added.number used ≡ false
       added_unused = false_from_ne_true (is_among nat_eq added.number used) (λ h.
           there_not_new added.number k (used_there added.number (among_numbers used added.number h)) numbered)
 
       added_no_layer : list_any (λ (layer : Layer ℕ). nat_eq added.number layer.filesystem) lowers ≡ false
-      added_no_layer = none_from_among (λ (layer : Layer ℕ). nat_eq added.number layer.filesystem) lowers
-          (λ layer m. false_from_ne_true (nat_eq added.number layer.filesystem) (λ e.
-          there_not_new layer.filesystem k (lower_there layer m)
-          (sym (eqb-true added.number layer.filesystem e) ∙ numbered)))
+      added_no_layer =
+          search (arith, common_steps, none_from_among, false_from_ne_true, there_not_new, lower_there, eqb-true)
 
       none_shown : shown_of larger used lowers added ≡ None
-      none_shown = ap (λ b. cond b (Some added) (when (list_any
-          (λ (layer : Layer ℕ). nat_eq added.number layer.filesystem) lowers)
-          (lower_part (filesystem_numbered nat_eq larger added.number) added))) added_unused
-          ∙ ap (λ b. when b (lower_part (filesystem_numbered nat_eq larger added.number) added)) added_no_layer
-        where
-          lower_part : Filesystem ℕ → Filesystem ℕ → Filesystem ℕ
-          lower_part there x = record x {
-            files = only_among nat_eq (filter (λ object. list_any (λ (layer : Layer ℕ). nat_eq x.number layer.filesystem
-                && is_under nat_eq there.files layer.directory object) lowers) x.files.numbers) x.files;
-            change = 0;
-          }
+      none_shown = grind (arith, common_steps, added_unused, added_no_layer)
 
       pub larger_sees : SeesTheSame world larger names
       larger_sees = record {

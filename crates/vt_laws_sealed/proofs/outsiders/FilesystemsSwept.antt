@@ -1,16 +1,17 @@
 -- The sweeps of mounts, groups and filesystems take nothing that a sealed set sees.
-use Rattle.std.proofs.Common.{◌≡◌, refl, sym, ap, ◌∙◌, inl, inr, ⊎_elim, ℕ, nat_eq, Bool, true, false, cond, true≢false, List, [], ◌∷◌, ◌++◌, Option, Some, None, filter, find, flat_map, map, ◌&&◌, ◌||◌, eq-eqb, eqb-true}
+use Rattle.std.proofs.Common.{arith, ◌≡◌, refl, sym, ap, ◌∙◌, ⊎_elim, ℕ, nat_eq, Bool, true, false, cond, true≢false, List, [], ◌∷◌, ◌++◌, Option, Some, None, filter, find, flat_map, map, ◌&&◌, ◌||◌, eq-eqb, eqb-true}
+use Rattle.std.proofs.lemmas.Grind.{common_steps}
 use Rattle.std.specs.Prelude.{unwrap_or}
-use Rattle.std.specs.List.{cons_option, filter_map, list_any}
+use Rattle.std.specs.List.{filter_map, list_any}
 use Rattle.std.proofs.lemmas.Bool.{and_from, false_from_ne_true, or_left, or_right}
 use Rattle.vt_spec.specs.Language.Calls.{TaskName}
 use Rattle.vt_spec.specs.Lists.{is_among, when}
-use Rattle.vt_spec.specs.Machine.Locked.{of_overlay, overlay_or}
+use Rattle.vt_spec.specs.Machine.Locked.{of_overlay}
 use Rattle.vt_spec.specs.Machine.Mounts.{Location, Mount}
 use Rattle.vt_spec.specs.Machine.Receives.{is_member_of}
 use Rattle.vt_spec.specs.Machine.Sealed.{change_layers, is_member_task, locations, members, own_lowers, own_mounts, used_directly, used_filesystems}
 use Rattle.vt_spec.specs.Machine.Settled.{filesystem_lives, has_layer_on, is_mounted, without_dead_filesystems, without_dead_groups, without_dead_mounts}
-use Rattle.vt_spec.specs.Machine.World.{Filesystem, Layer, Overlay, World, filesystem_numbered, layers_of, locations_of, mount_at, mount_numbered, no_filesystem}
+use Rattle.vt_spec.specs.Machine.World.{Filesystem, Layer, World, filesystem_numbered, layers_of, locations_of, mount_at, mount_numbered, no_filesystem}
 use Rattle.vt_spec.proofs.Lists.{Among, among-append, among-flat_map, among-from_filter, among-from_flat_map, among-from_map, among_from_contains, among_numbers, any_among, any_from_among}
 use Rattle.vt_laws_mounts.proofs.mounts.MountsReplaced.{found_itself}
 use Rattle.vt_laws_sealed.specs.Part.Parts.{SeesTheSame, shown_of}
@@ -26,26 +27,12 @@ filter_map_filtered : {A B : Type 0} (k later : A → Option B) (p : A → Bool)
     → ((x : A) → Among x xs → p x ≡ true → later x ≡ k x) → ((x : A) → Among x xs → p x ≡ false → k x ≡ None)
     → filter_map later (filter p xs) ≡ filter_map k xs
 filter_map_filtered k later p [] same none = refl
-filter_map_filtered k later p (x ∷ xs) same none =
-    by (p x) refl (filter_map_filtered k later p xs (λ y m. same y (inr m)) (λ y m. none y (inr m)))
-  where
-    by : (b : Bool) → p x ≡ b → filter_map later (filter p xs) ≡ filter_map k xs
-        → filter_map later (cond b (x ∷ filter p xs) (filter p xs)) ≡ cons_option (k x) (filter_map k xs)
-    by true e rest =
-        ap (λ o. cons_option o (filter_map later (filter p xs))) (same x (inl refl) e) ∙ ap (cons_option (k x)) rest
-    by false e rest = rest ∙ sym (ap (λ o. cons_option o (filter_map k xs)) (none x (inl refl) e))
+filter_map_filtered k later p (x ∷ xs) same none = grind (arith, common_steps, filter_map_filtered k later p xs)
 
 -- Mounts: those go that nothing uses.
 module _ (world before : World ℕ) (names : List TaskName) (sees : SeesTheSame world before names) where
   pub mounts_swept : SeesTheSame world (without_dead_mounts nat_eq before) names
-  mounts_swept = record {
-    tasks = sees.tasks;
-    mounts = mounts_kept before names before.mounts ∙ sees.mounts;
-    masters = sees.masters;
-    direct = sees.direct;
-    filesystems = sees.filesystems;
-    namespaces = sees.namespaces;
-  }
+  mounts_swept = grind (arith, common_steps, mounts_kept before names before.mounts)
 
   pub groups_swept : SeesTheSame world (without_dead_groups nat_eq before) names
   groups_swept = record {
@@ -107,12 +94,7 @@ module _ (world before : World ℕ) (names : List TaskName) (apart : IsApart wor
 
   layered : (number : ℕ) (merged : Filesystem ℕ) (layer : Layer ℕ) → Among layer (of_overlay [] layers_of merged)
       → nat_eq number layer.filesystem ≡ true → has_layer_on nat_eq number merged ≡ true
-  layered number merged layer m e = by merged.overlay m
-    where
-      by : (o : Option (Overlay ℕ)) → Among layer (overlay_or [] layers_of o)
-          → overlay_or false (λ overlay. list_any (λ l. nat_eq number l.filesystem) (layers_of overlay)) o ≡ true
-      by None k = absurd k
-      by (Some overlay) k = any_from_among (λ (l : Layer ℕ). nat_eq number l.filesystem) (layers_of overlay) layer k e
+  layered number merged layer m e = grind (arith, common_steps, any_from_among)
 
   lower_alive : (number : ℕ)
       → list_any (λ (layer : Layer ℕ). nat_eq number layer.filesystem) (own_lowers nat_eq world names) ≡ true
@@ -141,18 +123,7 @@ module _ (world before : World ℕ) (names : List TaskName) (apart : IsApart wor
           → find (λ (f : Filesystem ℕ). nat_eq number f.number) (filter (filesystem_lives nat_eq before) list)
           ≡ find (λ (f : Filesystem ℕ). nat_eq number f.number) list
       search [] = refl
-      search (f ∷ rest) = by (filesystem_lives nat_eq before f) refl (nat_eq number f.number) refl (search rest)
-        where
-          by : (a : Bool) → filesystem_lives nat_eq before f ≡ a → (b : Bool) → nat_eq number f.number ≡ b
-              → find (λ (x : Filesystem ℕ). nat_eq number x.number) (filter (filesystem_lives nat_eq before) rest)
-              ≡ find (λ (x : Filesystem ℕ). nat_eq number x.number) rest
-              → find (λ (x : Filesystem ℕ). nat_eq number x.number)
-              (cond a (f ∷ filter (filesystem_lives nat_eq before) rest) (filter (filesystem_lives nat_eq before) rest))
-              ≡ cond b (Some f) (find (λ (x : Filesystem ℕ). nat_eq number x.number) rest)
-          by true g b h later = ap (λ c. cond c (Some f) (find (λ (x : Filesystem ℕ). nat_eq number x.number)
-              (filter (filesystem_lives nat_eq before) rest))) h ∙ ap (cond b (Some f)) later
-          by false g true h later = absurd (true≢false (sym is ∙ ap alive (eqb-true number f.number h) ∙ g))
-          by false g false h later = later
+      search (f ∷ rest) = grind (arith, common_steps, true≢false, eqb-true, search rest)
 
   abbrev lowers_there : List (Layer ℕ)
   lowers_there = own_lowers nat_eq world names

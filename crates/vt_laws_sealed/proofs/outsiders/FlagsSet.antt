@@ -1,6 +1,6 @@
 -- Flags of a mount of others that are set.
-use Rattle.std.proofs.Common.{◌≡◌, refl, sym, ap, subst, ◌∙◌, ℕ, nat_eq, Bool, true, false, cond, List, [], Some, Ok, map, not, ◌||◌, eqb-true}
-use Rattle.std.specs.List.{list_all}
+use Rattle.std.proofs.Common.{arith, ◌≡◌, refl, sym, ap, subst, ◌∙◌, ℕ, nat_eq, Bool, true, false, cond, List, [], Some, Ok, map, not, ◌||◌, eqb-true}
+use Rattle.std.proofs.lemmas.Grind.{common_steps}
 use Rattle.vt_spec.specs.Language.Calls.{Call, MountFlags, TaskName}
 use Rattle.vt_spec.specs.Language.Calls.Call.{Remount}
 use Rattle.vt_spec.specs.Lists.{Fresh, when}
@@ -8,7 +8,7 @@ use Rattle.vt_spec.specs.Machine.Apply.{apply}
 use Rattle.vt_spec.specs.Machine.Judge.{judge_in}
 use Rattle.vt_spec.specs.Machine.Mounts.{Mount, Propagation, no_mount, replaced_if_same}
 use Rattle.vt_spec.specs.Machine.Permits.Permit.{ToSetFlags}
-use Rattle.vt_spec.specs.Machine.Sealed.{is_at, locations, members, other_mounts, own_mounts, roots_and_directories, seen_by_descriptor, share_events, shares_no_events}
+use Rattle.vt_spec.specs.Machine.Sealed.{is_at, locations, members, roots_and_directories, seen_by_descriptor, share_events, shares_no_events}
 use Rattle.vt_spec.specs.Machine.Settled.{settled}
 use Rattle.vt_spec.specs.Machine.World.{Task, World, mount_numbered, task_called, with_mounts}
 use Rattle.vt_spec.proofs.Lists.{Among, map_alike}
@@ -35,32 +35,10 @@ module _ (world : World ℕ) (number : ℕ) (flags : MountFlags) where
   set mount = cond (nat_eq number mount.number) (record mount { flags = flags }) mount
 
   set_keeps : KeepsPlaces set
-  set_keeps = record {
-    number = λ mount. by_number mount (nat_eq number mount.number);
-    namespace = λ mount. by_namespace mount (nat_eq number mount.number);
-    filesystem = λ mount. by_filesystem mount (nat_eq number mount.number);
-  }
-    where
-      by_number : (mount : Mount ℕ) (b : Bool) → (cond b (record mount { flags = flags }) mount).number ≡ mount.number
-      by_number mount true = refl
-      by_number mount false = refl
-
-      by_namespace : (mount : Mount ℕ) (b : Bool)
-          → (cond b (record mount { flags = flags }) mount).namespace ≡ mount.namespace
-      by_namespace mount true = refl
-      by_namespace mount false = refl
-
-      by_filesystem : (mount : Mount ℕ) (b : Bool)
-          → (cond b (record mount { flags = flags }) mount).filesystem ≡ mount.filesystem
-      by_filesystem mount true = refl
-      by_filesystem mount false = refl
+  set_keeps = grind (arith, common_steps)
 
   type_kept : (mount : Mount ℕ) → (set mount).propagation ≡ mount.propagation
-  type_kept mount = by (nat_eq number mount.number)
-    where
-      by : (b : Bool) → (cond b (record mount { flags = flags }) mount).propagation ≡ mount.propagation
-      by true = refl
-      by false = refl
+  type_kept mount = grind (arith, common_steps)
 
 module _ (world : World ℕ) (fresh : Fresh ℕ) (names : List TaskName) (name : TaskName) (call : Call)
     (task : Task ℕ) (outsider : IsOutsidersCall world fresh names name call)
@@ -88,13 +66,7 @@ module _ (world : World ℕ) (fresh : Fresh ℕ) (names : List TaskName) (name :
 
     same_set : (mount : Mount ℕ) → Among mount world.mounts
         → replaced_if_same nat_eq (record old { flags = flags }) mount ≡ set world number flags mount
-    same_set mount m = ap (λ n. cond (nat_eq n mount.number) (record old { flags = flags }) mount)
-        (number-mount_in world.mounts number) ∙ by (nat_eq number mount.number) refl
-      where
-        by : (b : Bool) → nat_eq number mount.number ≡ b
-            → cond b (record old { flags = flags }) mount ≡ cond b (record mount { flags = flags }) mount
-        by true e = ap (λ (x : Mount ℕ). record x { flags = flags }) (is_old mount m e)
-        by false e = refl
+    same_set mount m = grind (arith, common_steps, number-mount_in, is_old)
 
     -- what the part has of it is without flags
     kept_same : (mount : Mount ℕ) → Among mount world.mounts
@@ -128,23 +100,17 @@ module _ (world : World ℕ) (fresh : Fresh ℕ) (names : List TaskName) (name :
 
     events_same : shares_no_events nat_eq (with_mounts world (map (set world number flags) world.mounts)) names
         ≡ shares_no_events nat_eq world names
-    events_same =
-        let change : Mount ℕ → Mount ℕ = set world number flags in
-        let keeps = set_keeps world number flags in
-        let theirs = own_changed world names apart_before change keeps kept_same world.master in
-        let others = others_changed world names apart_before change keeps kept_same world.master in
-        ap (λ owns. list_all (λ own. list_all (λ other. not (share_events nat_eq world own other))
-        (other_mounts nat_eq (with_mounts world (map change world.mounts)) names)) owns) theirs
-        ∙ ap (λ list. list_all (λ own. list_all (λ other. not (share_events nat_eq world own other)) list)
-        (map change (own_mounts nat_eq world names))) others
-        ∙ all-map_same (λ own. list_all (λ other. not (share_events nat_eq world own other))
-        (map change (other_mounts nat_eq world names)))
-        (λ own. list_all (λ other. not (share_events nat_eq world own other)) (other_mounts nat_eq world names)) change
-        (own_mounts nat_eq world names)
-        (λ own. all-map_same (λ other. not (share_events nat_eq world (change own) other))
-        (λ other. not (share_events nat_eq world own other)) change (other_mounts nat_eq world names)
-        (λ other. ap not (ap (λ kind. share_by kind (change other).propagation) (type_kept world number flags own)
-        ∙ ap (share_by own.propagation) (type_kept world number flags other))))
+    events_same = search (
+      arith,
+      common_steps,
+      set_keeps,
+      own_changed,
+      apart_before,
+      kept_same,
+      others_changed,
+      all-map_same,
+      type_kept,
+    )
 
     pub flags_leave : LeavesApart world
         (settled nat_eq (apply nat_eq fresh world task (ToSetFlags number flags)).world) names []

@@ -1,14 +1,15 @@
 -- The sweep of inodes takes nothing that a sealed set sees.
-use Rattle.std.proofs.Common.{◌≡◌, refl, sym, ap, ◌∙◌, inr, ℕ, nat_eq, Bool, true, false, List, [], ◌++◌, Option, Some, None, filter, flat_map, is_some}
+use Rattle.std.proofs.Common.{arith, ◌≡◌, refl, sym, ap, ◌∙◌, inr, ℕ, nat_eq, Bool, true, false, List, [], ◌++◌, None, filter, flat_map}
+use Rattle.std.proofs.lemmas.Grind.{common_steps}
 use Rattle.std.specs.Prelude.{option_map}
 use Rattle.std.specs.List.{list_all, list_any}
 use Rattle.vt_spec.specs.FileTree.{FileTree}
 use Rattle.vt_spec.specs.Language.Calls.{TaskName}
 use Rattle.vt_spec.specs.Lists.{any_pair, is_among}
-use Rattle.vt_spec.specs.Machine.Locked.{of_overlay, overlay_or}
+use Rattle.vt_spec.specs.Machine.Locked.{of_overlay}
 use Rattle.vt_spec.specs.Machine.Sealed.{own_lowers, sealed, used_filesystems}
 use Rattle.vt_spec.specs.Machine.Settled.{has_layer_on, layers_in, located_in, named_in, objects_of_overlay, real_among, only_used, only_used_by, used_in, without_dead_in}
-use Rattle.vt_spec.specs.Machine.World.{Filesystem, Layer, Overlay, World, is_overlay, layers_of}
+use Rattle.vt_spec.specs.Machine.World.{Filesystem, Layer, World, is_overlay, layers_of}
 use Rattle.vt_spec.specs.TreeInvariant.{IsDirectory}
 use Rattle.vt_spec.proofs.Lists.{Among, among-append_left, among-filter, among-flat_map, among-map, is_among_numbers}
 use Rattle.vt_spec.proofs.Worlds.{number-only_used}
@@ -26,33 +27,12 @@ use Rattle.vt_laws_sealed.proofs.outsiders.InodesUsed.{in_third, used_whole}
 
 pub cut_overlay : (world : World ℕ) (chosen : Bool) (x : Filesystem ℕ)
     → is_overlay (only_used nat_eq world chosen x) ≡ is_overlay x
-cut_overlay world false x = refl
-cut_overlay world true x = by (list_all (λ n. is_among nat_eq n (used_in nat_eq world x)) x.files.numbers)
-  where
-    of : (o : Option (Overlay ℕ)) → is_some (option_map (real_among nat_eq (used_in nat_eq world x)) o) ≡ is_some o
-    of None = refl
-    of (Some overlay) = refl
-
-    by : (b : Bool) → is_overlay (only_used_by nat_eq b (used_in nat_eq world x) x) ≡ is_overlay x
-    by true = refl
-    by false = of x.overlay
+cut_overlay world chosen x = grind (arith, common_steps)
 
 pub cut_layers : (number : ℕ) (world : World ℕ) (chosen : Bool) (x : Filesystem ℕ)
     → has_layer_on nat_eq number (only_used nat_eq world chosen x) ≡ has_layer_on nat_eq number x
 cut_layers number world false x = refl
-cut_layers number world true x = by (list_all (λ n. is_among nat_eq n (used_in nat_eq world x)) x.files.numbers)
-  where
-    of : (o : Option (Overlay ℕ))
-        → overlay_or false (λ overlay. list_any (λ layer. nat_eq number layer.filesystem) (layers_of overlay))
-        (option_map (real_among nat_eq (used_in nat_eq world x)) o)
-        ≡ overlay_or false (λ overlay. list_any (λ layer. nat_eq number layer.filesystem) (layers_of overlay)) o
-    of None = refl
-    of (Some overlay) = refl
-
-    by : (b : Bool) → has_layer_on nat_eq number (only_used_by nat_eq b (used_in nat_eq world x) x)
-        ≡ has_layer_on nat_eq number x
-    by true = refl
-    by false = of x.overlay
+cut_layers number world true x = grind (arith, common_steps)
 
 -- a plain tree, in which the layers that are there are directories
 pub record IsLowerTree (lowers : List (Layer ℕ)) (x : Filesystem ℕ) : Type 0 where
@@ -85,11 +65,7 @@ module _ (world before : World ℕ) (names : List TaskName) (apart : IsApart wor
 
   -- what they use stays whole
   used_is : (x : Filesystem ℕ) → Among x before.filesystems → is_among nat_eq x.number used ≡ true → sweep x ≡ x
-  used_is x m is = used_whole world before names apart sealed_off sees one x (used_before x m is) is (chosen x)
-    where
-      used_before : (x : Filesystem ℕ) → Among x before.filesystems → is_among nat_eq x.number used ≡ true
-          → Among x world.filesystems
-      used_before = used_was world before names sees
+  used_is x m is = search (arith, common_steps, used_whole, used_was)
 
   -- what the part has of a lower tree stays
   top_used : (x : Filesystem ℕ) (layer : Layer ℕ) → Among layer lowers → nat_eq x.number layer.filesystem ≡ true

@@ -1,6 +1,6 @@
 -- The inodes of a filesystem that a sealed set uses are in use, where the set sees the same.
-use Rattle.std.proofs.Common.{◌≡◌, refl, sym, ap, subst, ◌∙◌, inl, inr, ⊎_elim, ℕ, nat_eq, Bool, true, false, cond, true≢false, List, [], ◌++◌, Option, Some, None, filter, flat_map, is_some, map, not, ◌&&◌, ◌||◌, eq-eqb, eqb-true}
-use Rattle.std.specs.Prelude.{option_to_list}
+use Rattle.std.proofs.Common.{arith, ◌≡◌, refl, sym, ap, subst, ◌∙◌, inl, inr, ⊎_elim, ℕ, nat_eq, Bool, true, false, cond, true≢false, List, [], ◌++◌, Option, Some, None, filter, flat_map, is_some, map, not, ◌&&◌, ◌||◌, eq-eqb, eqb-true}
+use Rattle.std.proofs.lemmas.Grind.{common_steps}
 use Rattle.std.specs.List.{filter_map, list_all, list_any}
 use Rattle.std.proofs.lemmas.Bool.{and_parts, not-true, or_cases, or_left}
 use Rattle.vt_spec.specs.Language.Calls.{TaskName}
@@ -10,7 +10,7 @@ use Rattle.vt_spec.specs.Machine.Locked.{of_overlay, overlay_or, overlays}
 use Rattle.vt_spec.specs.Machine.Mounts.{Location, Mount, mount_in, root_of}
 use Rattle.vt_spec.specs.Machine.Sealed.{all_named, is_lower_root, is_member_task, is_own_mount, is_own_namespace, locations, members, no_outsider_on, other_mounts, outsiders, own_mounts, sealed, used_alone, used_filesystems, wholly_locked}
 use Rattle.vt_spec.specs.Machine.Settled.{has_layer_on, is_located, layers_in, located_in, mount_lives, named_in, objects_of_overlay, only_used, only_used_by, used_in}
-use Rattle.vt_spec.specs.Machine.World.{Filesystem, Layer, Overlay, Task, World, all_locations, filesystem_numbered, is_overlay, layers_of, locations_of, mount_at, mount_numbered, upper_object}
+use Rattle.vt_spec.specs.Machine.World.{Filesystem, Layer, Overlay, Task, World, all_locations, filesystem_numbered, is_overlay, layers_of, locations_of, mount_at, mount_numbered}
 use Rattle.vt_spec.proofs.Lists.{Among, among-append, among-append_left, among-append_right, among-filter, among-filter_map, among-flat_map, among-from_filter, among-from_filter_map, among-from_flat_map, among-from_map, among-map, among_from_all, among_from_list_all, among_numbers, any_among, any_from_among, is_among_numbers, list_all_from_among}
 use Rattle.vt_spec.proofs.Options.{none_is_some}
 use Rattle.vt_spec.proofs.Worlds.{found_or_none, number-mount_in}
@@ -46,22 +46,13 @@ module _ (world later : World ℕ) (names : List TaskName) (apart : IsApart worl
   of_overlays = flat_map (objects_of_overlay nat_eq x.number) later.filesystems
 
   name_is_used : (object : ℕ) → Among object (named_in x.files) → IsUsed object
-  name_is_used object m =
-      inr (among-append_left (named_in x.files ++ located_in nat_eq later x.number ++ layers_in nat_eq later x.number)
-      of_overlays object
-      (in_first (named_in x.files) (located_in nat_eq later x.number) (layers_in nat_eq later x.number) object m))
+  name_is_used object m = grind (arith, common_steps, among-append_left, in_first)
 
   located_is_used : (object : ℕ) → Among object (located_in nat_eq later x.number) → IsUsed object
-  located_is_used object m =
-      inr (among-append_left (named_in x.files ++ located_in nat_eq later x.number ++ layers_in nat_eq later x.number)
-      of_overlays object
-      (in_second (named_in x.files) (located_in nat_eq later x.number) (layers_in nat_eq later x.number) object m))
+  located_is_used object m = grind (arith, common_steps, among-append_left, in_second)
 
   layer_is_used : (object : ℕ) → Among object (layers_in nat_eq later x.number) → IsUsed object
-  layer_is_used object m =
-      inr (among-append_left (named_in x.files ++ located_in nat_eq later x.number ++ layers_in nat_eq later x.number)
-      of_overlays object
-      (in_third (named_in x.files) (located_in nat_eq later x.number) (layers_in nat_eq later x.number) object m))
+  layer_is_used object m = grind (arith, common_steps, among-append_left, in_third)
 
   object_is_used : (object : ℕ) → Among object of_overlays → IsUsed object
   object_is_used object m =
@@ -92,10 +83,7 @@ module _ (world later : World ℕ) (names : List TaskName) (apart : IsApart worl
 
     no_other_location : (location : Location ℕ) → Among location (locations (outsiders world names))
         → (mount_at nat_eq world location).filesystem ≡ x.number → ⊥
-    no_other_location location m e =
-        true≢false (sym (any_from_among (λ l. nat_eq x.number (mount_at nat_eq world l).filesystem)
-        (locations (outsiders world names)) location m
-        (eq-eqb x.number (mount_at nat_eq world location).filesystem (sym e))) ∙ nobody.1)
+    no_other_location location m e = grind (arith, common_steps, true≢false, any_from_among, eq-eqb)
 
     -- a location on it is of a member
     of_member : (location : Location ℕ) → Among location (all_locations world)
@@ -288,14 +276,7 @@ module _ (world later : World ℕ) (names : List TaskName) (apart : IsApart worl
       where
         has : (merged : Filesystem ℕ) (layer : Layer ℕ) → Among layer (of_overlay [] layers_of merged)
             → nat_eq x.number layer.filesystem ≡ true → has_layer_on nat_eq x.number merged ≡ true
-        has merged layer n e = by merged.overlay n
-          where
-            by : (o : Option (Overlay ℕ)) → Among layer (overlay_or [] layers_of o)
-                → overlay_or false (λ overlay. list_any (λ l. nat_eq x.number l.filesystem) (layers_of overlay)) o
-                ≡ true
-            by None k = absurd k
-            by (Some overlay) k =
-                any_from_among (λ (l : Layer ℕ). nat_eq x.number l.filesystem) (layers_of overlay) layer k e
+        has merged layer n e = grind (arith, common_steps, any_from_among)
 
     by_object : (object : ℕ) → Among object (flat_map (objects_of_overlay nat_eq x.number) world.filesystems)
         → IsUsed object
@@ -307,31 +288,7 @@ module _ (world later : World ℕ) (names : List TaskName) (apart : IsApart worl
       where
         has : (merged : Filesystem ℕ) → Among object (objects_of_overlay nat_eq x.number merged)
             → has_layer_on nat_eq x.number merged ≡ true
-        has merged n = by merged.overlay n
-          where
-            objects : Overlay ℕ → Bool → List ℕ
-            objects overlay b =
-                cond b (filter_map (λ number. upper_object (overlay.real number)) merged.files.numbers) []
-
-            upper : (overlay : Overlay ℕ) (o : Option (Layer ℕ)) → overlay.upper ≡ o
-                → Among object (objects overlay (holds_of (λ layer. nat_eq x.number layer.filesystem) o))
-                → list_any (λ (layer : Layer ℕ). nat_eq x.number layer.filesystem) (layers_of overlay) ≡ true
-            upper overlay None e k = absurd k
-            upper overlay (Some layer) e k = on (nat_eq x.number layer.filesystem) refl k
-              where
-                on : (b : Bool) → nat_eq x.number layer.filesystem ≡ b → Among object (objects overlay b)
-                    → list_any (λ (l : Layer ℕ). nat_eq x.number l.filesystem) (layers_of overlay) ≡ true
-                on true f h = any_from_among (λ (l : Layer ℕ). nat_eq x.number l.filesystem) (layers_of overlay) layer
-                    (in_first (option_to_list overlay.upper) (option_to_list overlay.work) overlay.lowers layer
-                    (subst (λ o. Among layer (option_to_list o)) (sym e) (inl refl))) f
-                on false f h = absurd h
-
-            by : (o : Option (Overlay ℕ)) → Among object (overlay_or [] (λ overlay. objects overlay
-                (holds_of (λ layer. nat_eq x.number layer.filesystem) overlay.upper)) o)
-                → overlay_or false (λ overlay. list_any (λ (l : Layer ℕ). nat_eq x.number l.filesystem)
-                (layers_of overlay)) o ≡ true
-            by None k = absurd k
-            by (Some overlay) k = upper overlay overlay.upper refl k
+        has merged n = grind (arith, common_steps, any_from_among, in_first)
 
     -- what is used in the world is used then
     pub alone_used : (object : ℕ) → Among object (used_in nat_eq world x) → IsUsed object

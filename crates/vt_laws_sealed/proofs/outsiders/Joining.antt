@@ -1,5 +1,6 @@
 -- Others that enter other namespaces: setns(2).
-use Rattle.std.proofs.Common.{◌≡◌, refl, sym, ap, subst, ◌∙◌, ◌⊎◌, inl, inr, ⊎_elim, ℕ, nat_eq, Bool, true, false, cond, true≢false, List, [], Option, Some, None, Ok, filter, is_some, map, not, eqb-true}
+use Rattle.std.proofs.Common.{arith, ◌≡◌, refl, sym, ap, subst, ◌∙◌, ◌⊎◌, inl, inr, ⊎_elim, ℕ, nat_eq, true, false, true≢false, List, [], Option, Some, None, Ok, filter, is_some, map, not, eqb-true}
+use Rattle.std.proofs.lemmas.Grind.{common_steps}
 use Rattle.std.specs.Prelude.{ok_or, option_map, unwrap_or}
 use Rattle.vt_spec.specs.declared.errors.Rule.TheVariants.{S2}
 use Rattle.vt_spec.specs.Errors.{denial}
@@ -94,20 +95,7 @@ module _ (world : World ℕ) (fresh : Fresh ℕ) (names : List TaskName) (name :
 
   joined_or_other : (t : Task ℕ) → Among t (filter (λ (x : Task ℕ). not (is_member_task names x)) tasks_left)
       → (t ≡ joined) ⊎ Among t (outsiders world names)
-  joined_or_other t m =
-      let out = among-from_filter (λ (x : Task ℕ). not (is_member_task names x)) tasks_left t m in
-      let at = among-from_map (replaced_if_called joined) world.tasks t out.0 in
-      by at.0 at.1 at.2 out.1 (same_name joined.name at.0.name) refl
-    where
-      by : (old : Task ℕ) → Among old world.tasks → t ≡ replaced_if_called joined old
-          → not (is_member_task names t) ≡ true → (b : Bool) → same_name joined.name old.name ≡ b
-          → (t ≡ joined) ⊎ Among t (outsiders world names)
-      by old there e out true f = inl (e ∙ ap (λ b. cond b joined old) f)
-      by old there e out false f =
-          let it : t ≡ old = e ∙ ap (λ b. cond b joined old) f in
-          inr (subst (λ x. Among x (outsiders world names)) (sym it)
-          (among-filter (λ (x : Task ℕ). not (is_member_task names x)) world.tasks old there
-          (ap (λ x. not (is_member_task names x)) (sym it) ∙ out)))
+  joined_or_other t m = grind (arith, common_steps, among-from_filter, among-from_map, among-filter)
 
   at_root : IsOutside world names joined.root
   at_root = root_outside (root_mount nat_eq world namespace) refl

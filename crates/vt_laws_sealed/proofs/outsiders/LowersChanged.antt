@@ -1,5 +1,6 @@
 -- What lies under directories of a tree that is changed elsewhere: a part of the tree has the same of it.
-use Rattle.std.proofs.Common.{◌≡◌, refl, sym, ap, ◌∙◌, inl, inr, ℕ, nat_eq, Bool, true, false, cond, true≢false, List, [], ◌∷◌, ◌++◌, Option, Some, None, filter, is_some, ◌&&◌}
+use Rattle.std.proofs.Common.{arith, ◌≡◌, refl, sym, ap, ◌∙◌, ℕ, nat_eq, Bool, true, false, cond, true≢false, List, [], ◌∷◌, ◌++◌, Option, Some, None, filter, is_some, ◌&&◌}
+use Rattle.std.proofs.lemmas.Grind.{common_steps}
 use Rattle.std.specs.List.{list_any}
 use Rattle.std.proofs.lemmas.Bool.{and_parts, false_from_ne_true}
 use Rattle.vt_spec.specs.FileTree.{FileTree, is_under}
@@ -21,9 +22,7 @@ use Rattle.vt_laws_sealed.proofs.outsiders.CutTrees.{any_alike, filter_same}
 filter_without : (p : ℕ → Bool) (more xs : List ℕ) → ((x : ℕ) → Among x more → p x ≡ false)
     → filter p (more ++ xs) ≡ filter p xs
 filter_without p [] xs none = refl
-filter_without p (x ∷ more) xs none =
-    ap (λ b. cond b (x ∷ filter p (more ++ xs)) (filter p (more ++ xs))) (none x (inl refl))
-    ∙ filter_without p more xs (λ y m. none y (inr m))
+filter_without p (x ∷ more) xs none = grind (arith, common_steps, filter_without p more xs)
 
 -- A tree that has its numbers behind new ones, and keeps what lies under the layers
 pub record KeepsBelow (old new : FileTree ℕ) (number : ℕ) (lowers : List (Layer ℕ)) : Type 0 where
@@ -84,24 +83,11 @@ module _ (old new : FileTree ℕ) (number : ℕ) (lowers : List (Layer ℕ)) (ke
       lowers
 
   lies_same : (object : ℕ) → lies_in new object ≡ lies_in old object
-  lies_same object = any_alike
-      (λ (layer : Layer ℕ). nat_eq number layer.filesystem && is_under nat_eq new layer.directory object)
-      (λ (layer : Layer ℕ). nat_eq number layer.filesystem && is_under nat_eq old layer.directory object) lowers
-      (λ layer m. by layer m (nat_eq number layer.filesystem) refl)
-    where
-      by : (layer : Layer ℕ) → Among layer lowers → (b : Bool) → nat_eq number layer.filesystem ≡ b
-          → (b && is_under nat_eq new layer.directory object) ≡ (b && is_under nat_eq old layer.directory object)
-      by layer m true e = under_same layer m e object
-      by layer m false e = refl
+  lies_same object = grind (arith, common_steps, any_alike, under_same)
 
   lying : (object : ℕ) → lies_in old object ≡ true
       → (is_some (old.tree.node object) ≡ true) × (new.tree.node object ≡ old.tree.node object)
-  lying object h =
-      let at = any_among (λ (layer : Layer ℕ). nat_eq number layer.filesystem
-      && is_under nat_eq old layer.directory object) lowers h in
-      let both = and_parts (nat_eq number at.0.filesystem) (is_under nat_eq old at.0.directory object) at.2 in
-      let there = under_there at.0 at.1 both.0 object both.1 in
-      (there, keeps.stays at.0 at.1 both.0 object both.1 there)
+  lying object h = search (arith, common_steps, any_among, and_parts, under_there)
 
   new_lies_nowhere : (object : ℕ) → Among object keeps.more → lies_in old object ≡ false
   new_lies_nowhere object m = false_from_ne_true (lies_in old object) (λ h.
@@ -120,12 +106,7 @@ module _ (old new : FileTree ℕ) (number : ℕ) (lowers : List (Layer ℕ)) (ke
 
   node_same : (object : ℕ) → cond (is_among nat_eq object chosen) (new.tree.node object) None
       ≡ cond (is_among nat_eq object chosen) (old.tree.node object) None
-  node_same object = by (is_among nat_eq object chosen) refl
-    where
-      by : (b : Bool) → is_among nat_eq object chosen ≡ b
-          → cond b (new.tree.node object) None ≡ cond b (old.tree.node object) None
-      by true e = (lying object (chosen_lies object e)).1
-      by false e = refl
+  node_same object = search (arith, common_steps, lying, chosen_lies)
 
   pub lower_part_stays : only_among nat_eq (filter (lies_in new) new.numbers) new ≡ only_among nat_eq chosen old
   lower_part_stays = ap (λ list. only_among nat_eq list new) numbers_same ∙ (λ i. record {
@@ -135,7 +116,5 @@ module _ (old new : FileTree ℕ) (number : ℕ) (lowers : List (Layer ℕ)) (ke
     where
       chosen_same : filter (λ object. is_among nat_eq object chosen) new.numbers
           ≡ filter (λ object. is_among nat_eq object chosen) old.numbers
-      chosen_same = ap (filter (λ object. is_among nat_eq object chosen)) keeps.numbers
-          ∙ filter_without (λ object. is_among nat_eq object chosen) keeps.more old.numbers (λ object m.
-          false_from_ne_true (is_among nat_eq object chosen) (λ h.
-          true≢false (sym (chosen_lies object h) ∙ new_lies_nowhere object m)))
+      chosen_same =
+          search (arith, common_steps, filter_without, false_from_ne_true, true≢false, chosen_lies, new_lies_nowhere)

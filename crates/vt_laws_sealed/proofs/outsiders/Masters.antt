@@ -1,14 +1,14 @@
 -- Where a set of tasks sees the same, its namespaces have the mounts that they had.
-use Rattle.std.proofs.Common.{◌≡◌, refl, sym, ap, subst, ◌∙◌, inl, inr, ℕ, nat_eq, Bool, true, false, true≢false, List, [], ◌∷◌, Option, Some, None, filter, ◌&&◌, eq-eqb, eqb-true}
+use Rattle.std.proofs.Common.{arith, ◌≡◌, refl, sym, ap, subst, ◌∙◌, inl, inr, ℕ, nat_eq, Bool, true, false, true≢false, List, [], ◌∷◌, Option, Some, None, filter, ◌&&◌, eq-eqb, eqb-true}
+use Rattle.std.proofs.lemmas.Grind.{common_steps}
 use Rattle.std.specs.List.{list_any}
 use Rattle.std.proofs.lemmas.Bool.{and_from, false_from_ne_true}
 use Rattle.vt_spec.specs.Language.Calls.{MountFlags, TaskName}
-use Rattle.vt_spec.specs.Lists.{holds_of, same_list, same_option, then_some}
+use Rattle.vt_spec.specs.Lists.{holds_of, same_list, same_option}
 use Rattle.vt_spec.specs.Machine.Invariants.{HasLivingGroups, Lives, MountInvariants}
 use Rattle.vt_spec.specs.Machine.Mounts.{Location, Mount, Propagation, same_location, source_of}
-use Rattle.vt_spec.specs.Machine.Mounts.Propagation.{Private, Shared, Slave, Unbindable}
 use Rattle.vt_spec.specs.Machine.Policy.{master_above, same_bool, same_flags, same_mount, same_mounts_in, same_propagation}
-use Rattle.vt_spec.specs.Machine.Receives.{has_members, is_member_of}
+use Rattle.vt_spec.specs.Machine.Receives.{has_members}
 use Rattle.vt_spec.specs.Machine.Sealed.{is_own_mount, is_own_namespace, own_mounts, shares_no_events}
 use Rattle.vt_spec.specs.Machine.World.{Task, World, mounts_of}
 use Rattle.vt_spec.proofs.Lists.{Among, among-from_filter, among_from_all, any_from_among}
@@ -24,10 +24,7 @@ same_bool_itself true = refl
 same_bool_itself false = refl
 
 same_flags_itself : (flags : MountFlags) → same_flags flags flags ≡ true
-same_flags_itself flags = and_from (same_bool flags.read_only flags.read_only && same_bool flags.noexec flags.noexec)
-    (same_bool flags.nosymfollow flags.nosymfollow)
-    (and_from (same_bool flags.read_only flags.read_only) (same_bool flags.noexec flags.noexec)
-    (same_bool_itself flags.read_only) (same_bool_itself flags.noexec)) (same_bool_itself flags.nosymfollow)
+same_flags_itself flags = grind (arith, common_steps, and_from, same_bool_itself)
 
 same_point_itself : (point : Option (Location ℕ)) → same_option (same_location nat_eq) point point ≡ true
 same_point_itself None = refl
@@ -38,26 +35,20 @@ same_group_itself None = refl
 same_group_itself (Some group) = eq-eqb group group refl
 
 same_propagation_itself : (kind : Propagation ℕ) → same_propagation nat_eq kind kind ≡ true
-same_propagation_itself (Shared group) = eq-eqb group group refl
-same_propagation_itself (Slave master) = eq-eqb master master refl
-same_propagation_itself Private = refl
-same_propagation_itself Unbindable = refl
+same_propagation_itself kind = grind (arith, common_steps, eq-eqb)
 
 same_mount_itself : (before later : World ℕ) (mount : Mount ℕ) → master_above later mount ≡ master_above before mount
     → same_mount nat_eq before later mount mount ≡ true
-same_mount_itself before later mount same =
-    and_from (nat_eq mount.number mount.number && same_option (same_location nat_eq) mount.mount_point mount.mount_point
-    && same_flags mount.flags mount.flags && same_propagation nat_eq mount.propagation mount.propagation)
-    (same_option nat_eq (master_above before mount) (master_above later mount))
-    (and_from (nat_eq mount.number mount.number
-    && same_option (same_location nat_eq) mount.mount_point mount.mount_point && same_flags mount.flags mount.flags)
-    (same_propagation nat_eq mount.propagation mount.propagation) (and_from (nat_eq mount.number mount.number
-    && same_option (same_location nat_eq) mount.mount_point mount.mount_point) (same_flags mount.flags mount.flags)
-    (and_from (nat_eq mount.number mount.number)
-    (same_option (same_location nat_eq) mount.mount_point mount.mount_point)
-    (eq-eqb mount.number mount.number refl) (same_point_itself mount.mount_point))
-    (same_flags_itself mount.flags)) (same_propagation_itself mount.propagation))
-    (ap (same_option nat_eq (master_above before mount)) same ∙ same_group_itself (master_above before mount))
+same_mount_itself before later mount same = grind (
+  arith,
+  common_steps,
+  and_from,
+  eq-eqb,
+  same_point_itself,
+  same_flags_itself,
+  same_propagation_itself,
+  same_group_itself,
+)
 
 same_list_itself : {A : Type 0} (same : A → A → Bool) (list : List A) → ((a : A) → Among a list → same a a ≡ true)
     → same_list same list list ≡ true
@@ -76,30 +67,17 @@ module _ (before later : World ℕ) (names : List TaskName) (sees : SeesTheSame 
       (among-from_filter (is_own_mount nat_eq before names) before.mounts own m).0 source e in
       let member = own_member before names is apart source
       (own, m, start_hears before source own.propagation e) lives in
-      sees.masters source
-      (any_from_among (is_member_of nat_eq source) (own_mounts nat_eq before names) member.0 member.1 member.2)
+      grind (arith, common_steps, any_from_among)
 
   above_same : (own : Mount ℕ) → Among own (own_mounts nat_eq before names)
       → master_above later own ≡ master_above before own
-  above_same own m = by (source_of own.propagation) refl
-    where
-      by : (o : Option ℕ) → source_of own.propagation ≡ o → then_some o later.master ≡ then_some o before.master
-      by None e = refl
-      by (Some source) e = source_master own source m e
+  above_same own m = grind (arith, common_steps, source_master)
 
   -- mounts of a namespace of theirs are among theirs
   of_own : (world : World ℕ) (namespace : ℕ) → is_own_namespace nat_eq world names namespace ≡ true
       → filter (λ (mount : Mount ℕ). holds_of (nat_eq namespace) mount.namespace) (own_mounts nat_eq world names)
       ≡ mounts_of nat_eq world namespace
-  of_own world namespace own =
-      filter_less (λ (mount : Mount ℕ). holds_of (nat_eq namespace) mount.namespace) (is_own_mount nat_eq world names)
-      world.mounts (λ mount m none. by mount.namespace none)
-    where
-      by : (o : Option ℕ) → holds_of (is_own_namespace nat_eq world names) o ≡ false
-          → holds_of (nat_eq namespace) o ≡ false
-      by None none = refl
-      by (Some other) none = false_from_ne_true (nat_eq namespace other) (λ h.
-          true≢false (sym own ∙ ap (is_own_namespace nat_eq world names) (eqb-true namespace other h) ∙ none))
+  of_own world namespace own = grind (arith, common_steps, filter_less, false_from_ne_true, true≢false, eqb-true)
 
   -- so a namespace of theirs has the mounts that it had
   pub same_mounts : (namespace : ℕ) → is_own_namespace nat_eq before names namespace ≡ true

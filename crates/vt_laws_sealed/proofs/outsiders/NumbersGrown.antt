@@ -1,10 +1,11 @@
 -- A change of a tree, or of an upper layer, leaves its root, and puts new numbers before those that it had.
-use Rattle.std.proofs.Common.{◌≡◌, refl, sym, ap, ◌∙◌, ⊎_elim, ℕ, nat_eq, Bool, true, false, List, [], ◌∷◌, ◌++◌, ◌*◌, ◌+◌, append_assoc, Option, Some, None, is_some}
-use Rattle.vt_spec.specs.FileTree.{FileTree, a_name}
+use Rattle.std.proofs.Common.{arith, ◌≡◌, refl, sym, ap, ◌∙◌, ⊎_elim, ℕ, nat_eq, Bool, true, false, List, [], ◌∷◌, ◌++◌, ◌*◌, ◌+◌, append_assoc, Option, Some, None, is_some}
+use Rattle.std.proofs.lemmas.Grind.{common_steps}
+use Rattle.vt_spec.specs.FileTree.{FileTree}
 use Rattle.vt_spec.specs.Language.Changes.{Change, changed, changed_node, node_with_attr, node_with_mark, with_inode, with_moved, with_name}
 use Rattle.vt_spec.specs.Language.Changes.Change.{AddName, CopyUp, Make, Move, Remove, SetAttr, SetBytes, SetMark}
 use Rattle.vt_spec.specs.Lists.{Fresh, evens, odds}
-use Rattle.vt_spec.specs.Machine.CopyUp.{Merge, Stack, copied_content, copied_each, copied_up, copy_named, copy_of, copy_parent, hides_directory, is_in_upper, line_to, merge_changed, name_left_by, shown_in_lowers_at, upper_directory_named, upper_of, with_mark, without_contents}
+use Rattle.vt_spec.specs.Machine.CopyUp.{Merge, Stack, copied_each, copied_up, copy_of, hides_directory, is_in_upper, line_to, merge_changed, name_left_by, shown_in_lowers_at, upper_directory_named, upper_of, with_mark, without_contents}
 use Rattle.vt_spec.specs.Tree.{Node, node_with_bytes}
 use Rattle.vt_spec.proofs.Lists.{Among, among-append}
 use Rattle.vt_laws_trees.specs.Layers.Layers.ChangesUpper.{IsNewBy}
@@ -64,40 +65,15 @@ numbers_made (CopyUp object) = []
 
 pub numbers-changed : (files : FileTree ℕ) (change : Change ℕ)
     → (changed nat_eq files change).numbers ≡ numbers_made change ++ files.numbers
-numbers-changed files (Make directory name number node) = refl
-numbers-changed files (AddName directory name object) = refl
-numbers-changed files (Remove directory name object) = refl
-numbers-changed files (Move from old to new object) = numbers_moved files from old to new object
-numbers-changed files (SetBytes file bytes) = refl
-numbers-changed files (SetAttr object attr) = refl
-numbers-changed files (SetMark directory opaque) = refl
-numbers-changed files (CopyUp object) = refl
+numbers-changed files change = grind (arith, common_steps, numbers_moved)
 
 pub root-changed : (files : FileTree ℕ) (change : Change ℕ) → (changed nat_eq files change).tree.root ≡ files.tree.root
-root-changed files (Make directory name number node) = refl
-root-changed files (AddName directory name object) = refl
-root-changed files (Remove directory name object) = refl
-root-changed files (Move from old to new object) = root_moved files from old to new object
-root-changed files (SetBytes file bytes) = refl
-root-changed files (SetAttr object attr) = refl
-root-changed files (SetMark directory opaque) = refl
-root-changed files (CopyUp object) = refl
+root-changed files change = grind (arith, common_steps, root_moved)
 
 -- Copies
 copy_grows : (fresh : Fresh ℕ) (k : ℕ) (merge : Merge ℕ) (object : ℕ) (node : Option (Node ℕ)) (in_upper : Bool)
     → Grows fresh merge.upper (copy_of nat_eq merge object (fresh k) node in_upper).upper
-copy_grows fresh k merge object None in_upper = grows_by_none fresh merge.upper merge.upper refl refl
-copy_grows fresh k merge object (Some node) true = grows_by_none fresh merge.upper merge.upper refl refl
-copy_grows fresh k merge object (Some node) false = by (a_name nat_eq merge.files object)
-  where
-    by : (name : Option (ℕ × List ℕ))
-        → Grows fresh merge.upper (copy_named nat_eq merge (fresh k) name (with_inode nat_eq merge.upper (fresh k)
-        (record {
-          attr = node.attr;
-          content = copied_content (copy_parent merge (fresh k) (a_name nat_eq merge.files object)) node.content;
-        })))
-    by None = grows_by_one fresh merge.upper _ (fresh k) refl refl (k, refl)
-    by (Some name) = grows_by_one fresh merge.upper _ (fresh k) refl refl (k, refl)
+copy_grows fresh k merge object node in_upper = grind (arith, common_steps, grows_by_none, grows_by_one)
 
 copies_grow : (fresh : Fresh ℕ) (k : ℕ) (merge : Merge ℕ) (list : List ℕ)
     → Grows fresh merge.upper (copied_each nat_eq fresh k merge list).upper

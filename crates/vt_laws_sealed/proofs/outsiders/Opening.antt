@@ -1,5 +1,6 @@
 -- Files that others open to read: open(2) with O_RDONLY.
-use Rattle.std.proofs.Common.{◌≡◌, refl, sym, subst, ◌∙◌, ◌⊎◌, inl, inr, ⊎_elim, ℕ, zero, suc, ◌+◌, nat_eq, nat_lt, Bool, true, false, cond, ◌||◌, List, [], ◌∷◌, map, Option, Some, None, Ok, Err, Result, reverse}
+use Rattle.std.proofs.Common.{arith, ◌≡◌, refl, sym, subst, ◌∙◌, ◌⊎◌, inl, inr, ⊎_elim, ℕ, zero, suc, ◌+◌, nat_eq, Bool, false, ◌||◌, List, [], ◌∷◌, map, Option, Some, None, Ok, Err, Result, reverse}
+use Rattle.std.proofs.lemmas.Grind.{common_steps}
 use Rattle.std.specs.Prelude.{option_map}
 use Rattle.std.proofs.lemmas.Option.{same_Some}
 use Rattle.vt_spec.specs.declared.errors.Deny.{Deny}
@@ -41,17 +42,7 @@ inserted_at : (new : Descriptor ℕ) (descriptors : List (Descriptor ℕ)) (loca
     → Among location (map (λ (d : Descriptor ℕ). d.location) (inserted new descriptors))
     → (location ≡ new.location) ⊎ Among location (map (λ (d : Descriptor ℕ). d.location) descriptors)
 inserted_at new [] location m = m
-inserted_at new (first ∷ rest) location m = by (nat_lt new.number first.number) m (inserted_at new rest location)
-  where
-    by : (b : Bool) → Among location (map (λ (d : Descriptor ℕ). d.location)
-        (cond b (new ∷ first ∷ rest) (first ∷ inserted new rest)))
-        → (Among location (map (λ (d : Descriptor ℕ). d.location) (inserted new rest))
-        → (location ≡ new.location) ⊎ Among location (map (λ (d : Descriptor ℕ). d.location) rest))
-        → (location ≡ new.location) ⊎ Among location (map (λ (d : Descriptor ℕ). d.location) (first ∷ rest))
-    by true (inl e) below = inl e
-    by true (inr old) below = inr old
-    by false (inl e) below = inr (inl e)
-    by false (inr old) below = ⊎_elim inl (λ there. inr (inr there)) (below old)
+inserted_at new (first ∷ rest) location m = grind (arith, common_steps, inserted_at new rest location)
 
 -- Where the file of a path is
 module _ (world : World ℕ) (is : IsWorld nat_eq world) (task : Task ℕ) (there : Among task world.tasks) where

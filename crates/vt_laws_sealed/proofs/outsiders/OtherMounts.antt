@@ -1,17 +1,17 @@
 -- Mounts of others, and the groups that they hear.
-use Rattle.std.proofs.Common.{◌≡◌, refl, sym, ap, subst, ◌∙◌, ◌⊎◌, inl, inr, ⊎_elim, ℕ, zero, suc, nat_eq, true, false, true≢false, List, [], ◌∷◌, ◌++◌, Option, Some, None, flat_map, is_some, map, not, ◌&&◌, ◌||◌, eq-eqb, eqb-true}
+use Rattle.std.proofs.Common.{arith, ◌≡◌, refl, sym, ap, subst, ◌∙◌, ◌⊎◌, inl, inr, ⊎_elim, ℕ, zero, suc, nat_eq, true, false, true≢false, List, [], ◌∷◌, ◌++◌, Option, Some, None, flat_map, is_some, map, not, ◌&&◌, ◌||◌, eq-eqb, eqb-true}
+use Rattle.std.proofs.lemmas.Grind.{common_steps}
 use Rattle.std.specs.Prelude.{option_to_list}
 use Rattle.std.specs.List.{list_all}
 use Rattle.std.proofs.lemmas.Bool.{and_parts, false_from_ne_true, not-true, or_cases}
 use Rattle.vt_spec.specs.Language.Calls.{TaskName}
 use Rattle.vt_spec.specs.Lists.{Fresh, holds_of, is_among}
-use Rattle.vt_spec.specs.Machine.Invariants.{MountInvariants, is_listed, is_nowhere_or_attached, is_private, HasLivingGroups, Stands, is_directory_seen_in, is_located_well, is_there, stands_on_directories}
+use Rattle.vt_spec.specs.Machine.Invariants.{MountInvariants, HasLivingGroups, Stands, is_directory_seen_in, is_located_well, is_there, stands_on_directories}
 use Rattle.vt_spec.specs.Machine.Mounts.{Location, Mount, Propagation, children, group_of, source_of, stands_on, tree_from}
-use Rattle.vt_spec.specs.Machine.Mounts.Propagation.{Private, Shared, Slave, Unbindable}
-use Rattle.vt_spec.specs.Machine.Receives.{has_members, is_member_of}
-use Rattle.vt_spec.specs.Machine.Run.{Serves, numbers_in_use, used_by_filesystem, used_by_mount}
+use Rattle.vt_spec.specs.Machine.Receives.{is_member_of}
+use Rattle.vt_spec.specs.Machine.Run.{Serves, numbers_in_use, used_by_mount}
 use Rattle.vt_spec.specs.Machine.Sealed.{is_at, is_member_task, is_own_mount, is_own_namespace, master_of, members, other_mounts, outsiders, own_mounts, receives_events_of, roots_and_directories, share_events, shares_no_events}
-use Rattle.vt_spec.specs.Machine.World.{Namespace, Task, World, all_locations, is_directory_at, mount_at, mount_numbered}
+use Rattle.vt_spec.specs.Machine.World.{Task, World, all_locations, mount_at, mount_numbered}
 use Rattle.vt_spec.proofs.Found.{is_among_left}
 use Rattle.vt_spec.proofs.Lists.{Among, among-filter, among-flat_map, among-from_filter, among-from_flat_map, among-from_map, among_from_all, among_from_list_all, any_among, any_from_among, is_among_numbers, list_all_from_among}
 use Rattle.vt_spec.proofs.Options.{none_is_some}
@@ -62,16 +62,7 @@ module _ (world : World ℕ) (names : List TaskName) (apart : IsApart world name
           let it : mount_at nat_eq world location ≡ mount =
           ap (mount_numbered nat_eq world) (eqb-true location.mount mount.number e)
           ∙ found_itself world.mounts apart.is.mounts.one_number mount there in
-          let same : (nat_eq member.namespace namespace && true) ≡ true =
-          sym (ap (λ (m : Mount ℕ). list_all (nat_eq member.namespace) (option_to_list m.namespace)) it
-          ∙ ap (λ o. list_all (nat_eq member.namespace) (option_to_list o)) placed)
-          ∙ (and_parts (is_directory_at nat_eq world location)
-          (list_all (nat_eq member.namespace) (option_to_list (mount_at nat_eq world location).namespace)) directory).1
-          in true≢false
-          (sym (any_from_among (λ (t : Task ℕ). nat_eq namespace t.namespace) (members world names) member m
-          (eq-eqb namespace member.namespace
-          (sym (eqb-true member.namespace namespace (and_parts (nat_eq member.namespace namespace) true same).0))))
-          ∙ outside)
+          grind (arith, common_steps, and_parts, true≢false, any_from_among, eq-eqb, eqb-true)
 
 -- a mount of a namespace
 abbrev pub IsIn : World ℕ → ℕ → Mount ℕ → Type 0
@@ -136,12 +127,7 @@ namespace_outside world names apart task outside = not-true (is_own_namespace na
 module _ (world : World ℕ) (fresh : Fresh ℕ) (serves : Serves nat_eq world fresh) where
   pub mount_in_use : (mount : Mount ℕ) (number : ℕ) → Among mount world.mounts → Among number (used_by_mount mount)
       → is_among nat_eq number (numbers_in_use world) ≡ true
-  mount_in_use mount number there uses =
-      is_among_left number (flat_map used_by_mount world.mounts ++ flat_map used_by_filesystem world.filesystems)
-      (map (λ (namespace : Namespace ℕ). namespace.number) world.namespaces)
-      (is_among_left number (flat_map used_by_mount world.mounts) (flat_map used_by_filesystem world.filesystems)
-      (is_among_numbers (flat_map used_by_mount world.mounts) number
-      (among-flat_map used_by_mount world.mounts mount number there uses)))
+  mount_in_use mount number there uses = search (arith, common_steps, is_among_left, is_among_numbers, among-flat_map)
 
   pub number_not_new : (mount : Mount ℕ) (k : ℕ) → Among mount world.mounts → mount.number ≡ fresh k → ⊥
   number_not_new mount k there e = true≢false (sym (mount_in_use mount mount.number there (inl refl))
@@ -154,42 +140,29 @@ module _ (world : World ℕ) (fresh : Fresh ℕ) (serves : Serves nat_eq world f
       ∙ ap (λ n. is_among nat_eq n (numbers_in_use world)) f ∙ serves.unused k)
     where
       source : (kind : Propagation ℕ) → group_of kind ≡ Some group → source_of kind ≡ Some group
-      source (Shared g) h = h
-      source (Slave g) h = none_is_some group h
-      source Private h = none_is_some group h
-      source Unbindable h = none_is_some group h
+      source kind h = grind (arith, common_steps, none_is_some)
 
 -- what is in no namespace has no mount point
 pub nowhere_unplaced : (world : World ℕ) → MountInvariants nat_eq world → (mount : Mount ℕ)
     → Among mount world.mounts → mount.namespace ≡ None → (point : Location ℕ) → mount.mount_point ≡ Some point → ⊥
-nowhere_unplaced world is mount m none point e = true≢false
-    (sym (and_parts (not (is_some mount.mount_point)) (is_private mount.propagation)
-    (sym (ap (λ o. is_some o || (not (is_some mount.mount_point) && is_private mount.propagation)) none)
-    ∙ among_from_list_all is_nowhere_or_attached world.mounts is.nowhere mount m)).0 ∙ ap (λ o. not (is_some o)) e)
+nowhere_unplaced world is mount m none point e = grind (arith, common_steps, true≢false, and_parts, among_from_list_all)
 
 -- So it is in a world before a call of others.
 pub standing_apart_of : (world : World ℕ) (names : List TaskName) → IsApart world names → (New : ℕ → Type 0)
     → ((mount : Mount ℕ) (group : ℕ) → Among mount world.mounts
     → group_of mount.propagation ≡ Some group → New group → ⊥) → StandsApart world names New
-standing_apart_of world names apart New no_group = record {
-  mounts = apart.is.mounts;
-  tasks = apart.tasks;
-  events = apart.events;
-  locations = apart.locations;
-  not_stood = λ namespace outside mount there placed.
-      not_stood_on world names apart namespace outside mount there placed;
-  own_listed = λ number own.
-      let member = any_among (λ (t : Task ℕ). nat_eq number t.namespace) (members world names) own in
-      ap (is_listed nat_eq world) (eqb-true number member.0.namespace member.2)
-      ∙ among_from_list_all (λ (t : Task ℕ). is_listed nat_eq world t.namespace) world.tasks
-      apart.is.namespaces.tasks_listed member.0
-      (among-from_filter (is_member_task names) world.tasks member.0 member.1).0;
-  new_group = no_group;
-  new_master = λ group new. (all_in_use world apart.is).groups group
-      (false_from_ne_true (has_members nat_eq world.mounts group) (λ h.
-      let member = any_among (is_member_of nat_eq group) world.mounts h in
-      no_group member.0 group member.1 (member_group group member.0 member.2) new));
-}
+standing_apart_of world names apart New no_group = search (
+  arith,
+  common_steps,
+  not_stood_on,
+  any_among,
+  eqb-true,
+  among_from_list_all,
+  among-from_filter,
+  all_in_use,
+  false_from_ne_true,
+  member_group,
+)
 
 pub standing_apart : (world : World ℕ) (names : List TaskName) → IsApart world names
     → StandsApart world names NothingNew
@@ -221,19 +194,11 @@ module _ (world : World ℕ) (names : List TaskName) {New : ℕ → Type 0} (apa
 
       by : (kind : Propagation ℕ) → mount.propagation ≡ kind → HearsGroup world kind group
           → Living world names apart.mounts apart.events group
-      by (Shared g) k h = ⊎_elim (λ e. of_source group (ap source_of k ∙ e))
-          (λ e. above_lives world names apart.mounts apart.events group g e (of_source g (ap source_of k))) h
-      by (Slave g) k h = ⊎_elim (λ e. none_is_some group e) (λ e. of_source group (ap source_of k ∙ e)) h
-      by Private k h = ⊎_elim (λ e. none_is_some group e) (λ e. none_is_some group e) h
-      by Unbindable k h = ⊎_elim (λ e. none_is_some group e) (λ e. none_is_some group e) h
+      by kind k h = grind (arith, common_steps, of_source, above_lives, none_is_some)
 
   pub other_hears_foreign : (other : Mount ℕ) → Among other (other_mounts nat_eq world names) → (group : ℕ)
       → HearsGroup world other.propagation group → Foreign group
-  other_hears_foreign other m group how = inl (
-    (other, m, how),
-    hears_living other (among-from_filter (λ (mount : Mount ℕ). holds_of
-        (λ n. not (is_own_namespace nat_eq world names n)) mount.namespace) world.mounts other m).0 group how,
-  )
+  other_hears_foreign other m group how = grind (arith, common_steps, hears_living, among-from_filter)
 
   -- the master of a group of others is one
   pub foreign_above : (group above : ℕ) → Foreign group → world.master group ≡ Some above → Foreign above

@@ -1,16 +1,14 @@
 -- After the sweep others are where they were, and have no more footholds.
-use Rattle.std.proofs.Common.{◌≡◌, refl, sym, ap, ◌∙◌, inl, inr, ⊎_elim, ℕ, nat_eq, Bool, true, false, cond, true≢false, List, [], ◌∷◌, Option, Some, None, filter, find, is_some, not, ◌&&◌, ◌||◌, eq-eqb, eqb-true}
+use Rattle.std.proofs.Common.{arith, ◌≡◌, refl, sym, ap, ◌∙◌, inl, inr, ℕ, nat_eq, Bool, true, false, cond, true≢false, List, [], ◌∷◌, filter, find, is_some, not, ◌&&◌, ◌||◌, eq-eqb, eqb-true}
+use Rattle.std.proofs.lemmas.Grind.{common_steps}
 use Rattle.std.specs.Prelude.{unwrap_or}
 use Rattle.std.specs.List.{list_all, list_any}
 use Rattle.std.proofs.lemmas.Bool.{and_from, and_parts, false_from_ne_true, not-true, or_cases, or_left, or_right}
 use Rattle.vt_spec.specs.Language.Calls.{TaskName}
-use Rattle.vt_spec.specs.Lists.{holds_of}
 use Rattle.vt_spec.specs.Machine.Locked.{overlays}
-use Rattle.vt_spec.specs.Machine.Mounts.{Location, Mount, Propagation, group_of, no_mount}
-use Rattle.vt_spec.specs.Machine.Mounts.Propagation.{Private, Shared, Slave, Unbindable}
-use Rattle.vt_spec.specs.Machine.Receives.{has_members, is_member_of}
-use Rattle.vt_spec.specs.Machine.Sealed.{is_member_task, is_own_mount, is_own_namespace, locations, master_of, no_outsider_on, other_mounts, outsiders, own_mounts, receives_events_of, share_events, shares_no_events, used_alone}
-use Rattle.vt_spec.specs.Machine.Settled.{filesystem_lives, has_layer_on, is_located, mount_lives, only_used, settled, without_dead_filesystems, without_dead_in, without_dead_mounts}
+use Rattle.vt_spec.specs.Machine.Mounts.{Location, Mount, no_mount}
+use Rattle.vt_spec.specs.Machine.Sealed.{is_member_task, is_own_mount, is_own_namespace, locations, no_outsider_on, other_mounts, outsiders, own_mounts, receives_events_of, shares_no_events, used_alone}
+use Rattle.vt_spec.specs.Machine.Settled.{filesystem_lives, has_layer_on, mount_lives, only_used, settled, without_dead_filesystems, without_dead_in, without_dead_mounts}
 use Rattle.vt_spec.specs.Machine.World.{Filesystem, Task, World, all_locations, is_overlay, locations_of, mount_at}
 use Rattle.vt_spec.proofs.Lists.{Among, among-filter, among-flat_map, among-from_filter, among-from_flat_map, among-from_map, among_from_list_all, any_from_among, list_all_from_among}
 use Rattle.vt_laws_mounts.proofs.letting_go.Lists.{filter_less}
@@ -28,21 +26,10 @@ module _ (world before : World ℕ) (names : List TaskName) (others : OthersStay
   own_by namespace = is_own_namespace nat_eq before names namespace
 
   owns_stay : own_mounts nat_eq last names ≡ own_mounts nat_eq before names
-  owns_stay = filter_less (is_own_mount nat_eq before names) (mount_lives nat_eq before) before.mounts
-      (λ mount m dead. by mount.namespace (is_located nat_eq before mount.number) dead)
-    where
-      by : (o : Option ℕ) (located : Bool) → (is_some o || located) ≡ false → holds_of own_by o ≡ false
-      by None located dead = refl
-      by (Some n) located dead = absurd (true≢false dead)
+  owns_stay = grind (arith, common_steps, filter_less, located, true≢false)
 
   others_stay : other_mounts nat_eq last names ≡ other_mounts nat_eq before names
-  others_stay =
-      filter_less (λ (mount : Mount ℕ). holds_of (λ n. not (own_by n)) mount.namespace) (mount_lives nat_eq before)
-      before.mounts (λ mount m dead. by mount.namespace (is_located nat_eq before mount.number) dead)
-    where
-      by : (o : Option ℕ) (located : Bool) → (is_some o || located) ≡ false → holds_of (λ n. not (own_by n)) o ≡ false
-      by None located dead = refl
-      by (Some n) located dead = absurd (true≢false dead)
+  others_stay = grind (arith, common_steps, filter_less, located, true≢false)
 
   -- a mount with a location on it lives
   found_living : (location : Location ℕ) → Among location (all_locations before)
@@ -58,18 +45,7 @@ module _ (world before : World ℕ) (names : List TaskName) (others : OthersStay
           → find (λ (x : Mount ℕ). nat_eq location.mount x.number) (filter (mount_lives nat_eq before) list)
           ≡ find (λ (x : Mount ℕ). nat_eq location.mount x.number) list
       search [] = refl
-      search (x ∷ rest) = by (mount_lives nat_eq before x) refl (nat_eq location.mount x.number) refl (search rest)
-        where
-          by : (a : Bool) → mount_lives nat_eq before x ≡ a → (b : Bool) → nat_eq location.mount x.number ≡ b
-              → find (λ (y : Mount ℕ). nat_eq location.mount y.number) (filter (mount_lives nat_eq before) rest)
-              ≡ find (λ (y : Mount ℕ). nat_eq location.mount y.number) rest
-              → find (λ (y : Mount ℕ). nat_eq location.mount y.number)
-              (cond a (x ∷ filter (mount_lives nat_eq before) rest) (filter (mount_lives nat_eq before) rest))
-              ≡ cond b (Some x) (find (λ (y : Mount ℕ). nat_eq location.mount y.number) rest)
-          by true g b h later = ap (λ c. cond c (Some x) (find (λ (y : Mount ℕ). nat_eq location.mount y.number)
-              (filter (mount_lives nat_eq before) rest))) h ∙ ap (cond b (Some x)) later
-          by false g true h later = absurd (true≢false (sym (located x h) ∙ g))
-          by false g false h later = later
+      search (x ∷ rest) = grind (arith, common_steps, true≢false, located, search rest)
 
   of_outsiders : (location : Location ℕ) → Among location (locations (outsiders before names))
       → Among location (all_locations before)
@@ -81,46 +57,24 @@ module _ (world before : World ℕ) (names : List TaskName) (others : OthersStay
   -- fewer masters, fewer events
   fewer_events : (a b : Mount ℕ) → receives_events_of nat_eq last a b ≡ true
       → receives_events_of nat_eq before a b ≡ true
-  fewer_events a b h = ⊎_elim (or_left (holds_of (λ group. is_member_of nat_eq group b) (group_of a.propagation))
-      (holds_of (λ group. is_member_of nat_eq group b) (master_of before a.propagation)))
-      (λ e. or_right (holds_of (λ group. is_member_of nat_eq group b) (group_of a.propagation))
-      (holds_of (λ group. is_member_of nat_eq group b) (master_of before a.propagation)) (by a.propagation e))
-      (or_cases (holds_of (λ group. is_member_of nat_eq group b) (group_of a.propagation))
-      (holds_of (λ group. is_member_of nat_eq group b) (master_of last a.propagation)) h)
-    where
-      taken : (c : Bool) (o : Option ℕ) → holds_of (λ group. is_member_of nat_eq group b) (cond c o None) ≡ true
-          → holds_of (λ group. is_member_of nat_eq group b) o ≡ true
-      taken true o e = e
-      taken false o e = absurd (true≢false (sym e))
-
-      by : (kind : Propagation ℕ) → holds_of (λ group. is_member_of nat_eq group b) (master_of last kind) ≡ true
-          → holds_of (λ group. is_member_of nat_eq group b) (master_of before kind) ≡ true
-      by (Shared g) e =
-          taken (has_members nat_eq (filter (mount_lives nat_eq before) before.mounts) g) (before.master g) e
-      by (Slave g) e = e
-      by Private e = e
-      by Unbindable e = e
+  fewer_events a b h = grind (arith, common_steps, or_left, or_right, or_cases, true≢false)
 
   events_stay : shares_no_events nat_eq last names ≡ true
-  events_stay = ap (λ owns. list_all (λ own. list_all (λ other. not (share_events nat_eq last own other))
-      (other_mounts nat_eq last names)) owns) owns_stay
-      ∙ ap (λ list. list_all (λ own. list_all (λ other. not (share_events nat_eq last own other)) list)
-      (own_mounts nat_eq before names)) others_stay
-      ∙ list_all_from_among (λ own. list_all (λ other. not (share_events nat_eq last own other))
-      (other_mounts nat_eq before names)) (own_mounts nat_eq before names)
-      (λ own m. list_all_from_among (λ other. not (share_events nat_eq last own other))
-      (other_mounts nat_eq before names)
-      (λ other n. ap not (false_from_ne_true (share_events nat_eq last own other) (λ h.
-      true≢false (sym (⊎_elim
-      (λ e. or_left (receives_events_of nat_eq before own other) (receives_events_of nat_eq before other own)
-      (fewer_events own other e))
-      (λ e. or_right (receives_events_of nat_eq before own other) (receives_events_of nat_eq before other own)
-      (fewer_events other own e))
-      (or_cases (receives_events_of nat_eq last own other) (receives_events_of nat_eq last other own) h))
-      ∙ not-true (share_events nat_eq before own other)
-      (among_from_list_all (λ x. not (share_events nat_eq before own x)) (other_mounts nat_eq before names)
-      (among_from_list_all (λ x. list_all (λ y. not (share_events nat_eq before x y))
-      (other_mounts nat_eq before names)) (own_mounts nat_eq before names) others.events own m) other n))))))
+  events_stay = search (
+    arith,
+    common_steps,
+    owns_stay,
+    others_stay,
+    list_all_from_among,
+    false_from_ne_true,
+    true≢false,
+    or_left,
+    fewer_events,
+    or_right,
+    or_cases,
+    not-true,
+    among_from_list_all,
+  )
 
   any_alike : (p q : Location ℕ → Bool) (list : List (Location ℕ)) → ((x : Location ℕ) → Among x list → p x ≡ q x)
       → list_any p list ≡ list_any q list
@@ -129,14 +83,7 @@ module _ (world before : World ℕ) (names : List TaskName) (others : OthersStay
       ∙ ap (λ b. q x || b) (any_alike p q rest (λ y m. same y (inr m)))
 
   no_outsider_same : (number : ℕ) → no_outsider_on nat_eq last names number ≡ no_outsider_on nat_eq before names number
-  no_outsider_same number = ap (λ list. not (list_any (λ (mount : Mount ℕ). nat_eq number mount.filesystem) list)
-      && not (list_any (λ location. nat_eq number (mount_at nat_eq last location).filesystem)
-      (locations (outsiders before names)))) others_stay
-      ∙ ap (λ b. not (list_any (λ (mount : Mount ℕ). nat_eq number mount.filesystem) (other_mounts nat_eq before names))
-      && not b) (any_alike (λ location. nat_eq number (mount_at nat_eq last location).filesystem)
-      (λ location. nat_eq number (mount_at nat_eq before location).filesystem) (locations (outsiders before names))
-      (λ location m. ap (λ (x : Mount ℕ). nat_eq number x.filesystem)
-      (found_living location (of_outsiders location m))))
+  no_outsider_same number = search (arith, common_steps, others_stay, any_alike, found_living, of_outsiders)
 
   -- an overlay that is left was there, with its layers
   overlay_was : (merged : Filesystem ℕ) → Among merged (overlays last)

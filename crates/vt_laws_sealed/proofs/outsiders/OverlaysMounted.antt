@@ -1,7 +1,7 @@
 -- Overlays that others mount over their own layers: mount(2) of an overlay.
-use Rattle.std.proofs.Common.{◌≡◌, refl, sym, ap, subst, ◌∙◌, inl, inr, ⊎_elim, ℕ, nat_eq, false, true≢false, List, [], ◌∷◌, ◌++◌, ◌*◌, ◌+◌, Option, Some, None, Result, Ok, Err, map, not, eqb-true, eq-eqb}
+use Rattle.std.proofs.Common.{arith, ◌≡◌, refl, sym, ap, subst, ◌∙◌, inl, inr, ⊎_elim, ℕ, nat_eq, false, true≢false, List, [], ◌∷◌, ◌++◌, ◌*◌, ◌+◌, Option, Some, None, Result, Ok, Err, map, not, eqb-true, eq-eqb}
+use Rattle.std.proofs.lemmas.Grind.{common_steps}
 use Rattle.std.specs.Prelude.{option_map, option_to_list}
-use Rattle.std.specs.List.{list_any}
 use Rattle.std.proofs.lemmas.Bool.{and_parts, false_from_ne_true, not-true}
 use Rattle.vt_spec.specs.Language.Calls.{Call, MountFlags, OverlayWords, TaskName}
 use Rattle.vt_spec.specs.Lists.{Fresh, evens, odds}
@@ -13,10 +13,10 @@ use Rattle.vt_spec.specs.Machine.NewMounts.{new_mount, overlay_filesystem}
 use Rattle.vt_spec.specs.Machine.Permits.{Permit}
 use Rattle.vt_spec.specs.Machine.Permits.Permit.{ToMountOverlay}
 use Rattle.vt_spec.specs.Machine.Rules.Mounting.{LayerLocations, each_walked, layer_at, layer_locations, layers_walked, overlay_at, source_walk, walked_if_given, work_walked}
-use Rattle.vt_spec.specs.Machine.Sealed.{locations, no_outsider_on, other_mounts, outsiders}
+use Rattle.vt_spec.specs.Machine.Sealed.{locations, no_outsider_on}
 use Rattle.vt_spec.specs.Machine.Settled.{has_layer_on, settled}
 use Rattle.vt_spec.specs.Machine.Walking.{Here, Stop, walk_end}
-use Rattle.vt_spec.specs.Machine.World.{Filesystem, Layer, Overlay, Task, World, layers_of, mount_at, mount_numbered, task_called}
+use Rattle.vt_spec.specs.Machine.World.{Filesystem, Layer, Overlay, Task, World, layers_of, mount_at, task_called}
 use Rattle.vt_spec.proofs.Given.{Gives, given}
 use Rattle.vt_spec.proofs.Lists.{Among, among-append, among-append_left, among-append_right, any_from_among, among-from_map, none_from_among}
 use Rattle.vt_laws_rules.proofs.given.GivenPermits.{permits_are_for_their_calls}
@@ -42,19 +42,8 @@ use Rattle.vt_laws_sealed.proofs.outsiders.Staying.{LeavesApart}
 -- where one of the others may be, others have a foothold
 pub outside_uses : (world : World ℕ) (names : List TaskName) (location : Location ℕ) → IsOutside world names location
     → no_outsider_on nat_eq world names (mount_at nat_eq world location).filesystem ≡ false
-outside_uses world names location outside = false_from_ne_true (no_outsider_on nat_eq world names number) (λ alone.
-    let both = and_parts (not (list_any (λ (mount : Mount ℕ). nat_eq number mount.filesystem)
-    (other_mounts nat_eq world names))) (not (list_any (λ place. nat_eq number (mount_at nat_eq world place).filesystem)
-    (locations (outsiders world names)))) alone in
-    ⊎_elim (λ old. true≢false (sym (any_from_among (λ place. nat_eq number (mount_at nat_eq world place).filesystem)
-    (locations (outsiders world names)) old.0 old.1 (eq-eqb number (mount_at nat_eq world old.0).filesystem
-    (ap (λ n. (mount_numbered nat_eq world n).filesystem) old.2))) ∙ not-true _ both.1))
-    (λ other. true≢false (sym (any_from_among (λ (mount : Mount ℕ). nat_eq number mount.filesystem)
-    (other_mounts nat_eq world names) (mount_at nat_eq world location) other (eq-eqb number number refl))
-    ∙ not-true _ both.0)) outside)
-  where
-    number : ℕ
-    number = (mount_at nat_eq world location).filesystem
+outside_uses world names location outside =
+    grind (arith, common_steps, false_from_ne_true, and_parts, true≢false, any_from_among, eq-eqb, not-true)
 
 module _ (world : World ℕ) (fresh : Fresh ℕ) (names : List TaskName) (name : TaskName) (call : Call)
     (task : Task ℕ) (outsider : IsOutsidersCall world fresh names name call)
@@ -87,12 +76,7 @@ module _ (world : World ℕ) (fresh : Fresh ℕ) (names : List TaskName) (name :
 
   given_ground : (path : Option (List ℕ))
       → Gives (λ place. AreOnGround (option_to_list place)) (walked_if_given nat_eq (looks_of nat_eq world) task path)
-  given_ground None = λ place m. absurd m
-  given_ground (Some path) =
-      gives_then (λ (here : Here ℕ). OnGround here.location) (λ place. AreOnGround (option_to_list place))
-      (walk_end (source_walk nat_eq (looks_of nat_eq world) task path)) _
-      (gives_end _ (source_walk nat_eq (looks_of nat_eq world) task path) (source_ground path))
-      (λ here ground place m. ⊎_elim (λ e. subst OnGround (sym e) ground) (λ none. absurd none) m)
+  given_ground path = search (arith, common_steps, gives_then, gives_end, source_ground)
 
   layers_ground : (words : OverlayWords)
       → Gives (λ places. AreOnGround (layer_locations places)) (layers_walked nat_eq (looks_of nat_eq world) task words)

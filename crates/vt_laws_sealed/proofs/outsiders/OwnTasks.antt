@@ -1,5 +1,6 @@
 -- Calls of others that set something of the task alone, or give it a child.
-use Rattle.std.proofs.Common.{◌≡◌, refl, sym, ap, subst, ◌∙◌, ◌⊎◌, inl, inr, ⊎_elim, ℕ, nat_eq, Bool, true, false, cond, true≢false, List, [], ◌∷◌, ◌++◌, ◌+◌, append-nil, Option, Some, None, Ok, filter, is_some, map, not, arith}
+use Rattle.std.proofs.lemmas.Grind.{common_steps}
+use Rattle.std.proofs.Common.{◌≡◌, refl, sym, ap, subst, ◌∙◌, ◌⊎◌, inl, inr, ⊎_elim, ℕ, nat_eq, Bool, true, false, cond, true≢false, List, [], ◌∷◌, ◌++◌, ◌+◌, append-nil, Some, None, Ok, filter, is_some, map, not, arith}
 use Rattle.std.specs.List.{filter_map, list_all, list_any}
 use Rattle.std.proofs.lemmas.Bool.{and_from, and_parts, false_from_ne_true, not-true}
 use Rattle.std.proofs.lemmas.List.Elements.{filter-append}
@@ -55,9 +56,7 @@ pub caller_outside : (world : World ℕ) (fresh : Fresh ℕ) (names : List TaskN
     (task : Task ℕ) → IsOutsidersCall world fresh names name call → task_called world name ≡ Some task
     → Among task (outsiders world names)
 caller_outside world fresh names name call task outsider called =
-    among-filter (λ (t : Task ℕ). not (is_member_task names t)) world.tasks task
-    (found_among (λ (t : Task ℕ). same_name name t.name) world.tasks task called)
-    (ap not (ap (λ n. is_among same_name n names) (sym (name_found world name task called)) ∙ outsider.outside))
+    grind (arith, common_steps, among-filter, found_among, name_found)
 
 -- a location is on a mount on which one of the others was, or on a mount of another namespace
 abbrev pub IsOutside : World ℕ → List TaskName → Location ℕ → Type 0
@@ -121,14 +120,7 @@ module _ (world : World ℕ) (names : List TaskName) (apart : IsApart world name
 
   other_not_own : (mount : Mount ℕ) → Among mount (other_mounts nat_eq world names)
       → not (is_own_mount nat_eq world names mount) ≡ true
-  other_not_own mount m =
-      by mount.namespace (among-from_filter (λ (x : Mount ℕ). holds_of (λ n. not (own_by (members world names) n))
-      x.namespace) world.mounts mount m).1
-    where
-      by : (o : Option ℕ) → holds_of (λ n. not (own_by (members world names) n)) o ≡ true
-          → not (holds_of (own_by (members world names)) o) ≡ true
-      by None h = refl
-      by (Some n) h = h
+  other_not_own mount m = grind (arith, common_steps, among-from_filter)
 
   pub tasks_leave_apart : LeavesApart world left names []
   tasks_leave_apart = record {
@@ -260,11 +252,7 @@ module _ (world : World ℕ) (fresh : Fresh ℕ) (names : List TaskName) (name :
       child_is_none = ap (λ n. is_among same_name n names) named ∙ child_outside
 
       forked_members : filter (is_member_task names) forked ≡ members world names
-      forked_members = filter-append (is_member_task names) (map (replaced_if_called parent) world.tasks) (child ∷ [])
-          ∙ ap (λ b. filter (is_member_task names) (map (replaced_if_called parent) world.tasks) ++ cond b
-          (child ∷ []) []) child_is_none
-          ∙ append-nil (filter (is_member_task names) (map (replaced_if_called parent) world.tasks))
-          ∙ replaced_members world fresh names name call task outsider called parent refl
+      forked_members = grind (arith, common_steps, filter-append, child_is_none, append-nil, replaced_members)
 
       forked_from : (other : Task ℕ) → Among other forked → is_member_task names other ≡ false
           → (old : Task ℕ) × Among old (outsiders world names) × (other.namespace ≡ old.namespace)

@@ -1,15 +1,16 @@
 -- Another root mount of a namespace of others: pivot_root(2).
-use Rattle.std.proofs.Common.{◌≡◌, refl, sym, ap, subst, ◌∙◌, inl, inr, ⊎_elim, ℕ, nat_eq, Bool, true, false, cond, true≢false, List, [], Some, None, Ok, filter, map, not, eqb-true}
+use Rattle.std.proofs.Common.{arith, ◌≡◌, refl, sym, ap, subst, ◌∙◌, inl, inr, ⊎_elim, ℕ, nat_eq, Bool, true, false, cond, true≢false, List, [], Some, None, Ok, filter, map, not, eqb-true}
+use Rattle.std.proofs.lemmas.Grind.{common_steps}
 use Rattle.std.specs.List.{list_all}
 use Rattle.vt_spec.specs.Language.Calls.{Call, TaskName, same_name}
 use Rattle.vt_spec.specs.Language.Calls.Call.{PivotRoot}
-use Rattle.vt_spec.specs.Lists.{Fresh, holds_of, is_among}
+use Rattle.vt_spec.specs.Lists.{Fresh, is_among}
 use Rattle.vt_spec.specs.Machine.Apply.{apply}
 use Rattle.vt_spec.specs.Machine.Judge.{judge_in}
 use Rattle.vt_spec.specs.Machine.Mounts.{Location, Mount, Propagation, no_mount, root_of, same_location}
 use Rattle.vt_spec.specs.Machine.Namespaces.{pivoted_location, pivoted_mount, pivoted_task}
 use Rattle.vt_spec.specs.Machine.Permits.Permit.{ToPivot}
-use Rattle.vt_spec.specs.Machine.Sealed.{is_member_task, is_own_mount, is_own_namespace, locations, members, other_mounts, outsiders, own_mounts, share_events, shares_no_events}
+use Rattle.vt_spec.specs.Machine.Sealed.{is_member_task, is_own_namespace, locations, members, other_mounts, outsiders, own_mounts, share_events, shares_no_events}
 use Rattle.vt_spec.specs.Machine.Settled.{settled}
 use Rattle.vt_spec.specs.Machine.World.{Task, World, locations_of, mount_at, mount_numbered, task_called}
 use Rattle.vt_spec.proofs.Lists.{Among, among-filter, among-flat_map, among-from_filter, among-from_flat_map, among-from_map, among_from_list_all, any_from_among, list_all_from_among, map_same, pair-map}
@@ -77,13 +78,7 @@ module _ (world : World ℕ) (fresh : Fresh ℕ) (names : List TaskName) (name :
       by false false = (mount.namespace, mount.mount_point, mount.propagation, refl, inl refl)
 
   type_kept : (mount : Mount ℕ) → (change mount).propagation ≡ mount.propagation
-  type_kept mount = by (nat_eq mount.number new_root.number) (nat_eq mount.number old_root.number)
-    where
-      by : (p q : Bool) → (cond p (record mount { mount_point = old_root.mount_point })
-          (cond q (record mount { mount_point = Some put }) mount)).propagation ≡ mount.propagation
-      by true q = refl
-      by false true = refl
-      by false false = refl
+  type_kept mount = grind (arith, common_steps)
 
   keeps : KeepsOrDetaches change
   keeps = reshaping_keeps change shape
@@ -98,23 +93,10 @@ module _ (world : World ℕ) (fresh : Fresh ℕ) (names : List TaskName) (name :
   -- mounts of other namespaces, and of none, stay as they are
   stays_elsewhere : (mount : Mount ℕ) → Among mount world.mounts → (mount.namespace ≡ Some task.namespace → ⊥)
       → change mount ≡ mount
-  stays_elsewhere mount there elsewhere =
-      by (nat_eq mount.number new_root.number) refl (nat_eq mount.number old_root.number) refl
-    where
-      by : (p : Bool) → nat_eq mount.number new_root.number ≡ p → (q : Bool) → nat_eq mount.number old_root.number ≡ q
-          → cond p (record mount { mount_point = old_root.mount_point })
-          (cond q (record mount { mount_point = Some put }) mount) ≡ mount
-      by true e q f = absurd (elsewhere (ap (λ (x : Mount ℕ). x.namespace) (same_mount new mount there e) ∙ fits.own))
-      by false e true f =
-          absurd (elsewhere (ap (λ (x : Mount ℕ). x.namespace) (same_mount task.root.mount mount there f)
-          ∙ fits.own_root))
-      by false e false f = refl
+  stays_elsewhere mount there elsewhere = grind (arith, common_steps, same_mount, fits)
 
   own_same : (own : Mount ℕ) → Among own (own_mounts nat_eq world names) → change own ≡ own
-  own_same own m =
-      let is = among-from_filter (is_own_mount nat_eq world names) world.mounts own m in
-      stays_elsewhere own is.0 (λ e.
-      true≢false (sym (sym (ap (holds_of (is_own_namespace nat_eq world names)) e) ∙ is.1) ∙ outside))
+  own_same own m = grind (arith, common_steps, among-from_filter, stays_elsewhere, true≢false, outside)
 
   nowhere_same : (mount : Mount ℕ) → Among mount world.mounts → mount.namespace ≡ None → change mount ≡ mount
   nowhere_same mount there none = stays_elsewhere mount there (λ e. none_is_some task.namespace (sym none ∙ e))
@@ -131,39 +113,16 @@ module _ (world : World ℕ) (fresh : Fresh ℕ) (names : List TaskName) (name :
   those = filter (λ (t : Task ℕ). not (is_member_task names t)) (map move world.tasks)
 
   name_kept : (t : Task ℕ) → (move t).name ≡ t.name
-  name_kept t = by (nat_eq task.namespace t.namespace)
-    where
-      by : (b : Bool) → (cond b (record t {
-        root = pivoted_location nat_eq old_root new_root t.root;
-        directory = pivoted_location nat_eq old_root new_root t.directory;
-      }) t).name ≡ t.name
-      by true = refl
-      by false = refl
+  name_kept t = grind (arith, common_steps)
 
   namespace_kept : (t : Task ℕ) → (move t).namespace ≡ t.namespace
-  namespace_kept t = by (nat_eq task.namespace t.namespace)
-    where
-      by : (b : Bool) → (cond b (record t {
-        root = pivoted_location nat_eq old_root new_root t.root;
-        directory = pivoted_location nat_eq old_root new_root t.directory;
-      }) t).namespace ≡ t.namespace
-      by true = refl
-      by false = refl
+  namespace_kept t = grind (arith, common_steps)
 
   member_kept : (t : Task ℕ) → is_member_task names (move t) ≡ is_member_task names t
   member_kept t = ap (λ n. is_among same_name n names) (name_kept t)
 
   member_stays : (t : Task ℕ) → Among t (members world names) → move t ≡ t
-  member_stays t m = by (nat_eq task.namespace t.namespace) refl
-    where
-      by : (b : Bool) → nat_eq task.namespace t.namespace ≡ b → cond b (record t {
-        root = pivoted_location nat_eq old_root new_root t.root;
-        directory = pivoted_location nat_eq old_root new_root t.directory;
-      }) t ≡ t
-      by true e = absurd (true≢false
-          (sym (any_from_among (λ (x : Task ℕ). nat_eq task.namespace x.namespace) (members world names) t m e)
-          ∙ outside))
-      by false e = refl
+  member_stays t m = grind (arith, common_steps, true≢false, any_from_among, outside)
 
   was : (t : Task ℕ) → Among t those → (old : Task ℕ) × Among old (outsiders world names) × (t ≡ move old)
   was t m =
@@ -258,10 +217,7 @@ module _ (world : World ℕ) (fresh : Fresh ℕ) (names : List TaskName) (name :
       (own_mounts nat_eq world names) set_apart.events own m) from.0 from.1))
 
   one_each : OneNumberEach pivoted_world
-  one_each = pair-map (λ (a b : Mount ℕ). nat_eq a.number b.number) (λ (a b : Mount ℕ). nat_eq a.number b.number) change
-      world.mounts
-      (λ a b m n e. ap (λ k. nat_eq k (change b).number) (keeps.number a) ∙ ap (nat_eq a.number) (keeps.number b) ∙ e)
-      outsider.is.mounts.one_number
+  one_each = grind (arith, common_steps, pair-map, keeps)
 
   pub pivot_leaves : LeavesApart world (settled nat_eq (apply nat_eq fresh world task (ToPivot new put)).world) names []
   pivot_leaves = sweeping_leaves_apart world pivoted_world names set_apart outsider.sealed_off refl one_each []

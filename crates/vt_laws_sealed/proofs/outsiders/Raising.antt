@@ -1,5 +1,6 @@
 -- Change numbers that the call of a task outside a set raises are not those of the set's part.
-use Rattle.std.proofs.Common.{◌≡◌, refl, sym, ap, ◌∙◌, ℕ, nat_eq, Bool, true, false, cond, true≢false, List, [], ◌∷◌, Option, Some, is_some, filter, find, flat_map, map, not, ◌&&◌, ◌||◌, eqb-true}
+use Rattle.std.proofs.Common.{arith, ◌≡◌, refl, sym, ap, ◌∙◌, ℕ, nat_eq, Bool, true, false, cond, true≢false, List, [], ◌∷◌, Option, Some, is_some, filter, find, flat_map, map, not, ◌&&◌, ◌||◌, eqb-true}
+use Rattle.std.proofs.lemmas.Grind.{common_steps}
 use Rattle.std.specs.Prelude.{unwrap_or}
 use Rattle.std.specs.List.{filter_map, list_all, list_any}
 use Rattle.vt_spec.specs.FileTree.{FileTree, is_under}
@@ -9,8 +10,8 @@ use Rattle.vt_spec.specs.Machine.Filesystems.{raised, raised_if_changed}
 use Rattle.vt_spec.specs.Machine.Invariants.{MountInvariants}
 use Rattle.vt_spec.specs.Machine.Locked.{overlays}
 use Rattle.vt_spec.specs.Machine.Mounts.{Location, Mount}
-use Rattle.vt_spec.specs.Machine.Policy.{numbers_raised, raised_namespace, raised_task, same_mounts_in}
-use Rattle.vt_spec.specs.Machine.Sealed.{holds_all_tasks, is_member_task, is_own_mount, is_own_namespace, locations, members, no_outsider_on, no_outsider_on_mounts, outsiders, own_lowers, part_of, share_events, shares_no_events, used_alone, used_directly, used_filesystems}
+use Rattle.vt_spec.specs.Machine.Policy.{numbers_raised, raised_namespace, raised_task}
+use Rattle.vt_spec.specs.Machine.Sealed.{holds_all_tasks, is_member_task, is_own_namespace, locations, members, no_outsider_on, no_outsider_on_mounts, outsiders, own_lowers, part_of, share_events, shares_no_events, used_alone, used_directly, used_filesystems}
 use Rattle.vt_spec.specs.Machine.Settled.{has_layer_on, only_among}
 use Rattle.vt_spec.specs.Machine.World.{Filesystem, Layer, Namespace, Task, World, filesystem_numbered, is_overlay, locations_of, mount_at, no_filesystem}
 use Rattle.vt_spec.proofs.Lists.{Among, among-from_filter, among_from_contains, among_numbers, map_same}
@@ -39,25 +40,13 @@ module _ (before left : World ℕ) (names : List TaskName) (name : TaskName) (ch
   raise task = raised_task name task
 
   name_kept : (task : Task ℕ) → (raise task).name ≡ task.name
-  name_kept task = by (same_name name task.name)
-    where
-      by : (b : Bool) → (cond b (record task { change = raised task.change }) task).name ≡ task.name
-      by true = refl
-      by false = refl
+  name_kept task = grind (arith, common_steps)
 
   namespace_kept : (task : Task ℕ) → (raise task).namespace ≡ task.namespace
-  namespace_kept task = by (same_name name task.name)
-    where
-      by : (b : Bool) → (cond b (record task { change = raised task.change }) task).namespace ≡ task.namespace
-      by true = refl
-      by false = refl
+  namespace_kept task = grind (arith, common_steps)
 
   locations_kept : (task : Task ℕ) → locations_of (raise task) ≡ locations_of task
-  locations_kept task = by (same_name name task.name)
-    where
-      by : (b : Bool) → locations_of (cond b (record task { change = raised task.change }) task) ≡ locations_of task
-      by true = refl
-      by false = refl
+  locations_kept task = grind (arith, common_steps)
 
   member_kept : (task : Task ℕ) → is_member_task names (raise task) ≡ is_member_task names task
   member_kept task = ap (λ n. is_among same_name n names) (name_kept task)
@@ -109,30 +98,14 @@ module _ (before left : World ℕ) (names : List TaskName) (name : TaskName) (ch
   raise_in filesystem = raised_if_changed nat_eq changed filesystem
 
   overlay_kept : (filesystem : Filesystem ℕ) → (raise_in filesystem).overlay ≡ filesystem.overlay
-  overlay_kept filesystem = by (list_any (λ number. nat_eq number filesystem.number) changed)
-    where
-      by : (b : Bool) → (cond b (record filesystem { change = raised filesystem.change }) filesystem).overlay
-          ≡ filesystem.overlay
-      by true = refl
-      by false = refl
+  overlay_kept filesystem = grind (arith, common_steps)
 
   number_kept : (filesystem : Filesystem ℕ) → (raise_in filesystem).number ≡ filesystem.number
-  number_kept filesystem = by (list_any (λ number. nat_eq number filesystem.number) changed)
-    where
-      by : (b : Bool) → (cond b (record filesystem { change = raised filesystem.change }) filesystem).number
-          ≡ filesystem.number
-      by true = refl
-      by false = refl
+  number_kept filesystem = grind (arith, common_steps)
 
   layered_kept : (number : ℕ) (filesystem : Filesystem ℕ)
       → has_layer_on nat_eq number (raise_in filesystem) ≡ has_layer_on nat_eq number filesystem
-  layered_kept number filesystem = by (list_any (λ n. nat_eq n filesystem.number) changed)
-    where
-      by : (b : Bool)
-          → has_layer_on nat_eq number (cond b (record filesystem { change = raised filesystem.change }) filesystem)
-          ≡ has_layer_on nat_eq number filesystem
-      by true = refl
-      by false = refl
+  layered_kept number filesystem = grind (arith, common_steps)
 
   pub used_alone_raised : (filesystem : ℕ)
       → used_alone nat_eq later names filesystem ≡ used_alone nat_eq left names filesystem
@@ -148,19 +121,10 @@ module _ (before left : World ℕ) (names : List TaskName) (name : TaskName) (ch
       free_left merged = not (has_layer_on nat_eq filesystem merged) || no_outsider_on nat_eq left names merged.number
 
       same : (merged : Filesystem ℕ) → free_later (raise_in merged) ≡ free_left merged
-      same merged =
-          ap (λ b. not b || no_outsider_on nat_eq later names (raise_in merged).number) (layered_kept filesystem merged)
-          ∙ ap (λ n. not (has_layer_on nat_eq filesystem merged) || no_outsider_on nat_eq later names n)
-          (number_kept merged)
-          ∙ ap (λ b. not (has_layer_on nat_eq filesystem merged) || b) (no_outsider_raised merged.number)
+      same merged = grind (arith, common_steps, layered_kept, number_kept, no_outsider_raised)
 
   pub tasks_raised : holds_all_tasks nat_eq later names ≡ holds_all_tasks nat_eq left names
-  tasks_raised = ap (λ tasks. list_all (λ (task : Task ℕ). not (own_by tasks task.namespace)) (outsiders later names))
-      members_raised
-      ∙ ap (list_all (λ (task : Task ℕ). not (own_by (members left names) task.namespace))) outsiders_raised
-      ∙ all-map_same (λ (task : Task ℕ). not (own_by (members left names) task.namespace))
-      (λ (task : Task ℕ). not (own_by (members left names) task.namespace)) raise (outsiders left names)
-      (λ task. ap (λ n. not (own_by (members left names) n)) (namespace_kept task))
+  tasks_raised = grind (arith, common_steps, members_raised, outsiders_raised, all-map_same, namespace_kept)
 
   pub events_raised : shares_no_events nat_eq later names ≡ shares_no_events nat_eq left names
   events_raised =
@@ -168,11 +132,7 @@ module _ (before left : World ℕ) (names : List TaskName) (name : TaskName) (ch
       (owned_by tasks)) members_raised
 
   pub on_mounts_raised : no_outsider_on_mounts nat_eq later names ≡ no_outsider_on_mounts nat_eq left names
-  on_mounts_raised =
-      ap (λ tasks. list_all (λ location. not (holds_of (own_by tasks) (mount_at nat_eq left location).namespace))
-      (locations (outsiders later names))) members_raised
-      ∙ ap (list_all (λ location. not (is_own_mount nat_eq left names (mount_at nat_eq left location))))
-      outsiders_locations
+  on_mounts_raised = grind (arith, common_steps, members_raised, outsiders_locations)
 
   -- What the set sees
   module _ (sees : SeesTheSame before left names) (is : MountInvariants nat_eq before)
@@ -195,18 +155,8 @@ module _ (before left : World ℕ) (names : List TaskName) (name : TaskName) (ch
         → find (λ (f : Filesystem ℕ). nat_eq number f.number) (map raise_in list)
         ≡ find (λ (f : Filesystem ℕ). nat_eq number f.number) list
     found_stays number m [] = refl
-    found_stays number m (f ∷ rest) = ap (λ n. cond (nat_eq number n) (Some (raise_in f))
-        (find (λ (x : Filesystem ℕ). nat_eq number x.number) (map raise_in rest))) (number_kept f)
-        ∙ by (nat_eq number f.number) refl (found_stays number m rest)
-      where
-        by : (b : Bool) → nat_eq number f.number ≡ b
-            → find (λ (x : Filesystem ℕ). nat_eq number x.number) (map raise_in rest)
-            ≡ find (λ (x : Filesystem ℕ). nat_eq number x.number) rest
-            → cond b (Some (raise_in f)) (find (λ (x : Filesystem ℕ). nat_eq number x.number) (map raise_in rest))
-            ≡ cond b (Some f) (find (λ (x : Filesystem ℕ). nat_eq number x.number) rest)
-        by true e in_rest =
-            ap Some (used_stays f (ap (λ n. is_among nat_eq n used) (sym (eqb-true number f.number e)) ∙ m))
-        by false e in_rest = in_rest
+    found_stays number m (f ∷ rest) =
+        grind (arith, common_steps, number_kept, used_stays, eqb-true, found_stays number m rest)
 
     -- of a filesystem the part depends on its tree alone, if they do not use it
     abbrev shown_by : FileTree ℕ → Filesystem ℕ → Option (Filesystem ℕ)
@@ -222,19 +172,7 @@ module _ (before left : World ℕ) (names : List TaskName) (name : TaskName) (ch
       where
         either : (b : Bool) → is_among nat_eq x.number used ≡ false
             → shown_by files (cond b (record x { change = raised x.change }) x) ≡ shown_by files x
-        either true e = ap (λ u. cond u (Some (record x { change = raised x.change }))
-            (when (list_any (λ (layer : Layer ℕ). nat_eq x.number layer.filesystem) lowers) (record x {
-              files = only_among nat_eq
-                  (filter (λ object. list_any (λ (layer : Layer ℕ). nat_eq x.number layer.filesystem
-                  && is_under nat_eq files layer.directory object) lowers) x.files.numbers) x.files;
-              change = 0;
-            }))) e ∙ sym (ap (λ u. cond u (Some x)
-            (when (list_any (λ (layer : Layer ℕ). nat_eq x.number layer.filesystem) lowers) (record x {
-              files = only_among nat_eq
-                  (filter (λ object. list_any (λ (layer : Layer ℕ). nat_eq x.number layer.filesystem
-                  && is_under nat_eq files layer.directory object) lowers) x.files.numbers) x.files;
-              change = 0;
-            }))) e)
+        either true e = grind (arith, common_steps)
         either false e = refl
 
         by : (b : Bool) → is_among nat_eq x.number used ≡ b → shown_by files (raise_in x) ≡ shown_by files x
@@ -251,12 +189,7 @@ module _ (before left : World ℕ) (names : List TaskName) (name : TaskName) (ch
     raise_of namespace = raised_namespace nat_eq before left namespace
 
     namespace_number : (namespace : Namespace ℕ) → (raise_of namespace).number ≡ namespace.number
-    namespace_number namespace = by (same_mounts_in nat_eq before left namespace.number)
-      where
-        by : (b : Bool) → (cond b namespace (record namespace { change = raised namespace.change })).number
-            ≡ namespace.number
-        by true = refl
-        by false = refl
+    namespace_number namespace = grind (arith, common_steps)
 
     own_stays : (namespace : Namespace ℕ) → is_own_namespace nat_eq left names namespace.number ≡ true
         → raise_of namespace ≡ namespace

@@ -1,5 +1,6 @@
 -- Calls of others that change nothing.
-use Rattle.std.proofs.Common.{refl, sym, subst, ℕ, nat_eq, List, []}
+use Rattle.std.proofs.Common.{arith, sym, subst, ℕ, nat_eq, List, []}
+use Rattle.std.proofs.lemmas.Grind.{common_steps}
 use Rattle.vt_spec.specs.Language.Calls.{Call, TaskName}
 use Rattle.vt_spec.specs.Lists.{Fresh}
 use Rattle.vt_spec.specs.Machine.Settled.{settled}
@@ -13,23 +14,7 @@ pub leaves_apart_itself : (world : World ℕ) (fresh : Fresh ℕ) (names : List 
     → IsOutsidersCall world fresh names name call → LeavesApart world world names []
 leaves_apart_itself world fresh names name call outsider =
     let apart = apart_if_sealed world names outsider.is outsider.sealed_off in
-    record {
-      sees = record {
-        tasks = refl;
-        mounts = refl;
-        masters = λ group e. refl;
-        direct = λ number m. refl;
-        filesystems = refl;
-        namespaces = refl;
-      };
-      others = record {
-        tasks = apart.tasks;
-        events = apart.events;
-        locations = apart.locations;
-        free = λ number of alone. alone;
-      };
-      unraised = λ number m. refl;
-    }
+    grind (arith, common_steps)
 
 -- with the sweep, which takes nothing of a world with all invariants
 pub nothing_leaves : (world : World ℕ) (fresh : Fresh ℕ) (names : List TaskName) (name : TaskName) (call : Call)

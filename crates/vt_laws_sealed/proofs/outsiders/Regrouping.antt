@@ -1,21 +1,19 @@
 -- Groups of others that lose their last members, and what mounts of others become.
-use Rattle.std.proofs.Common.{◌≡◌, refl, sym, ap, subst, ◌∙◌, ◌⊎◌, inl, inr, ⊎_elim, ℕ, nat_eq, Bool, true, false, cond, true≢false, List, [], Option, Some, None, is_some, length, map, not, ◌&&◌, ◌||◌, eq-eqb}
+use Rattle.std.proofs.Common.{arith, ◌≡◌, refl, sym, ap, subst, ◌∙◌, ◌⊎◌, inl, inr, ⊎_elim, ℕ, nat_eq, Bool, true, false, cond, true≢false, List, [], Option, Some, None, is_some, length, map, ◌&&◌, ◌||◌, eq-eqb}
+use Rattle.std.proofs.lemmas.Grind.{common_steps}
 use Rattle.std.specs.List.{list_any}
 use Rattle.std.proofs.lemmas.Bool.{and_parts}
 use Rattle.std.proofs.lemmas.Option.{same_Some}
 use Rattle.vt_spec.specs.Language.Calls.{TaskName}
-use Rattle.vt_spec.specs.Lists.{holds_of}
-use Rattle.vt_spec.specs.Machine.Invariants.{is_nowhere_or_attached, is_private}
 use Rattle.vt_spec.specs.Machine.Mounts.{Mount, Propagation, group_of, source_of}
 use Rattle.vt_spec.specs.Machine.Mounts.Propagation.{Private, Shared, Slave, Unbindable}
 use Rattle.vt_spec.specs.Machine.Receives.{groups_up, has_members, heir, inherited, inheriting, is_member_of, regrouped_by, slave_of_heir}
-use Rattle.vt_spec.specs.Machine.Sealed.{is_own_mount, master_of, members, other_mounts, own_mounts, shares_no_events}
+use Rattle.vt_spec.specs.Machine.Sealed.{master_of, members, other_mounts, own_mounts, shares_no_events}
 use Rattle.vt_spec.specs.Machine.World.{Namespace, Task, World}
 use Rattle.vt_spec.proofs.Found.{find-chain_start, found_among}
 use Rattle.vt_spec.proofs.Lists.{Among, among-from_filter, among-map, among_from_list_all, any_among, any_from_among, is_among_numbers, map_same, map_twice}
 use Rattle.vt_spec.proofs.Options.{none_is_some}
 use Rattle.vt_laws_mounts.proofs.mounts.Receivers.{along_chain}
-use Rattle.vt_laws_sealed.proofs.part.groups.ReceiversAlike.{member_group}
 use Rattle.vt_laws_sealed.proofs.part.part.Observed.{own_mounts_same}
 use Rattle.vt_laws_sealed.proofs.part.part.PartOfPart.{keep}
 use Rattle.vt_laws_sealed.proofs.outsiders.ChangedWorlds.{OthersMove, changing_leaves_apart, others_from, sees}
@@ -68,9 +66,7 @@ module _ (world : World ℕ) (names : List TaskName) {New : ℕ → Type 0} (apa
       → HearsGroup world names apart world own.propagation number → has_members nat_eq middle.mounts number ≡ true
   members_stay own m number how =
       let member = member_of_heard world names apart own m number how in
-      any_from_among (is_member_of nat_eq number) middle.mounts member.0
-      (subst (λ x. Among x middle.mounts) (own_same member.0 member.1) (among-map change world.mounts member.0
-      (among-from_filter (is_own_mount nat_eq world names) world.mounts member.0 member.1).0)) member.2
+      grind (arith, common_steps, any_from_among, among-map, among-from_filter)
 
   heir_stays : (own : Mount ℕ) → Among own (own_mounts nat_eq world names) → (number : ℕ)
       → HearsGroup world names apart world own.propagation number → heir nat_eq middle (Some number) ≡ Some number
@@ -138,53 +134,26 @@ module _ (world : World ℕ) (names : List TaskName) {New : ℕ → Type 0} (apa
 
   regroup_stays : (mount : Mount ℕ) → inherited nat_eq middle mount.propagation ≡ mount.propagation
       → regroup mount ≡ mount
-  regroup_stays mount e = by lost
-    where
-      by : (b : Bool) → cond b (inheriting nat_eq middle mount) mount ≡ mount
-      by true = ap (λ kind. record mount { propagation = kind }) e
-      by false = refl
+  regroup_stays mount e = grind (arith, common_steps)
 
   pub own_stays : (own : Mount ℕ) → Among own (own_mounts nat_eq world names) → all_changed own ≡ own
   own_stays own m = ap regroup (own_same own m) ∙ regroup_stays own (own_type_stays own m)
 
   nowhere_stays : (mount : Mount ℕ) → Among mount world.mounts → mount.namespace ≡ None → all_changed mount ≡ mount
-  nowhere_stays mount there none = ap regroup (nowhere_same mount there none)
-      ∙ regroup_stays mount (by mount.propagation (and_parts (not (is_some mount.mount_point))
-      (is_private mount.propagation)
-      (sym (ap (λ o. is_some o || (not (is_some mount.mount_point) && is_private mount.propagation)) none)
-      ∙ among_from_list_all is_nowhere_or_attached world.mounts apart.mounts.nowhere mount there)).1)
-    where
-      by : (kind : Propagation ℕ) → is_private kind ≡ true → inherited nat_eq middle kind ≡ kind
-      by (Shared g) h = refl
-      by (Slave g) h = absurd (true≢false (sym h))
-      by Private h = refl
-      by Unbindable h = refl
+  nowhere_stays mount there none =
+      grind (arith, common_steps, regroup_stays, and_parts, among_from_list_all, true≢false)
 
   -- masters of groups of theirs
   own_master_stays : (number : ℕ) → list_any (is_member_of nat_eq number) (own_mounts nat_eq world names) ≡ true
       → after_all.master number ≡ world.master number
-  own_master_stays number h =
-      let own = any_among (is_member_of nat_eq number) (own_mounts nat_eq world names) h in
-      let is_in = member_group number own.0 own.2 in
-      let same : middle.master number ≡ world.master number = own_middle number h in
-      by lost same (above own.0 own.1 is_in (world.master number) refl)
-    where
-      above : (own : Mount ℕ) → Among own (own_mounts nat_eq world names) → group_of own.propagation ≡ Some number
-          → (o : Option ℕ) → world.master number ≡ o → heir nat_eq middle o ≡ o
-      above own m is_in None e = refl
-      above own m is_in (Some upper) e = heir_stays own m upper (inr (of own.propagation is_in ∙ e))
-        where
-          of : (kind : Propagation ℕ) → group_of kind ≡ Some number → master_of world kind ≡ world.master number
-          of (Shared g) f = ap world.master (same_Some g number f)
-          of (Slave g) f = none_is_some number f
-          of Private f = none_is_some number f
-          of Unbindable f = none_is_some number f
-
-      by : (b : Bool) → middle.master number ≡ world.master number
-          → heir nat_eq middle (world.master number) ≡ world.master number
-          → (regrouped_by nat_eq b middle).master number ≡ world.master number
-      by true same up = ap (heir nat_eq middle) same ∙ up
-      by false same up = same
+  own_master_stays number h = grind (
+    arith,
+    common_steps,
+    any_among (is_member_of nat_eq number) (own_mounts nat_eq world names) h,
+    heir_stays,
+    same_Some,
+    none_is_some,
+  )
 
   after_above : (number above : ℕ) → IsForeign number → after_all.master number ≡ Some above → IsForeign above
   after_above number above foreign = by lost
@@ -221,11 +190,7 @@ module _ (world : World ℕ) (names : List TaskName) {New : ℕ → Type 0} (apa
 
     heard_foreign : (kind : Propagation ℕ) → IsOfOthers world names apart kind → (number : ℕ)
         → HearsGroup world names apart left kind number → IsForeign number
-    heard_foreign (Shared g) is number how = ⊎_elim (is.0 number) (λ e. left_above g number (is.0 g refl) e) how
-    heard_foreign (Slave g) is number how =
-        ⊎_elim (λ e. none_is_some number e) (λ e. subst IsForeign (same_Some g number e) (is.1 g refl)) how
-    heard_foreign Private is number how = ⊎_elim (λ e. none_is_some number e) (λ e. none_is_some number e) how
-    heard_foreign Unbindable is number how = ⊎_elim (λ e. none_is_some number e) (λ e. none_is_some number e) how
+    heard_foreign kind is number how = grind (arith, common_steps, left_above, none_is_some, same_Some)
 
     changed_foreign : (other : Mount ℕ) → Among other (other_mounts nat_eq world names)
         → IsOfOthers world names apart (all_changed other).propagation
@@ -238,14 +203,7 @@ module _ (world : World ℕ) (names : List TaskName) {New : ℕ → Type 0} (apa
 
     own_kinds : (own : Mount ℕ) → Among own (own_mounts nat_eq world names)
         → master_of left own.propagation ≡ master_of world own.propagation
-    own_kinds own m = by own.propagation refl
-      where
-        by : (kind : Propagation ℕ) → own.propagation ≡ kind → master_of left kind ≡ master_of world kind
-        by (Shared g) e = own_masters g (any_from_among (is_member_of nat_eq g) (own_mounts nat_eq world names) own m
-            (ap (λ kind. holds_of (nat_eq g) (group_of kind)) e ∙ eq-eqb g g refl))
-        by (Slave g) e = refl
-        by Private e = refl
-        by Unbindable e = refl
+    own_kinds own m = grind (arith, common_steps, own_masters, any_from_among, eq-eqb)
 
     kept_same : (mount : Mount ℕ) → Among mount world.mounts
         → keep world names (members world names) (all_changed mount) ≡ keep world names (members world names) mount

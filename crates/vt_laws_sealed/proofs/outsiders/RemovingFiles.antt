@@ -1,20 +1,20 @@
 -- Directories that others remove, and files and directories that they rename: rmdir(2), rename(2). Mounts on what goes
 -- are of others, in whatever namespace.
-use Rattle.std.proofs.Common.{◌≡◌, refl, sym, ap, subst, ◌∙◌, ⊎_elim, ℕ, nat_eq, true, false, true≢false, List, [], Option, Some, None, Ok, flat_map, length, map, ◌&&◌, eqb-true}
-use Rattle.std.specs.Prelude.{option_map, option_to_list}
+use Rattle.std.proofs.Common.{arith, ◌≡◌, refl, sym, ap, subst, ◌∙◌, ⊎_elim, ℕ, nat_eq, true, false, true≢false, List, [], Option, Some, None, Ok, flat_map, length, map, ◌&&◌, eqb-true}
+use Rattle.std.proofs.lemmas.Grind.{common_steps}
+use Rattle.std.specs.Prelude.{option_map}
 use Rattle.std.specs.List.{list_any}
 use Rattle.std.proofs.lemmas.Bool.{and_parts, false_from_ne_true}
 use Rattle.std.proofs.lemmas.Option.{same_Some}
 use Rattle.vt_spec.specs.Language.Calls.{Call, TaskName}
 use Rattle.vt_spec.specs.Language.Changes.{Change}
 use Rattle.vt_spec.specs.Language.Changes.Change.{Move, Remove}
-use Rattle.vt_spec.specs.Lists.{Fresh, holds_of, is_among, then_some}
+use Rattle.vt_spec.specs.Lists.{Fresh, holds_of, is_among}
 use Rattle.vt_spec.specs.Machine.Apply.{apply, filesystems_changed, overfills}
-use Rattle.vt_spec.specs.Machine.Detach.{is_going, is_point, mounts_on, points_of, upper_points, without_mounts_on}
-use Rattle.vt_spec.specs.Machine.Filesystems.{changed_at, numbers_of_change, numbers_over, with_change}
+use Rattle.vt_spec.specs.Machine.Detach.{is_going, is_point, mounts_on, points_of, without_mounts_on}
+use Rattle.vt_spec.specs.Machine.Filesystems.{changed_at, with_change}
 use Rattle.vt_spec.specs.Machine.Invariants.{Stands}
 use Rattle.vt_spec.specs.Machine.Judge.{judge_in}
-use Rattle.vt_spec.specs.Machine.Locked.{overlay_or}
 use Rattle.vt_spec.specs.Machine.Looks.{looks_of}
 use Rattle.vt_spec.specs.Machine.Mounts.{Location, Mount, mount_tree}
 use Rattle.vt_spec.specs.Machine.Permits.{Permit}
@@ -23,7 +23,7 @@ use Rattle.vt_spec.specs.Machine.Rules.Removing.{object_there}
 use Rattle.vt_spec.specs.Machine.Sealed.{is_own_mount, is_own_namespace, own_mounts, used_filesystems}
 use Rattle.vt_spec.specs.Machine.Settled.{settled}
 use Rattle.vt_spec.specs.Machine.Walking.{is_directory_there, name_of}
-use Rattle.vt_spec.specs.Machine.World.{Filesystem, Layer, Overlay, Task, World, files_at, filesystem_at, filesystem_numbered, mount_at, mount_numbered, task_called, upper_object}
+use Rattle.vt_spec.specs.Machine.World.{Filesystem, Task, World, files_at, filesystem_at, filesystem_numbered, mount_at, mount_numbered, task_called}
 use Rattle.vt_spec.specs.TreeInvariant.{entry_at}
 use Rattle.vt_spec.proofs.Lists.{Among, among-append_left, among-filter, among-from_filter, among-from_flat_map, among-from_map, among-map, among_from_all, among_numbers, any_among, any_from_among}
 use Rattle.vt_spec.proofs.Options.{none_is_some}
@@ -54,26 +54,7 @@ use Rattle.vt_laws_sealed.proofs.outsiders.TakingAway.{namespaces_taken_away, ta
 changed_at_same : (a b : World ℕ) (location : Location ℕ) → a.filesystems ≡ b.filesystems
     → (mount_at nat_eq a location).filesystem ≡ (mount_at nat_eq b location).filesystem
     → changed_at nat_eq a location ≡ changed_at nat_eq b location
-changed_at_same a b location same mounted = ap (numbers_in a) mounted
-    ∙ ap (λ list. numbers_in (record a { filesystems = list }) (mount_at nat_eq b location).filesystem) same
-    ∙ by (filesystem_numbered nat_eq b (mount_at nat_eq b location).filesystem).overlay
-  where
-    numbers_in : World ℕ → ℕ → List ℕ
-    numbers_in w n =
-        numbers_of_change nat_eq w (filesystem_numbered nat_eq w n) (filesystem_numbered nat_eq w n).overlay
-
-    there : Filesystem ℕ
-    there = filesystem_numbered nat_eq b (mount_at nat_eq b location).filesystem
-
-    over : (o : Option (Layer ℕ)) → numbers_over nat_eq (record a { filesystems = b.filesystems }) there o
-        ≡ numbers_over nat_eq b there o
-    over None = refl
-    over (Some upper) = refl
-
-    by : (o : Option (Overlay ℕ)) → numbers_of_change nat_eq (record a { filesystems = b.filesystems }) there o
-        ≡ numbers_of_change nat_eq b there o
-    by None = refl
-    by (Some overlay) = over overlay.upper
+changed_at_same a b location same mounted = grind (arith, common_steps)
 
 -- Mounts on a directory in a filesystem that the set does not use
 module _ (world : World ℕ) (names : List TaskName) (apart : IsApart world names) (directory : Location ℕ)
@@ -218,37 +199,16 @@ module _ (world : World ℕ) (fresh : Fresh ℕ) (names : List TaskName) (name :
 
     points_unused : (n : ℕ) → list_any (λ (point : ℕ × ℕ). nat_eq n point.0) (points_of nat_eq world directory) ≡ true
         → is_among nat_eq n (used_filesystems nat_eq world names) ≡ false
-    points_unused n h =
-        let found = any_among (λ (point : ℕ × ℕ). nat_eq n point.0) (points_of nat_eq world directory) h in
-        ap (λ k. is_among nat_eq k (used_filesystems nat_eq world names)) (eqb-true n found.0.0 found.2) ∙ ⊎_elim
-        (λ own. ap (λ (p : ℕ × ℕ). is_among nat_eq p.0 (used_filesystems nat_eq world names)) own
-        ∙ ap (λ k. is_among nat_eq k (used_filesystems nat_eq world names)) (number_of_filesystem world
-        (mount_at nat_eq world directory).filesystem ∙ at)
-        ∙ changed_is_unused world fresh names name call task outsider called permit judged location change asks)
-        (λ upper. over (filesystem_at nat_eq world directory).overlay refl found.0 upper) found.1
-      where
-        over : (o : Option (Overlay ℕ)) → (filesystem_at nat_eq world directory).overlay ≡ o → (point : ℕ × ℕ)
-            → Among point (overlay_or []
-            (λ overlay. upper_points world (filesystem_at nat_eq world directory) overlay directory.node) o)
-            → is_among nat_eq point.0 (used_filesystems nat_eq world names) ≡ false
-        over None e point m = absurd m
-        over (Some overlay) e point m = layered overlay.upper refl m
-          where
-            real : (layer : Layer ℕ) (object : Option ℕ) → overlay.upper ≡ Some layer
-                → Among point (option_to_list (option_map (λ k. (layer.filesystem, k)) object))
-                → is_among nat_eq point.0 (used_filesystems nat_eq world names) ≡ false
-            real layer None has k = absurd k
-            real layer (Some object) has k = ⊎_elim
-                (λ same. ap (λ (p : ℕ × ℕ). is_among nat_eq p.0 (used_filesystems nat_eq world names)) same
-                ∙ upper_is_unused world fresh names name call task outsider called permit judged location change asks
-                overlay (ap (λ (f : Filesystem ℕ). f.overlay) (sym same_there) ∙ e) layer has) (λ none. absurd none) k
-
-            layered : (o : Option (Layer ℕ)) → overlay.upper ≡ o
-                → Among point (option_to_list (then_some o (λ layer. option_map (λ k. (layer.filesystem, k))
-                (upper_object (overlay.real directory.node)))))
-                → is_among nat_eq point.0 (used_filesystems nat_eq world names) ≡ false
-            layered None has k = absurd k
-            layered (Some layer) has k = real layer (upper_object (overlay.real directory.node)) has k
+    points_unused n h = search (
+      arith,
+      common_steps,
+      any_among,
+      eqb-true,
+      number_of_filesystem,
+      changed_is_unused,
+      upper_is_unused,
+      same_there,
+    )
 
     mounts_leave : LeavesApart world (without_mounts_on nat_eq world directory) names []
     mounts_leave = unmounting_leaves_apart world names set_apart directory points_unused

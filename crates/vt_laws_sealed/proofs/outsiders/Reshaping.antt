@@ -1,5 +1,6 @@
 -- Mounts of others with other mount points and types, in their namespaces or in none: the part shows the same of them.
-use Rattle.std.proofs.Common.{◌≡◌, refl, sym, ap, ◌∙◌, ◌⊎◌, inl, inr, ⊎_elim, ℕ, nat_eq, Bool, true, false, cond, List, Option, Some, None, ◌||◌}
+use Rattle.std.proofs.Common.{arith, ◌≡◌, refl, sym, ap, ◌∙◌, ◌⊎◌, inl, inr, ⊎_elim, ℕ, nat_eq, Bool, true, false, cond, List, Option, Some, None, ◌||◌}
+use Rattle.std.proofs.lemmas.Grind.{common_steps}
 use Rattle.vt_spec.specs.Language.Calls.{TaskName}
 use Rattle.vt_spec.specs.Lists.{holds_of, when}
 use Rattle.vt_spec.specs.Machine.Mounts.{Location, Mount, Propagation}
@@ -28,14 +29,7 @@ reshaping_keeps change shape = record {
 
 -- what is reshaped twice is reshaped
 pub reshaped_twice : (old middle new : Mount ℕ) → IsReshaped old middle → IsReshaped middle new → IsReshaped old new
-reshaped_twice old middle new one two = (
-  two.0,
-  two.1,
-  two.2,
-  two.3 ∙ ap (λ (x : Mount ℕ). record x { namespace = two.0; mount_point = two.1; propagation = two.2 }) one.3,
-  ⊎_elim (λ same. ⊎_elim (λ kept. inl (same ∙ ap (λ (x : Mount ℕ). x.namespace) one.3 ∙ kept))
-      (λ none. inr (same ∙ ap (λ (x : Mount ℕ). x.namespace) one.3 ∙ none)) one.4) inr two.4,
-)
+reshaped_twice old middle new one two = grind (arith, common_steps)
 
 -- the part has the same of a mount of others
 pub reshaped_kept : (world : World ℕ) (names : List TaskName) {New : ℕ → Type 0} → StandsApart world names New

@@ -1,5 +1,6 @@
 -- Types of mounts of others that are set: mount(2) with MS_SHARED, MS_SLAVE, MS_PRIVATE or MS_UNBINDABLE.
-use Rattle.std.proofs.Common.{◌≡◌, refl, sym, ap, subst, ◌∙◌, ◌⊎◌, inl, inr, ⊎_elim, ℕ, nat_eq, Bool, true, false, cond, true≢false, List, [], ◌∷◌, Option, Some, None, Ok, filter, is_some, length, map, not, ◌&&◌, ◌||◌, eq-eqb, eqb-true}
+use Rattle.std.proofs.Common.{arith, ◌≡◌, refl, sym, ap, subst, ◌∙◌, ◌⊎◌, inl, inr, ⊎_elim, ℕ, nat_eq, Bool, true, false, cond, true≢false, List, [], ◌∷◌, Option, Some, None, Ok, filter, is_some, length, map, not, ◌&&◌, ◌||◌, eq-eqb, eqb-true}
+use Rattle.std.proofs.lemmas.Grind.{common_steps}
 use Rattle.std.specs.List.{list_any}
 use Rattle.std.proofs.lemmas.Bool.{and_parts, false_from_ne_true, or_left}
 use Rattle.std.proofs.lemmas.Option.{same_Some}
@@ -63,13 +64,7 @@ new_masters group number (mount ∷ rest) master = ⊎_elim (λ same. by (nat_eq
         → (with_new_groups nat_eq group master (mount ∷ rest) number ≡ master number)
         ⊎ ((one : Mount ℕ) × Among one (mount ∷ rest) × (number ≡ group one.number)
         × (with_new_groups nat_eq group master (mount ∷ rest) number ≡ master_after one.propagation))
-    by true e same = inr (
-      mount,
-      inl refl,
-      eqb-true number (group mount.number) e,
-      same ∙ ap (λ b. cond b (master_after mount.propagation) (master number)) e,
-    )
-    by false e same = inl (same ∙ ap (λ b. cond b (master_after mount.propagation) (master number)) e)
+    by b e same = grind (arith, common_steps, eqb-true)
 
 module _ (world : World ℕ) (names : List TaskName) (apart : IsApart world names) (fresh : Fresh ℕ)
     (serves : Serves nat_eq world fresh) (namespace : ℕ)
@@ -103,13 +98,7 @@ module _ (world : World ℕ) (names : List TaskName) (apart : IsApart world name
   -- what is not in the namespace is not named
   not_named : (mount : Mount ℕ) → Among mount world.mounts → (mount.namespace ≡ Some namespace → ⊥)
       → is_named mount ≡ false
-  not_named mount there elsewhere = false_from_ne_true (is_named mount) (λ h.
-      let at = any_among (λ (other : Mount ℕ). nat_eq mount.number other.number) named h in
-      let in_it = named_in at.0 at.1 in
-      elsewhere (ap (λ (x : Mount ℕ). x.namespace)
-      (sym (found_itself world.mounts apart.is.mounts.one_number mount there)
-      ∙ ap (mount_numbered nat_eq world) (eqb-true mount.number at.0.number at.2)
-      ∙ found_itself world.mounts apart.is.mounts.one_number at.0 in_it.0) ∙ in_it.1))
+  not_named mount there elsewhere = search (arith, common_steps, false_from_ne_true, any_among, found_itself, eqb-true)
 
   own_not_named : (own : Mount ℕ) → Among own (own_mounts nat_eq world names) → is_named own ≡ false
   own_not_named own m =
@@ -186,10 +175,7 @@ module _ (world : World ℕ) (names : List TaskName) (apart : IsApart world name
       unbindable = (λ number e. none_is_some number e, λ number e. none_is_some number (ap source_of e))
 
       shared_new : IsOfOthers (Shared (group other.number))
-      shared_new = (
-        λ number e. made number (same_Some (group other.number) number e),
-        λ number e. none_is_some (group other.number) (sym (ap group_of e)),
-      )
+      shared_new = grind (arith, common_steps, made, same_Some, none_is_some)
 
       typed : (word : TypeWord) (kind : Propagation ℕ) → other.propagation ≡ kind
           → IsOfOthers (type_after (group other.number) word kind)
@@ -265,17 +251,10 @@ module _ (world : World ℕ) (names : List TaskName) (apart : IsApart world name
         by false = (mount.propagation, refl)
 
     changed_type : (mount : Mount ℕ) → (kind : Propagation ℕ) × (change mount ≡ record mount { propagation = kind })
-    changed_type mount =
-        let one = retyped_type mount in
-        let two = regrouped_type (retype mount) in
-        (two.0, two.1 ∙ ap (λ (x : Mount ℕ). record x { propagation = two.0 }) one.1)
+    changed_type mount = grind (arith, common_steps, retyped_type mount, regrouped_type (retype mount))
 
     keeps : KeepsPlaces change
-    keeps = record {
-      number = λ mount. ap (λ (x : Mount ℕ). x.number) (changed_type mount).1;
-      namespace = λ mount. ap (λ (x : Mount ℕ). x.namespace) (changed_type mount).1;
-      filesystem = λ mount. ap (λ (x : Mount ℕ). x.filesystem) (changed_type mount).1;
-    }
+    keeps = grind (arith, common_steps, changed_type)
 
     -- a mount of theirs stays
     own_type_stays : (own : Mount ℕ) → Among own (own_mounts nat_eq world names)
@@ -290,11 +269,7 @@ module _ (world : World ℕ) (names : List TaskName) (apart : IsApart world name
 
     regroup_stays : (mount : Mount ℕ) → inherited nat_eq middle mount.propagation ≡ mount.propagation
         → regroup mount ≡ mount
-    regroup_stays mount e = by lost
-      where
-        by : (b : Bool) → cond b (inheriting nat_eq middle mount) mount ≡ mount
-        by true = ap (λ kind. record mount { propagation = kind }) e
-        by false = refl
+    regroup_stays mount e = grind (arith, common_steps)
 
     own_stays : (own : Mount ℕ) → Among own (own_mounts nat_eq world names) → change own ≡ own
     own_stays own m = ap regroup (stays own (own_not_named own m)) ∙ regroup_stays own (own_type_stays own m)
@@ -308,10 +283,7 @@ module _ (world : World ℕ) (names : List TaskName) (apart : IsApart world name
         ∙ among_from_list_all is_nowhere_or_attached world.mounts apart.is.mounts.nowhere mount there)).1)
       where
         by : (kind : Propagation ℕ) → is_private kind ≡ true → inherited nat_eq middle kind ≡ kind
-        by (Shared g) h = refl
-        by (Slave g) h = absurd (true≢false (sym h))
-        by Private h = refl
-        by Unbindable h = refl
+        by kind h = grind (arith, common_steps, true≢false)
 
     kept_same : (mount : Mount ℕ) → Among mount world.mounts
         → keep world names (members world names) (change mount) ≡ keep world names (members world names) mount
@@ -354,14 +326,7 @@ module _ (world : World ℕ) (names : List TaskName) (apart : IsApart world name
       where
         above : (own : Mount ℕ) → Among own (own_mounts nat_eq world names) → group_of own.propagation ≡ Some number
             → (o : Option ℕ) → world.master number ≡ o → heir nat_eq middle o ≡ o
-        above own m is_in None e = refl
-        above own m is_in (Some upper) e = heir_stays own m upper (inr (of own.propagation is_in ∙ e))
-          where
-            of : (kind : Propagation ℕ) → group_of kind ≡ Some number → master_of world kind ≡ world.master number
-            of (Shared g) f = ap world.master (same_Some g number f)
-            of (Slave g) f = none_is_some number f
-            of Private f = none_is_some number f
-            of Unbindable f = none_is_some number f
+        above own m is_in o e = grind (arith, common_steps, heir_stays, same_Some, none_is_some)
 
         by : (b : Bool) → middle.master number ≡ world.master number
             → heir nat_eq middle (world.master number) ≡ world.master number
@@ -400,8 +365,7 @@ module _ (world : World ℕ) (names : List TaskName) (apart : IsApart world name
       heard_foreign : (kind : Propagation ℕ) → IsOfOthers kind → (number : ℕ)
           → HearsGroup world names so_far left kind number → IsForeign number
       heard_foreign (Shared g) is number how = ⊎_elim (is.0 number) (λ e. left_above g number (is.0 g refl) e) how
-      heard_foreign (Slave g) is number how =
-          ⊎_elim (λ e. none_is_some number e) (λ e. subst IsForeign (same_Some g number e) (is.1 g refl)) how
+      heard_foreign (Slave g) is number how = grind (arith, common_steps, none_is_some, same_Some)
       heard_foreign Private is number how = ⊎_elim (λ e. none_is_some number e) (λ e. none_is_some number e) how
       heard_foreign Unbindable is number how = ⊎_elim (λ e. none_is_some number e) (λ e. none_is_some number e) how
 
@@ -415,14 +379,7 @@ module _ (world : World ℕ) (names : List TaskName) (apart : IsApart world name
 
       own_kinds : (own : Mount ℕ) → Among own (own_mounts nat_eq world names)
           → master_of left own.propagation ≡ master_of world own.propagation
-      own_kinds own m = by own.propagation refl
-        where
-          by : (kind : Propagation ℕ) → own.propagation ≡ kind → master_of left kind ≡ master_of world kind
-          by (Shared g) e = own_masters g (any_from_among (is_member_of nat_eq g) (own_mounts nat_eq world names) own m
-              (ap (λ kind. holds_of (nat_eq g) (group_of kind)) e ∙ eq-eqb g g refl))
-          by (Slave g) e = refl
-          by Private e = refl
-          by Unbindable e = refl
+      own_kinds own m = grind (arith, common_steps, own_masters, any_from_among, eq-eqb)
 
       events : shares_no_events nat_eq left names ≡ true
       events = events_stay_apart world names so_far left
@@ -444,11 +401,7 @@ named_are_in : (world : World ℕ) (names : List TaskName) (apart : IsApart worl
 named_are_in world names apart namespace number placed recursive mount m = by recursive m
   where
     first : IsIn world namespace (mount_numbered nat_eq world number)
-    first = (
-      ⊎_elim (λ there. there) (λ none. none_is_some namespace (sym (ap (λ (x : Mount ℕ). x.namespace) none) ∙ placed))
-          (found_or_none world.mounts number),
-      placed,
-    )
+    first = grind (arith, common_steps, placed, found_or_none world.mounts number)
 
     by : (recursive : Bool) → Among mount (named_mounts nat_eq world number recursive) → IsIn world namespace mount
     by true n =
@@ -526,11 +479,7 @@ module _ (world : World ℕ) (fresh : Fresh ℕ) (names : List TaskName) (name :
       tail false = refl
 
   taken_or_not : (n : ℕ) → (last_master n ≡ done.master n) ⊎ (last_master n ≡ None)
-  taken_or_not n = by (has_members nat_eq (filter (mount_lives nat_eq done) done.mounts) n)
-    where
-      by : (b : Bool) → (cond b (done.master n) None ≡ done.master n) ⊎ (cond b (done.master n) None ≡ None)
-      by true = inl refl
-      by false = inr refl
+  taken_or_not n = grind (arith, common_steps)
 
   theirs_stay_there : (n : ℕ) → list_any (is_member_of nat_eq n) (own_mounts nat_eq world names) ≡ true
       → last_master n ≡ done.master n

@@ -1,5 +1,6 @@
 -- What a set of tasks sees is there, where it sees the same: mounts, filesystems and lower layers.
-use Rattle.std.proofs.Common.{◌≡◌, refl, sym, ap, subst, ◌∙◌, ⊎_elim, ℕ, nat_eq, Bool, true, false, cond, true≢false, List, [], ◌++◌, Option, Some, None, filter, find, flat_map, map, ◌&&◌, ◌||◌, eqb-true}
+use Rattle.std.proofs.Common.{arith, ◌≡◌, refl, sym, ap, subst, ◌∙◌, ℕ, nat_eq, Bool, true, false, cond, true≢false, List, [], ◌++◌, Option, Some, None, filter, find, flat_map, map, ◌&&◌, ◌||◌, eqb-true}
+use Rattle.std.proofs.lemmas.Grind.{common_steps}
 use Rattle.std.specs.Prelude.{option_to_list, unwrap_or}
 use Rattle.std.specs.List.{filter_map, list_any}
 use Rattle.vt_spec.specs.FileTree.{FileTree, is_under}
@@ -29,15 +30,7 @@ module _ (used : List ℕ) (lowers : List (Layer ℕ)) where
 
   pub shown_is : (a : World ℕ) (y x : Filesystem ℕ) → is_among nat_eq x.number used ≡ true
       → shown_of a used lowers y ≡ Some x → y ≡ x
-  shown_is a y x is e = by (is_among nat_eq y.number used) refl
-      (list_any (λ (layer : Layer ℕ). nat_eq y.number layer.filesystem) lowers) e
-    where
-      by : (b : Bool) → is_among nat_eq y.number used ≡ b → (c : Bool)
-          → cond b (Some y) (when c (lowered_by (filesystem_numbered nat_eq a y.number).files y)) ≡ Some x → y ≡ x
-      by true f c h = same_Some y x h
-      by false f true h = absurd (true≢false (sym is ∙ ap (λ (z : Filesystem ℕ). is_among nat_eq z.number used)
-          (sym (same_Some (lowered_by (filesystem_numbered nat_eq a y.number).files y) x h)) ∙ f))
-      by false f false h = none_is_some x h
+  shown_is a y x is e = grind (arith, common_steps, same_Some, true≢false, none_is_some)
 
   pub used_across : (a b : World ℕ)
       → filter_map (shown_of a used lowers) a.filesystems ≡ filter_map (shown_of b used lowers) b.filesystems
@@ -76,15 +69,7 @@ changed_of world names number m =
     up : (o : Option (Overlay ℕ)) → Among number (overlay_or [] (λ overlay. map (λ (layer : Layer ℕ). layer.filesystem)
         (option_to_list overlay.upper ++ option_to_list overlay.work)) o)
         → (layer : Layer ℕ) × Among layer (overlay_or [] layers_of o) × (number ≡ layer.filesystem)
-    up None h = absurd h
-    up (Some overlay) h =
-        let layer = among-from_map (λ (layer : Layer ℕ). layer.filesystem)
-        (option_to_list overlay.upper ++ option_to_list overlay.work) number h in (
-          layer.0,
-          among-append_left (option_to_list overlay.upper ++ option_to_list overlay.work) overlay.lowers layer.0
-              layer.1,
-          layer.2,
-        )
+    up o h = grind (arith, common_steps, among-from_map, among-append_left)
 
     by : (k : ℕ) → Among k (used_directly nat_eq world names) → (o : Option (Filesystem ℕ))
         → find (λ (f : Filesystem ℕ). nat_eq k f.number) world.filesystems ≡ o → Among number (change_layers (unwrap_or
@@ -120,32 +105,14 @@ module _ (world later : World ℕ) (names : List TaskName) (sees : SeesTheSame w
 
   shown_number : (mount shown : Mount ℕ) → keep world names theirs mount ≡ Some shown
       → (shown.number ≡ mount.number) × (shown.filesystem ≡ mount.filesystem) × (shown.root ≡ mount.root)
-  shown_number mount shown e = ⊎_elim (λ same. (
-    ap (λ (x : Mount ℕ). x.number) (sym same),
-    ap (λ (x : Mount ℕ). x.filesystem) (sym same),
-    ap (λ (x : Mount ℕ). x.root) (sym same),
-  )) (λ stub. (
-    ap (λ (x : Mount ℕ). x.number) (sym stub.0),
-    ap (λ (x : Mount ℕ). x.filesystem) (sym stub.0),
-    ap (λ (x : Mount ℕ). x.root) (sym stub.0),
-  )) (kept_how world names theirs mount shown e)
+  shown_number mount shown e = grind (arith, common_steps, kept_how)
 
   -- a mount that the part has is there, with number, filesystem and root
   pub there_later : (mount shown : Mount ℕ) → Among mount world.mounts → keep world names theirs mount ≡ Some shown
       → (there : Mount ℕ) × Among there later.mounts × (there.number ≡ mount.number)
       × (there.filesystem ≡ mount.filesystem) × (there.root ≡ mount.root)
       × (keep later names (members later names) there ≡ Some shown)
-  there_later mount shown m e =
-      let found = kept_later mount shown m e in
-      let one = shown_number mount shown e in
-      let two = shown_number found.0 shown found.2 in (
-        found.0,
-        found.1,
-        sym two.0 ∙ one.0,
-        sym two.1 ∙ one.1,
-        sym two.2 ∙ one.2,
-        ap (λ tasks. keep world names tasks found.0) sees.tasks ∙ found.2,
-      )
+  there_later mount shown m e = search (arith, common_steps, kept_later, shown_number, keep)
 
   pub own_later : (mount : Mount ℕ) → Among mount (own_mounts nat_eq world names) → Among mount later.mounts
   own_later mount m = (among-from_filter (is_own_mount nat_eq later names) later.mounts mount
@@ -186,17 +153,4 @@ module _ (world later : World ℕ) (names : List TaskName) (sees : SeesTheSame w
           → (merged : Filesystem ℕ) × Among merged world.filesystems
           × (is_among nat_eq merged.number (used_filesystems nat_eq world names) ≡ true)
           × Among layer (of_overlay [] layers_of merged) × Among merged.number (used_directly nat_eq world names)
-      by number direct None e h =
-          absurd (subst (λ o. Among layer (of_overlay [] (λ (overlay : Overlay ℕ). overlay.lowers)
-          (unwrap_or o (no_filesystem number)))) e h)
-      by number direct (Some merged) e h =
-          let same : number ≡ merged.number = eqb-true number merged.number
-          (found_passes (λ (f : Filesystem ℕ). nat_eq number f.number) world.filesystems merged e) in (
-            merged,
-            found_among (λ (f : Filesystem ℕ). nat_eq number f.number) world.filesystems merged e,
-            used_directly_used world names merged.number
-                (subst (λ n. Among n (used_directly nat_eq world names)) same direct),
-            up merged.overlay (subst (λ o. Among layer (of_overlay [] (λ (overlay : Overlay ℕ). overlay.lowers)
-                (unwrap_or o (no_filesystem number)))) e h),
-            subst (λ n. Among n (used_directly nat_eq world names)) same direct,
-          )
+      by number direct o e h = search (arith, common_steps, eqb-true, found_passes, found_among, used_directly_used, up)

@@ -1,20 +1,21 @@
 -- Where a task of others gets: to mounts of its namespace, or where it stands.
-use Rattle.std.proofs.Common.{◌≡◌, refl, sym, ap, subst, ◌∙◌, ◌⊎◌, inl, inr, ⊎_elim, ℕ, nat_eq, Bool, true, false, cond, List, [], ◌∷◌, Option, Some, None, Ok, Err, Result, length, eqb-true}
-use Rattle.std.specs.Prelude.{ok_or, option_map, option_to_list}
+use Rattle.std.proofs.Common.{arith, ◌≡◌, refl, sym, ap, subst, ◌∙◌, ◌⊎◌, inl, inr, ⊎_elim, ℕ, nat_eq, true, List, ◌∷◌, Option, Some, None, Ok, Err, Result, length, eqb-true}
+use Rattle.std.proofs.lemmas.Grind.{common_steps}
+use Rattle.std.specs.Prelude.{ok_or, option_map}
 use Rattle.std.specs.List.{list_all}
 use Rattle.std.proofs.lemmas.Bool.{and_parts}
 use Rattle.std.proofs.lemmas.Option.{same_Some}
 use Rattle.vt_spec.specs.declared.errors.Deny.{Deny}
-use Rattle.vt_spec.specs.declared.errors.Rule.TheVariants.{W6, W8}
-use Rattle.vt_spec.specs.Errors.{denial, unless}
+use Rattle.vt_spec.specs.declared.errors.Rule.TheVariants.{W6}
+use Rattle.vt_spec.specs.Errors.{denial}
 use Rattle.vt_spec.specs.Lists.{last_or}
 use Rattle.vt_spec.specs.Machine.Invariants.{IsWorld, Stands, is_directory_seen_in, stands_on_directories}
 use Rattle.vt_spec.specs.Machine.Looks.{looks_of}
-use Rattle.vt_spec.specs.Machine.Mounts.{Location, Mount, child_at, root_of, same_location, stands_at, topmost}
-use Rattle.vt_spec.specs.Machine.Walking.{LastWord, entry_location, hop, hops, is_lost, is_top, last_word, parent_location, start_of, stepped, up_from}
+use Rattle.vt_spec.specs.Machine.Mounts.{Location, Mount, child_at, root_of, stands_at, topmost}
+use Rattle.vt_spec.specs.Machine.Walking.{LastWord, entry_location, hop, hops, last_word, start_of, stepped, up_from}
 use Rattle.vt_spec.specs.Machine.Walking.LastWord.{Dot, DotDot, Named, NoWord}
-use Rattle.vt_spec.specs.Machine.World.{Task, World, is_directory_at, mount_at, mount_numbered}
-use Rattle.vt_spec.specs.PathText.{is_absolute, words}
+use Rattle.vt_spec.specs.Machine.World.{Task, World, mount_at, mount_numbered}
+use Rattle.vt_spec.specs.PathText.{words}
 use Rattle.vt_spec.proofs.Found.{found_among, found_passes}
 use Rattle.vt_spec.proofs.Lists.{Among, among_from_all, among_from_list_all}
 use Rattle.vt_spec.proofs.Options.{none_is_some}
@@ -40,17 +41,7 @@ module _ (world : World ℕ) (is : IsWorld nat_eq world) (task : Task ℕ) (ther
   seen : (location : Location ℕ) → is_directory_seen_in nat_eq world task.namespace location ≡ true
       → ((mount_at nat_eq world location).namespace ≡ Some task.namespace)
       ⊎ ((mount_at nat_eq world location).namespace ≡ None)
-  seen location h = by (mount_at nat_eq world location).namespace refl
-      (and_parts (is_directory_at nat_eq world location)
-      (list_all (nat_eq task.namespace) (option_to_list (mount_at nat_eq world location).namespace)) h).1
-    where
-      by : (o : Option ℕ) → (mount_at nat_eq world location).namespace ≡ o
-          → list_all (nat_eq task.namespace) (option_to_list o) ≡ true
-          → ((mount_at nat_eq world location).namespace ≡ Some task.namespace)
-          ⊎ ((mount_at nat_eq world location).namespace ≡ None)
-      by None e h = inr e
-      by (Some n) e h =
-          inl (e ∙ ap Some (sym (eqb-true task.namespace n (and_parts (nat_eq task.namespace n) true h).0)))
+  seen location h = grind (arith, common_steps, and_parts, eqb-true)
 
   stood : (is_directory_seen_in nat_eq world task.namespace task.root ≡ true)
       × (is_directory_seen_in nat_eq world task.namespace task.directory ≡ true)
@@ -66,11 +57,7 @@ module _ (world : World ℕ) (is : IsWorld nat_eq world) (task : Task ℕ) (ther
 
   pub start_ground : (directory : Location ℕ) (text : List ℕ) → OnGround directory
       → OnGround (start_of task directory text)
-  start_ground directory text ground = by (is_absolute text)
-    where
-      by : (b : Bool) → OnGround (cond b task.root directory)
-      by true = root_ground
-      by false = ground
+  start_ground directory text ground = grind (arith, common_steps, root_ground)
 
   -- a child is on the same ground
   child_ground : (a b : Location ℕ) → OnGround a → option_map root_of (child_at nat_eq world.mounts a) ≡ Some b
@@ -114,30 +101,11 @@ module _ (world : World ℕ) (is : IsWorld nat_eq world) (task : Task ℕ) (ther
           (found_or_none world.mounts number)
 
   hop_ground : (a b : Location ℕ) → OnGround a → hop nat_eq (looks_of nat_eq world) task a ≡ Some b → OnGround b
-  hop_ground a b ground e = by (same_location nat_eq a task.root) (nat_eq a.node (mount_at nat_eq world a).root) e
-    where
-      by : (p q : Bool) → cond p None (cond q (mount_at nat_eq world a).mount_point None) ≡ Some b → OnGround b
-      by true q h = none_is_some b h
-      by false true h = parent_ground a.mount b ground h
-      by false false h = none_is_some b h
+  hop_ground a b ground e = grind (arith, common_steps, none_is_some, parent_ground)
 
   up_ground : (top next : Location ℕ) → OnGround top → up_from nat_eq (looks_of nat_eq world) task top ≡ Ok next
       → OnGround next
-  up_ground top next ground e =
-      by (is_top nat_eq (looks_of nat_eq world) task top) (is_lost nat_eq (looks_of nat_eq world) top) e
-    where
-      same : (a b : Location ℕ) → OnGround a → Path (Result (Location ℕ) Deny) (Ok a) (Ok b) → OnGround b
-      same a b on h = let e : a ≡ b = cc in subst OnGround e on
-
-      by : (p q : Bool) → cond p (Ok top) (unless ((q, W8) ∷ []) (Ok (topmost nat_eq world.mounts
-          (parent_location nat_eq (looks_of nat_eq world) top)))) ≡ Ok next → OnGround next
-      by true q h = same top next ground h
-      by false true h = refused h
-        where
-          refused : Path (Result (Location ℕ) Deny) (Err (denial W8)) (Ok next) → OnGround next
-          refused k = absurd cc
-      by false false h = same (topmost nat_eq world.mounts (parent_location nat_eq (looks_of nat_eq world) top)) next
-          (topmost_ground (parent_location nat_eq (looks_of nat_eq world) top) ground) h
+  up_ground top next ground e = search (arith, common_steps, topmost_ground)
 
   pub step_ground : (here next : Location ℕ) (word : LastWord) → OnGround here
       → stepped nat_eq (looks_of nat_eq world) task here word ≡ Ok next → OnGround next

@@ -1,5 +1,6 @@
 -- A call of a task outside a sealed set leaves it sealed, if the set sees the same and others stay outside.
-use Rattle.std.proofs.Common.{◌≡◌, refl, sym, ap, subst, ◌∙◌, ◌⊎◌, inl, inr, ⊎_elim, ℕ, nat_eq, Bool, true, false, List, [], ◌++◌, append-nil, Some, Result, Ok, Err, map, not, ◌||◌}
+use Rattle.std.proofs.Common.{arith, ◌≡◌, refl, sym, ap, subst, ◌∙◌, ◌⊎◌, inl, inr, ⊎_elim, ℕ, nat_eq, Bool, true, false, List, [], ◌++◌, append-nil, Some, Result, Ok, Err, map, not, ◌||◌}
+use Rattle.std.proofs.lemmas.Grind.{common_steps}
 use Rattle.std.specs.List.{list_all, list_any}
 use Rattle.std.proofs.lemmas.Bool.{and_from, and_parts, or_cases, or_left, or_right}
 use Rattle.vt_spec.specs.declared.errors.Deny.{Deny}
@@ -52,12 +53,7 @@ pub record LeavesApart (world left : World ℕ) (names : List TaskName) (changed
 -- what leaves the world leaves the set
 pub leaves_itself : (world later : World ℕ) (fresh : Fresh ℕ) (names : List TaskName) (name : TaskName) (call : Call)
     → IsOutsidersCall world fresh names name call → later ≡ world → LeavesItSealed world later names
-leaves_itself world later fresh names name call outsider same =
-    subst (λ w. LeavesItSealed world w names) (sym same) (record {
-      sealed_off = outsider.sealed_off;
-      part = refl;
-      no_more = λ filesystem m alone. alone;
-    })
+leaves_itself world later fresh names name call outsider same = grind (arith, common_steps)
 
 module _ (world : World ℕ) (fresh : Fresh ℕ) (names : List TaskName) (name : TaskName) (call : Call)
     (outsider : IsOutsidersCall world fresh names name call) where
@@ -79,12 +75,7 @@ module _ (world : World ℕ) (fresh : Fresh ℕ) (names : List TaskName) (name :
         (every_call_keeps_worlds world fresh name call outsider.is outsider.serves outsider.few_groups)
 
     later_apart : IsApart later names
-    later_apart = record {
-      is = later_is;
-      tasks = tasks_raised world left names name changed outsider.outside ∙ leaves.others.tasks;
-      events = events_raised world left names name changed outsider.outside ∙ leaves.others.events;
-      locations = on_mounts_raised world left names name changed outsider.outside ∙ leaves.others.locations;
-    }
+    later_apart = search (arith, common_steps, later_is, tasks_raised, events_raised, on_mounts_raised)
 
     later_free : (number : ℕ) → IsOfTheWorld world names number → used_alone nat_eq world names number ≡ true
         → used_alone nat_eq later names number ≡ true

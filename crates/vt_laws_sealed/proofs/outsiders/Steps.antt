@@ -1,5 +1,6 @@
 -- Steps of a call of others, one after the other: what each leaves of a sealed set is left by all.
-use Rattle.std.proofs.Common.{◌≡◌, refl, sym, ap, subst, ◌∙◌, ⊎_elim, inl, inr, ℕ, nat_eq, List, [], Some, map}
+use Rattle.std.proofs.Common.{arith, ◌≡◌, sym, ap, subst, ◌∙◌, ℕ, nat_eq, List, [], Some, map}
+use Rattle.std.proofs.lemmas.Grind.{common_steps}
 use Rattle.std.specs.Prelude.{Contains}
 use Rattle.std.specs.List.{filter_map, list_any}
 use Rattle.vt_spec.specs.Language.Calls.{TaskName}
@@ -8,12 +9,12 @@ use Rattle.vt_spec.specs.Machine.Invariants.{MountInvariants}
 use Rattle.vt_spec.specs.Machine.Mounts.{Location, Mount}
 use Rattle.vt_spec.specs.Machine.Receives.{is_member_of}
 use Rattle.vt_spec.specs.Machine.Sealed.{is_own_namespace, members, own_lowers, roots_and_directories, used_filesystems}
-use Rattle.vt_spec.specs.Machine.World.{Filesystem, Namespace, Task, World}
+use Rattle.vt_spec.specs.Machine.World.{Namespace, Task, World}
 use Rattle.vt_spec.proofs.Lists.{Among}
 use Rattle.vt_laws_sealed.specs.Part.Parts.{SeesTheSame, shown_of}
 use Rattle.vt_laws_sealed.proofs.part.part.Observed.{directly_same, lowers_same, own_mounts_same, used_same}
 use Rattle.vt_laws_sealed.proofs.outsiders.StandingApart.{NothingNew, StandsApart}
-use Rattle.vt_laws_sealed.proofs.outsiders.Staying.{IsOfTheWorld, LeavesApart}
+use Rattle.vt_laws_sealed.proofs.outsiders.Staying.{LeavesApart}
 
 pub sees_on : (world middle later : World ℕ) (names : List TaskName) → SeesTheSame world middle names
     → SeesTheSame middle later names → SeesTheSame world later names
@@ -40,21 +41,12 @@ sees_on world middle later names one two = record {
 -- where filesystems are as they were after the first one
 pub leaves_on : (world middle later : World ℕ) (names : List TaskName) → middle.filesystems ≡ world.filesystems
     → LeavesApart world middle names [] → LeavesApart middle later names [] → LeavesApart world later names []
-leaves_on world middle later names same one two = record {
-  sees = sees_on world middle later names one.sees two.sees;
-  others = record {
-    tasks = two.others.tasks;
-    events = two.others.events;
-    locations = two.others.locations;
-    free = λ number of alone. two.others.free number (in_middle number of) (one.others.free number of alone);
-  };
-  unraised = λ number m. refl;
-}
-  where
-    in_middle : (number : ℕ) → IsOfTheWorld world names number → IsOfTheWorld middle names number
-    in_middle number of = ⊎_elim
-        (λ there. inl (ap (λ list. is_among nat_eq number (map (λ (f : Filesystem ℕ). f.number) list)) same ∙ there))
-        (λ used. inr (subst (Among number) (sym (used_same world middle names one.sees)) used)) of
+leaves_on world middle later names same one two = grind (
+  arith,
+  common_steps,
+  sees_on world middle later names one.sees two.sees,
+  used_same world middle names one.sees,
+)
 
 -- others and the set stand apart after a step that leaves mounts of others where they were, or in no namespace
 pub standing_on : (world later : World ℕ) (names : List TaskName) → StandsApart world names NothingNew

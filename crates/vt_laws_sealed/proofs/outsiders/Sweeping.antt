@@ -1,5 +1,6 @@
 -- The sweep at the end of a call takes nothing that a sealed set uses.
-use Rattle.std.proofs.Common.{◌≡◌, sym, ap, subst, ◌∙◌, ℕ, nat_eq, true, false, List, [], Option, Some, None, is_some, not, eqb-true}
+use Rattle.std.proofs.Common.{arith, ◌≡◌, sym, ap, ◌∙◌, ℕ, nat_eq, true, false, List, [], Option, Some, None, not, eqb-true}
+use Rattle.std.proofs.lemmas.Grind.{common_steps}
 use Rattle.std.specs.List.{list_all, list_any}
 use Rattle.std.proofs.lemmas.Bool.{and_parts, not-true}
 use Rattle.vt_spec.specs.Language.Calls.{TaskName}
@@ -49,12 +50,7 @@ module _ (world before : World ℕ) (names : List TaskName) (apart : IsApart wor
       trees.one_filesystem
 
   one_each_later : any_pair (λ (a b : Filesystem ℕ). nat_eq a.number b.number) merged_swept.filesystems ≡ false
-  one_each_later =
-      pair-map (λ (a b : Filesystem ℕ). nat_eq a.number b.number) (λ (a b : Filesystem ℕ). nat_eq a.number b.number)
-      (λ f. only_used nat_eq mounted (is_overlay f) f) mounted.filesystems
-      (λ a b m n e. ap (λ k. nat_eq k (only_used nat_eq mounted (is_overlay b) b).number)
-      (number-only_used mounted (is_overlay a) a)
-      ∙ ap (nat_eq a.number) (number-only_used mounted (is_overlay b) b) ∙ e) one_each
+  one_each_later = grind (arith, common_steps, pair-map, number-only_used, one_each)
 
   -- a lower layer of theirs is a directory of a plain tree
   plain_layer : (layer : Layer ℕ) → Among layer (own_lowers nat_eq world names)
@@ -117,8 +113,7 @@ module _ (world before : World ℕ) (names : List TaskName) (apart : IsApart wor
       (ap (λ n. list_any (λ (layer : Layer ℕ). nat_eq n layer.filesystem) (own_lowers nat_eq world names))
       (sym (ap (λ (f : Filesystem ℕ). f.number) from.2 ∙ number-only_used mounted (is_overlay from.0) from.0))
       ∙ lower) in
-      subst (IsLowerTree (own_lowers nat_eq world names))
-      (sym (from.2 ∙ ap (λ o. only_used nat_eq mounted (is_some o) from.0) it.plain)) it
+      grind (arith, common_steps)
 
   sees_last : SeesTheSame world (settled nat_eq before) names
   sees_last = groups_swept world (without_dead_inodes nat_eq mounted) names
@@ -128,11 +123,7 @@ module _ (world before : World ℕ) (names : List TaskName) (apart : IsApart wor
       one_living (λ f. not (is_overlay f)) lower_swept one_each_later)
 
   pub sweep_leaves_apart : LeavesApart world (settled nat_eq before) names changed
-  sweep_leaves_apart = record {
-    sees = sees_last;
-    others = others_swept world before names leaves.others;
-    unraised = leaves.unraised;
-  }
+  sweep_leaves_apart = search (arith, common_steps, sees_last, others_swept)
 
 -- So it is where filesystems are as they were.
 pub sweeping_leaves_apart : (world before : World ℕ) (names : List TaskName) → IsApart world names

@@ -1,5 +1,6 @@
 -- Mounts of others that are taken away: what is left for the set.
-use Rattle.std.proofs.Common.{◌≡◌, refl, sym, ap, subst, ◌∙◌, ⊎_elim, inl, inr, ℕ, nat_eq, Bool, true, false, cond, true≢false, List, [], Option, Some, None, length, map}
+use Rattle.std.proofs.Common.{arith, ◌≡◌, refl, sym, ap, subst, ◌∙◌, ⊎_elim, inl, inr, ℕ, nat_eq, Bool, true, false, cond, true≢false, List, [], Option, Some, None, length, map}
+use Rattle.std.proofs.lemmas.Grind.{common_steps}
 use Rattle.std.specs.Prelude.{option_map}
 use Rattle.std.specs.List.{list_any}
 use Rattle.std.proofs.lemmas.Option.{same_Some}
@@ -23,7 +24,7 @@ use Rattle.vt_laws_worlds.proofs.worlds.Reached.{namespace_below}
 use Rattle.vt_laws_sealed.specs.Part.Seals.{IsApart}
 use Rattle.vt_laws_sealed.proofs.outsiders.ChangedWorlds.{OthersMove}
 use Rattle.vt_laws_sealed.proofs.outsiders.OtherMounts.{foreign_above, nowhere_unplaced, standing_apart}
-use Rattle.vt_laws_sealed.proofs.outsiders.Regrouping.{IsOfOthers, after_all, all_changed, all_shape, mounts_are, of_nobody, old_type, regrouping_leaves_apart}
+use Rattle.vt_laws_sealed.proofs.outsiders.Regrouping.{IsOfOthers, after_all, all_changed, all_shape, mounts_are, old_type, regrouping_leaves_apart}
 use Rattle.vt_laws_sealed.proofs.outsiders.Reshaping.{IsReshaped, reshaping_keeps}
 use Rattle.vt_laws_sealed.proofs.outsiders.StandingApart.{StandsApart}
 use Rattle.vt_laws_sealed.proofs.outsiders.Staying.{LeavesApart}
@@ -32,16 +33,7 @@ use Rattle.vt_laws_sealed.proofs.outsiders.Sweeping.{sweeping_leaves_apart}
 -- namespaces stay where mounts are taken away
 pub namespaces_taken_away : (world : World ℕ) (gone : List ℕ)
     → record (taken_away nat_eq world gone) { namespaces = world.namespaces } ≡ taken_away nat_eq world gone
-namespaces_taken_away world gone =
-    by (list_any (lost_a_group nat_eq (with_mounts world (map (after_going nat_eq world gone) world.mounts)))
-    (map (after_going nat_eq world gone) world.mounts))
-  where
-    by : (b : Bool)
-        → record (regrouped_by nat_eq b (with_mounts world (map (after_going nat_eq world gone) world.mounts))) {
-          namespaces = world.namespaces;
-        } ≡ regrouped_by nat_eq b (with_mounts world (map (after_going nat_eq world gone) world.mounts))
-    by true = refl
-    by false = refl
+namespaces_taken_away world gone = grind (arith, common_steps)
 
 -- Mounts of others go, and others may be elsewhere. Each mount that goes is in a namespace of others.
 module _ (world : World ℕ) (names : List TaskName) {New : ℕ → Type 0} (apart : StandsApart world names New)
@@ -93,17 +85,7 @@ module _ (world : World ℕ) (names : List TaskName) {New : ℕ → Type 0} (apa
 
   stays : (mount : Mount ℕ) → goes mount.number ≡ false
       → ((point : Location ℕ) → mount.mount_point ≡ Some point → goes point.mount ≡ false) → change mount ≡ mount
-  stays mount on parent =
-      ap (λ b. cond b (detached mount) (record mount { mount_point = option_map new_point mount.mount_point })) on
-      ∙ by mount.mount_point refl
-    where
-      by : (o : Option (Location ℕ)) → mount.mount_point ≡ o
-          → record mount { mount_point = option_map new_point mount.mount_point } ≡ mount
-      by None e = ap (λ o. record mount { mount_point = option_map new_point o }) e
-          ∙ sym (ap (λ o. record mount { mount_point = o }) e)
-      by (Some point) e = ap (λ o. record mount { mount_point = option_map new_point o }) e
-          ∙ ap (λ p. record mount { mount_point = Some p }) (point_stays point (parent point e))
-          ∙ sym (ap (λ o. record mount { mount_point = o }) e)
+  stays mount on parent = grind (arith, common_steps, point_stays)
 
   own_same : (own : Mount ℕ) → Among own (own_mounts nat_eq world names) → change own ≡ own
   own_same own m =
@@ -127,13 +109,7 @@ module _ (world : World ℕ) (names : List TaskName) {New : ℕ → Type 0} (apa
 
   kinds : (other : Mount ℕ) → Among other (other_mounts nat_eq world names)
       → IsOfOthers world names apart (change other).propagation
-  kinds other m = by (goes other.number)
-    where
-      by : (b : Bool) → IsOfOthers world names apart (cond b (detached other) (record other {
-        mount_point = option_map new_point other.mount_point;
-      })).propagation
-      by true = of_nobody world names apart
-      by false = old_type world names apart other m
+  kinds other m = grind (arith, common_steps, old_type world names apart other m)
 
   abbrev halfway : World ℕ
   halfway = with_mounts before (map change world.mounts)
@@ -183,9 +159,7 @@ module _ (world : World ℕ) (names : List TaskName) {New : ℕ → Type 0} (apa
       let keeps = reshaping_keeps all_change
       (all_shape world names apart change shape own_same nowhere_same kinds world.master
       (foreign_above world names apart) (λ number h. refl) tasks namespaces moved lost) in
-      pair-map (λ (a b : Mount ℕ). nat_eq a.number b.number) (λ (a b : Mount ℕ). nat_eq a.number b.number) all_change
-      world.mounts (λ a b m n e. ap (λ k. nat_eq k (all_change b).number) (keeps.number a)
-      ∙ ap (nat_eq a.number) (keeps.number b) ∙ e) apart.mounts.one_number
+      grind (arith, common_steps, pair-map)
 
   abbrev pub taken : World ℕ
   taken = record (taken_away nat_eq before gone) { namespaces = namespaces }

@@ -1,14 +1,15 @@
 -- Mounts of others that are unmounted, with those that an event takes away: umount(2).
-use Rattle.std.proofs.Common.{◌≡◌, refl, sym, ap, subst, ◌∙◌, ⊎_elim, ℕ, nat_eq, Bool, true, false, true≢false, List, [], ◌∷◌, Option, Some, None, Ok, map}
+use Rattle.std.proofs.Common.{arith, ◌≡◌, refl, sym, ap, subst, ◌∙◌, ⊎_elim, ℕ, nat_eq, Bool, true, false, true≢false, List, [], ◌∷◌, Option, Some, None, Ok, map}
+use Rattle.std.proofs.lemmas.Grind.{common_steps}
 use Rattle.std.specs.Prelude.{option_map, unwrap_or}
 use Rattle.std.specs.List.{filter_map}
 use Rattle.std.proofs.lemmas.Bool.{false_from_ne_true}
 use Rattle.vt_spec.specs.Language.Calls.{Call, TaskName}
 use Rattle.vt_spec.specs.Language.Calls.Call.{Umount}
-use Rattle.vt_spec.specs.Lists.{Fresh, holds_of, then_some, when}
+use Rattle.vt_spec.specs.Lists.{Fresh, holds_of}
 use Rattle.vt_spec.specs.Machine.Apply.{apply}
 use Rattle.vt_spec.specs.Machine.Attach.{receivers_of}
-use Rattle.vt_spec.specs.Machine.Detach.{going, going_at, going_from, goes_at, is_going, may_go}
+use Rattle.vt_spec.specs.Machine.Detach.{going, going_at, going_from, goes_at, is_going}
 use Rattle.vt_spec.specs.Machine.Invariants.{Stands}
 use Rattle.vt_spec.specs.Machine.Judge.{judge_in}
 use Rattle.vt_spec.specs.Machine.Mounts.{Location, Mount, child_at, group_of, is_shared, stands_at}
@@ -51,11 +52,7 @@ module _ (world : World ℕ) (names : List TaskName) {New : ℕ → Type 0} (apa
   unmounted_one = mount_numbered nat_eq world number
 
   its_own : (k : ℕ) → Among k (unmounted_one.number ∷ []) → IsOfOthersAt k
-  its_own k m = ⊎_elim (λ e. (
-    namespace,
-    ap (λ j. (mount_numbered nat_eq world j).namespace) (e ∙ number-mount_in world.mounts number) ∙ placed,
-    outside,
-  )) (λ none. absurd none) m
+  its_own k m = grind (arith, common_steps, number-mount_in)
 
   -- the parent is one of others
   module _ (point : Location ℕ) (at : unmounted_one.mount_point ≡ Some point) where
@@ -108,16 +105,7 @@ module _ (world : World ℕ) (names : List TaskName) {New : ℕ → Type 0} (apa
 
     child_gone : (receiver child : Mount ℕ) → goes_at nat_eq world point.node receiver ≡ Some child
         → child_at nat_eq world.mounts (record { mount = receiver.number; node = point.node }) ≡ Some child
-    child_gone receiver child e =
-        by (child_at nat_eq world.mounts (record { mount = receiver.number; node = point.node })) e
-      where
-        may : (b : Bool) (x : Mount ℕ) → when b x ≡ Some child → Some x ≡ Some child
-        may true x h = h
-        may false x h = none_is_some child h
-
-        by : (o : Option (Mount ℕ)) → then_some o (λ x. when (may_go nat_eq world x) x) ≡ Some child → o ≡ Some child
-        by None h = none_is_some child h
-        by (Some x) h = may (may_go nat_eq world x) x h
+    child_gone receiver child e = grind (arith, common_steps, none_is_some)
 
     its_receivers : (k : ℕ) → Among k (map (λ (x : Mount ℕ). x.number) (filter_map (goes_at nat_eq world point.node)
         (receivers_of nat_eq world parent))) → IsOfOthersAt k

@@ -1,20 +1,20 @@
 -- Others that get a namespace of their own, with copies of the mounts of theirs: unshare(2) with CLONE_NEWNS.
-use Rattle.std.proofs.Common.{◌≡◌, refl, sym, ap, subst, ◌∙◌, ◌⊎◌, inl, inr, ⊎_elim, ℕ, nat_eq, Bool, true, false, cond, true≢false, List, [], ◌∷◌, ◌++◌, append-nil, Option, Some, None, filter, flat_map, map, ◌+◌, ◌*◌, not, ◌||◌, eqb-true}
+use Rattle.std.proofs.Common.{arith, ◌≡◌, refl, sym, ap, subst, ◌∙◌, ◌⊎◌, inl, inr, ⊎_elim, ℕ, nat_eq, Bool, true, false, cond, true≢false, List, [], ◌∷◌, ◌++◌, append-nil, Option, Some, None, filter, flat_map, map, ◌+◌, ◌*◌, not, ◌||◌, eqb-true}
+use Rattle.std.proofs.lemmas.Grind.{common_steps}
 use Rattle.std.specs.List.{filter_map, list_all, list_any}
 use Rattle.std.proofs.lemmas.Bool.{and_from, and_parts, false_from_ne_true, not-true}
 use Rattle.std.proofs.lemmas.List.Elements.{filter-append, filter_map-append}
-use Rattle.vt_spec.specs.Language.Calls.{Call, TaskName, same_name}
-use Rattle.vt_spec.specs.Lists.{Fresh, evens, holds_of, odds, when}
+use Rattle.vt_spec.specs.Language.Calls.{Call, TaskName}
+use Rattle.vt_spec.specs.Lists.{Fresh, evens, holds_of, odds}
 use Rattle.vt_spec.specs.Machine.Apply.{apply}
 use Rattle.vt_spec.specs.Machine.Invariants.{is_listed}
 use Rattle.vt_spec.specs.Machine.Mounts.{Location, Mount, Propagation, index_of, numbers_by}
-use Rattle.vt_spec.specs.Machine.Mounts.Propagation.{Private, Shared, Slave, Unbindable}
 use Rattle.vt_spec.specs.Machine.Namespaces.{copied_mount, is_copied, location_on_copy, namespaces_ended, unshared, unshared_task}
 use Rattle.vt_spec.specs.Machine.Permits.Permit.{ToUnshare}
 use Rattle.vt_spec.specs.Machine.Run.{Serves, used_by_filesystem, used_by_mount}
-use Rattle.vt_spec.specs.Machine.Sealed.{is_at, is_member_task, is_own_mount, is_own_namespace, locations, master_of, members, no_outsider_on, other_mounts, outsiders, roots_and_directories, seen_by_descriptor}
+use Rattle.vt_spec.specs.Machine.Sealed.{is_at, is_member_task, is_own_mount, is_own_namespace, locations, master_of, members, no_outsider_on, other_mounts, outsiders, roots_and_directories}
 use Rattle.vt_spec.specs.Machine.Settled.{settled}
-use Rattle.vt_spec.specs.Machine.World.{Namespace, Task, World, all_locations, locations_of, mount_at, mount_numbered, mounts_of, replaced_if_called, task_called}
+use Rattle.vt_spec.specs.Machine.World.{Namespace, Task, World, all_locations, locations_of, mount_at, mount_numbered, mounts_of, task_called}
 use Rattle.vt_spec.proofs.Found.{is_among_right}
 use Rattle.vt_spec.proofs.Lists.{Among, among-append, among-append_left, among-filter, among-flat_map, among-from_filter, among-from_flat_map, among-from_map, among-map, among_from_list_all, among_numbers, any_among, is_among_numbers, list_all_from_among, none_among, none_from_among}
 use Rattle.vt_laws_mounts.proofs.ends.Ending.{ended_namespaces_keep_mounts}
@@ -137,12 +137,7 @@ module _ (world : World ℕ) (names : List TaskName) (apart : IsApart world name
       (λ rest. ⊎_elim (λ directory. inr (inl directory)) (λ none. absurd none) rest) of.2))
 
   copy_not_kept : (mount : Mount ℕ) → IsCopy mount → kept mount ≡ None
-  copy_not_kept mount is_copy = ap (λ b. cond (b || is_at nat_eq (roots_and_directories theirs) mount) (Some mount)
-      (when (is_at nat_eq (locations theirs) mount) (seen_by_descriptor mount)))
-      (ap (λ (x : Mount ℕ). holds_of is_own x.namespace) is_copy.2 ∙ new_namespace)
-      ∙ ap (λ b. cond b (Some mount) (when (is_at nat_eq (locations theirs) mount) (seen_by_descriptor mount)))
-      (not_located (roots_and_directories theirs) roots_located mount is_copy)
-      ∙ ap (λ b. when b (seen_by_descriptor mount)) (not_located (locations theirs) of_members mount is_copy)
+  copy_not_kept mount is_copy = search (arith, common_steps, new_namespace, not_located, roots_located, of_members)
 
   module _ (same : filter (is_member_task names) left.tasks ≡ members world names) where
     sees : SeesTheSame world left names
@@ -166,20 +161,7 @@ module _ (world : World ℕ) (names : List TaskName) (apart : IsApart world name
 
     -- one of the others was one, or is the caller
     out_from : (t : Task ℕ) → Among t (outsiders left names) → (t ≡ moved) ⊎ Among t (outsiders world names)
-    out_from t m =
-        let out = among-from_filter (λ (x : Task ℕ). not (is_member_task names x)) left.tasks t m in
-        let from = among-from_map (replaced_if_called moved) world.tasks t out.0 in
-        by from.0 from.1 from.2 out.1 (same_name moved.name from.0.name) refl
-      where
-        by : (old : Task ℕ) → Among old world.tasks → t ≡ replaced_if_called moved old
-            → not (is_member_task names t) ≡ true → (b : Bool) → same_name moved.name old.name ≡ b
-            → (t ≡ moved) ⊎ Among t (outsiders world names)
-        by old there e out true f = inl (e ∙ ap (λ b. cond b moved old) f)
-        by old there e out false f =
-            let it : t ≡ old = e ∙ ap (λ b. cond b moved old) f in
-            inr (subst (λ (x : Task ℕ). Among x (outsiders world names)) (sym it)
-            (among-filter (λ (x : Task ℕ). not (is_member_task names x)) world.tasks old there
-            (ap (λ (x : Task ℕ). not (is_member_task names x)) (sym it) ∙ out)))
+    out_from t m = grind (arith, common_steps, among-from_filter, among-from_map, among-filter)
 
     out_placed : (t : Task ℕ) → Among t (outsiders left names) → is_own t.namespace ≡ false
     out_placed t m = ⊎_elim (λ it. ap (λ (x : Task ℕ). is_own x.namespace) it ∙ new_namespace)
@@ -241,10 +223,7 @@ module _ (world : World ℕ) (names : List TaskName) (apart : IsApart world name
         out.1)) (λ new. inr (copies_are other new)) (among-append world.mounts copies other out.0)
 
     masters_are : (kind : Propagation ℕ) → master_of left kind ≡ master_of world kind
-    masters_are (Shared group) = refl
-    masters_are (Slave group) = refl
-    masters_are Private = refl
-    masters_are Unbindable = refl
+    masters_are kind = grind (arith, common_steps)
 
     hears : (kind : Propagation ℕ) (group : ℕ) → HearsGroup world names so_far left kind group
         → HearsGroup world names so_far world kind group
@@ -252,28 +231,19 @@ module _ (world : World ℕ) (names : List TaskName) (apart : IsApart world name
 
     fewer : (n : ℕ) → IsOfTheWorld world names n → no_outsider_on nat_eq world names n ≡ true
         → no_outsider_on nat_eq left names n ≡ true
-    fewer n of alone =
-        let parts = and_parts (not (list_any (λ (mount : Mount ℕ). nat_eq n mount.filesystem)
-        (other_mounts nat_eq world names)))
-        (not (list_any (λ location. nat_eq n (mount_at nat_eq world location).filesystem)
-        (locations (outsiders world names)))) alone in
-        let none_shows : (other : Mount ℕ) → Among other (other_mounts nat_eq world names)
-        → nat_eq n other.filesystem ≡ false =
-        none_among (λ (mount : Mount ℕ). nat_eq n mount.filesystem) (other_mounts nat_eq world names)
-        (not-true _ parts.0) in
-        and_from (not (list_any (λ (mount : Mount ℕ). nat_eq n mount.filesystem) (other_mounts nat_eq left names)))
-        (not (list_any (λ location. nat_eq n (mount_at nat_eq left location).filesystem)
-        (locations (outsiders left names))))
-        (ap not (none_from_among (λ (mount : Mount ℕ). nat_eq n mount.filesystem) (other_mounts nat_eq left names)
-        (λ other m. ⊎_elim (none_shows other) (λ is_copy. ap (λ (x : Mount ℕ). nat_eq n x.filesystem) is_copy.2
-        ∙ none_shows is_copy.0 (old_other is_copy.0 is_copy.1)) (others_from other m))))
-        (ap not (none_from_among (λ location. nat_eq n (mount_at nat_eq left location).filesystem)
-        (locations (outsiders left names)) (λ location m. ⊎_elim
-        (λ old. ap (λ (x : Mount ℕ). nat_eq n x.filesystem) (old_at location old)
-        ∙ none_among (λ place. nat_eq n (mount_at nat_eq world place).filesystem)
-        (locations (outsiders world names)) (not-true _ parts.1) location old)
-        (λ new. ap (λ (x : Mount ℕ). nat_eq n x.filesystem) new.2 ∙ none_shows new.0 (old_other new.0 new.1))
-        (located_from location m))))
+    fewer n of alone = search (
+      arith,
+      common_steps,
+      and_parts,
+      none_among,
+      not-true,
+      and_from,
+      none_from_among,
+      old_other,
+      others_from,
+      old_at,
+      located_from,
+    )
 
     copied_leaves_apart : LeavesApart world left names []
     copied_leaves_apart = record {

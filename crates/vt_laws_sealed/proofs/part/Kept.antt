@@ -1,6 +1,6 @@
 -- Lists of which something is kept: filters, searches and lists that agree.
 use Rattle.std.proofs.lemmas.Grind.{common_steps}
-use Rattle.std.proofs.Common.{◌≡◌, refl, sym, ap, inl, inr, ⊎_elim, ℕ, nat_eq, Bool, true, false, List, [], ◌∷◌, Option, Some, map, filter, find, not, eqb-true, length, ◌≤◌, arith}
+use Rattle.std.proofs.Common.{◌≡◌, refl, ap, inl, inr, ⊎_elim, ℕ, nat_eq, Bool, true, false, List, [], ◌∷◌, Option, Some, map, filter, find, not, eqb-true, length, ◌≤◌, arith}
 use Rattle.std.specs.Prelude.{unwrap_or}
 use Rattle.std.specs.List.{cons_option, filter_map}
 use Rattle.vt_spec.specs.Lists.{each_once}
@@ -53,12 +53,7 @@ among-from_each_once (y ∷ ys) x m = ⊎_elim inl (λ later. inr (among-from_ea
 -- what is in a list is in it without repetitions
 pub among-each_once : (xs : List ℕ) (x : ℕ) → Among x xs → Among x (each_once nat_eq xs)
 among-each_once [] x m = absurd m
-among-each_once (y ∷ ys) x m = ⊎_elim inl (λ l. here (nat_eq y x) refl (among-each_once ys x l)) m
-  where
-    here : (b : Bool) → nat_eq y x ≡ b → Among x (each_once nat_eq ys)
-        → Among x (y ∷ filter (λ z. not (nat_eq y z)) (each_once nat_eq ys))
-    here true e l = inl (sym (eqb-true y x e))
-    here false e l = inr (among-filter (λ z. not (nat_eq y z)) (each_once nat_eq ys) x l (ap not e))
+among-each_once (y ∷ ys) x m = grind (arith, common_steps, eqb-true, among-filter, among-each_once ys x)
 
 -- filters by two tests that agree on what is kept
 pub filter_both : {A : Type 0} (k : A → Option A) (p q : A → Bool) (xs : List A)

@@ -1,5 +1,6 @@
 -- Calls of theirs end alike in all worlds that are the same.
-use Rattle.std.proofs.Common.{sym, subst, ◌∙◌, nat_eq}
+use Rattle.std.proofs.Common.{arith, subst, ◌∙◌, nat_eq}
+use Rattle.std.proofs.lemmas.Grind.{common_steps}
 use Rattle.vt_laws_members.specs.Changes.Changes.{grown}
 use Rattle.vt_laws_worlds.proofs.one_text.answered.AlikeAnswered.{any_same_worlds_are_answered_alike}
 use Rattle.vt_laws_trees.proofs.runs.answered.AlikeWorlds.{sameness_is_an_equivalence}
@@ -21,8 +22,4 @@ calls_end_alike_in_same_worlds world other same is names name call fresh given e
     (sameness_is_an_equivalence.back (part_of nat_eq here.world set) (part_of nat_eq later set)
     (same_worlds_have_same_parts here.world later
     (sameness_is_an_equivalence.onward here.world there.world later alike.worlds left) set)) in
-    record {
-      answered = sym alike.answer ∙ ends.answer;
-      part = subst (λ answer. SameWorlds (part_of nat_eq later (grown names name call answer))
-          (part_of nat_eq in_part.world (grown names name call answer))) alike.answer kept;
-    }
+    grind (arith, common_steps)

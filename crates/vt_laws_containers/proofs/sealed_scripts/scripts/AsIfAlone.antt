@@ -1,9 +1,10 @@
 -- A sealed set is answered as if nobody else were there.
-use Rattle.std.proofs.Common.{Bool, List, [], ◌∷◌, Some, None, map, true, false}
+use Rattle.std.proofs.Common.{arith, Bool, List, [], ◌∷◌, map, true, false}
+use Rattle.std.proofs.lemmas.Grind.{common_steps}
 use Rattle.vt_spec.specs.Language.Calls.{Call, TaskName}
 use Rattle.vt_laws_members.proofs.each_call.EachCall.{each_call_ends_alike}
 use Rattle.vt_laws_containers.specs.Calls.{AlwaysEndsAlike}
-use Rattle.vt_laws_containers.specs.Scripts.{Along, Asked, IfAsked, Stand, asked, next}
+use Rattle.vt_laws_containers.specs.Scripts.{Along, Asked, Stand, asked, next}
 use Rattle.vt_laws_containers.proofs.scripts.AnsweredAlike.{sets_are_answered_as_alone}
 use Rattle.vt_laws_containers.proofs.scripts.CallsAlike.{runs_end_alike}
 use Rattle.vt_laws_containers.specs.SealedScripts.AsIfAlone.{SealedSetsAreAnsweredAsIfAlone}
@@ -14,11 +15,8 @@ along_all : (Holds : Stand → TaskName → Call → Type 0)
     → ((here : Stand) (name : TaskName) (call : Call) → Holds here name call)
     → (others : Bool) (at : Stand) (calls : List Asked) → Along Holds others at calls
 along_all Holds all others at [] = tt
-along_all Holds all others at (call ∷ calls) = (if_asked call, along_all Holds all others (next others at call) calls)
-  where
-    if_asked : (one : Asked) → IfAsked Holds at one
-    if_asked None = tt
-    if_asked (Some one) = all at one.0 one.1
+along_all Holds all others at (call ∷ calls) =
+    grind (arith, common_steps, along_all Holds all others (next others at call) calls)
 
 always : (call : Call) → AlwaysEndsAlike call
 always call world names name fresh it few serves = (

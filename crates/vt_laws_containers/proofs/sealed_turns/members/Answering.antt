@@ -1,5 +1,5 @@
 -- A turn of theirs that answers a call which ends alike in the part is a turn of their part.
-use Rattle.std.proofs.Common.{arith, ◌≡◌, refl, sym, ap, subst, ◌∙◌, inr, ℕ, nat_eq, Bool, true, false, true≢false, cond, not, List, [], ◌∷◌, Some, None, Ok, Err, Result, filter, is_ok, is_some, map}
+use Rattle.std.proofs.Common.{arith, ◌≡◌, refl, sym, ap, subst, ◌∙◌, ℕ, nat_eq, Bool, true, false, true≢false, not, List, [], ◌∷◌, Some, None, Ok, Err, Result, filter, is_ok, is_some, map}
 use Rattle.std.proofs.lemmas.Grind.{common_steps}
 use Rattle.vt_spec.specs.declared.errors.Deny.{Deny}
 use Rattle.vt_spec.specs.Language.Answers.{Answer}
@@ -55,11 +55,7 @@ module _ (sched : Sched ℕ) (name : TaskName) (line : ℕ) (call : Call) (fresh
 filter_less : {A : Type 0} (p r : A → Bool) (xs : List A) → ((x : A) → Among x xs → p x ≡ true → r x ≡ true)
     → filter p (filter r xs) ≡ filter p xs
 filter_less p r [] less = refl
-filter_less {A} p r (x ∷ xs) less = by (p x) (r x) refl refl (filter_less p r xs (λ y m. less y (inr m)))
-  where
-    by : (b c : Bool) → p x ≡ b → r x ≡ c → filter p (filter r xs) ≡ filter p xs
-        → filter p (cond c (x ∷ filter r xs) (filter r xs)) ≡ cond b (x ∷ filter p xs) (filter p xs)
-    by b c e f later = grind (arith, common_steps, true≢false)
+filter_less {A} p r (x ∷ xs) less = grind (arith, common_steps, true≢false, filter_less p r xs)
 
 -- Of a set what is left is the same, whether others than theirs are left out before, if each call under way of the set
 -- is one of theirs.

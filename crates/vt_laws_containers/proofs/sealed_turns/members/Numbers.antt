@@ -1,5 +1,5 @@
 -- The change numbers that calls of theirs hold are those of the part.
-use Rattle.std.proofs.Common.{arith, ◌≡◌, refl, sym, ap, ◌∙◌, inl, inr, ⊎_elim, ℕ, nat_eq, Bool, true, false, true≢false, cond, List, [], ◌∷◌, ◌||◌, Some, filter, find, map, eqb-true, eq-eqb}
+use Rattle.std.proofs.Common.{arith, ◌≡◌, refl, ap, ◌∙◌, inl, inr, ⊎_elim, ℕ, nat_eq, Bool, true, false, true≢false, List, [], ◌∷◌, ◌||◌, filter, find, map, eqb-true, eq-eqb}
 use Rattle.std.proofs.lemmas.Grind.{common_steps}
 use Rattle.std.specs.List.{list_any}
 use Rattle.std.proofs.lemmas.Bool.{or_cases}
@@ -21,25 +21,13 @@ use Rattle.vt_laws_turns.specs.Holds.Held.{HoldsItsTask, is_seen_by}
 -- what is found is the first that passes
 found_first : {A : Type 0} (p : A → Bool) (list : List A) → find p list ≡ first_of_list (filter p list)
 found_first p [] = refl
-found_first {A} p (a ∷ rest) = by (p a) (found_first p rest)
-  where
-    by : (b : Bool) → find p rest ≡ first_of_list (filter p rest)
-        → cond b (Some a) (find p rest) ≡ first_of_list (cond b (a ∷ filter p rest) (filter p rest))
-    by true later = refl
-    by false later = later
+found_first {A} p (a ∷ rest) = grind (arith, common_steps, found_first p rest)
 
 -- a search finds the same where all that it may find is kept
 pub found_kept : {A : Type 0} (p q : A → Bool) (list : List A) → ((a : A) → p a ≡ true → q a ≡ true)
     → find p (filter q list) ≡ find p list
 found_kept p q [] keeps = refl
-found_kept {A} p q (a ∷ rest) keeps = by (p a) (q a) refl refl (found_kept p q rest keeps)
-  where
-    by : (b c : Bool) → p a ≡ b → q a ≡ c → find p (filter q rest) ≡ find p rest
-        → find p (cond c (a ∷ filter q rest) (filter q rest)) ≡ cond b (Some a) (find p rest)
-    by true true e f later = ap (λ b. cond b (Some a) (find p (filter q rest))) e
-    by true false e f later = absurd (true≢false (sym (keeps a e) ∙ f))
-    by false true e f later = ap (λ b. cond b (Some a) (find p (filter q rest))) e ∙ later
-    by false false e f later = later
+found_kept {A} p q (a ∷ rest) keeps = grind (arith, common_steps, true≢false, found_kept p q rest keeps)
 
 module _ (world : World ℕ) (names : List TaskName) (is : IsWorld nat_eq world) (task : Task ℕ)
     (member : Among task (members world names)) where

@@ -1,5 +1,6 @@
 -- Turns of outsiders overtake no call of theirs.
-use Rattle.std.proofs.Common.{◌≡◌, sym, ap, subst, ◌∙◌, ℕ, nat_eq, List, [], ◌∷◌}
+use Rattle.std.proofs.Common.{arith, ◌≡◌, sym, ap, subst, ◌∙◌, ℕ, nat_eq, List, [], ◌∷◌}
+use Rattle.std.proofs.lemmas.Grind.{common_steps}
 use Rattle.vt_spec.specs.Language.Calls.{TaskName, same_name}
 use Rattle.vt_spec.specs.Lists.{is_among}
 use Rattle.vt_spec.specs.Machine.Sealed.{is_member_task}
@@ -29,10 +30,8 @@ their_calls_are_overtaken_alike sched names task progress has under theirs =
 pub fit_turns : (schedule : List Turn) (sched : Sched ℕ) (names : List TaskName)
     → AreOutsidersTurns sched names schedule → AreFitTurns sched schedule
 fit_turns [] sched names of = tt
-fit_turns (given ∷ rest) sched names of = (
-  record { serves = of.0.serves; few_groups = λ line call first. of.0.few_groups call (line, first) },
-  fit_turns rest (turn nat_eq sched given.0 given.1).sched names of.1,
-)
+fit_turns (given ∷ rest) sched names of =
+    grind (arith, common_steps, fit_turns rest (turn nat_eq sched given.0 given.1).sched names of.1)
 
 pub outsiders_overtake_no_call_of_theirs : OutsidersOvertakeNoCallOfTheirs
 outsiders_overtake_no_call_of_theirs sched names schedule task progress sealed holds of under theirs =

@@ -1,5 +1,7 @@
 -- The paths of a call of theirs are walked alike in the world and in the part.
-use Rattle.std.proofs.Common.{◌≡◌, refl, ap, ◌∙◌, ℕ, nat_eq, List, [], ◌∷◌, ◌++◌, Option, Some, None, Ok, Err, Result}
+use Rattle.std.proofs.Common.{arith, ◌≡◌, refl, ap, ◌∙◌, ℕ, nat_eq, List, [], ◌∷◌, ◌++◌, Option, Some, None, Ok, Err}
+use Rattle.std.proofs.Common.{Result}
+use Rattle.std.proofs.lemmas.Grind.{common_steps}
 use Rattle.std.specs.Prelude.{IfOk, option_to_list}
 use Rattle.vt_spec.specs.Language.Calls.{Call, Creation, OverlayWords}
 use Rattle.vt_spec.specs.Language.Calls.Call.{Bind, Chdir, Chmod, Chown, Chroot, Exec, Lazy, LinkTo, Ls, Lstat, MakeWhiteout, Mkdir, MountOverlay, MountPlain, MoveMount, Opaque, OpenFile, PivotRoot, Read, Readlink, Remount, Rename, Rmdir, SetType, Stat, SymlinkAt, Umount, Unlink, Write}
@@ -118,8 +120,7 @@ module _ (one other : Looks ℕ) (task : Task ℕ) (Own : ℕ → Type 0) (alike
   routes_alike (Mkdir path mode) = new path
   routes_alike (SymlinkAt text path) = new_leaf path
   routes_alike (MakeWhiteout path) = new_leaf path
-  routes_alike (LinkTo from to) = ap (λ l. l ++ (place_route (new_leaf_walk nat_eq one task to) ∷ [])) (symlink from)
-      ∙ ap (λ l. here_route (symlink_walk nat_eq other task from) ∷ l) (new_leaf to)
+  routes_alike (LinkTo from to) = grind (arith, common_steps, symlink, new_leaf)
   routes_alike (Unlink path) = place_same _ _ (old_leaf path)
   routes_alike (Rmdir path) = old path
   routes_alike (Rename from to) = renamed from to
@@ -130,9 +131,7 @@ module _ (one other : Looks ℕ) (task : Task ℕ) (Own : ℕ → Type 0) (alike
   routes_alike (Chdir path) = directories path
   routes_alike (Chroot path) = directories path
   routes_alike (MountPlain path given) = destination path
-  routes_alike (MountOverlay path options given) =
-      ap (λ l. l ++ layer_routes nat_eq one task options) (destination path)
-      ∙ ap (λ l. here_route (destination_walk nat_eq other task path) ∷ l) (layers options)
+  routes_alike (MountOverlay path options given) = grind (arith, common_steps, destination, layers)
   routes_alike (Bind from path recursive) = from_to from path
   routes_alike (MoveMount from path) = from_to from path
   routes_alike (Umount path) = directories path

@@ -33,11 +33,7 @@ use Rattle.vt_laws_containers.proofs.sealed_turns.members.RoutesAlike.{routes_al
 -- filters by two tests, in whatever order
 pub swapped : {A : Type 0} (p q : A → Bool) (list : List A) → filter p (filter q list) ≡ filter q (filter p list)
 swapped p q [] = refl
-swapped {A} p q (a ∷ rest) = by (p a) (q a) refl refl (swapped p q rest)
-  where
-    by : (b c : Bool) → p a ≡ b → q a ≡ c → filter p (filter q rest) ≡ filter q (filter p rest)
-        → filter p (cond c (a ∷ filter q rest) (filter q rest)) ≡ filter q (cond b (a ∷ filter p rest) (filter p rest))
-    by b c e f later = grind (arith, common_steps)
+swapped {A} p q (a ∷ rest) = grind (arith, common_steps, swapped p q rest)
 
 module _ (sched : Sched ℕ) (names : List TaskName) (has : HasCallsUnderWay sched) where
   abbrev world : World ℕ
@@ -207,9 +203,7 @@ module _ (sched : Sched ℕ) (names : List TaskName) (has : HasCallsUnderWay sch
     by_call : (line : ℕ) (call : Call) (fresh : Option (Fresh ℕ))
         → AlikeTurned (call_turn nat_eq sched name line call fresh) (call_turn nat_eq part name line call fresh)
     by_call line call None = inl (refl, refl)
-    by_call line call (Some fresh) = subst (λ o. AlikeTurned (call_turn nat_eq sched name line call (Some fresh))
-        (call_turn_of nat_eq part name line call fresh o)) (sym (called_alike names name theirs world.tasks))
-        (by_task line call fresh (task_called world name) refl)
+    by_call line call (Some fresh) = grind (arith, common_steps, called_alike, by_task)
 
     by_item : (line : ℕ) (item : Item) (fresh : Option (Fresh ℕ))
         → AlikeTurned (item_turn nat_eq sched (Someone name) line item fresh)

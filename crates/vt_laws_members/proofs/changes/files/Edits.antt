@@ -1,5 +1,6 @@
 -- What calls that write and that set attributes are granted: an edit of a file on a mount of theirs.
-use Rattle.std.proofs.Common.{◌≡◌, refl, ℕ, nat_eq, eqb-true, Bool, true, false, cond, List, [], ◌∷◌, Option, Some, None, Ok, flat_map, length}
+use Rattle.std.proofs.Common.{arith, ◌≡◌, refl, ℕ, nat_eq, eqb-true, Bool, true, List, [], ◌∷◌, Option, Some, None, Ok, flat_map, length}
+use Rattle.std.proofs.lemmas.Grind.{common_steps}
 use Rattle.std.specs.Prelude.{⊤, IfOk, nat_lt}
 use Rattle.vt_spec.specs.declared.attributes.Attr.{Attr}
 use Rattle.vt_spec.specs.declared.errors.Rule.TheVariants.{E6}
@@ -48,12 +49,7 @@ module _ (files : FileTree ℕ) (number : ℕ) (f : Option (Node ℕ) → Option
     (same : (o : Option (Node ℕ)) → entries_in (f o) ≡ entries_in o) where
   targets_stay : (d : ℕ) → targets_in ((changed_node nat_eq files number f).tree.node d)
       ≡ targets_in (files.tree.node d)
-  targets_stay d = by (nat_eq d number) refl
-    where
-      by : (b : Bool) → nat_eq d number ≡ b
-          → targets_in (cond b (f (files.tree.node number)) (files.tree.node d)) ≡ targets_in (files.tree.node d)
-      by true e = cc (same (files.tree.node number), eqb-true d number e)
-      by false e = refl
+  targets_stay d = grind (arith, common_steps, eqb-true)
 
   names_stay : named_in (changed_node nat_eq files number f) ≡ named_in files
   names_stay i = flat_map (λ d. targets_stay d i) files.numbers
@@ -63,13 +59,8 @@ pub edits_keep : (files : FileTree ℕ) (change : Change ℕ) → IsEdit change
     → ((changed nat_eq files change).tree.root ≡ files.tree.root)
     × ((changed nat_eq files change).numbers ≡ files.numbers)
     × (named_in (changed nat_eq files change) ≡ named_in files)
-edits_keep files (SetBytes file bytes) is =
-    (refl, refl, names_stay files file (node_with_bytes bytes) (entries-node_with_bytes bytes))
-edits_keep files (SetAttr object attr) is =
-    (refl, refl, names_stay files object (node_with_attr attr) (entries-node_with_attr attr))
-edits_keep files (SetMark directory opaque) is =
-    (refl, refl, names_stay files directory (node_with_mark opaque) (entries-node_with_mark opaque))
-edits_keep files change is = absurd is
+edits_keep files change is =
+    grind (arith, common_steps, names_stay, entries-node_with_bytes, entries-node_with_attr, entries-node_with_mark)
 
 -- an edit at a location on a mount of theirs, if it is a change of one
 abbrev pub Edits : (own : ℕ → Bool) → Permit ℕ → Type 0

@@ -1,11 +1,12 @@
 -- The part of a world in which a filesystem of theirs has another tree is the part with that tree.
-use Rattle.std.proofs.Common.{◌≡◌, refl, sym, ap, ◌∙◌, inl, inr, ℕ, nat_eq, eqb-true, Bool, true, false, cond, List, [], ◌∷◌, ◌++◌, Option, Some, None, find, filter, flat_map, map, ◌&&◌}
-use Rattle.std.specs.Prelude.{option_map, option_to_list, unwrap_or}
-use Rattle.std.specs.List.{cons_option, filter_map, list_any}
+use Rattle.std.proofs.Common.{arith, ◌≡◌, refl, sym, ap, ◌∙◌, inl, inr, ℕ, nat_eq, eqb-true, Bool, true, false, cond, List, [], ◌∷◌, ◌++◌, Option, Some, find, filter, flat_map, map, ◌&&◌}
+use Rattle.std.proofs.lemmas.Grind.{common_steps}
+use Rattle.std.specs.Prelude.{option_map, unwrap_or}
+use Rattle.std.specs.List.{filter_map, list_any}
 use Rattle.vt_spec.specs.FileTree.{is_under}
 use Rattle.vt_spec.specs.Language.Calls.{TaskName}
 use Rattle.vt_spec.specs.Lists.{each_once, is_among, when}
-use Rattle.vt_spec.specs.Machine.Locked.{of_overlay, overlay_or}
+use Rattle.vt_spec.specs.Machine.Locked.{of_overlay}
 use Rattle.vt_spec.specs.Machine.Sealed.{change_layers, own_lowers, part_of, part_of_filesystem, part_of_lower, used_directly, used_filesystems}
 use Rattle.vt_spec.specs.Machine.Settled.{only_among}
 use Rattle.vt_spec.specs.Machine.World.{Filesystem, Layer, Overlay, World, filesystem_numbered, no_filesystem}
@@ -16,12 +17,7 @@ use Rattle.vt_laws_mounts.specs.LettingGo.TreesOverlays.{with_filesystems}
 filter_map_changed : {A : Type 0} (f g : A → Option A) (h : A → A) (xs : List A)
     → ((x : A) → f (h x) ≡ option_map h (g x)) → filter_map f (map h xs) ≡ map h (filter_map g xs)
 filter_map_changed f g h [] same = refl
-filter_map_changed {A} f g h (x ∷ xs) same = cc (same x, by (g x) (filter_map_changed f g h xs same))
-  where
-    by : (o : Option A) → filter_map f (map h xs) ≡ map h (filter_map g xs)
-        → cons_option (option_map h o) (filter_map f (map h xs)) ≡ map h (cons_option o (filter_map g xs))
-    by None later = later
-    by (Some y) later = ap (λ l. h y ∷ l) later
+filter_map_changed {A} f g h (x ∷ xs) same = grind (arith, common_steps, filter_map_changed f g h xs same)
 
 -- the lower layers of an overlay
 abbrev pub lowers_in : Filesystem ℕ → List (Layer ℕ)
@@ -140,7 +136,4 @@ pub part_with_files : (world : World ℕ) (names : List TaskName) (h : Filesyste
     → ((x : Filesystem ℕ) → Among x world.filesystems → (h x).overlay ≡ x.overlay)
     → ((x : Filesystem ℕ) → is_among nat_eq x.number (used_filesystems nat_eq world names) ≡ false → h x ≡ x)
     → part_of nat_eq (with_filesystems world h) names ≡ with_filesystems (part_of nat_eq world names) h
-part_with_files world names h numbered overlaid kept = part_with_layers world names h numbered
-    (λ x m. ap (overlay_or [] (λ (overlay : Overlay ℕ). map (λ (layer : Layer ℕ). layer.filesystem)
-    (option_to_list overlay.upper ++ option_to_list overlay.work))) (overlaid x m))
-    (λ x m. ap (overlay_or [] (λ (overlay : Overlay ℕ). overlay.lowers)) (overlaid x m)) kept
+part_with_files world names h numbered overlaid kept = grind (arith, common_steps, part_with_layers)

@@ -1,9 +1,10 @@
 -- An edit of a file on a plain filesystem ends in the part as in the world.
-use Rattle.std.proofs.Common.{◌≡◌, refl, sym, ap, subst, ◌∙◌, ℕ, nat_eq, true, false, true≢false, List, [], ◌∷◌, Option, Some, None, Ok, filter, is_some, map, ◌||◌}
+use Rattle.std.proofs.Common.{arith, ◌≡◌, refl, sym, ap, subst, ◌∙◌, ℕ, nat_eq, true, false, true≢false, List, [], ◌∷◌, Option, Some, None, Ok, filter, is_some, map, ◌||◌}
+use Rattle.std.proofs.lemmas.Grind.{common_steps}
 use Rattle.std.specs.Prelude.{IfOk}
 use Rattle.vt_spec.specs.FileTree.{FileTree}
 use Rattle.vt_spec.specs.Language.Answers.Answer.{Done}
-use Rattle.vt_spec.specs.Language.Calls.{Call, TaskName, same_name}
+use Rattle.vt_spec.specs.Language.Calls.{Call, TaskName}
 use Rattle.vt_spec.specs.Language.Calls.Call.{Chmod, Chown, Opaque, Write}
 use Rattle.vt_spec.specs.Language.Changes as Changes
 use Rattle.vt_spec.specs.Language.Changes.{Change}
@@ -83,12 +84,7 @@ module _ (world : World ℕ) (names : List TaskName) (name : TaskName) (call : C
   raised_members tasks = filter (is_member_task names) (map (raised_task name) tasks)
 
   tasks_alike : raised_members world.tasks ≡ raised_members part.tasks
-  tasks_alike = cc (of_map world.tasks, same_members world names, of_map part.tasks)
-    where
-      of_map : (tasks : List (Task ℕ))
-          → raised_members tasks ≡ map (raised_task name) (filter (is_member_task names) tasks)
-      of_map tasks = filter-map (is_member_task names) (raised_task name) tasks
-          (λ t. ap (λ n. is_among same_name n names) (raised_is name (λ (x : Task ℕ). x.name) (λ x. refl) t))
+  tasks_alike = grind (arith, common_steps, same_members, filter-map, raised_is)
 
   abbrev left_here : World ℕ
   left_here = left old files world name

@@ -7,7 +7,7 @@ use Rattle.vt_spec.specs.Machine.Filesystems.{with_files}
 use Rattle.vt_spec.specs.Machine.Settled.{filesystem_lives, named_in}
 use Rattle.vt_spec.specs.Machine.World.{Filesystem, World, is_overlay, replaced_if_numbered}
 use Rattle.vt_laws_mounts.specs.LettingGo.InUse.{AllInUse, FilesystemsInUse}
-use Rattle.vt_laws_mounts.specs.LettingGo.OneByOne.{AllInUseBut, FilesystemsInUseBut, GroupsInUseBut, InodesInUseBut, Losers}
+use Rattle.vt_laws_mounts.specs.LettingGo.OneByOne.{AllInUseBut, Losers}
 use Rattle.vt_laws_mounts.specs.LettingGo.TreesOverlays.{ChangesFilesystem, in_use_of, with_filesystems}
 use Rattle.vt_laws_mounts.proofs.letting_go.Lists.{Among, all_from_among, all_pass, among-from_map, is_among_numbers, or_first, passes}
 use Rattle.vt_laws_mounts.proofs.letting_go.leaving.TreesWithOverlays.{all_but_changed, lives_alike, unchanged}
@@ -28,13 +28,7 @@ module _ (world : World ℕ) (in_use : AllInUse world) (change : Filesystem ℕ 
     stays = cc (mounts_stay world in_use.mounts, filesystems_stay world in_use.filesystems)
 
     in_use_before : AllInUseBut none world
-    in_use_before = record {
-      mounts = in_use.mounts;
-      filesystems = subst (FilesystemsInUseBut []) (sym (mounts_stay world in_use.mounts)) in_use.filesystems;
-      inodes = subst (InodesInUseBut []) (sym stays) in_use.inodes;
-      groups = subst (GroupsInUseBut []) (sym (mounts_stay world in_use.mounts))
-          (λ group among empty. in_use.groups group empty);
-    }
+    in_use_before = grind (arith, common_steps, mounts_stay, stays)
 
     filesystems_after : FilesystemsInUse changed
     filesystems_after = all_pass (filesystem_lives nat_eq changed) changed.filesystems
@@ -53,12 +47,7 @@ module _ (world : World ℕ) (in_use : AllInUse world) (change : Filesystem ℕ 
         (changes (in_use_of changed)))
 
     pub in_use_changed : AllInUse changed
-    in_use_changed = record {
-      mounts = in_use.mounts;
-      filesystems = filesystems_after;
-      inodes = subst (InodesInUseBut []) all_stay all_but_none.inodes;
-      groups = in_use.groups;
-    }
+    in_use_changed = grind (arith, common_steps, filesystems_after, all_stay, all_but_none)
 
 -- One plain filesystem has a tree with the same root, numbers and names.
 module _ (world : World ℕ) (old : Filesystem ℕ) (files : FileTree ℕ) (plain : is_overlay old ≡ false)

@@ -1,8 +1,8 @@
 -- Where the tree of a filesystem of theirs changes, and nothing goes: the world that a call leaves, and its part.
-use Rattle.std.proofs.Common.{◌≡◌, refl, sym, ap, ◌∙◌, ℕ, nat_eq, eqb-true, Bool, true, false, cond, true≢false, List, [], ◌∷◌, filter, map}
-use Rattle.std.specs.List.{list_any}
+use Rattle.std.proofs.Common.{arith, ◌≡◌, refl, ap, ◌∙◌, ℕ, nat_eq, eqb-true, Bool, true, false, true≢false, List, [], ◌∷◌, filter, map}
+use Rattle.std.proofs.lemmas.Grind.{common_steps}
 use Rattle.vt_spec.specs.FileTree.{FileTree}
-use Rattle.vt_spec.specs.Language.Calls.{TaskName, same_name}
+use Rattle.vt_spec.specs.Language.Calls.{TaskName}
 use Rattle.vt_spec.specs.Lists.{is_among}
 use Rattle.vt_spec.specs.Machine.Filesystems.{raised, raised_if_changed, with_files}
 use Rattle.vt_spec.specs.Machine.Policy.{numbers_raised, raised_task}
@@ -22,11 +22,7 @@ use Rattle.vt_laws_members.proofs.changes.tasks.Rights.{sees_alike}
 pub raised_is : {A : Type 0} (name : TaskName) (what : Task ℕ → A)
     → ((t : Task ℕ) → what (record t { change = raised t.change }) ≡ what t) → (t : Task ℕ)
     → what (raised_task name t) ≡ what t
-raised_is {A} name what same t = by (same_name name t.name)
-  where
-    by : (b : Bool) → what (cond b (record t { change = raised t.change }) t) ≡ what t
-    by true = same t
-    by false = refl
+raised_is name what same t = grind (arith, common_steps)
 
 module _ (old : Filesystem ℕ) (files : FileTree ℕ) where
   abbrev pub swap : Filesystem ℕ → Filesystem ℕ
@@ -37,32 +33,16 @@ module _ (old : Filesystem ℕ) (files : FileTree ℕ) where
   both x = raised_if_changed nat_eq (old.number ∷ []) (swap x)
 
   raised_numbered : (x : Filesystem ℕ) → (raised_if_changed nat_eq (old.number ∷ []) x).number ≡ x.number
-  raised_numbered x = by (list_any (λ n. nat_eq n x.number) (old.number ∷ []))
-    where
-      by : (b : Bool) → (cond b (record x { change = raised x.change }) x).number ≡ x.number
-      by true = refl
-      by false = refl
+  raised_numbered x = grind (arith, common_steps)
 
   raised_overlaid : (x : Filesystem ℕ) → (raised_if_changed nat_eq (old.number ∷ []) x).overlay ≡ x.overlay
-  raised_overlaid x = by (list_any (λ n. nat_eq n x.number) (old.number ∷ []))
-    where
-      by : (b : Bool) → (cond b (record x { change = raised x.change }) x).overlay ≡ x.overlay
-      by true = refl
-      by false = refl
+  raised_overlaid x = grind (arith, common_steps)
 
   pub both_numbered : (x : Filesystem ℕ) → (both x).number ≡ x.number
-  both_numbered x = raised_numbered (swap x) ∙ by (nat_eq old.number x.number) refl
-    where
-      by : (b : Bool) → nat_eq old.number x.number ≡ b → (cond b (with_files old files) x).number ≡ x.number
-      by true e = eqb-true old.number x.number e
-      by false e = refl
+  both_numbered x = grind (arith, common_steps, raised_numbered, eqb-true)
 
   pub both_overlaid : (x : Filesystem ℕ) → (nat_eq old.number x.number ≡ true → x ≡ old) → (both x).overlay ≡ x.overlay
-  both_overlaid x one = raised_overlaid (swap x) ∙ by (nat_eq old.number x.number) refl
-    where
-      by : (b : Bool) → nat_eq old.number x.number ≡ b → (cond b (with_files old files) x).overlay ≡ x.overlay
-      by true e = ap (λ (f : Filesystem ℕ). f.overlay) (sym (one e))
-      by false e = refl
+  both_overlaid x one = grind (arith, common_steps, raised_overlaid)
 
   pub both_kept : (x : Filesystem ℕ) → nat_eq old.number x.number ≡ false → both x ≡ x
   both_kept x e = cc
@@ -110,10 +90,7 @@ module _ (old : Filesystem ℕ) (files : FileTree ℕ) where
 
         other : (x : Filesystem ℕ) → is_among nat_eq x.number (used_filesystems nat_eq world names) ≡ false → (b : Bool)
             → nat_eq old.number x.number ≡ b → both x ≡ x
-        other x unused true e = absurd (true≢false (sym used
-            ∙ ap (λ n. is_among nat_eq n (used_filesystems nat_eq world names)) (eqb-true old.number x.number e)
-            ∙ unused))
-        other x unused false e = both_kept x e
+        other x unused b e = grind (arith, common_steps, true≢false, eqb-true, both_kept)
 
         kept : (x : Filesystem ℕ) → is_among nat_eq x.number (used_filesystems nat_eq world names) ≡ false → both x ≡ x
         kept x unused = other x unused (nat_eq old.number x.number) refl

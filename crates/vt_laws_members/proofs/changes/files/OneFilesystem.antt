@@ -1,5 +1,6 @@
 -- A filesystem that a set uses, by its number: it is one in the world, and the same one in the part.
-use Rattle.std.proofs.Common.{◌≡◌, refl, sym, ap, ◌∙◌, ⊎_elim, ℕ, nat_eq, eqb-true, Bool, true, false, cond, true≢false, List, [], ◌∷◌, Some, find}
+use Rattle.std.proofs.Common.{arith, ◌≡◌, refl, sym, ap, ◌∙◌, ⊎_elim, ℕ, nat_eq, eqb-true, true, false, cond, true≢false, List, [], ◌∷◌, Some, find}
+use Rattle.std.proofs.lemmas.Grind.{common_steps}
 use Rattle.std.specs.Prelude.{unwrap_or}
 use Rattle.vt_spec.specs.Language.Calls.{TaskName}
 use Rattle.std.specs.List.{list_any}
@@ -15,14 +16,7 @@ use Rattle.vt_laws_sealed.proofs.part.part.PartOfPart.{shown_how}
 pub found_numbered : (k : ℕ) (list : List (Filesystem ℕ))
     → (unwrap_or (find (λ (f : Filesystem ℕ). nat_eq k f.number) list) (no_filesystem k)).number ≡ k
 found_numbered k [] = refl
-found_numbered k (x ∷ rest) = by (nat_eq k x.number) refl (found_numbered k rest)
-  where
-    by : (b : Bool) → nat_eq k x.number ≡ b
-        → (unwrap_or (find (λ (f : Filesystem ℕ). nat_eq k f.number) rest) (no_filesystem k)).number ≡ k
-        → (unwrap_or (cond b (Some x) (find (λ (f : Filesystem ℕ). nat_eq k f.number) rest)) (no_filesystem k)).number
-        ≡ k
-    by true e later = sym (eqb-true k x.number e)
-    by false e later = later
+found_numbered k (x ∷ rest) = grind (arith, common_steps, eqb-true, found_numbered k rest)
 
 module _ (world : World ℕ) (names : List TaskName) (is : IsWorld nat_eq world) (number : ℕ)
     (used : is_among nat_eq number (used_filesystems nat_eq world names) ≡ true) where

@@ -1,10 +1,11 @@
 -- Where filesystems change and no inode loses its uses, all stays in use.
-use Rattle.std.proofs.Common.{◌≡◌, sym, ap, subst, ◌∙◌, ℕ, nat_eq, []}
+use Rattle.std.proofs.Common.{arith, ◌≡◌, sym, ap, subst, ◌∙◌, ℕ, nat_eq, []}
+use Rattle.std.proofs.lemmas.Grind.{common_steps}
 use Rattle.std.specs.Prelude.{All}
 use Rattle.vt_spec.specs.Machine.Settled.{filesystem_lives, without_dead_filesystems}
 use Rattle.vt_spec.specs.Machine.World.{Filesystem, World}
 use Rattle.vt_laws_mounts.specs.LettingGo.InUse.{AllInUse, FilesystemsInUse}
-use Rattle.vt_laws_mounts.specs.LettingGo.OneByOne.{AllInUseBut, FilesystemsInUseBut, GroupsInUseBut, InodesInUseBut, Losers}
+use Rattle.vt_laws_mounts.specs.LettingGo.OneByOne.{AllInUseBut, Losers}
 use Rattle.vt_laws_mounts.specs.LettingGo.TreesOverlays.{ChangesFilesystem, in_use_of, with_filesystems, with_lost}
 use Rattle.vt_laws_mounts.proofs.letting_go.Lists.{Among, all_from_among, all_pass, among-from_map, passes}
 use Rattle.vt_laws_mounts.proofs.letting_go.leaving.TreesWithOverlays.{all_but_changed, lives_alike}
@@ -24,13 +25,7 @@ module _ (w : World ℕ) (in_use : AllInUse w) (step : Filesystem ℕ → Filesy
   stays = ap (without_dead_filesystems nat_eq) (mounts_stay w in_use.mounts) ∙ filesystems_stay w in_use.filesystems
 
   in_use_before : AllInUseBut none w
-  in_use_before = record {
-    mounts = in_use.mounts;
-    filesystems = subst (FilesystemsInUseBut []) (sym (mounts_stay w in_use.mounts)) in_use.filesystems;
-    inodes = subst (InodesInUseBut []) (sym stays) in_use.inodes;
-    groups =
-        subst (GroupsInUseBut []) (sym (mounts_stay w in_use.mounts)) (λ group among empty. in_use.groups group empty);
-  }
+  in_use_before = grind (arith, common_steps, mounts_stay, stays)
 
   filesystems_after : FilesystemsInUse changed
   filesystems_after = all_pass (filesystem_lives nat_eq changed) changed.filesystems
@@ -48,9 +43,4 @@ module _ (w : World ℕ) (in_use : AllInUse w) (step : Filesystem ℕ → Filesy
       (all_from_among (λ f. ChangesFilesystem changed [] f (step f)) w.filesystems changes))
 
   pub in_use_stepped : AllInUse changed
-  in_use_stepped = record {
-    mounts = in_use.mounts;
-    filesystems = filesystems_after;
-    inodes = subst (InodesInUseBut []) all_stay all_but.inodes;
-    groups = in_use.groups;
-  }
+  in_use_stepped = grind (arith, common_steps, filesystems_after, all_stay, all_but)

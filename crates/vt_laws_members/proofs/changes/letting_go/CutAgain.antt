@@ -9,7 +9,7 @@ use Rattle.vt_spec.specs.Lists.{chain, is_among, when}
 use Rattle.vt_spec.specs.Machine.Invariants.{ListsNumbers}
 use Rattle.vt_spec.specs.Machine.Settled.{named_in, only_among}
 use Rattle.vt_spec.specs.Machine.World.{Layer}
-use Rattle.vt_spec.specs.Tree.{Node, is_directory_node, parent_in}
+use Rattle.vt_spec.specs.Tree.{is_directory_node, parent_in}
 use Rattle.vt_spec.specs.TreeInvariant.{IsTree}
 use Rattle.vt_spec.proofs.Lists.{Among, among-filter, among-from_filter, among_numbers, any_among, any_from_among, is_among_numbers}
 use Rattle.vt_spec.proofs.Options.{none_is_some}
@@ -21,12 +21,7 @@ use Rattle.vt_laws_members.proofs.changes.part.CutTrees.{at_head, more, named_in
 filter_in : (p q r : ℕ → Bool) (xs : List ℕ) → ((x : ℕ) → Among x xs → r x ≡ true → p x ≡ q x)
     → ((x : ℕ) → Among x xs → r x ≡ false → q x ≡ false) → filter p (filter r xs) ≡ filter q xs
 filter_in p q r [] same none = refl
-filter_in p q r (x ∷ xs) same none = by (r x) refl (filter_in p q r xs (λ y m. same y (inr m)) (λ y m. none y (inr m)))
-  where
-    by : (b : Bool) → r x ≡ b → filter p (filter r xs) ≡ filter q xs
-        → filter p (cond b (x ∷ filter r xs) (filter r xs)) ≡ cond (q x) (x ∷ filter q xs) (filter q xs)
-    by true e later = cc (same x (inl refl) e)
-    by false e later = cc (none x (inl refl) e)
+filter_in p q r (x ∷ xs) same none = grind (arith, common_steps, none, filter_in p q r xs)
 
 among_both : (used chosen : List ℕ) (n : ℕ) → is_among nat_eq n (filter (λ k. is_among nat_eq k used) chosen)
     ≡ (is_among nat_eq n chosen && is_among nat_eq n used)
@@ -246,16 +241,4 @@ module _ (number : ℕ) (lowers : List (Layer ℕ)) where
 
 -- A whole tree is cut to itself.
 pub uncut : (files : FileTree ℕ) → ListsNumbers nat_eq files → only_among nat_eq files.numbers files ≡ files
-uncut files listed = λ i. record {
-  tree = record { root = files.tree.root; node = λ n. node n (is_among nat_eq n files.numbers) refl i };
-  numbers = filter_all (λ n. is_among nat_eq n files.numbers) files.numbers (is_among_numbers files.numbers) i;
-}
-  where
-    gone : (o : Option (Node ℕ)) → is_some o ≡ false → None ≡ o
-    gone None e = refl
-    gone (Some node) e = absurd (true≢false e)
-
-    node : (n : ℕ) (b : Bool) → is_among nat_eq n files.numbers ≡ b
-        → cond (is_among nat_eq n files.numbers) (files.tree.node n) None ≡ files.tree.node n
-    node n true e = ap (λ c. cond c (files.tree.node n) None) e
-    node n false e = cc (gone (files.tree.node n) (sym (listed n) ∙ e))
+uncut files listed = grind (arith, common_steps, filter_all, is_among_numbers, true≢false)

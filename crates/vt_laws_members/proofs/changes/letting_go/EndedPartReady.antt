@@ -1,5 +1,6 @@
 -- So is the part, where they are detached in it, too.
-use Rattle.std.proofs.Common.{◌≡◌, refl, sym, ap, subst, ◌∙◌, ◌⊎◌, inl, inr, ⊎_elim, ℕ, nat_eq, Bool, true, false, List, Option, Some, None, filter, is_some, eq-eqb}
+use Rattle.std.proofs.Common.{arith, ◌≡◌, refl, sym, ap, subst, ◌∙◌, ◌⊎◌, inl, inr, ⊎_elim, ℕ, nat_eq, Bool, true, false, List, Option, Some, None, filter, is_some, eq-eqb}
+use Rattle.std.proofs.lemmas.Grind.{common_steps}
 use Rattle.std.specs.List.{list_any}
 use Rattle.std.proofs.lemmas.Bool.{or_left, or_right}
 use Rattle.vt_spec.specs.Language.Calls.{TaskName}
@@ -74,19 +75,10 @@ module _ (world : World ℕ) (names : List TaskName) (is : IsWorld nat_eq world)
 
   located_lives : (z : Mount ℕ) (l : Location ℕ) → Among z part.mounts → Among l (all_locations after_part)
       → l.mount ≡ (after z).number → Among (after z) living.mounts
-  located_lives z l at n e =
-      among-filter (mount_lives nat_eq after_part) after_part.mounts (after z) (among-map after part.mounts z at)
-      (or_right (is_some (after z).namespace) (is_located nat_eq after_part (after z).number)
-      (any_from_among (λ (p : Location ℕ). nat_eq (after z).number p.mount) (all_locations after_part) l n
-      (eq-eqb (after z).number l.mount (sym e))))
+  located_lives z l at n e = grind (arith, common_steps, among-filter, among-map, or_right, any_from_among, eq-eqb)
 
   one_living : OneNumberEach living
-  one_living =
-      pair-filter (λ (p q : Mount ℕ). nat_eq p.number q.number) (mount_lives nat_eq after_part) after_part.mounts
-      (pair-map (λ (p q : Mount ℕ). nat_eq p.number q.number)
-      (λ (p q : Mount ℕ). nat_eq p.number q.number) after part.mounts
-      (λ p q m n e. ap (λ i. nat_eq i (after q).number) (shape p).number ∙ ap (nat_eq p.number) (shape q).number ∙ e)
-      (part_one_number world names is))
+  one_living = grind (arith, common_steps, pair-filter, pair-map, shape, part_one_number)
 
   number_kept : (m y : Mount ℕ) → kept m ≡ Some y → y.number ≡ m.number
   number_kept m y e =

@@ -1,5 +1,6 @@
 -- Where mounts of theirs are detached, the change numbers of namespaces are raised alike.
-use Rattle.std.proofs.Common.{◌≡◌, refl, sym, ap, subst, ◌∙◌, inl, inr, ⊎_elim, ℕ, nat_eq, Bool, true, false, cond, true≢false, List, [], ◌∷◌, Option, Some, None, filter, is_some, map, ◌&&◌}
+use Rattle.std.proofs.Common.{arith, ◌≡◌, refl, sym, ap, subst, ◌∙◌, inl, inr, ⊎_elim, ℕ, nat_eq, Bool, true, false, cond, true≢false, List, [], ◌∷◌, Option, Some, None, filter, is_some, map, ◌&&◌}
+use Rattle.std.proofs.lemmas.Grind.{common_steps}
 use Rattle.std.specs.List.{cons_option, filter_map, list_any}
 use Rattle.std.proofs.lemmas.Bool.{or_left}
 use Rattle.std.proofs.lemmas.List.{length-map}
@@ -56,45 +57,24 @@ kept_alike p f g k (x ∷ xs) pass fail =
     by : (b : Bool) → p (f x) ≡ b → filter p (map g (filter_map k xs)) ≡ filter p (map f xs)
         → filter p (map g (cons_option (k x) (filter_map k xs)))
         ≡ cond (p (f x)) (f x ∷ filter p (map f xs)) (filter p (map f xs))
-    by true h later =
-        let its = pass x (inl refl) h in
-        cc (its.0, its.1)
-    by false h later = cc (skip (k x) refl h)
+    by b h later = grind (arith, common_steps, skip)
 
 -- the namespace of a mount after does not depend on the groups
 space_same : (b : Bool) (t u w x : World ℕ) (gone : List ℕ) (m : Mount ℕ)
     → (ended_mount b t w gone m).namespace ≡ (ended_mount b u x gone m).namespace
-space_same b t u w x gone m = by b (is_going nat_eq gone m.number)
-  where
-    by : (b c : Bool) → (ended_by b c t w gone m).namespace ≡ (ended_by b c u x gone m).namespace
-    by true true = refl
-    by true false = refl
-    by false true = refl
-    by false false = refl
+space_same b t u w x gone m = grind (arith, common_steps, ended_by)
 
 -- the group of a mount after
 kind_after : (b : Bool) (t w : World ℕ) (gone : List ℕ) (m : Mount ℕ) → is_going nat_eq gone m.number ≡ false
     → (ended_mount b t w gone m).propagation ≡ cond b (inherited nat_eq t m.propagation) m.propagation
-kind_after b t w gone m e = ap (λ c. (ended_by b c t w gone m).propagation) e ∙ by b
-  where
-    by : (b : Bool) → (ended_by b false t w gone m).propagation ≡ cond b
-        (inherited nat_eq t m.propagation) m.propagation
-    by true = refl
-    by false = refl
+kind_after b t w gone m e = grind (arith, common_steps, ended_by)
 
 member_source : (kind : Propagation ℕ) (g : ℕ) → group_of kind ≡ Some g → source_of kind ≡ Some g
-member_source (Shared h) g e = e
-member_source (Slave h) g e = none_is_some g e
-member_source Private g e = none_is_some g e
-member_source Unbindable g e = none_is_some g e
+member_source kind g e = grind (arith, common_steps, none_is_some)
 
 pub raised_number : (before after : World ℕ) (n : Namespace ℕ)
     → (raised_namespace nat_eq before after n).number ≡ n.number
-raised_number before after n = by (same_mounts_in nat_eq before after n.number)
-  where
-    by : (b : Bool) → (cond b n (record n { change = raised n.change })).number ≡ n.number
-    by true = refl
-    by false = refl
+raised_number before after n = grind (arith, common_steps)
 
 module _ (world : World ℕ) (names : List TaskName) (is : IsWorld nat_eq world)
     (sealed_off : sealed nat_eq world names ≡ true) (set : List TaskName) (gone : List ℕ)
@@ -151,11 +131,7 @@ module _ (world : World ℕ) (names : List TaskName) (is : IsWorld nat_eq world)
   is_theirs n = list_any (λ (t : Task ℕ). nat_eq n t.namespace) old
 
   attached : (n : ℕ) (m : Mount ℕ) → its_in n m ≡ true → is_some m.namespace ≡ true
-  attached n m = by m.namespace
-    where
-      by : (o : Option ℕ) → holds_of (nat_eq n) o ≡ true → is_some o ≡ true
-      by None h = h
-      by (Some j) h = refl
+  attached n m = grind (arith, common_steps)
 
   mine : (m : Mount ℕ) → Among m world.mounts → is_own world names old m ≡ true → Among m owns
   mine m n own = among-filter (is_own_mount nat_eq world names) world.mounts m n own
@@ -214,21 +190,10 @@ module _ (world : World ℕ) (names : List TaskName) (is : IsWorld nat_eq world)
   -- a member after is in its namespace
   member_placed : (t w : World ℕ) (g : ℕ) (m : Mount ℕ) → is_member_of nat_eq g (ended_mount b t w gone m) ≡ true
       → (ended_mount b t w gone m).namespace ≡ m.namespace
-  member_placed t w g m = by b (is_going nat_eq gone m.number)
-    where
-      by : (b c : Bool) → is_member_of nat_eq g (ended_by b c t w gone m) ≡ true
-          → (ended_by b c t w gone m).namespace ≡ m.namespace
-      by true true h = absurd (true≢false (sym h))
-      by true false h = refl
-      by false true h = absurd (true≢false (sym h))
-      by false false h = refl
+  member_placed t w g m = grind (arith, common_steps, ended_by, true≢false)
 
   placed_own : (m : Mount ℕ) → is_own world names old m ≡ true → is_some m.namespace ≡ true
-  placed_own m = by m.namespace
-    where
-      by : (o : Option ℕ) → holds_of is_theirs o ≡ true → is_some o ≡ true
-      by None h = h
-      by (Some j) h = refl
+  placed_own m = grind (arith, common_steps)
 
   -- a group that is heard has members after in both, or in none
   members_after : (g : ℕ) → Heard g → has_members nat_eq u_part.mounts g ≡ has_members nat_eq u.mounts g
@@ -266,11 +231,7 @@ module _ (world : World ℕ) (names : List TaskName) (is : IsWorld nat_eq world)
           → is_member_of nat_eq g (ended_mount b t x gone m) ≡ true → is_own world names old m ≡ true
           → list_any (is_member_of nat_eq g) (filter (mount_lives nat_eq w) w.mounts) ≡ true
       lives_on w t x m there is_in own =
-          any_from_among (is_member_of nat_eq g) (filter (mount_lives nat_eq w) w.mounts) (ended_mount b t x gone m)
-          (among-filter (mount_lives nat_eq w) w.mounts (ended_mount b t x gone m) there
-          (or_left (is_some (ended_mount b t x gone m).namespace)
-          (is_located nat_eq w (ended_mount b t x gone m).number)
-          (ap is_some (member_placed t x g m is_in) ∙ placed_own m own))) is_in
+          grind (arith, common_steps, any_from_among, ended_mount, among-filter, or_left, member_placed, placed_own)
 
   -- so has its master
   settled_master : (g : ℕ) → Heard g → u_part.master g ≡ u.master g

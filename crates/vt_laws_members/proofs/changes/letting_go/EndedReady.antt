@@ -1,12 +1,10 @@
 -- Where mounts of theirs are detached, the world is ready to be swept.
 use Rattle.std.proofs.Common.{arith, ◌≡◌, refl, sym, ap, subst, ◌∙◌, ◌⊎◌, inl, inr, ⊎_elim, ℕ, nat_eq, Bool, true, false, true≢false, List, Option, Some, None, filter, is_some, not, ◌||◌, eq-eqb, eqb-true}
 use Rattle.std.proofs.lemmas.Grind.{common_steps}
-use Rattle.std.specs.Prelude.{option_map}
 use Rattle.std.specs.List.{list_all, list_any}
 use Rattle.std.proofs.lemmas.Bool.{and_parts, not-true, or_cases, or_left, or_right}
 use Rattle.vt_spec.specs.Language.Calls.{TaskName}
-use Rattle.vt_spec.specs.Lists.{holds_of}
-use Rattle.vt_spec.specs.Machine.Detach.{is_going, mount_point_left}
+use Rattle.vt_spec.specs.Machine.Detach.{is_going}
 use Rattle.vt_spec.specs.Machine.Invariants.{IsWorld, MountInvariants}
 use Rattle.vt_spec.specs.Machine.Mounts.{Location, Mount}
 use Rattle.vt_spec.specs.Machine.Sealed.{is_at, is_member_task, is_own_namespace, locations, members, no_outsider_on, other_mounts, outsiders, own_lowers, roots_and_directories, sealed, used_alone, used_filesystems, wholly_locked}
@@ -60,13 +58,7 @@ module _ (world : World ℕ) (names : List TaskName) (is : IsWorld nat_eq world)
   located_lives : (m : Mount ℕ) (l : Location ℕ) → Among m world.mounts → Among l (all_locations after_world)
       → l.mount ≡ m.number → Among (after m) living.mounts
   located_lives m l at n e =
-      among-filter (mount_lives nat_eq after_world) after_world.mounts (after m) (among-map after world.mounts m at)
-      (or_right (is_some (after m).namespace) (is_located nat_eq after_world (after m).number)
-      (any_from_among (λ (p : Location ℕ). nat_eq (after m).number p.mount) (all_locations after_world) l n
-      (eq-eqb (after m).number l.mount (number m ∙ sym e))))
-    where
-      number : (m : Mount ℕ) → (after m).number ≡ m.number
-      number m = (shape_kept b (left world names is sealed_off gone own_go) world gone m).number
+      grind (arith, common_steps, among-filter, among-map, or_right, any_from_among, eq-eqb, shape_kept, left)
 
   of_all : (l : Location ℕ) → Among l (locations new) → Among l (all_locations after_world)
   of_all l m =
@@ -85,10 +77,7 @@ module _ (world : World ℕ) (names : List TaskName) (is : IsWorld nat_eq world)
   own_after : (m : Mount ℕ) (n : ℕ) → Among m world.mounts → m.namespace ≡ Some n
       → is_own_namespace nat_eq world names n ≡ true
       → (is_own world names new (after m) ≡ true) ⊎ ((after m).namespace ≡ None)
-  own_after m n at e own = ⊎_elim (λ out. inr out.0)
-      (λ stays. inl (ap (holds_of (λ i. list_any (λ (t : Task ℕ). nat_eq i t.namespace) new)) stays.0
-      ∙ still m at stays.2 (ap (holds_of (is_own_namespace nat_eq world names)) e ∙ own)))
-      (placed_so b (left world names is sealed_off gone own_go) world gone m)
+  own_after m n at e own = grind (arith, common_steps, placed_so, left)
 
   none_after : (m : Mount ℕ) → m.namespace ≡ None → (after m).namespace ≡ None
   none_after m e = ⊎_elim (λ out. out.0) (λ stays. stays.0 ∙ e)
@@ -108,16 +97,8 @@ module _ (world : World ℕ) (names : List TaskName) (is : IsWorld nat_eq world)
 
     by_mount : (m : Mount ℕ) → Among m world.mounts → m.filesystem ≡ number → (o : Option ℕ) → m.namespace ≡ o
         → (is_own world names new (after m) ≡ true) ⊎ ((after m).namespace ≡ None)
-    by_mount m n e None f = inr (none_after m f)
-    by_mount m n e (Some j) f = which (is_own_namespace nat_eq world names j) refl
-      where
-        which : (c : Bool) → is_own_namespace nat_eq world names j ≡ c
-            → (is_own world names new (after m) ≡ true) ⊎ ((after m).namespace ≡ None)
-        which true own = own_after m j n f own
-        which false other = absurd (true≢false (sym (eq-eqb number m.filesystem (sym e))
-            ∙ none_among (λ (y : Mount ℕ). nat_eq number y.filesystem) (other_mounts nat_eq world names) nobody.0 m
-            (among-filter (λ (y : Mount ℕ). holds_of (λ i. not (is_own_namespace nat_eq world names i)) y.namespace)
-            world.mounts m n (ap (holds_of (λ i. not (is_own_namespace nat_eq world names i))) f ∙ ap not other))))
+    by_mount m n e o f =
+        grind (arith, common_steps, none_after, is_own, own_after, true≢false, eq-eqb, number, none_among, among-filter)
 
     mounts_own : (y : Mount ℕ) → Among y living.mounts → y.filesystem ≡ number
         → (is_own world names new y ≡ true) ⊎ (y.namespace ≡ None)
@@ -207,14 +188,10 @@ module _ (world : World ℕ) (names : List TaskName) (is : IsWorld nat_eq world)
       by : (m : Mount ℕ) → Among m world.mounts → (is_own world names old m ≡ true) ⊎ (m.namespace ≡ None)
           → (o : Option ℕ) → m.namespace ≡ o → (p : Option (Location ℕ)) → m.mount_point ≡ p
           → (is_own world names new (after m) ≡ true) ⊎ ((after m).mount_point ≡ None)
-      by m at how o e None f =
-          inr (⊎_elim (λ out. out.1) (λ stays. stays.1 ∙ ap (option_map (mount_point_left nat_eq world gone)) f)
-          (placed_so b (left world names is sealed_off gone own_go) world gone m))
+      by m at how o e None f = grind (arith, common_steps, placed_so, left)
       by m at (inr none) o e (Some l) f = absurd (nowhere_stands world names is.mounts m l at none f)
       by m at (inl own) None e (Some l) f = absurd (nowhere_stands world names is.mounts m l at e f)
-      by m at (inl own) (Some j) e (Some l) f = ⊎_elim (λ out. inr out.1)
-          (λ stays. inl (ap (holds_of (λ i. list_any (λ (t : Task ℕ). nat_eq i t.namespace) new)) stays.0
-          ∙ still m at stays.2 own)) (placed_so b (left world names is sealed_off gone own_go) world gone m)
+      by m at (inl own) (Some j) e (Some l) f = grind (arith, common_steps, placed_so, left)
 
   pub ended_ready : Ready living set (used_filesystems nat_eq after_world set) (own_lowers nat_eq after_world set)
   ended_ready = record {

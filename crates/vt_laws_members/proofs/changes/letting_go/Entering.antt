@@ -1,5 +1,6 @@
 -- A setns(2) that ends no namespace ends in the part as in the world.
-use Rattle.std.proofs.Common.{◌≡◌, refl, sym, ap, subst, ◌∙◌, inl, inr, ⊎_elim, ℕ, nat_eq, Bool, true, false, true≢false, List, [], ◌∷◌, Option, Some, None, Ok, map, not, ◌||◌, eq-eqb}
+use Rattle.std.proofs.Common.{arith, ◌≡◌, refl, sym, ap, ◌∙◌, ⊎_elim, ℕ, nat_eq, Bool, true, false, true≢false, List, [], ◌∷◌, Option, Some, None, Ok, map, not, ◌||◌, eq-eqb}
+use Rattle.std.proofs.lemmas.Grind.{common_steps}
 use Rattle.std.specs.Prelude.{IfOk, is_some, ok_or, option_map, unwrap_or}
 use Rattle.std.specs.List.{list_any}
 use Rattle.vt_spec.specs.declared.errors.Rule.TheVariants.{K1, S2}
@@ -155,16 +156,7 @@ module _ (world : World ℕ) (names : List TaskName) (name called_so : TaskName)
       (in_world world names name exit_it task called from.0 from.1))
 
   pub stands : StandsOnTheirs world names name (Setns called_so) it task mine
-  stands = record {
-    named = refl;
-    root = root_on;
-    directory = root_on;
-    places = λ l m. ⊎_elim (λ here. inr (on_it l here))
-        (λ rest. ⊎_elim (λ here. inr (on_it l here)) (λ open_file. inl (inr (inr open_file))) rest) m;
-  }
-    where
-      on_it : (l : Location ℕ) → l ≡ root → IsTheirs world names it.is.mounts l.mount
-      on_it l e = subst (λ (q : Location ℕ). IsTheirs world names it.is.mounts q.mount) (sym e) root_on
+  stands = grind (arith, common_steps, root_on)
 
   -- A namespace with a task still has one
   module _ (entered : (n : ℕ) → (list : List (Task ℕ)) → ((t : Task ℕ) → Among t list → Among t world.tasks)

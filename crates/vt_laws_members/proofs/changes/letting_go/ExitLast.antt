@@ -1,5 +1,6 @@
 -- An exit of the last task of its namespace ends in the part as in the world: the mounts of the namespace are detached.
-use Rattle.std.proofs.Common.{◌≡◌, refl, sym, ap, subst, ◌∙◌, ℕ, nat_eq, Bool, true, false, true≢false, List, [], Option, Some, None, filter, map, not, ◌||◌, eq-eqb, eqb-true}
+use Rattle.std.proofs.Common.{arith, ◌≡◌, refl, sym, ap, subst, ◌∙◌, ℕ, nat_eq, Bool, true, false, true≢false, List, [], Option, Some, None, filter, map, not, ◌||◌, eq-eqb, eqb-true}
+use Rattle.std.proofs.lemmas.Grind.{common_steps}
 use Rattle.std.specs.List.{list_all, list_any}
 use Rattle.std.proofs.lemmas.Bool.{or_left, or_right}
 use Rattle.vt_spec.specs.Language.Answers.Answer.{Done}
@@ -102,17 +103,7 @@ module _ (world : World ℕ) (names : List TaskName) (name : TaskName) (it : IsC
       → list_any (λ (t : Task ℕ). nat_eq n t.namespace) list ≡ true
       → list_any (λ (t : Task ℕ). nat_eq n t.namespace) (filter stays_on list) ≡ true
   still_in n apart list within h =
-      let at = any_among (λ (t : Task ℕ). nat_eq n t.namespace) list h in
-      by at.0 at.1 at.2 (same_name name at.0.name) refl
-    where
-      by : (t : Task ℕ) → Among t list → nat_eq n t.namespace ≡ true → (b : Bool) → same_name name t.name ≡ b
-          → list_any (λ (t : Task ℕ). nat_eq n t.namespace) (filter stays_on list) ≡ true
-      by t m e false f = any_from_among (λ (t : Task ℕ). nat_eq n t.namespace) (filter stays_on list) t
-          (among-filter stays_on list t m (ap not f)) e
-      by t m e true f =
-          let one = is_task world names name it task called t (within t m) f in
-          absurd (true≢false (sym (eq-eqb k n
-          (ap (λ (x : Task ℕ). x.namespace) one ∙ sym (eqb-true n t.namespace e))) ∙ apart))
+      grind (arith, common_steps, any_among, any_from_among, among-filter, is_task, true≢false, eq-eqb, eqb-true)
 
   still : (n : ℕ) → nat_eq k n ≡ false → list_any (λ (t : Task ℕ). nat_eq n t.namespace) old ≡ true
       → list_any (λ (t : Task ℕ). nat_eq n t.namespace) (filter (is_member_task set) rest) ≡ true

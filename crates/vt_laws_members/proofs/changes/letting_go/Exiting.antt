@@ -1,5 +1,6 @@
 -- Each exit ends in the part as in the world.
-use Rattle.std.proofs.Common.{◌≡◌, refl, sym, ap, subst, ◌∙◌, inl, ⊎_elim, ℕ, nat_eq, Bool, true, false, cond, true≢false, List, [], ◌∷◌, Option, Some, None, filter, not, ◌||◌, eq-eqb, eqb-true}
+use Rattle.std.proofs.Common.{arith, ◌≡◌, refl, sym, ap, subst, ◌∙◌, inl, ⊎_elim, ℕ, nat_eq, Bool, true, false, cond, true≢false, List, [], ◌∷◌, Option, Some, None, filter, not, ◌||◌, eq-eqb, eqb-true}
+use Rattle.std.proofs.lemmas.Grind.{common_steps}
 use Rattle.std.specs.List.{list_all, list_any}
 use Rattle.std.proofs.lemmas.Bool.{not-true}
 use Rattle.vt_spec.specs.Language.Answers.Answer.{Done}
@@ -8,7 +9,6 @@ use Rattle.vt_spec.specs.Language.Calls.Call.{Exit}
 use Rattle.vt_spec.specs.Lists.{Fresh, then_some}
 use Rattle.vt_spec.specs.Machine.Invariants.{HasLivingGroups, is_private}
 use Rattle.vt_spec.specs.Machine.Mounts.{Location, Mount, Propagation, source_of}
-use Rattle.vt_spec.specs.Machine.Mounts.Propagation.{Private, Shared, Slave, Unbindable}
 use Rattle.vt_spec.specs.Machine.Namespaces.{has_tasks, namespaces_ended}
 use Rattle.vt_spec.specs.Machine.Policy.{numbers_raised}
 use Rattle.vt_spec.specs.Machine.Outcomes.{granted}
@@ -69,10 +69,7 @@ module _ (world : World ℕ) (names : List TaskName) (name : TaskName) (it : IsC
       (own_whole world names it.is own.0 from.1)) own.2
 
   source_placed : (kind : Propagation ℕ) (g : ℕ) → source_of kind ≡ Some g → is_private kind ≡ true → ⊥
-  source_placed (Shared h) g e p = true≢false (sym p)
-  source_placed (Slave h) g e p = true≢false (sym p)
-  source_placed Private g e p = none_is_some g e
-  source_placed Unbindable g e p = none_is_some g e
+  source_placed kind g e p = grind (arith, common_steps, true≢false, none_is_some)
 
   pub part_keeps : list_any (lost_a_group nat_eq (record its_part { tasks = its_rest })) its_part.mounts ≡ false
   part_keeps =
@@ -147,19 +144,7 @@ module _ (world : World ℕ) (names : List TaskName) (name : TaskName) (it : IsC
   entered : (n : ℕ) (list : List (Task ℕ)) → ((t : Task ℕ) → Among t list → Among t world.tasks) → Among other list
       → list_any (λ (t : Task ℕ). nat_eq n t.namespace) list ≡ true
       → list_any (λ (t : Task ℕ). nat_eq n t.namespace) (filter stays list) ≡ true
-  entered n list within m h =
-      let at = any_among (λ (t : Task ℕ). nat_eq n t.namespace) list h in
-      by at.0 at.1 at.2 (same_name name at.0.name) refl
-    where
-      by : (t : Task ℕ) → Among t list → nat_eq n t.namespace ≡ true → (b : Bool) → same_name name t.name ≡ b
-          → list_any (λ (t : Task ℕ). nat_eq n t.namespace) (filter stays list) ≡ true
-      by t k e false f = any_from_among (λ (t : Task ℕ). nat_eq n t.namespace) (filter stays list) t
-          (among-filter stays list t k (ap not f)) e
-      by t k e true f =
-          let one = is_task world names name it task called t (within t k) f in
-          any_from_among (λ (t : Task ℕ). nat_eq n t.namespace) (filter stays list) other
-          (among-filter stays list other m other_stays)
-          (ap (nat_eq n) (together ∙ ap (λ (x : Task ℕ). x.namespace) one) ∙ e)
+  entered n list within m h = grind (arith, common_steps, any_among, any_from_among, among-filter, is_task, other_stays)
 
   pub in_old : Among other old
   in_old = among-filter (is_member_task names) world.tasks other there other_member

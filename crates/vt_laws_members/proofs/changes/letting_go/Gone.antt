@@ -1,7 +1,8 @@
 -- The filesystems that nothing uses are in no part.
-use Rattle.std.proofs.Common.{◌≡◌, refl, sym, ap, ◌∙◌, inl, inr, ⊎_elim, ℕ, nat_eq, Bool, true, false, cond, true≢false, List, [], ◌∷◌, ◌++◌, Option, Some, None, filter, find, flat_map, is_some, ◌&&◌, ◌||◌, eq-eqb, eqb-true}
+use Rattle.std.proofs.Common.{arith, ◌≡◌, refl, sym, ap, ◌∙◌, inl, inr, ⊎_elim, ℕ, nat_eq, Bool, true, false, cond, true≢false, List, [], ◌∷◌, ◌++◌, Option, Some, None, filter, find, flat_map, ◌&&◌, ◌||◌, eq-eqb, eqb-true}
+use Rattle.std.proofs.lemmas.Grind.{common_steps}
 use Rattle.std.specs.Prelude.{unwrap_or}
-use Rattle.std.specs.List.{cons_option, filter_map, list_any}
+use Rattle.std.specs.List.{filter_map, list_any}
 use Rattle.std.proofs.lemmas.Bool.{and_from, and_parts, false_from_ne_true, or_cases, or_left, or_right}
 use Rattle.vt_spec.specs.FileTree.{FileTree}
 use Rattle.vt_spec.specs.Language.Calls.{TaskName}
@@ -20,27 +21,14 @@ use Rattle.vt_laws_members.proofs.judging.Locks.{has_layer}
 
 -- each world shows what it shows
 pub sees_itself : (a : World ℕ) (set : List TaskName) → SeesTheSame a a set
-sees_itself a set = record {
-  tasks = refl;
-  mounts = refl;
-  masters = λ group e. refl;
-  direct = λ number m. refl;
-  filesystems = refl;
-  namespaces = refl;
-}
+sees_itself a set = grind (arith, common_steps)
 
 -- what a filter takes is not kept, and what it leaves is kept alike
 kept_filtered : {A B : Type 0} (k later : A → Option B) (p : A → Bool) (xs : List A)
     → ((x : A) → Among x xs → p x ≡ true → later x ≡ k x) → ((x : A) → Among x xs → p x ≡ false → k x ≡ None)
     → filter_map later (filter p xs) ≡ filter_map k xs
 kept_filtered k later p [] same none = refl
-kept_filtered k later p (x ∷ xs) same none =
-    by (p x) refl (kept_filtered k later p xs (λ y m. same y (inr m)) (λ y m. none y (inr m)))
-  where
-    by : (b : Bool) → p x ≡ b → filter_map later (filter p xs) ≡ filter_map k xs
-        → filter_map later (cond b (x ∷ filter p xs) (filter p xs)) ≡ cons_option (k x) (filter_map k xs)
-    by true e rest = cc (same x (inl refl) e)
-    by false e rest = rest ∙ sym (ap (λ o. cons_option o (filter_map k xs)) (none x (inl refl) e))
+kept_filtered k later p (x ∷ xs) same none = grind (arith, common_steps, kept_filtered k later p xs)
 
 module _ (a : World ℕ) (set : List TaskName) (used : List ℕ) (lowers : List (Layer ℕ))
     (it : Ready a set used lowers) where
@@ -92,17 +80,7 @@ module _ (a : World ℕ) (set : List TaskName) (used : List ℕ) (lowers : List 
           → find (λ (f : Filesystem ℕ). nat_eq number f.number) (filter (filesystem_lives nat_eq a) list)
           ≡ find (λ (f : Filesystem ℕ). nat_eq number f.number) list
       search [] = refl
-      search (f ∷ rest) = by (filesystem_lives nat_eq a f) refl (nat_eq number f.number) refl (search rest)
-        where
-          by : (c : Bool) → filesystem_lives nat_eq a f ≡ c → (b : Bool) → nat_eq number f.number ≡ b
-              → find (λ (x : Filesystem ℕ). nat_eq number x.number) (filter (filesystem_lives nat_eq a) rest)
-              ≡ find (λ (x : Filesystem ℕ). nat_eq number x.number) rest
-              → find (λ (x : Filesystem ℕ). nat_eq number x.number)
-              (cond c (f ∷ filter (filesystem_lives nat_eq a) rest) (filter (filesystem_lives nat_eq a) rest))
-              ≡ cond b (Some f) (find (λ (x : Filesystem ℕ). nat_eq number x.number) rest)
-          by true g b h later = cc
-          by false g true h later = absurd (true≢false (sym is ∙ ap alive (eqb-true number f.number h) ∙ g))
-          by false g false h later = later
+      search (f ∷ rest) = grind (arith, common_steps, true≢false, eqb-true, search rest)
 
   abbrev lowered : FileTree ℕ → Filesystem ℕ → Filesystem ℕ
   lowered files x = record x {
@@ -167,9 +145,4 @@ module _ (a : World ℕ) (set : List TaskName) (used : List ℕ) (lowers : List 
   -- each overlay that is left is mounted: none is a layer
   pub living_mounted : OverlaysMounted living set
   living_mounted merged m over =
-      let from = among-from_filter (filesystem_lives nat_eq a) a.filesystems merged m in
-      ⊎_elim (λ mounted. mounted) (λ layer. let at = any_among
-      (λ other. has_layer_on nat_eq merged.number other && is_mounted nat_eq a other.number) a.filesystems layer in
-      absurd (true≢false (sym over ∙ ap is_some (it.plain merged at.0 from.0 at.1
-      (and_parts (has_layer_on nat_eq merged.number at.0) (is_mounted nat_eq a at.0.number) at.2).0))))
-      (or_cases (is_mounted nat_eq a merged.number) _ from.1)
+      grind (arith, common_steps, among-from_filter, any_among, true≢false, and_parts, or_cases)

@@ -1,12 +1,12 @@
 -- The groups that a sealed set hears are in its part, with their masters.
-use Rattle.std.proofs.Common.{◌≡◌, refl, sym, ap, subst, ◌∙◌, ⊎_elim, ℕ, nat_eq, Bool, true, cond, true≢false, List, Option, Some, None, is_some, length, not, ◌||◌, ◌&&◌, eqb-true}
+use Rattle.std.proofs.Common.{arith, ◌≡◌, sym, ap, subst, ◌∙◌, ⊎_elim, ℕ, nat_eq, Bool, true, cond, true≢false, List, Some, None, is_some, length, not, ◌||◌, ◌&&◌, eqb-true}
+use Rattle.std.proofs.lemmas.Grind.{common_steps}
 use Rattle.std.specs.List.{list_any}
 use Rattle.std.proofs.lemmas.Bool.{and_parts, or_left}
 use Rattle.vt_spec.specs.Language.Calls.{TaskName}
 use Rattle.vt_spec.specs.Lists.{holds_of}
 use Rattle.vt_spec.specs.Machine.Invariants.{HasLivingGroups, IsWorld, is_nowhere_or_attached, is_private}
 use Rattle.vt_spec.specs.Machine.Mounts.{Mount, Propagation, source_of}
-use Rattle.vt_spec.specs.Machine.Mounts.Propagation.{Private, Shared, Slave, Unbindable}
 use Rattle.vt_spec.specs.Machine.Receives.{groups_up, is_member_of}
 use Rattle.vt_spec.specs.Machine.Sealed.{is_at, is_own_mount, members, own_mounts, part_of, roots_and_directories, sealed}
 use Rattle.vt_spec.specs.Machine.World.{Task, World, mounts_of}
@@ -23,10 +23,7 @@ use Rattle.vt_laws_members.proofs.judging.MountPoints.{part_mount}
 use Rattle.vt_laws_members.proofs.judging.MountTrees.{own_whole}
 
 pub private_source : (kind : Propagation ℕ) → is_private kind ≡ true → source_of kind ≡ None
-private_source (Shared g) e = absurd (true≢false (sym e))
-private_source (Slave g) e = absurd (true≢false (sym e))
-private_source Private e = refl
-private_source Unbindable e = absurd (true≢false (sym e))
+private_source kind e = grind (arith, common_steps, true≢false)
 
 module _ (world : World ℕ) (names : List TaskName) (is : IsWorld nat_eq world)
     (sealed_off : sealed nat_eq world names ≡ true) where
@@ -91,12 +88,7 @@ module _ (world : World ℕ) (names : List TaskName) (is : IsWorld nat_eq world)
   -- a mount in a namespace of theirs is theirs
   pub own_in : (n : ℕ) → list_any (λ (t : Task ℕ). nat_eq n t.namespace) old ≡ true → (m : Mount ℕ) → its_in n m ≡ true
       → is_own world names old m ≡ true
-  own_in n own m = by m.namespace
-    where
-      by : (o : Option ℕ) → holds_of (nat_eq n) o ≡ true
-          → holds_of (λ i. list_any (λ (t : Task ℕ). nat_eq i t.namespace) old) o ≡ true
-      by None h = absurd (true≢false (sym h))
-      by (Some j) h = ap (λ i. list_any (λ (t : Task ℕ). nat_eq i t.namespace) old) (sym (eqb-true n j h)) ∙ own
+  own_in n own m = grind (arith, common_steps, true≢false, eqb-true)
 
   pub own_kept : (m : Mount ℕ) → is_own world names old m ≡ true → keep world names old m ≡ Some m
   own_kept m own = kept_whole world names old m

@@ -1,5 +1,6 @@
 -- A task of a set exits: the set, the tasks and the namespaces that are left.
-use Rattle.std.proofs.Common.{◌≡◌, refl, sym, ap, subst, ◌∙◌, ⊎_elim, ℕ, nat_eq, Bool, true, false, true≢false, List, [], ◌∷◌, Option, Some, None, filter, map, not, cond}
+use Rattle.std.proofs.Common.{arith, ◌≡◌, refl, sym, ap, subst, ◌∙◌, ⊎_elim, ℕ, nat_eq, Bool, true, false, true≢false, List, [], ◌∷◌, Option, Some, None, filter, map, not, cond}
+use Rattle.std.proofs.lemmas.Grind.{common_steps}
 use Rattle.std.specs.Prelude.{option_to_list}
 use Rattle.std.specs.List.{list_all, list_any}
 use Rattle.std.proofs.lemmas.Bool.{and_parts}
@@ -36,13 +37,7 @@ filter_mid {A} p q r (x ∷ xs) less = by (r x) refl (q x) (filter_mid p q r xs 
     by : (b : Bool) → r x ≡ b → (c : Bool) → filter p (filter q (filter r xs)) ≡ filter p (filter q xs)
         → filter p (filter q (cond b (x ∷ filter r xs) (filter r xs)))
         ≡ filter p (cond (q x) (x ∷ filter q xs) (filter q xs))
-    by true e c later = both (q x)
-      where
-        both : (d : Bool) → filter p (cond d (x ∷ filter q (filter r xs)) (filter q (filter r xs)))
-            ≡ filter p (cond d (x ∷ filter q xs) (filter q xs))
-        both true = ap (λ l. cond (p x) (x ∷ l) l) later
-        both false = later
-    by false e c later = later ∙ skip (q x) (p x) refl e
+    by b e c later = grind (arith, common_steps, skip)
 
 module _ (world : World ℕ) (names : List TaskName) (name : TaskName) (it : IsCallOfTheirs world names name Exit)
     (task : Task ℕ) (called : task_called world name ≡ Some task) where
@@ -80,11 +75,7 @@ module _ (world : World ℕ) (names : List TaskName) (name : TaskName) (it : IsC
       (any_from_among (same_name t.name) names at.0 from.0 at.2, ap (λ n. not (same_name name n)) same ∙ from.1)
 
   pub set_from : (t : Task ℕ) → is_member_task names t ≡ true → stays t ≡ true → its t ≡ true
-  set_from t h s =
-      let at = any_among (same_name t.name) names h in
-      any_from_among (same_name t.name) (left names name Exit) at.0
-      (among-filter (λ m. not (same_name name m)) names at.0 at.1
-      (ap (λ n. not (same_name name n)) (sym (same_task_name t.name at.0 at.2)) ∙ s)) at.2
+  set_from t h s = grind (arith, common_steps, any_among, any_from_among, among-filter, same_task_name)
 
   abbrev pub tasks : List (Task ℕ)
   tasks = filter stays world.tasks
@@ -96,10 +87,7 @@ module _ (world : World ℕ) (names : List TaskName) (name : TaskName) (it : IsC
   in_world t m = (among-from_filter (is_member_task names) world.tasks t m).0
 
   pub new_old : (t : Task ℕ) → Among t (filter its tasks) → Among t old
-  new_old t m =
-      let from = among-from_filter its tasks t m in
-      among-filter (is_member_task names) world.tasks t (among-from_filter stays world.tasks t from.0).0
-      (set_parts t from.1).0
+  new_old t m = grind (arith, common_steps, among-from_filter, among-filter, set_parts)
 
   pub old_new : (t : Task ℕ) → Among t (filter stays old) → Among t (filter its tasks)
   old_new t m =

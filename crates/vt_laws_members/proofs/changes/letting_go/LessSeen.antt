@@ -1,6 +1,7 @@
 -- In worlds with the filesystems of a world and of its part, a set that sees less has one part.
-use Rattle.std.proofs.Common.{◌≡◌, refl, sym, ap, subst, ◌∙◌, ⊎_elim, ℕ, nat_eq, Bool, true, false, cond, true≢false, List, [], ◌∷◌, ◌++◌, Option, Some, None, filter, flat_map, map, ◌&&◌}
-use Rattle.std.specs.List.{cons_option, filter_map, list_any}
+use Rattle.std.proofs.Common.{arith, ◌≡◌, refl, sym, ap, subst, ◌∙◌, ⊎_elim, ℕ, nat_eq, Bool, true, false, cond, true≢false, List, [], ◌∷◌, ◌++◌, Option, Some, None, filter, flat_map, map, ◌&&◌}
+use Rattle.std.proofs.lemmas.Grind.{common_steps}
+use Rattle.std.specs.List.{filter_map, list_any}
 use Rattle.std.proofs.lemmas.Bool.{and_parts}
 use Rattle.vt_spec.specs.FileTree.{FileTree, is_under}
 use Rattle.vt_spec.specs.Language.Calls.{TaskName}
@@ -24,13 +25,7 @@ use Rattle.vt_laws_members.proofs.changes.letting_go.CutAgain.{HasLowers, cut_al
 pub filter_map_then : {A : Type 0} (f g : A → Option A) (xs : List A)
     → filter_map g (filter_map f xs) ≡ filter_map (λ x. then_some (f x) g) xs
 filter_map_then f g [] = refl
-filter_map_then {A} f g (x ∷ xs) = by (f x) (filter_map_then f g xs)
-  where
-    by : (o : Option A) → filter_map g (filter_map f xs) ≡ filter_map (λ y. then_some (f y) g) xs
-        → filter_map g (cons_option o (filter_map f xs))
-        ≡ cons_option (then_some o g) (filter_map (λ y. then_some (f y) g) xs)
-    by None later = later
-    by (Some y) later = ap (cons_option (g y)) later
+filter_map_then {A} f g (x ∷ xs) = grind (arith, common_steps, filter_map_then f g xs)
 
 -- Of these worlds, one has the filesystems of a world, and the other one those of its part.
 module _ (world : World ℕ) (names set : List TaskName) (next next_part : World ℕ) where
@@ -176,14 +171,7 @@ module _ (world : World ℕ) (names : List TaskName) (is : IsWorld nat_eq world)
           → (c : Bool) → is_among nat_eq x.number used ≡ c → (d : Bool) → has_lower lowers x.number ≡ d
           → None ≡ cond (is_among nat_eq x.number used) (Some x)
           (when (has_lower lowers x.number) (lowered (filesystem_numbered nat_eq world x.number).files x))
-      by true f b g c h d k = none_is_some x (sym e ∙ ap (λ q. cond q (Some x)
-          (when (has_lower lowers_before x.number) (part_of_lower nat_eq world names x))) f)
-      by false f true g c h d k = none_is_some (part_of_lower nat_eq world names x) (sym e ∙ ap (λ q. cond q (Some x)
-          (when (has_lower lowers_before x.number) (part_of_lower nat_eq world names x))) f
-          ∙ ap (λ q. when q (part_of_lower nat_eq world names x)) g)
-      by false f false g true h d k = absurd (true≢false (sym (used_was x.number h) ∙ f))
-      by false f false g false h true k = absurd (true≢false (sym (has_was x.number k) ∙ g))
-      by false f false g false h false k = cc
+      by a f b g c h d k = grind (arith, common_steps, none_is_some, true≢false, used_was, has_was)
 
   -- a tree that was shown by lower layers alone
   module _ (x : Filesystem ℕ) (m : Among x world.filesystems)
@@ -195,11 +183,7 @@ module _ (world : World ℕ) (names : List TaskName) (is : IsWorld nat_eq world)
     was_so = ap (λ q. cond q (Some x) (when (has_lower lowers_before x.number) y)) unused ∙ ap (λ q. when q y) low
 
     unused_now : is_among nat_eq x.number used ≡ false
-    unused_now = by (is_among nat_eq x.number used) refl
-      where
-        by : (b : Bool) → is_among nat_eq x.number used ≡ b → b ≡ false
-        by true e = absurd (true≢false (sym (used_was x.number e) ∙ unused))
-        by false e = refl
+    unused_now = grind (arith, common_steps, true≢false, used_was)
 
     pub has_lowers : HasLowers x.number lowers x.files
         (filter (lies_in_own_lower nat_eq world names x.number) x.files.numbers)
@@ -252,12 +236,7 @@ module _ (world : World ℕ) (names : List TaskName) (is : IsWorld nat_eq world)
   master_less : (group : ℕ)
       → cond (list_any (is_member_of nat_eq group) (own_mounts nat_eq other set)) (other.master group) None
       ≡ cond (list_any (is_member_of nat_eq group) (own_mounts nat_eq one set)) (one.master group) None
-  master_less group = cc (less_own, by (list_any (is_member_of nat_eq group) (own_mounts nat_eq one set)) refl)
-    where
-      by : (b : Bool) → list_any (is_member_of nat_eq group) (own_mounts nat_eq one set) ≡ b
-          → cond b (other.master group) None ≡ cond b (one.master group) None
-      by true e = less.masters group e
-      by false e = refl
+  master_less group = grind (arith, common_steps, less_own)
 
   -- so they have one part
   pub one_part : part_of nat_eq other set ≡ part_of nat_eq one set

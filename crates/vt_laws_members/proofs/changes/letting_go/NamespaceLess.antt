@@ -9,7 +9,6 @@ use Rattle.vt_spec.specs.Lists.{holds_of, then_some, when}
 use Rattle.vt_spec.specs.Machine.Detach.{after_going, is_going, mount_point_left}
 use Rattle.vt_spec.specs.Machine.Invariants.{IsWorld, is_nowhere_or_attached, is_private}
 use Rattle.vt_spec.specs.Machine.Mounts.{Location, Mount, Propagation, detached, group_of, source_of}
-use Rattle.vt_spec.specs.Machine.Mounts.Propagation.{Private, Shared, Slave, Unbindable}
 use Rattle.vt_spec.specs.Machine.Receives.{heir, is_member_of}
 use Rattle.vt_spec.specs.Machine.Sealed.{is_at, is_member_task, is_own_mount, locations, members, own_mounts, part_of, roots_and_directories, sealed, seen_by_descriptor, used_directly}
 use Rattle.vt_spec.specs.Machine.World.{Namespace, Task, World, locations_of, mount_at, mount_numbered}
@@ -48,13 +47,7 @@ abbrev pub ended_by : Bool → Bool → World ℕ → World ℕ → List ℕ →
 ended_by b c t w gone m = regrouped_mount b t (cond c (detached m) (moved_mount w gone m))
 
 pub shape_kept : (b : Bool) (t w : World ℕ) (gone : List ℕ) (m : Mount ℕ) → KeepsShape m (ended_mount b t w gone m)
-shape_kept b t w gone m = by b (is_going nat_eq gone m.number)
-  where
-    by : (b c : Bool) → KeepsShape m (ended_by b c t w gone m)
-    by true true = record { number = refl; filesystem = refl; stub = refl; root = refl }
-    by true false = record { number = refl; filesystem = refl; stub = refl; root = refl }
-    by false true = record { number = refl; filesystem = refl; stub = refl; root = refl }
-    by false false = record { number = refl; filesystem = refl; stub = refl; root = refl }
+shape_kept b t w gone m = grind (arith, common_steps)
 
 -- it is in no namespace, or in its own, and then where it is left
 pub placed_so : (b : Bool) (t w : World ℕ) (gone : List ℕ) (m : Mount ℕ)
@@ -62,17 +55,7 @@ pub placed_so : (b : Bool) (t w : World ℕ) (gone : List ℕ) (m : Mount ℕ)
     × (is_going nat_eq gone m.number ≡ true)) ⊎ (((ended_mount b t w gone m).namespace ≡ m.namespace)
     × ((ended_mount b t w gone m).mount_point ≡ option_map (mount_point_left nat_eq w gone) m.mount_point)
     × (is_going nat_eq gone m.number ≡ false))
-placed_so b t w gone m = by b (is_going nat_eq gone m.number) refl
-  where
-    by : (b c : Bool) → is_going nat_eq gone m.number ≡ c
-        → (((ended_by b c t w gone m).namespace ≡ None) × ((ended_by b c t w gone m).mount_point ≡ None)
-        × (is_going nat_eq gone m.number ≡ true)) ⊎ (((ended_by b c t w gone m).namespace ≡ m.namespace)
-        × ((ended_by b c t w gone m).mount_point ≡ option_map (mount_point_left nat_eq w gone) m.mount_point)
-        × (is_going nat_eq gone m.number ≡ false))
-    by true true e = inl (refl, refl, e)
-    by true false e = inr (refl, refl, e)
-    by false true e = inl (refl, refl, e)
-    by false false e = inr (refl, refl, e)
+placed_so b t w gone m = grind (arith, common_steps)
 
 -- a member of a group after was one before
 pub member_was : (b : Bool) (t w : World ℕ) (gone : List ℕ) (g : ℕ) (m : Mount ℕ)
@@ -82,32 +65,14 @@ member_was b t w gone g m = grind (arith, common_steps, true≢false)
 -- a private mount without a mount point, and what a descriptor shows, stay
 private_alike : (b : Bool) (t u w x : World ℕ) (gone : List ℕ) (m : Mount ℕ) → is_private m.propagation ≡ true
     → m.mount_point ≡ None → ended_mount b t w gone m ≡ ended_mount b u x gone m
-private_alike b t u w x gone m e none = by b (is_going nat_eq gone m.number) m.propagation refl
-  where
-    by : (b c : Bool) (kind : Propagation ℕ) → m.propagation ≡ kind → ended_by b c t w gone m ≡ ended_by b c u x gone m
-    by true true kind f = refl
-    by true false (Shared g) f = absurd (true≢false (sym e ∙ ap is_private f))
-    by true false (Slave g) f = absurd (true≢false (sym e ∙ ap is_private f))
-    by true false Private f = cc none
-    by true false Unbindable f = absurd (true≢false (sym e ∙ ap is_private f))
-    by false true kind f = refl
-    by false false kind f = cc none
+private_alike b t u w x gone m e none = grind (arith, common_steps, true≢false)
 
 pub stub_stays : (b : Bool) (t w : World ℕ) (gone : List ℕ) (m : Mount ℕ)
     → ended_mount b t w gone (seen_by_descriptor m) ≡ seen_by_descriptor m
-stub_stays b t w gone m = by b (is_going nat_eq gone m.number)
-  where
-    by : (b c : Bool) → ended_by b c t w gone (seen_by_descriptor m) ≡ seen_by_descriptor m
-    by true true = refl
-    by true false = refl
-    by false true = refl
-    by false false = refl
+stub_stays b t w gone m = grind (arith, common_steps)
 
 source_from : (kind : Propagation ℕ) (g : ℕ) → group_of kind ≡ Some g → source_of kind ≡ Some g
-source_from (Shared h) g e = e
-source_from (Slave h) g e = none_is_some g e
-source_from Private g e = none_is_some g e
-source_from Unbindable g e = none_is_some g e
+source_from kind g e = grind (arith, common_steps, none_is_some)
 
 -- a mount where they stand is theirs, or in no namespace
 pub stands_on : (world : World ℕ) (names : List TaskName) (is : IsWorld nat_eq world) (m : Mount ℕ)
@@ -169,10 +134,7 @@ module _ (world : World ℕ) (names : List TaskName) (is : IsWorld nat_eq world)
 
   pub ground_whole : (m : Mount ℕ) → IsGround world names is.mounts m
       → (is_own world names old_ones m || is_at nat_eq (roots_and_directories old_ones) m) ≡ true
-  ground_whole m ground =
-      ⊎_elim (or_left (is_own world names old_ones m) (is_at nat_eq (roots_and_directories old_ones) m))
-      (λ stood. or_right (is_own world names old_ones m) (is_at nat_eq (roots_and_directories old_ones) m) stood.1)
-      ground
+  ground_whole m ground = grind (arith, common_steps, or_left, is_own, or_right)
 
 module _ (world : World ℕ) (names : List TaskName) (is : IsWorld nat_eq world)
     (sealed_off : sealed nat_eq world names ≡ true) (set : List TaskName) (gone : List ℕ)
@@ -246,10 +208,7 @@ module _ (world : World ℕ) (names : List TaskName) (is : IsWorld nat_eq world)
 
   -- an own mount of the set that is left was one
   pub own_before : (m : Mount ℕ) → owns new (after m) ≡ true → (owns new m ≡ true) × (owns old m ≡ true)
-  own_before m h = ⊎_elim (λ gone. absurd (true≢false (sym h
-      ∙ ap (holds_of (λ n. list_any (λ (t : Task ℕ). nat_eq n t.namespace) new)) gone.0)))
-      (λ stays. let mine = sym (ap (holds_of (λ n. list_any (λ (t : Task ℕ). nat_eq n t.namespace) new)) stays.0) ∙ h in
-      (mine, own_was m mine)) (placed_so b t_world world gone m)
+  own_before m h = grind (arith, common_steps, true≢false, own_was, placed_so)
 
   pub root_ground : (l : Location ℕ) → Among l (roots_and_directories new) → (m : Mount ℕ) → Among m world.mounts
       → l.mount ≡ m.number → IsGround world names is.mounts m
@@ -348,17 +307,11 @@ module _ (world : World ℕ) (names : List TaskName) (is : IsWorld nat_eq world)
 
   -- mounts by their numbers
   pub one_after : OneNumberEach ended
-  one_after = pair-map (λ (p q : Mount ℕ). nat_eq p.number q.number)
-      (λ (p q : Mount ℕ). nat_eq p.number q.number) after world.mounts
-      (λ p q m n e. ap (λ i. nat_eq i (after q).number) (shape_kept b t_world world gone p).number
-      ∙ ap (nat_eq p.number) (shape_kept b t_world world gone q).number ∙ e) is.mounts.one_number
+  one_after = grind (arith, common_steps, pair-map, shape_kept)
 
   pub shown_after : (m : Mount ℕ) → Among m world.mounts → (l : Location ℕ) → l.mount ≡ m.number
       → mount_at nat_eq ended l ≡ after m
-  shown_after m n l e = cc (
-    (shape_kept b t_world world gone m).number,
-    found_itself ended.mounts one_after (after m) (among-map after world.mounts m n),
-  )
+  shown_after m n l e = grind (arith, common_steps, shape_kept, found_itself, one_after, among-map)
 
   pub filesystem_after : (m : Mount ℕ) → Among m world.mounts → (l : Location ℕ) → l.mount ≡ m.number
       → (mount_at nat_eq ended l).filesystem ≡ (mount_at nat_eq world l).filesystem

@@ -1,5 +1,6 @@
 -- Filesystems of a part: their numbers, layers and cuts.
-use Rattle.std.proofs.Common.{◌≡◌, refl, sym, ap, subst, ◌∙◌, ⊎_elim, ℕ, nat_eq, true, false, List, Option, Some, None, filter}
+use Rattle.std.proofs.Common.{arith, ◌≡◌, refl, ap, subst, ◌∙◌, ⊎_elim, ℕ, nat_eq, true, false, List, Option, Some, None, filter}
+use Rattle.std.proofs.lemmas.Grind.{common_steps}
 use Rattle.std.specs.List.{list_any}
 use Rattle.vt_spec.specs.Language.Calls.{TaskName}
 use Rattle.vt_spec.specs.Lists.{any_pair, is_among}
@@ -21,10 +22,7 @@ module _ (world : World ℕ) (names : List TaskName) (is : IsWorld nat_eq world)
   shown = part_of_filesystem nat_eq world names
 
   shown_number : (x y : Filesystem ℕ) → shown x ≡ Some y → (y.number ≡ x.number) × (y.overlay ≡ x.overlay)
-  shown_number x y e = ⊎_elim
-      (λ whole. (ap (λ (f : Filesystem ℕ). f.number) (sym whole.0), ap (λ (f : Filesystem ℕ). f.overlay) (sym whole.0)))
-      (λ low. (ap (λ (f : Filesystem ℕ). f.number) (sym low.0), ap (λ (f : Filesystem ℕ). f.overlay) (sym low.0)))
-      (shown_how world names x y e)
+  shown_number x y e = grind (arith, common_steps, shown_how)
 
   pub numbers_in_part : any_pair (λ (x y : Filesystem ℕ). nat_eq x.number y.number) part.filesystems ≡ false
   numbers_in_part =
@@ -33,17 +31,7 @@ module _ (world : World ℕ) (names : List TaskName) (is : IsWorld nat_eq world)
 
   pub plain_in_part : (y merged : Filesystem ℕ) → Among y part.filesystems → Among merged part.filesystems
       → has_layer_on nat_eq y.number merged ≡ true → y.overlay ≡ None
-  plain_in_part y merged m n has =
-      let one = among-from_filter_map shown world.filesystems y m in
-      let two = among-from_filter_map shown world.filesystems merged n in
-      let its = shown_number one.0 y one.2 in
-      let other = shown_number two.0 merged two.2 in
-      cc (
-        its.1,
-        plain_in world names is one.0 two.0 one.1 two.1 (ap (λ o. has_layer_on nat_eq one.0.number (record merged {
-          overlay = o;
-        })) (sym other.1) ∙ ap (λ k. has_layer_on nat_eq k merged) (sym its.0) ∙ has),
-      )
+  plain_in_part y merged m n has = grind (arith, common_steps, among-from_filter_map, shown_number, plain_in)
 
   module _ (set : List TaskName) (next next_part : World ℕ) (less : AreLess world names set next next_part) where
     abbrev now : World ℕ

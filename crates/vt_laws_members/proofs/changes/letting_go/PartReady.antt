@@ -1,5 +1,6 @@
 -- So is the part, where the tasks let go in it what they let go in the world.
-use Rattle.std.proofs.Common.{◌≡◌, refl, sym, ap, subst, ◌∙◌, ◌⊎◌, inl, inr, ⊎_elim, ℕ, nat_eq, true, List, Option, Some, None, filter, is_some, eq-eqb}
+use Rattle.std.proofs.Common.{arith, ◌≡◌, refl, sym, ap, subst, ◌∙◌, ◌⊎◌, inl, inr, ⊎_elim, ℕ, nat_eq, true, List, Option, Some, None, filter, is_some, eq-eqb}
+use Rattle.std.proofs.lemmas.Grind.{common_steps}
 use Rattle.std.specs.List.{list_any}
 use Rattle.std.proofs.lemmas.Bool.{or_left, or_right}
 use Rattle.vt_spec.specs.Language.Calls.{TaskName}
@@ -71,10 +72,7 @@ module _ (world : World ℕ) (names : List TaskName) (is : IsWorld nat_eq world)
 
   located_lives : (y : Mount ℕ) (l : Location ℕ) → Among y part.mounts → Among l (all_locations later_part)
       → l.mount ≡ y.number → Among y living.mounts
-  located_lives y l at n e = among-filter (mount_lives nat_eq later_part) part.mounts y at
-      (or_right (is_some y.namespace) (is_located nat_eq later_part y.number)
-      (any_from_among (λ (k : Location ℕ). nat_eq y.number k.mount) (all_locations later_part) l n
-      (eq-eqb y.number l.mount (sym e))))
+  located_lives y l at n e = grind (arith, common_steps, among-filter, or_right, any_from_among, eq-eqb)
 
   -- a location of the set is on a mount of the part
   located_so : (l : Location ℕ) → Among l (locations (filter (is_member_task set) tasks_too))

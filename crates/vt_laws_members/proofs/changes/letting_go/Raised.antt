@@ -1,14 +1,15 @@
 -- Where tasks change alone and the rest is swept, change numbers of tasks and of the world are raised, and no others.
-use Rattle.std.proofs.Common.{◌≡◌, refl, sym, ap, ◌∙◌, ℕ, nat_eq, Bool, true, false, cond, true≢false, List, [], Option, Some, None, filter, is_some, map}
+use Rattle.std.proofs.Common.{arith, ◌≡◌, refl, ap, ◌∙◌, ℕ, nat_eq, Bool, true, false, true≢false, List, [], Option, Some, None, filter, is_some, map}
+use Rattle.std.proofs.lemmas.Grind.{common_steps}
 use Rattle.std.proofs.lemmas.Bool.{or_left}
 use Rattle.vt_spec.specs.Language.Calls.{TaskName}
 use Rattle.vt_spec.specs.Lists.{holds_of, same_list}
 use Rattle.vt_spec.specs.Machine.Filesystems.{raised, raised_if_changed}
 use Rattle.vt_spec.specs.Machine.Invariants.{is_private}
 use Rattle.vt_spec.specs.Machine.Mounts.{Mount, Propagation, group_of}
-use Rattle.vt_spec.specs.Machine.Mounts.Propagation.{Private, Shared, Slave, Unbindable}
+use Rattle.vt_spec.specs.Machine.Mounts.Propagation.{Private}
 use Rattle.vt_spec.specs.Machine.Policy.{numbers_raised, raised_namespace, raised_task, same_mount, same_mounts_in}
-use Rattle.vt_spec.specs.Machine.Receives.{has_members, is_member_of}
+use Rattle.vt_spec.specs.Machine.Receives.{has_members}
 use Rattle.vt_spec.specs.Machine.Settled.{is_located, mount_lives, settled}
 use Rattle.vt_spec.specs.Machine.World.{Namespace, Task, World, mounts_of}
 use Rattle.vt_spec.proofs.Lists.{Among, among-filter, any_among, any_from_among, map_same}
@@ -24,10 +25,7 @@ attached number (Some n) h = refl
 -- a private mount is in no group
 in_no_group : (group : ℕ) (kind : Propagation ℕ) → is_private kind ≡ true → holds_of (nat_eq group) (group_of kind)
     ≡ false
-in_no_group group (Shared other) e = absurd (true≢false (sym e))
-in_no_group group (Slave master) e = refl
-in_no_group group Private e = refl
-in_no_group group Unbindable e = refl
+in_no_group group kind e = grind (arith, common_steps, true≢false)
 
 -- mounts outside every namespace are private
 abbrev pub DetachedArePrivate : World ℕ → Type 0
@@ -52,27 +50,10 @@ module _ (before : World ℕ) (in_use : AllInUse before) (private_ones : Detache
   members_stay : (group : ℕ) → has_members nat_eq before.mounts group ≡ true
       → has_members nat_eq after.mounts group ≡ true
   members_stay group h =
-      let at = any_among (is_member_of nat_eq group) before.mounts h in
-      by at.0 at.1 at.2 at.0.namespace refl
-    where
-      by : (m : Mount ℕ) → Among m before.mounts → is_member_of nat_eq group m ≡ true → (o : Option ℕ) → m.namespace ≡ o
-          → has_members nat_eq after.mounts group ≡ true
-      by m n its None e = absurd (true≢false (sym its ∙ in_no_group group m.propagation (private_ones m n e)))
-      by m n its (Some k) e = any_from_among (is_member_of nat_eq group) (filter lives before.mounts) m
-          (among-filter lives before.mounts m n
-          (or_left (is_some m.namespace) (is_located nat_eq later m.number) (ap is_some e))) its
+      grind (arith, common_steps, any_among, true≢false, in_no_group, any_from_among, among-filter, or_left)
 
   masters_stay : (group : ℕ) → after.master group ≡ before.master group
-  masters_stay group = by (has_members nat_eq before.mounts group) refl
-    where
-      same : (b : Bool) (o : Option ℕ) → o ≡ None → cond b o None ≡ o
-      same true o e = refl
-      same false o e = sym e
-
-      by : (b : Bool) → has_members nat_eq before.mounts group ≡ b
-          → cond (has_members nat_eq after.mounts group) (before.master group) None ≡ before.master group
-      by true e = ap (λ c. cond c (before.master group) None) (members_stay group e)
-      by false e = same (has_members nat_eq after.mounts group) (before.master group) (in_use.groups group e)
+  masters_stay group = grind (arith, common_steps, members_stay)
 
   same_mounts : (n : ℕ) → same_mounts_in nat_eq before after n ≡ true
   same_mounts n = (λ i. same_list (same_mount nat_eq before (record before { master = λ group. masters_stay group i }))

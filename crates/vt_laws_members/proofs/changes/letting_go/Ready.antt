@@ -1,15 +1,15 @@
 -- Worlds of which a set of tasks sees the sweep by its part alone.
-use Rattle.std.proofs.Common.{◌≡◌, refl, sym, ap, subst, ◌∙◌, ◌⊎◌, ⊎_elim, ℕ, nat_eq, true, false, List, [], ◌∷◌, Option, Some, None, is_some, map, ◌||◌, eq-eqb, eqb-true}
+use Rattle.std.proofs.Common.{arith, ◌≡◌, refl, sym, ap, subst, ◌∙◌, ◌⊎◌, ⊎_elim, ℕ, nat_eq, true, false, List, [], ◌∷◌, Option, Some, None, is_some, map, ◌||◌, eq-eqb, eqb-true}
+use Rattle.std.proofs.lemmas.Grind.{common_steps}
 use Rattle.std.specs.List.{cons_option, filter_map, list_any}
 use Rattle.std.proofs.lemmas.Bool.{or_from, or_left, or_parts}
 use Rattle.vt_spec.specs.FileTree.{FileTree}
 use Rattle.vt_spec.specs.Language.Calls.{TaskName}
 use Rattle.vt_spec.specs.Lists.{any_pair, is_among}
-use Rattle.vt_spec.specs.Machine.Locked.{overlay_or}
 use Rattle.vt_spec.specs.Machine.Mounts.{Location, Mount}
 use Rattle.vt_spec.specs.Machine.Sealed.{is_at, is_own_mount, locations, members, own_lowers, own_mounts, part_of, roots_and_directories, used_directly, used_filesystems}
 use Rattle.vt_spec.specs.Machine.Settled.{has_layer_on, is_located, is_mounted, mount_lives, named_in, only_among}
-use Rattle.vt_spec.specs.Machine.World.{Filesystem, Layer, Overlay, Task, World, all_locations, is_overlay, layers_of, mount_at, mount_numbered}
+use Rattle.vt_spec.specs.Machine.World.{Filesystem, Layer, Overlay, Task, World, all_locations, is_overlay, mount_at, mount_numbered}
 use Rattle.vt_spec.proofs.Lists.{Among, among-append, among-append_left, among-append_right, among-filter, among-from_filter, among-from_filter_map, among-from_map, among-map, any_among, any_from_among, none_among, none_from_among}
 use Rattle.vt_laws_mounts.specs.Mounts.Invariants.{OneNumberEach}
 use Rattle.vt_laws_mounts.proofs.mounts.MountsReplaced.{found_itself}
@@ -20,13 +20,7 @@ use Rattle.vt_laws_members.proofs.changes.letting_go.CutAgain.{HasLowers}
 -- a filesystem with a layer is an overlay
 pub layered_overlay : (number : ℕ) (merged : Filesystem ℕ) → has_layer_on nat_eq number merged ≡ true
     → is_overlay merged ≡ true
-layered_overlay number merged = by merged.overlay
-  where
-    by : (o : Option (Overlay ℕ))
-        → overlay_or false (λ overlay. list_any (λ l. nat_eq number l.filesystem) (layers_of overlay)) o ≡ true
-        → is_some o ≡ true
-    by None h = h
-    by (Some overlay) h = refl
+layered_overlay number merged = grind (arith, common_steps)
 
 -- what is kept with its number has a number of its own
 pub numbers_kept : {A : Type 0} (key : A → ℕ) (k : A → Option A) → ((x y : A) → k x ≡ Some y → key y ≡ key x)
@@ -41,13 +35,7 @@ numbers_kept {A} key k same (x ∷ rest) e =
     by : (o : Option A) → k x ≡ o → list_any (λ y. nat_eq (key x) (key y)) rest ≡ false
         → any_pair (λ y z. nat_eq (key y) (key z)) (filter_map k rest) ≡ false
         → any_pair (λ y z. nat_eq (key y) (key z)) (cons_option o (filter_map k rest)) ≡ false
-    by None f none later = later
-    by (Some y) f none later = or_from (list_any (λ z. nat_eq (key y) (key z)) (filter_map k rest))
-        (any_pair (λ u z. nat_eq (key u) (key z)) (filter_map k rest))
-        (none_from_among (λ z. nat_eq (key y) (key z)) (filter_map k rest) (λ z m.
-        let from = among-from_filter_map k rest z m in
-        ap (λ n. nat_eq n (key z)) (same x y f) ∙ ap (nat_eq (key x)) (same from.0 z from.2)
-        ∙ none_among (λ u. nat_eq (key x) (key u)) rest none from.0 from.1)) later
+    by o f none later = grind (arith, common_steps, or_from, none_from_among, among-from_filter_map, none_among)
 
 -- mounts of a part have numbers of their own
 pub part_numbers : (b : World ℕ) (set : List TaskName) → OneNumberEach b → OneNumberEach (part_of nat_eq b set)

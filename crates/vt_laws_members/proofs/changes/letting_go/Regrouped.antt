@@ -1,5 +1,6 @@
 -- Where mounts of a sealed set are detached, groups and masters are left in the part as in the world.
-use Rattle.std.proofs.Common.{◌≡◌, refl, sym, ap, ◌∙◌, inl, inr, ⊎_elim, ℕ, nat_eq, Bool, true, false, cond, true≢false, List, [], ◌∷◌, Option, Some, None, find, is_some, map, not, ◌||◌, ◌&&◌}
+use Rattle.std.proofs.Common.{arith, ◌≡◌, refl, sym, ap, ◌∙◌, inl, inr, ⊎_elim, ℕ, nat_eq, Bool, true, false, cond, true≢false, List, [], ◌∷◌, Option, Some, None, find, is_some, map, not, ◌||◌, ◌&&◌}
+use Rattle.std.proofs.lemmas.Grind.{common_steps}
 use Rattle.std.specs.Prelude.{option_map}
 use Rattle.std.specs.List.{list_any}
 use Rattle.std.proofs.lemmas.Bool.{and_parts, false_from_ne_true}
@@ -12,7 +13,7 @@ use Rattle.vt_spec.specs.Machine.Mounts.{Location, Mount, Propagation, detached,
 use Rattle.vt_spec.specs.Machine.Mounts.Propagation.{Private, Shared, Slave, Unbindable}
 use Rattle.vt_spec.specs.Machine.Receives.{groups_up, has_members, heir, inherited, inheriting, is_lost_group, is_member_of, lost_a_group, regrouped_by}
 use Rattle.vt_spec.specs.Machine.Sealed.{shares_no_events, is_own_mount, is_own_namespace, members, other_mounts, own_mounts, part_of, sealed}
-use Rattle.vt_spec.specs.Machine.World.{World, mount_at, mount_numbered}
+use Rattle.vt_spec.specs.Machine.World.{World, mount_numbered}
 use Rattle.vt_spec.proofs.Lists.{Among, among-filter, among-from_filter, among-from_map, among-map, among_from_all, among_from_list_all, any_among, any_from_among}
 use Rattle.vt_spec.proofs.Options.{none_is_some}
 use Rattle.vt_spec.proofs.Truths.{same_truth}
@@ -56,10 +57,7 @@ unlost_none : (t : World ℕ) (m : Mount ℕ) → source_of m.propagation ≡ No
 unlost_none t m e = ap (λ o. is_lost_group nat_eq t o || is_lost_group nat_eq t (then_some o t.master)) e
 
 member_source : (kind : Propagation ℕ) (g : ℕ) → group_of kind ≡ Some g → source_of kind ≡ Some g
-member_source (Shared h) g e = e
-member_source (Slave h) g e = none_is_some g e
-member_source Private g e = none_is_some g e
-member_source Unbindable g e = none_is_some g e
+member_source kind g e = grind (arith, common_steps, none_is_some)
 
 module _ (world : World ℕ) (names : List TaskName) (is : IsWorld nat_eq world)
     (sealed_off : sealed nat_eq world names ≡ true) (gone : List ℕ)
@@ -96,13 +94,7 @@ module _ (world : World ℕ) (names : List TaskName) (is : IsWorld nat_eq world)
   -- members that stay
   cut_member : (w : World ℕ) (g : ℕ) (m : Mount ℕ) → is_member_of nat_eq g (after_going nat_eq w gone m) ≡ true
       → (is_member_of nat_eq g m ≡ true) × (goes m ≡ false)
-  cut_member w g m = by (goes m) refl
-    where
-      by : (b : Bool) → goes m ≡ b → is_member_of nat_eq g (cond b (detached m) (record m {
-        mount_point = option_map (mount_point_left nat_eq w gone) m.mount_point;
-      })) ≡ true → (is_member_of nat_eq g m ≡ true) × (goes m ≡ false)
-      by true e h = absurd (true≢false (sym h))
-      by false e h = (h, e)
+  cut_member w g m = grind (arith, common_steps, true≢false)
 
   stays_member : (w : World ℕ) (g : ℕ) (m : Mount ℕ) → goes m ≡ false → is_member_of nat_eq g m ≡ true
       → is_member_of nat_eq g (after_going nat_eq w gone m) ≡ true
@@ -201,13 +193,7 @@ module _ (world : World ℕ) (names : List TaskName) (is : IsWorld nat_eq world)
 
   cut_lost : (t w : World ℕ) (m : Mount ℕ) → lost_a_group nat_eq t (after_going nat_eq w gone m) ≡ true
       → (goes m ≡ false) × (lost_a_group nat_eq t m ≡ true)
-  cut_lost t w m = by (goes m) refl
-    where
-      by : (b : Bool) → goes m ≡ b → lost_a_group nat_eq t (cond b (detached m) (record m {
-        mount_point = option_map (mount_point_left nat_eq w gone) m.mount_point;
-      })) ≡ true → (goes m ≡ false) × (lost_a_group nat_eq t m ≡ true)
-      by true e h = absurd (true≢false (sym h))
-      by false e h = (e, h)
+  cut_lost t w m = grind (arith, common_steps, true≢false)
 
   stays_lost : (t w : World ℕ) (m : Mount ℕ) → goes m ≡ false → lost_a_group nat_eq t m ≡ true
       → lost_a_group nat_eq t (after_going nat_eq w gone m) ≡ true
@@ -271,12 +257,7 @@ module _ (world : World ℕ) (names : List TaskName) (is : IsWorld nat_eq world)
     where
       above : (a b : Location ℕ) → mount_point_of_parent nat_eq world gone a ≡ Some b
           → (mount_numbered nat_eq world a.mount).mount_point ≡ Some b
-      above a b = by (is_going nat_eq gone a.mount)
-        where
-          by : (c : Bool) → cond c (mount_at nat_eq world a).mount_point None ≡ Some b
-              → (mount_numbered nat_eq world a.mount).mount_point ≡ Some b
-          by true e = e
-          by false e = none_is_some b e
+      above a b = grind (arith, common_steps, none_is_some)
 
       alike : (a : Location ℕ) → IsTheirs world names is.mounts a.mount
           → mount_point_of_parent nat_eq part gone a ≡ mount_point_of_parent nat_eq world gone a
@@ -301,14 +282,4 @@ module _ (world : World ℕ) (names : List TaskName) (is : IsWorld nat_eq world)
   -- a mount of theirs after
   pub mount_alike : (b : Bool) (m : Mount ℕ) → Among m owns
       → regrouped_mount b left_part (cut_there m) ≡ regrouped_mount b left (cut m)
-  mount_alike b m n = ap (regrouped_mount b left_part) (cut_alike m n) ∙ by (goes m) b
-    where
-      moved : Mount ℕ
-      moved = record m { mount_point = option_map (mount_point_left nat_eq world gone) m.mount_point }
-
-      by : (c d : Bool) → regrouped_mount d left_part (cond c (detached m) moved)
-          ≡ regrouped_mount d left (cond c (detached m) moved)
-      by true true = refl
-      by true false = refl
-      by false true = ap (λ kind. record moved { propagation = kind }) (sym (inherited_same m n))
-      by false false = refl
+  mount_alike b m n = grind (arith, common_steps, cut_alike, inherited_same)

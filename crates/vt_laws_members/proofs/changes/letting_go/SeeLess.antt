@@ -1,5 +1,6 @@
 -- A set of tasks that sees less of a world has the part of its part.
-use Rattle.std.proofs.Common.{◌≡◌, refl, sym, ap, ◌∙◌, ℕ, nat_eq, Bool, true, false, cond, true≢false, List, [], ◌∷◌, Option, Some, None, filter}
+use Rattle.std.proofs.Common.{arith, ◌≡◌, refl, ap, ◌∙◌, ℕ, nat_eq, Bool, true, false, true≢false, List, [], ◌∷◌, Option, Some, None, filter}
+use Rattle.std.proofs.lemmas.Grind.{common_steps}
 use Rattle.std.specs.List.{filter_map, list_any}
 use Rattle.vt_spec.specs.Language.Calls.{TaskName}
 use Rattle.vt_spec.specs.Lists.{holds_of, then_some}
@@ -17,16 +18,7 @@ use Rattle.vt_laws_members.proofs.changes.letting_go.LessSeen.{AreLess, filter_m
 pub filter_less : {A : Type 0} (p r : A → Bool) (xs : List A) → ((x : A) → p x ≡ true → r x ≡ true)
     → filter p (filter r xs) ≡ filter p xs
 filter_less p r [] less = refl
-filter_less {A} p r (x ∷ xs) less = by (r x) refl (filter_less p r xs less)
-  where
-    skip : (b : Bool) → p x ≡ b → r x ≡ false → filter p xs ≡ cond b (x ∷ filter p xs) (filter p xs)
-    skip true e f = absurd (true≢false (sym (less x e) ∙ f))
-    skip false e f = refl
-
-    by : (b : Bool) → r x ≡ b → filter p (filter r xs) ≡ filter p xs
-        → filter p (cond b (x ∷ filter r xs) (filter r xs)) ≡ cond (p x) (x ∷ filter p xs) (filter p xs)
-    by true e later = ap (λ l. cond (p x) (x ∷ l) l) later
-    by false e later = later ∙ skip (p x) refl e
+filter_less {A} p r (x ∷ xs) less = grind (arith, common_steps, true≢false, filter_less p r xs less)
 
 module _ (world : World ℕ) (names set : List TaskName) (tasks : List (Task ℕ)) (change : ℕ) where
   abbrev pub later : World ℕ
@@ -107,13 +99,7 @@ module _ (world : World ℕ) (names : List TaskName) (is : IsWorld nat_eq world)
   mounts_now = ap (λ ts. filter_map (keep world names ts) part.mounts) same ∙ mounts_less
 
   pub now_less : AreLess world names set now now_part
-  now_less = record {
-    tasks = same;
-    mounts = mounts_now;
-    masters = masters_same;
-    namespaces = namespaces_less;
-    direct = less.direct;
-  }
+  now_less = grind (arith, common_steps, mounts_now, masters_same, namespaces_less)
 
   -- so they have the part of the part
   pub part_of_less : part_of nat_eq now_part set ≡ part_of nat_eq now set

@@ -1,9 +1,10 @@
 -- What nothing uses goes, and what a set of tasks sees of that is made from its part alone.
-use Rattle.std.proofs.Common.{◌≡◌, refl, sym, ap, subst, ℕ, nat_eq, Bool, true, false, cond, List, None, is_some, not}
+use Rattle.std.proofs.Common.{arith, ◌≡◌, refl, sym, ap, subst, ℕ, nat_eq, Bool, false, cond, List, None, is_some, not}
+use Rattle.std.proofs.lemmas.Grind.{common_steps}
 use Rattle.std.specs.List.{list_any}
 use Rattle.vt_spec.specs.Language.Calls.{TaskName}
 use Rattle.vt_spec.specs.Machine.Receives.{has_members, is_member_of}
-use Rattle.vt_spec.specs.Machine.Sealed.{is_own_mount, own_mounts, part_of, used_filesystems}
+use Rattle.vt_spec.specs.Machine.Sealed.{own_mounts, part_of, used_filesystems}
 use Rattle.vt_spec.specs.Machine.Settled.{settled, without_dead_filesystems, without_dead_groups, without_dead_in, without_dead_inodes, without_dead_mounts}
 use Rattle.vt_spec.specs.Machine.World.{Filesystem, Layer, World, is_overlay}
 use Rattle.vt_spec.proofs.Lists.{among-from_filter, any_among, any_from_among}
@@ -24,11 +25,7 @@ groups_part b set = λ i. record (part_of nat_eq b set) {
         → cond (list_any (is_member_of nat_eq group) (own_mounts nat_eq b set))
         (cond (has_members nat_eq b.mounts group) (b.master group) None) None
         ≡ cond (list_any (is_member_of nat_eq group) (own_mounts nat_eq b set)) (b.master group) None
-    same group true e =
-        let own = any_among (is_member_of nat_eq group) (own_mounts nat_eq b set) e in
-        let from = among-from_filter (is_own_mount nat_eq b set) b.mounts own.0 own.1 in
-        cc (any_from_among (is_member_of nat_eq group) b.mounts own.0 from.0 own.2)
-    same group false e = cc
+    same group p e = grind (arith, common_steps, any_among, among-from_filter, any_from_among)
 
 -- the sweep of the part
 abbrev pub swept_of : List TaskName → World ℕ → World ℕ

@@ -1,14 +1,15 @@
 -- The part of a world whose unused inodes go is made from the part alone.
-use Rattle.std.proofs.Common.{◌≡◌, refl, sym, ap, subst, ◌∙◌, ◌⊎◌, inl, inr, ⊎_elim, ℕ, nat_eq, Bool, true, false, cond, List, [], ◌∷◌, ◌++◌, Option, Some, None, filter, find, map}
+use Rattle.std.proofs.Common.{arith, ◌≡◌, refl, sym, ap, subst, ◌∙◌, ◌⊎◌, inl, inr, ⊎_elim, ℕ, nat_eq, Bool, true, false, cond, List, [], ◌∷◌, ◌++◌, Option, Some, None, filter, find, map}
+use Rattle.std.proofs.lemmas.Grind.{common_steps}
 use Rattle.std.specs.Prelude.{option_map, unwrap_or}
-use Rattle.std.specs.List.{cons_option, filter_map, list_all, list_any}
+use Rattle.std.specs.List.{filter_map, list_all, list_any}
 use Rattle.vt_spec.specs.FileTree.{FileTree}
 use Rattle.vt_spec.specs.Language.Calls.{TaskName}
 use Rattle.vt_spec.specs.Lists.{any_pair, each_once, is_among, when}
-use Rattle.vt_spec.specs.Machine.Locked.{of_overlay, overlay_or}
+use Rattle.vt_spec.specs.Machine.Locked.{of_overlay}
 use Rattle.vt_spec.specs.Machine.Sealed.{change_layers, own_lowers, part_of, part_of_filesystem, used_directly, used_filesystems}
-use Rattle.vt_spec.specs.Machine.Settled.{has_layer_on, is_mounted, named_in, only_among, only_used, only_used_by, only_used_of, real_among, used_in, without_dead_in}
-use Rattle.vt_spec.specs.Machine.World.{Filesystem, Layer, Overlay, World, filesystem_numbered, is_overlay, no_filesystem}
+use Rattle.vt_spec.specs.Machine.Settled.{has_layer_on, named_in, only_among, only_used, only_used_by, only_used_of, used_in, without_dead_in}
+use Rattle.vt_spec.specs.Machine.World.{Filesystem, Layer, Overlay, World, filesystem_numbered, no_filesystem}
 use Rattle.vt_spec.proofs.Lists.{Among, among-from_map, among-map, is_among_numbers, list_all_from_among, pair-map}
 use Rattle.vt_laws_mounts.proofs.letting_go.Lists.{flat_map_alike}
 use Rattle.vt_laws_mounts.proofs.letting_go.sweeps.OfWorlds.{found_filesystem}
@@ -58,13 +59,7 @@ named_stays b x named =
 map_kept : {A B : Type 0} (g : B → B) (k : A → Option B) (xs : List A)
     → map g (filter_map k xs) ≡ filter_map (λ x. option_map g (k x)) xs
 map_kept g k [] = refl
-map_kept {A} {B} g k (x ∷ xs) = by (k x) (map_kept g k xs)
-  where
-    by : (o : Option B) → map g (filter_map k xs) ≡ filter_map (λ y. option_map g (k y)) xs
-        → map g (cons_option o (filter_map k xs)) ≡ cons_option (option_map g o)
-        (filter_map (λ y. option_map g (k y)) xs)
-    by None later = later
-    by (Some y) later = ap (λ l. g y ∷ l) later
+map_kept {A} {B} g k (x ∷ xs) = grind (arith, common_steps, map_kept g k xs)
 
 -- The part loses the inodes that nothing of it uses, in the filesystems that the tasks use.
 module _ (set : List TaskName) (chosen : Filesystem ℕ → Bool) where
@@ -79,35 +74,12 @@ module _ (set : List TaskName) (chosen : Filesystem ℕ → Bool) where
 layers_kept : (world : World ℕ) (chosen : Bool) (x : Filesystem ℕ)
     → of_overlay [] (λ (overlay : Overlay ℕ). overlay.lowers) (only_used nat_eq world chosen x)
     ≡ of_overlay [] (λ (overlay : Overlay ℕ). overlay.lowers) x
-layers_kept world false x = refl
-layers_kept world true x = by (list_all (λ n. is_among nat_eq n (used_in nat_eq world x)) x.files.numbers)
-  where
-    of : (o : Option (Overlay ℕ)) → overlay_or [] (λ (overlay : Overlay ℕ). overlay.lowers)
-        (option_map (real_among nat_eq (used_in nat_eq world x)) o)
-        ≡ overlay_or [] (λ (overlay : Overlay ℕ). overlay.lowers) o
-    of None = refl
-    of (Some overlay) = refl
-
-    by : (b : Bool) → of_overlay [] (λ (overlay : Overlay ℕ). overlay.lowers)
-        (only_used_by nat_eq b (used_in nat_eq world x) x) ≡ of_overlay [] (λ (overlay : Overlay ℕ). overlay.lowers) x
-    by true = refl
-    by false = of x.overlay
+layers_kept world chosen x = grind (arith, common_steps)
 
 pub changes_kept : (world : World ℕ) (chosen : Bool) (x : Filesystem ℕ)
     → change_layers (only_used nat_eq world chosen x) ≡ change_layers x
 changes_kept world false x = refl
-changes_kept world true x = by (list_all (λ n. is_among nat_eq n (used_in nat_eq world x)) x.files.numbers)
-  where
-    layers : Option (Overlay ℕ) → List ℕ
-    layers o = change_layers (record x { overlay = o })
-
-    of : (o : Option (Overlay ℕ)) → layers (option_map (real_among nat_eq (used_in nat_eq world x)) o) ≡ layers o
-    of None = refl
-    of (Some overlay) = refl
-
-    by : (b : Bool) → change_layers (only_used_by nat_eq b (used_in nat_eq world x) x) ≡ change_layers x
-    by true = refl
-    by false = of x.overlay
+changes_kept world true x = grind (arith, common_steps)
 
 module _ (a : World ℕ) (set : List TaskName) (used_now : List ℕ) (lowers : List (Layer ℕ))
     (it : Ready a set used_now lowers) (one_in_part : OneNumberEach (part_of nat_eq a set))
@@ -144,15 +116,7 @@ module _ (a : World ℕ) (set : List TaskName) (used_now : List ℕ) (lowers : L
           → g (unwrap_or (find (λ (f : Filesystem ℕ). nat_eq n f.number) (map sweep list)) (no_filesystem n))
           ≡ g (unwrap_or (find (λ (f : Filesystem ℕ). nat_eq n f.number) list) (no_filesystem n))
       search [] = refl
-      search (x ∷ rest) = cc (number-only_used a (chosen x) x, by (nat_eq n x.number) (search rest))
-        where
-          by : (b : Bool)
-              → g (unwrap_or (find (λ (f : Filesystem ℕ). nat_eq n f.number) (map sweep rest)) (no_filesystem n))
-              ≡ g (unwrap_or (find (λ (f : Filesystem ℕ). nat_eq n f.number) rest) (no_filesystem n))
-              → pick b (sweep x) (find (λ (f : Filesystem ℕ). nat_eq n f.number) (map sweep rest))
-              ≡ pick b x (find (λ (f : Filesystem ℕ). nat_eq n f.number) rest)
-          by true later = same x
-          by false later = later
+      search (x ∷ rest) = grind (arith, common_steps, number-only_used, search rest)
 
   abbrev direct : List ℕ
   direct = used_directly nat_eq a set
@@ -172,10 +136,7 @@ module _ (a : World ℕ) (set : List TaskName) (used_now : List ℕ) (lowers : L
       (λ n m. numbered_kept lowers_at (λ x. layers_kept a (chosen x) x) n) ∙ it.lowers_are
 
   one_swept : any_pair (λ (x y : Filesystem ℕ). nat_eq x.number y.number) swept.filesystems ≡ false
-  one_swept =
-      pair-map (λ (x y : Filesystem ℕ). nat_eq x.number y.number) (λ (x y : Filesystem ℕ). nat_eq x.number y.number)
-      sweep a.filesystems (λ x y m n e. ap (λ k. nat_eq k (sweep y).number) (number-only_used a (chosen x) x)
-      ∙ ap (nat_eq x.number) (number-only_used a (chosen y) y) ∙ e) it.one_filesystem
+  one_swept = grind (arith, common_steps, pair-map, number-only_used)
 
   abbrev has_lower : List (Layer ℕ) → ℕ → Bool
   has_lower layers n = list_any (λ (layer : Layer ℕ). nat_eq n layer.filesystem) layers
@@ -373,9 +334,4 @@ module _ (a : World ℕ) (set : List TaskName) (used_now : List ℕ) (lowers : L
     }
 
     pub swept_mounted : OverlaysMounted swept set
-    swept_mounted y m over =
-        let from = was y m in
-        let same : y.number ≡ from.0.number =
-        ap (λ (f : Filesystem ℕ). f.number) from.2 ∙ number-only_used a (chosen from.0) from.0 in
-        ap (is_mounted nat_eq a) same ∙ mounted from.0 from.1
-        (sym (cut_overlay a (chosen from.0) from.0) ∙ sym (ap is_overlay from.2) ∙ over)
+    swept_mounted y m over = grind (arith, common_steps, was, number-only_used, cut_overlay)

@@ -1,5 +1,6 @@
 -- Each umount(2) ends in the part as in the world.
-use Rattle.std.proofs.Common.{◌≡◌, refl, sym, ap, subst, ◌∙◌, ⊎_elim, ℕ, nat_eq, Bool, true, false, true≢false, List, [], ◌∷◌, Option, Some, None, Ok, Err, is_some, not}
+use Rattle.std.proofs.Common.{arith, ◌≡◌, refl, sym, ap, subst, ◌∙◌, ⊎_elim, ℕ, nat_eq, Bool, true, false, true≢false, List, [], ◌∷◌, Option, Some, None, Ok, Err, is_some, not}
+use Rattle.std.proofs.lemmas.Grind.{common_steps}
 use Rattle.std.specs.Prelude.{⊤, IfOk, is_ok}
 use Rattle.std.proofs.lemmas.Bool.{or_parts}
 use Rattle.vt_spec.specs.Errors.{Rules, unless}
@@ -122,10 +123,7 @@ module _ (world : World ℕ) (names : List TaskName) (name : TaskName) (call : C
           (ap (λ (m : Mount ℕ). m.namespace) is_it ∙ none) e
 
   same_going : going nat_eq there (mount_numbered nat_eq there number) ≡ going nat_eq world mount_of
-  same_going = cc (
-    same_mount world names it.is.mounts number theirs,
-    going_alike world names it.is it.sealed_off mount_of mount_there mount_own,
-  )
+  same_going = grind (arith, common_steps, same_mount, theirs, going_alike, mount_there, mount_own)
 
   pub alone_there : has_child nat_eq there number ≡ false
   alone_there = none_from_among (stands_on nat_eq number) there.mounts (λ y m.

@@ -99,13 +99,7 @@ module _ (b : World ℕ) (x : Filesystem ℕ) (object : ℕ) where
       by_object of.0 of.1 of.2) (among-append (named ++ placed ++ layers) objects object more)) m
 
   to_place : (l : Location ℕ) → IsPlace b l → Among l places
-  to_place l (by_task m) =
-      among-append_left (all_locations b ++ roots) points l (among-append_left (all_locations b) roots l m)
-  to_place l (by_root k m e) = among-append_left (all_locations b ++ roots) points l
-      (among-append_right (all_locations b) roots l
-      (subst (λ (p : Location ℕ). Among p roots) (sym e) (among-map root_of b.mounts k m)))
-  to_place l (by_point k m e) = among-append_right (all_locations b ++ roots) points l
-      (among-filter_map (λ (y : Mount ℕ). y.mount_point) b.mounts k l m e)
+  to_place l known = grind (arith, common_steps, among-append_left, among-append_right, among-map, among-filter_map)
 
   in_four : Among object (named ++ placed ++ layers ++ objects) → Among object (used_in nat_eq b x)
   in_four m = inr m
@@ -146,15 +140,7 @@ module _ (a : World ℕ) (set : List TaskName) (used_now : List ℕ) (lowers : L
 
   same_of : (m y : Mount ℕ) → kept m ≡ Some y
       → (y.number ≡ m.number) × (y.filesystem ≡ m.filesystem) × (root_of y ≡ root_of m)
-  same_of m y e = ⊎_elim (λ same. (
-    ap (λ (k : Mount ℕ). k.number) (sym same),
-    ap (λ (k : Mount ℕ). k.filesystem) (sym same),
-    ap root_of (sym same),
-  )) (λ stub. (
-    ap (λ (k : Mount ℕ). k.number) (sym stub.0),
-    ap (λ (k : Mount ℕ). k.filesystem) (sym stub.0),
-    ap root_of (sym stub.0),
-  )) (kept_how a set theirs m y e)
+  same_of m y e = grind (arith, common_steps, kept_how)
 
   in_part : (m y : Mount ℕ) → Among m a.mounts → kept m ≡ Some y → Among y part.mounts
   in_part m y n e = among-filter_map kept a.mounts m y n e

@@ -6,10 +6,10 @@ use Rattle.std.proofs.lemmas.Bool.{and_parts, not-true, or_cases, or_left, or_ri
 use Rattle.vt_spec.specs.Language.Calls.{TaskName}
 use Rattle.vt_spec.specs.Lists.{holds_of, is_among}
 use Rattle.vt_spec.specs.Machine.Invariants.{IsWorld, ListsNumbers}
-use Rattle.vt_spec.specs.Machine.Locked.{overlay_or, overlays}
+use Rattle.vt_spec.specs.Machine.Locked.{overlay_or}
 use Rattle.vt_spec.specs.Machine.Mounts.{Location, Mount}
-use Rattle.vt_spec.specs.Machine.Sealed.{all_named, is_lower_root, is_member_task, is_own_namespace, locations, members, no_outsider_on, other_mounts, outsiders, own_lowers, part_of, sealed, used_alone, used_filesystems, wholly_locked}
-use Rattle.vt_spec.specs.Machine.Settled.{has_layer_on, is_located, mount_lives, named_in, without_dead_mounts}
+use Rattle.vt_spec.specs.Machine.Sealed.{all_named, is_member_task, is_own_namespace, locations, members, no_outsider_on, other_mounts, outsiders, own_lowers, part_of, sealed, used_alone, used_filesystems, wholly_locked}
+use Rattle.vt_spec.specs.Machine.Settled.{has_layer_on, is_located, mount_lives, without_dead_mounts}
 use Rattle.vt_spec.specs.Machine.World.{Filesystem, Layer, Overlay, Task, World, all_locations, filesystem_numbered, is_overlay, layers_of, locations_of, mount_at, mount_numbered}
 use Rattle.vt_spec.specs.TreeInvariant.{IsTree}
 use Rattle.vt_spec.proofs.Lists.{Among, among-filter, among-flat_map, among-from_filter, among-from_flat_map, among_from_all, among_from_list_all, among_numbers, any_among, any_from_among, is_among_numbers, none_among, pair-filter}
@@ -76,17 +76,7 @@ whole_cut world is lowers x m =
 pub all_named_there : (world : World ℕ) (names : List TaskName) (is : IsWorld nat_eq world) (x : Filesystem ℕ)
     → Among x world.filesystems → wholly_locked nat_eq world names x.number ≡ true → AllNamed x
 all_named_there world names is x m locked object n =
-    let all : all_named nat_eq x.files ≡ true = ap (λ (f : Filesystem ℕ). all_named nat_eq f.files)
-    (sym (found_filesystem world.filesystems is.files.one_filesystem x m))
-    ∙ (and_parts (list_any (λ merged. is_lower_root nat_eq x.number
-    (filesystem_numbered nat_eq world x.number).files.tree.root merged
-    && used_alone nat_eq world names merged.number) (overlays world))
-    (all_named nat_eq (filesystem_numbered nat_eq world x.number).files) locked).1 in
-    ⊎_elim (λ root. inl (eqb-true object x.files.tree.root root))
-    (λ named. inr (among_numbers (named_in x.files) object named))
-    (or_cases (nat_eq object x.files.tree.root) (is_among nat_eq object (named_in x.files))
-    (among_from_list_all (λ k. nat_eq k x.files.tree.root || is_among nat_eq k (named_in x.files)) x.files.numbers all
-    object n))
+    grind (arith, common_steps, found_filesystem, and_parts, eqb-true, among_numbers, or_cases, among_from_list_all)
 
 module _ (world : World ℕ) (names : List TaskName) (is : IsWorld nat_eq world)
     (sealed_off : sealed nat_eq world names ≡ true) (set : List TaskName) (tasks : List (Task ℕ)) (change : ℕ)
@@ -109,10 +99,7 @@ module _ (world : World ℕ) (names : List TaskName) (is : IsWorld nat_eq world)
 
   located_lives : (m : Mount ℕ) (l : Location ℕ) → Among m world.mounts → Among l (all_locations later)
       → l.mount ≡ m.number → Among m living.mounts
-  located_lives m l at n e = among-filter (mount_lives nat_eq later) world.mounts m at
-      (or_right (is_some m.namespace) (is_located nat_eq later m.number)
-      (any_from_among (λ (k : Location ℕ). nat_eq m.number k.mount) (all_locations later) l n
-      (eq-eqb m.number l.mount (sym e))))
+  located_lives m l at n e = grind (arith, common_steps, among-filter, or_right, any_from_among, eq-eqb)
 
   of_all : (l : Location ℕ) → Among l (locations new) → Among l (all_locations later)
   of_all l m =

@@ -1,5 +1,6 @@
 -- The list of mounts of a namespace of theirs is the same in the part.
-use Rattle.std.proofs.Common.{◌≡◌, refl, sym, ap, ◌∙◌, ⊎_elim, ℕ, nat_eq, Bool, true, List, ◌∷◌, Option, Some, None, map, eq-eqb}
+use Rattle.std.proofs.Common.{arith, ◌≡◌, refl, sym, ap, ◌∙◌, ⊎_elim, ℕ, nat_eq, Bool, true, List, ◌∷◌, Option, Some, None, map, eq-eqb}
+use Rattle.std.proofs.lemmas.Grind.{common_steps}
 use Rattle.std.specs.Prelude.{option_map, option_to_list}
 use Rattle.vt_spec.specs.Language.Answers.{Spot}
 use Rattle.vt_spec.specs.Language.Calls.{TaskName}
@@ -7,10 +8,9 @@ use Rattle.vt_spec.specs.Lists.{each_once, holds_of, is_among}
 use Rattle.vt_spec.specs.Machine.Invariants.{IsWorld}
 use Rattle.vt_spec.specs.Machine.Listing.{filesystems_seen, groups_in_type, groups_seen, groups_shown, mount_line, mount_lines, mount_point_spot, number_among, spot_of, type_line}
 use Rattle.vt_spec.specs.FileTree.{path_down}
-use Rattle.vt_spec.specs.Machine.Mounts.{Location, Mount, Propagation, group_of}
+use Rattle.vt_spec.specs.Machine.Mounts.{Location, Mount, Propagation}
 use Rattle.vt_spec.specs.Machine.Mounts.Propagation.{Private, Shared, Slave, Unbindable}
-use Rattle.vt_spec.specs.Machine.Receives.{is_member_of}
-use Rattle.vt_spec.specs.Machine.Sealed.{is_own_mount, members, own_mounts, part_of, used_filesystems}
+use Rattle.vt_spec.specs.Machine.Sealed.{members, part_of, used_filesystems}
 use Rattle.vt_spec.specs.Machine.World.{Task, World, filesystem_numbered, is_overlay, mounts_of}
 use Rattle.vt_spec.proofs.Lists.{Among, among-filter, among-from_filter, any_from_among, map_alike}
 use Rattle.vt_laws_mounts.proofs.letting_go.Lists.{flat_map_alike}
@@ -53,10 +53,7 @@ module _ (world : World ℕ) (names : List TaskName) (is : IsWorld nat_eq world)
   -- the master of a group of theirs
   master_alike : (mount : Mount ℕ) → Among mount world.mounts → owns mount ≡ true → (group : ℕ)
       → mount.propagation ≡ Shared group → part.master group ≡ world.master group
-  master_alike mount m own group e =
-      cc (any_from_among (is_member_of nat_eq group) (own_mounts nat_eq world names) mount (among-filter
-      (is_own_mount nat_eq world names) world.mounts mount m own) (ap (λ kind. holds_of (nat_eq group) (group_of
-      kind)) e ∙ eq-eqb group group refl))
+  master_alike mount m own group e = grind (arith, common_steps, any_from_among, among-filter, eq-eqb)
 
   groups_alike : (mount : Mount ℕ) → Among mount Listed → groups_shown part mount ≡ groups_shown world mount
   groups_alike mount m = by mount.propagation refl

@@ -1,5 +1,6 @@
 -- Calls of theirs that only look are answered in the part as in the world.
-use Rattle.std.proofs.Common.{◌≡◌, refl, sym, ap, subst, ◌∙◌, ℕ, nat_eq, true, List, Option, Some, None, Ok, Err, not, drop, ◌||◌}
+use Rattle.std.proofs.Common.{arith, ◌≡◌, refl, sym, ap, subst, ◌∙◌, ℕ, nat_eq, true, List, Option, Some, None, Ok, Err, not, drop, ◌||◌}
+use Rattle.std.proofs.lemmas.Grind.{common_steps}
 use Rattle.std.specs.Prelude.{IfOk, is_ok, ok_or, take}
 use Rattle.vt_spec.specs.declared.errors.Rule.TheVariants.{S2}
 use Rattle.vt_spec.specs.Errors.{denial}
@@ -83,24 +84,12 @@ module _ (world : World ℕ) (names : List TaskName) (is : IsWorld nat_eq world)
     -- an answer that leaves the set
     stays : (name : TaskName) (call : Call) → left names name call ≡ names → (permit : Permit ℕ) → Looked permit
         → grown names name call (apply nat_eq fresh world task permit).answer ≡ names
-    stays name call same Allowed on = same
-    stays name call same (ToList directory) on = refl
-    stays name call same (ToStat object) on = refl
-    stays name call same (ToRead file) on = refl
-    stays name call same (ToReadPart file offset size) on = refl
-    stays name call same ToListMounts on = refl
-    stays name call same permit on = absurd on
+    stays name call same permit on = grind (arith, common_steps)
 
     looks_by : (name : TaskName) (call : Call) → left names name call ≡ names → (j : Judgement ℕ) → IfOk j Looked
         → EndAlike (grown names name call (after world j (apply nat_eq fresh world task)).answer)
         (after world j (apply nat_eq fresh world task)) (after part j (apply nat_eq other part task))
-    looks_by name call same (Ok permit) on =
-        let it = told permit on in
-        subst (λ set. EndAlike set (apply nat_eq fresh world task permit) (apply nat_eq other part task permit))
-        (sym (stays name call same permit on)) (record {
-          answer = it.0;
-          part = cc (it.1, part_again world names is, it.2);
-        })
+    looks_by name call same (Ok permit) on = grind (arith, common_steps, told, stays, part_again)
     looks_by name call same (Err deny) on = record { answer = refl; part = sym (part_again world names is) }
 
 -- a call by the task that is found

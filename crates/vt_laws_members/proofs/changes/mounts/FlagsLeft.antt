@@ -1,8 +1,9 @@
 -- Where a mount of theirs has other flags, and nothing goes: the world that a call leaves, and its part.
-use Rattle.std.proofs.Common.{◌≡◌, refl, sym, ap, subst, ◌∙◌, ⊎_elim, ℕ, nat_eq, Bool, true, false, cond, List, [], ◌∷◌, Option, Some, None, filter, map, ◌&&◌}
+use Rattle.std.proofs.Common.{arith, ◌≡◌, refl, sym, ap, ◌∙◌, ⊎_elim, ℕ, nat_eq, Bool, true, cond, List, [], ◌∷◌, Option, Some, None, filter, map, ◌&&◌}
+use Rattle.std.proofs.lemmas.Grind.{common_steps}
 use Rattle.std.specs.List.{list_any}
-use Rattle.vt_spec.specs.Language.Calls.{MountFlags, TaskName, same_name}
-use Rattle.vt_spec.specs.Lists.{holds_of, is_among, same_option, then_some}
+use Rattle.vt_spec.specs.Language.Calls.{MountFlags, TaskName}
+use Rattle.vt_spec.specs.Lists.{holds_of, same_option, then_some}
 use Rattle.vt_spec.specs.Machine.Filesystems.{raised, raised_if_changed}
 use Rattle.vt_spec.specs.Machine.Invariants.{IsWorld}
 use Rattle.vt_spec.specs.Machine.Mounts.{Mount, replaced_if_same, same_location, source_of}
@@ -48,13 +49,7 @@ part_respaced w names name namespaces =
 pub raised_members_alike : (world : World ℕ) (names : List TaskName) (name : TaskName)
     → filter (is_member_task names) (map (raised_task name) world.tasks)
     ≡ filter (is_member_task names) (map (raised_task name) (part_of nat_eq world names).tasks)
-raised_members_alike world names name =
-    cc (of_map world.tasks, same_members world names, of_map (part_of nat_eq world names).tasks)
-  where
-    of_map : (tasks : List (Task ℕ)) → filter (is_member_task names) (map (raised_task name) tasks)
-        ≡ map (raised_task name) (filter (is_member_task names) tasks)
-    of_map tasks = filter-map (is_member_task names) (raised_task name) tasks
-        (λ t. ap (λ n. is_among same_name n names) (raised_is name (λ (x : Task ℕ). x.name) (λ x. refl) t))
+raised_members_alike world names name = grind (arith, common_steps, same_members, filter-map, raised_is)
 
 module _ (world : World ℕ) (names : List TaskName) (is : IsWorld nat_eq world)
     (sealed_off : sealed nat_eq world names ≡ true) (old : Mount ℕ) (there : Among old world.mounts)
@@ -106,16 +101,7 @@ module _ (world : World ℕ) (names : List TaskName) (is : IsWorld nat_eq world)
 
   module _ (n : ℕ) (space : list_any (λ (t : Task ℕ). nat_eq n t.namespace) theirs ≡ true) where
     above_later : (y : Mount ℕ) → Among y later.mounts → its_in n y ≡ true → master_above part y ≡ master_above world y
-    above_later y m h =
-        let from = among-from_map set world.mounts y m in
-        by from.0 from.1 (nat_eq old.number from.0.number) from.2
-      where
-        by : (z : Mount ℕ) → Among z world.mounts → (b : Bool) → y ≡ cond b new z
-            → master_above part y ≡ master_above world y
-        by z at true e =
-            subst (λ (q : Mount ℕ). master_above part q ≡ master_above world q) (sym e) (above old (mine old there own))
-        by z at false e = subst (λ (q : Mount ℕ). master_above part q ≡ master_above world q) (sym e)
-            (above z (mine z at (own_in world names is sealed_off n space z (ap (its_in n) (sym e) ∙ h))))
+    above_later y m h = grind (arith, common_steps, among-from_map, above, mine, own_in)
 
     later_in_part : mounts_of nat_eq later_part n ≡ mounts_of nat_eq later n
     later_in_part = cc (

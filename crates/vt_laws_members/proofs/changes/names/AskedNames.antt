@@ -1,11 +1,11 @@
 -- What a granted call of theirs that makes, gives or takes a name asks of a plain tree.
-use Rattle.std.proofs.Common.{arith, ◌≡◌, refl, sym, ap, subst, ◌∙◌, ⊎_elim, ℕ, nat_eq, eqb-true, eq-eqb, Bool, true, false, true≢false, List, [], ◌∷◌, Some, Ok, is_some, map, ◌||◌, ◌&&◌}
+use Rattle.std.proofs.Common.{arith, ◌≡◌, refl, sym, ap, subst, ◌∙◌, ⊎_elim, ℕ, nat_eq, eqb-true, eq-eqb, true, false, true≢false, List, [], ◌∷◌, Some, Ok, is_some, map, ◌||◌, ◌&&◌}
 use Rattle.std.proofs.lemmas.Grind.{common_steps}
 use Rattle.std.proofs.lemmas.Bool.{or_cases}
 use Rattle.vt_spec.specs.FileTree.{FileTree}
 use Rattle.vt_spec.specs.Language.Calls.{Call, TaskName}
 use Rattle.vt_spec.specs.Language.Changes.{Change, changed}
-use Rattle.vt_spec.specs.Language.Changes.Change.{AddName, CopyUp, Make, Move, Remove, SetAttr, SetBytes, SetMark}
+use Rattle.vt_spec.specs.Language.Changes.Change.{CopyUp}
 use Rattle.vt_spec.specs.Lists.{Fresh, is_among}
 use Rattle.vt_spec.specs.Machine.Filesystems.{with_files}
 use Rattle.vt_spec.specs.Machine.Invariants.{IsWorld, ListsNumbers}
@@ -60,11 +60,7 @@ module _ (world : World ℕ) (old : Filesystem ℕ) (files : FileTree ℕ) (plai
   lost_here number object e = by unnamed
     where
       apart : nat_eq number old.number ≡ false
-      apart = differs (nat_eq number old.number) refl
-        where
-          differs : (b : Bool) → nat_eq number old.number ≡ b → nat_eq number old.number ≡ false
-          differs true f = absurd (true≢false (sym (eq-eqb old.number number (sym (eqb-true number old.number f))) ∙ e))
-          differs false f = f
+      apart = grind (arith, common_steps, true≢false, eq-eqb, eqb-true)
 
       by : (list : List ℕ) → is_inode_among number object (map (λ inode. (old.number, inode)) list) ≡ false
       by [] = refl
@@ -92,19 +88,7 @@ module _ (world : World ℕ) (names : List TaskName) (name : TaskName) (call : C
   proper = (permits_ask_properly world fresh task call permit location change is serves itself judged asks).0
 
   node_there : is_some (old.files.tree.node (written_to change)) ≡ true
-  node_there = by change comes asked
-    where
-      by : (c : Change ℕ) → Names c → AsksWell world location c → is_some (old.files.tree.node (written_to c)) ≡ true
-      by (Make directory entry inode node) any well =
-          written_there world location (Make directory entry inode node) well tt
-      by (AddName directory entry object) any well =
-          written_there world location (AddName directory entry object) well tt
-      by (Remove directory entry object) any well = written_there world location (Remove directory entry object) well tt
-      by (Move from entry to new object) any well = written_there world location (Move from entry to new object) well tt
-      by (SetBytes file bytes) none well = absurd none
-      by (SetAttr object attr) none well = absurd none
-      by (SetMark directory opaque) none well = absurd none
-      by (CopyUp object) none well = absurd none
+  node_there = grind (arith, common_steps, asked, written_to, written_there)
 
   pub old_listed : IsListedTree old.files
   old_listed = record {
@@ -122,18 +106,7 @@ module _ (world : World ℕ) (names : List TaskName) (name : TaskName) (call : C
   }
 
   may : MayChange old.files change
-  may = by change comes proper
-    where
-      by : (c : Change ℕ) → Names c → IsProper old.files.tree c → MayChange old.files c
-      by (Make directory entry inode node) any it =
-          record { in_directory = it.name_is_free.in_directory; is_new = it.number_is_new }
-      by (AddName directory entry object) any it = tt
-      by (Remove directory entry object) any it = tt
-      by (Move from entry to new object) any it = record { named = it.named; in_directory = it.in_directory }
-      by (SetBytes file bytes) none it = absurd none
-      by (SetAttr object attr) none it = absurd none
-      by (SetMark directory opaque) none it = absurd none
-      by (CopyUp object) none it = absurd none
+  may = grind (arith, common_steps, proper)
 
   pub changes_so : ChangesTree old.files (changed nat_eq old.files change) (names_lost old.files change)
   changes_so = changes_keep_names old.files change old_listed listed_after may

@@ -1,15 +1,15 @@
 -- On filesystems that a set uses alone, only mounts of its own namespaces stand on directories.
-use Rattle.std.proofs.Common.{◌≡◌, refl, sym, ap, subst, ◌∙◌, ⊎_elim, ℕ, nat_eq, eqb-true, eq-eqb, Bool, true, false, true≢false, List, [], Option, Some, None, not, ◌&&◌}
+use Rattle.std.proofs.Common.{arith, ◌≡◌, refl, sym, ap, ◌∙◌, ⊎_elim, ℕ, nat_eq, eqb-true, eq-eqb, Bool, true, false, true≢false, List, Option, Some, None, not, ◌&&◌}
+use Rattle.std.proofs.lemmas.Grind.{common_steps}
 use Rattle.std.specs.List.{list_any}
 use Rattle.std.proofs.lemmas.Bool.{and_parts, not-true}
 use Rattle.vt_spec.specs.Language.Calls.{TaskName}
 use Rattle.vt_spec.specs.Lists.{holds_of}
-use Rattle.vt_spec.specs.Machine.Detach.{is_point, mounts_on, points_of, upper_points}
+use Rattle.vt_spec.specs.Machine.Detach.{is_point, mounts_on, points_of}
 use Rattle.vt_spec.specs.Machine.Invariants.{IsWorld, Stands}
-use Rattle.vt_spec.specs.Machine.Locked.{overlay_or}
 use Rattle.vt_spec.specs.Machine.Mounts.{Location, Mount}
 use Rattle.vt_spec.specs.Machine.Sealed.{is_own_namespace, no_outsider_on, other_mounts, used_alone}
-use Rattle.vt_spec.specs.Machine.World.{Overlay, World, filesystem_at, mount_at, mount_numbered}
+use Rattle.vt_spec.specs.Machine.World.{World, filesystem_at, mount_at, mount_numbered}
 use Rattle.vt_spec.proofs.Lists.{Among, among-filter, among-from_filter, among_from_all, any_among, any_from_among}
 use Rattle.vt_spec.proofs.Options.{none_is_some}
 use Rattle.vt_spec.proofs.Worlds.{found_or_none}
@@ -57,10 +57,7 @@ module _ (world : World ℕ) (names : List TaskName) (is : IsWorld nat_eq world)
   pub plain_points : (directory : Location ℕ) → (filesystem_at nat_eq world directory).overlay ≡ None
       → used_alone nat_eq world names (filesystem_at nat_eq world directory).number ≡ true → (point : ℕ × ℕ)
       → Among point (points_of nat_eq world directory) → used_alone nat_eq world names point.0 ≡ true
-  plain_points directory plain alone point m =
-      ⊎_elim (λ same. ap (λ (p : ℕ × ℕ). used_alone nat_eq world names p.0) same ∙ alone)
-      (λ more. absurd (subst (λ o. Among point (overlay_or [] (λ (overlay : Overlay ℕ).
-      upper_points world (filesystem_at nat_eq world directory) overlay directory.node) o)) plain more)) m
+  plain_points directory plain alone point m = grind (arith, common_steps)
 
   module _ (directory : Location ℕ) (alone : (point : ℕ × ℕ) → Among point (points_of nat_eq world directory)
       → used_alone nat_eq world names point.0 ≡ true) where

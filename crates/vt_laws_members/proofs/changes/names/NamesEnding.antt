@@ -1,5 +1,6 @@
 -- Calls of theirs by which a name comes or goes on a plain filesystem end in the part as in the world.
-use Rattle.std.proofs.Common.{◌≡◌, refl, sym, ap, subst, ◌∙◌, ℕ, suc, nat_eq, eqb-true, arith, Bool, true, false, List, [], ◌∷◌, Some, Ok, ◌+◌, ◌≤◌}
+use Rattle.std.proofs.lemmas.Grind.{common_steps}
+use Rattle.std.proofs.Common.{◌≡◌, refl, sym, ap, subst, ◌∙◌, ℕ, suc, nat_eq, eqb-true, arith, true, false, List, [], ◌∷◌, Some, Ok, ◌+◌, ◌≤◌}
 use Rattle.std.specs.Prelude.{⊤}
 use Rattle.vt_spec.specs.Language.Answers.Answer.{Done}
 use Rattle.vt_spec.specs.Language.Calls.{Call, TaskName}
@@ -41,21 +42,14 @@ bound (number ∷ rest) = suc (number + bound rest)
 
 above : (list : List ℕ) (number : ℕ) → bound list ≤ number → is_among nat_eq number list ≡ false
 above [] number l = refl
-above (first ∷ rest) number l = cc (differs (nat_eq number first) refl, above rest number (omega (arith, l)))
-  where
-    differs : (b : Bool) → nat_eq number first ≡ b → nat_eq number first ≡ false
-    differs true e = absurd (omega (arith, l, eqb-true number first e))
-    differs false e = e
+above (first ∷ rest) number l = grind (arith, common_steps, eqb-true, above rest number (omega (arith, l)))
 
 -- a supply of numbers that a world does not use
 abbrev pub unused_numbers : World ℕ → Fresh ℕ
 unused_numbers world k = bound (numbers_in_use world) + k
 
 pub unused_serve : (world : World ℕ) → Serves nat_eq world (unused_numbers world)
-unused_serve world = record {
-  unused = λ k. above (numbers_in_use world) (bound (numbers_in_use world) + k) (omega arith);
-  apart = λ j k e. omega (arith, eqb-true (bound (numbers_in_use world) + j) (bound (numbers_in_use world) + k) e);
-}
+unused_serve world = grind (arith, common_steps, above, eqb-true)
 
 -- A granted call by which a name comes or goes
 module _ (world : World ℕ) (names : List TaskName) (name : TaskName) (call : Call)

@@ -1,7 +1,8 @@
 -- A call of theirs that removes a directory, or that renames, ends in the part as in the world, if no mount of another
 -- namespace of theirs is on what goes.
-use Rattle.std.proofs.Common.{◌≡◌, refl, sym, ap, subst, ◌∙◌, ℕ, nat_eq, eqb-true, true, false, List, Option, Some, None, Ok}
-use Rattle.std.specs.Prelude.{IfOk, option_map, option_to_list, unwrap_or}
+use Rattle.std.proofs.Common.{arith, ◌≡◌, refl, sym, ap, subst, ◌∙◌, ℕ, nat_eq, eqb-true, true, false, List, Option, Some, None, Ok}
+use Rattle.std.proofs.lemmas.Grind.{common_steps}
+use Rattle.std.specs.Prelude.{IfOk, option_map, option_to_list}
 use Rattle.std.specs.List.{list_any}
 use Rattle.std.proofs.lemmas.Bool.{or_parts}
 use Rattle.std.proofs.lemmas.Option.{same_Some}
@@ -67,11 +68,7 @@ module _ (world : World ℕ) (names : List TaskName) (is : IsWorld nat_eq world)
       × (is_mount_point_in nat_eq one task.namespace object ≡ false) × (object.mount ≡ parent.mount)
 
   object_on : (place : Place ℕ) → IsPlaced place → On (object_there place).mount
-  object_on place at = by place.object refl
-    where
-      by : (o : Option (Location ℕ)) → place.object ≡ o → On (unwrap_or o place.parent).mount
-      by None e = at.0
-      by (Some object) e = at.1 object e
+  object_on place at = grind (arith, common_steps)
 
   pub removed_free : (asked : Call) (permit : Permit ℕ)
       → IsGranted nat_eq one (overfills nat_eq fresh world task) task asked permit

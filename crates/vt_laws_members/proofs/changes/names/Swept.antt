@@ -1,5 +1,7 @@
 -- The sweep after one plain tree changed: of its inodes those go that nothing uses, and nothing else goes.
-use Rattle.std.proofs.Common.{◌≡◌, refl, sym, ap, subst, ◌∙◌, ℕ, nat_eq, Bool, true, false, cond, List, [], not, ◌||◌}
+use Rattle.std.proofs.Common.{arith, ◌≡◌, refl, sym, ap, subst, ◌∙◌, ℕ, nat_eq, Bool, true, false, cond, List, [], not}
+use Rattle.std.proofs.Common.{◌||◌}
+use Rattle.std.proofs.lemmas.Grind.{common_steps}
 use Rattle.std.specs.List.{list_all}
 use Rattle.vt_spec.specs.FileTree.{FileTree}
 use Rattle.vt_spec.specs.Lists.{is_among}
@@ -8,7 +10,7 @@ use Rattle.vt_spec.specs.Machine.Settled.{filesystem_lives, only_used, only_used
 use Rattle.vt_spec.specs.Machine.World.{Filesystem, World, is_overlay, replaced_if_numbered}
 use Rattle.vt_spec.proofs.Lists.{map_alike, map_twice}
 use Rattle.vt_laws_mounts.specs.LettingGo.InUse.{AllInUse, FilesystemsInUse, is_inode_used}
-use Rattle.vt_laws_mounts.specs.LettingGo.OneByOne.{AllInUseBut, FilesystemsInUseBut, GroupsInUseBut, Inode, InodesInUseBut, Losers, is_inode_among, is_used_or_among}
+use Rattle.vt_laws_mounts.specs.LettingGo.OneByOne.{AllInUseBut, Inode, InodesInUseBut, Losers, is_inode_among, is_used_or_among}
 use Rattle.vt_laws_mounts.specs.LettingGo.TreesOverlays.{ChangesFilesystem, in_use_of, with_filesystems, with_lost}
 use Rattle.vt_laws_mounts.proofs.letting_go.Lists.{Among, all_from_among, all_pass, among-from_map, among-map, among_from_all, map_same, passes}
 use Rattle.vt_laws_mounts.proofs.letting_go.leaving.TreesWithOverlays.{all_but_changed, lives_alike, unchanged}
@@ -50,13 +52,7 @@ module _ (w : World ℕ) (in_use : AllInUse w) (old : Filesystem ℕ) (files : F
   stays = ap (without_dead_filesystems nat_eq) (mounts_stay w in_use.mounts) ∙ filesystems_stay w in_use.filesystems
 
   in_use_before : AllInUseBut none w
-  in_use_before = record {
-    mounts = in_use.mounts;
-    filesystems = subst (FilesystemsInUseBut []) (sym (mounts_stay w in_use.mounts)) in_use.filesystems;
-    inodes = subst (InodesInUseBut []) (sym stays) in_use.inodes;
-    groups =
-        subst (GroupsInUseBut []) (sym (mounts_stay w in_use.mounts)) (λ group among empty. in_use.groups group empty);
-  }
+  in_use_before = grind (arith, common_steps, mounts_stay, stays)
 
   filesystems_after : FilesystemsInUse changed
   filesystems_after = all_pass (filesystem_lives nat_eq changed) changed.filesystems

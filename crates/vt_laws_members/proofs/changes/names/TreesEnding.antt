@@ -1,8 +1,9 @@
 -- A call of theirs that changes one plain tree, which they use alone, ends in the part as in the world.
-use Rattle.std.proofs.Common.{◌≡◌, refl, sym, ap, subst, ◌∙◌, ℕ, nat_eq, true, false, List, [], ◌∷◌, Some, Ok, filter, map, ◌||◌}
+use Rattle.std.proofs.Common.{arith, ◌≡◌, refl, sym, ap, subst, ◌∙◌, ℕ, nat_eq, true, false, List, [], ◌∷◌, Some, Ok, filter, map, ◌||◌}
+use Rattle.std.proofs.lemmas.Grind.{common_steps}
 use Rattle.vt_spec.specs.FileTree.{FileTree}
 use Rattle.vt_spec.specs.Language.Answers.Answer.{Done}
-use Rattle.vt_spec.specs.Language.Calls.{Call, TaskName, same_name}
+use Rattle.vt_spec.specs.Language.Calls.{Call, TaskName}
 use Rattle.vt_spec.specs.Language.Changes as Changes
 use Rattle.vt_spec.specs.Language.Changes.{Change}
 use Rattle.vt_spec.specs.Lists.{Fresh, is_among}
@@ -96,12 +97,7 @@ module _ (world : World ℕ) (names : List TaskName) (name : TaskName) (call : C
   raised_members tasks = filter (is_member_task names) (map (raised_task name) tasks)
 
   tasks_alike : raised_members world.tasks ≡ raised_members part.tasks
-  tasks_alike = cc (of_map world.tasks, same_members world names, of_map part.tasks)
-    where
-      of_map : (tasks : List (Task ℕ))
-          → raised_members tasks ≡ map (raised_task name) (filter (is_member_task names) tasks)
-      of_map tasks = filter-map (is_member_task names) (raised_task name) tasks
-          (λ t. ap (λ n. is_among same_name n names) (raised_is name (λ (x : Task ℕ). x.name) (λ x. refl) t))
+  tasks_alike = grind (arith, common_steps, same_members, filter-map, raised_is)
 
   -- it is the same in both: they alone use it
   same : cut_in world ≡ cut_in part

@@ -1,5 +1,6 @@
 -- In a filesystem that a sealed set uses alone, the same inodes are used in the world and in the part.
-use Rattle.std.proofs.Common.{◌≡◌, refl, sym, ap, subst, ◌∙◌, inl, inr, ⊎_elim, ℕ, nat_eq, eq-eqb, eqb-true, Bool, true, false, cond, List, [], ◌∷◌, ◌++◌, Option, Some, None, filter, flat_map, map}
+use Rattle.std.proofs.Common.{arith, ◌≡◌, refl, sym, ap, subst, ◌∙◌, inl, inr, ⊎_elim, ℕ, nat_eq, eq-eqb, eqb-true, Bool, true, false, cond, List, [], ◌∷◌, ◌++◌, Option, Some, None, filter, flat_map, map}
+use Rattle.std.proofs.lemmas.Grind.{common_steps}
 use Rattle.std.specs.List.{filter_map, list_all}
 use Rattle.vt_spec.specs.FileTree.{FileTree}
 use Rattle.vt_spec.specs.Language.Calls.{TaskName}
@@ -50,10 +51,7 @@ module _ (world : World ℕ) (names : List TaskName) (is : IsWorld nat_eq world)
   IsAt object = Among object (located_in nat_eq world x.number)
 
   at_place : (location : Location ℕ) → Among location (places world) → On world location → IsAt location.node
-  at_place location m e = among-map (λ (l : Location ℕ). l.node)
-      (filter (λ l. nat_eq x.number (mount_at nat_eq world l).filesystem) (places world)) location
-      (among-filter (λ l. nat_eq x.number (mount_at nat_eq world l).filesystem) (places world) location m
-      (eq-eqb x.number (mount_at nat_eq world location).filesystem (sym e)))
+  at_place location m e = grind (arith, common_steps, among-map, among-filter, eq-eqb)
 
   -- a mount of the part is one of the world
   was_mount : (y : Mount ℕ) → Among y part.mounts → (z : Mount ℕ) × Among z world.mounts × (kept z ≡ Some y)
@@ -255,11 +253,7 @@ module _ (w : World ℕ) (old : Filesystem ℕ) (files : FileTree ℕ) (plain : 
 
   kept_in : {A : Type 0} (what : Filesystem ℕ → A) → what new ≡ what old → (x : Filesystem ℕ) → Among x w.filesystems
       → what (swap old files x) ≡ what x
-  kept_in {A} what same x m = by (nat_eq old.number x.number) refl
-    where
-      by : (b : Bool) → nat_eq old.number x.number ≡ b → what (cond b new x) ≡ what x
-      by true e = same ∙ ap what (sym (one x m e))
-      by false e = refl
+  kept_in what same x m = grind (arith, common_steps)
 
   pub used_still : used_in nat_eq (with_filesystems w (swap old files)) new ≡ used_in nat_eq w new
   used_still i = files.tree.root ∷ (named_in files ++ located_in nat_eq w old.number

@@ -1,5 +1,6 @@
 -- A call of theirs that edits a file through an overlay with an upper layer ends in the part as in the world.
-use Rattle.std.proofs.Common.{◌≡◌, refl, sym, ap, subst, ◌∙◌, ℕ, nat_eq, false, List, [], ◌∷◌, Some, Ok, filter, map, ◌||◌}
+use Rattle.std.proofs.Common.{arith, ◌≡◌, refl, sym, ap, subst, ◌∙◌, ℕ, nat_eq, false, List, [], ◌∷◌, Some, Ok, filter, map, ◌||◌}
+use Rattle.std.proofs.lemmas.Grind.{common_steps}
 use Rattle.vt_spec.specs.Language.Answers.Answer.{Done}
 use Rattle.vt_spec.specs.Language.Calls.{Call, TaskName, same_name}
 use Rattle.vt_spec.specs.Language.Changes.{Change}
@@ -7,9 +8,8 @@ use Rattle.vt_spec.specs.Lists.{Fresh, is_among}
 use Rattle.vt_spec.specs.Machine.Filesystems.{changed_at, raised, raised_if_changed, with_change}
 use Rattle.vt_spec.specs.Machine.Mounts.{Location}
 use Rattle.vt_spec.specs.Machine.Outcomes.{granted}
-use Rattle.vt_spec.specs.Machine.Policy.{finished, finished_by, numbers_raised, only_looks, policy, raised_task}
+use Rattle.vt_spec.specs.Machine.Policy.{finished, numbers_raised, only_looks, policy, raised_task}
 use Rattle.vt_spec.specs.Machine.Sealed.{is_member_task, part_of, used_directly, used_filesystems}
-use Rattle.vt_spec.specs.Machine.Settled.{settled}
 use Rattle.vt_spec.specs.Machine.World.{Filesystem, Layer, Overlay, Task, World, filesystem_at, locations_of, mount_at, task_called}
 use Rattle.vt_spec.proofs.Lists.{Among, map_twice}
 use Rattle.vt_laws_mounts.specs.LettingGo.InUse.{AllInUse}
@@ -72,14 +72,7 @@ module _ (world : World ℕ) (names : List TaskName) (name : TaskName) (call : C
       → with_change nat_eq fresh w location change ≡ with_filesystems w moved → changed_at nat_eq w location ≡ numbers
       → finished nat_eq w name call (changed_at nat_eq w location)
       (granted Done (with_change nat_eq fresh w location change)) ≡ granted Done (left w)
-  ends_so w in_use changes made listed = ap (λ b. finished_by nat_eq (b || false) w name (changed_at nat_eq w location)
-      (granted Done (with_change nat_eq fresh w location change))) looks
-      ∙ ap (λ l. granted Done (numbers_raised nat_eq w name l
-      (settled nat_eq (with_change nat_eq fresh w location change)))) listed
-      ∙ ap (λ v. granted Done (numbers_raised nat_eq w name numbers (settled nat_eq v))) made
-      ∙ ap (λ v. granted Done (numbers_raised nat_eq w name numbers v))
-      (nothing_goes (with_filesystems w moved) (in_use_stepped w in_use moved changes))
-      ∙ ap (granted Done) (numbers_so w)
+  ends_so w in_use changes made listed = grind (arith, common_steps, nothing_goes, in_use_stepped, numbers_so)
 
   part_of_left : (w : World ℕ) → AreOnes fresh world names location change overlay upper it.is can direct alike w
       → ((x : Filesystem ℕ) → is_among nat_eq x.number (used_filesystems nat_eq w names) ≡ false → both x ≡ x)

@@ -1,6 +1,7 @@
 -- A change of an overlay by which inodes are copied up, and edited: the two filesystems that it changes, in the world and
 -- in the part.
-use Rattle.std.proofs.Common.{◌||◌, ◌≡◌, refl, sym, ap, subst, ◌∙◌, inl, ⊎_elim, ℕ, nat_eq, eqb-true, Bool, true, false, cond, true≢false, List, [], ◌∷◌, ◌++◌, Some, flat_map, map}
+use Rattle.std.proofs.Common.{arith, ◌||◌, ◌≡◌, refl, sym, ap, subst, ◌∙◌, inl, ⊎_elim, ℕ, nat_eq, eqb-true, Bool, true, false, cond, true≢false, List, [], ◌∷◌, ◌++◌, Some, flat_map, map}
+use Rattle.std.proofs.lemmas.Grind.{common_steps}
 use Rattle.std.specs.Prelude.{⊤, All, option_to_list}
 use Rattle.std.specs.List.{list_all, list_any}
 use Rattle.vt_spec.specs.Language.Calls.{TaskName}
@@ -40,14 +41,7 @@ Copies (CopyUp object) = ⊤
 -- lower layers do not matter to it
 by_no_layer : (fresh : Fresh ℕ) (one other : Stack ℕ) (merge : Merge ℕ) (change : Change ℕ) → Copies change
     → merge_changed nat_eq fresh one merge change ≡ merge_changed nat_eq fresh other merge change
-by_no_layer fresh one other merge (SetBytes file bytes) copies = refl
-by_no_layer fresh one other merge (SetAttr object attr) copies = refl
-by_no_layer fresh one other merge (CopyUp object) copies = refl
-by_no_layer fresh one other merge (Make directory name number node) none = absurd none
-by_no_layer fresh one other merge (AddName directory name object) none = absurd none
-by_no_layer fresh one other merge (Remove directory name object) none = absurd none
-by_no_layer fresh one other merge (Move from old to new object) none = absurd none
-by_no_layer fresh one other merge (SetMark directory opaque) none = absurd none
+by_no_layer fresh one other merge change copies = grind (arith, common_steps, other)
 
 none_of : (list : List ℕ) → list_all (λ (k : ℕ). false) list ≡ true → list ≡ []
 none_of [] e = refl
@@ -149,16 +143,10 @@ module _ (fresh : Fresh ℕ) (world : World ℕ) (names : List TaskName) (locati
     pub one_layer : (x : Filesystem ℕ) → Among x w.filesystems → nat_eq layer.number x.number ≡ true → x ≡ layer
 
   pub ones_in_world : AreOnes world
-  ones_in_world = record {
-    one_merged = one_in_world world names is number merged_used;
-    one_layer = one_in_world world names is upper.filesystem layer_used;
-  }
+  ones_in_world = grind (arith, common_steps, one_in_world, merged_used, layer_used)
 
   pub ones_in_part : AreOnes part
-  ones_in_part = record {
-    one_merged = one_in_part world names is number merged_used;
-    one_layer = one_in_part world names is upper.filesystem layer_used;
-  }
+  ones_in_part = grind (arith, common_steps, one_in_part, merged_used, layer_used)
 
   -- what an overlay is but for its real objects stays
   pub overlays_stay : {A : Type 0} (w : World ℕ) → AreOnes w → (default : A) (what : Overlay ℕ → A)
@@ -303,15 +291,7 @@ module _ (fresh : Fresh ℕ) (world : World ℕ) (names : List TaskName) (locati
 
   pub kept_on : (x : Filesystem ℕ) → is_among nat_eq x.number (used_filesystems nat_eq world names) ≡ false
       → moved_on x ≡ x
-  kept_on x unused = ap (raised_if_changed nat_eq both_numbers) (unused_kept x unused)
-      ∙ ap (λ b. cond b (record x { change = raised x.change }) x)
-      (λ i. apart_from_merged i || (apart_from_layer i || false))
-    where
-      apart_from_merged : nat_eq (filesystem_at nat_eq world location).number x.number ≡ false
-      apart_from_merged = unused_apart number merged_used x unused
-
-      apart_from_layer : nat_eq (filesystem_numbered nat_eq world upper.filesystem).number x.number ≡ false
-      apart_from_layer = unused_apart upper.filesystem layer_used x unused
+  kept_on x unused = grind (arith, common_steps, unused_kept, unused_apart, merged_used, layer_used)
 
   -- so the part has what changed
   pub part_moved : (w : World ℕ) → AreOnes w

@@ -1,5 +1,6 @@
 -- Calls of theirs that edit a file through an overlay: write(2), chmod(2), chown(2), pwrite(2).
-use Rattle.std.proofs.Common.{◌≡◌, refl, sym, ap, subst, ◌∙◌, ℕ, nat_eq, true, false, true≢false, List, ◌∷◌, Option, Some, None, Ok, is_some, map, ◌||◌}
+use Rattle.std.proofs.Common.{arith, ◌≡◌, refl, sym, ap, subst, ◌∙◌, ℕ, nat_eq, true, false, true≢false, List, ◌∷◌, Option, Some, None, Ok, is_some, map, ◌||◌}
+use Rattle.std.proofs.lemmas.Grind.{common_steps}
 use Rattle.std.specs.Prelude.{IfOk}
 use Rattle.vt_spec.specs.Language.Answers.Answer.{Done}
 use Rattle.vt_spec.specs.Language.Calls.{Call, TaskName}
@@ -8,15 +9,14 @@ use Rattle.vt_spec.specs.Language.Changes.{Change}
 use Rattle.vt_spec.specs.Language.Changes.Change.{AddName, CopyUp, Make, Move, Remove, SetAttr, SetBytes, SetMark}
 use Rattle.vt_spec.specs.Lists.{Fresh}
 use Rattle.vt_spec.specs.Machine.Descriptors.{overwritten}
-use Rattle.vt_spec.specs.Machine.Filesystems.{changed_at, filesystem_changed, numbers_of_change, numbers_over, overlay_changed, with_change}
+use Rattle.vt_spec.specs.Machine.Filesystems.{changed_at, with_change}
 use Rattle.vt_spec.specs.Machine.Judge.{judge_in}
 use Rattle.vt_spec.specs.Machine.Mounts.{Location}
 use Rattle.vt_spec.specs.Machine.Outcomes.{granted}
 use Rattle.vt_spec.specs.Machine.Permits.Permit.{ToChange, ToWritePart}
-use Rattle.vt_spec.specs.Machine.Policy.{finished, finished_by, numbers_raised, only_looks}
+use Rattle.vt_spec.specs.Machine.Policy.{finished, only_looks}
 use Rattle.vt_spec.specs.Machine.Run.{Serves}
-use Rattle.vt_spec.specs.Machine.Sealed.{locations, members, own_mounts, part_of, used_directly}
-use Rattle.vt_spec.specs.Machine.Settled.{settled}
+use Rattle.vt_spec.specs.Machine.Sealed.{locations, members, part_of, used_directly}
 use Rattle.vt_spec.specs.Machine.World.{Filesystem, Layer, Overlay, Task, World, filesystem_at, filesystem_numbered, is_overlay, mount_at, node_at, task_called}
 use Rattle.vt_spec.specs.Tree.{bytes_in}
 use Rattle.vt_spec.proofs.Lists.{Among, among-append_right, among-map}
@@ -46,15 +46,7 @@ pub unwritten_run : (w : World ℕ) (name : TaskName) (call : Call) (supply : Fr
     → filesystem_at nat_eq w location ≡ merged → merged.overlay ≡ Some overlay → overlay.upper ≡ None
     → finished nat_eq w name call (changed_at nat_eq w location)
     (granted Done (with_change nat_eq supply w location change)) ≡ with_tasks w name Done w.tasks
-unwritten_run w name call supply location change merged overlay looks same overlaid none =
-    ap (λ b. finished_by nat_eq (b || false) w name (changed_at nat_eq w location)
-    (granted Done (with_change nat_eq supply w location change))) looks
-    ∙ ap (λ f. granted Done (numbers_raised nat_eq w name (numbers_of_change nat_eq w f f.overlay)
-    (settled nat_eq (filesystem_changed nat_eq supply w f f.overlay change)))) same
-    ∙ ap (λ o. granted Done (numbers_raised nat_eq w name (numbers_of_change nat_eq w merged o)
-    (settled nat_eq (filesystem_changed nat_eq supply w merged o change)))) overlaid
-    ∙ ap (λ u. granted Done (numbers_raised nat_eq w name (numbers_over nat_eq w merged u)
-    (settled nat_eq (overlay_changed nat_eq supply w merged overlay u change)))) none
+unwritten_run w name call supply location change merged overlay looks same overlaid none = grind (arith, common_steps)
 
 -- With one the file is copied up.
 module _ (world : World ℕ) (names : List TaskName) (name : TaskName) (call : Call)
@@ -186,11 +178,7 @@ overlay_part_writes_end_alike world names name descriptor offset byte bytes it t
     itself = ap (task_called world) (sym (name_found world name task called)) ∙ called
 
     direct : Among (mount_at nat_eq world file).filesystem (used_directly nat_eq world names)
-    direct = among-append_right (map (λ mount. mount.filesystem) (own_mounts nat_eq world names))
-        (map (λ (location : Location ℕ). (mount_at nat_eq world location).filesystem) (locations (members world names)))
-        (mount_at nat_eq world file).filesystem
-        (among-map (λ (location : Location ℕ). (mount_at nat_eq world location).filesystem)
-        (locations (members world names)) file theirs.0)
+    direct = grind (arith, common_steps, among-append_right, among-map, theirs)
 
     alike : filesystem_at nat_eq world file ≡ filesystem_at nat_eq part file
     alike =

@@ -1,4 +1,5 @@
 -- What lies under a directory of a tree lies there, too, in the tree of what lies under it and under others.
+use Rattle.std.proofs.lemmas.Grind.{common_steps}
 use Rattle.std.proofs.Common.{◌≡◌, refl, sym, ap, subst, ◌∙◌, ⊎_elim, ℕ, zero, suc, nat_eq, Bool, true, false, cond, true≢false, List, [], ◌∷◌, Option, Some, None, is_some, length, not, ◌&&◌, ◌||◌, ◌≤◌, arith}
 use Rattle.std.proofs.lemmas.Bool.{and_from, and_parts, or_cases, or_left, or_right}
 use Rattle.std.proofs.lemmas.List.Filters.{length-filter_both}
@@ -23,12 +24,7 @@ module _ (top : ℕ) where
   reaches n next d = is_among nat_eq top (chain n next d)
 
   pub at_head : (next : ℕ → Option ℕ) (n d : ℕ) → nat_eq top d ≡ true → reaches n next d ≡ true
-  at_head next zero d e = ap (λ b. b || false) e
-  at_head next (suc n) d e = by (next d)
-    where
-      by : (o : Option ℕ) → is_among nat_eq top (elim o [ None ↦ d ∷ [] | Some b ↦ d ∷ chain n next b ]) ≡ true
-      by None = ap (λ b. b || false) e
-      by (Some b) = ap (λ c. c || is_among nat_eq top (chain n next b)) e
+  at_head next n d e = grind (arith, common_steps)
 
   -- a longer chain, too
   pub more : (next : ℕ → Option ℕ) (n m d : ℕ) → n ≤ m → reaches n next d ≡ true → reaches m next d ≡ true
@@ -55,14 +51,7 @@ module _ (top : ℕ) where
       by : (p : Bool) → nat_eq top d ≡ p → (o : Option ℕ) → next d ≡ o
           → ((b : ℕ) → reaches n (until next) b ≡ reaches n next b)
           → reaches (suc n) (until next) d ≡ reaches (suc n) next d
-      by true e o f later = at_head (until next) (suc n) d e ∙ sym (at_head next (suc n) d e)
-      by false e o f later = cc (goes o later)
-        where
-          goes : (q : Option ℕ) → ((b : ℕ) → reaches n (until next) b ≡ reaches n next b)
-              → is_among nat_eq top (elim q [ None ↦ d ∷ [] | Some b ↦ d ∷ chain n (until next) b ])
-              ≡ is_among nat_eq top (elim q [ None ↦ d ∷ [] | Some b ↦ d ∷ chain n next b ])
-          goes None later = refl
-          goes (Some b) later = ap (λ c. nat_eq top d || c) (later b)
+      by p e o f later = grind (arith, common_steps, at_head)
 
 -- A tree is cut to some inodes, all under the directory among them.
 module _ (files : FileTree ℕ) (chosen : List ℕ) (tree : IsTree files.tree) (listed : ListsNumbers nat_eq files)
@@ -220,10 +209,4 @@ module _ (files : FileTree ℕ) (chosen : List ℕ) (tree : IsTree files.tree) (
       by : (b : Bool) → cond b (is_directory_under nat_eq files top object) (is_file_under nat_eq files top object)
           ≡ true → Among object (named_in cut)
       by true g = long (length files.numbers) (omega arith) g
-      by false g =
-          let at = any_among (λ d. has_entry_to nat_eq files.tree d object && is_directory_under nat_eq files top d)
-          files.numbers g in
-          let both = and_parts (has_entry_to nat_eq files.tree at.0 object)
-          (is_directory_under nat_eq files top at.0) at.2 in
-          let directory = entered at.0 object both.0 in
-          named_by at.0 object directory (directory_kept at.0 directory both.1) both.0
+      by false g = grind (arith, common_steps, any_among, and_parts, entered, named_by, directory_kept)

@@ -1,5 +1,6 @@
 -- The part of the part is the part, with the trees that it has by lower layers alone.
-use Rattle.std.proofs.Common.{◌≡◌, refl, sym, ap, subst, ◌∙◌, inl, inr, ⊎_elim, ℕ, nat_eq, Bool, true, false, cond, true≢false, List, [], ◌∷◌, Option, Some, None, filter, find, is_some, eq-eqb, eqb-true}
+use Rattle.std.proofs.Common.{arith, ◌≡◌, refl, sym, ap, subst, ◌∙◌, inl, inr, ⊎_elim, ℕ, nat_eq, Bool, true, false, cond, true≢false, List, [], ◌∷◌, Option, Some, None, filter, find, is_some, eq-eqb, eqb-true}
+use Rattle.std.proofs.lemmas.Grind.{common_steps}
 use Rattle.std.specs.Prelude.{unwrap_or}
 use Rattle.std.specs.List.{cons_option, filter_map, list_any}
 use Rattle.std.proofs.lemmas.Bool.{and_from, and_parts}
@@ -9,8 +10,7 @@ use Rattle.vt_spec.specs.Lists.{is_among, when}
 use Rattle.vt_spec.specs.Machine.Invariants.{IsWorld, ListsNumbers}
 use Rattle.vt_spec.specs.Machine.Locked.{lies_in_layer}
 use Rattle.vt_spec.specs.Machine.Mounts.{Mount}
-use Rattle.vt_spec.specs.Machine.Receives.{is_member_of}
-use Rattle.vt_spec.specs.Machine.Sealed.{is_at, lies_in_own_lower, locations, members, own_lowers, own_mounts, part_of, part_of_filesystem, part_of_lower, part_of_master, part_of_mount, seen_by_descriptor, used_filesystems}
+use Rattle.vt_spec.specs.Machine.Sealed.{is_at, lies_in_own_lower, locations, members, own_lowers, part_of, part_of_filesystem, part_of_lower, part_of_master, part_of_mount, seen_by_descriptor, used_filesystems}
 use Rattle.vt_spec.specs.Machine.Settled.{only_among}
 use Rattle.vt_spec.specs.Machine.World.{Filesystem, Layer, Namespace, Task, World, filesystem_numbered, no_filesystem}
 use Rattle.vt_spec.specs.Tree.{Node}
@@ -214,13 +214,7 @@ module _ (world : World ℕ) (names : List TaskName) (is : IsWorld nat_eq world)
           ∙ ap (λ b. when b (seen_by_descriptor x)) stub.3)) (kept_how world names theirs x y e)
 
   same_masters : part_of_master nat_eq part names ≡ part_of_master nat_eq world names
-  same_masters = ap (λ l. λ (group : ℕ). cond (list_any (is_member_of nat_eq group) l)
-      (part_of_master nat_eq world names group) None) (same_own world names)
-      ∙ (λ i group. twice (list_any (is_member_of nat_eq group) (own_mounts nat_eq world names)) (world.master group) i)
-    where
-      twice : (b : Bool) (o : Option ℕ) → cond b (cond b o None) None ≡ cond b o None
-      twice true o = refl
-      twice false o = refl
+  same_masters = grind (arith, common_steps, same_own)
 
   abbrev kept_namespaces : List (Task ℕ) → List (Namespace ℕ) → List (Namespace ℕ)
   kept_namespaces tasks list =

@@ -1,5 +1,6 @@
 -- Nothing of the part of a sealed set is unused in it.
-use Rattle.std.proofs.Common.{◌≡◌, refl, sym, ap, subst, ◌∙◌, inr, ⊎_elim, ℕ, suc, nat_eq, Bool, true, false, cond, true≢false, List, [], ◌∷◌, ◌++◌, Option, None, filter, flat_map, length, not, ◌≤◌, arith, eqb-true}
+use Rattle.std.proofs.lemmas.Grind.{common_steps}
+use Rattle.std.proofs.Common.{◌≡◌, refl, sym, ap, subst, ◌∙◌, inr, ⊎_elim, ℕ, nat_eq, Bool, true, false, cond, true≢false, List, [], ◌∷◌, ◌++◌, Option, None, filter, flat_map, length, ◌≤◌, arith, eqb-true}
 use Rattle.std.specs.List.{filter_map, list_all, list_any}
 use Rattle.std.proofs.lemmas.Bool.{and_parts}
 use Rattle.vt_spec.specs.FileTree.{is_under}
@@ -9,8 +10,8 @@ use Rattle.vt_spec.specs.Machine.Invariants.{IsWorld}
 use Rattle.vt_spec.specs.Machine.Locked.{lies_in_layer, of_overlay}
 use Rattle.vt_spec.specs.Machine.Receives.{has_members, is_member_of}
 use Rattle.vt_spec.specs.Machine.Sealed.{is_own_mount, lies_in_own_lower, members, own_lowers, own_mounts, part_of, part_of_filesystem, part_of_lower, part_of_mount, sealed, used_directly, used_filesystems}
-use Rattle.vt_spec.specs.Machine.Settled.{filesystem_lives, layers_in, located_in, mount_lives, named_in, objects_of_overlay, only_used, only_used_by, only_used_of, settled, used_in, without_dead_filesystems, without_dead_groups, without_dead_in, without_dead_mounts}
-use Rattle.vt_spec.specs.Machine.World.{Filesystem, Layer, World, filesystem_numbered, is_overlay, layers_of}
+use Rattle.vt_spec.specs.Machine.Settled.{filesystem_lives, layers_in, located_in, mount_lives, named_in, objects_of_overlay, only_used, only_used_of, settled, used_in, without_dead_filesystems, without_dead_groups, without_dead_in, without_dead_mounts}
+use Rattle.vt_spec.specs.Machine.World.{Filesystem, Layer, World, filesystem_numbered, layers_of}
 use Rattle.vt_spec.proofs.Lists.{Among, all_from_among, among-append_left, among-filter, among-filter_map, among-flat_map, among-from_filter, among-from_filter_map, among-map, among_from_contains, among_numbers, any_among, any_from_among, is_among_numbers, list_all_from_among, map_same}
 use Rattle.vt_laws_mounts.specs.LettingGo.InUse.{AllInUse, is_inode_used}
 use Rattle.vt_laws_sealed.specs.Part.Parts.{SeesTheSame, shown_of}
@@ -30,22 +31,11 @@ use Rattle.vt_laws_members.proofs.changes.part.PartAgain.{in_chosen, itself, lis
 -- a filter that leaves no fewer leaves all
 filter_few : {A : Type 0} (p : A → Bool) (xs : List A) → length (filter p xs) ≤ length xs
 filter_few p [] = omega arith
-filter_few {A} p (x ∷ xs) = by (p x) (filter_few p xs)
-  where
-    by : (b : Bool) → length (filter p xs) ≤ length xs
-        → length (cond b (x ∷ filter p xs) (filter p xs)) ≤ suc (length xs)
-    by true l = omega (arith, l)
-    by false l = omega (arith, l)
+filter_few {A} p (x ∷ xs) = grind (arith, common_steps, filter_few p xs)
 
 keeps_all : {A : Type 0} (p : A → Bool) (xs : List A) → length xs ≤ length (filter p xs) → filter p xs ≡ xs
 keeps_all p [] l = refl
-keeps_all {A} p (x ∷ xs) l = by (p x) l (filter_few p xs) (keeps_all p xs)
-  where
-    by : (b : Bool) → suc (length xs) ≤ length (cond b (x ∷ filter p xs) (filter p xs))
-        → length (filter p xs) ≤ length xs
-        → (length xs ≤ length (filter p xs) → filter p xs ≡ xs) → cond b (x ∷ filter p xs) (filter p xs) ≡ x ∷ xs
-    by true l few rest = ap (λ ys. x ∷ ys) (rest (omega (arith, l)))
-    by false l few rest = absurd (omega (arith, l, few))
+keeps_all {A} p (x ∷ xs) l = grind (arith, common_steps, filter_few, keeps_all p xs)
 
 module _ (world : World ℕ) (names : List TaskName) (is : IsWorld nat_eq world)
     (sealed_off : sealed nat_eq world names ≡ true) where
@@ -180,13 +170,7 @@ module _ (world : World ℕ) (names : List TaskName) (is : IsWorld nat_eq world)
           none (has_members nat_eq part.mounts group) (part.master group) (ap (λ b. cond b (world.master group) None) e)
 
   pub part_settled : settled nat_eq part ≡ part
-  part_settled = cc (
-    mounts_live,
-    filesystems_live,
-    inodes_live is_overlay,
-    inodes_live (λ filesystem. not (is_overlay filesystem)),
-    groups_live,
-  )
+  part_settled = grind (arith, common_steps, mounts_live, filesystems_live, inodes_live, groups_live)
 
 -- what a filter leaves passes
 all_left : {A : Type 0} (p : A → Bool) (xs : List A) → filter p xs ≡ xs → list_all p xs ≡ true
@@ -194,12 +178,7 @@ all_left p xs e = list_all_from_among p xs (λ x m. (among-from_filter p xs x (s
 
 all_used : (used : List ℕ) (y : Filesystem ℕ) → only_used_of nat_eq used y ≡ y
     → list_all (λ n. is_among nat_eq n used) y.files.numbers ≡ true
-all_used used y e = by (list_all (λ n. is_among nat_eq n used) y.files.numbers) refl e
-  where
-    by : (b : Bool) → list_all (λ n. is_among nat_eq n used) y.files.numbers ≡ b → only_used_by nat_eq b used y ≡ y
-        → list_all (λ n. is_among nat_eq n used) y.files.numbers ≡ true
-    by true f e = f
-    by false f e = all_left (λ n. is_among nat_eq n used) y.files.numbers (ap (λ (z : Filesystem ℕ). z.files.numbers) e)
+all_used used y e = grind (arith, common_steps, all_left)
 
 pub part_in_use : (world : World ℕ) (names : List TaskName) → IsWorld nat_eq world → sealed nat_eq world names ≡ true
     → AllInUse (part_of nat_eq world names)

@@ -1,5 +1,5 @@
 -- A call of theirs that is refused leaves their part, and is refused alike.
-use Rattle.std.proofs.Common.{arith, ◌≡◌, refl, sym, ap, subst, ◌∙◌, ℕ, nat_eq, Bool, true, false, true≢false, not, List, [], Option, Some, None, Ok, Err, ◌||◌}
+use Rattle.std.proofs.Common.{arith, ◌≡◌, refl, sym, ap, subst, ◌∙◌, ℕ, nat_eq, Bool, true, false, true≢false, not, List, Option, Some, None, Ok, Err, ◌||◌}
 use Rattle.std.proofs.lemmas.Grind.{common_steps}
 use Rattle.std.specs.Prelude.{is_ok}
 use Rattle.vt_spec.specs.declared.errors.Deny.{Deny}
@@ -60,12 +60,7 @@ module _ (world : World ℕ) (names : List TaskName) (name : TaskName) (call : C
   -- a refusal is the end
   refused_by : (w : World ℕ) (supply : Fresh ℕ) (task : Task ℕ) (deny : Deny)
       → run_by w supply task (Err deny) ≡ denied w deny
-  refused_by w supply task deny = by (only_looks call)
-    where
-      by : (b : Bool) → finished_by nat_eq (b || not (is_ok (denied w deny).answer)) w name [] (denied w deny)
-          ≡ denied w deny
-      by true = refl
-      by false = refl
+  refused_by w supply task deny = grind (arith, common_steps)
 
   answer_kept : (w : World ℕ) (supply : Fresh ℕ) (task : Task ℕ) (j : Judgement ℕ)
       → (run_by w supply task j).answer ≡ (after w j (apply nat_eq supply w task)).answer

@@ -1,4 +1,5 @@
 -- A fork ends in the part as in the world, of the set with the child.
+use Rattle.std.proofs.lemmas.Grind.{common_steps}
 use Rattle.std.proofs.Common.{◌≡◌, refl, sym, ap, subst, ◌∙◌, inl, inr, ℕ, nat_eq, Bool, true, false, cond, true≢false, List, [], ◌∷◌, ◌++◌, Some, filter, map, ◌||◌, ◌+◌, arith}
 use Rattle.std.specs.List.{list_any}
 use Rattle.std.proofs.lemmas.Bool.{false_from_ne_true}
@@ -62,12 +63,7 @@ module _ (world : World ℕ) (names : List TaskName) (name : TaskName) (is : IsW
 
   replaced_is : {A : Type 0} (what : Task ℕ → A) → what parent ≡ what task → (t : Task ℕ) → Among t world.tasks
       → what (replaced t) ≡ what t
-  replaced_is what same t m = by (same_name parent.name t.name) refl
-    where
-      by : (b : Bool) → same_name parent.name t.name ≡ b → what (cond b parent t) ≡ what t
-      by true e =
-          same ∙ ap what (only_task world.tasks is.tasks.one_task task t there m (same_task_name parent.name t.name e))
-      by false e = refl
+  replaced_is what same t m = grind (arith, common_steps, only_task, there, same_task_name)
 
   both_named : (t : Task ℕ) → (both t).name ≡ t.name
   both_named t = raised_is (λ (x : Task ℕ). x.name) (λ x. refl) (replaced t) ∙ name-replaced_if_called parent t
@@ -131,10 +127,7 @@ module _ (world : World ℕ) (names : List TaskName) (name : TaskName) (is : IsW
     )
       where
         by : (b : Bool) → P kid ≡ b → (list_any P old || (P kid || false)) ≡ list_any P old
-        by true e =
-            let holds = any_from_among P old task member (less e) in
-            ap (λ b. b || (P kid || false)) holds ∙ sym holds
-        by false e = ap (λ b. list_any P old || (b || false)) e ∙ or_none (list_any P old)
+        by b e = grind (arith, common_steps, any_from_among, member, or_none)
 
     own_same : (n : ℕ) → list_any (λ (t : Task ℕ). nat_eq n t.namespace) (members ended set)
         ≡ list_any (λ (t : Task ℕ). nat_eq n t.namespace) old

@@ -1,6 +1,7 @@
 -- An open of a file that is there, and is not copied up, ends in the part as in the world.
-use Rattle.std.proofs.Common.{◌≡◌, refl, sym, ap, subst, ◌∙◌, ◌⊎◌, inl, inr, ⊎_elim, ℕ, nat_eq, Bool, true, false, cond, true≢false, List, [], ◌∷◌, ◌++◌, Option, Some, None, Ok, filter, map, ◌||◌}
-use Rattle.std.specs.Prelude.{⊤, IfOk, nat_lt}
+use Rattle.std.proofs.Common.{arith, ◌≡◌, refl, sym, ap, subst, ◌∙◌, ◌⊎◌, inl, inr, ⊎_elim, ℕ, nat_eq, Bool, true, false, cond, true≢false, List, [], ◌∷◌, ◌++◌, Option, Some, None, Ok, filter, map, ◌||◌}
+use Rattle.std.proofs.lemmas.Grind.{common_steps}
+use Rattle.std.specs.Prelude.{⊤, IfOk}
 use Rattle.std.specs.List.{list_any}
 use Rattle.vt_spec.specs.Errors.{unless}
 use Rattle.vt_spec.specs.Language.Answers.Answer.{Opened}
@@ -125,23 +126,12 @@ module _ (new : Descriptor ℕ) where
   was_there : (list : List (Descriptor ℕ)) (location : Location ℕ) → Among location (places (inserted new list))
       → (location ≡ new.location) ⊎ Among location (places list)
   was_there [] location m = ⊎_elim inl (λ none. absurd none) m
-  was_there (first ∷ rest) location m = by (nat_lt new.number first.number) m (was_there rest location)
-    where
-      by : (b : Bool) → Among location (places (cond b (new ∷ first ∷ rest) (first ∷ inserted new rest)))
-          → (Among location (places (inserted new rest)) → (location ≡ new.location) ⊎ Among location (places rest))
-          → (location ≡ new.location) ⊎ Among location (places (first ∷ rest))
-      by true m later = m
-      by false m later = ⊎_elim (λ here. inr (inl here)) (λ n. ⊎_elim inl (λ k. inr (inr k)) (later n)) m
+  was_there (first ∷ rest) location m = grind (arith, common_steps, was_there rest location)
 
   stays_there : (list : List (Descriptor ℕ)) (location : Location ℕ) → Among location (places list)
       → Among location (places (inserted new list))
   stays_there [] location m = absurd m
-  stays_there (first ∷ rest) location m = by (nat_lt new.number first.number) (stays_there rest location)
-    where
-      by : (b : Bool) → (Among location (places rest) → Among location (places (inserted new rest)))
-          → Among location (places (cond b (new ∷ first ∷ rest) (first ∷ inserted new rest)))
-      by true later = inr m
-      by false later = ⊎_elim inl (λ n. inr (later n)) m
+  stays_there (first ∷ rest) location m = grind (arith, common_steps, stays_there rest location)
 
 -- A task opens a file on a mount of theirs.
 module _ (world : World ℕ) (names : List TaskName) (name : TaskName) (is : IsWorld nat_eq world) (task : Task ℕ)
@@ -292,15 +282,7 @@ module _ (world : World ℕ) (names : List TaskName) (name : TaskName) (is : IsW
         (when (is_at nat_eq (locations (members ended names)) m) (seen_by_descriptor m))
 
     kept_same : (m : Mount ℕ) → Among m w.mounts → keep w names (members ended names) m ≡ keep w names old m
-    kept_same m n = cc (kept_by m, by (is_own w names old m || is_at nat_eq (roots_and_directories old) m) refl)
-      where
-        by : (b : Bool) → (is_own w names old m || is_at nat_eq (roots_and_directories old) m) ≡ b
-            → cond (is_own w names old m || is_at nat_eq (roots_and_directories old) m) (Some m)
-            (when (is_at nat_eq (locations (members ended names)) m) (seen_by_descriptor m))
-            ≡ cond (is_own w names old m || is_at nat_eq (roots_and_directories old) m) (Some m)
-            (when (is_at nat_eq (locations old) m) (seen_by_descriptor m))
-        by true e = cc
-        by false e = cc (at_same m n e)
+    kept_same m n = grind (arith, common_steps, kept_by, is_own, at_same)
 
     abbrev shows : Location ℕ → ℕ
     shows location = (mount_at nat_eq w location).filesystem

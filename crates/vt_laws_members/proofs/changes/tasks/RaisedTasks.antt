@@ -1,12 +1,12 @@
 -- Where tasks change alone, the change numbers of the caller and of the world are raised, and no others.
-use Rattle.std.proofs.Common.{◌≡◌, refl, ℕ, nat_eq, Bool, true, false, List, [], ◌∷◌, Option, Some, None, map, ◌&&◌, eq-eqb}
+use Rattle.std.proofs.Common.{arith, ◌≡◌, refl, ℕ, nat_eq, Bool, true, false, List, [], ◌∷◌, Option, Some, None, map, ◌&&◌, eq-eqb}
+use Rattle.std.proofs.lemmas.Grind.{common_steps}
 use Rattle.std.proofs.lemmas.Bool.{and_from}
 use Rattle.vt_spec.specs.Language.Calls.{MountFlags, TaskName}
 use Rattle.vt_spec.specs.Lists.{same_list, same_option}
 use Rattle.vt_spec.specs.Machine.Filesystems.{raised, raised_if_changed}
 use Rattle.vt_spec.specs.Machine.Mounts.{Location, Mount, Propagation, same_location}
-use Rattle.vt_spec.specs.Machine.Mounts.Propagation.{Private, Shared, Slave, Unbindable}
-use Rattle.vt_spec.specs.Machine.Policy.{master_above, numbers_raised, raised_namespace, raised_task, same_bool, same_flags, same_mount, same_propagation}
+use Rattle.vt_spec.specs.Machine.Policy.{numbers_raised, raised_namespace, raised_task, same_bool, same_flags, same_mount, same_propagation}
 use Rattle.vt_spec.specs.Machine.World.{Namespace, Task, World, mounts_of}
 use Rattle.vt_spec.proofs.Lists.{map_same}
 
@@ -15,10 +15,7 @@ same_bool_itself true = refl
 same_bool_itself false = refl
 
 same_flags_itself : (flags : MountFlags) → same_flags flags flags ≡ true
-same_flags_itself flags = and_from (same_bool flags.read_only flags.read_only && same_bool flags.noexec flags.noexec)
-    (same_bool flags.nosymfollow flags.nosymfollow)
-    (and_from (same_bool flags.read_only flags.read_only) (same_bool flags.noexec flags.noexec)
-    (same_bool_itself flags.read_only) (same_bool_itself flags.noexec)) (same_bool_itself flags.nosymfollow)
+same_flags_itself flags = grind (arith, common_steps, and_from, same_bool_itself)
 
 same_point_itself : (point : Option (Location ℕ)) → same_option (same_location nat_eq) point point ≡ true
 same_point_itself None = refl
@@ -30,29 +27,23 @@ same_group_itself None = refl
 same_group_itself (Some group) = eq-eqb group group refl
 
 same_propagation_itself : (kind : Propagation ℕ) → same_propagation nat_eq kind kind ≡ true
-same_propagation_itself (Shared group) = eq-eqb group group refl
-same_propagation_itself (Slave master) = eq-eqb master master refl
-same_propagation_itself Private = refl
-same_propagation_itself Unbindable = refl
+same_propagation_itself kind = grind (arith, common_steps, eq-eqb)
 
 module _ (before : World ℕ) (name : TaskName) (tasks : List (Task ℕ)) where
   abbrev left : World ℕ
   left = record before { tasks = tasks }
 
   same_mount_itself : (mount : Mount ℕ) → same_mount nat_eq before left mount mount ≡ true
-  same_mount_itself mount = and_from (nat_eq mount.number mount.number && same_option
-      (same_location nat_eq) mount.mount_point mount.mount_point
-      && same_flags mount.flags mount.flags && same_propagation nat_eq mount.propagation mount.propagation)
-      (same_option nat_eq (master_above before mount) (master_above left mount))
-      (and_from (nat_eq mount.number mount.number
-      && same_option (same_location nat_eq) mount.mount_point mount.mount_point && same_flags mount.flags mount.flags)
-      (same_propagation nat_eq mount.propagation mount.propagation) (and_from (nat_eq mount.number mount.number
-      && same_option (same_location nat_eq) mount.mount_point mount.mount_point) (same_flags mount.flags mount.flags)
-      (and_from (nat_eq mount.number mount.number)
-      (same_option (same_location nat_eq) mount.mount_point mount.mount_point)
-      (eq-eqb mount.number mount.number refl) (same_point_itself mount.mount_point))
-      (same_flags_itself mount.flags)) (same_propagation_itself mount.propagation))
-      (same_group_itself (master_above before mount))
+  same_mount_itself mount = grind (
+    arith,
+    common_steps,
+    and_from,
+    eq-eqb,
+    same_point_itself,
+    same_flags_itself,
+    same_propagation_itself,
+    same_group_itself,
+  )
 
   pub all_themselves : (list : List (Mount ℕ)) → same_list (same_mount nat_eq before left) list list ≡ true
   all_themselves [] = refl

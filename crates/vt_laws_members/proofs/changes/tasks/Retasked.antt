@@ -1,5 +1,6 @@
 -- The part of a world in which tasks change alone, and the tasks of a set see what they saw.
-use Rattle.std.proofs.Common.{◌≡◌, refl, sym, ap, ◌∙◌, ℕ, nat_eq, Bool, true, false, cond, List, [], ◌∷◌, ◌++◌, Some, None, filter, flat_map, ◌||◌}
+use Rattle.std.proofs.Common.{arith, ◌≡◌, refl, sym, ap, ◌∙◌, ℕ, nat_eq, Bool, cond, List, [], ◌∷◌, ◌++◌, Some, None, filter, flat_map, ◌||◌}
+use Rattle.std.proofs.lemmas.Grind.{common_steps}
 use Rattle.std.specs.List.{list_any}
 use Rattle.vt_spec.specs.Language.Calls.{TaskName}
 use Rattle.vt_spec.specs.Lists.{each_once, holds_of, is_among, when}
@@ -15,18 +16,12 @@ use Rattle.vt_laws_sealed.proofs.part.Kept.{among-each_once, among-from_each_onc
 use Rattle.vt_laws_sealed.proofs.part.part.PartOfPart.{keep}
 
 any_once : (p : ℕ → Bool) (xs : List ℕ) → list_any p (each_once nat_eq xs) ≡ list_any p xs
-any_once p xs = same_truth (list_any p (each_once nat_eq xs)) (list_any p xs)
-    (λ h. let at = any_among p (each_once nat_eq xs) h in
-    any_from_among p xs at.0 (among-from_each_once xs at.0 at.1) at.2)
-    (λ h. let at = any_among p xs h in any_from_among p (each_once nat_eq xs) at.0 (among-each_once xs at.0 at.1) at.2)
+any_once p xs =
+    grind (arith, common_steps, same_truth, any_among, any_from_among, among-from_each_once, among-each_once)
 
 pub any_both : {A : Type 0} (p : A → Bool) (xs ys : List A) → list_any p (xs ++ ys) ≡ (list_any p xs || list_any p ys)
 any_both p [] ys = refl
-any_both p (x ∷ xs) ys = ap (λ b. p x || b) (any_both p xs ys) ∙ shift (p x) (list_any p xs) (list_any p ys)
-  where
-    shift : (a b c : Bool) → (a || (b || c)) ≡ ((a || b) || c)
-    shift true b c = refl
-    shift false b c = refl
+any_both p (x ∷ xs) ys = grind (arith, common_steps, any_both p xs ys)
 
 pub any_of_each : {A B : Type 0} (p : B → Bool) (g : A → List B) (xs : List A)
     → list_any p (flat_map g xs) ≡ list_any (λ x. list_any p (g x)) xs
@@ -62,22 +57,14 @@ module _ (world : World ℕ) (names set : List TaskName) (tasks : List (Task ℕ
             (each_once nat_eq (direct ++ flat_map (λ k. change_layers (filesystem_numbered nat_eq world k)) direct))
             ≡ (list_any (nat_eq n) direct
             || list_any (λ k. list_any (nat_eq n) (change_layers (filesystem_numbered nat_eq world k))) direct)
-        spread direct = cc (
-          any_once (nat_eq n) (direct ++ flat_map (λ k. change_layers (filesystem_numbered nat_eq world k)) direct),
-          any_both (nat_eq n) direct (flat_map (λ k. change_layers (filesystem_numbered nat_eq world k)) direct),
-          any_of_each (nat_eq n) (λ k. change_layers (filesystem_numbered nat_eq world k)) direct,
-        )
+        spread direct = grind (arith, common_steps, any_once, any_both, any_of_each)
 
     abbrev lowers_at : ℕ → List (Layer ℕ)
     lowers_at k = of_overlay [] (λ (overlay : Overlay ℕ). overlay.lowers) (filesystem_numbered nat_eq world k)
 
     lowers_same : (p : Layer ℕ → Bool)
         → list_any p (own_lowers nat_eq later set) ≡ list_any p (own_lowers nat_eq world names)
-    lowers_same p = cc (
-      any_of_each p lowers_at (used_directly nat_eq later set),
-      alike.direct (λ k. list_any p (lowers_at k)),
-      any_of_each p lowers_at (used_directly nat_eq world names),
-    )
+    lowers_same p = grind (arith, common_steps, any_of_each)
 
     owned_same : own_mounts nat_eq later set ≡ own_mounts nat_eq world names
     owned_same i = filter (λ (mount : Mount ℕ). holds_of (λ n. alike.own n i) mount.namespace) world.mounts

@@ -1,5 +1,6 @@
 -- A mount of theirs is whole in the part.
-use Rattle.std.proofs.Common.{◌≡◌, sym, ap, subst, ◌∙◌, ⊎_elim, ℕ, nat_eq, eqb-true, true, List, Some, ◌||◌}
+use Rattle.std.proofs.Common.{arith, ◌≡◌, sym, ap, subst, ◌∙◌, ⊎_elim, ℕ, nat_eq, eqb-true, true, List, Some, ◌||◌}
+use Rattle.std.proofs.lemmas.Grind.{common_steps}
 use Rattle.std.proofs.lemmas.Bool.{or_left, or_right}
 use Rattle.std.proofs.lemmas.Option.{same_Some}
 use Rattle.vt_spec.specs.Language.Calls.{TaskName}
@@ -24,12 +25,7 @@ module _ (world : World ℕ) (names : List TaskName) (is : IsWorld nat_eq world)
       (is_at nat_eq (roots_and_directories (members world names)) ground.0) stood.1) ground.3
 
   ground_is : (m : Mount ℕ) → Among m world.mounts → nat_eq file.mount m.number ≡ true → ground.0 ≡ m
-  ground_is m n e = cc (
-    numbered world names is.mounts ground.0 ground.1,
-    ground.2,
-    eqb-true file.mount m.number e,
-    numbered world names is.mounts m n,
-  )
+  ground_is m n e = grind (arith, common_steps, numbered, eqb-true)
 
   pub whole_in_world : (m : Mount ℕ) → Among m world.mounts → nat_eq file.mount m.number ≡ true
       → (is_own world names (members world names) m

@@ -1,6 +1,7 @@
 -- Where mounts of a sealed set are detached, its mounts share no events with others, neither in the world nor in
 -- the part.
-use Rattle.std.proofs.Common.{◌≡◌, refl, sym, ap, ◌∙◌, ⊎_elim, ℕ, nat_eq, eq-eqb, Bool, true, false, cond, true≢false, List, Option, Some, None, length, not}
+use Rattle.std.proofs.Common.{arith, ◌≡◌, refl, sym, ap, ◌∙◌, ⊎_elim, ℕ, nat_eq, eq-eqb, Bool, true, false, cond, true≢false, List, Option, Some, None, length, not}
+use Rattle.std.proofs.lemmas.Grind.{common_steps}
 use Rattle.std.specs.List.{list_all, list_any}
 use Rattle.std.proofs.lemmas.Bool.{false_from_ne_true, or_from}
 use Rattle.vt_spec.specs.Language.Calls.{TaskName}
@@ -27,10 +28,7 @@ use Rattle.vt_laws_members.proofs.changes.letting_go.Taken.{all_last, set_stays}
 
 -- a member receives from its group
 group_source : (kind : Propagation ℕ) (g : ℕ) → group_of kind ≡ Some g → source_of kind ≡ Some g
-group_source (Shared h) g e = e
-group_source (Slave h) g e = none_is_some g e
-group_source Private g e = none_is_some g e
-group_source Unbindable g e = none_is_some g e
+group_source kind g e = grind (arith, common_steps, none_is_some)
 
 module _ (world : World ℕ) (names : List TaskName) (is : IsWorld nat_eq world)
     (sealed_off : sealed nat_eq world names ≡ true) (gone : List ℕ)
@@ -67,12 +65,7 @@ module _ (world : World ℕ) (names : List TaskName) (is : IsWorld nat_eq world)
 
   kind_after : (m : Mount ℕ) → is_going nat_eq gone m.number ≡ false
       → (after m).propagation ≡ cond b (inherited nat_eq t m.propagation) m.propagation
-  kind_after m e = ap (λ c. (ended_by b c t world gone m).propagation) e ∙ by b
-    where
-      by : (c : Bool) → (ended_by c false t world gone m).propagation
-          ≡ cond c (inherited nat_eq t m.propagation) m.propagation
-      by true = refl
-      by false = refl
+  kind_after m e = grind (arith, common_steps, ended_by)
 
   abbrev masters : Bool → Propagation ℕ → Option ℕ
   masters c (Shared s) = master_after c t s
@@ -81,10 +74,7 @@ module _ (world : World ℕ) (names : List TaskName) (is : IsWorld nat_eq world)
   masters c Unbindable = None
 
   told : (kind : Propagation ℕ) → master_of here kind ≡ masters b kind
-  told (Shared s) = refl
-  told (Slave s) = refl
-  told Private = refl
-  told Unbindable = refl
+  told kind = grind (arith, common_steps)
 
   -- what holds of a mount's source and up the masters holds of its master after
   module _ (P : ℕ → Type 0) (up : (g lower : ℕ) → world.master lower ≡ Some g → P lower → P g) where

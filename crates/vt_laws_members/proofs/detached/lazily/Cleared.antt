@@ -1,12 +1,12 @@
 -- Worlds that differ in the masters of groups without members have the same invariants of mounts, and the same goes.
-use Rattle.std.proofs.Common.{◌≡◌, refl, sym, ap, ◌∙◌, ℕ, zero, suc, nat_eq, Bool, true, false, cond, [], ◌∷◌, Option, Some, None, length}
-use Rattle.std.specs.Prelude.{option_map, unwrap_or}
+use Rattle.std.proofs.Common.{arith, ◌≡◌, refl, sym, ap, ◌∙◌, ℕ, zero, suc, nat_eq, Bool, true, false, cond, ◌∷◌, Option, Some, None, length}
+use Rattle.std.proofs.lemmas.Grind.{common_steps}
 use Rattle.vt_spec.specs.Lists.{chain, holds_of, is_among}
 use Rattle.vt_spec.specs.Machine.Attach.{receivers_of}
 use Rattle.vt_spec.specs.Machine.Detach.{going, going_at, going_from}
-use Rattle.vt_spec.specs.Machine.Invariants.{HasLivingGroups, Lives, MountInvariants, Stands}
+use Rattle.vt_spec.specs.Machine.Invariants.{HasLivingGroups, Lives, MountInvariants}
 use Rattle.vt_spec.specs.Machine.Invariants.Lives.{has_master, has_no_master}
-use Rattle.vt_spec.specs.Machine.Mounts.{Location, Mount, group_of, is_shared, source_of}
+use Rattle.vt_spec.specs.Machine.Mounts.{Location, Mount, is_shared, source_of}
 use Rattle.vt_spec.specs.Machine.Receives.{groups_up, has_members, receivers, receives}
 use Rattle.vt_spec.specs.Machine.Settled.{without_dead_groups}
 use Rattle.vt_spec.specs.Machine.World.{World, mount_at}
@@ -35,37 +35,17 @@ module _ (w : World ℕ) where
       has_master it next has (sym (master_same it has) ∙ e) (lives_before next later)
 
   pub cleared_keeps : MountInvariants nat_eq w → MountInvariants nat_eq cleared
-  cleared_keeps kept = record {
-    one_number = kept.one_number;
-    one_child = kept.one_child;
-    standing = all_from_among (λ (m : Mount ℕ). Stands nat_eq cleared m.number) w.mounts (λ m n.
-        stands_alike w cleared (λ number. refl) m.number
-        (among_from_all (λ (x : Mount ℕ). Stands nat_eq w x.number) w.mounts kept.standing m n));
-    nowhere = kept.nowhere;
-    groups = all_from_among (HasLivingGroups nat_eq cleared) w.mounts (λ m n group e.
-        lives_cleared group (among_from_all (HasLivingGroups nat_eq w) w.mounts kept.groups m n group e));
-  }
+  cleared_keeps kept = grind (arith, common_steps, all_from_among, stands_alike, among_from_all, lives_cleared)
 
   pub keeps_before : MountInvariants nat_eq cleared → MountInvariants nat_eq w
-  keeps_before kept = record {
-    one_number = kept.one_number;
-    one_child = kept.one_child;
-    standing = all_from_among (λ (m : Mount ℕ). Stands nat_eq w m.number) w.mounts (λ m n.
-        stands_alike cleared w (λ number. refl) m.number
-        (among_from_all (λ (x : Mount ℕ). Stands nat_eq cleared x.number) w.mounts kept.standing m n));
-    nowhere = kept.nowhere;
-    groups = all_from_among (HasLivingGroups nat_eq w) w.mounts (λ m n group e.
-        lives_before group (among_from_all (HasLivingGroups nat_eq cleared) w.mounts kept.groups m n group e));
-  }
+  keeps_before kept = grind (arith, common_steps, all_from_among, stands_alike, among_from_all, lives_before)
 
   -- what an event detaches
   chain_same : (n group : ℕ) → Lives members w.master group → chain n cleared.master group ≡ chain n w.master group
   chain_same zero group life = refl
-  chain_same (suc n) group (has_no_master it has e) =
-      chain_ends cleared.master n it (master_same it has ∙ e) ∙ sym (chain_ends w.master n it e)
+  chain_same (suc n) group (has_no_master it has e) = grind (arith, common_steps, chain_ends, master_same)
   chain_same (suc n) group (has_master it next has e later) =
-      chain_goes_on cleared.master n it next (master_same it has ∙ e) ∙ ap (λ l. it ∷ l) (chain_same n next later)
-      ∙ sym (chain_goes_on w.master n it next e)
+      grind (arith, common_steps, chain_goes_on, master_same, chain_same n next later)
 
   module _ (kept : MountInvariants nat_eq w) where
     receives_same : (group : ℕ) (m : Mount ℕ) → Among m w.mounts
@@ -81,13 +61,7 @@ module _ (w : World ℕ) where
             n source e))
 
     receivers_same : (m : Mount ℕ) → receivers_of nat_eq cleared m ≡ receivers_of nat_eq w m
-    receivers_same m = by (group_of m.propagation)
-      where
-        by : (o : Option ℕ)
-            → unwrap_or (option_map (receivers nat_eq cleared) o) [] ≡ unwrap_or (option_map (receivers nat_eq w) o) []
-        by None = refl
-        by (Some group) =
-            filter_alike (receives nat_eq cleared group) (receives nat_eq w group) w.mounts (receives_same group)
+    receivers_same m = grind (arith, common_steps, filter_alike, receives_same)
 
     pub going_same : (m : Mount ℕ) → going nat_eq cleared m ≡ going nat_eq w m
     going_same m = by m.mount_point

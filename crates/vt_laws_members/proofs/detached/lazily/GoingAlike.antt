@@ -1,6 +1,7 @@
 -- What an unmount event of a mount of theirs detaches is theirs, and the same in the part, as soon as mounts have their
 -- invariants and share no events with others.
-use Rattle.std.proofs.Common.{◌≡◌, refl, sym, ap, subst, ◌∙◌, ⊎_elim, inl, ℕ, nat_eq, Bool, true, false, true≢false, not, List, [], ◌∷◌, Option, Some, None, map, is_some, ◌&&◌, ◌||◌}
+use Rattle.std.proofs.Common.{arith, ◌≡◌, refl, sym, ap, subst, ◌∙◌, ⊎_elim, inl, ℕ, nat_eq, Bool, true, false, true≢false, not, List, [], ◌∷◌, Option, Some, None, map, is_some, ◌&&◌, ◌||◌}
+use Rattle.std.proofs.lemmas.Grind.{common_steps}
 use Rattle.std.specs.Prelude.{option_map, unwrap_or}
 use Rattle.std.specs.List.{filter_map}
 use Rattle.std.proofs.lemmas.Bool.{and_parts, or_left}
@@ -9,9 +10,8 @@ use Rattle.vt_spec.specs.Language.Calls.{TaskName}
 use Rattle.vt_spec.specs.Lists.{holds_of, is_among, then_some, when}
 use Rattle.vt_spec.specs.Machine.Attach.{receivers_of}
 use Rattle.vt_spec.specs.Machine.Detach.{going, going_at, going_from, goes_at, may_go}
-use Rattle.vt_spec.specs.Machine.Invariants.{MountInvariants, is_nowhere_or_attached, is_private}
-use Rattle.vt_spec.specs.Machine.Mounts.{Location, Mount, Propagation, child_at, children, group_of, is_shared, source_of, stands_at, stands_on}
-use Rattle.vt_spec.specs.Machine.Mounts.Propagation.{Private, Shared, Slave, Unbindable}
+use Rattle.vt_spec.specs.Machine.Invariants.{MountInvariants}
+use Rattle.vt_spec.specs.Machine.Mounts.{Location, Mount, child_at, children, group_of, is_shared, source_of, stands_at, stands_on}
 use Rattle.vt_spec.specs.Machine.Receives.{groups_up, receivers, receives}
 use Rattle.vt_spec.specs.Machine.Sealed.{is_at, is_own_mount, is_own_namespace, members, other_mounts, own_mounts, part_of, roots_and_directories, shares_no_events}
 use Rattle.vt_spec.specs.Machine.World.{Task, World, mount_at, mount_numbered}
@@ -31,16 +31,7 @@ use Rattle.vt_laws_members.proofs.judging.MountTrees.{stands_where}
 -- a mount in no namespace receives from no group
 alone_source : (world : World ℕ) (mount : Mount ℕ) → MountInvariants nat_eq world → Among mount world.mounts
     → mount.namespace ≡ None → source_of mount.propagation ≡ None
-alone_source world mount is m none = private_none mount.propagation
-    (and_parts (not (is_some mount.mount_point)) (is_private mount.propagation)
-    (sym (ap (λ n. is_some n || (not (is_some mount.mount_point) && is_private mount.propagation)) none)
-    ∙ among_from_list_all is_nowhere_or_attached world.mounts is.nowhere mount m)).1
-  where
-    private_none : (kind : Propagation ℕ) → is_private kind ≡ true → source_of kind ≡ None
-    private_none (Shared g) e = absurd (true≢false (sym e))
-    private_none (Slave g) e = absurd (true≢false (sym e))
-    private_none Private e = refl
-    private_none Unbindable e = absurd (true≢false (sym e))
+alone_source world mount is m none = grind (arith, common_steps, and_parts, among_from_list_all, true≢false)
 
 module _ (world : World ℕ) (names : List TaskName) (invariants : MountInvariants nat_eq world)
     (events : shares_no_events nat_eq world names ≡ true) where
@@ -191,22 +182,11 @@ module _ (world : World ℕ) (names : List TaskName) (invariants : MountInvarian
 
       by : (parent : Mount ℕ) → Among parent world.mounts → owns parent ≡ true → (b : Bool)
           → by_parent part parent b ≡ by_parent world parent b
-      by parent there its true = cc (
-        receivers_alike parent there its,
-        filter_map_same (goes_at nat_eq part point.node) (goes_at nat_eq world point.node) (receivers_of nat_eq
-            world parent) (λ receiver at. let t = receivers_own parent receiver there its at in goes_alike point.node
-            receiver t.0 t.1),
-      )
-      by parent there its false = refl
+      by parent there its b = grind (arith, common_steps, receivers_alike, filter_map_same, receivers_own, goes_alike)
 
   pub going_alike : (mount : Mount ℕ) → Among mount world.mounts → owns mount ≡ true
       → going nat_eq part mount ≡ going nat_eq world mount
-  going_alike mount m own = by mount.mount_point refl
-    where
-      by : (o : Option (Location ℕ)) → mount.mount_point ≡ o
-          → going_at nat_eq part mount o ≡ going_at nat_eq world mount o
-      by None e = refl
-      by (Some point) e = from_alike mount point m own e
+  going_alike mount m own = grind (arith, common_steps, from_alike)
 
   -- what goes is theirs
   goes_own : (node : ℕ) (receiver gone : Mount ℕ) → Among receiver world.mounts → owns receiver ≡ true

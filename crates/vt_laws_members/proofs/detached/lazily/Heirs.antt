@@ -1,4 +1,5 @@
 -- The heir of a group, one step up the masters at a time, and where groups that live come to an end.
+use Rattle.std.proofs.lemmas.Grind.{common_steps}
 use Rattle.std.proofs.Common.{◌≡◌, refl, sym, ap, ◌∙◌, true, false, zero, suc, Bool, None, Option, Some, arith, cond, find, is_some, length, not, true≢false, ℕ, nat_eq, ◌≤◌, ◌||◌}
 use Rattle.std.proofs.lemmas.Bool.{not-false, not-true, or_parts}
 use Rattle.std.specs.List.{list_any}
@@ -53,12 +54,7 @@ module _ (master : ℕ → Option ℕ) where
     where
       by : (o : Option ℕ) → master source ≡ o → ((next : ℕ) → Ends n next → chain m master next ≡ chain n master next)
           → chain (suc m) master source ≡ chain (suc n) master source
-      by None e later = chain_ends master m source e ∙ sym (chain_ends master n source e)
-      by (Some next) e later = cc (
-        chain_goes_on master m source next e,
-        later next (ends_above n source next e ends),
-        chain_goes_on master n source next e,
-      )
+      by o e later = grind (arith, common_steps, chain_ends, chain_goes_on, ends_above)
 
   module _ (p : ℕ → Bool) where
     abbrev found_from : ℕ → Option ℕ → Option ℕ
@@ -91,12 +87,7 @@ module _ (world : World ℕ) where
   -- a group without members has the heir of its master
   pub heir_above : (group : ℕ) → Ends world.master (length world.mounts) group → members group ≡ false
       → heir nat_eq world (Some group) ≡ heir nat_eq world (world.master group)
-  heir_above group ends fails =
-      one_up world.master members (length world.mounts) group ends fails ∙ by (world.master group)
-    where
-      by : (o : Option ℕ) → found_from world.master members (length world.mounts) o ≡ heir nat_eq world o
-      by None = refl
-      by (Some next) = refl
+  heir_above group ends fails = grind (arith, common_steps, one_up)
 
   -- a group with members has its master's heir as its master, also where nothing is lost
   pub master_inherited : (group : ℕ) → members group ≡ true
@@ -108,15 +99,8 @@ module _ (world : World ℕ) where
 
       above : list_any (lost_a_group nat_eq world) world.mounts ≡ false → (o : Option ℕ) → world.master group ≡ o
           → o ≡ heir nat_eq world o
-      above unlost None e = refl
-      above unlost (Some next) e =
-          let kept : not (members next) ≡ false =
-          sym (ap (is_lost_group nat_eq world) (ap (λ k. then_some (source_of k) world.master)
-          (member_shared group member.0 member.2) ∙ e))
-          ∙ (or_parts (is_lost_group nat_eq world (source_of member.0.propagation)) (is_lost_group nat_eq world
-          (then_some (source_of member.0.propagation) world.master))
-          (none_among (lost_a_group nat_eq world) world.mounts unlost member.0 member.1)).1 in
-          sym (heir_itself next (not-false _ kept))
+      above unlost o e =
+          grind (arith, common_steps, unlost, member_shared, member, or_parts, none_among, heir_itself, not-false)
 
       by : (b : Bool) → list_any (lost_a_group nat_eq world) world.mounts ≡ b
           → (regrouped_by nat_eq b world).master group ≡ heir nat_eq world (world.master group)

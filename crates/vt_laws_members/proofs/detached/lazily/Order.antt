@@ -1,13 +1,14 @@
 -- The events of a lazy unmount of a mount of theirs are the same in the part, in the same order.
+use Rattle.std.proofs.lemmas.Grind.{common_steps}
 use Rattle.std.proofs.Common.{◌≡◌, refl, sym, ap, subst, ◌∙◌, inl, inr, ⊎_elim, ℕ, zero, suc, nat_eq, arith, true, List, [], ◌∷◌, Option, Some, None, length, ◌≤◌}
-use Rattle.std.specs.Prelude.{if◌then◌else◌, nat_lt, option_map}
+use Rattle.std.specs.Prelude.{if◌then◌else◌, nat_lt}
 use Rattle.vt_spec.specs.Language.Calls.{TaskName}
 use Rattle.vt_spec.specs.Lists.{chain, folded}
 use Rattle.vt_spec.specs.Machine.Detach.{depth_of, insert_deepest}
 use Rattle.vt_spec.specs.Machine.Invariants.{IsWorld, MountInvariants}
 use Rattle.vt_spec.specs.Machine.Mounts.{Location, Mount, children, mount_tree, stands_on, tree_from}
 use Rattle.vt_spec.specs.Machine.Sealed.{members, part_of, sealed}
-use Rattle.vt_spec.specs.Machine.World.{Task, World, mount_at, mount_numbered}
+use Rattle.vt_spec.specs.Machine.World.{Task, World, mount_numbered}
 use Rattle.vt_spec.proofs.Lists.{Among, among-from_filter, among-from_flat_map, chain_ends}
 use Rattle.vt_spec.proofs.Worlds.{number-mount_in}
 use Rattle.vt_laws_mounts.specs.Mounts.Invariants.{OneNumberEach}
@@ -21,12 +22,7 @@ use Rattle.vt_laws_members.proofs.changes.letting_go.PartMounts.{part_mounts}
 
 -- a mount without a mount point has no ancestors
 depth_of_root : (w : World ℕ) (mount : Mount ℕ) → mount.mount_point ≡ None → depth_of nat_eq w mount ≡ 1
-depth_of_root w mount e = by (length w.mounts)
-  where
-    by : (n : ℕ) → length (chain n (λ (child : Mount ℕ). option_map (mount_at nat_eq w) child.mount_point) mount) ≡ 1
-    by zero = refl
-    by (suc n) = ap length (chain_ends (λ (child : Mount ℕ). option_map (mount_at nat_eq w) child.mount_point) n mount
-        (ap (option_map (mount_at nat_eq w)) e))
+depth_of_root w mount e = grind (arith, common_steps, chain_ends)
 
 -- another one is one deeper than its parent
 depth_of_child : (w : World ℕ) → OneNumberEach w → AllStand w → (k : ℕ) (place : Location ℕ)

@@ -1,5 +1,6 @@
 -- Mounts that are detached in two parts, one after the other: but for groups without members the world is the one from
 -- which all of them are detached at once.
+use Rattle.std.proofs.lemmas.Grind.{common_steps}
 use Rattle.std.proofs.Common.{◌≡◌, refl, sym, ap, subst, ◌∙◌, ℕ, zero, suc, arith, nat_eq, Bool, true, false, true≢false, ◌||◌, List, [], ◌∷◌, ◌++◌, map, length, Option, None, Some, option_map, ◌≤◌}
 use Rattle.std.proofs.lemmas.List.{length-map}
 use Rattle.std.proofs.lemmas.List.Folds.{list_any-append}
@@ -55,11 +56,7 @@ module _ (world : World ℕ) (first second : List ℕ) where
   goes_at_once number = list_any-append (nat_eq number) first second
 
   same_length : length left.mounts ≡ length world.mounts
-  same_length = cc (
-    length-map left.mounts (λ (mount : Mount ℕ). mount.number),
-    numbers_taken world first,
-    length-map world.mounts (λ (mount : Mount ℕ). mount.number),
-  )
+  same_length = grind (arith, common_steps, length-map, numbers_taken)
 
   -- Places
 
@@ -81,24 +78,12 @@ module _ (world : World ℕ) (first second : List ℕ) where
 
   -- on a root mount
   fall_from_root : (a b c : ℕ) (place : Location ℕ) → down place ≡ None → FallAlike a b c place
-  fall_from_root a b c place e = cc (
-    end-here falls a place (rests (is_going nat_eq first place.mount) (down place) e),
-    end-here falls_then b place (rests (is_going nat_eq second place.mount) (mount_at nat_eq left
-        place).mount_point (root_stays world first place.mount e)),
-    end-here falls_at_once c place (rests (is_going nat_eq (first ++ second) place.mount) (down place) e),
-  )
-    where
-      rests : (goes : Bool) (o : Option (Location ℕ)) → o ≡ None → (if goes then o else None) ≡ None
-      rests true o e = e
-      rests false o e = refl
+  fall_from_root a b c place e = grind (arith, common_steps, end-here, root_stays)
 
   -- on a mount that stays at first, and has fallen then
   fallen_point : (place below : Location ℕ) → is_going nat_eq first place.mount ≡ false → down place ≡ Some below
       → (mount_at nat_eq left place).mount_point ≡ Some (end_of falls (length world.mounts) below)
-  fallen_point place below stays e = ap (λ (mount : Mount ℕ). mount.mount_point) (taken world first place.mount)
-      ∙ ap (λ (mount : Mount ℕ). mount.mount_point) (staying_is_placed world first (mount_at nat_eq world place)
-      (ap (is_going nat_eq first) (number_found world.mounts place.mount) ∙ stays))
-      ∙ ap (option_map (mount_point_left nat_eq world first)) e
+  fallen_point place below stays e = grind (arith, common_steps, taken, staying_is_placed, number_found)
 
   fall_further : (a b c : ℕ) (place below : Location ℕ) → down place ≡ Some below
       → FallAlike a (suc b) c below → FallAlike (length world.mounts) b c below
@@ -192,10 +177,7 @@ module _ (world : World ℕ) (first second : List ℕ) where
   same_group : (one other : Bool) (fall fall_then fall_at_once : Location ℕ → Location ℕ) (mount : Mount ℕ)
       → group_if other fall_then (inheriting nat_eq firstly (gone_if one fall mount))
       ≡ group_if (one || other) fall_at_once mount
-  same_group true true fall fall_then fall_at_once mount = refl
-  same_group true false fall fall_then fall_at_once mount = refl
-  same_group false true fall fall_then fall_at_once mount = refl
-  same_group false false fall fall_then fall_at_once mount = group-inherited firstly mount.propagation
+  same_group one other fall fall_then fall_at_once mount = grind (arith, common_steps, group-inherited)
 
   abbrev twice : Mount ℕ → Mount ℕ
   twice mount = after_going nat_eq left second (inheriting nat_eq firstly (after_going nat_eq world first mount))
@@ -205,12 +187,7 @@ module _ (world : World ℕ) (first second : List ℕ) where
   twice_goes mount = ap (is_going nat_eq second) (number_after world first mount)
 
   mounts_then : secondly.mounts ≡ map twice world.mounts
-  mounts_then = cc (
-    mounts-regrouped firstly,
-    map_twice (after_going nat_eq left second) (inheriting nat_eq firstly) firstly.mounts,
-    map_twice (λ mount. after_going nat_eq left second (inheriting nat_eq firstly mount)) (after_going nat_eq world
-        first) world.mounts,
-  )
+  mounts_then = grind (arith, common_steps, mounts-regrouped, map_twice)
 
   members_alike : (f g : Mount ℕ → Mount ℕ)
       → ((mount : Mount ℕ) → group_of (f mount).propagation ≡ group_of (g mount).propagation)
@@ -402,15 +379,4 @@ module _ (world : World ℕ) (first second : List ℕ) where
 pub taken_twice : (world : World ℕ) (first second : List ℕ) → MountInvariants nat_eq world
     → without_dead_groups nat_eq (taken_away nat_eq (taken_away nat_eq world first) second)
     ≡ without_dead_groups nat_eq (taken_away nat_eq world (first ++ second))
-taken_twice world first second kept =
-    let one = all_but_mounts (taken_away nat_eq world first) second in
-    let before = all_but_mounts world first in
-    let all = all_but_mounts world (first ++ second) in
-    λ i. record {
-      mounts = same_mounts world first second kept i;
-      master = λ group. same_masters world first second kept group i;
-      filesystems = (one.filesystems ∙ before.filesystems ∙ sym all.filesystems) i;
-      namespaces = (one.namespaces ∙ before.namespaces ∙ sym all.namespaces) i;
-      tasks = (one.tasks ∙ before.tasks ∙ sym all.tasks) i;
-      change = (one.change ∙ before.change ∙ sym all.change) i;
-    }
+taken_twice world first second kept = grind (arith, common_steps, all_but_mounts, same_mounts, same_masters)

@@ -1,5 +1,6 @@
 -- What stands on a directory of theirs goes with it: the same mounts in the world and in the part, all of them theirs.
-use Rattle.std.proofs.Common.{◌≡◌, refl, sym, ap, subst, ◌∙◌, ⊎_elim, inl, ℕ, nat_eq, eq-eqb, Bool, true, false, true≢false, List, Option, Some, None, filter, flat_map, length, map, ◌&&◌}
+use Rattle.std.proofs.Common.{arith, ◌≡◌, refl, sym, ap, subst, ◌∙◌, ⊎_elim, inl, ℕ, nat_eq, eq-eqb, Bool, true, false, true≢false, List, Option, Some, None, filter, flat_map, length, map, ◌&&◌}
+use Rattle.std.proofs.lemmas.Grind.{common_steps}
 use Rattle.std.specs.List.{list_any}
 use Rattle.vt_spec.specs.Language.Calls.{TaskName}
 use Rattle.vt_spec.specs.Lists.{holds_of}
@@ -30,15 +31,7 @@ stands w points mount = list_any (λ (point : ℕ × ℕ). is_point nat_eq w poi
 -- so it has a mount point
 has_point : (w : World ℕ) (points : List (ℕ × ℕ)) (mount : Mount ℕ) → stands w points mount ≡ true
     → (l : Location ℕ) × (mount.mount_point ≡ Some l)
-has_point w points mount h =
-    let at = any_among (λ (point : ℕ × ℕ). is_point nat_eq w point.0 point.1 mount) points h in
-    by at.0 mount.mount_point refl at.2
-  where
-    by : (point : ℕ × ℕ) (o : Option (Location ℕ)) → mount.mount_point ≡ o
-        → holds_of (λ (l : Location ℕ). nat_eq l.node point.1
-        && nat_eq (mount_at nat_eq w l).filesystem point.0) o ≡ true → (l : Location ℕ) × (mount.mount_point ≡ Some l)
-    by point None e k = absurd (true≢false (sym k))
-    by point (Some l) e k = (l, e)
+has_point w points mount h = grind (arith, common_steps, any_among, true≢false)
 
 module _ (world : World ℕ) (names : List TaskName) (is : IsWorld nat_eq world) where
   abbrev theirs : List (Task ℕ)
@@ -149,22 +142,10 @@ module _ (world : World ℕ) (names : List TaskName) (is : IsWorld nat_eq world)
 
     pub own_go : (mount : Mount ℕ) → Among mount world.mounts → is_going nat_eq going_with mount.number ≡ true
         → owns mount ≡ true
-    own_go mount m h =
-        let its = goes_with mount m h in
-        let from = among-from_filter (stands world points) world.mounts its.0 its.1 in
-        own_by world names is.mounts mount its.0 its.2 (top_own its.0 from.0 from.1)
+    own_go mount m h = grind (arith, common_steps, goes_with, among-from_filter, own_by, top_own)
 
     -- where none of a task's namespace stands on the directory, what is in that namespace stays
     pub caller_stays : (task : Task ℕ) → is_mount_point_in nat_eq (looks_of nat_eq world) task.namespace gone ≡ false
         → (mount : Mount ℕ) → Among mount world.mounts → mount.namespace ≡ Some task.namespace
         → is_going nat_eq going_with mount.number ≡ false
-    caller_stays task none mount m placed = by (is_going nat_eq going_with mount.number) refl
-      where
-        by : (b : Bool) → is_going nat_eq going_with mount.number ≡ b → b ≡ false
-        by false e = refl
-        by true e =
-            let its = goes_with mount m e in
-            absurd (true≢false
-            (sym (any_from_among (λ (x : Mount ℕ). holds_of (nat_eq task.namespace) x.namespace) tops its.0 its.1
-            (ap (holds_of (nat_eq task.namespace)) (sym its.2 ∙ placed)
-            ∙ eq-eqb task.namespace task.namespace refl)) ∙ none))
+    caller_stays task none mount m placed = grind (arith, common_steps, goes_with, true≢false, any_from_among, eq-eqb)

@@ -1,5 +1,6 @@
 -- Where mounts of theirs go, but not the one of a location, its filesystem is used still, and it is seen as it was.
-use Rattle.std.proofs.Common.{◌≡◌, refl, sym, ap, subst, ◌∙◌, inl, inr, ⊎_elim, ℕ, nat_eq, eqb-true, Bool, true, false, cond, true≢false, List, [], ◌∷◌, Option, Some, find, map}
+use Rattle.std.proofs.Common.{arith, ◌≡◌, refl, sym, ap, subst, ◌∙◌, inl, inr, ⊎_elim, ℕ, nat_eq, eqb-true, Bool, true, false, true≢false, List, [], ◌∷◌, find, map}
+use Rattle.std.proofs.lemmas.Grind.{common_steps}
 use Rattle.std.specs.Prelude.{unwrap_or}
 use Rattle.std.specs.List.{list_any}
 use Rattle.vt_spec.specs.Language.Calls.{TaskName}
@@ -23,17 +24,7 @@ mapped_filesystem : (f : Mount ℕ → Mount ℕ) → ((m : Mount ℕ) → (f m)
     ≡ (unwrap_or (find (λ (m : Mount ℕ). nat_eq n m.number) list) (no_mount n)).filesystem
 mapped_filesystem f number filesystem n [] = refl
 mapped_filesystem f number filesystem n (x ∷ rest) =
-    cc (number x, by (nat_eq n x.number) (mapped_filesystem f number filesystem n rest))
-  where
-    pick : Bool → Mount ℕ → Option (Mount ℕ) → ℕ
-    pick b m o = (unwrap_or (cond b (Some m) o) (no_mount n)).filesystem
-
-    by : (b : Bool) → (unwrap_or (find (λ (m : Mount ℕ). nat_eq n m.number) (map f rest)) (no_mount n)).filesystem
-        ≡ (unwrap_or (find (λ (m : Mount ℕ). nat_eq n m.number) rest) (no_mount n)).filesystem
-        → pick b (f x) (find (λ (m : Mount ℕ). nat_eq n m.number) (map f rest))
-        ≡ pick b x (find (λ (m : Mount ℕ). nat_eq n m.number) rest)
-    by true later = filesystem x
-    by false later = later
+    grind (arith, common_steps, mapped_filesystem f number filesystem n rest)
 
 module _ (world : World ℕ) (names : List TaskName) (is : IsWorld nat_eq world)
     (sealed_off : sealed nat_eq world names ≡ true) (gone : List ℕ)

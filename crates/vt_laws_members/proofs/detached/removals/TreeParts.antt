@@ -1,6 +1,7 @@
 -- Where mounts of theirs go, and one plain tree that they use alone is another one, the part is what is left of the
 -- part.
-use Rattle.std.proofs.Common.{◌≡◌, refl, sym, ap, subst, ◌∙◌, ℕ, nat_eq, eqb-true, Bool, true, false, cond, true≢false, List, [], ◌∷◌, filter, map, not, ◌||◌}
+use Rattle.std.proofs.Common.{arith, ◌≡◌, refl, sym, ap, subst, ◌∙◌, ℕ, nat_eq, eqb-true, Bool, true, false, cond, true≢false, List, [], ◌∷◌, filter, map, not, ◌||◌}
+use Rattle.std.proofs.lemmas.Grind.{common_steps}
 use Rattle.std.specs.List.{list_any}
 use Rattle.vt_spec.specs.FileTree.{FileTree}
 use Rattle.vt_spec.specs.Language.Calls.{TaskName}
@@ -41,18 +42,10 @@ abbrev raise : ℕ → Filesystem ℕ → Filesystem ℕ
 raise number = raised_if_changed nat_eq (number ∷ [])
 
 raise_numbered : (number : ℕ) (x : Filesystem ℕ) → (raise number x).number ≡ x.number
-raise_numbered number x = by (list_any (λ n. nat_eq n x.number) (number ∷ []))
-  where
-    by : (b : Bool) → (cond b (record x { change = raised x.change }) x).number ≡ x.number
-    by true = refl
-    by false = refl
+raise_numbered number x = grind (arith, common_steps)
 
 raise_overlaid : (number : ℕ) (x : Filesystem ℕ) → (raise number x).overlay ≡ x.overlay
-raise_overlaid number x = by (list_any (λ n. nat_eq n x.number) (number ∷ []))
-  where
-    by : (b : Bool) → (cond b (record x { change = raised x.change }) x).overlay ≡ x.overlay
-    by true = refl
-    by false = refl
+raise_overlaid number x = grind (arith, common_steps)
 
 -- the other filesystems keep theirs
 apart_from : (number : ℕ) (used : List ℕ) → is_among nat_eq number used ≡ true → (k : ℕ)

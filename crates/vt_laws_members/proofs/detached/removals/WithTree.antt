@@ -1,5 +1,6 @@
 -- A world that is ready to be swept is so with another tree of one plain filesystem that the set uses alone.
-use Rattle.std.proofs.Common.{◌≡◌, refl, sym, ap, subst, ◌∙◌, ◌⊎◌, inl, inr, ⊎_elim, ℕ, nat_eq, eqb-true, Bool, true, false, cond, true≢false, List, [], ◌++◌, None, map}
+use Rattle.std.proofs.Common.{arith, ◌≡◌, refl, sym, ap, subst, ◌∙◌, ◌⊎◌, inl, inr, ⊎_elim, ℕ, nat_eq, eqb-true, Bool, true, false, cond, true≢false, List, [], ◌++◌, None, map}
+use Rattle.std.proofs.lemmas.Grind.{common_steps}
 use Rattle.std.specs.Prelude.{option_to_list}
 use Rattle.std.specs.List.{list_any}
 use Rattle.vt_spec.specs.FileTree.{FileTree}
@@ -17,19 +18,11 @@ use Rattle.vt_laws_members.proofs.changes.letting_go.Ready.{AllNamed, Alone, IsC
 
 -- the other tree is of the same filesystem
 pub swap_numbered : (old : Filesystem ℕ) (files : FileTree ℕ) (x : Filesystem ℕ) → (swap old files x).number ≡ x.number
-swap_numbered old files x = by (nat_eq old.number x.number) refl
-  where
-    by : (b : Bool) → nat_eq old.number x.number ≡ b → (cond b (with_files old files) x).number ≡ x.number
-    by true e = eqb-true old.number x.number e
-    by false e = refl
+swap_numbered old files x = grind (arith, common_steps, eqb-true)
 
 pub swap_overlaid : (old : Filesystem ℕ) (files : FileTree ℕ) (x : Filesystem ℕ)
     → (nat_eq old.number x.number ≡ true → x ≡ old) → (swap old files x).overlay ≡ x.overlay
-swap_overlaid old files x one = by (nat_eq old.number x.number) refl
-  where
-    by : (b : Bool) → nat_eq old.number x.number ≡ b → (cond b (with_files old files) x).overlay ≡ x.overlay
-    by true e = ap (λ (f : Filesystem ℕ). f.overlay) (sym (one e))
-    by false e = refl
+swap_overlaid old files x one = grind (arith, common_steps)
 
 pub swap_kept : (old : Filesystem ℕ) (files : FileTree ℕ) (x : Filesystem ℕ) → nat_eq old.number x.number ≡ false
     → swap old files x ≡ x
@@ -88,16 +81,7 @@ module _ (a : World ℕ) (set : List TaskName) (used : List ℕ) (lowers : List 
 
   plain_still : (y merged : Filesystem ℕ) → Among y later.filesystems → Among merged later.filesystems
       → has_layer_on nat_eq y.number merged ≡ true → y.overlay ≡ None
-  plain_still y merged m n has =
-      let one_of = was y m in
-      let two = was merged n in
-      cc (
-        one_of.2,
-        overlaid one_of.0 one_of.1,
-        it.plain one_of.0 two.0 one_of.1 two.1 (ap (λ k. has_layer_on nat_eq k two.0) (sym (ap (λ (f : Filesystem
-            ℕ). f.number) one_of.2 ∙ swap_numbered old files one_of.0)) ∙ sym (layered_was y.number two.0 two.1) ∙ ap
-            (has_layer_on nat_eq y.number) (sym two.2) ∙ has),
-      )
+  plain_still y merged m n has = grind (arith, common_steps, was, overlaid, swap_numbered, layered_was)
 
   cut_still : (y : Filesystem ℕ) → Among y later.filesystems → is_among nat_eq y.number used ≡ false
       → list_any (λ (layer : Layer ℕ). nat_eq y.number layer.filesystem) lowers ≡ true → IsCut y.number lowers y.files

@@ -1,6 +1,7 @@
 -- A change through an overlay makes the same in the part: lower layers of theirs show there what they show in the
 -- world.
-use Rattle.std.proofs.Common.{◌≡◌, refl, sym, ap, ◌∙◌, ℕ, suc, nat_eq, arith, Bool, true, false, cond, List, [], ◌∷◌, ◌++◌, Option, Some, None, is_some, map, not, option_and_then, subst, ◌+◌}
+use Rattle.std.proofs.lemmas.Grind.{common_steps}
+use Rattle.std.proofs.Common.{◌≡◌, refl, sym, ap, ◌∙◌, ℕ, suc, nat_eq, arith, Bool, true, false, cond, List, [], ◌∷◌, ◌++◌, Option, Some, None, is_some, map, not, option_and_then, ◌+◌}
 use Rattle.std.specs.List.{list_any, slice_get}
 use Rattle.std.specs.Prelude.{⊤}
 use Rattle.std.proofs.lemmas.Option.{same_Some}
@@ -9,7 +10,7 @@ use Rattle.vt_spec.specs.FileTree.{FileTree, is_kind_in}
 use Rattle.vt_spec.specs.Language.Changes.{Change, changed, content_with_parent, with_inode, with_moved, with_name}
 use Rattle.vt_spec.specs.Language.Changes.Change.{AddName, CopyUp, Make, Move, Remove, SetAttr, SetBytes, SetMark}
 use Rattle.vt_spec.specs.Lists.{Fresh, evens, holds_of, odds, prefixes, then_some, when, without_last}
-use Rattle.vt_spec.specs.Machine.CopyUp.{Merge, Stack, copied_up, hides_directory, is_directory_shown, merge_changed, name_left, name_left_by, path_to, shown_in_lowers_at, upper_directory_named, upper_of, whiteout_of, with_mark, with_real, without_contents}
+use Rattle.vt_spec.specs.Machine.CopyUp.{Merge, Stack, copied_up, hides_directory, is_directory_shown, merge_changed, name_left, path_to, shown_in_lowers_at, upper_directory_named, upper_of, with_mark, with_real, without_contents}
 use Rattle.vt_spec.specs.Machine.Layers.{OpenLayer, view_of}
 use Rattle.vt_spec.specs.Machine.Views.{Shown, cuts, hides, node_led, shown_from, shown_over}
 use Rattle.vt_spec.specs.Machine.World.Real.{Upper}
@@ -77,14 +78,7 @@ shown_alike (one ∷ ones) (other ∷ others) same depth path =
     by : (o : Option ℕ) → (view_of other).leads path ≡ o
         → shown_over (view_of one) depth o (cuts (view_of other) path) lower
         ≡ shown_over (view_of other) depth o (cuts (view_of other) path) lower
-    by None e = same_none (cuts (view_of other) path)
-      where
-        same_none : (b : Bool) → shown_over (view_of one) depth None b lower
-            ≡ shown_over (view_of other) depth None b lower
-        same_none true = refl
-        same_none false = refl
-    by (Some object) e = ap (λ n. when (not (is_kind_in White n)) (record { layer = depth; object = object }))
-        (node_same one other same.0 same.1 path object (leads_alike one other same.0 same.1 path ∙ e) e)
+    by o e = grind (arith, common_steps, node_same, leads_alike)
 
 -- of one kind
 abbrev is_directory_at : ℕ → OpenLayer ℕ → Bool
@@ -105,15 +99,7 @@ kind_alike (one ∷ ones) (other ∷ others) same depth path seen e =
         → when (not white) (record { layer = depth; object = object }) ≡ Some seen → (n : ℕ) × (seen.layer ≡ depth + n)
         × (holds_of (is_directory_at seen.object) (slice_get (one ∷ ones) n)
         ≡ holds_of (is_directory_at seen.object) (slice_get (other ∷ others) n))
-    first object there true h = none_is_some seen h
-    first object there false h =
-        let it = same_Some (record { layer = depth; object = object }) seen h in (
-          0,
-          (let zero_more : depth ≡ depth + 0 = omega arith in ap (λ (s : Shown ℕ). s.layer) (sym it) ∙ zero_more),
-          subst (λ (s : Shown ℕ). is_directory_at s.object one ≡ is_directory_at s.object other) it
-              (ap is_directory_node
-              (node_same one other same.0 same.1 path object (leads_alike one other same.0 same.1 path ∙ there) there)),
-        )
+    first object there white h = grind (arith, common_steps, none_is_some, same_Some, node_same, leads_alike)
 
     by : (o : Option ℕ) → (view_of other).leads path ≡ o → (b : Bool)
         → shown_over (view_of other) depth o b (shown_from (depth + 1) (map view_of others) path) ≡ Some seen
@@ -155,12 +141,7 @@ module _ (one other : Stack ℕ) (directory_same : one.directory ≡ other.direc
 
       of_seen : (o : Option (Shown ℕ)) → shown_from 1 (map view_of other.lowers) path ≡ o
           → is_directory_shown (top ∷ one.lowers) o ≡ is_directory_shown (top ∷ other.lowers) o
-      of_seen None e = refl
-      of_seen (Some seen) e =
-          let at = kind_alike one.lowers other.lowers same 1 path seen e in
-          let place : seen.layer ≡ suc at.0 = (let h : 1 + at.0 ≡ suc at.0 = omega arith in at.1 ∙ h) in
-          ap (λ n. holds_of (is_directory_at seen.object) (slice_get (top ∷ one.lowers) n)) place ∙ at.2
-          ∙ sym (ap (λ n. holds_of (is_directory_at seen.object) (slice_get (top ∷ other.lowers) n)) place)
+      of_seen o e = grind (arith, common_steps, kind_alike)
 
       by : (b : Bool)
           → is_directory_shown (top ∷ one.lowers) (cond b None (shown_from 1 (map view_of other.lowers) path))
@@ -170,16 +151,7 @@ module _ (one other : Stack ℕ) (directory_same : one.directory ≡ other.direc
 
   left_same : (fresh : Fresh ℕ) (merge : Merge ℕ) (upper : FileTree ℕ) (directory : ℕ) (name : List ℕ)
       → name_left nat_eq fresh one merge upper directory name ≡ name_left nat_eq fresh other merge upper directory name
-  left_same fresh merge upper directory name =
-      ap (λ o. name_left_by nat_eq (is_some o) fresh one upper (upper_of merge directory) name)
-      (lowers_shown merge directory name) ∙ by (is_some (shown_in_lowers_at nat_eq other merge directory name))
-    where
-      by : (b : Bool) → name_left_by nat_eq b fresh one upper (upper_of merge directory) name
-          ≡ name_left_by nat_eq b fresh other upper (upper_of merge directory) name
-      by true =
-          ap (λ m. with_name nat_eq (with_inode nat_eq upper (fresh 0) (whiteout_of m)) (upper_of merge directory) name
-          (fresh 0)) mounter_same
-      by false = refl
+  left_same fresh merge upper directory name = grind (arith, common_steps, lowers_shown)
 
   -- So a change makes the same of both.
   pub made_same : (fresh : Fresh ℕ) (merge : Merge ℕ) (change : Change ℕ)

@@ -1,5 +1,6 @@
 -- A granted call of theirs by which a name comes or goes through an overlay ends in the part as in the world.
-use Rattle.std.proofs.Common.{◌≡◌, refl, sym, ap, subst, ◌∙◌, ◌⊎◌, inl, inr, ⊎_elim, ℕ, nat_eq, eqb-true, Bool, true, false, true≢false, List, [], ◌∷◌, ◌++◌, Option, Some, None, Ok, is_some, map, filter}
+use Rattle.std.proofs.Common.{arith, ◌≡◌, refl, sym, ap, subst, ◌∙◌, ◌⊎◌, inl, inr, ⊎_elim, ℕ, nat_eq, eqb-true, Bool, true, false, true≢false, List, [], ◌∷◌, ◌++◌, Option, Some, Ok, is_some, map, filter}
+use Rattle.std.proofs.lemmas.Grind.{common_steps}
 use Rattle.std.specs.Prelude.{option_to_list}
 use Rattle.std.proofs.lemmas.Bool.{or_cases}
 use Rattle.vt_spec.specs.Language.Answers.{Answer}
@@ -37,11 +38,7 @@ use Rattle.vt_laws_members.proofs.overlay_names.names.SteppedAlike.{living, livi
 use Rattle.vt_laws_members.proofs.overlay_names.names.SteppedReady.{ChangesTheirs}
 
 overlay_test : (x : Filesystem ℕ) → is_overlay x ≡ of_overlay false (λ (o : Overlay ℕ). true) x
-overlay_test x = by x.overlay
-  where
-    by : (o : Option (Overlay ℕ)) → is_some o ≡ overlay_or false (λ (v : Overlay ℕ). true) o
-    by None = refl
-    by (Some overlay) = refl
+overlay_test x = grind (arith, common_steps)
 
 -- layers that have the same each
 all_alike : (one other : World ℕ) (list : List (Layer ℕ))

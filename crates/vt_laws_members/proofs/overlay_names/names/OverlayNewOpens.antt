@@ -1,6 +1,6 @@
 -- An open of theirs that makes the file through an overlay ends in the part as in the world.
-use Rattle.std.proofs.Common.{◌≡◌, refl, sym, ap, subst, ◌∙◌, inl, inr, ⊎_elim, ℕ, nat_eq, Bool, true, false, cond, true≢false, List, [], ◌∷◌, Option, Some, None, is_some, map, not}
-use Rattle.std.specs.Prelude.{nat_lt}
+use Rattle.std.proofs.Common.{arith, ◌≡◌, refl, sym, ap, subst, ◌∙◌, inl, inr, ⊎_elim, ℕ, nat_eq, true, false, cond, true≢false, List, [], ◌∷◌, Option, Some, None, is_some, map, not}
+use Rattle.std.proofs.lemmas.Grind.{common_steps}
 use Rattle.std.specs.List.{list_any}
 use Rattle.vt_spec.specs.Language.Answers.Answer.{Opened}
 use Rattle.vt_spec.specs.Language.Calls.{Access, Call, Creation, TaskName}
@@ -40,12 +40,7 @@ use Rattle.vt_laws_members.proofs.overlay_names.names.OverlayNaming.{changed_end
 -- a new descriptor is one of the task's
 new_inserted : (new : Descriptor ℕ) (list : List (Descriptor ℕ)) → Among new (inserted new list)
 new_inserted new [] = inl refl
-new_inserted new (first ∷ rest) = by (nat_lt new.number first.number) (new_inserted new rest)
-  where
-    by : (b : Bool) → Among new (inserted new rest)
-        → Among new (cond b (new ∷ first ∷ rest) (first ∷ inserted new rest))
-    by true later = inl refl
-    by false later = inr later
+new_inserted new (first ∷ rest) = grind (arith, common_steps, new_inserted new rest)
 
 -- The caller opens a file where members get.
 module _ (world : World ℕ) (names : List TaskName) (name : TaskName) (call : Call)

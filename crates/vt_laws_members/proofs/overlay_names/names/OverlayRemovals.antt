@@ -1,6 +1,7 @@
 -- A call of theirs that removes a directory, or that renames, through an overlay ends in the part as in the world, with
 -- the mounts on what goes.
-use Rattle.std.proofs.Common.{◌≡◌, refl, sym, ap, subst, ◌∙◌, ⊎_elim, ℕ, nat_eq, eqb-true, true, false, true≢false, List, [], Option, Some, None, Ok, is_some, ◌||◌}
+use Rattle.std.proofs.Common.{arith, ◌≡◌, refl, sym, ap, subst, ◌∙◌, ⊎_elim, ℕ, nat_eq, eqb-true, true, false, true≢false, List, [], Option, Some, None, Ok, is_some, ◌||◌}
+use Rattle.std.proofs.lemmas.Grind.{common_steps}
 use Rattle.std.specs.Prelude.{option_map, option_to_list}
 use Rattle.std.specs.List.{list_all}
 use Rattle.std.proofs.lemmas.Bool.{and_parts}
@@ -12,7 +13,7 @@ use Rattle.vt_spec.specs.Language.Changes.Change.{Move, Remove}
 use Rattle.vt_spec.specs.Lists.{Fresh, holds_of, is_among, then_some}
 use Rattle.vt_spec.specs.Machine.Apply.{overfills}
 use Rattle.vt_spec.specs.Machine.Detach.{is_going, mounts_on, points_of, taken_away, upper_points, without_mounts_on}
-use Rattle.vt_spec.specs.Machine.Filesystems.{changed_at, filesystem_changed, numbers_of_change, numbers_over, overlay_changed, with_change}
+use Rattle.vt_spec.specs.Machine.Filesystems.{changed_at, with_change}
 use Rattle.vt_spec.specs.Machine.Invariants.{IsWorld, MountInvariants}
 use Rattle.vt_spec.specs.Machine.Judge.{judge_in}
 use Rattle.vt_spec.specs.Machine.Locked.{is_locked_at, overlay_or}
@@ -21,7 +22,7 @@ use Rattle.vt_spec.specs.Machine.Mounts.{Location, Mount}
 use Rattle.vt_spec.specs.Machine.Outcomes.{granted}
 use Rattle.vt_spec.specs.Machine.Permits.{Permit}
 use Rattle.vt_spec.specs.Machine.Permits.Permit.{ToRemoveDirectory, ToRename}
-use Rattle.vt_spec.specs.Machine.Policy.{finished, finished_by, numbers_raised, only_looks}
+use Rattle.vt_spec.specs.Machine.Policy.{finished, numbers_raised, only_looks}
 use Rattle.vt_spec.specs.Machine.Rules.Conditions.{is_mount_point_in}
 use Rattle.vt_spec.specs.Machine.Run.{Serves}
 use Rattle.vt_spec.specs.Machine.Sealed.{is_own_namespace, members, part_of, sealed, used_alone, used_directly, used_filesystems}
@@ -66,14 +67,7 @@ unwritten_after : (before w : World ℕ) (name : TaskName) (call : Call) (supply
     (granted Done (with_change nat_eq supply w location change))
     ≡ granted Done (numbers_raised nat_eq before name [] (settled nat_eq w))
 unwritten_after before w name call supply location change merged overlay looks same overlaid none =
-    ap (λ b. finished_by nat_eq (b || false) before name (changed_at nat_eq w location)
-    (granted Done (with_change nat_eq supply w location change))) looks
-    ∙ ap (λ f. granted Done (numbers_raised nat_eq before name (numbers_of_change nat_eq w f f.overlay)
-    (settled nat_eq (filesystem_changed nat_eq supply w f f.overlay change)))) same
-    ∙ ap (λ o. granted Done (numbers_raised nat_eq before name (numbers_of_change nat_eq w merged o)
-    (settled nat_eq (filesystem_changed nat_eq supply w merged o change)))) overlaid
-    ∙ ap (λ u. granted Done (numbers_raised nat_eq before name (numbers_over nat_eq w merged u)
-    (settled nat_eq (overlay_changed nat_eq supply w merged overlay u change)))) none
+    grind (arith, common_steps)
 
 -- What stands for a directory of an overlay is in filesystems that they use alone.
 module _ (world : World ℕ) (names : List TaskName) (is : IsWorld nat_eq world)

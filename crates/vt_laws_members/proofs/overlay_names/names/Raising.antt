@@ -1,5 +1,6 @@
 -- Where the change numbers of filesystems of a set are raised last, the part has them raised.
-use Rattle.std.proofs.Common.{◌≡◌, refl, sym, ap, ◌∙◌, ℕ, nat_eq, eqb-true, Bool, true, false, cond, true≢false, List, filter, map}
+use Rattle.std.proofs.Common.{arith, ◌≡◌, refl, sym, ap, ◌∙◌, ℕ, nat_eq, eqb-true, Bool, true, false, cond, true≢false, List, filter, map}
+use Rattle.std.proofs.lemmas.Grind.{common_steps}
 use Rattle.std.specs.List.{list_any}
 use Rattle.vt_spec.specs.Language.Calls.{TaskName}
 use Rattle.vt_spec.specs.Lists.{is_among}
@@ -26,11 +27,7 @@ module _ (w : World ℕ) (set : List TaskName) (used : List ℕ) (lowers : List 
   raise_keeps : {A : Type 0} (what : Filesystem ℕ → A)
       → ((x : Filesystem ℕ) → what (record x { change = raised x.change }) ≡ what x) → (x : Filesystem ℕ)
       → what (raise x) ≡ what x
-  raise_keeps {A} what same x = by (list_any (λ n. nat_eq n x.number) numbers)
-    where
-      by : (b : Bool) → what (cond b (record x { change = raised x.change }) x) ≡ what x
-      by true = same x
-      by false = refl
+  raise_keeps what same x = grind (arith, common_steps)
 
   raise_kept : (x : Filesystem ℕ) → is_among nat_eq x.number (used_filesystems nat_eq (settled nat_eq w) set) ≡ false
       → raise x ≡ x

@@ -1,11 +1,12 @@
 -- Where filesystems change that a sealed set uses alone, the world and the part leave it one part.
-use Rattle.std.proofs.Common.{◌≡◌, sym, ap, subst, ◌∙◌, refl, ℕ, nat_eq, true, List, Some, Ok, filter, map}
+use Rattle.std.proofs.Common.{arith, ◌≡◌, sym, ap, ◌∙◌, ℕ, nat_eq, true, List, Some, Ok, filter, map}
+use Rattle.std.proofs.lemmas.Grind.{common_steps}
 use Rattle.vt_spec.specs.Language.Answers.{Answer}
 use Rattle.vt_spec.specs.Language.Calls.{Call, TaskName}
 use Rattle.vt_spec.specs.Lists.{Fresh, is_among}
 use Rattle.vt_spec.specs.Machine.Filesystems.{raised_if_changed}
 use Rattle.vt_spec.specs.Machine.Outcomes.{granted}
-use Rattle.vt_spec.specs.Machine.Policy.{numbers_raised, policy, raised_task}
+use Rattle.vt_spec.specs.Machine.Policy.{numbers_raised, raised_task}
 use Rattle.vt_spec.specs.Machine.Sealed.{is_member_task, is_own_namespace, own_lowers, part_of, used_filesystems}
 use Rattle.vt_spec.specs.Machine.Settled.{settled, without_dead_mounts}
 use Rattle.vt_spec.specs.Machine.World.{Filesystem, Layer, Namespace, Task, World, task_called}
@@ -13,7 +14,7 @@ use Rattle.vt_spec.proofs.Lists.{Among}
 use Rattle.vt_laws_mounts.specs.LettingGo.InUse.{AllInUse}
 use Rattle.vt_laws_mounts.specs.LettingGo.TreesOverlays.{with_filesystems}
 use Rattle.vt_laws_mounts.proofs.letting_go.sweeps.OfWorlds.{all_in_use}
-use Rattle.vt_laws_members.specs.Changes.Changes.{EndAlike, EndsAlike, IsCallOfTheirs, grown}
+use Rattle.vt_laws_members.specs.Changes.Changes.{EndsAlike, IsCallOfTheirs, grown}
 use Rattle.vt_laws_members.proofs.changes.files.FilesChanged.{part_with_layers}
 use Rattle.vt_laws_members.proofs.changes.letting_go.Changed.{LetsGo, sees_less}
 use Rattle.vt_laws_members.proofs.changes.letting_go.Ends.{private_in_part, private_in_world, raised_members}
@@ -133,12 +134,4 @@ module _ (world : World ℕ) (names set : List TaskName) (name : TaskName) (call
             → ran name call part other (Some task) ≡ granted answer ends_there
             → EndsAlike world names name call fresh other
         stepped_ends task called fresh other answer stays one two =
-            let first : policy nat_eq fresh world name call ≡ granted answer ends_here =
-            ap (ran name call world fresh) called ∙ one in
-            let second : policy nat_eq other part name call ≡ granted answer ends_there =
-            ap (ran name call part other) (same_caller world names it.is it.sealed_off name it.theirs ∙ called) ∙ two in
-            subst (λ p. EndAlike (grown names name call (policy nat_eq fresh world name call).answer)
-            (policy nat_eq fresh world name call) p) (sym second)
-            (subst (λ o. EndAlike (grown names name call o.answer) o (granted answer ends_there)) (sym first)
-            (subst (λ s. EndAlike s (granted answer ends_here) (granted answer ends_there)) (sym stays)
-            (record { answer = refl; part = parts_left })))
+            grind (arith, common_steps, ran, same_caller, parts_left)

@@ -1,6 +1,7 @@
 -- A world of which a set sees the sweep by its part alone is still one after filesystems that the set uses alone
 -- change.
-use Rattle.std.proofs.Common.{◌≡◌, sym, ap, subst, ◌∙◌, ◌⊎◌, inl, inr, ⊎_elim, ℕ, nat_eq, true, false, List, [], None, is_some}
+use Rattle.std.proofs.Common.{arith, ◌≡◌, sym, ap, subst, ◌∙◌, ◌⊎◌, inl, inr, ⊎_elim, ℕ, nat_eq, true, false, List, [], None, is_some}
+use Rattle.std.proofs.lemmas.Grind.{common_steps}
 use Rattle.std.specs.List.{list_any}
 use Rattle.vt_spec.specs.Language.Calls.{TaskName}
 use Rattle.vt_spec.specs.Lists.{is_among}
@@ -44,10 +45,7 @@ module _ (a : World ℕ) (set : List TaskName) (used : List ℕ) (lowers : List 
       ∙ sym (layers_on a n (step x)) ∙ h
 
   nobody_still : (n k : ℕ) → n ≡ k → NoOthers a set n → NoOthers later set k
-  nobody_still n k same none = record {
-    mounts = λ m at e. none.mounts m at (e ∙ sym same);
-    locations = λ l at e. none.locations l at (e ∙ sym same);
-  }
+  nobody_still n k same none = grind (arith, common_steps)
 
   alone_still : (n k : ℕ) → n ≡ k → Alone a set n → Alone later set k
   alone_still n k same alone = record {

@@ -1,17 +1,16 @@
 -- Events of groups of others reach no mount of a sealed set.
 use Rattle.std.proofs.lemmas.Grind.{common_steps}
-use Rattle.std.proofs.Common.{◌≡◌, refl, sym, ap, subst, ◌∙◌, ◌⊎◌, inl, inr, ⊎_elim, ℕ, nat_eq, Bool, true, false, true≢false, List, Option, Some, None, is_some, length, not, ◌||◌, ◌&&◌, eq-eqb, arith}
+use Rattle.std.proofs.Common.{◌≡◌, refl, sym, ap, subst, ◌∙◌, ◌⊎◌, inr, ⊎_elim, ℕ, nat_eq, true, false, true≢false, List, Option, Some, None, is_some, length, not, ◌||◌, ◌&&◌, eq-eqb, arith}
 use Rattle.std.specs.List.{list_all}
 use Rattle.std.proofs.lemmas.Bool.{and_parts, false_from_ne_true, not-true, or_left, or_right}
 use Rattle.std.proofs.lemmas.Option.{same_Some}
 use Rattle.vt_spec.specs.Lists.{holds_of, is_among}
 use Rattle.vt_spec.specs.Language.Calls.{TaskName}
-use Rattle.vt_spec.specs.Machine.Invariants.{HasLivingGroups, Lives, MountInvariants, is_nowhere_or_attached, is_private}
+use Rattle.vt_spec.specs.Machine.Invariants.{HasLivingGroups, Lives, MountInvariants}
 use Rattle.vt_spec.specs.Machine.Invariants.Lives.{has_master, has_no_master}
 use Rattle.vt_spec.specs.Machine.Mounts.{Mount, Propagation, group_of, source_of}
-use Rattle.vt_spec.specs.Machine.Mounts.Propagation.{Private, Shared, Slave, Unbindable}
 use Rattle.vt_spec.specs.Machine.Receives.{groups_up, has_members, is_member_of, receives}
-use Rattle.vt_spec.specs.Machine.Sealed.{is_own_mount, is_own_namespace, master_of, other_mounts, own_mounts, receives_events_of, share_events, shares_no_events}
+use Rattle.vt_spec.specs.Machine.Sealed.{is_own_mount, master_of, other_mounts, own_mounts, receives_events_of, shares_no_events}
 use Rattle.vt_spec.specs.Machine.World.{World}
 use Rattle.vt_spec.proofs.Lists.{Among, among-filter, among-from_filter, among_from_all, among_from_contains, among_from_list_all, any_among}
 use Rattle.vt_spec.proofs.Options.{none_is_some}
@@ -34,46 +33,14 @@ module _ (world : World ℕ) (names : List TaskName) (is : MountInvariants nat_e
   -- no mount of another namespace is a member
   pub none_hears : (group : ℕ) (other : Mount ℕ) → Hears group → Among other (other_mounts nat_eq world names)
       → is_member_of nat_eq group other ≡ true → ⊥
-  none_hears group other (own, m, how) there is_in =
-      let alone = among_from_list_all
-      (λ o. list_all (λ b. not (share_events nat_eq world o b)) (other_mounts nat_eq world names))
-      (own_mounts nat_eq world names) apart own m in
-      let no = not-true _ (among_from_list_all (λ b. not (share_events nat_eq world own b))
-      (other_mounts nat_eq world names) alone other there) in
-      true≢false (sym (or_left (receives_events_of nat_eq world own other) _ (hears group own other how is_in)) ∙ no)
+  none_hears group other known there is_in =
+      grind (arith, common_steps, among_from_list_all, not-true, true≢false, or_left, hears)
 
   -- a mount that is a member of a group is attached, in a namespace of theirs or in another
   pub sides : (member : Mount ℕ) (group : ℕ) → Among member world.mounts → group_of member.propagation ≡ Some group
       → Among member (own_mounts nat_eq world names) ⊎ Among member (other_mounts nat_eq world names)
-  sides member group m e = by member.namespace refl
-    where
-      by : (namespace : Option ℕ) → member.namespace ≡ namespace
-          → Among member (own_mounts nat_eq world names) ⊎ Among member (other_mounts nat_eq world names)
-      by None none = absurd (outside member.propagation refl none
-          (among_from_list_all is_nowhere_or_attached world.mounts is.nowhere member m))
-        where
-          outside : (kind : Propagation ℕ) → member.propagation ≡ kind → member.namespace ≡ None
-              → is_nowhere_or_attached member ≡ true → ⊥
-          outside kind k n there = private_alone kind (sym (ap group_of k) ∙ e)
-              (sym (ap (λ x. is_some x || (not (is_some member.mount_point) && is_private member.propagation)) n
-              ∙ ap (λ x. not (is_some member.mount_point) && is_private x) k) ∙ there)
-            where
-              private_alone : (kind : Propagation ℕ) → group_of kind ≡ Some group
-                  → (not (is_some member.mount_point) && is_private kind) ≡ true → ⊥
-              private_alone (Shared g) h p = true≢false (sym (and_parts (not (is_some member.mount_point)) false p).1)
-              private_alone (Slave g) h p = none_is_some group h
-              private_alone Private h p = none_is_some group h
-              private_alone Unbindable h p = none_is_some group h
-      by (Some namespace) there = which (is_own_namespace nat_eq world names namespace) refl
-        where
-          which : (b : Bool) → is_own_namespace nat_eq world names namespace ≡ b
-              → Among member (own_mounts nat_eq world names) ⊎ Among member (other_mounts nat_eq world names)
-          which true own = inl (among-filter (is_own_mount nat_eq world names) world.mounts member m
-              (ap (holds_of (is_own_namespace nat_eq world names)) there ∙ own))
-          which false other =
-              inr (among-filter (λ mount. holds_of (λ n. not (is_own_namespace nat_eq world names n)) mount.namespace)
-              world.mounts member m
-              (ap (holds_of (λ n. not (is_own_namespace nat_eq world names n))) there ∙ ap not other))
+  sides member group m e =
+      grind (arith, common_steps, among_from_list_all, true≢false, and_parts, none_is_some, among-filter)
 
   -- a group that is heard and lives has a member of theirs
   abbrev HeardAndLives : ℕ → Type 0
@@ -105,10 +72,7 @@ module _ (world : World ℕ) (names : List TaskName) (is : MountInvariants nat_e
       member_group g mount h = grind (arith, common_steps, true≢false)
 
       master_by : (kind : Propagation ℕ) → group_of kind ≡ Some lower → master_of world kind ≡ Some group
-      master_by (Shared g) h = ap world.master (same_Some g lower h) ∙ e
-      master_by (Slave g) h = absurd (none_is_some lower h)
-      master_by Private h = absurd (none_is_some lower h)
-      master_by Unbindable h = absurd (none_is_some lower h)
+      master_by kind h = grind (arith, common_steps, same_Some, none_is_some)
 
   -- a mount of theirs that receives from a group hears one of its members, or is one
   pub heard_by : (group : ℕ) (own : Mount ℕ) → Among own (own_mounts nat_eq world names)
@@ -117,10 +81,7 @@ module _ (world : World ℕ) (names : List TaskName) (is : MountInvariants nat_e
     where
       start : (source : ℕ) (kind : Propagation ℕ) → source_of kind ≡ Some source
           → (group_of kind ≡ Some source) ⊎ (master_of world kind ≡ Some source)
-      start source (Shared g) e = inl e
-      start source (Slave g) e = inr e
-      start source Private e = none_is_some source e
-      start source Unbindable e = none_is_some source e
+      start source kind e = grind (arith, common_steps, none_is_some)
 
       by : (o : Option ℕ) → source_of own.propagation ≡ o
           → holds_of (λ source. is_among nat_eq group (groups_up world source)) o ≡ true → HeardAndLives group

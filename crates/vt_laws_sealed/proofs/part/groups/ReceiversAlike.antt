@@ -1,19 +1,17 @@
 -- The receivers of a group of theirs are the same in the world and in the part.
 use Rattle.std.proofs.lemmas.Grind.{common_steps}
-use Rattle.std.proofs.Common.{◌≡◌, refl, sym, ap, subst, ◌∙◌, ◌⊎◌, inl, inr, ⊎_elim, ℕ, nat_eq, Bool, true, false, cond, true≢false, List, [], ◌∷◌, Option, Some, None, filter, is_some, length, map, not, ◌||◌, ◌&&◌, ◌≤◌, arith}
+use Rattle.std.proofs.Common.{◌≡◌, refl, sym, ap, ◌∙◌, ◌⊎◌, inl, inr, ⊎_elim, ℕ, nat_eq, true, false, cond, true≢false, List, [], ◌∷◌, Option, Some, None, filter, is_some, length, map, not, ◌||◌, ◌&&◌, ◌≤◌, arith}
 use Rattle.std.specs.Prelude.{unwrap_or}
-use Rattle.std.specs.List.{filter_map, list_all, list_any}
+use Rattle.std.specs.List.{filter_map, list_all}
 use Rattle.std.proofs.lemmas.Bool.{and_parts, false_from_ne_true, not-true, or_left, or_right}
-use Rattle.std.proofs.lemmas.List.{length-map}
 use Rattle.std.proofs.lemmas.Option.{same_Some}
 use Rattle.vt_spec.specs.Language.Calls.{TaskName}
 use Rattle.vt_spec.specs.Lists.{holds_of, is_among, when}
-use Rattle.vt_spec.specs.Machine.Invariants.{HasLivingGroups, Lives, MountInvariants, is_nowhere_or_attached, is_private}
+use Rattle.vt_spec.specs.Machine.Invariants.{HasLivingGroups, Lives, MountInvariants}
 use Rattle.vt_spec.specs.Machine.Invariants.Lives.{has_master, has_no_master}
 use Rattle.vt_spec.specs.Machine.Mounts.{Mount, Propagation, group_of, source_of}
-use Rattle.vt_spec.specs.Machine.Mounts.Propagation.{Private, Shared, Slave, Unbindable}
 use Rattle.vt_spec.specs.Machine.Receives.{groups_up, has_members, is_member_of, receivers, receives}
-use Rattle.vt_spec.specs.Machine.Sealed.{is_at, is_own_mount, is_own_namespace, locations, master_of, members, other_mounts, own_mounts, part_of, receives_events_of, roots_and_directories, seen_by_descriptor, share_events, shares_no_events}
+use Rattle.vt_spec.specs.Machine.Sealed.{is_at, is_own_mount, is_own_namespace, locations, master_of, members, other_mounts, own_mounts, part_of, roots_and_directories, seen_by_descriptor, shares_no_events}
 use Rattle.vt_spec.specs.Machine.World.{Task, World}
 use Rattle.vt_spec.proofs.Lists.{Among, among-filter, among-from_filter, among-map, among_from_all, among_from_contains, among_from_list_all, any_among, any_from_among}
 use Rattle.vt_spec.proofs.Options.{none_is_some}
@@ -30,18 +28,12 @@ member_group g mount h = grind (arith, common_steps, true≢false)
 
 pub master_by : (world : World ℕ) (lower group : ℕ) → world.master lower ≡ Some group → (kind : Propagation ℕ)
     → group_of kind ≡ Some lower → master_of world kind ≡ Some group
-master_by world lower group e (Shared g) h = ap world.master (same_Some g lower h) ∙ e
-master_by world lower group e (Slave g) h = none_is_some lower h
-master_by world lower group e Private h = none_is_some lower h
-master_by world lower group e Unbindable h = none_is_some lower h
+master_by world lower group e kind h = grind (arith, common_steps, same_Some, none_is_some)
 
 -- a mount hears the group that it receives from
 pub start_hears : (world : World ℕ) (source : ℕ) (kind : Propagation ℕ) → source_of kind ≡ Some source
     → (group_of kind ≡ Some source) ⊎ (master_of world kind ≡ Some source)
-start_hears world source (Shared g) e = inl e
-start_hears world source (Slave g) e = inr e
-start_hears world source Private e = none_is_some source e
-start_hears world source Unbindable e = none_is_some source e
+start_hears world source kind e = grind (arith, common_steps, none_is_some)
 
 module _ (world : World ℕ) (names : List TaskName) (is : MountInvariants nat_eq world)
     (apart : shares_no_events nat_eq world names ≡ true) where
@@ -73,14 +65,8 @@ module _ (world : World ℕ) (names : List TaskName) (is : MountInvariants nat_e
 
   pub none_other : (group : ℕ) (own : Mount ℕ) → OtherHears group → Among own owns
       → is_member_of nat_eq group own ≡ true → ⊥
-  none_other group own (other, m, how) there is_in =
-      let alone = among_from_list_all
-      (λ o. list_all (λ b. not (share_events nat_eq world o b)) others) owns apart own there in
-      let no = not-true _ (among_from_list_all (λ b. not (share_events nat_eq world own b)) others alone other m) in
-      let hears : receives_events_of nat_eq world other own ≡ true = ⊎_elim
-      (λ e. or_left _ _ (ap (holds_of (λ g. is_member_of nat_eq g own)) e ∙ is_in))
-      (λ e. or_right _ _ (ap (holds_of (λ g. is_member_of nat_eq g own)) e ∙ is_in)) how in
-      true≢false (sym (or_right (receives_events_of nat_eq world own other) _ hears) ∙ no)
+  none_other group own known there is_in =
+      grind (arith, common_steps, among_from_list_all, not-true, or_left, or_right, true≢false)
 
   abbrev pub OtherLives : ℕ → Type 0
   OtherLives group = OtherHears group × Living group
@@ -128,10 +114,7 @@ module _ (world : World ℕ) (names : List TaskName) (is : MountInvariants nat_e
   group_numbers = map (λ (mount : Mount ℕ). unwrap_or (group_of mount.propagation) 0) owns
 
   listed : (group : ℕ) → OwnHears group → Living group → Among group group_numbers
-  listed group heard lives =
-      let own = own_member group heard lives in
-      subst (λ n. Among n group_numbers) (ap (λ o. unwrap_or o 0) (member_group group own.0 own.2))
-      (among-map (λ (mount : Mount ℕ). unwrap_or (group_of mount.propagation) 0) owns own.0 own.1)
+  listed group heard lives = grind (arith, common_steps, own_member, member_group, among-map)
 
   same_master : (group : ℕ) → OwnHears group → Living group → part.master group ≡ world.master group
   same_master group heard lives =
@@ -154,12 +137,7 @@ module _ (world : World ℕ) (names : List TaskName) (is : MountInvariants nat_e
   -- the groups up from a group of theirs
   pub same_up : (group : ℕ) → OwnHears group → Living group → groups_up part group ≡ groups_up world group
   same_up group heard lives =
-      let count = length-map owns (λ (mount : Mount ℕ). unwrap_or (group_of mount.propagation) 0) in
-      let few = own_fewer world.mounts in
-      let fewer = length-filter_map kept world.mounts in
-      sym (chains_alike world.master part.master (λ g. g) group_numbers (λ a b e. ap world.master e)
-      (length world.mounts) (length part.mounts) group (way group heard lives)
-      (omega (arith, count, few, fewer)) (omega (arith, count, few)))
+      grind (arith, common_steps, own_fewer world.mounts, length-filter_map kept world.mounts, chains_alike, way)
 
   -- an own mount receives alike
   same_receives : (group : ℕ) (own : Mount ℕ) → Among own owns → Among own world.mounts
@@ -177,32 +155,7 @@ module _ (world : World ℕ) (names : List TaskName) (is : MountInvariants nat_e
   -- a mount is theirs, in another namespace, or in none and private
   place_of : (x : Mount ℕ) → Among x world.mounts
       → (Among x owns × (is_own world names theirs x ≡ true)) ⊎ (Among x others ⊎ (source_of x.propagation ≡ None))
-  place_of x m = by x.namespace refl
-    where
-      private_none : (kind : Propagation ℕ) → is_private kind ≡ true → source_of kind ≡ None
-      private_none (Shared g) e = absurd (true≢false (sym e))
-      private_none (Slave g) e = absurd (true≢false (sym e))
-      private_none Private e = refl
-      private_none Unbindable e = refl
-
-      by : (n : Option ℕ) → x.namespace ≡ n
-          → (Among x owns × (is_own world names theirs x ≡ true)) ⊎ (Among x others ⊎ (source_of x.propagation ≡ None))
-      by None e =
-          inr (inr (private_none x.propagation (and_parts (not (is_some x.mount_point)) (is_private x.propagation)
-          (sym (ap (λ n. is_some n || (not (is_some x.mount_point) && is_private x.propagation)) e)
-          ∙ among_from_list_all is_nowhere_or_attached world.mounts is.nowhere x m)).1))
-      by (Some n) e = which (is_own_namespace nat_eq world names n) refl
-        where
-          which : (b : Bool) → is_own_namespace nat_eq world names n ≡ b
-              → (Among x owns × (is_own world names theirs x ≡ true))
-              ⊎ (Among x others ⊎ (source_of x.propagation ≡ None))
-          which true own =
-              let it : is_own world names theirs x ≡ true = ap (holds_of (is_own_namespace nat_eq world names)) e
-              ∙ own in
-              inl (among-filter (is_own_mount nat_eq world names) world.mounts x m it, it)
-          which false other = inr (inl (among-filter
-              (λ mount. holds_of (λ k. not (is_own_namespace nat_eq world names k)) mount.namespace) world.mounts x m
-              (ap (holds_of (λ k. not (is_own_namespace nat_eq world names k))) e ∙ ap not other)))
+  place_of x m = grind (arith, common_steps, true≢false, is_own, and_parts, among_from_list_all, among-filter)
 
   no_source : (in_world : World ℕ) (group : ℕ) (x : Mount ℕ) → source_of x.propagation ≡ None
       → receives nat_eq in_world group x ≡ false
@@ -214,13 +167,7 @@ module _ (world : World ℕ) (names : List TaskName) (is : MountInvariants nat_e
   none_in_part group other heard lives there = false_from_ne_true _ (λ h. by (source_of other.propagation) refl h)
     where
       up : (group lower : ℕ) → part.master lower ≡ Some group → OtherHears lower → OtherHears group
-      up group lower e other_hears = which (list_any (is_member_of nat_eq lower) owns) refl e
-        where
-          which : (b : Bool) → list_any (is_member_of nat_eq lower) owns ≡ b
-              → cond b (world.master lower) None ≡ Some group → OtherHears group
-          which true f e = let own = any_among (is_member_of nat_eq lower) owns f in
-              absurd (none_other lower own.0 other_hears own.1 own.2)
-          which false f e = none_is_some group e
+      up group lower e other_hears = grind (arith, common_steps, any_among, none_other, none_is_some)
 
       by : (o : Option ℕ) → source_of other.propagation ≡ o
           → holds_of (λ source. is_among nat_eq group (groups_up part source)) o ≡ true → ⊥
@@ -248,10 +195,7 @@ module _ (world : World ℕ) (names : List TaskName) (is : MountInvariants nat_e
 
 -- a group of theirs lives, and a mount of theirs hears it
 source_from_group : (kind : Propagation ℕ) (group : ℕ) → group_of kind ≡ Some group → source_of kind ≡ Some group
-source_from_group (Shared g) group e = e
-source_from_group (Slave g) group e = none_is_some group e
-source_from_group Private group e = none_is_some group e
-source_from_group Unbindable group e = none_is_some group e
+source_from_group kind group e = grind (arith, common_steps, none_is_some)
 
 group_lives : (world : World ℕ) (names : List TaskName) (own : Mount ℕ) (group : ℕ) → MountInvariants nat_eq world
     → Among own (own_mounts nat_eq world names) → group_of own.propagation ≡ Some group

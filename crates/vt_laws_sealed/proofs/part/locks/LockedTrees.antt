@@ -1,6 +1,6 @@
 -- What is wholly locked is locked, and an outsider changes no file of a sealed set.
-use Rattle.std.proofs.Common.{◌≡◌, refl, sym, ap, subst, ◌∙◌, ⊎_elim, ℕ, zero, suc, nat_eq, true, false, true≢false, List, [], ◌∷◌, ◌++◌, Option, Some, None, is_some, ◌||◌, ◌&&◌, eqb-true}
-use Rattle.std.specs.Prelude.{option_to_list}
+use Rattle.std.proofs.Common.{arith, ◌≡◌, refl, sym, ap, subst, ◌∙◌, ⊎_elim, ℕ, zero, suc, nat_eq, true, false, true≢false, List, [], ◌∷◌, ◌++◌, Some, None, is_some, ◌||◌, ◌&&◌, eqb-true}
+use Rattle.std.proofs.lemmas.Grind.{common_steps}
 use Rattle.std.specs.List.{list_all, list_any}
 use Rattle.std.proofs.lemmas.Bool.{and_parts, and_from, false_from_ne_true, or_cases, or_left}
 use Rattle.vt_spec.specs.FileTree.{FileTree, is_under, targets_in}
@@ -9,11 +9,11 @@ use Rattle.vt_spec.specs.Language.Changes.{Change, changed}
 use Rattle.vt_spec.specs.Lists.{Fresh, is_among}
 use Rattle.vt_spec.specs.Machine.Filesystems.{filesystem_changed, with_change, with_files}
 use Rattle.vt_spec.specs.Machine.Invariants.{ListsNumbers}
-use Rattle.vt_spec.specs.Machine.Locked.{is_locked, is_locked_at, lies_in_layer, lies_or_counts_under, live_layers, of_overlay, overlay_or, overlays}
+use Rattle.vt_spec.specs.Machine.Locked.{is_locked, is_locked_at, lies_in_layer, lies_or_counts_under, live_layers, of_overlay, overlays}
 use Rattle.vt_spec.specs.Machine.Mounts.{Location}
 use Rattle.vt_spec.specs.Machine.Sealed.{all_named, is_lower_root, no_outsider_on, own_lowers, part_of, sealed, used_alone, used_filesystems, wholly_locked}
 use Rattle.vt_spec.specs.Machine.Settled.{named_in}
-use Rattle.vt_spec.specs.Machine.World.{Filesystem, Layer, Overlay, World, filesystem_at, filesystem_numbered, layers_of, mount_at, node_at}
+use Rattle.vt_spec.specs.Machine.World.{Filesystem, Layer, World, filesystem_at, filesystem_numbered, layers_of, mount_at, node_at}
 use Rattle.vt_spec.specs.TreeInvariant.{IsTree}
 use Rattle.vt_spec.proofs.Lists.{Among, among-append_right, among-flat_map, among-from_flat_map, among_from_list_all, among_numbers, any_among, any_from_among, is_among_numbers}
 use Rattle.vt_spec.proofs.NodeChanges.{entry_from}
@@ -54,25 +54,7 @@ module _ (world : World ℕ) (names : List TaskName) (number : ℕ)
   layer_there : (merged : Filesystem ℕ) → is_lower_root nat_eq number files.tree.root merged ≡ true
       → (layer : Layer ℕ) × Among layer (of_overlay [] layers_of merged)
       × (nat_eq number layer.filesystem ≡ true) × (nat_eq files.tree.root layer.directory ≡ true)
-  layer_there merged h = by merged.overlay h
-    where
-      by : (o : Option (Overlay ℕ))
-          → overlay_or false (λ (overlay : Overlay ℕ). list_any (λ (layer : Layer ℕ). nat_eq number layer.filesystem
-          && nat_eq files.tree.root layer.directory) overlay.lowers) o ≡ true
-          → (layer : Layer ℕ) × Among layer (overlay_or [] layers_of o)
-          × (nat_eq number layer.filesystem ≡ true) × (nat_eq files.tree.root layer.directory ≡ true)
-      by None h = absurd (true≢false (sym h))
-      by (Some overlay) h =
-          let found = any_among (λ (layer : Layer ℕ). nat_eq number layer.filesystem
-          && nat_eq files.tree.root layer.directory) overlay.lowers h in
-          let both = and_parts (nat_eq number found.0.filesystem)
-          (nat_eq files.tree.root found.0.directory) found.2 in (
-            found.0,
-            among-append_right (option_to_list overlay.upper
-                ++ option_to_list overlay.work) overlay.lowers found.0 found.1,
-            both.0,
-            both.1,
-          )
+  layer_there merged h = grind (arith, common_steps, true≢false, any_among, and_parts, among-append_right)
 
   -- each inode of a tree that is wholly locked is locked
   pub all_locked : wholly_locked nat_eq world names number ≡ true → (object : ℕ)

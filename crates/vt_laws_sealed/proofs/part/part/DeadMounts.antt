@@ -1,6 +1,6 @@
 -- Without dead mounts the part is as it was.
 use Rattle.std.proofs.lemmas.Grind.{common_steps}
-use Rattle.std.proofs.Common.{◌≡◌, refl, sym, ap, ◌∙◌, inl, inr, ⊎_elim, ℕ, nat_eq, Bool, true, true≢false, List, [], ◌∷◌, Option, Some, is_some, filter, eq-eqb, eqb-true, arith}
+use Rattle.std.proofs.Common.{◌≡◌, refl, ap, ◌∙◌, inl, inr, ⊎_elim, ℕ, nat_eq, Bool, true, true≢false, List, [], ◌∷◌, Option, Some, is_some, filter, eq-eqb, eqb-true, arith}
 use Rattle.std.specs.List.{filter_map}
 use Rattle.std.proofs.lemmas.Bool.{or_left, or_right}
 use Rattle.vt_spec.specs.Language.Calls.{TaskName}
@@ -36,10 +36,7 @@ module _ (world : World ℕ) (names : List TaskName) where
 
   located_lives : (x : Mount ℕ) (location : Location ℕ) → Among location (locations theirs)
       → nat_eq location.mount x.number ≡ true → lives x ≡ true
-  located_lives x location m e = or_right (is_some x.namespace) _
-      (any_from_among (λ (l : Location ℕ). nat_eq x.number l.mount) (all_locations world) location
-      (among_all location m) (ap (λ n. nat_eq n location.mount) (sym (eqb-true location.mount x.number e))
-      ∙ eq-eqb location.mount location.mount refl))
+  located_lives x location m e = grind (arith, common_steps, or_right, any_from_among, among_all, eqb-true, eq-eqb)
 
   own_lives : (x : Mount ℕ) → is_own world names theirs x ≡ true → lives x ≡ true
   own_lives x e = grind (arith, common_steps, or_left)
@@ -68,14 +65,7 @@ module _ (world : World ℕ) (names : List TaskName) where
   mounts_kept (x ∷ rest) = grind (arith, common_steps, kept_lives, true≢false, mounts_kept rest)
 
   sees_the_same : SeesTheSame world later names
-  sees_the_same = record {
-    tasks = refl;
-    mounts = mounts_kept world.mounts;
-    masters = λ group e. refl;
-    direct = λ number m. refl;
-    filesystems = refl;
-    namespaces = refl;
-  }
+  sees_the_same = grind (arith, common_steps, mounts_kept)
 
 pub dead_mounts_are_in_no_part : DeadMountsAreInNoPart
 dead_mounts_are_in_no_part world names =

@@ -43,17 +43,7 @@ module _ (world : World ℕ) (names : List TaskName) (one : OneNumberEach world)
   apart x e = ap (λ b. cond b new x) e
 
   which : (x : Mount ℕ) → Among x world.mounts → ((x ≡ old) × (set x ≡ new)) ⊎ (nat_eq old.number x.number ≡ false)
-  which x m = by (nat_eq old.number x.number) refl
-    where
-      by : (b : Bool) → nat_eq old.number x.number ≡ b
-          → ((x ≡ old) × (set x ≡ new)) ⊎ (nat_eq old.number x.number ≡ false)
-      by true e = inl (
-        sym (found_itself world.mounts one x m)
-            ∙ ap (mount_in nat_eq world.mounts) (sym (eqb-true old.number x.number e))
-            ∙ found_itself world.mounts one old there,
-        ap (λ b. cond b new x) e,
-      )
-      by false e = inr e
+  which x m = grind (arith, common_steps, found_itself, eqb-true)
 
   set_old : set old ≡ new
   set_old = ap (λ b. cond b new old) (eq-eqb old.number old.number refl)
@@ -63,13 +53,7 @@ module _ (world : World ℕ) (names : List TaskName) (one : OneNumberEach world)
       (when (is_at nat_eq (locations theirs) x) (seen_by_descriptor x))) e
 
   kept_set : (x : Mount ℕ) → Among x world.mounts → kept (set x) ≡ option_map set (kept x)
-  kept_set x m = ⊎_elim
-      (λ t. ap kept t.1 ∙ whole new own ∙ ap Some (sym set_old) ∙ ap (option_map set) (sym (whole old own))
-      ∙ ap (λ y. option_map set (kept y)) (sym t.0)) (λ t. ap kept (apart x t) ∙ same t (kept x) refl) (which x m)
-    where
-      same : nat_eq old.number x.number ≡ false → (o : Option (Mount ℕ)) → kept x ≡ o → o ≡ option_map set o
-      same t None e = refl
-      same t (Some y) e = grind (arith, common_steps, apart, kept_how)
+  kept_set x m = grind (arith, common_steps, whole, set_old, apart, which, kept_how)
 
   all_of : {B : Type 0} (f : Mount ℕ → B) → f new ≡ f old → (list : List (Mount ℕ))
       → ((x : Mount ℕ) → Among x list → Among x world.mounts) → map f (map set list) ≡ map f list
@@ -140,13 +124,7 @@ module _ (world : World ℕ) (names : List TaskName) (one : OneNumberEach world)
       ∙ sym (found_so location.mount world.mounts)
 
   same_directly : used_directly nat_eq later names ≡ used_directly nat_eq world names
-  same_directly = ap (λ l. map (λ (mount : Mount ℕ). mount.filesystem) l
-      ++ map (λ location. (mount_at nat_eq later location).filesystem) (locations theirs)) own_later
-      ∙ ap (λ l. l ++ map (λ location. (mount_at nat_eq later location).filesystem) (locations theirs))
-      (all_of (λ (mount : Mount ℕ). mount.filesystem) refl (own_mounts nat_eq world names) own_there)
-      ∙ ap (λ l. map (λ (mount : Mount ℕ). mount.filesystem) (own_mounts nat_eq world names) ++ l)
-      (map_alike (λ location. (mount_at nat_eq later location).filesystem)
-      (λ location. (mount_at nat_eq world location).filesystem) (locations theirs) (λ location m. located location))
+  same_directly = search (arith, common_steps, own_later, all_of, own_there, map_alike, located)
 
   -- filesystems are found by what is used directly
   abbrev shown_by : List ℕ → Filesystem ℕ → Option (Filesystem ℕ)

@@ -1,13 +1,13 @@
 -- The mounts over a location on a mount of the part are those in the world.
 use Rattle.std.proofs.lemmas.Grind.{common_steps}
-use Rattle.std.proofs.Common.{◌≡◌, refl, sym, ap, subst, ◌∙◌, ◌⊎◌, inl, inr, ⊎_elim, ℕ, zero, suc, nat_eq, Bool, true, false, cond, true≢false, List, [], ◌∷◌, Option, Some, None, map, find, length, not, ◌||◌, ◌&&◌, ◌≤◌, arith, is_some}
+use Rattle.std.proofs.Common.{◌≡◌, refl, sym, ap, subst, ◌∙◌, ◌⊎◌, inl, inr, ⊎_elim, ℕ, zero, suc, nat_eq, Bool, true, false, cond, true≢false, List, [], ◌∷◌, Option, Some, None, map, find, length, ◌||◌, ◌&&◌, ◌≤◌, arith}
 use Rattle.std.specs.Prelude.{option_map}
 use Rattle.std.specs.List.{cons_option, filter_map, list_any}
 use Rattle.std.proofs.lemmas.List.{length-map}
 use Rattle.std.proofs.lemmas.Bool.{and_parts, or_left, or_right}
 use Rattle.vt_spec.specs.Language.Calls.{TaskName}
 use Rattle.vt_spec.specs.Lists.{chain, holds_of, last_or, when}
-use Rattle.vt_spec.specs.Machine.Invariants.{MountInvariants, Stands, is_nowhere_or_attached, is_private}
+use Rattle.vt_spec.specs.Machine.Invariants.{MountInvariants, Stands}
 use Rattle.vt_spec.specs.Machine.Mounts.{Location, Mount, child_at, mounts_over, root_of, stands_at}
 use Rattle.vt_spec.specs.Machine.Sealed.{is_at, locations, members, part_of, roots_and_directories, seen_by_descriptor}
 use Rattle.vt_spec.specs.Machine.World.{Task, World, mount_numbered}
@@ -43,12 +43,7 @@ module _ (world : World ℕ) (names : List TaskName) (is : MountInvariants nat_e
 
   nowhere_stands : (mount : Mount ℕ) (at : Location ℕ) → Among mount world.mounts → mount.namespace ≡ None
       → mount.mount_point ≡ Some at → ⊥
-  nowhere_stands mount at m n p =
-      let test = among_from_list_all is_nowhere_or_attached world.mounts is.nowhere mount m in
-      let none : (not (is_some mount.mount_point) && is_private mount.propagation) ≡ true =
-      sym (ap (λ x. is_some x || (not (is_some mount.mount_point) && is_private mount.propagation)) n) ∙ test in
-      true≢false (sym (and_parts (not (is_some mount.mount_point)) (is_private mount.propagation) none).0
-      ∙ ap (λ x. not (is_some x)) p)
+  nowhere_stands mount at m n p = grind (arith, common_steps, among_from_list_all, true≢false, and_parts)
 
   -- what stands on a whole mount is theirs
   child_whole : (here : Location ℕ) (child : Mount ℕ) → IsWhole here.mount → Among child world.mounts
@@ -156,16 +151,4 @@ module _ (world : World ℕ) (names : List TaskName) (is : MountInvariants nat_e
 
 pub mounts_over_are_those_of_the_part : MountsOverAreThoseOfThePart
 mounts_over_are_those_of_the_part world names mount here is there on stands =
-    let among = among_from_contains world.mounts mount there in
-    let tasks : List (Task ℕ) = members world names in
-    same_over world names is here (
-      mount,
-      among,
-      sym on,
-      ⊎_elim (λ own. kept_whole world names tasks mount
-          (or_left (is_own world names tasks mount) (is_at nat_eq (roots_and_directories tasks) mount) own))
-          (λ stood. kept_whole world names tasks mount
-          (or_right (is_own world names tasks mount) (is_at nat_eq (roots_and_directories tasks) mount) stood.1))
-          stands,
-      ⊎_elim inl (λ stood. inr stood.0) stands,
-    )
+    grind (arith, common_steps, among_from_contains, same_over, kept_whole, or_left, is_own, or_right)

@@ -66,9 +66,5 @@ module _ (world later : World ℕ) (names : List TaskName) (same : SeesTheSame w
       ∙ ap (λ t. record (part_of nat_eq world names) { tasks = t }) same.tasks
 
 pub part_is_by_observations : PartIsByObservations
-part_is_by_observations world later names same = (
-  part_same world later names same,
-  own_mounts_same world later names same,
-  used_same world later names same,
-  lowers_same world later names same,
-)
+part_is_by_observations world later names same =
+    grind (arith, common_steps, part_same, own_mounts_same, used_same, lowers_same)

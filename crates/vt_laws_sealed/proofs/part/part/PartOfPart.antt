@@ -1,6 +1,6 @@
 -- The part of a part is the part.
 use Rattle.std.proofs.lemmas.Grind.{common_steps}
-use Rattle.std.proofs.Common.{◌≡◌, refl, sym, ap, ◌∙◌, ◌⊎◌, inl, inr, ⊎_elim, ℕ, nat_eq, Bool, true, false, cond, true≢false, List, [], ◌∷◌, Option, Some, None, filter, find, ◌||◌, arith}
+use Rattle.std.proofs.Common.{◌≡◌, refl, sym, ap, ◌∙◌, ◌⊎◌, ⊎_elim, ℕ, nat_eq, Bool, true, false, cond, true≢false, List, [], ◌∷◌, Option, Some, None, filter, find, ◌||◌, arith}
 use Rattle.std.specs.Prelude.{unwrap_or}
 use Rattle.std.specs.List.{cons_option, filter_map, list_any}
 use Rattle.std.proofs.lemmas.Option.{same_Some}
@@ -37,17 +37,7 @@ module _ (world : World ℕ) (names : List TaskName) where
   pub kept_how : (tasks : List (Task ℕ)) (x y : Mount ℕ) → keep tasks x ≡ Some y
       → (x ≡ y) ⊎ ((seen_by_descriptor x ≡ y) × (is_own tasks x ≡ false)
       × (is_at nat_eq (roots_and_directories tasks) x ≡ false) × (is_at nat_eq (locations tasks) x ≡ true))
-  kept_how tasks x y e = by (is_own tasks x) (is_at nat_eq (roots_and_directories tasks) x)
-      (is_at nat_eq (locations tasks) x) refl refl refl e
-    where
-      by : (a b c : Bool) → is_own tasks x ≡ a → is_at nat_eq (roots_and_directories tasks) x ≡ b
-          → is_at nat_eq (locations tasks) x ≡ c → cond (a || b) (Some x) (when c (seen_by_descriptor x)) ≡ Some y
-          → (x ≡ y) ⊎ ((seen_by_descriptor x ≡ y) × (is_own tasks x ≡ false)
-          × (is_at nat_eq (roots_and_directories tasks) x ≡ false) × (is_at nat_eq (locations tasks) x ≡ true))
-      by true b c f g h e = inl (same_Some x y e)
-      by false true c f g h e = inl (same_Some x y e)
-      by false false true f g h e = inr (same_Some (seen_by_descriptor x) y e, f, g, h)
-      by false false false f g h e = none_is_some y e
+  kept_how tasks x y e = grind (arith, common_steps, same_Some, none_is_some)
 
   pub kept_whole : (tasks : List (Task ℕ)) (x : Mount ℕ)
       → (is_own tasks x || is_at nat_eq (roots_and_directories tasks) x) ≡ true → keep tasks x ≡ Some x
@@ -119,18 +109,7 @@ module _ (world : World ℕ) (names : List TaskName) where
       → ((x ≡ y) × (is_among nat_eq x.number used ≡ true)) ⊎ ((part_of_lower nat_eq world names x ≡ y)
       × (is_among nat_eq x.number used ≡ false)
       × (list_any (λ layer. nat_eq x.number layer.filesystem) (own_lowers nat_eq world names) ≡ true))
-  shown_how x y e = by (is_among nat_eq x.number used)
-      (list_any (λ layer. nat_eq x.number layer.filesystem) (own_lowers nat_eq world names)) refl refl e
-    where
-      by : (a b : Bool) → is_among nat_eq x.number used ≡ a
-          → list_any (λ layer. nat_eq x.number layer.filesystem) (own_lowers nat_eq world names) ≡ b
-          → cond a (Some x) (when b (part_of_lower nat_eq world names x)) ≡ Some y
-          → ((x ≡ y) × (is_among nat_eq x.number used ≡ true)) ⊎ ((part_of_lower nat_eq world names x ≡ y)
-          × (is_among nat_eq x.number used ≡ false)
-          × (list_any (λ layer. nat_eq x.number layer.filesystem) (own_lowers nat_eq world names) ≡ true))
-      by true b f g e = inl (same_Some x y e, f)
-      by false true f g e = inr (same_Some (part_of_lower nat_eq world names x) y e, f, g)
-      by false false f g e = none_is_some y e
+  shown_how x y e = grind (arith, common_steps, same_Some, none_is_some)
 
   shown_number : (x y : Filesystem ℕ) → shown x ≡ Some y → y.number ≡ x.number
   shown_number x y e = grind (arith, common_steps)

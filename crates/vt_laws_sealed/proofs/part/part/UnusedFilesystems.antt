@@ -62,16 +62,7 @@ module _ (world : World ℕ) (names : List TaskName) (new : Filesystem ℕ)
           (λ same. true≢false (sym (eq-eqb new.number x.number (sym same)) ∙ e)))
 
   pub sees_the_same : SeesTheSame world later names
-  sees_the_same = record {
-    tasks = refl;
-    mounts = refl;
-    masters = λ group e. refl;
-    direct = λ number m. found number (among_from_contains (used_directly nat_eq world names) number m);
-    filesystems = filter_map_map (shown_of later used lowers) (replaced_if_numbered nat_eq new) world.filesystems
-        ∙ filter_map_same (λ x. shown_of later used lowers (replaced_if_numbered nat_eq new x))
-        (shown_of world used lowers) world.filesystems (λ x m. each x);
-    namespaces = refl;
-  }
+  sees_the_same = grind (arith, common_steps, found, among_from_contains, filter_map_map, filter_map_same, each)
 
 pub unused_filesystems_may_change : UnusedFilesystemsMayChange
 unused_filesystems_may_change world names new unused no_lower =

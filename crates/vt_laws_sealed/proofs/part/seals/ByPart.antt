@@ -1,15 +1,15 @@
 -- The part and the footholds of others decide whether a set of tasks is sealed off.
 use Rattle.std.proofs.lemmas.Grind.{common_steps}
 use Rattle.std.proofs.Common.{◌≡◌, refl, sym, ap, subst, ◌∙◌, ◌⊎◌, inl, inr, ⊎_elim, ℕ, nat_eq, Bool, true, false, cond, true≢false, List, [], ◌∷◌, ◌++◌, Option, Some, None, map, find, not, is_some, ◌||◌, ◌&&◌, eq-eqb, eqb-true, arith}
-use Rattle.std.specs.Prelude.{option_to_list, unwrap_or}
+use Rattle.std.specs.Prelude.{unwrap_or}
 use Rattle.std.specs.List.{list_all, list_any}
 use Rattle.std.proofs.lemmas.Bool.{and_from, and_parts, not-true, or_cases, or_left, or_right}
 use Rattle.vt_spec.specs.Language.Calls.{TaskName}
-use Rattle.vt_spec.specs.Lists.{holds_of, is_among, when}
+use Rattle.vt_spec.specs.Lists.{is_among, when}
 use Rattle.vt_spec.specs.Machine.Invariants.{IsWorld}
 use Rattle.vt_spec.specs.Machine.Locked.{of_overlay, overlay_or, overlays}
 use Rattle.vt_spec.specs.Machine.Mounts.{Location, Mount}
-use Rattle.vt_spec.specs.Machine.Sealed.{all_named, holds_all_tasks, is_lower_root, is_member_task, is_own_mount, is_own_namespace, locations, members, no_outsider_on, no_outsider_on_mounts, other_mounts, outsiders, own_lowers, own_mounts, part_of, part_of_filesystem, part_of_lower, sealed, shares_no_events, used_alone, used_directly, used_filesystems, wholly_locked}
+use Rattle.vt_spec.specs.Machine.Sealed.{all_named, is_lower_root, is_member_task, is_own_namespace, locations, members, no_outsider_on, other_mounts, outsiders, own_lowers, own_mounts, part_of, part_of_filesystem, part_of_lower, sealed, used_alone, used_directly, used_filesystems, wholly_locked}
 use Rattle.vt_spec.specs.Machine.Settled.{filesystem_lives, has_layer_on, is_located, is_mounted, mount_lives}
 use Rattle.vt_spec.specs.Machine.World.{Filesystem, Layer, Overlay, Task, World, all_locations, filesystem_numbered, is_overlay, layers_of, locations_of, mount_at, mount_numbered, no_filesystem}
 use Rattle.vt_spec.specs.Tree.{is_directory_node}
@@ -66,20 +66,9 @@ module _ (world : World ℕ) (names : List TaskName) (is : IsWorld nat_eq world)
         where
           which : (b : Bool) → is_own_namespace nat_eq world names namespace ≡ b
               → Among filesystem (used_directly nat_eq world names)
-          which true own =
-              among-append_left (map (λ (m : Mount ℕ). m.filesystem) (own_mounts nat_eq world names)) _ filesystem
-              (subst (λ f. Among f (map (λ (m : Mount ℕ). m.filesystem) (own_mounts nat_eq world names))) shows
-              (among-map (λ (m : Mount ℕ). m.filesystem) (own_mounts nat_eq world names) mount
-              (among-filter (is_own_mount nat_eq world names) world.mounts mount there
-              (ap (holds_of (is_own_namespace nat_eq world names)) at ∙ own))))
-          which false other = absurd (true≢false (sym (any_from_among (λ (m : Mount ℕ). nat_eq filesystem m.filesystem)
-              (other_mounts nat_eq world names) mount
-              (among-filter (λ (m : Mount ℕ). holds_of (λ n. not (is_own_namespace nat_eq world names n)) m.namespace)
-              world.mounts mount there
-              (ap (holds_of (λ n. not (is_own_namespace nat_eq world names n))) at ∙ ap not other))
-              (eq-eqb filesystem mount.filesystem (sym shows)))
-              ∙ not-true _ (and_parts _ (not (list_any (λ (l : Location ℕ).
-              nat_eq filesystem (mount_at nat_eq world l).filesystem) (locations (outsiders world names)))) alone).0))
+          which true own = grind (arith, common_steps, among-append_left, among-map, among-filter)
+          which false other =
+              grind (arith, common_steps, true≢false, any_from_among, among-filter, eq-eqb, not-true, and_parts)
 
   -- layers of overlays are in plain trees
   pub layer_plain : (merged : Filesystem ℕ) → Among merged world.filesystems → (layer : Layer ℕ)
@@ -157,19 +146,7 @@ module _ (world : World ℕ) (names : List TaskName) (is : IsWorld nat_eq world)
   from_part merged there =
       let from = among-from_filter is_overlay (part_of nat_eq world names).filesystems merged there in
       let kept = among-from_filter_map (part_of_filesystem nat_eq world names) world.filesystems merged from.0 in
-      ⊎_elim (λ whole. (
-        kept.0,
-        among-filter is_overlay world.filesystems kept.0 kept.1 (ap is_overlay whole.0 ∙ from.1),
-        ap (λ (f : Filesystem ℕ). f.number) whole.0,
-        ap (λ (f : Filesystem ℕ). f.overlay) whole.0,
-        inl whole.1,
-      )) (λ lower. (
-        kept.0,
-        among-filter is_overlay world.filesystems kept.0 kept.1 (ap is_overlay lower.0 ∙ from.1),
-        ap (λ (f : Filesystem ℕ). f.number) lower.0,
-        ap (λ (f : Filesystem ℕ). f.overlay) lower.0,
-        inr lower.2,
-      )) (shown_how world names kept.0 merged kept.2)
+      grind (arith, common_steps, among-filter, shown_how)
 
   -- a lower layer of theirs is in no overlay
   pub lower_plain : (number : ℕ)
@@ -186,13 +163,7 @@ module _ (world : World ℕ) (names : List TaskName) (is : IsWorld nat_eq world)
       layered : (merged : Filesystem ℕ) (layer : Layer ℕ)
           → Among layer (of_overlay [] (λ (overlay : Overlay ℕ). overlay.lowers) merged)
           → Among layer (of_overlay [] layers_of merged)
-      layered merged layer = up merged.overlay
-        where
-          up : (o : Option (Overlay ℕ)) → Among layer (overlay_or [] (λ (overlay : Overlay ℕ). overlay.lowers) o)
-              → Among layer (overlay_or [] layers_of o)
-          up None m = m
-          up (Some overlay) m =
-              among-append_right (option_to_list overlay.upper ++ option_to_list overlay.work) overlay.lowers layer m
+      layered merged layer = grind (arith, common_steps, among-append_right)
 
       by : (number : ℕ) (o : Option (Filesystem ℕ))
           → find (λ (f : Filesystem ℕ). nat_eq number f.number) world.filesystems ≡ o → (layer : Layer ℕ)
@@ -271,39 +242,20 @@ their_overlays_are_in_the_part world names merged is there alone =
 
 pub sealed_is_by_part_and_footholds : SealedIsByPartAndFootholds
 unfolding sealed
-sealed_is_by_part_and_footholds world names apart =
-    ap (λ a. a && shares_no_events nat_eq world names && no_outsider_on_mounts nat_eq world names
-    && list_all (free_or_locked world names apart.is) (used_filesystems nat_eq world names)) apart.tasks
-    ∙ ap (λ a. a && no_outsider_on_mounts nat_eq world names
-    && list_all (free_or_locked world names apart.is) (used_filesystems nat_eq world names)) apart.events
-    ∙ ap (λ a. a && list_all (free_or_locked world names apart.is)
-    (used_filesystems nat_eq world names)) apart.locations ∙ sym (used_by_part world names apart.is)
+sealed_is_by_part_and_footholds world names apart = grind (arith, common_steps, used_by_part)
 
 -- the first three of what makes a set sealed off
 pub apart_if_sealed : (world : World ℕ) (names : List TaskName) → IsWorld nat_eq world
     → sealed nat_eq world names ≡ true → IsApart world names
 unfolding sealed
-apart_if_sealed world names is all =
-    let three = and_parts (holds_all_tasks nat_eq world names && shares_no_events nat_eq world names
-    && no_outsider_on_mounts nat_eq world names)
-    (list_all (free_or_locked world names is) (used_filesystems nat_eq world names)) all in
-    let two = and_parts (holds_all_tasks nat_eq world names && shares_no_events nat_eq world names)
-    (no_outsider_on_mounts nat_eq world names) three.0 in
-    let one = and_parts (holds_all_tasks nat_eq world names) (shares_no_events nat_eq world names) two.0 in
-    record { is = is; tasks = one.0; events = one.1; locations = two.1 }
+apart_if_sealed world names is all = grind (arith, common_steps, and_parts)
 
 -- each filesystem that they use has no foothold of others, or is wholly locked
 pub used_are_free : (world : World ℕ) (names : List TaskName) → sealed nat_eq world names ≡ true → (number : ℕ)
     → Among number (used_filesystems nat_eq world names)
     → (used_alone nat_eq world names number || wholly_locked nat_eq world names number) ≡ true
 unfolding sealed
-used_are_free world names all number m =
-    among_from_list_all (λ f. used_alone nat_eq world names f || wholly_locked nat_eq world names f)
-    (used_filesystems nat_eq world names)
-    (and_parts (holds_all_tasks nat_eq world names && shares_no_events nat_eq world names
-    && no_outsider_on_mounts nat_eq world names)
-    (list_all (λ f. used_alone nat_eq world names f || wholly_locked nat_eq world names f)
-    (used_filesystems nat_eq world names)) all).1 number m
+used_are_free world names all number m = grind (arith, common_steps, among_from_list_all, and_parts)
 
 -- fewer footholds seal too
 more_free : (part : World ℕ) (names : List TaskName) (free more : ℕ → Bool)

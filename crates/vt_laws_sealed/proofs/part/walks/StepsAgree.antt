@@ -1,5 +1,6 @@
 -- A step is the same in two worlds that show the same where it meets filesystems.
-use Rattle.std.proofs.Common.{append-nil, ◌≡◌, refl, sym, ap, subst, ◌∙◌, inl, inr, ℕ, nat_eq, Bool, true, false, cond, List, [], ◌∷◌, ◌++◌, Option, Some, None, Ok, Err, Result, map, flat_map, ◌&&◌, ◌||◌}
+use Rattle.std.proofs.Common.{arith, append-nil, ◌≡◌, refl, sym, ap, subst, ◌∙◌, inl, inr, ℕ, nat_eq, Bool, true, false, cond, List, [], ◌∷◌, ◌++◌, Option, Ok, Err, Result, map, flat_map, ◌&&◌, ◌||◌}
+use Rattle.std.proofs.lemmas.Grind.{common_steps}
 use Rattle.std.specs.Prelude.{IfOk, ok_or, option_map, option_to_list}
 use Rattle.std.proofs.lemmas.Bool.{and_from}
 use Rattle.std.proofs.lemmas.List.{map-append}
@@ -58,11 +59,7 @@ module _ (one other : Looks ℕ) (task : Task ℕ) (Own : ℕ → Type 0) (Seen 
 
   good_over : (here : Location ℕ) → Own here.mount → Each Seen (filesystems_of nat_eq one (one.mounts_over here))
       → Good (topmost one here)
-  good_over here own seen = (
-    last_each OnOwn (one.mounts_over here) here own (alike.entered here own),
-    seen_of (one.mounts_over here) seen (topmost one here)
-        (last_among (one.mounts_over here) here (alike.over_start here)),
-  )
+  good_over here own seen = search (arith, common_steps, last_each, seen_of, last_among)
 
   same_topmost : (here : Location ℕ) → Own here.mount → topmost one here ≡ topmost other here
   same_topmost here own = ap (last_or here) (alike.over here own)
@@ -84,19 +81,7 @@ module _ (one other : Looks ℕ) (task : Task ℕ) (Own : ℕ → Type 0) (Seen 
   up_agrees : (here : Location ℕ) → Good here
       → Each Seen (filesystems_of nat_eq one (entered_upward nat_eq one task here))
       → Agree Good (up_from nat_eq one task here) (up_from nat_eq other task here)
-  up_agrees here good seen = (
-    ap (λ t. cond t (Ok here)
-        (unless ((is_lost nat_eq one here, W8) ∷ []) (Ok (topmost one (parent_location nat_eq one here)))))
-        (same_top here good.0) ∙ ap (λ l. cond (is_top nat_eq other task here) (Ok here)
-        (unless ((l, W8) ∷ []) (Ok (topmost one (parent_location nat_eq one here))))) (alike.lost here good.0 good.1)
-        ∙ ap (λ r. cond (is_top nat_eq other task here) (Ok here)
-        (unless ((is_lost nat_eq other here, W8) ∷ []) (Ok r)))
-        (same_topmost (parent_location nat_eq one here) good.0 ∙ ap (topmost other) (same_parent here good)),
-    up_by (is_top nat_eq one task here) (is_lost nat_eq one here) here
-        (topmost one (parent_location nat_eq one here)) good (λ e. good_over (parent_location nat_eq one here) good.0
-        (subst (λ b. Each Seen
-        (filesystems_of nat_eq one (cond b [] (one.mounts_over (parent_location nat_eq one here))))) e seen)),
-  )
+  up_agrees here good seen = search (arith, common_steps, same_top, same_topmost, same_parent, up_by, good_over)
 
   named_by : (here : Location ℕ) → Own here.mount → (o : Option ℕ) → Each Seen (filesystems_of nat_eq one
       (flat_map one.mounts_over
@@ -105,13 +90,7 @@ module _ (one other : Looks ℕ) (task : Task ℕ) (Own : ℕ → Type 0) (Seen 
       (denial W6))
       (ok_or (option_map (topmost other) (option_map (λ object. record { mount = here.mount; node = object }) o))
       (denial W6))
-  named_by here own None seen = (refl, tt)
-  named_by here own (Some object) seen =
-      let there : Location ℕ = record { mount = here.mount; node = object } in (
-        ap Ok (same_topmost there own),
-        good_over there own (λ f m. seen f
-            (subst (λ l. Among f (map Fs l)) (sym (append-nil (one.mounts_over there))) m)),
-      )
+  named_by here own o seen = grind (arith, common_steps, same_topmost, good_over, append-nil)
 
   head_seen : (here : Location ℕ) (list : List (Location ℕ)) → Each Seen (filesystems_of nat_eq one (here ∷ list))
       → Seen (Fs here)

@@ -100,28 +100,14 @@ module _ (one other : Looks ℕ) (task : Task ℕ) (Own : ℕ → Type 0) (alike
 
   up_agrees : (here : Location ℕ) → Own here.mount
       → Agree OnOwn (up_from nat_eq one task here) (up_from nat_eq other task here)
-  up_agrees here own = (
-    ap (λ t. cond t (Ok here)
-        (unless ((is_lost nat_eq one here, W8) ∷ []) (Ok (topmost one (parent_location nat_eq one here)))))
-        (same_top here own) ∙ ap (λ l. cond (is_top nat_eq other task here) (Ok here)
-        (unless ((l, W8) ∷ []) (Ok (topmost one (parent_location nat_eq one here))))) (alike.lost here own)
-        ∙ ap (λ r. cond (is_top nat_eq other task here) (Ok here)
-        (unless ((is_lost nat_eq other here, W8) ∷ []) (Ok r)))
-        (same_topmost (parent_location nat_eq one here) own ∙ ap (topmost other) (same_parent here own)),
-    up_by (is_top nat_eq one task here) (is_lost nat_eq one here) here
-        (topmost one (parent_location nat_eq one here)) own (own_topmost (parent_location nat_eq one here) own),
-  )
+  up_agrees here own = grind (arith, common_steps, same_top, same_topmost, same_parent, up_by, own_topmost)
 
   named_by : (here : Location ℕ) → Own here.mount → (o : Option ℕ) → Agree OnOwn
       (ok_or (option_map (topmost one) (option_map (λ object. record { mount = here.mount; node = object }) o))
       (denial W6))
       (ok_or (option_map (topmost other) (option_map (λ object. record { mount = here.mount; node = object }) o))
       (denial W6))
-  named_by here own None = (refl, tt)
-  named_by here own (Some object) = (
-    ap Ok (same_topmost (record { mount = here.mount; node = object }) own),
-    own_topmost (record { mount = here.mount; node = object }) own,
-  )
+  named_by here own o = grind (arith, common_steps, same_topmost, own_topmost)
 
   pub stepped_agrees : (here : Location ℕ) → Own here.mount → (word : LastWord)
       → Agree OnOwn (stepped nat_eq one task here word) (stepped nat_eq other task here word)
