@@ -5,7 +5,6 @@ use Rattle.vt_spec.specs.Language.Calls.{TaskName}
 use Rattle.vt_spec.specs.Language.Script.Who.{Someone}
 use Rattle.vt_spec.specs.Lists.{Fresh, first_of_list}
 use Rattle.vt_spec.specs.Machine.Run.{Serves}
-use Rattle.vt_spec.specs.Machine.Sealed.{part_of}
 use Rattle.vt_spec.specs.Machine.Turns.{Queued, Sched, Turned, queue_of, turn}
 use Rattle.vt_laws_turns.specs.Commits.{left_by}
 use Rattle.vt_laws_turns.specs.Holds.Held.{HoldsWhatIsSeen}

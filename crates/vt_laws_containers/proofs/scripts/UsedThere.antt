@@ -1,5 +1,5 @@
 -- A filesystem that a set uses is there.
-use Rattle.std.proofs.Common.{arith, ◌≡◌, sym, ap, subst, ◌∙◌, ⊎_elim, ℕ, nat_eq, true, true≢false, List, ◌++◌, flat_map, is_some, map, eqb-true}
+use Rattle.std.proofs.Common.{arith, ◌≡◌, sym, subst, ⊎_elim, ℕ, nat_eq, true, true≢false, List, ◌++◌, flat_map, is_some, map, eqb-true}
 use Rattle.std.proofs.lemmas.Grind.{common_steps}
 use Rattle.std.specs.Prelude.{Contains}
 use Rattle.std.proofs.lemmas.Bool.{and_parts}

@@ -34,7 +34,7 @@ use Rattle.vt_laws_members.proofs.judging.AllJudged.{owned}
 use Rattle.vt_laws_members.proofs.judging.Grounds.{IsTheirs, numbered, theirs_from}
 use Rattle.vt_laws_members.proofs.judging.MountTrees.{bind_alike, children_own, own_theirs}
 use Rattle.vt_laws_members.proofs.judging.SeenInPart.{theirs_directly}
-use Rattle.vt_laws_members.specs.Changes.Changes.{EndAlike, EndsAlike, IsCallOfTheirs}
+use Rattle.vt_laws_members.specs.Changes.Changes.{EndsAlike, IsCallOfTheirs}
 use Rattle.vt_laws_members.proofs.changes.letting_go.Heard.{heard_by_own, master_same}
 use Rattle.vt_laws_members.proofs.changes.letting_go.Moving.{StandsHere, one}
 use Rattle.vt_laws_members.proofs.changes.letting_go.Umounting.{of_passed}

@@ -1,6 +1,6 @@
 -- The groups and masters of what is attached to mounts of theirs are heard, or new: their masters are the same in the
 -- part.
-use Rattle.std.proofs.Common.{arith, ◌≡◌, ◌∙◌, ℕ, nat_eq, Bool, true, false, List, Some, None}
+use Rattle.std.proofs.Common.{arith, ◌≡◌, ℕ, nat_eq, Bool, true, false, List, Some, None}
 use Rattle.std.proofs.lemmas.Grind.{common_steps}
 use Rattle.std.specs.List.{list_any}
 use Rattle.std.proofs.lemmas.Option.{same_Some}

@@ -1,5 +1,5 @@
 -- A supply of numbers that a world does not use serves its part.
-use Rattle.std.proofs.Common.{arith, sym, subst, ◌∙◌, inl, inr, ⊎_elim, ℕ, nat_eq, true≢false, List, [], ◌∷◌, ◌++◌, filter, flat_map, map}
+use Rattle.std.proofs.Common.{arith, sym, subst, inl, inr, ⊎_elim, ℕ, nat_eq, true≢false, List, [], ◌∷◌, ◌++◌, filter, flat_map, map}
 use Rattle.std.proofs.lemmas.Grind.{common_steps}
 use Rattle.std.proofs.lemmas.Bool.{false_from_ne_true}
 use Rattle.vt_spec.specs.Language.Calls.{TaskName}

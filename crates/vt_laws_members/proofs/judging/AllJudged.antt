@@ -1,7 +1,7 @@
 -- Calls of members are judged in their part as in the world.
 use Rattle.std.proofs.Common.{arith, ◌≡◌, refl, sym, ap, subst, ◌∙◌, inr, ℕ, nat_eq, Bool, true, false, cond, true≢false, List, [], ◌∷◌, filter, find, Option, Some, None, Ok, not, length, ◌&&◌, ◌||◌, ◌+◌}
 use Rattle.std.proofs.lemmas.Grind.{common_steps}
-use Rattle.std.specs.Prelude.{nat_lt, ok_or, option_to_list, ◌==◌}
+use Rattle.std.specs.Prelude.{nat_lt, ok_or, option_to_list}
 use Rattle.vt_spec.specs.declared.errors.Rule.TheVariants.{E6, L1, S4}
 use Rattle.vt_spec.specs.Errors.{and_then, denial, unless}
 use Rattle.vt_spec.specs.FileTree.{is_removed}

@@ -6,7 +6,6 @@ use Rattle.std.proofs.lemmas.Bool.{or_parts}
 use Rattle.vt_spec.specs.declared.errors.Rule.TheVariants.{M2, M3, M4, M5, M6, M7, M9, M10}
 use Rattle.vt_spec.specs.Errors.{Rules, and_then, unless}
 use Rattle.vt_spec.specs.Language.Calls.{Call, MountFlags, OverlayWords, TaskName}
-use Rattle.vt_spec.specs.Language.Calls.Call.{Bind, MountOverlay, MountPlain}
 use Rattle.vt_spec.specs.Lists.{Fresh, is_among}
 use Rattle.vt_spec.specs.Machine.Apply.{overfills}
 use Rattle.vt_spec.specs.Machine.Invariants.{IsWorld}

@@ -1,7 +1,6 @@
 -- Descriptors of others that are closed: close(2).
 use Rattle.std.proofs.Common.{arith, ◌≡◌, refl, inl, inr, ⊎_elim, ℕ, nat_eq, List, [], Some, map}
 use Rattle.std.proofs.lemmas.Grind.{common_steps}
-use Rattle.std.specs.Prelude.{◌==◌}
 use Rattle.vt_spec.specs.Language.Calls.{Call, TaskName}
 use Rattle.vt_spec.specs.Lists.{Fresh}
 use Rattle.vt_spec.specs.Machine.Apply.{apply}

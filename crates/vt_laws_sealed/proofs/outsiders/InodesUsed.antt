@@ -1,5 +1,5 @@
 -- The inodes of a filesystem that a sealed set uses are in use, where the set sees the same.
-use Rattle.std.proofs.Common.{arith, ◌≡◌, refl, sym, ap, subst, ◌∙◌, inl, inr, ⊎_elim, ℕ, nat_eq, Bool, true, false, cond, true≢false, List, [], ◌++◌, Option, Some, None, filter, flat_map, is_some, map, not, ◌&&◌, ◌||◌, eq-eqb, eqb-true}
+use Rattle.std.proofs.Common.{arith, ◌≡◌, refl, sym, ap, subst, ◌∙◌, inl, inr, ⊎_elim, ℕ, nat_eq, Bool, true, false, true≢false, List, [], ◌++◌, Option, Some, None, filter, flat_map, is_some, map, not, ◌&&◌, ◌||◌, eq-eqb, eqb-true}
 use Rattle.std.proofs.lemmas.Grind.{common_steps}
 use Rattle.std.specs.List.{filter_map, list_all, list_any}
 use Rattle.std.proofs.lemmas.Bool.{and_parts, not-true, or_cases, or_left}

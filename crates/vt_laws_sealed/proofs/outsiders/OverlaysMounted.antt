@@ -1,5 +1,5 @@
 -- Overlays that others mount over their own layers: mount(2) of an overlay.
-use Rattle.std.proofs.Common.{arith, ◌≡◌, refl, sym, ap, subst, ◌∙◌, inl, inr, ⊎_elim, ℕ, nat_eq, false, true≢false, List, [], ◌∷◌, ◌++◌, ◌*◌, ◌+◌, Option, Some, None, Result, Ok, Err, map, not, eqb-true, eq-eqb}
+use Rattle.std.proofs.Common.{arith, ◌≡◌, refl, sym, ap, subst, ◌∙◌, inl, inr, ⊎_elim, ℕ, nat_eq, false, true≢false, List, [], ◌∷◌, ◌++◌, ◌*◌, ◌+◌, Option, Some, None, Result, Ok, Err, map, eqb-true, eq-eqb}
 use Rattle.std.proofs.lemmas.Grind.{common_steps}
 use Rattle.std.specs.Prelude.{option_map, option_to_list}
 use Rattle.std.proofs.lemmas.Bool.{and_parts, false_from_ne_true, not-true}
@@ -13,7 +13,7 @@ use Rattle.vt_spec.specs.Machine.NewMounts.{new_mount, overlay_filesystem}
 use Rattle.vt_spec.specs.Machine.Permits.{Permit}
 use Rattle.vt_spec.specs.Machine.Permits.Permit.{ToMountOverlay}
 use Rattle.vt_spec.specs.Machine.Rules.Mounting.{LayerLocations, each_walked, layer_at, layer_locations, layers_walked, overlay_at, source_walk, walked_if_given, work_walked}
-use Rattle.vt_spec.specs.Machine.Sealed.{locations, no_outsider_on}
+use Rattle.vt_spec.specs.Machine.Sealed.{no_outsider_on}
 use Rattle.vt_spec.specs.Machine.Settled.{has_layer_on, settled}
 use Rattle.vt_spec.specs.Machine.Walking.{Here, Stop, walk_end}
 use Rattle.vt_spec.specs.Machine.World.{Filesystem, Layer, Overlay, Task, World, layers_of, mount_at, task_called}

@@ -1,7 +1,7 @@
 -- Turns keep it that calls under way hold what their tasks see.
 use Rattle.std.proofs.lemmas.Grind.{common_steps, reverse_onto}
-use Rattle.std.proofs.Common.{◌≡◌, ◌≢◌, refl, sym, ap, subst, ◌∙◌, ◌⊎◌, inl, inr, ⊎_elim, ℕ, nat_eq, Bool, true, false, true≢false, cond, not, List, [], ◌∷◌, ◌++◌, ◌+◌, ◌*◌, ◌||◌, Some, map, reverse, is_some, eq-eqb, eqb-true, arith}
-use Rattle.std.specs.Prelude.{Contains, slice_get, ◌==◌}
+use Rattle.std.proofs.Common.{◌≡◌, ◌≢◌, refl, sym, ap, subst, ◌∙◌, ◌⊎◌, inl, inr, ⊎_elim, ℕ, nat_eq, Bool, true, false, true≢false, cond, not, List, [], ◌∷◌, ◌++◌, ◌*◌, Some, map, reverse, is_some, eq-eqb, eqb-true, arith}
+use Rattle.std.specs.Prelude.{Contains, slice_get}
 use Rattle.std.specs.List.{list_any}
 use Rattle.std.proofs.lemmas.Option.{get_or_from_slice_get, slice_get_within}
 use Rattle.vt_spec.specs.Language.Calls.{Call, TaskName, same_name}

@@ -1,6 +1,6 @@
 -- In the schedules of a script the numbers handed in are unused, and forks name few groups.
 use Rattle.std.proofs.lemmas.Grind.{common_steps}
-use Rattle.std.proofs.Common.{◌≡◌, refl, sym, ap, subst, ◌∙◌, inl, inr, ⊎_elim, ℕ, suc, nat_eq, Bool, true, false, true≢false, cond, List, [], ◌∷◌, ◌++◌, ◌+◌, ◌||◌, Option, Some, None, find, map, eqb-true, add-one, arith, ◌<◌}
+use Rattle.std.proofs.Common.{◌≡◌, refl, sym, ap, subst, ◌∙◌, inl, inr, ⊎_elim, ℕ, suc, nat_eq, Bool, true, false, true≢false, cond, List, [], ◌∷◌, ◌++◌, ◌+◌, Option, Some, None, find, map, eqb-true, add-one, arith, ◌<◌}
 use Rattle.std.specs.Prelude.{nat_le, option_map, unwrap_or}
 use Rattle.std.specs.List.{cons_option, filter_map}
 use Rattle.std.proofs.lemmas.Bool.{false_from_ne_true}
@@ -10,7 +10,7 @@ use Rattle.vt_spec.specs.Language.Script.Request.{Asking, Calling}
 use Rattle.vt_spec.specs.Lists.{Fresh, counted_from, first_of_list, folded, is_among, rest_of}
 use Rattle.vt_spec.specs.Machine.Invariants.{IsWorld}
 use Rattle.vt_spec.specs.Machine.Run.{Serves, first_world, handed, later, numbers_for, numbers_in_use}
-use Rattle.vt_spec.specs.Machine.Turns.{Item, Queue, Queued, Sched, Turned, first_sched, queue_of, queued, queued_line, queued_request, queues_of, refused_line, same_who, schedule_who, shortened, turn, with_item_last}
+use Rattle.vt_spec.specs.Machine.Turns.{Item, Queue, Queued, Sched, Turned, first_sched, queue_of, queued_line, queued_request, queues_of, refused_line, same_who, schedule_who, shortened, turn, with_item_last}
 use Rattle.vt_spec.specs.Machine.Turns.Item.{Asks, Calls, Refused}
 use Rattle.vt_spec.specs.Machine.World.{World}
 use Rattle.vt_spec.proofs.Found.{found_among}

@@ -6,7 +6,7 @@ use Rattle.std.specs.Prelude.{option_to_list}
 use Rattle.vt_spec.specs.Language.Script.{Who}
 use Rattle.vt_spec.specs.Lists.{Fresh}
 use Rattle.vt_spec.specs.Machine.Run.{handed, later}
-use Rattle.vt_spec.specs.Machine.Turns.{Reply, Sched, played, reply_text, schedule_who, turn, turn_of_line, turns_text}
+use Rattle.vt_spec.specs.Machine.Turns.{Reply, Sched, played, reply_text, schedule_who, turn_of_line, turns_text}
 use Rattle.vt_laws_turns.specs.Commits.{TextsAreOfCommits, replies, text_of_replies, turn_given, turns_given}
 use Rattle.vt_laws_turns.proofs.played.Turning.{replies_are_of_commits}
 

@@ -1,5 +1,5 @@
 -- Calls of theirs end alike in all worlds that are the same.
-use Rattle.std.proofs.Common.{arith, subst, ◌∙◌, nat_eq}
+use Rattle.std.proofs.Common.{arith, subst, nat_eq}
 use Rattle.std.proofs.lemmas.Grind.{common_steps}
 use Rattle.vt_laws_members.specs.Changes.Changes.{grown}
 use Rattle.vt_laws_worlds.proofs.one_text.answered.AlikeAnswered.{any_same_worlds_are_answered_alike}

@@ -16,7 +16,7 @@ use Rattle.vt_spec.proofs.Options.{none_is_some}
 use Rattle.vt_laws_members.specs.Changes.Changes.{grown}
 use Rattle.vt_laws_members.proofs.changes.tasks.Denied.{denials_end_alike}
 use Rattle.vt_laws_turns.proofs.TurnShapes.{Shape, is_task_call, turn_shape}
-use Rattle.vt_laws_turns.proofs.played.Turning.{Answers, Turns, turn_is}
+use Rattle.vt_laws_turns.proofs.played.Turning.{Turns, turn_is}
 use Rattle.vt_laws_containers.specs.SealedTurns.MembersTurns.{TheirAnswersAreOfTheGrownPart, TheirAnswersAreOfTheirPart, TheirRefusalsAreOfTheirPart, TurnsAlikeFor, part_of_sched}
 use Rattle.vt_laws_containers.specs.SealedTurns.OutsidersTurns.{their_calls}
 use Rattle.vt_laws_containers.proofs.sealed_turns.members.Grown.{were_of_the_set}

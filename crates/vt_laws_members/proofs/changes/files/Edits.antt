@@ -7,7 +7,7 @@ use Rattle.vt_spec.specs.declared.errors.Rule.TheVariants.{E6}
 use Rattle.vt_spec.specs.Errors.{and_then, unless}
 use Rattle.vt_spec.specs.FileTree.{FileTree, targets_in}
 use Rattle.vt_spec.specs.Language.Calls.{TaskName}
-use Rattle.vt_spec.specs.Language.Changes.{Change, changed, changed_node, node_with_attr, node_with_mark}
+use Rattle.vt_spec.specs.Language.Changes.{Change, changed, changed_node}
 use Rattle.vt_spec.specs.Language.Changes.Change.{SetAttr, SetBytes, SetMark}
 use Rattle.vt_spec.specs.Language.Limits.{largest_file}
 use Rattle.vt_spec.specs.Lists.{is_among}
@@ -27,7 +27,7 @@ use Rattle.vt_spec.specs.Machine.Settled.{named_in}
 use Rattle.vt_spec.specs.Machine.Walking.{Here, Place, directory_walk, file_walk, object_walk, walk_end}
 use Rattle.vt_spec.specs.Machine.World.{Task, World}
 use Rattle.vt_spec.specs.Rights.{owns}
-use Rattle.vt_spec.specs.Tree.{Node, entries_in, node_with_bytes}
+use Rattle.vt_spec.specs.Tree.{Node, entries_in}
 use Rattle.vt_spec.proofs.Lists.{Among}
 use Rattle.vt_spec.proofs.NodeChanges.{entries-node_with_attr, entries-node_with_mark}
 use Rattle.vt_spec.proofs.Nodes.{entries-node_with_bytes}

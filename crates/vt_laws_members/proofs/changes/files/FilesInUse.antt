@@ -1,8 +1,7 @@
 -- Where a plain tree changes and keeps its names, all stays in use.
-use Rattle.std.proofs.Common.{arith, ◌≡◌, refl, sym, ap, subst, ◌∙◌, ℕ, nat_eq, Bool, true, false, cond, [], ◌||◌}
+use Rattle.std.proofs.Common.{arith, ◌≡◌, refl, sym, ap, subst, ◌∙◌, ℕ, nat_eq, Bool, true, false, cond, []}
 use Rattle.std.proofs.lemmas.Grind.{common_steps}
 use Rattle.vt_spec.specs.FileTree.{FileTree}
-use Rattle.vt_spec.specs.Lists.{is_among}
 use Rattle.vt_spec.specs.Machine.Filesystems.{with_files}
 use Rattle.vt_spec.specs.Machine.Settled.{filesystem_lives, named_in}
 use Rattle.vt_spec.specs.Machine.World.{Filesystem, World, is_overlay, replaced_if_numbered}

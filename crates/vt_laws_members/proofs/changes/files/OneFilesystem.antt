@@ -1,5 +1,5 @@
 -- A filesystem that a set uses, by its number: it is one in the world, and the same one in the part.
-use Rattle.std.proofs.Common.{arith, ◌≡◌, refl, sym, ap, ◌∙◌, ⊎_elim, ℕ, nat_eq, eqb-true, true, false, cond, true≢false, List, [], ◌∷◌, Some, find}
+use Rattle.std.proofs.Common.{arith, ◌≡◌, refl, sym, ap, ◌∙◌, ⊎_elim, ℕ, nat_eq, eqb-true, true, cond, true≢false, List, [], ◌∷◌, Some, find}
 use Rattle.std.proofs.lemmas.Grind.{common_steps}
 use Rattle.std.specs.Prelude.{unwrap_or}
 use Rattle.vt_spec.specs.Language.Calls.{TaskName}

@@ -9,7 +9,7 @@ use Rattle.vt_spec.specs.Lists.{holds_of, then_some, when}
 use Rattle.vt_spec.specs.Machine.Detach.{after_going, is_going, mount_point_left}
 use Rattle.vt_spec.specs.Machine.Invariants.{IsWorld, is_nowhere_or_attached, is_private}
 use Rattle.vt_spec.specs.Machine.Mounts.{Location, Mount, Propagation, detached, group_of, source_of}
-use Rattle.vt_spec.specs.Machine.Receives.{heir, is_member_of}
+use Rattle.vt_spec.specs.Machine.Receives.{is_member_of}
 use Rattle.vt_spec.specs.Machine.Sealed.{is_at, is_member_task, is_own_mount, locations, members, own_mounts, part_of, roots_and_directories, sealed, seen_by_descriptor, used_directly}
 use Rattle.vt_spec.specs.Machine.World.{Namespace, Task, World, locations_of, mount_at, mount_numbered}
 use Rattle.vt_spec.proofs.Lists.{Among, among-append, among-append_left, among-append_right, among-filter, among-flat_map, among-from_filter, among-from_flat_map, among-from_map, among-map, among_from_list_all, any_among, any_from_among, pair-map}

@@ -1,5 +1,5 @@
 -- Filesystems of a part: their numbers, layers and cuts.
-use Rattle.std.proofs.Common.{arith, ◌≡◌, refl, ap, subst, ◌∙◌, ⊎_elim, ℕ, nat_eq, true, false, List, Option, Some, None, filter}
+use Rattle.std.proofs.Common.{arith, ◌≡◌, refl, subst, ⊎_elim, ℕ, nat_eq, true, false, List, Option, Some, None, filter}
 use Rattle.std.proofs.lemmas.Grind.{common_steps}
 use Rattle.std.specs.List.{list_any}
 use Rattle.vt_spec.specs.Language.Calls.{TaskName}

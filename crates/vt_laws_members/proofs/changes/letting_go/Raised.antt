@@ -1,5 +1,5 @@
 -- Where tasks change alone and the rest is swept, change numbers of tasks and of the world are raised, and no others.
-use Rattle.std.proofs.Common.{arith, ◌≡◌, refl, ap, ◌∙◌, ℕ, nat_eq, Bool, true, false, true≢false, List, [], Option, Some, None, filter, is_some, map}
+use Rattle.std.proofs.Common.{arith, ◌≡◌, refl, ◌∙◌, ℕ, nat_eq, Bool, true, false, true≢false, List, [], Option, Some, None, is_some, map}
 use Rattle.std.proofs.lemmas.Grind.{common_steps}
 use Rattle.std.proofs.lemmas.Bool.{or_left}
 use Rattle.vt_spec.specs.Language.Calls.{TaskName}
@@ -7,7 +7,6 @@ use Rattle.vt_spec.specs.Lists.{holds_of, same_list}
 use Rattle.vt_spec.specs.Machine.Filesystems.{raised, raised_if_changed}
 use Rattle.vt_spec.specs.Machine.Invariants.{is_private}
 use Rattle.vt_spec.specs.Machine.Mounts.{Mount, Propagation, group_of}
-use Rattle.vt_spec.specs.Machine.Mounts.Propagation.{Private}
 use Rattle.vt_spec.specs.Machine.Policy.{numbers_raised, raised_namespace, raised_task, same_mount, same_mounts_in}
 use Rattle.vt_spec.specs.Machine.Receives.{has_members}
 use Rattle.vt_spec.specs.Machine.Settled.{is_located, mount_lives, settled}

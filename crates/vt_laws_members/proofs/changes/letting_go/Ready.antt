@@ -9,7 +9,7 @@ use Rattle.vt_spec.specs.Lists.{any_pair, is_among}
 use Rattle.vt_spec.specs.Machine.Mounts.{Location, Mount}
 use Rattle.vt_spec.specs.Machine.Sealed.{is_at, is_own_mount, locations, members, own_lowers, own_mounts, part_of, roots_and_directories, used_directly, used_filesystems}
 use Rattle.vt_spec.specs.Machine.Settled.{has_layer_on, is_located, is_mounted, mount_lives, named_in, only_among}
-use Rattle.vt_spec.specs.Machine.World.{Filesystem, Layer, Overlay, Task, World, all_locations, is_overlay, mount_at, mount_numbered}
+use Rattle.vt_spec.specs.Machine.World.{Filesystem, Layer, Task, World, all_locations, is_overlay, mount_at, mount_numbered}
 use Rattle.vt_spec.proofs.Lists.{Among, among-append, among-append_left, among-append_right, among-filter, among-from_filter, among-from_filter_map, among-from_map, among-map, any_among, any_from_among, none_among, none_from_among}
 use Rattle.vt_laws_mounts.specs.Mounts.Invariants.{OneNumberEach}
 use Rattle.vt_laws_mounts.proofs.mounts.MountsReplaced.{found_itself}

@@ -1,5 +1,5 @@
 -- A set of tasks that sees less of a world has the part of its part.
-use Rattle.std.proofs.Common.{arith, ◌≡◌, refl, ap, ◌∙◌, ℕ, nat_eq, Bool, true, false, true≢false, List, [], ◌∷◌, Option, Some, None, filter}
+use Rattle.std.proofs.Common.{arith, ◌≡◌, refl, ap, ◌∙◌, ℕ, nat_eq, Bool, true, true≢false, List, [], ◌∷◌, Option, Some, None, filter}
 use Rattle.std.proofs.lemmas.Grind.{common_steps}
 use Rattle.std.specs.List.{filter_map, list_any}
 use Rattle.vt_spec.specs.Language.Calls.{TaskName}

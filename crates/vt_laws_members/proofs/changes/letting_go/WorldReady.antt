@@ -1,14 +1,14 @@
 -- A world in which tasks of a sealed set let locations go is ready to be swept.
-use Rattle.std.proofs.Common.{arith, ◌≡◌, refl, sym, ap, subst, ◌∙◌, ◌⊎◌, inl, inr, ⊎_elim, ℕ, nat_eq, Bool, true, false, true≢false, List, [], Option, Some, None, filter, is_some, not, ◌&&◌, ◌||◌, eq-eqb, eqb-true}
+use Rattle.std.proofs.Common.{arith, ◌≡◌, refl, sym, ap, subst, ◌∙◌, ◌⊎◌, inl, inr, ⊎_elim, ℕ, nat_eq, Bool, true, false, true≢false, List, [], Option, Some, None, filter, is_some, not, eq-eqb, eqb-true}
 use Rattle.std.proofs.lemmas.Grind.{common_steps}
-use Rattle.std.specs.List.{list_all, list_any}
+use Rattle.std.specs.List.{list_any}
 use Rattle.std.proofs.lemmas.Bool.{and_parts, not-true, or_cases, or_left, or_right}
 use Rattle.vt_spec.specs.Language.Calls.{TaskName}
-use Rattle.vt_spec.specs.Lists.{holds_of, is_among}
+use Rattle.vt_spec.specs.Lists.{holds_of}
 use Rattle.vt_spec.specs.Machine.Invariants.{IsWorld, ListsNumbers}
 use Rattle.vt_spec.specs.Machine.Locked.{overlay_or}
 use Rattle.vt_spec.specs.Machine.Mounts.{Location, Mount}
-use Rattle.vt_spec.specs.Machine.Sealed.{all_named, is_member_task, is_own_namespace, locations, members, no_outsider_on, other_mounts, outsiders, own_lowers, part_of, sealed, used_alone, used_filesystems, wholly_locked}
+use Rattle.vt_spec.specs.Machine.Sealed.{is_member_task, is_own_namespace, locations, members, no_outsider_on, other_mounts, outsiders, own_lowers, part_of, sealed, used_alone, used_filesystems, wholly_locked}
 use Rattle.vt_spec.specs.Machine.Settled.{has_layer_on, is_located, mount_lives, without_dead_mounts}
 use Rattle.vt_spec.specs.Machine.World.{Filesystem, Layer, Overlay, Task, World, all_locations, filesystem_numbered, is_overlay, layers_of, locations_of, mount_at, mount_numbered}
 use Rattle.vt_spec.specs.TreeInvariant.{IsTree}

@@ -1,5 +1,5 @@
 -- What a granted call of theirs that makes, gives or takes a name asks of a plain tree.
-use Rattle.std.proofs.Common.{arith, ◌≡◌, refl, sym, ap, subst, ◌∙◌, ⊎_elim, ℕ, nat_eq, eqb-true, eq-eqb, true, false, true≢false, List, [], ◌∷◌, Some, Ok, is_some, map, ◌||◌, ◌&&◌}
+use Rattle.std.proofs.Common.{arith, ◌≡◌, refl, sym, ap, subst, ◌∙◌, ⊎_elim, ℕ, nat_eq, eqb-true, eq-eqb, true, false, true≢false, List, [], ◌∷◌, Some, Ok, is_some, map, ◌&&◌}
 use Rattle.std.proofs.lemmas.Grind.{common_steps}
 use Rattle.std.proofs.lemmas.Bool.{or_cases}
 use Rattle.vt_spec.specs.FileTree.{FileTree}

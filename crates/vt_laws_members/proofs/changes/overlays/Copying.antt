@@ -1,6 +1,6 @@
 -- A change of an overlay by which inodes are copied up, and edited: the two filesystems that it changes, in the world and
 -- in the part.
-use Rattle.std.proofs.Common.{arith, ◌||◌, ◌≡◌, refl, sym, ap, subst, ◌∙◌, inl, ⊎_elim, ℕ, nat_eq, eqb-true, Bool, true, false, cond, true≢false, List, [], ◌∷◌, ◌++◌, Some, flat_map, map}
+use Rattle.std.proofs.Common.{arith, ◌≡◌, refl, sym, ap, subst, ◌∙◌, inl, ⊎_elim, ℕ, nat_eq, eqb-true, Bool, true, false, cond, true≢false, List, [], ◌∷◌, ◌++◌, Some, flat_map, map}
 use Rattle.std.proofs.lemmas.Grind.{common_steps}
 use Rattle.std.specs.Prelude.{⊤, All, option_to_list}
 use Rattle.std.specs.List.{list_all, list_any}

@@ -1,5 +1,5 @@
 -- Calls of theirs that edit a file through an overlay: write(2), chmod(2), chown(2), pwrite(2).
-use Rattle.std.proofs.Common.{arith, ◌≡◌, refl, sym, ap, subst, ◌∙◌, ℕ, nat_eq, true, false, true≢false, List, ◌∷◌, Option, Some, None, Ok, is_some, map, ◌||◌}
+use Rattle.std.proofs.Common.{arith, ◌≡◌, refl, sym, ap, subst, ◌∙◌, ℕ, nat_eq, true, false, true≢false, List, ◌∷◌, Option, Some, None, Ok, is_some}
 use Rattle.std.proofs.lemmas.Grind.{common_steps}
 use Rattle.std.specs.Prelude.{IfOk}
 use Rattle.vt_spec.specs.Language.Answers.Answer.{Done}

@@ -1,5 +1,5 @@
 -- Where tasks change alone, the change numbers of the caller and of the world are raised, and no others.
-use Rattle.std.proofs.Common.{arith, ◌≡◌, refl, ℕ, nat_eq, Bool, true, false, List, [], ◌∷◌, Option, Some, None, map, ◌&&◌, eq-eqb}
+use Rattle.std.proofs.Common.{arith, ◌≡◌, refl, ℕ, nat_eq, Bool, true, false, List, [], ◌∷◌, Option, Some, None, map, eq-eqb}
 use Rattle.std.proofs.lemmas.Grind.{common_steps}
 use Rattle.std.proofs.lemmas.Bool.{and_from}
 use Rattle.vt_spec.specs.Language.Calls.{MountFlags, TaskName}

@@ -1,5 +1,5 @@
 -- Worlds that differ in the masters of groups without members have the same invariants of mounts, and the same goes.
-use Rattle.std.proofs.Common.{arith, ◌≡◌, refl, sym, ap, ◌∙◌, ℕ, zero, suc, nat_eq, Bool, true, false, cond, ◌∷◌, Option, Some, None, length}
+use Rattle.std.proofs.Common.{arith, ◌≡◌, refl, sym, ap, ◌∙◌, ℕ, zero, suc, nat_eq, Bool, true, false, cond, Option, Some, None, length}
 use Rattle.std.proofs.lemmas.Grind.{common_steps}
 use Rattle.vt_spec.specs.Lists.{chain, holds_of, is_among}
 use Rattle.vt_spec.specs.Machine.Attach.{receivers_of}
@@ -7,7 +7,7 @@ use Rattle.vt_spec.specs.Machine.Detach.{going, going_at, going_from}
 use Rattle.vt_spec.specs.Machine.Invariants.{HasLivingGroups, Lives, MountInvariants}
 use Rattle.vt_spec.specs.Machine.Invariants.Lives.{has_master, has_no_master}
 use Rattle.vt_spec.specs.Machine.Mounts.{Location, Mount, is_shared, source_of}
-use Rattle.vt_spec.specs.Machine.Receives.{groups_up, has_members, receivers, receives}
+use Rattle.vt_spec.specs.Machine.Receives.{groups_up, has_members, receives}
 use Rattle.vt_spec.specs.Machine.Settled.{without_dead_groups}
 use Rattle.vt_spec.specs.Machine.World.{World, mount_at}
 use Rattle.vt_spec.proofs.Found.{filter_alike}

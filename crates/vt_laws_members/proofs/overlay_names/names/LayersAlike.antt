@@ -1,7 +1,7 @@
 -- A change through an overlay makes the same in the part: lower layers of theirs show there what they show in the
 -- world.
 use Rattle.std.proofs.lemmas.Grind.{common_steps}
-use Rattle.std.proofs.Common.{◌≡◌, refl, sym, ap, ◌∙◌, ℕ, suc, nat_eq, arith, Bool, true, false, cond, List, [], ◌∷◌, ◌++◌, Option, Some, None, is_some, map, not, option_and_then, ◌+◌}
+use Rattle.std.proofs.Common.{◌≡◌, refl, sym, ap, ◌∙◌, ℕ, suc, nat_eq, arith, Bool, true, false, cond, List, [], ◌∷◌, ◌++◌, Option, Some, None, map, not, option_and_then, ◌+◌}
 use Rattle.std.specs.List.{list_any, slice_get}
 use Rattle.std.specs.Prelude.{⊤}
 use Rattle.std.proofs.lemmas.Option.{same_Some}

@@ -1,7 +1,6 @@
 -- Events of groups of others reach no mount of a sealed set.
 use Rattle.std.proofs.lemmas.Grind.{common_steps}
-use Rattle.std.proofs.Common.{◌≡◌, refl, sym, ap, subst, ◌∙◌, ◌⊎◌, inr, ⊎_elim, ℕ, nat_eq, true, false, true≢false, List, Option, Some, None, is_some, length, not, ◌||◌, ◌&&◌, eq-eqb, arith}
-use Rattle.std.specs.List.{list_all}
+use Rattle.std.proofs.Common.{◌≡◌, refl, sym, ap, subst, ◌∙◌, ◌⊎◌, inr, ⊎_elim, ℕ, nat_eq, true, true≢false, List, Option, Some, None, length, eq-eqb, arith}
 use Rattle.std.proofs.lemmas.Bool.{and_parts, false_from_ne_true, not-true, or_left, or_right}
 use Rattle.std.proofs.lemmas.Option.{same_Some}
 use Rattle.vt_spec.specs.Lists.{holds_of, is_among}

@@ -1,8 +1,8 @@
 -- The receivers of a group of theirs are the same in the world and in the part.
 use Rattle.std.proofs.lemmas.Grind.{common_steps}
-use Rattle.std.proofs.Common.{◌≡◌, refl, sym, ap, ◌∙◌, ◌⊎◌, inl, inr, ⊎_elim, ℕ, nat_eq, true, false, cond, true≢false, List, [], ◌∷◌, Option, Some, None, filter, is_some, length, map, not, ◌||◌, ◌&&◌, ◌≤◌, arith}
+use Rattle.std.proofs.Common.{◌≡◌, refl, sym, ap, ◌∙◌, ◌⊎◌, inl, inr, ⊎_elim, ℕ, nat_eq, true, false, cond, true≢false, List, [], ◌∷◌, Option, Some, None, filter, length, map, not, ◌||◌, ◌≤◌, arith}
 use Rattle.std.specs.Prelude.{unwrap_or}
-use Rattle.std.specs.List.{filter_map, list_all}
+use Rattle.std.specs.List.{filter_map}
 use Rattle.std.proofs.lemmas.Bool.{and_parts, false_from_ne_true, not-true, or_left, or_right}
 use Rattle.std.proofs.lemmas.Option.{same_Some}
 use Rattle.vt_spec.specs.Language.Calls.{TaskName}

@@ -1,6 +1,6 @@
 -- Without dead mounts the part is as it was.
 use Rattle.std.proofs.lemmas.Grind.{common_steps}
-use Rattle.std.proofs.Common.{◌≡◌, refl, ap, ◌∙◌, inl, inr, ⊎_elim, ℕ, nat_eq, Bool, true, true≢false, List, [], ◌∷◌, Option, Some, is_some, filter, eq-eqb, eqb-true, arith}
+use Rattle.std.proofs.Common.{◌≡◌, refl, inl, inr, ⊎_elim, ℕ, nat_eq, Bool, true, true≢false, List, [], ◌∷◌, Option, Some, filter, eq-eqb, eqb-true, arith}
 use Rattle.std.specs.List.{filter_map}
 use Rattle.std.proofs.lemmas.Bool.{or_left, or_right}
 use Rattle.vt_spec.specs.Language.Calls.{TaskName}

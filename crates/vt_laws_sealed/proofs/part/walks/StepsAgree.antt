@@ -1,5 +1,5 @@
 -- A step is the same in two worlds that show the same where it meets filesystems.
-use Rattle.std.proofs.Common.{arith, append-nil, ◌≡◌, refl, sym, ap, subst, ◌∙◌, inl, inr, ℕ, nat_eq, Bool, true, false, cond, List, [], ◌∷◌, ◌++◌, Option, Ok, Err, Result, map, flat_map, ◌&&◌, ◌||◌}
+use Rattle.std.proofs.Common.{arith, append-nil, ◌≡◌, refl, sym, ap, subst, ◌∙◌, inl, inr, ℕ, nat_eq, Bool, true, false, cond, List, [], ◌∷◌, ◌++◌, Option, Ok, Err, Result, flat_map, ◌&&◌, ◌||◌}
 use Rattle.std.proofs.lemmas.Grind.{common_steps}
 use Rattle.std.specs.Prelude.{IfOk, ok_or, option_map, option_to_list}
 use Rattle.std.proofs.lemmas.Bool.{and_from}

@@ -1,6 +1,6 @@
 -- No call gives a detached mount other flags, a mount point or a namespace.
 use Rattle.std.proofs.lemmas.Grind.{common_steps}
-use Rattle.std.proofs.Common.{◌≡◌, refl, sym, ap, subst, ◌∙◌, ⊎_elim, ℕ, suc, nat_eq, Bool, true, false, true≢false, List, [], ◌∷◌, ◌||◌, ◌&&◌, Option, Some, None, Ok, filter, map, is_some, eqb-true, arith}
+use Rattle.std.proofs.Common.{◌≡◌, refl, sym, ap, subst, ◌∙◌, ⊎_elim, ℕ, suc, nat_eq, Bool, true, false, true≢false, List, [], ◌∷◌, ◌&&◌, Option, Some, None, Ok, filter, map, eqb-true, arith}
 use Rattle.std.specs.Prelude.{option_to_list}
 use Rattle.std.specs.List.{list_all}
 use Rattle.std.proofs.lemmas.Bool.{and_parts}

@@ -1,5 +1,5 @@
 -- The filesystems after a permit are those before it, but for those that it changes, or new.
-use Rattle.std.proofs.Common.{arith, ◌≡◌, refl, sym, ap, subst, ◌∙◌, ◌⊎◌, ⊎_elim, ℕ, nat_eq, Bool, true, false, cond, List, [], ◌∷◌, ◌++◌, ◌*◌, ◌||◌, map, not, eqb-true}
+use Rattle.std.proofs.Common.{arith, ◌≡◌, refl, sym, ap, subst, ◌∙◌, ◌⊎◌, ⊎_elim, ℕ, nat_eq, Bool, true, false, cond, List, [], ◌∷◌, ◌++◌, ◌*◌, map, not, eqb-true}
 use Rattle.std.proofs.lemmas.Grind.{common_steps}
 use Rattle.std.specs.List.{list_any}
 use Rattle.vt_spec.specs.PathText.{is_empty}
@@ -15,7 +15,7 @@ use Rattle.vt_spec.specs.Machine.Namespaces.{namespace_entered, unshared}
 use Rattle.vt_spec.specs.Machine.NewMounts.{overlay_filesystem, plain_filesystem}
 use Rattle.vt_spec.specs.Machine.Permits.{Permit}
 use Rattle.vt_spec.specs.Machine.Permits.Permit.{ToChange, ToEnterNamespace, ToExit, ToMake, ToMountOverlay, ToMountPlain, ToOpen, ToOpenNew, ToRemoveDirectory, ToRename, ToSetType, ToUnmount, ToUnmountLazily, ToUnshare, ToWritePart}
-use Rattle.vt_spec.specs.Machine.World.{Filesystem, Overlay, Task, World, filesystem_numbered, mount_numbered, replaced_if_numbered, without_task}
+use Rattle.vt_spec.specs.Machine.World.{Filesystem, Task, World, filesystem_numbered, mount_numbered, replaced_if_numbered, without_task}
 use Rattle.vt_spec.proofs.Lists.{Among, among-append, among-from_map}
 use Rattle.vt_spec.proofs.Truths.{nat_eq_itself}
 use Rattle.vt_spec.proofs.Worlds.{filesystems-taken_away, filesystems-without_replaced}

@@ -1,5 +1,5 @@
 -- The sweep leaves a filesystem what it was, but for inodes that nothing uses.
-use Rattle.std.proofs.Common.{arith, ◌≡◌, refl, ap, ◌∙◌, inl, inr, ⊎_elim, ℕ, nat_eq, Bool, true, false, cond, List, Option, Some, None, sym, subst, not}
+use Rattle.std.proofs.Common.{arith, ◌≡◌, refl, ◌∙◌, inl, inr, ⊎_elim, ℕ, nat_eq, Bool, true, false, cond, List, Option, Some, None, sym, subst, not}
 use Rattle.std.proofs.lemmas.Grind.{common_steps}
 use Rattle.std.specs.Prelude.{option_map}
 use Rattle.vt_spec.specs.Lists.{is_among}

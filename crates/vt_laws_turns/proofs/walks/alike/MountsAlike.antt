@@ -1,6 +1,6 @@
 -- Where a namespace has the mounts that it had, its mounts lead up and down as they did.
 use Rattle.std.proofs.lemmas.Grind.{common_steps}
-use Rattle.std.proofs.Common.{◌≡◌, refl, sym, ap, subst, ◌∙◌, ◌⊎◌, inl, inr, ⊎_elim, ℕ, zero, suc, pred, nat_eq, Bool, true, cond, true≢false, List, [], ◌∷◌, Option, Some, None, map, find, filter, length, ◌||◌, ◌&&◌, ◌≤◌, arith, is_some}
+use Rattle.std.proofs.Common.{◌≡◌, refl, sym, ap, subst, ◌∙◌, ◌⊎◌, inl, inr, ⊎_elim, ℕ, zero, suc, pred, nat_eq, Bool, true, cond, true≢false, List, [], ◌∷◌, Option, Some, None, map, find, filter, length, ◌≤◌, arith}
 use Rattle.std.specs.Prelude.{option_map}
 use Rattle.std.proofs.lemmas.Bool.{and_parts, false_from_ne_true}
 use Rattle.std.proofs.lemmas.List.{length-map}

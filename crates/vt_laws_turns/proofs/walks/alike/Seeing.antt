@@ -1,5 +1,5 @@
 -- What a walk met it has met after each further word.
-use Rattle.std.proofs.Common.{arith, inr, ℕ, zero, suc, nat_eq, Bool, true, false, cond, List, [], ◌∷◌, ◌++◌, ◌||◌, Option, Some, None, Ok, Err, Result, flat_map}
+use Rattle.std.proofs.Common.{arith, inr, ℕ, zero, suc, nat_eq, Bool, true, false, cond, List, [], ◌∷◌, ◌||◌, Option, Some, None, Ok, Err, Result, flat_map}
 use Rattle.std.proofs.lemmas.Grind.{common_steps}
 use Rattle.vt_spec.specs.declared.errors.Deny.{Deny}
 use Rattle.vt_spec.specs.Errors.{Rules, and_then, unless}

@@ -1,6 +1,6 @@
 -- Words walked lead where they led, if what they meet is what it was.
 use Rattle.std.proofs.lemmas.Grind.{common_steps}
-use Rattle.std.proofs.Common.{◌≡◌, refl, sym, ap, subst, ◌∙◌, inl, ⊎_elim, ℕ, zero, suc, nat_eq, Bool, true, false, cond, true≢false, not, List, [], ◌∷◌, ◌++◌, ◌||◌, ◌&&◌, ◌⊎◌, Option, Some, None, Ok, Err, Result, map, flat_map, length, eqb-true, arith}
+use Rattle.std.proofs.Common.{◌≡◌, refl, sym, ap, subst, ◌∙◌, inl, ⊎_elim, ℕ, zero, suc, nat_eq, Bool, true, false, cond, true≢false, not, List, [], ◌∷◌, ◌++◌, ◌||◌, ◌⊎◌, Option, Some, None, Ok, Err, Result, flat_map, length, eqb-true, arith}
 use Rattle.std.specs.Prelude.{IfOk, option_map, option_to_list, unwrap_or}
 use Rattle.std.specs.List.{list_all}
 use Rattle.std.proofs.lemmas.Bool.{and_parts}
@@ -15,7 +15,7 @@ use Rattle.vt_spec.specs.Machine.Mounts.{Location, Mount}
 use Rattle.vt_spec.specs.Machine.Walking.{Here, LastWord, Place, Stop, all_met, entered, entry_location, filesystems_of, follow_rules, is_no_word, is_special, last_word, met_at, met_by, object_named, path_text, placed, search_rules, start_of, stepped, steps_at, stopped_by, symlink_of, symlink_start, symlink_there, then_walk, walk_start, walk_unless, word_walked}
 use Rattle.vt_spec.specs.Machine.Walking.LastWord.{Dot, DotDot, Named, NoWord}
 use Rattle.vt_spec.specs.Machine.World.{Task, World, mount_numbered}
-use Rattle.vt_spec.specs.PathText.{ends_in_slash, is_absolute, words}
+use Rattle.vt_spec.specs.PathText.{ends_in_slash, is_absolute}
 use Rattle.vt_spec.specs.Tree.{entries_in, entry_named}
 use Rattle.vt_spec.proofs.Lists.{Among, among-append, among-append_left, among-from_map, any_among, contains_from_among}
 use Rattle.vt_spec.proofs.Options.{none_is_some}

@@ -1,6 +1,6 @@
 -- The walk to a file: how deep symlinks may stand in one another's texts does not matter, and each step is kept.
 use Rattle.std.proofs.lemmas.Grind.{common_steps}
-use Rattle.std.proofs.Common.{◌≡◌, refl, sym, subst, ℕ, zero, suc, nat_eq, Bool, true, false, List, [], ◌∷◌, ◌-◌, ◌≤◌, ◌||◌, length, reverse, Option, Some, None, Ok, Err, Result, arith}
+use Rattle.std.proofs.Common.{◌≡◌, refl, sym, subst, ℕ, zero, suc, nat_eq, Bool, true, false, List, [], ◌∷◌, ◌≤◌, ◌||◌, length, reverse, Option, Some, None, Ok, Err, Result, arith}
 use Rattle.std.specs.Prelude.{nat_lt, ◌==◌}
 use Rattle.std.specs.List.{list_any}
 use Rattle.vt_spec.specs.declared.errors.Deny.{Deny}

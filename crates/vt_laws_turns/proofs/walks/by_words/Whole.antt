@@ -1,7 +1,6 @@
 -- Word by word each walk leads where it leads as a whole.
 use Rattle.std.proofs.lemmas.Grind.{common_steps}
 use Rattle.std.proofs.Common.{◌≡◌, refl, sym, ap, subst, ◌∙◌, cond, ℕ, zero, suc, nat_eq, Bool, true, false, true≢false, List, [], ◌∷◌, ◌+◌, ◌≤◌, length, reverse, Ok, Err, Result, arith}
-use Rattle.vt_spec.specs.Errors.{unless}
 use Rattle.vt_spec.specs.Language.Limits.{most_symlinks}
 use Rattle.vt_spec.specs.Machine.Looks.{Looks, is_directory_at}
 use Rattle.vt_spec.specs.Machine.Walking.{Here, LastWord, Place, Stop, file_walked, last_walked, path_text, placed, prefix_walked, slash_rules, symlink_there, symlink_walk_by, then_walk, walk_start, walk_unless, words_walked}
