@@ -4,7 +4,8 @@ ghost use Rattle.vt_laws_later_calls.specs.LastUse.{CloseTakesItsFilesystem, Clo
 use vt_laws_mounts::letting_go::ends::a_group_ends_with_its_last_member;
 
 /// If all is in use and one use of a detached `mount`, `filesystem`, `inode`, `namespace` or `group` is taken away, it
-/// is freed just if that was its last. Each clause has further conditions.
+/// is freed just if that was its last. Premises where a clause needs them: numbers of their own for filesystems,
+/// trees, invariants of mounts and namespaces, no overlay or none with an upper layer.
 ///
 /// Uses are counted in the world before. For `namespace` and `exchange` not all need be in use (`AllInUse`). Only for
 /// `exit` and the last four clauses the world has all invariants.
