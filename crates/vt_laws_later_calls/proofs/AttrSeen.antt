@@ -30,7 +30,7 @@ use Rattle.vt_laws_trees.specs.Calls.Inodes.{change_of}
 use Rattle.vt_laws_trees.specs.Trees.{IsFileTree}
 use Rattle.vt_laws_trees.specs.Trees.Calls.{mounts_overlay}
 use Rattle.vt_laws_trees.specs.Trees.Limits.{names_few_groups}
-use Rattle.vt_laws_trees.proofs.trees.ChangesNodes.{changed_node_there as there}
+use Rattle.vt_laws_trees.proofs.trees.ChangesNodes.{changed_node_there}
 use Rattle.vt_laws_trees.proofs.trees.TreesOfWorlds.{numbered_all}
 use Rattle.vt_laws_trees.proofs.trees.TreesWalked.{Ends}
 use Rattle.vt_laws_worlds.specs.Worlds.Kept.{IsPlain}
@@ -136,7 +136,7 @@ module _ (call : Call) (path : List ℕ) (set : Attr → Attr) (world : World �
           ∙ ap (λ o. Ok (Told (stat_line o)))
           (seen_there world fresh name call Done is plain serves other few did here.location change fresh asks does
           something tt tree Refused (stay Refused) reading (own_name later reader reading called) stands ends.1
-          ∙ there (files_at nat_eq world here.location) here.location.node (node_with_attr attr))
+          ∙ changed_node_there (files_at nat_eq world here.location) here.location.node (node_with_attr attr))
           ∙ ap (λ line. Ok (Told line)) (line_with_attr attr (node_at nat_eq world here.location) something))
       by (inr stop) = inr (stop.0.deny, stop.1, stat_refused later later_fresh reader reading called path stop.0 stop.2)
 

@@ -2,7 +2,7 @@
 use Rattle.std.proofs.Common.{◌≡◌, refl, sym, ap, subst, ◌∙◌, inl, inr, ◌⊎◌, true≢false, ℕ, nat_eq, Bool, true, false, cond, not, ◌&&◌, List, [], ◌∷◌, Option, Some, None, is_some, Ok, Err, Result}
 use Rattle.std.specs.Prelude.{option_to_list, unwrap_or}
 use Rattle.std.proofs.lemmas.Option.{same_Some}
-use Rattle.vt_spec.specs.declared.attributes.Kind.TheVariants.{Symlink as SymlinkKind}
+use Rattle.vt_spec.specs.declared.attributes.Kind.TheVariants.{Symlink}
 use Rattle.vt_spec.specs.declared.errors.Deny.{Deny}
 use Rattle.vt_spec.specs.declared.errors.Rule.TheVariants.{C1, W6}
 use Rattle.vt_spec.specs.Errors.{denial}
@@ -301,5 +301,5 @@ symlink_then_readlink text path world fresh name task is plain serves called gra
         (name_of parts.0.last) _ parts.4 reading own stands looks parts.0.last parts.2 refl)
         (λ slash. absurd (true≢false (sym slash ∙ at_name.slash_is ∙ parts.3)))) in
         readlink_of (policy nat_eq fresh world name
-        (SymlinkAt text path)).world later_fresh reader reading found path _ walk.1 (ap (is_kind_in SymlinkKind) seen)
+        (SymlinkAt text path)).world later_fresh reader reading found path _ walk.1 (ap (is_kind_in Symlink) seen)
         ∙ ap (λ o. Ok (Bytes (bytes_in o))) seen

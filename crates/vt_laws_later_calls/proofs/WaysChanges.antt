@@ -20,7 +20,7 @@ use Rattle.vt_spec.specs.Tree.{Content, Node, Tree, entries_in, entries_of, entr
 use Rattle.vt_spec.specs.Tree.Content.{Directory, Regular, Symlink, Whiteout}
 use Rattle.vt_spec.specs.TreeInvariant.{IsDirectory, entry_at}
 use Rattle.vt_spec.proofs.Nodes.{entries-node_with_bytes, entries-node_with_entry, entry_named-with_entry, entry_named-without_entry, is_directory-node_with_bytes, is_directory-node_with_entry, none_is_not, parent-node_with_bytes, parent-node_with_entry, same_name}
-use Rattle.vt_laws_trees.proofs.trees.ChangesNodes.{attr_keeps_place, changed_node_there as there, elsewhere, part_stays}
+use Rattle.vt_laws_trees.proofs.trees.ChangesNodes.{attr_keeps_place, changed_node_there, elsewhere, part_stays}
 use Rattle.vt_spec.proofs.NodeChanges.{directory_from_entry, entries-node_without_entry, is_directory-node_without_entry, node_with_parent-no_directory, parent-node_without_entry}
 
 -- What was there is of its kind, and a directory has its parent, a symlink its text. A name leads where it led, or is
@@ -133,7 +133,7 @@ module _ (files : FileTree ℕ) (Refused : Deny → Type 0) where
 
     entry_now : (other : List ℕ) → entry_at named.tree directory other
         ≡ cond (eq_by_cmp name_cmp other name) (Some object) (entry_at files.tree directory other)
-    entry_now other = ap (λ o. entry_named other (entries_in o)) (there files directory (node_with_entry name object))
+    entry_now other = ap (λ o. entry_named other (entries_in o)) (changed_node_there files directory (node_with_entry name object))
         ∙ ap (entry_named other) (entries-node_with_entry name object (files.tree.node directory) in_directory)
         ∙ entry_named-with_entry other name object (entries_in (files.tree.node directory))
 
@@ -235,7 +235,7 @@ module _ (files : FileTree ℕ) (Refused : Deny → Type 0) where
     entry_less : (other : List ℕ) → entry_at removed.tree directory other
         ≡ cond (not (bytes_eq other name)) (entry_at files.tree directory other) None
     entry_less other = ap (λ o. entry_named other (entries_in o))
-        (removed_node directory ∙ there files directory (node_without_entry name))
+        (removed_node directory ∙ changed_node_there files directory (node_without_entry name))
         ∙ ap (entry_named other) (entries-node_without_entry name (files.tree.node directory))
         ∙ entry_named-without_entry other name (entries_in (files.tree.node directory))
 

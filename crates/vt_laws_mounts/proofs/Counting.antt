@@ -1,6 +1,6 @@
 -- How many mounts namespaces have once a tree is attached.
 use Rattle.std.proofs.lemmas.Grind.{common_steps}
-use Rattle.std.proofs.Common.{◌≡◌, ℕ, Bool, true, false, cond, ◌+◌, ◌*◌, ◌≤◌, ◌++◌, ◌||◌, List, [], ◌∷◌, map, filter, length, nat_eq, Option, None, Some, flat_map, suc, refl, sym, ap, ◌∙◌, arith, true≢false, inl, inr, append_assoc, eq-eqb, find as seek}
+use Rattle.std.proofs.Common.{◌≡◌, ℕ, Bool, true, false, cond, ◌+◌, ◌*◌, ◌≤◌, ◌++◌, ◌||◌, List, [], ◌∷◌, map, filter, length, nat_eq, Option, None, Some, flat_map, suc, refl, sym, ap, ◌∙◌, arith, true≢false, inl, inr, append_assoc, eq-eqb, find}
 use Rattle.std.specs.Prelude.{unwrap_or}
 use Rattle.std.specs.List.{list_any}
 use Rattle.std.proofs.lemmas.Bool.{eqb-true, or_parts}
@@ -10,7 +10,7 @@ use Rattle.vt_spec.specs.Lists.{folded, holds_of, is_among}
 use Rattle.vt_spec.specs.Machine.Attach.{Copies, Graft, attached_by, copies_at, copy_at, graft_of, parts_of, pushed_up, receivers_of, takes_part, twig_of}
 use Rattle.vt_spec.specs.Machine.Mounts.{Location, Mount, group_of, mount_in, no_mount, with_mount}
 use Rattle.vt_spec.specs.Machine.World.{World, mount_at}
-use Rattle.vt_spec.proofs.Lists.{Among, among-from_map, among-map, is_among_numbers, none_among}
+use Rattle.vt_spec.proofs.Lists.{Among, among-from_map, among-map, is_among_numbers, none_among, map_alike}
 use Rattle.vt_laws_mounts.specs.Mounts.Attaching.{numbers_of, OneNumberAMount}
 use Rattle.vt_laws_mounts.proofs.mounts.MountsFound.{number_found}
 use Rattle.vt_laws_mounts.proofs.mounts.MountsReplaced.{found-with_mount_other, found_itself, numbers-with_mount, one_number_by_numbers}
@@ -70,12 +70,6 @@ count-inside (mount ∷ list) o inside namespace = count-cons mount list namespa
     by true = omega arith
     by false = omega arith
 
--- changes that agree on a list
-map_among : (f g : Mount ℕ → Mount ℕ) (list : List (Mount ℕ))
-    → ((mount : Mount ℕ) → Among mount list → f mount ≡ g mount) → map f list ≡ map g list
-map_among f g [] same = refl
-map_among f g (mount ∷ list) same = λ i. same mount (inl refl) i ∷ map_among f g list (λ other m. same other (inr m)) i
-
 -- Mounts in the place of others: as in MS_MOVE
 
 -- a mount that is put in the place of none
@@ -105,7 +99,7 @@ module _ (new : Mount ℕ) (namespace : ℕ) where
           → (b || is_among nat_eq new.number (numbers_of rest)) ≡ true
           → count_in (cond b new mount ∷ with_mount nat_eq rest new) namespace
           + count_in (unwrap_or (cond b (Some mount)
-          (seek (λ (other : Mount ℕ). nat_eq new.number other.number) rest)) (no_mount new.number) ∷ []) namespace
+          (find (λ (other : Mount ℕ). nat_eq new.number other.number) rest)) (no_mount new.number) ∷ []) namespace
           ≡ count_in (mount ∷ rest) namespace + count_in (new ∷ []) namespace
       by true e others later h =
           let same = put_nowhere rest new
@@ -142,7 +136,7 @@ replaced_counted (copy ∷ copies) mounts namespace apart own there =
     (λ other m. ap (is_among nat_eq other.number) same_numbers ∙ there other (inr m)) in
     let kept : count_in (map (λ (other : Mount ℕ). mount_in nat_eq put other.number) copies) namespace
     ≡ count_in (map (λ (other : Mount ℕ). mount_in nat_eq mounts other.number) copies) namespace =
-    ap (λ list. count_in list namespace) (map_among (λ (other : Mount ℕ). mount_in nat_eq put other.number)
+    ap (λ list. count_in list namespace) (map_alike (λ (other : Mount ℕ). mount_in nat_eq put other.number)
     (λ (other : Mount ℕ). mount_in nat_eq mounts other.number) copies
     (λ other m. found-with_mount_other copy mounts other.number
     (none_among (λ (one : Mount ℕ). nat_eq copy.number one.number) copies parts.0 other m))) in

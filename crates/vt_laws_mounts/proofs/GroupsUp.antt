@@ -8,13 +8,17 @@ use Rattle.std.proofs.lemmas.Bool.{and_parts, and_from, false_from_ne_true, not-
 use Rattle.vt_spec.specs.Lists.{chain, is_among, last_or, any_pair}
 use Rattle.vt_spec.proofs.Lists.{chain_ends, chain_goes_on, last_of_chain, Among, among-filter, among_from_list_all, among_numbers, any_among, any_from_among, list_all_from_among, none_among}
 use Rattle.vt_laws_mounts.specs.Mounts.Receivers.{GroupsLive}
-use Rattle.vt_spec.specs.Machine.Mounts.{Mount, source_of}
+use Rattle.vt_spec.specs.Machine.Mounts.{Mount, Propagation, group_of, source_of}
 use Rattle.vt_spec.specs.Machine.World.{World}
 use Rattle.vt_spec.specs.Machine.Receives.{groups_up, has_members, is_member_of}
 use Rattle.vt_spec.specs.Machine.Invariants.{Lives, has_living_groups, masters_end}
 use Rattle.vt_spec.specs.Machine.Invariants.Lives.{has_master, has_no_master}
 use Rattle.std.proofs.lemmas.Option.{same_Some}
-use Rattle.vt_spec.proofs.Options.{none_from_not_some}
+use Rattle.vt_spec.proofs.Options.{none_from_not_some, none_is_some}
+
+-- a member of a group receives from it
+pub source_from_group : (kind : Propagation ℕ) (group : ℕ) → group_of kind ≡ Some group → source_of kind ≡ Some group
+source_from_group kind group e = grind (arith, common_steps, none_is_some)
 
 -- a group that comes up the masters of another
 pub data Up (master : ℕ → Option ℕ) : ℕ → ℕ → Type 0 where

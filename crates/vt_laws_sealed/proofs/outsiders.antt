@@ -4,7 +4,6 @@ pub mod Attaching
 pub mod Binding
 pub mod ChangedWorlds
 pub mod ChangesGround
-pub mod Changing
 pub mod ChangingFiles
 pub mod Closing
 pub mod CutTrees

@@ -4,6 +4,7 @@ use Rattle.std.proofs.lemmas.Grind.{common_steps}
 use Rattle.std.specs.Prelude.{option_map}
 use Rattle.std.specs.List.{filter_map}
 use Rattle.std.proofs.lemmas.Option.{same_Some}
+use Rattle.vt_laws_mounts.proofs.GroupsUp.{source_from_group}
 use Rattle.vt_spec.specs.Lists.{then_some, when}
 use Rattle.vt_spec.specs.Machine.Attach.{Copies, Graft, Twig, all_groups_made, copy_at, copy_type, graft_of, group_made, image, is_destination, nearest_image, parts_of, twig_master, twig_of, type_at}
 use Rattle.vt_spec.specs.Machine.Mounts.{Location, Mount, Propagation, group_of, source_of}
@@ -12,7 +13,6 @@ use Rattle.vt_spec.specs.Machine.Types.{master_after}
 use Rattle.vt_spec.specs.Machine.World.{World, mount_at}
 use Rattle.vt_spec.proofs.Lists.{Among, among-from_filter_map, among-from_flat_map, among-from_map}
 use Rattle.vt_spec.proofs.Options.{none_is_some}
-use Rattle.vt_laws_members.proofs.attached.CopiesAlike.{group_source}
 
 -- a group with its master
 abbrev pub AreOf : (ℕ → Type 0) → ℕ × Option ℕ → Type 0
@@ -39,7 +39,7 @@ module _ (base : World ℕ) (new : Copies ℕ) (place : Location ℕ) (moves : B
   twig_ours o m g = grind (arith, common_steps, same_Some)
 
   image_ours : (o : Mount ℕ) → Among o origins → (group : ℕ) → Ours (image nat_eq new destination (twig o) group)
-  image_ours o m group = grind (arith, common_steps, twig_ours, group_source)
+  image_ours o m group = grind (arith, common_steps, twig_ours, source_from_group)
 
   found_ours : (o : Mount ℕ) → Among o origins → (found : Option ℕ) (g : ℕ)
       → option_map (image nat_eq new destination (twig o)) found ≡ Some g → Ours g
@@ -67,7 +67,7 @@ module _ (base : World ℕ) (new : Copies ℕ) (place : Location ℕ) (moves : B
 
   made_there : (o : Mount ℕ) → Among o origins → (entry : ℕ × Option ℕ) → twig_master (twig o) ≡ Some entry
       → AreOf Ours entry
-  made_there o m entry e = grind (arith, common_steps, none_is_some, same_Some, twig_ours, group_source, after_ours)
+  made_there o m entry e = grind (arith, common_steps, none_is_some, same_Some, twig_ours, source_from_group, after_ours)
 
   made_elsewhere : (o : Mount ℕ) → Among o origins → (entry : ℕ × Option ℕ) (kind : Option ℕ)
       → then_some kind (λ group. when (not (is_member_of nat_eq group destination)) (

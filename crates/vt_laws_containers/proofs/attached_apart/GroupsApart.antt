@@ -4,6 +4,7 @@ use Rattle.std.proofs.lemmas.Grind.{common_steps}
 use Rattle.std.specs.List.{list_all}
 use Rattle.std.proofs.lemmas.Bool.{false_from_ne_true, or_cases}
 use Rattle.std.proofs.lemmas.Option.{same_Some}
+use Rattle.vt_laws_containers.proofs.types_apart.GroupsApart.{in_group}
 use Rattle.vt_spec.specs.Language.Calls.{TaskName}
 use Rattle.vt_spec.specs.Lists.{Fresh, folded, holds_of}
 use Rattle.vt_spec.specs.Machine.Attach.{masters_with}
@@ -42,12 +43,6 @@ master_in world (Shared g) group e = ap world.master (same_Some g group e)
 master_in world (Slave g) group e = none_is_some group e
 master_in world Private group e = none_is_some group e
 master_in world Unbindable group e = none_is_some group e
-
--- the group of which a mount is a member
-in_group : (o : Option ℕ) (mount : Mount ℕ) → holds_of (λ group. is_member_of nat_eq group mount) o ≡ true
-    → (group : ℕ) × (o ≡ Some group) × (group_of mount.propagation ≡ Some group)
-in_group None mount h = absurd (true≢false (sym h))
-in_group (Some group) mount h = (group, refl, member_group group mount h)
 
 module _ (world : World ℕ) (names : List TaskName) (is : IsWorld nat_eq world)
     (sealed_off : sealed nat_eq world names ≡ true) (fresh : Fresh ℕ) (serves : Serves nat_eq world fresh) where

@@ -4,6 +4,7 @@ use Rattle.std.proofs.lemmas.Grind.{common_steps}
 use Rattle.std.specs.Prelude.{option_map, unwrap_or}
 use Rattle.std.specs.List.{list_all, list_any}
 use Rattle.std.proofs.lemmas.Bool.{and_from, and_parts, false_from_ne_true, or_left, or_right}
+use Rattle.vt_laws_later_calls.proofs.last_use.OverlaysUnmounted.{any_alike}
 use Rattle.vt_spec.specs.Language.Calls.{TaskName}
 use Rattle.vt_spec.specs.Lists.{holds_of, is_among}
 use Rattle.vt_spec.specs.Machine.Invariants.{IsWorld}
@@ -64,11 +65,6 @@ layers_alike number one other same = grind (arith, common_steps)
 pub changes_alike : (one other : Filesystem ℕ) → layered_as one ≡ layered_as other
     → change_layers one ≡ change_layers other
 changes_alike one other same = grind (arith, common_steps)
-
-any_alike : {A : Type 0} (p q : A → Bool) (list : List A) → ((x : A) → Among x list → p x ≡ q x)
-    → list_any p list ≡ list_any q list
-any_alike p q [] same = refl
-any_alike p q (x ∷ rest) same = cc (same x (inl refl), any_alike p q rest (λ y m. same y (inr m)))
 
 -- what an overlay has a layer on is there
 layer_is_there : (world : World ℕ) (names : List TaskName) → IsWorld nat_eq world → (merged : Filesystem ℕ)

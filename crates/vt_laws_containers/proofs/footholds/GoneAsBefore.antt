@@ -11,7 +11,7 @@ use Rattle.vt_spec.specs.Machine.Mounts.{Location, Mount, detached}
 use Rattle.vt_spec.specs.Machine.Run.{Serves}
 use Rattle.vt_spec.specs.Machine.Sealed.{is_own_namespace}
 use Rattle.vt_spec.specs.Machine.World.{Task, World, mount_numbered, task_called}
-use Rattle.vt_spec.proofs.Lists.{Among, among-from_filter, any_among, any_from_among, is_among_numbers, among_numbers}
+use Rattle.vt_spec.proofs.Lists.{Among, among-from_filter, any_among, any_from_among, is_among_numbers, among_numbers, map_alike}
 use Rattle.vt_laws_mounts.proofs.mounts.MountsReplaced.{found_itself}
 use Rattle.vt_laws_trees.specs.Trees.Limits.{names_few_groups}
 use Rattle.vt_laws_members.specs.Changes.Changes.{IsCallOfTheirs}
@@ -50,11 +50,6 @@ none_among test number e [] = refl
 none_among test number e (x ∷ rest) =
     grind (arith, common_steps, false_from_ne_true, true≢false, none_among test number e rest)
 
-maps_alike : (f g : Mount ℕ → Mount ℕ) (list : List (Mount ℕ)) → ((x : Mount ℕ) → Among x list → f x ≡ g x)
-    → map f list ≡ map g list
-maps_alike f g [] same = refl
-maps_alike f g (x ∷ rest) same = cc (same x (inl refl), maps_alike f g rest (λ y m. same y (inr m)))
-
 none_found : (p : Mount ℕ → Bool) (list : List (Mount ℕ)) → list_any p list ≡ false → find p list ≡ None
 none_found p [] h = refl
 none_found p (x ∷ rest) h = grind (arith, common_steps, true≢false, none_found p rest)
@@ -81,7 +76,7 @@ module _ (world : World ℕ) (gone : List ℕ) where
 
   pub taken_there : taken_away nat_eq world gone_there ≡ taken_away nat_eq world gone
   taken_there =
-      cc (maps_alike (after_going nat_eq world gone_there) (after_going nat_eq world gone) world.mounts after_same)
+      cc (map_alike (after_going nat_eq world gone_there) (after_going nat_eq world gone) world.mounts after_same)
 
   pub taken_filesystems : (taken_away nat_eq world gone).filesystems ≡ world.filesystems
   taken_filesystems = grind (arith, common_steps)

@@ -2,6 +2,7 @@
 use Rattle.std.proofs.lemmas.Grind.{common_steps}
 use Rattle.std.proofs.Common.{◌≡◌, refl, sym, ap, subst, ◌∙◌, ◌⊎◌, inl, inr, ⊎_elim, ℕ, nat_eq, Bool, true, false, true≢false, List, [], ◌∷◌, Some, Ok, filter, map, not, arith}
 use Rattle.std.specs.Prelude.{IfOk, ◌==◌}
+use Rattle.vt_laws_sealed.proofs.outsiders.Opening.{inserted_at}
 use Rattle.vt_spec.specs.Language.Calls.{Access, Call, TaskName}
 use Rattle.vt_spec.specs.Lists.{Fresh, evens, odds}
 use Rattle.vt_spec.specs.Machine.Apply.{apply}
@@ -36,13 +37,6 @@ use Rattle.vt_laws_containers.proofs.footholds.FilesGoOn.{ChangesFiles, change_c
 use Rattle.vt_laws_containers.proofs.footholds.Granting.{EndsInAWorld, as_itself, granted_out, looks_out, one_permit, refused_out}
 use Rattle.vt_laws_containers.proofs.footholds.TasksAsBefore.{caller_beside, child_beside, tasks_as_before, tasks_beside}
 use Rattle.vt_laws_containers.proofs.scripts.Called.{exit_if, is_exit, left_all}
-
--- what is opened is at a new location, or was open
-opened_at : (new : Descriptor ℕ) (list : List (Descriptor ℕ)) (location : Location ℕ)
-    → Among location (map (λ (d : Descriptor ℕ). d.location) (inserted new list))
-    → (location ≡ new.location) ⊎ Among location (map (λ (d : Descriptor ℕ). d.location) list)
-opened_at new [] location m = ⊎_elim inl (λ none. absurd none) m
-opened_at new (first ∷ rest) location m = grind (arith, common_steps, opened_at new rest location)
 
 -- the place that a permit names
 abbrev place_of : Location ℕ → Permit ℕ → Location ℕ
@@ -134,7 +128,7 @@ module _ (world : World ℕ) (names : List TaskName) (name : TaskName) (call : C
     directory = directory_theirs world names it.is task member;
     places = λ l m. ⊎_elim (λ root. inl (inl root)) (λ rest. ⊎_elim (λ directory. inl (inr (inl directory)))
         (λ open_file. ⊎_elim (λ here. inr (subst OnTheirs (sym here) on)) (λ old. inl (inr (inr old)))
-        (opened_at _ task.descriptors l open_file)) rest) m;
+        (inserted_at _ task.descriptors l open_file)) rest) m;
   }
 
   directory_there : (place : Location ℕ) → judge_in nat_eq fresh world task call ≡ Ok (ToSetDirectory place)

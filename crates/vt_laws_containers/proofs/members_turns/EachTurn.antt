@@ -1,6 +1,7 @@
 -- Each turn of a task of a sealed set is one of the part of the set.
 use Rattle.std.proofs.Common.{arith, ◌≡◌, refl, sym, ap, subst, ◌∙◌, ⊎_elim, ℕ, nat_eq, Bool, true, true≢false, not, List, [], ◌∷◌, Option, Some, None, filter, is_some}
 use Rattle.std.proofs.lemmas.Grind.{common_steps}
+use Rattle.vt_laws_worlds.proofs.overlays_stay.weaving.WovenLists.{filters_swapped}
 use Rattle.vt_spec.specs.declared.errors.Deny.{Deny}
 use Rattle.vt_spec.specs.Language.Calls.{Call, TaskName, same_name}
 use Rattle.vt_spec.specs.Language.Script.Who.{Someone}
@@ -20,7 +21,7 @@ use Rattle.vt_laws_turns.proofs.played.Turning.{Turns, turn_is, unanswered_turns
 use Rattle.vt_laws_containers.specs.SealedTurns.MembersTurns.{TurnsAlikeFor, part_of_sched}
 use Rattle.vt_laws_containers.specs.SealedTurns.OutsidersTurns.{IsFirst, their_calls}
 use Rattle.vt_laws_containers.proofs.sealed_turns.members.Answering.{their_answers_are_of_the_grown_part}
-use Rattle.vt_laws_containers.proofs.sealed_turns.members.TurnsAlike.{swapped, turns_alike}
+use Rattle.vt_laws_containers.proofs.sealed_turns.members.TurnsAlike.{turns_alike}
 use Rattle.vt_laws_containers.specs.MembersTurns.TheirTurns.{EachTurnOfTheirsIsOfTheirPart, IsTurnOfTheirs, grown_after, set_left}
 
 -- two turns have one reply, and leave one part of a set
@@ -64,7 +65,7 @@ module _ (sched : Sched ℕ) (names : List TaskName) (name : TaskName) (is : IsW
 
   others_again : their_calls names (without_progress name part.under_way)
       ≡ their_calls names (without_progress name sched.under_way)
-  others_again = ap (filter own) (swapped others own sched.under_way) ∙ filter_again own (filter others sched.under_way)
+  others_again = ap (filter own) (filters_swapped others own sched.under_way) ∙ filter_again own (filter others sched.under_way)
 
   module _ (fresh : Option (Fresh ℕ)) where
     abbrev whole : Turned ℕ

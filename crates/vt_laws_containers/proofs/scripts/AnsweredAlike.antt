@@ -2,6 +2,7 @@
 use Rattle.std.proofs.lemmas.Grind.{common_steps}
 use Rattle.std.proofs.Common.{◌≡◌, refl, sym, ap, subst, ◌∙◌, ℕ, nat_eq, nat_lt, Bool, true, false, cond, List, [], ◌∷◌, ◌++◌, ◌+◌, ◌||◌, Option, Some, None, length, map, arith}
 use Rattle.std.specs.Prelude.{Contains, ⊤}
+use Rattle.vt_laws_sealed.proofs.outsiders.InTurn.{still_called}
 use Rattle.vt_spec.specs.Language.Calls.{Call, TaskName, same_name}
 use Rattle.vt_spec.specs.Language.Limits.{longest_line}
 use Rattle.vt_spec.specs.Language.Script.{Grammar, Request, is_silent, request_of}
@@ -25,7 +26,7 @@ use Rattle.vt_laws_sealed.proofs.outsiders.EveryPermit.{outsiders_leave_a_sealed
 use Rattle.vt_laws_members.specs.Changes.Changes.{EndsAlike, IsCallOfTheirs, grown}
 use Rattle.vt_laws_containers.specs.Footholds.{GivesNoFoothold, LeavesOthersOut}
 use Rattle.vt_laws_containers.specs.Scripts.{Along, Asked, EachEndsAlike, EndsInThePart, IsSealedOffAt, KeepsOthersOut, LeavesItSealed, SetsAreAnsweredAsAlone, Stand, StaysOnItsSide, after_theirs, asked, asked_by, moved, outcome_at, own_answers, told}
-use Rattle.vt_laws_containers.proofs.scripts.Called.{members_stay_called, still_called}
+use Rattle.vt_laws_containers.proofs.scripts.Called.{members_stay_called}
 use Rattle.vt_laws_containers.proofs.scripts.LineNumbers.{numbers_left, numbers_passed, serves_line}
 use Rattle.vt_laws_containers.proofs.scripts.UsedThere.{used_is_there}
 

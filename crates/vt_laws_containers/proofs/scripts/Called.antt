@@ -3,6 +3,7 @@ use Rattle.std.proofs.lemmas.Grind.{common_steps}
 use Rattle.std.proofs.Common.{◌≡◌, ◌≢◌, refl, sym, ap, subst, ◌∙◌, inl, ℕ, nat_eq, Bool, true, false, true≢false, cond, not, List, [], ◌∷◌, ◌++◌, ◌||◌, Option, Some, None, Result, Ok, Err, find, is_ok, is_some, map, ◌+◌, arith}
 use Rattle.std.specs.Prelude.{⊤}
 use Rattle.std.proofs.lemmas.Bool.{and_from, not-true}
+use Rattle.vt_laws_sealed.proofs.outsiders.InTurn.{still_called, found_called}
 use Rattle.vt_spec.specs.declared.errors.Deny.{Deny}
 use Rattle.vt_spec.specs.Language.Answers.{Answer}
 use Rattle.vt_spec.specs.Language.Answers.Answer.{Child}
@@ -28,36 +29,6 @@ use Rattle.vt_laws_worlds.proofs.worlds.CallsKept.{name_found}
 use Rattle.vt_laws_sealed.specs.Outsiders.{are_all_called}
 use Rattle.vt_laws_members.specs.Changes.Changes.{grown, left}
 use Rattle.vt_laws_members.proofs.changes.looks.Told.{ran}
-
--- a task of this name is found where one is
-pub found_called : (member : TaskName) (tasks : List (Task ℕ)) (task : Task ℕ) → Among task tasks
-    → same_name member task.name ≡ true → is_some (find (λ (t : Task ℕ). same_name member t.name) tasks) ≡ true
-found_called member [] task m e = absurd m
-found_called member (first ∷ rest) task m e =
-    by (same_name member first.name) refl (λ later. found_called member rest task later e)
-  where
-    by : (b : Bool) → same_name member first.name ≡ b
-        → (Among task rest → is_some (find (λ (t : Task ℕ). same_name member t.name) rest) ≡ true)
-        → is_some (cond b (Some first) (find (λ (t : Task ℕ). same_name member t.name) rest)) ≡ true
-    by true f next = refl
-    by false f next = grind (arith, common_steps, true≢false)
-
--- Where the members stay, each name of the set stays the name of a task.
-pub still_called : (world later : World ℕ) (names : List TaskName) → members later names ≡ members world names
-    → are_all_called world names ≡ true → are_all_called later names ≡ true
-still_called world later names same there =
-    list_all_from_among (λ member. is_some (task_called later member)) names (λ member m.
-    let found = some_from_is_some (task_called world member)
-    (among_from_list_all (λ n. is_some (task_called world n)) names there member m) in
-    let test : Task ℕ → Bool = λ (t : Task ℕ). same_name member t.name in
-    let passes = found_passes test world.tasks found.0 found.1 in
-    let its_name = name_found world member found.0 found.1 in
-    let is_one : is_among same_name found.0.name names ≡ true = any_from_among (same_name found.0.name) names member m
-    (ap (same_name found.0.name) its_name ∙ ap (λ n. same_name n found.0.name) (sym its_name) ∙ passes) in
-    let member_there = among-filter (is_member_task names) world.tasks found.0
-    (found_among test world.tasks found.0 found.1) is_one in
-    found_called member later.tasks found.0 (among-from_filter (is_member_task names) later.tasks found.0
-    (subst (Among found.0) (sym same) member_there)).0 passes)
 
 -- A child that is answered is there.
 abbrev ChildIsThere : List (Task ℕ) → Result Answer Deny → Type 0

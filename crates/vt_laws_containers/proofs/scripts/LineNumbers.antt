@@ -2,6 +2,7 @@
 use Rattle.std.proofs.lemmas.Grind.{common_steps}
 use Rattle.std.proofs.Common.{◌≡◌, sym, ap, ◌∙◌, ℕ, zero, suc, nat_eq, Bool, false, true≢false, List, Some, ◌+◌, ◌≤◌, ◌||◌, eq-eqb, eqb-true, ne_eqb, arith}
 use Rattle.std.proofs.lemmas.Bool.{false_from_ne_true, or_left, or_right}
+use Rattle.vt_laws_turns.proofs.holds.Scripts.{row_of}
 use Rattle.vt_spec.specs.Language.Calls.{Call, TaskName}
 use Rattle.vt_spec.specs.Lists.{is_among}
 use Rattle.vt_spec.specs.Machine.Policy.{policy}
@@ -12,10 +13,6 @@ use Rattle.vt_laws_rules.specs.Numbers.{IsSuppliedFrom, KeepsTo, LeavesOutTwo}
 use Rattle.vt_laws_rules.proofs.numbers.Rows.{col, col-spread, row, row-spread, spread_for}
 use Rattle.vt_laws_rules.proofs.numbers.Supports.{calls_keep_to_numbers, lines_keep_to_numbers, used_numbers_are_named}
 use Rattle.vt_laws_containers.specs.Scripts.{HasEarlierNumbers}
-
--- what a line is handed stands in its row, each number at a place of its own
-row_of : (line place : ℕ) → row (numbers_for (suc line) place) ≡ suc line
-row_of line place = ap row (spread_for line place) ∙ row-spread (suc line) place
 
 col_of : (line place : ℕ) → col (numbers_for (suc line) place) ≡ place
 col_of line place = ap col (spread_for line place) ∙ col-spread (suc line) place

@@ -30,19 +30,12 @@ use Rattle.vt_laws_sealed.proofs.part.seals.ByPart.{apart_if_sealed}
 use Rattle.vt_laws_sealed.proofs.outsiders.OtherMounts.{HearsGroup, member_not_new, member_of_heard, not_heard, other_hears_foreign, standing_apart, standing_apart_with}
 use Rattle.vt_laws_sealed.proofs.outsiders.StandingApart.{NothingNew, StandsApart}
 use Rattle.vt_laws_members.proofs.types.Inherited.{kind_left, master_left, master_left_so}
-use Rattle.vt_laws_members.proofs.types.Retyped.{is_named, kind_by, new_kind, new_masters, retyped_between}
+use Rattle.vt_laws_members.proofs.types.Retyped.{is_named, kind_by, new_kind, new_masters, retyped_between, master_source}
 
 -- what a mount receives from after a change of type: what it received from, or its new group
 source_after : (new : ℕ) (word : TypeWord) (kind : Propagation ℕ) (g : ℕ)
     → source_of (type_after new word kind) ≡ Some g → (source_of kind ≡ Some g) ⊎ (new ≡ g)
 source_after new word kind g e = grind (arith, common_steps, same_Some, none_is_some)
-
--- a slave's master is what it receives from
-slave_source : (kind : Propagation ℕ) (g : ℕ) → master_after kind ≡ Some g → source_of kind ≡ Some g
-slave_source (Shared h) g e = none_is_some g e
-slave_source (Slave h) g e = e
-slave_source Private g e = none_is_some g e
-slave_source Unbindable g e = none_is_some g e
 
 -- a mount that is shared was so before groups inherit
 shared_before : (t : World ℕ) (kind : Propagation ℕ) (g : ℕ) → group_of (inherited nat_eq t kind) ≡ Some g
@@ -50,7 +43,7 @@ shared_before : (t : World ℕ) (kind : Propagation ℕ) (g : ℕ) → group_of 
 shared_before t kind g e = grind (arith, common_steps, none_is_some)
 
 -- the group of which a mount is a member
-in_group : (o : Option ℕ) (mount : Mount ℕ) → holds_of (λ group. is_member_of nat_eq group mount) o ≡ true
+pub in_group : (o : Option ℕ) (mount : Mount ℕ) → holds_of (λ group. is_member_of nat_eq group mount) o ≡ true
     → (group : ℕ) × (o ≡ Some group) × (group_of mount.propagation ≡ Some group)
 in_group None mount h = absurd (true≢false (sym h))
 in_group (Some group) mount h = (group, refl, member_group group mount h)
@@ -172,7 +165,7 @@ module _ (world : World ℕ) (names : List TaskName) (is : IsWorld nat_eq world)
       (by (nat_eq g (numbers_by nat_eq fresh named m.number))) rest (λ x n. own x (inr n)) e
     where
       by : (b : Bool) → cond b (master_after m.propagation) (a g) ≡ Some above → Ours above
-      by true f = source_ours m (own m (inl refl)) above (slave_source m.propagation above f)
+      by true f = source_ours m (own m (inl refl)) above (master_source m.propagation above f)
       by false f = base f
 
   up_ours : (above g : ℕ) → masters g ≡ Some above → Ours g → Ours above

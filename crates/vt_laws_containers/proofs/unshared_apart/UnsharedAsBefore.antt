@@ -3,6 +3,7 @@ use Rattle.std.proofs.Common.{arith, ◌≡◌, refl, sym, ap, subst, ◌∙◌,
 use Rattle.std.proofs.lemmas.Grind.{common_steps}
 use Rattle.std.specs.List.{list_all, list_any}
 use Rattle.std.proofs.lemmas.Bool.{false_from_ne_true, not-true}
+use Rattle.vt_laws_members.proofs.namespaces.Unsharing.{places_moved}
 use Rattle.vt_spec.specs.Language.Calls.{TaskName, same_name}
 use Rattle.vt_spec.specs.Language.Calls.Call.{Unshare}
 use Rattle.vt_spec.specs.Lists.{Fresh, holds_of, is_among, odds}
@@ -185,44 +186,6 @@ module _ (world : World ℕ) (names : List TaskName) (name : TaskName) (it : IsC
   placed test l m =
       let of = among-from_flat_map locations_of (filter test world.tasks) l m in
       among-flat_map locations_of world.tasks of.0 l (among-from_filter test world.tasks of.0 of.1).0 of.2
-
-  -- the caller's root and working directory move to copies
-  abbrev OnTheirs : Location ℕ → Type 0
-  OnTheirs l = IsTheirs world names it.is.mounts l.mount
-
-  abbrev OnCopy : Location ℕ → Type 0
-  OnCopy l = (y : Mount ℕ) × Among y (map copy copied) × (l.mount ≡ y.number)
-
-  moved_how : (before l : Location ℕ) → OnTheirs before
-      → l ≡ moved_location nat_eq copied (numbers_by nat_eq (odds fresh) copied) before → OnTheirs l ⊎ OnCopy l
-  moved_how before l on e = by (is_copied nat_eq copied before) refl
-    where
-      number : ℕ → ℕ
-      number = numbers_by nat_eq (odds fresh) copied
-
-      by : (b : Bool) → is_copied nat_eq copied before ≡ b → OnTheirs l ⊎ OnCopy l
-      by true f =
-          let m = any_among (λ (x : Mount ℕ). nat_eq before.mount x.number) copied f in
-          inr (
-            copy m.0,
-            among-map copy copied m.0 m.1,
-            ap (λ (x : Location ℕ). x.mount) (e ∙ ap (λ b. cond b (location_on_copy number before) before) f)
-                ∙ ap number (eqb-true before.mount m.0.number m.2),
-          )
-      by false f = inl (subst OnTheirs (sym (e ∙ ap (λ b. cond b (location_on_copy number before) before) f)) on)
-
-  places_moved : (l : Location ℕ) → Among l (locations new) → Among l (locations old) ⊎ (OnTheirs l ⊎ OnCopy l)
-  places_moved l m =
-      let t = among-from_flat_map locations_of new l m in
-      let u = set_from t.0 t.1 in
-      ⊎_elim (λ caller. mine (subst (λ (x : Task ℕ). Among l (locations_of x)) (u.2 ∙ caller.0) t.2))
-      (λ same. inl (among-flat_map locations_of old u.0 l u.1
-      (subst (λ (x : Task ℕ). Among l (locations_of x)) (u.2 ∙ same) t.2))) (how u.0 u.1)
-    where
-      mine : Among l (locations_of moved) → Among l (locations old) ⊎ (OnTheirs l ⊎ OnCopy l)
-      mine n = ⊎_elim (λ e. inr (moved_how task.root l (root_theirs world names it.is task member) e))
-          (λ rest. ⊎_elim (λ e. inr (moved_how task.directory l (directory_theirs world names it.is task member) e))
-          (λ files. inl (among-flat_map locations_of old task l member (inr (inr files)))) rest) n
 
   -- no mount receives events of a private one
   unheard : (y : Mount ℕ) (o : Option ℕ)
@@ -408,7 +371,7 @@ module _ (world : World ℕ) (names : List TaskName) (name : TaskName) (it : IsC
         (theirs_directly world names it.is l on))
         (λ late. let there = among-append_right (map turn world.mounts) copies late.0 late.1 in
         shown_was late.0 there (copy_owned late.0 late.1) (mount_at nat_eq left l).filesystem
-        (ap (λ (x : Mount ℕ). x.filesystem) (found_left late.0 there l late.2))) rest) (places_moved l m)
+        (ap (λ (x : Mount ℕ). x.filesystem) (found_left late.0 there l late.2))) rest) (places_moved world names name it task called fresh serves l m)
 
     direct_was : (n : ℕ) → Among n (used_directly nat_eq left names) → Among n (used_directly nat_eq world names)
     direct_was n m = ⊎_elim

@@ -43,9 +43,9 @@ module _ (other : ℕ) where
       named_remains other upper (upper_of merge name.0) name.1 copy there
 
   -- one copy
-  copy_remains : (merge : Merge ℕ) (object copy : ℕ) (node : Option (Node ℕ)) (in_upper : Bool)
-      → BothRemain merge (copy_of nat_eq merge object copy node in_upper)
-  copy_remains merge object copy node in_upper = grind (arith, common_steps, named_copy_remains, made_remains)
+  copy_remains : (merge : Merge ℕ) (object copy : ℕ) (seen : Option (Node ℕ)) (in_upper : Bool)
+      → BothRemain merge (copy_of nat_eq merge object copy seen in_upper)
+  copy_remains merge object copy seen in_upper = grind (arith, common_steps, named_copy_remains, made_remains)
 
   -- and a list of them
   copies_remain : (fresh : Fresh ℕ) (list : List ℕ) (k : ℕ) (merge : Merge ℕ)

@@ -20,7 +20,7 @@ use Rattle.vt_laws_later_calls.specs.LastUse.{FilesystemBesideOverlaysGoesWithIt
 use Rattle.vt_laws_later_calls.proofs.last_use.MountsAndFilesystems.{mounted_as_before, mounted_still}
 
 -- tests that answer alike of all that is in a list
-any_alike : {A : Type 0} (one other : A → Bool) (list : List A) → ((a : A) → Among a list → one a ≡ other a)
+pub any_alike : {A : Type 0} (one other : A → Bool) (list : List A) → ((a : A) → Among a list → one a ≡ other a)
     → list_any one list ≡ list_any other list
 any_alike one other [] h = refl
 any_alike one other (a ∷ rest) h = λ i. h a (inl refl) i || any_alike one other rest (λ b m. h b (inr m)) i

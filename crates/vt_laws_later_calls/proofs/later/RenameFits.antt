@@ -5,7 +5,7 @@ use Rattle.std.specs.List.{list_all}
 use Rattle.std.specs.Prelude.{option_map, option_to_list}
 use Rattle.std.proofs.lemmas.Bool.{and_from, and_parts}
 use Rattle.std.proofs.lemmas.Option.{same_Some}
-use Rattle.vt_spec.specs.declared.attributes.Kind.TheVariants.{Symlink as SymlinkKind}
+use Rattle.vt_spec.specs.declared.attributes.Kind.TheVariants.{Symlink}
 use Rattle.vt_spec.specs.declared.errors.Deny.{Deny}
 use Rattle.vt_spec.specs.declared.errors.Rule.TheVariants.{W6}
 use Rattle.vt_spec.specs.Errors.{denial}
@@ -70,7 +70,7 @@ link_same : (was now : Option (Node ℕ)) → is_some now ≡ is_some was → ki
 link_same None None there kind bytes = refl
 link_same None (Some now) there kind bytes = absurd (true≢false there)
 link_same (Some was) None there kind bytes = absurd (true≢false (sym there))
-link_same (Some was) (Some now) there kind bytes = λ i. when (is_kind SymlinkKind (kind i)) (bytes i)
+link_same (Some was) (Some now) there kind bytes = λ i. when (is_kind Symlink (kind i)) (bytes i)
 
 allows_same : (was now : Option (Node ℕ)) → is_some now ≡ is_some was → kind_in now ≡ kind_in was
     → attr_in now ≡ attr_in was

@@ -15,7 +15,7 @@ use Rattle.vt_spec.specs.Tree.Content.{Directory, Regular, Symlink, Whiteout}
 use Rattle.vt_spec.specs.TreeInvariant.{entry_at}
 use Rattle.vt_spec.proofs.Nodes.{entry_named-without_entry}
 use Rattle.vt_laws_trees.specs.Trees.{MayRemove}
-use Rattle.vt_laws_trees.proofs.trees.ChangesNodes.{changed_node_there as there, elsewhere, own_parent-node_with_parent, part_stays}
+use Rattle.vt_laws_trees.proofs.trees.ChangesNodes.{changed_node_there, elsewhere, own_parent-node_with_parent, part_stays}
 use Rattle.vt_laws_later_calls.proofs.WaysChanges.{RightsStay, allows_without, link_without}
 use Rattle.vt_spec.proofs.NodeChanges.{entries-node_with_parent, entries-node_without_entry, is_directory-node_with_parent, is_directory-node_without_entry, parent-node_without_entry}
 
@@ -71,7 +71,7 @@ module _ (files : FileTree ℕ) (directory : ℕ) (name : List ℕ) (object : �
   entry_less : (other : List ℕ) → entry_at removed.tree directory other
       ≡ cond (not (bytes_eq other name)) (entry_at files.tree directory other) None
   entry_less other = ap (entry_named other) (removed_entries directory
-      ∙ ap entries_in (there files directory (node_without_entry name))
+      ∙ ap entries_in (changed_node_there files directory (node_without_entry name))
       ∙ entries-node_without_entry name (files.tree.node directory))
       ∙ entry_named-without_entry other name (entries_in (files.tree.node directory))
 
@@ -107,4 +107,4 @@ module _ (files : FileTree ℕ) (directory : ℕ) (name : List ℕ) (object : �
 
   pub removed_alone : (tree : Tree ℕ) → tree.node object ≡ removed.tree.node object → object ≢ tree.root
       → is_removed nat_eq tree object ≡ true
-  removed_alone tree same other = grind (arith, common_steps, ne_eqb, removed_empty, there, own_parent-node_with_parent)
+  removed_alone tree same other = grind (arith, common_steps, ne_eqb, removed_empty, changed_node_there, own_parent-node_with_parent)

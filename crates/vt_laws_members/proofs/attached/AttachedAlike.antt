@@ -2,6 +2,7 @@
 use Rattle.std.proofs.Common.{arith, ◌≡◌, refl, sym, ap, ◌∙◌, ⊎_elim, ℕ, nat_eq, Bool, true, false, cond, List, [], ◌++◌, Option, Some, None, append_assoc, filter, map}
 use Rattle.std.proofs.lemmas.Grind.{common_steps}
 use Rattle.std.specs.List.{list_any}
+use Rattle.vt_laws_mounts.proofs.GroupsUp.{source_from_group}
 use Rattle.vt_spec.specs.Language.Calls.{TaskName}
 use Rattle.vt_spec.specs.Lists.{folded, is_among}
 use Rattle.vt_spec.specs.Machine.Attach.{Copies, attached_by, masters_with}
@@ -16,7 +17,7 @@ use Rattle.vt_laws_sealed.proofs.part.groups.ReceiversAlike.{member_group}
 use Rattle.vt_laws_sealed.proofs.part.part.PartOfPart.{is_own, same_members, same_own}
 use Rattle.vt_laws_members.proofs.changes.letting_go.Heard.{heard_by_own, master_same}
 use Rattle.vt_laws_members.proofs.changes.part.PartAgain.{part_again}
-use Rattle.vt_laws_members.proofs.attached.CopiesAlike.{attached_as, attached_there, base, base_part, copies, group_source, made, masters_agree, parts, push}
+use Rattle.vt_laws_members.proofs.attached.CopiesAlike.{attached_as, attached_there, base, base_part, copies, made, masters_agree, parts, push}
 use Rattle.vt_laws_members.proofs.attached.GrownPart.{Grows, grown_world, own_how, part_grown}
 use Rattle.vt_laws_members.proofs.attached.KnownMasters.{copy_known}
 use Rattle.vt_laws_members.proofs.attached.PartGrows.{part_grows}
@@ -75,7 +76,7 @@ module _ (world : World ℕ) (names : List TaskName) (is : IsWorld nat_eq world)
       by group true e =
           let y = any_among (is_member_of nat_eq group) (own_mounts nat_eq u names) e in
           let own = among-from_filter (is_own_mount nat_eq u names) u.mounts y.0 y.1 in
-          known y.0 own.0 own.1 group (group_source y.0.propagation group (member_group group y.0 y.2))
+          known y.0 own.0 own.1 group (source_from_group y.0.propagation group (member_group group y.0 y.2))
       by group false e = refl
 
   pub one_part : part_of nat_eq u_part names ≡ part_of nat_eq u names

@@ -4,6 +4,7 @@ use Rattle.std.proofs.lemmas.Grind.{common_steps}
 use Rattle.std.specs.Prelude.{IfOk, is_ok}
 use Rattle.std.specs.List.{list_any}
 use Rattle.std.proofs.lemmas.Bool.{or_parts}
+use Rattle.vt_laws_sealed.proofs.part.part.MountsOver.{numbered}
 use Rattle.vt_spec.specs.Language.Answers.Answer.{Done}
 use Rattle.vt_spec.specs.Language.Calls.{TaskName}
 use Rattle.vt_spec.specs.Language.Calls.Call.{Bind}
@@ -31,7 +32,7 @@ use Rattle.vt_laws_mounts.proofs.letting_go.sweeps.OfWorlds.{all_in_use, locatio
 use Rattle.vt_laws_sealed.proofs.part.part.PartOfPart.{is_own}
 use Rattle.vt_laws_members.specs.Judging.{is_theirs}
 use Rattle.vt_laws_members.proofs.judging.AllJudged.{owned}
-use Rattle.vt_laws_members.proofs.judging.Grounds.{IsTheirs, numbered, theirs_from}
+use Rattle.vt_laws_members.proofs.judging.Grounds.{IsTheirs, theirs_from}
 use Rattle.vt_laws_members.proofs.judging.MountTrees.{bind_alike, children_own, own_theirs}
 use Rattle.vt_laws_members.proofs.judging.SeenInPart.{theirs_directly}
 use Rattle.vt_laws_members.specs.Changes.Changes.{EndsAlike, IsCallOfTheirs}

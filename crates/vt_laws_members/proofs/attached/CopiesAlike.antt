@@ -3,6 +3,9 @@ use Rattle.std.proofs.Common.{arith, ◌≡◌, refl, sym, ap, subst, ◌∙◌,
 use Rattle.std.proofs.lemmas.Grind.{common_steps}
 use Rattle.std.specs.Prelude.{option_map}
 use Rattle.std.specs.List.{filter_map, list_any}
+use Rattle.vt_laws_members.proofs.detached.lazily.GoingAlike.{receivers_alike, receivers_own}
+use Rattle.vt_laws_mounts.proofs.GroupsUp.{source_from_group}
+use Rattle.vt_laws_sealed.proofs.part.part.MountsOver.{numbered}
 use Rattle.vt_spec.specs.FileTree.{is_directory_under}
 use Rattle.vt_spec.specs.Language.Calls.{TaskName}
 use Rattle.vt_spec.specs.Lists.{folded, is_among, rest_of, then_some, when}
@@ -15,22 +18,17 @@ use Rattle.vt_spec.specs.Machine.Sealed.{is_own_mount, members, part_of, sealed,
 use Rattle.vt_spec.specs.Machine.World.{Filesystem, Task, World, filesystem_numbered, mount_at}
 use Rattle.vt_spec.proofs.Found.{filter_alike, found_among}
 use Rattle.vt_spec.proofs.Lists.{Among, among-filter, among-from_filter, map_alike}
-use Rattle.vt_spec.proofs.Options.{none_is_some}
 use Rattle.vt_spec.proofs.Worlds.{number-mount_in}
 use Rattle.vt_laws_mounts.proofs.letting_go.Lists.{flat_map_alike}
 use Rattle.vt_laws_sealed.proofs.part.Kept.{filter_map_same}
 use Rattle.vt_laws_sealed.proofs.part.groups.ReceiversAlike.{same_up}
 use Rattle.vt_laws_sealed.proofs.part.part.PartOfPart.{found, is_own}
-use Rattle.vt_laws_members.proofs.judging.Busy.{receivers_alike, receivers_own}
-use Rattle.vt_laws_members.proofs.judging.Grounds.{IsTheirs, numbered, same_mount}
+use Rattle.vt_laws_members.proofs.judging.Busy.{no_events}
+use Rattle.vt_laws_members.proofs.judging.Grounds.{IsTheirs, same_mount}
 use Rattle.vt_laws_members.proofs.judging.MountTrees.{own_theirs}
 use Rattle.vt_laws_members.proofs.judging.SeenInPart.{theirs_used}
 use Rattle.vt_laws_members.proofs.changes.letting_go.Heard.{IsHeard, above_heard, apart, heard_by_own, master_same}
 use Rattle.vt_laws_members.proofs.attached.GrownPart.{found_before}
-
--- a mount's group is its source
-pub group_source : (kind : Propagation ℕ) (g : ℕ) → group_of kind ≡ Some g → source_of kind ≡ Some g
-group_source kind g e = grind (arith, common_steps, none_is_some)
 
 -- a world without new filesystems
 pub no_new_ones : (w : World ℕ) → w ≡ record w { filesystems = w.filesystems ++ [] }
@@ -99,17 +97,17 @@ module _ (world : World ℕ) (names : List TaskName) (is : IsWorld nat_eq world)
   pub parts_alike : parts_of nat_eq base_part place ≡ parts
   parts_alike = ap (λ to. to ∷ filter (takes base_part to) (receivers_of nat_eq part to)) same_destination
       ∙ ap (λ l. destination ∷ filter (takes base_part destination) l)
-      (receivers_alike world names is sealed_off destination there own) ∙ ap (λ l. destination ∷ l)
+      (receivers_alike world names is.mounts (no_events world names is sealed_off) destination there own) ∙ ap (λ l. destination ∷ l)
       (filter_alike (takes base_part destination) (takes base destination) (receivers_of nat_eq world destination)
       (λ m n.
-      let its = receivers_own world names is sealed_off destination m there own n in
+      let its = receivers_own world names is.mounts (no_events world names is sealed_off) destination m there own n in
       ap (λ (f : Filesystem ℕ). not (nat_eq place.mount m.number) && is_some m.namespace
       && nat_eq destination.filesystem m.filesystem && is_directory_under nat_eq f.files m.root place.node)
       (files_alike m its.0 its.1)))
 
   pub parts_own : (m : Mount ℕ) → Among m parts → Among m world.mounts × (owns m ≡ true)
   parts_own m n = ⊎_elim (λ same. (subst (λ x. Among x world.mounts) (sym same) there, ap owns same ∙ own))
-      (λ receiver. receivers_own world names is sealed_off destination m there own
+      (λ receiver. receivers_own world names is.mounts (no_events world names is sealed_off) destination m there own
       (among-from_filter (takes_part nat_eq base place) (receivers_of nat_eq world destination) m receiver).0) n
 
   -- What is attached, by these new numbers
@@ -200,7 +198,7 @@ module _ (world : World ℕ) (names : List TaskName) (is : IsWorld nat_eq world)
             → then_some o (made_by base_part part.master) ≡ then_some o (made_by base world.master)
         by None e = refl
         by (Some g) e =
-            let heard = heard_part p n g (group_source p.propagation g e) in
+            let heard = heard_part p n g (source_from_group p.propagation g e) in
             ap (λ k. when (not (is_member_of nat_eq g destination)) (image nat_eq new destination twig g, k))
             (ap (nearest_image nat_eq base_part new parts destination twig)
             (master_same world names is sealed_off g heard) ∙ above g heard (world.master g) refl)

@@ -4,6 +4,7 @@ use Rattle.std.proofs.Common.{arith, ◌≡◌, ℕ, nat_eq, Bool, true, false, 
 use Rattle.std.proofs.lemmas.Grind.{common_steps}
 use Rattle.std.specs.List.{list_any}
 use Rattle.std.proofs.lemmas.Option.{same_Some}
+use Rattle.vt_laws_mounts.proofs.GroupsUp.{source_from_group}
 use Rattle.vt_spec.specs.Language.Calls.{TaskName}
 use Rattle.vt_spec.specs.Lists.{is_among}
 use Rattle.vt_spec.specs.Machine.Attach.{Copies, Twig, copy_type, image, type_at}
@@ -14,7 +15,7 @@ use Rattle.vt_spec.specs.Machine.World.{Filesystem, World, mount_at}
 use Rattle.vt_spec.proofs.Lists.{Among}
 use Rattle.vt_spec.proofs.Options.{none_is_some}
 use Rattle.vt_laws_sealed.proofs.part.part.PartOfPart.{is_own}
-use Rattle.vt_laws_members.proofs.attached.CopiesAlike.{base, group_source, parts, tree}
+use Rattle.vt_laws_members.proofs.attached.CopiesAlike.{base, parts, tree}
 use Rattle.vt_laws_members.proofs.attached.PushedUp.{copy, twig}
 
 -- a group without master has none in the part
@@ -59,7 +60,7 @@ module _ (world : World ℕ) (names : List TaskName) (is : IsWorld nat_eq world)
   its_twig = twig world names is sealed_off new_ones unused place there own new moves origins
 
   image_known : (o : Mount ℕ) → Among o origins → (group : ℕ) → Known (image nat_eq new destination (its_twig o) group)
-  image_known o m group = grind (arith, common_steps, new_known, twig_known, group_source)
+  image_known o m group = grind (arith, common_steps, new_known, twig_known, source_from_group)
 
   -- at a receiver
   type_known : (o : Mount ℕ) → Among o origins → (kind : Propagation ℕ) (g : ℕ)

@@ -1,11 +1,11 @@
 -- Where a tree of theirs moves, the worlds that are left have one part after the sweep.
-use Rattle.std.proofs.Common.{◌≡◌, refl, sym, ap, subst, ◌∙◌, inl, ⊎_elim, ℕ, nat_eq, Bool, true, cond, List, [], ◌∷◌, ◌++◌, Option, Some, None, filter, map}
+use Rattle.std.proofs.Common.{◌≡◌, refl, sym, ap, subst, ◌∙◌, inl, ⊎_elim, ℕ, nat_eq, true, cond, List, [], ◌∷◌, ◌++◌, Option, Some, None, filter, map}
 use Rattle.std.specs.List.{list_all}
 use Rattle.std.specs.Prelude.{All}
+use Rattle.vt_laws_members.proofs.namespaces.RemadeRaised.{lives_members}
 use Rattle.vt_spec.specs.Language.Calls.{TaskName}
 use Rattle.vt_spec.specs.Lists.{is_among, then_some}
-use Rattle.vt_spec.specs.Machine.Invariants.{HasLivingGroups, IsWorld, Lives, is_nowhere_or_attached}
-use Rattle.vt_spec.specs.Machine.Invariants.Lives.{has_master, has_no_master}
+use Rattle.vt_spec.specs.Machine.Invariants.{HasLivingGroups, IsWorld, is_nowhere_or_attached}
 use Rattle.vt_spec.specs.Machine.Mounts.{Location, Mount, source_of}
 use Rattle.vt_spec.specs.Machine.Policy.{master_above, numbers_raised}
 use Rattle.vt_spec.specs.Machine.Receives.{has_members}
@@ -32,11 +32,6 @@ use Rattle.vt_laws_members.proofs.attached.GrownPart.{Grows}
 use Rattle.vt_laws_members.proofs.attached.GrownReady.{all_live, grown, grown_settled, without_new}
 use Rattle.vt_laws_members.proofs.attached.PartGrows.{part_grows}
 use Rattle.vt_laws_members.proofs.attached.RaisedAlike.{parts_left}
-
--- a group that lives has members
-lives_so : (members : ℕ → Bool) (master : ℕ → Option ℕ) (g : ℕ) → Lives members master g → members g ≡ true
-lives_so members master g (has_no_master it there none) = there
-lives_so members master g (has_master it above there e later) = there
 
 module _ (world : World ℕ) (names : List TaskName) (is : IsWorld nat_eq world)
     (sealed_off : sealed nat_eq world names ≡ true) where
@@ -153,7 +148,7 @@ module _ (world : World ℕ) (names : List TaskName) (is : IsWorld nat_eq world)
             → (g : ℕ) → source_of m.propagation ≡ Some g
             → has_members nat_eq (filter (mount_lives nat_eq w) w.mounts) g ≡ true
         members_in w it all at g e = ap (λ l. has_members nat_eq l g) all
-            ∙ lives_so (has_members nat_eq w.mounts) w.master g
+            ∙ lives_members (has_members nat_eq w.mounts) w.master g
             (among_from_all (HasLivingGroups nat_eq w) w.mounts it.groups m at g e)
 
         by : (o : Option ℕ) → source_of m.propagation ≡ o

@@ -2,18 +2,18 @@
 use Rattle.std.proofs.Common.{arith, ◌≡◌, refl, sym, ap, subst, ◌∙◌, ◌⊎◌, inl, inr, ⊎_elim, ℕ, zero, suc, nat_eq, Bool, true, false, cond, true≢false, List, [], ◌∷◌, ◌++◌, Option, Some, None, append-nil, flat_map, length, map, eq-eqb, eqb-true}
 use Rattle.std.proofs.lemmas.Grind.{common_steps}
 use Rattle.std.specs.List.{list_any}
-use Rattle.std.proofs.lemmas.List.{map-id}
+use Rattle.vt_laws_mounts.proofs.letting_go.mounting.Attached.{swapped_all, swapped}
+use Rattle.vt_laws_sealed.proofs.part.part.MountsOver.{numbered}
 use Rattle.vt_spec.specs.Language.Calls.{TaskName}
 use Rattle.vt_spec.specs.Lists.{folded, is_among, rest_of}
 use Rattle.vt_spec.specs.Machine.Attach.{Copies, masters_with, moved_tree}
 use Rattle.vt_spec.specs.Machine.Invariants.{IsWorld}
-use Rattle.vt_spec.specs.Machine.Mounts.{Location, Mount, children, replaced_if_same, source_of, tree_from, with_mount}
+use Rattle.vt_spec.specs.Machine.Mounts.{Location, Mount, children, source_of, tree_from}
 use Rattle.vt_spec.specs.Machine.Sealed.{is_own_mount, members, part_of, sealed, seen_by_descriptor, used_directly, used_filesystems}
 use Rattle.vt_spec.specs.Machine.World.{Filesystem, World, mount_at, mount_numbered}
 use Rattle.vt_spec.proofs.Lists.{Among, among-filter, among-from_flat_map, map_twice}
 use Rattle.vt_spec.proofs.Worlds.{number-mount_in}
 use Rattle.vt_laws_sealed.proofs.part.part.PartOfPart.{is_own}
-use Rattle.vt_laws_members.proofs.judging.Grounds.{numbered}
 use Rattle.vt_laws_members.proofs.judging.MountTrees.{children_own, own_theirs}
 use Rattle.vt_laws_members.proofs.judging.SeenInPart.{theirs_directly}
 use Rattle.vt_laws_members.proofs.changes.letting_go.Heard.{heard_by_own, master_same}
@@ -22,15 +22,6 @@ use Rattle.vt_laws_members.proofs.attached.Destination.{located_well}
 use Rattle.vt_laws_members.proofs.attached.GrownPart.{Grows, grown_world, own_how}
 use Rattle.vt_laws_members.proofs.attached.KnownMasters.{copy_known}
 use Rattle.vt_laws_members.proofs.attached.PushedUp.{copy, copy_of, other_stays, push_keeps, stub_stays}
-
--- mounts that are replaced by those of their numbers
-abbrev swapped : List (Mount ℕ) → Mount ℕ → Mount ℕ
-swapped copied mount = folded (λ old copy. replaced_if_same nat_eq copy old) mount copied
-
-swapped_all : (copied mounts : List (Mount ℕ)) → folded (with_mount nat_eq) mounts copied ≡ map (swapped copied) mounts
-swapped_all [] mounts = sym (map-id mounts)
-swapped_all (copy ∷ copied) mounts = swapped_all copied (with_mount nat_eq mounts copy)
-    ∙ map_twice (swapped copied) (replaced_if_same nat_eq copy) mounts
 
 -- a mount is as it was, or it is one of its number
 swapped_is : (copied : List (Mount ℕ)) (mount : Mount ℕ) → (swapped copied mount ≡ mount)

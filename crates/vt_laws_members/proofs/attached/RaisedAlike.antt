@@ -1,6 +1,6 @@
 -- Where a set sees the same after a change of mounts, masters and filesystems in the world and in its part, the worlds
 -- that are left have one part, with their change numbers.
-use Rattle.std.proofs.Common.{arith, ◌≡◌, refl, sym, ap, ◌∙◌, ⊎_elim, ℕ, nat_eq, Bool, true, cond, true≢false, List, [], Option, Some, None, filter, map, ◌&&◌, eqb-true}
+use Rattle.std.proofs.Common.{arith, ◌≡◌, refl, sym, ap, ◌∙◌, ⊎_elim, ℕ, nat_eq, Bool, true, cond, true≢false, List, [], ◌∷◌, Option, Some, None, filter, map, ◌&&◌, eqb-true}
 use Rattle.std.proofs.lemmas.Grind.{common_steps}
 use Rattle.std.specs.List.{list_any}
 use Rattle.std.proofs.lemmas.Bool.{or_left}
@@ -11,14 +11,44 @@ use Rattle.vt_spec.specs.Machine.Invariants.{IsWorld}
 use Rattle.vt_spec.specs.Machine.Mounts.{Mount, same_location, source_of}
 use Rattle.vt_spec.specs.Machine.Policy.{master_above, numbers_raised, raised_namespace, raised_task, same_flags, same_mount, same_mounts_in, same_propagation}
 use Rattle.vt_spec.specs.Machine.Sealed.{is_at, is_member_task, is_own_mount, members, own_mounts, part_of, roots_and_directories, sealed}
-use Rattle.vt_spec.specs.Machine.World.{Filesystem, Task, World, mounts_of}
+use Rattle.vt_spec.specs.Machine.World.{Filesystem, Namespace, Task, World, locations_of, mounts_of}
 use Rattle.vt_spec.proofs.Lists.{Among, among-filter, among-from_filter, map_alike, map_same}
 use Rattle.vt_laws_mounts.proofs.letting_go.Lists.{filter-map}
 use Rattle.vt_laws_sealed.proofs.part.Kept.{filter_again, filter_both}
 use Rattle.vt_laws_sealed.proofs.part.part.PartOfPart.{is_own, keep, kept_how, kept_whole, same_members}
 use Rattle.vt_laws_members.proofs.changes.letting_go.EndedRaised.{raised_number, same_list_alike}
 use Rattle.vt_laws_members.proofs.changes.letting_go.Heard.{heard_by_own, master_same, own_in, space_in_part}
-use Rattle.vt_laws_members.proofs.changes.mounts.FlagsLeft.{part_respaced, raised_members_alike, spaces}
+use Rattle.vt_laws_members.proofs.changes.files.FilesRaised.{raised_is}
+use Rattle.vt_laws_members.proofs.changes.tasks.Retasked.{retasked}
+use Rattle.vt_laws_members.proofs.changes.tasks.Rights.{sees_alike}
+
+-- the namespaces of these tasks
+abbrev pub spaces : List (Task ℕ) → Namespace ℕ → Bool
+spaces tasks n = list_any (λ (t : Task ℕ). nat_eq n.number t.namespace) tasks
+
+-- the part of a world with other namespaces, in which a task's change number is raised
+pub part_respaced : (w : World ℕ) (names : List TaskName) (name : TaskName) (namespaces : List (Namespace ℕ))
+    → part_of nat_eq (record w {
+      namespaces = namespaces;
+      tasks = map (raised_task name) w.tasks;
+      change = raised w.change;
+    }) names ≡ record (part_of nat_eq w names) {
+      namespaces = filter (spaces (members w names)) namespaces;
+      tasks = filter (is_member_task names) (map (raised_task name) w.tasks);
+    }
+part_respaced w names name namespaces =
+    retasked (record w { namespaces = namespaces }) names names (map (raised_task name) w.tasks) (raised w.change)
+    (sees_alike (record w { namespaces = namespaces }) names (raised_task name)
+    (raised_is name (λ (t : Task ℕ). t.name) (λ t. refl))
+    (λ t m. raised_is name (λ (t : Task ℕ). t.namespace) (λ t. refl) t)
+    (λ t m. raised_is name (λ (t : Task ℕ). t.root ∷ t.directory ∷ []) (λ t. refl) t) (raised w.change)
+    (λ t m. raised_is name locations_of (λ t. refl) t))
+
+-- the tasks of the set, with the caller's change number raised
+pub raised_members_alike : (world : World ℕ) (names : List TaskName) (name : TaskName)
+    → filter (is_member_task names) (map (raised_task name) world.tasks)
+    ≡ filter (is_member_task names) (map (raised_task name) (part_of nat_eq world names).tasks)
+raised_members_alike world names name = grind (arith, common_steps, same_members, filter-map, raised_is)
 
 -- the mount is in the namespace
 abbrev its_in : ℕ → Mount ℕ → Bool
@@ -44,6 +74,17 @@ shown_in w names n own = filter_both (keep w names theirs) (its_in n) (its_in n)
     its : (m : Mount ℕ) → its_in n m ≡ true → is_own w names (members w names) m ≡ true
     its m = grind (arith, common_steps, true≢false, eqb-true)
 
+-- masters of groups of theirs, in the part
+pub above_in_part : (world : World ℕ) (names : List TaskName) (is : IsWorld nat_eq world)
+    (sealed_off : sealed nat_eq world names ≡ true) (m : Mount ℕ) → Among m (own_mounts nat_eq world names)
+    → master_above (part_of nat_eq world names) m ≡ master_above world m
+above_in_part world names is sealed_off m n = by (source_of m.propagation) refl
+  where
+    by : (o : Option ℕ) → source_of m.propagation ≡ o
+        → then_some o (part_of nat_eq world names).master ≡ then_some o world.master
+    by None e = refl
+    by (Some g) e = master_same world names is sealed_off g (heard_by_own world names is sealed_off m n g e)
+
 module _ (world : World ℕ) (names : List TaskName) (is : IsWorld nat_eq world)
     (sealed_off : sealed nat_eq world names ≡ true) (mounts mounts_too : List (Mount ℕ))
     (master master_too : ℕ → Option ℕ) (filesystems filesystems_too : List (Filesystem ℕ)) where
@@ -62,13 +103,6 @@ module _ (world : World ℕ) (names : List TaskName) (is : IsWorld nat_eq world)
   module _ (same : part_of nat_eq later_part names ≡ part_of nat_eq later names)
       (masters : (m : Mount ℕ) → Among m mounts → is_own world names theirs m ≡ true
       → master_above later_part m ≡ master_above later m) where
-    above : (m : Mount ℕ) → Among m (own_mounts nat_eq world names) → master_above part m ≡ master_above world m
-    above m n = by (source_of m.propagation) refl
-      where
-        by : (o : Option ℕ) → source_of m.propagation ≡ o → then_some o part.master ≡ then_some o world.master
-        by None e = refl
-        by (Some g) e = master_same world names is sealed_off g (heard_by_own world names is sealed_off m n g e)
-
     module _ (n : ℕ) (space : has_one theirs n ≡ true) where
       later_alike : mounts_of nat_eq later_part n ≡ mounts_of nat_eq later n
       later_alike = sym (shown_in later_part names n (ap (λ ts. has_one ts n) (same_members world names) ∙ space))
@@ -83,7 +117,7 @@ module _ (world : World ℕ) (names : List TaskName) (is : IsWorld nat_eq world)
           (mounts_of nat_eq world n) (mounts_of nat_eq later n) (λ x y m l.
           let first = among-from_filter (its_in n) world.mounts x m in
           let second = among-from_filter (its_in n) mounts y l in
-          compared x y (above x (among-filter (is_own_mount nat_eq world names) world.mounts x first.0
+          compared x y (above_in_part world names is sealed_off x (among-filter (is_own_mount nat_eq world names) world.mounts x first.0
           (own_in world names is sealed_off n space x first.1)))
           (masters y second.0 (own_in world names is sealed_off n space y second.1)))
         where

@@ -3,6 +3,8 @@ use Rattle.std.proofs.Common.{arith, ◌≡◌, refl, sym, ap, subst, ◌∙◌,
 use Rattle.std.proofs.lemmas.Grind.{common_steps}
 use Rattle.std.specs.Prelude.{option_to_list}
 use Rattle.std.proofs.lemmas.Bool.{and_parts}
+use Rattle.vt_laws_mounts.proofs.GroupsUp.{source_from_group}
+use Rattle.vt_laws_sealed.proofs.part.part.MountsOver.{numbered}
 use Rattle.vt_spec.specs.Language.Calls.{TaskName}
 use Rattle.vt_spec.specs.Lists.{Fresh, is_among}
 use Rattle.vt_spec.specs.Machine.Invariants.{IsWorld, has_its_root}
@@ -18,9 +20,7 @@ use Rattle.vt_spec.proofs.Lists.{Among, among-append, among-append_left, among-a
 use Rattle.vt_laws_mounts.proofs.letting_go.sweeps.OfWorlds.{all_in_use}
 use Rattle.vt_laws_sealed.proofs.part.groups.ReceiversAlike.{member_group}
 use Rattle.vt_laws_sealed.proofs.part.seals.ByPart.{layer_directory}
-use Rattle.vt_laws_members.proofs.judging.Grounds.{numbered}
 use Rattle.vt_laws_members.proofs.judging.LowersSeen.{overlay_there}
-use Rattle.vt_laws_members.proofs.attached.CopiesAlike.{group_source}
 use Rattle.vt_laws_members.proofs.attached.GrownPart.{used_how}
 use Rattle.vt_laws_members.proofs.attached.Destination.{located_well}
 
@@ -116,5 +116,5 @@ module _ (world : World ℕ) (names : List TaskName) (is : IsWorld nat_eq world)
             (map (λ (n : Namespace ℕ). n.number) world.namespaces) (fresh k)
             (among-append_left (flat_map used_by_mount world.mounts) (flat_map used_by_filesystem world.filesystems)
             (fresh k) (among-flat_map used_by_mount world.mounts m (fresh k) n
-            (sourced m (group_source m.propagation (fresh k) (member_group (fresh k) m e))))))) ∙ serves.unused k))
+            (sourced m (source_from_group m.propagation (fresh k) (member_group (fresh k) m e))))))) ∙ serves.unused k))
         by m n false e = refl

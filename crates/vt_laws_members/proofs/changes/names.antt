@@ -7,4 +7,3 @@ pub mod NewOpensEnding
 pub mod RemovalsEnding
 pub mod Swept
 pub mod TreesEnding
-pub mod UsedAlike

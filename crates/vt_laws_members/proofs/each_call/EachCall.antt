@@ -1,5 +1,5 @@
 -- Every call of theirs ends in the part as in the world.
-use Rattle.std.proofs.Common.{◌≡◌, refl, ℕ, nat_eq, Bool, true, false, List, Option, Some, Ok}
+use Rattle.std.proofs.Common.{◌≡◌, refl, ℕ, nat_eq, false, List, Option, Some, Ok}
 use Rattle.std.specs.Prelude.{⊤}
 use Rattle.vt_spec.specs.Language.Calls.{Call, ForkWords, TaskName}
 use Rattle.vt_spec.specs.Language.Calls.Call.{Bind, Chdir, Chmod, Chown, Chroot, Close, Drop, Exec, Exit, Fork, Lazy, LinkTo, ListMounts, Ls, Lstat, MakeWhiteout, Mkdir, MountOverlay, MountPlain, MoveMount, Opaque, OpenFile, PivotRoot, Pread, Pwrite, Read, Readlink, Remount, Rename, Rmdir, SetType, Setns, Stat, SymlinkAt, Umask, Umount, Unlink, Unshare, Write}
@@ -24,7 +24,7 @@ use Rattle.vt_laws_members.proofs.changes.mounts.Remounting.{remounts_end_alike}
 use Rattle.vt_laws_members.proofs.changes.tasks.Forking.{forks_end_alike}
 use Rattle.vt_laws_members.proofs.changes.tasks.Rights.{drops_end_alike, renames_of_one_end_alike, umasks_end_alike}
 use Rattle.vt_laws_members.specs.OverlayNames.EachCalls.{AlwaysEndsAlike}
-use Rattle.vt_laws_members.proofs.overlay_names.each_call.Permitted.{each_chmod_ends_alike, each_chown_ends_alike, each_link_ends_alike, each_mkdir_ends_alike, each_open_ends_alike, each_part_write_ends_alike, each_symlink_ends_alike, each_unlink_ends_alike, each_write_ends_alike}
+use Rattle.vt_laws_members.proofs.overlay_names.each_call.Permitted.{each_chmod_ends_alike, each_chown_ends_alike, each_link_ends_alike, each_mkdir_ends_alike, each_open_ends_alike, each_part_write_ends_alike, each_symlink_ends_alike, each_unlink_ends_alike, each_write_ends_alike, either}
 use Rattle.vt_laws_members.proofs.overlay_names.names.ByPermit.{by_permit}
 use Rattle.vt_laws_members.proofs.overlay_names.names.HidingEnding.{all_opaques_end_alike, all_whiteouts_end_alike}
 use Rattle.vt_laws_members.proofs.overlay_names.names.OverlayRemovals.{overlay_renames_end_alike, overlay_rmdirs_end_alike}
@@ -73,11 +73,6 @@ module _ (world : World ℕ) (names : List TaskName) (name : TaskName) (call : C
   fit_ends looks ends = by_permit world names name call it fresh fresh looks (λ task called permit judged.
       ends task called permit judged (permits_fit world fresh task call permit
       (calls_are_granted nat_eq (looks_of nat_eq world) (overfills nat_eq fresh world task) task call permit judged)))
-
--- on a plain filesystem, or through an overlay
-either : {P : Type 0} (b : Bool) → ((b ≡ false) → P) → ((b ≡ true) → P) → P
-either true plain merged = merged refl
-either false plain merged = plain refl
 
 each_fork : (world : World ℕ) (names : List TaskName) (name : TaskName) (words : Option ForkWords)
     → AlwaysEndsAlike world names name (Fork words)

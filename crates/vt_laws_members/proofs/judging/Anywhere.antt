@@ -4,6 +4,7 @@ use Rattle.std.proofs.Common.{◌≡◌, refl, sym, ap, subst, ◌∙◌, inl, �
 use Rattle.std.specs.Prelude.{option_map, option_to_list}
 use Rattle.std.specs.List.{list_any}
 use Rattle.std.proofs.lemmas.Bool.{and_from, and_parts, not-true, or_cases, or_left}
+use Rattle.vt_laws_sealed.proofs.part.part.MountsOver.{numbered}
 use Rattle.vt_spec.specs.FileTree.{is_under}
 use Rattle.vt_spec.specs.Language.Calls.{TaskName}
 use Rattle.vt_spec.specs.Lists.{holds_of, is_among, then_some}
@@ -24,7 +25,6 @@ use Rattle.vt_laws_sealed.proofs.part.locks.LockedTrees.{all_locked}
 use Rattle.vt_laws_sealed.proofs.part.part.PartOfPart.{is_own}
 use Rattle.vt_laws_sealed.proofs.part.seals.ByPart.{layer_directory, used_are_free}
 use Rattle.vt_laws_worlds.proofs.worlds.Reached.{namespace_below}
-use Rattle.vt_laws_members.proofs.judging.Grounds.{numbered}
 use Rattle.vt_laws_members.proofs.judging.Locks.{tree_there, whole_how}
 use Rattle.vt_laws_members.proofs.judging.LowersSeen.{overlay_there, upper_used}
 use Rattle.vt_laws_members.proofs.judging.MountPoints.{found_alike, stands_on_one}

@@ -1,38 +1,21 @@
--- What an unmount event of a mount of theirs detaches, and whether the mount is busy, is the same in the part.
-use Rattle.std.proofs.lemmas.Grind.{common_steps}
-use Rattle.std.proofs.Common.{◌≡◌, refl, sym, ap, subst, ◌∙◌, ⊎_elim, ℕ, nat_eq, Bool, true, false, true≢false, not, List, [], ◌∷◌, Option, Some, None, map, ◌||◌, arith}
-use Rattle.std.specs.Prelude.{option_map, unwrap_or}
-use Rattle.std.specs.List.{filter_map}
+-- Whether a mount of theirs is busy is the same in the part.
+use Rattle.std.proofs.Common.{◌≡◌, refl, sym, ap, ◌∙◌, ⊎_elim, ℕ, nat_eq, Bool, true, false, true≢false, not, List, ◌||◌}
 use Rattle.std.proofs.lemmas.Bool.{not-true}
-use Rattle.std.proofs.lemmas.Option.{same_Some}
 use Rattle.vt_spec.specs.Language.Calls.{TaskName}
-use Rattle.vt_spec.specs.Lists.{holds_of, is_among, then_some, when}
-use Rattle.vt_spec.specs.Machine.Attach.{receivers_of}
-use Rattle.vt_spec.specs.Machine.Detach.{going, going_at, going_from, goes_at, has_child, is_busy, is_used, may_go, only_cover}
+use Rattle.vt_spec.specs.Lists.{is_among}
+use Rattle.vt_spec.specs.Machine.Detach.{going, has_child, is_busy, is_used}
 use Rattle.vt_spec.specs.Machine.Invariants.{IsWorld}
-use Rattle.vt_spec.specs.Machine.Mounts.{Location, Mount, child_at, group_of, is_shared, source_of, stands_at, stands_on}
-use Rattle.vt_spec.specs.Machine.Receives.{receivers, receives}
-use Rattle.vt_spec.specs.Machine.Sealed.{is_member_task, is_on_own_mount, is_own_mount, is_own_namespace, locations, members, other_mounts, outsiders, own_mounts, part_of, sealed}
+use Rattle.vt_spec.specs.Machine.Mounts.{Location, Mount, stands_on}
+use Rattle.vt_spec.specs.Machine.Sealed.{is_member_task, is_on_own_mount, locations, members, outsiders, part_of, sealed, shares_no_events}
 use Rattle.vt_spec.specs.Machine.World.{Task, World, all_locations, locations_of, mount_at, mount_numbered}
-use Rattle.vt_spec.proofs.Found.{found_among, found_passes}
-use Rattle.vt_spec.proofs.Lists.{Among, among-filter, among-filter_map, among-flat_map, among-from_filter, among-from_filter_map, among-from_flat_map, among-from_map, among_from_list_all, among_numbers, any_among, any_from_among, contains_from_among}
-use Rattle.vt_spec.proofs.Options.{none_is_some}
+use Rattle.vt_spec.proofs.Lists.{Among, among-filter, among-filter_map, among-flat_map, among-from_filter, among-from_filter_map, among-from_flat_map, among_from_list_all, among_numbers, any_among, any_from_among}
 use Rattle.vt_spec.proofs.Truths.{same_truth}
-use Rattle.vt_laws_mounts.proofs.mounts.MountsPlaces.{stands_there}
-use Rattle.vt_laws_worlds.proofs.worlds.Reached.{namespace_below}
-use Rattle.vt_laws_sealed.specs.Part.Groups.{SharesNoEvents}
-use Rattle.vt_laws_sealed.proofs.part.Kept.{filter_map_same}
-use Rattle.vt_laws_sealed.proofs.part.groups.ReceiversAlike.{no_event_of_theirs_reaches_others, their_groups_receive_alike}
-use Rattle.vt_laws_sealed.proofs.part.part.MountsOver.{same_child}
+use Rattle.vt_laws_sealed.proofs.part.part.MountsOver.{numbered}
 use Rattle.vt_laws_sealed.proofs.part.part.PartOfPart.{is_own, keep, kept_how}
 use Rattle.vt_laws_sealed.proofs.part.seals.ByPart.{apart_if_sealed}
-use Rattle.vt_laws_members.proofs.judging.Grounds.{IsTheirs, child_theirs, its_mount, numbered, own_by, parent_theirs, same_mount, stands_itself, theirs_whole}
-use Rattle.vt_laws_members.proofs.judging.MountTrees.{child_own, children_alike, own_theirs, own_whole}
-
--- a mount in no namespace receives from no group
-alone_source : (world : World ℕ) (mount : Mount ℕ) → IsWorld nat_eq world → Among mount world.mounts
-    → mount.namespace ≡ None → source_of mount.propagation ≡ None
-alone_source world mount is m none = grind (arith, common_steps, among_from_list_all, is.mounts.nowhere, true≢false)
+use Rattle.vt_laws_members.proofs.detached.lazily.GoingAlike.{going_alike, going_own}
+use Rattle.vt_laws_members.proofs.judging.Grounds.{IsTheirs, same_mount}
+use Rattle.vt_laws_members.proofs.judging.MountTrees.{child_own, own_theirs, own_whole}
 
 module _ (world : World ℕ) (names : List TaskName) (is : IsWorld nat_eq world)
     (sealed_off : sealed nat_eq world names ≡ true) where
@@ -48,169 +31,9 @@ module _ (world : World ℕ) (names : List TaskName) (is : IsWorld nat_eq world)
   abbrev On : ℕ → Type 0
   On = IsTheirs world names is.mounts
 
-  apart : SharesNoEvents world names
-  apart = record { mounts = is.mounts; apart = (apart_if_sealed world names is sealed_off).events }
-
-  -- Receivers
-
-  pub receivers_own : (mount receiver : Mount ℕ) → Among mount world.mounts → owns mount ≡ true
-      → Among receiver (receivers_of nat_eq world mount) → Among receiver world.mounts × (owns receiver ≡ true)
-  receivers_own mount receiver m own at = by (group_of mount.propagation) refl at
-    where
-      side : Among receiver world.mounts → (group : ℕ) → group_of mount.propagation ≡ Some group
-          → receives nat_eq world group receiver ≡ true → (o : Option ℕ) → receiver.namespace ≡ o → owns receiver ≡ true
-      side there group e hears None f = grind (arith, common_steps, alone_source, true≢false)
-      side there group e hears (Some n) f = which (is_own_namespace nat_eq world names n) refl
-        where
-          which : (b : Bool) → is_own_namespace nat_eq world names n ≡ b → owns receiver ≡ true
-          which true its = ap (holds_of (is_own_namespace nat_eq world names)) f ∙ its
-          which false other = absurd (true≢false
-              (sym hears ∙ no_event_of_theirs_reaches_others world names mount receiver group apart
-              (contains_from_among (own_mounts nat_eq world names) mount
-              (among-filter (is_own_mount nat_eq world names) world.mounts mount m own))
-              (contains_from_among (other_mounts nat_eq world names) receiver
-              (among-filter (λ (x : Mount ℕ). holds_of (λ k. not (is_own_namespace nat_eq world names k)) x.namespace)
-              world.mounts receiver there
-              (ap (holds_of (λ k. not (is_own_namespace nat_eq world names k))) f ∙ ap not other))) e))
-
-      by : (o : Option ℕ) → group_of mount.propagation ≡ o
-          → Among receiver (unwrap_or (option_map (receivers nat_eq world) o) [])
-          → Among receiver world.mounts × (owns receiver ≡ true)
-      by None e at = absurd at
-      by (Some group) e at =
-          let from = among-from_filter (receives nat_eq world group) world.mounts receiver at in
-          (from.0, side from.0 group e from.1 receiver.namespace refl)
-
-  pub receivers_alike : (mount : Mount ℕ) → Among mount world.mounts → owns mount ≡ true
-      → receivers_of nat_eq part mount ≡ receivers_of nat_eq world mount
-  receivers_alike mount m own = by (group_of mount.propagation) refl
-    where
-      by : (o : Option ℕ) → group_of mount.propagation ≡ o
-          → unwrap_or (option_map (receivers nat_eq part) o) [] ≡ unwrap_or (option_map (receivers nat_eq world) o) []
-      by None e = refl
-      by (Some group) e = their_groups_receive_alike world names mount group apart
-          (contains_from_among (own_mounts nat_eq world names) mount
-          (among-filter (is_own_mount nat_eq world names) world.mounts mount m own)) e
-
-  -- What an event detaches
-
-  standing_own : (at : Location ℕ) (child : Mount ℕ) → On at.mount → child_at nat_eq world.mounts at ≡ Some child
-      → Among child world.mounts × (owns child ≡ true)
-  standing_own at child own e =
-      let m = found_among (stands_at nat_eq at) world.mounts child e in (
-        m,
-        child_theirs world names is.mounts at child own m
-            (stands_there at child (found_passes (stands_at nat_eq at) world.mounts child e)),
-      )
-
-  goes_alike : (node : ℕ) (receiver : Mount ℕ) → Among receiver world.mounts → owns receiver ≡ true
-      → goes_at nat_eq part node receiver ≡ goes_at nat_eq world node receiver
-  goes_alike node receiver m own =
-      let it : On receiver.number = own_theirs world names is receiver m own in
-      ap (λ o. then_some o (λ (child : Mount ℕ). when (may_go nat_eq part child) child))
-      (same_child world names is.mounts at (theirs_whole world names is.mounts at.mount it))
-      ∙ by (child_at nat_eq world.mounts at) (λ child e. standing_own at child it e)
-    where
-      at : Location ℕ
-      at = record { mount = receiver.number; node = node }
-
-      by : (o : Option (Mount ℕ))
-          → ((child : Mount ℕ) → o ≡ Some child → Among child world.mounts × (owns child ≡ true))
-          → then_some o (λ (child : Mount ℕ). when (may_go nat_eq part child) child)
-          ≡ then_some o (λ (child : Mount ℕ). when (may_go nat_eq world child) child)
-      by None its = refl
-      by (Some child) its =
-          let t = its child refl in
-          ap (λ list. when (only_cover nat_eq child list) child)
-          (children_alike world names is child.number (own_theirs world names is child t.0 t.1))
-
-  -- the mount below one of theirs
-  below_own : (mount : Mount ℕ) (point : Location ℕ) → Among mount world.mounts → owns mount ≡ true
-      → mount.mount_point ≡ Some point
-      → On point.mount × Among (mount_at nat_eq world point) world.mounts × (owns (mount_at nat_eq world point) ≡ true)
-  below_own mount point m own e =
-      let at : (mount_numbered nat_eq world mount.number).mount_point ≡ Some point =
-      ap (λ (x : Mount ℕ). x.mount_point) (numbered world names is.mounts mount m) ∙ e in
-      let below = parent_theirs world names is.mounts mount.number point (own_theirs world names is mount m own) at in (
-        below,
-        subst (λ x. Among x world.mounts) (sym (its_mount world names is.mounts point.mount below)) below.1,
-        own_by world names is.mounts (mount_at nat_eq world point) mount
-            (sym (namespace_below world mount.number point (stands_itself world names is.mounts mount m) at)
-            ∙ ap (λ (x : Mount ℕ). x.namespace) (numbered world names is.mounts mount m)) own,
-      )
-
-  from_alike : (mount : Mount ℕ) (point : Location ℕ) → Among mount world.mounts → owns mount ≡ true
-      → mount.mount_point ≡ Some point
-      → going_from nat_eq part mount point (is_shared (mount_at nat_eq part point).propagation)
-      ≡ going_from nat_eq world mount point (is_shared (mount_at nat_eq world point).propagation)
-  from_alike mount point m own e =
-      let below = below_own mount point m own e in
-      let parent : Mount ℕ = mount_at nat_eq world point in
-      ap (λ (x : Mount ℕ). by_parent part x (is_shared x.propagation))
-      (same_mount world names is.mounts point.mount below.0) ∙ by parent below.1 below.2 (is_shared parent.propagation)
-    where
-      by_parent : World ℕ → Mount ℕ → Bool → List ℕ
-      by_parent w parent true = map (λ (gone : Mount ℕ). gone.number)
-          (filter_map (goes_at nat_eq w point.node) (receivers_of nat_eq w parent))
-      by_parent w parent false = mount.number ∷ []
-
-      by : (parent : Mount ℕ) → Among parent world.mounts → owns parent ≡ true → (b : Bool)
-          → by_parent part parent b ≡ by_parent world parent b
-      by parent there its b = grind (arith, common_steps, receivers_alike, filter_map_same, receivers_own, goes_alike)
-
-  pub going_alike : (mount : Mount ℕ) → Among mount world.mounts → owns mount ≡ true
-      → going nat_eq part mount ≡ going nat_eq world mount
-  going_alike mount m own = grind (arith, common_steps, from_alike)
-
-  -- what goes is theirs
-  goes_own : (node : ℕ) (receiver gone : Mount ℕ) → Among receiver world.mounts → owns receiver ≡ true
-      → goes_at nat_eq world node receiver ≡ Some gone → Among gone world.mounts × (owns gone ≡ true)
-  goes_own node receiver gone m own e = by (child_at nat_eq world.mounts at) refl e
-    where
-      at : Location ℕ
-      at = record { mount = receiver.number; node = node }
-
-      which : (child : Mount ℕ) → child_at nat_eq world.mounts at ≡ Some child → (b : Bool) → when b child ≡ Some gone
-          → Among gone world.mounts × (owns gone ≡ true)
-      which child f true e = subst (λ (x : Mount ℕ). Among x world.mounts × (owns x ≡ true)) (same_Some child gone e)
-          (standing_own at child (own_theirs world names is receiver m own) f)
-      which child f false e = none_is_some gone e
-
-      by : (o : Option (Mount ℕ)) → child_at nat_eq world.mounts at ≡ o
-          → then_some o (λ (child : Mount ℕ). when (may_go nat_eq world child) child) ≡ Some gone
-          → Among gone world.mounts × (owns gone ≡ true)
-      by None f e = none_is_some gone e
-      by (Some child) f e = which child f (may_go nat_eq world child) e
-
-  pub going_own : (mount : Mount ℕ) (number : ℕ) → Among mount world.mounts → owns mount ≡ true
-      → Among number (going nat_eq world mount)
-      → (gone : Mount ℕ) × Among gone world.mounts × (owns gone ≡ true) × (gone.number ≡ number)
-  going_own mount number m own at = by mount.mount_point refl at
-    where
-      alone : Among number (mount.number ∷ [])
-          → (gone : Mount ℕ) × Among gone world.mounts × (owns gone ≡ true) × (gone.number ≡ number)
-      alone at = ⊎_elim (λ same. (mount, m, own, sym same)) (λ none. absurd none) at
-
-      which : (point : Location ℕ) → mount.mount_point ≡ Some point → (b : Bool)
-          → Among number (going_from nat_eq world mount point b)
-          → (gone : Mount ℕ) × Among gone world.mounts × (owns gone ≡ true) × (gone.number ≡ number)
-      which point e true at =
-          let from = among-from_map (λ (gone : Mount ℕ). gone.number) (filter_map (goes_at nat_eq world point.node)
-          (receivers_of nat_eq world (mount_at nat_eq world point))) number at in
-          let gone = among-from_filter_map (goes_at nat_eq world point.node)
-          (receivers_of nat_eq world (mount_at nat_eq world point)) from.0 from.1 in
-          let below = below_own mount point m own e in
-          let receiver = receivers_own (mount_at nat_eq world point) gone.0 below.1 below.2 gone.1 in
-          let its = goes_own point.node gone.0 from.0 receiver.0 receiver.1 gone.2 in
-          (from.0, its.0, its.1, sym from.2)
-      which point e false at = alone at
-
-      by : (o : Option (Location ℕ)) → mount.mount_point ≡ o → Among number (going_at nat_eq world mount o)
-          → (gone : Mount ℕ) × Among gone world.mounts × (owns gone ≡ true) × (gone.number ≡ number)
-      by None e at = alone at
-      by (Some point) e at = which point e (is_shared (mount_at nat_eq world point).propagation) at
-
-  -- Who is on it
+  -- no events of theirs are those of others
+  pub no_events : shares_no_events nat_eq world names ≡ true
+  no_events = (apart_if_sealed world names is sealed_off).events
 
   -- no other task uses a location on a mount of theirs
   pub none_located : (location : Location ℕ) → Among location (locations (outsiders world names))
@@ -267,6 +90,6 @@ module _ (world : World ℕ) (names : List TaskName) (is : IsWorld nat_eq world)
       ap (λ b. b || is_used nat_eq world (going nat_eq world (mount_numbered nat_eq world mount.number)))
       (child_alike mount.number it) ∙ ap (λ b. has_child nat_eq part mount.number || b)
       (ap (λ x. is_used nat_eq world (going nat_eq world x)) itself
-      ∙ used_alike (going nat_eq world mount) (λ number at. going_own mount number m own at)
-      ∙ ap (is_used nat_eq part) (sym (going_alike mount m own)) ∙ ap (λ x. is_used nat_eq part (going nat_eq part x))
+      ∙ used_alike (going nat_eq world mount) (λ number at. going_own world names is.mounts no_events mount number m own at)
+      ∙ ap (is_used nat_eq part) (sym (going_alike world names is.mounts no_events mount m own)) ∙ ap (λ x. is_used nat_eq part (going nat_eq part x))
       (sym (same_mount world names is.mounts mount.number it ∙ itself)))

@@ -13,17 +13,16 @@ use Rattle.vt_spec.specs.Machine.Mounts.{Location, Mount, child_at, mounts_over,
 use Rattle.vt_spec.specs.Machine.Sealed.{is_at, members, part_of, roots_and_directories}
 use Rattle.vt_spec.specs.Machine.World.{Task, World, mount_numbered}
 use Rattle.vt_spec.proofs.Found.{found_among, found_passes}
-use Rattle.vt_spec.proofs.Lists.{Among, among-filter_map, among-map, among_from_all, among_from_list_all, any_among, any_from_among, chain_ends, chain_goes_on}
+use Rattle.vt_spec.proofs.Lists.{Among, among-filter_map, among-map, among_from_all, any_among, any_from_among, chain_ends, chain_goes_on}
 use Rattle.vt_spec.proofs.Options.{none_is_some}
 use Rattle.vt_spec.proofs.Worlds.{found_or_none, number-mount_in}
 use Rattle.vt_laws_mounts.proofs.mounts.MountsPlaces.{stands_there}
-use Rattle.vt_laws_mounts.proofs.mounts.MountsReplaced.{found_itself}
 use Rattle.vt_laws_mounts.proofs.mounts.Standing.{rank, rank_bounded, rank_child}
 use Rattle.vt_laws_mounts.proofs.letting_go.Chains.{Way, chains_alike}
 use Rattle.vt_laws_mounts.proofs.letting_go.Chains.Way.{ends, goes_on}
 use Rattle.vt_laws_worlds.proofs.worlds.Reached.{namespace_below}
 use Rattle.vt_laws_sealed.proofs.part.Kept.{length-filter_map}
-use Rattle.vt_laws_sealed.proofs.part.part.MountsOver.{IsWhole, same_over}
+use Rattle.vt_laws_sealed.proofs.part.part.MountsOver.{IsWhole, same_over, nowhere_stands, numbered}
 use Rattle.vt_laws_sealed.proofs.part.part.PartOfPart.{is_own, keep, kept_how, kept_whole}
 use Rattle.vt_laws_sealed.proofs.part.walks.WalksAgree.{Each}
 use Rattle.vt_laws_members.specs.Judging.{is_theirs}
@@ -58,9 +57,6 @@ module _ (world : World ℕ) (names : List TaskName) (is : MountInvariants nat_e
   abbrev pub IsTheirs : ℕ → Type 0
   IsTheirs number = (mount : Mount ℕ) × Among mount world.mounts × (mount.number ≡ number) × IsGround mount
 
-  pub numbered : (mount : Mount ℕ) → Among mount world.mounts → mount_numbered nat_eq world mount.number ≡ mount
-  numbered mount m = found_itself world.mounts is.one_number mount m
-
   -- as a test
   pub theirs_from : (number : ℕ) → is_theirs world names number ≡ true → IsTheirs number
   theirs_from number e = grind (arith, common_steps, any_among, and_parts, eqb-true, or_cases, is_own, true≢false)
@@ -87,8 +83,8 @@ module _ (world : World ℕ) (names : List TaskName) (is : MountInvariants nat_e
         it : nat_eq number x.number ≡ true → kept x ≡ Some x
         it e =
             let same : own.0 ≡ x =
-            sym (numbered own.0 own.1) ∙ ap (mount_numbered nat_eq world) (own.2 ∙ eqb-true number x.number e)
-            ∙ numbered x (all x (inl refl)) in
+            sym (numbered world names is own.0 own.1) ∙ ap (mount_numbered nat_eq world) (own.2 ∙ eqb-true number x.number e)
+            ∙ numbered world names is x (all x (inl refl)) in
             subst (λ (m : Mount ℕ). kept m ≡ Some m) same (ground_whole own.0 own.3)
 
         skip : (o : Option (Mount ℕ)) → kept x ≡ o → nat_eq number x.number ≡ false
@@ -109,11 +105,7 @@ module _ (world : World ℕ) (names : List TaskName) (is : MountInvariants nat_e
     same_mount = ap (λ o. unwrap_or o (no_mount number)) (search world.mounts (λ x m. m))
 
     pub its_mount : mount_numbered nat_eq world number ≡ own.0
-    its_mount = ap (mount_numbered nat_eq world) (sym own.2) ∙ numbered own.0 own.1
-
-  pub nowhere_stands : (mount : Mount ℕ) (at : Location ℕ) → Among mount world.mounts → mount.namespace ≡ None
-      → mount.mount_point ≡ Some at → ⊥
-  nowhere_stands mount at m n p = grind (arith, common_steps, among_from_list_all, true≢false, and_parts)
+    its_mount = ap (mount_numbered nat_eq world) (sym own.2) ∙ numbered world names is own.0 own.1
 
   pub stands_itself : (mount : Mount ℕ) → Among mount world.mounts → Stands nat_eq world mount.number
   stands_itself mount m =
@@ -127,13 +119,13 @@ module _ (world : World ℕ) (names : List TaskName) (is : MountInvariants nat_e
   pub child_theirs : (a : Location ℕ) (child : Mount ℕ) → IsTheirs a.mount → Among child world.mounts
       → child.mount_point ≡ Some a → is_own world names theirs child ≡ true
   child_theirs a child (mount, m, number, ground) there at =
-      let same : child.namespace ≡ mount.namespace = sym (ap (λ (x : Mount ℕ). x.namespace) (numbered child there))
+      let same : child.namespace ≡ mount.namespace = sym (ap (λ (x : Mount ℕ). x.namespace) (numbered world names is child there))
       ∙ namespace_below world child.number a (stands_itself child there)
-      (ap (λ (x : Mount ℕ). x.mount_point) (numbered child there) ∙ at)
+      (ap (λ (x : Mount ℕ). x.mount_point) (numbered world names is child there) ∙ at)
       ∙ ap (λ n. (mount_numbered nat_eq world n).namespace) (sym number)
-      ∙ ap (λ (x : Mount ℕ). x.namespace) (numbered mount m) in
+      ∙ ap (λ (x : Mount ℕ). x.namespace) (numbered world names is mount m) in
       ⊎_elim (λ own. own_by child mount same own)
-      (λ stood. absurd (nowhere_stands child a there (same ∙ stood.0) at)) ground
+      (λ stood. absurd (nowhere_stands world names is child a there (same ∙ stood.0) at)) ground
 
   pub entered_theirs : (a b : Location ℕ) → IsTheirs a.mount
       → option_map root_of (child_at nat_eq world.mounts a) ≡ Some b → IsTheirs b.mount
@@ -156,7 +148,7 @@ module _ (world : World ℕ) (names : List TaskName) (is : MountInvariants nat_e
       → (mount_numbered nat_eq world number).mount_point ≡ Some point → IsTheirs point.mount
   parent_theirs number point (mount, m, same, ground) e =
       let it : mount_numbered nat_eq world number ≡ mount =
-      ap (mount_numbered nat_eq world) (sym same) ∙ numbered mount m in
+      ap (mount_numbered nat_eq world) (sym same) ∙ numbered world names is mount m in
       let below : mount.namespace ≡ (mount_numbered nat_eq world point.mount).namespace =
       ap (λ (x : Mount ℕ). x.namespace) (sym it)
       ∙ namespace_below world number point (subst (Stands nat_eq world) same (stands_itself mount m)) e in
@@ -167,7 +159,7 @@ module _ (world : World ℕ) (names : List TaskName) (is : MountInvariants nat_e
       (λ found. (mount_numbered nat_eq world point.mount, found, number-mount_in world.mounts point.mount, inl there))
       (λ none. absurd (true≢false (sym there ∙ ap (is_own world names theirs) none)))
       (found_or_none world.mounts point.mount))
-      (λ stood. absurd (nowhere_stands mount point m stood.0 (ap (λ (x : Mount ℕ). x.mount_point) (sym it) ∙ e))) ground
+      (λ stood. absurd (nowhere_stands world names is mount point m stood.0 (ap (λ (x : Mount ℕ). x.mount_point) (sym it) ∙ e))) ground
 
   pub over_alike : (here : Location ℕ) → IsTheirs here.mount
       → mounts_over nat_eq part.mounts here ≡ mounts_over nat_eq world.mounts here

@@ -2,6 +2,7 @@
 use Rattle.std.proofs.lemmas.Grind.{common_steps}
 use Rattle.std.proofs.Common.{◌≡◌, refl, sym, ap, subst, ◌∙◌, inl, inr, ⊎_elim, ℕ, nat_eq, Bool, true, false, true≢false, ◌⊎◌, cond, List, [], ◌∷◌, Option, Some, None, ◌||◌, ◌&&◌, eqb-true, arith}
 use Rattle.std.specs.List.{list_any}
+use Rattle.vt_laws_sealed.proofs.part.part.MountsOver.{numbered}
 use Rattle.vt_spec.specs.Language.Calls.{TaskName}
 use Rattle.vt_spec.specs.Lists.{holds_of, when}
 use Rattle.vt_spec.specs.Machine.Detach.{is_point, mounts_on, points_of, upper_points}
@@ -18,7 +19,7 @@ use Rattle.vt_spec.proofs.Options.{none_is_some}
 use Rattle.vt_spec.proofs.Truths.{same_truth}
 use Rattle.vt_laws_sealed.proofs.part.part.PartOfPart.{is_own, keep, kept_how, kept_whole}
 use Rattle.vt_laws_members.specs.Judging.{is_theirs}
-use Rattle.vt_laws_members.proofs.judging.Grounds.{IsTheirs, numbered, parent_theirs, same_mount, theirs_from}
+use Rattle.vt_laws_members.proofs.judging.Grounds.{IsTheirs, parent_theirs, same_mount, theirs_from}
 use Rattle.vt_laws_members.proofs.judging.JudgedRemoving.{PointsAlike}
 use Rattle.vt_laws_members.proofs.judging.SeenInPart.{OnTheirs, directory_theirs, filesystem_alike, root_theirs}
 

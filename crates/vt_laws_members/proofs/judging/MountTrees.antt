@@ -3,6 +3,7 @@ use Rattle.std.proofs.lemmas.Grind.{common_steps}
 use Rattle.std.proofs.Common.{◌≡◌, refl, sym, ap, subst, ◌∙◌, inl, ⊎_elim, ℕ, zero, suc, nat_eq, Bool, true, false, true≢false, List, [], ◌∷◌, Option, Some, None, filter, flat_map, length, not, ◌⊎◌, ◌+◌, ◌≤◌, arith, eqb-true}
 use Rattle.std.specs.List.{cons_option, filter_map, list_any}
 use Rattle.std.proofs.lemmas.Bool.{or_from, or_left, or_parts}
+use Rattle.vt_laws_sealed.proofs.part.part.MountsOver.{nowhere_stands}
 use Rattle.vt_spec.specs.Language.Calls.{TaskName}
 use Rattle.vt_spec.specs.Lists.{any_pair, holds_of}
 use Rattle.vt_spec.specs.FileTree.{is_directory_under}
@@ -21,7 +22,7 @@ use Rattle.vt_laws_mounts.proofs.mounts.MountsReplaced.{found_itself}
 use Rattle.vt_laws_mounts.proofs.mounts.Standing.{rank, rank_bounded, rank_child}
 use Rattle.vt_laws_sealed.proofs.part.Kept.{filter_both}
 use Rattle.vt_laws_sealed.proofs.part.part.PartOfPart.{is_own, keep, kept_how, kept_whole}
-use Rattle.vt_laws_members.proofs.judging.Grounds.{IsTheirs, child_theirs, nowhere_stands, parent_theirs, same_mount}
+use Rattle.vt_laws_members.proofs.judging.Grounds.{IsTheirs, child_theirs, parent_theirs, same_mount}
 use Rattle.vt_laws_members.proofs.judging.MountPoints.{part_mount}
 use Rattle.vt_laws_members.proofs.judging.SeenInPart.{filesystem_alike}
 

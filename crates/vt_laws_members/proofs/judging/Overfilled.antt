@@ -4,6 +4,8 @@ use Rattle.std.proofs.Common.{◌≡◌, refl, sym, ap, subst, ◌∙◌, ⊎_el
 use Rattle.std.proofs.lemmas.List.Folds.{find-append}
 use Rattle.std.specs.List.{list_any}
 use Rattle.std.proofs.lemmas.Bool.{false_from_ne_true}
+use Rattle.vt_laws_members.proofs.detached.lazily.GoingAlike.{receivers_alike, receivers_own}
+use Rattle.vt_laws_sealed.proofs.part.part.MountsOver.{numbered}
 use Rattle.vt_spec.specs.FileTree.{is_directory_under}
 use Rattle.vt_spec.specs.Language.Calls.{MountFlags, TaskName}
 use Rattle.vt_spec.specs.Language.Limits.{most_mounts}
@@ -26,8 +28,8 @@ use Rattle.vt_laws_mounts.proofs.mounts.Standing.{trees_have_each_once}
 use Rattle.vt_laws_worlds.proofs.worlds.FewMounts.{few_of, none_counted, not_too_many}
 use Rattle.vt_laws_sealed.proofs.part.Kept.{filter_kept}
 use Rattle.vt_laws_sealed.proofs.part.part.PartOfPart.{found, is_own, keep, kept_how}
-use Rattle.vt_laws_members.proofs.judging.Busy.{receivers_alike, receivers_own}
-use Rattle.vt_laws_members.proofs.judging.Grounds.{IsTheirs, numbered, same_mount}
+use Rattle.vt_laws_members.proofs.judging.Busy.{no_events}
+use Rattle.vt_laws_members.proofs.judging.Grounds.{IsTheirs, same_mount}
 use Rattle.vt_laws_members.proofs.judging.JudgedOverlays.{any_same}
 use Rattle.vt_laws_members.proofs.judging.MountTrees.{bind_alike, own_theirs, own_whole, part_one_number, part_stands, tree_alike}
 use Rattle.vt_laws_members.proofs.judging.ParentsSeen.{any_filter}
@@ -119,12 +121,12 @@ module _ (world : World ℕ) (names : List TaskName) (is : IsWorld nat_eq world)
 
     parts_alike : parts_of nat_eq part place ≡ parts_of nat_eq world place
     parts_alike =
-        grind (arith, common_steps, same_destination, receivers_alike, filter_alike, receivers_own, reached_alike)
+        grind (arith, common_steps, same_destination, receivers_alike world names is.mounts (no_events world names is sealed_off), filter_alike, receivers_own world names is.mounts (no_events world names is sealed_off), reached_alike)
 
     parts_own : (mount : Mount ℕ) → Among mount (parts_of nat_eq world place)
         → Among mount world.mounts × (owns mount ≡ true)
     parts_own mount m = ⊎_elim (λ same. (subst (λ x. Among x world.mounts) (sym same) there, ap owns same ∙ own))
-        (λ receiver. receivers_own world names is sealed_off destination mount there own
+        (λ receiver. receivers_own world names is.mounts (no_events world names is sealed_off) destination mount there own
         (among-from_filter (takes_part nat_eq world place) (receivers_of nat_eq world destination) mount receiver).0) m
 
     none_outside : (namespace : ℕ) → own_one namespace ≡ false → count_in (parts_of nat_eq world place) namespace ≡ 0
@@ -141,7 +143,7 @@ module _ (world : World ℕ) (names : List TaskName) (is : IsWorld nat_eq world)
     added_parts added = ap (λ list. destination ∷ list)
         (filter_alike (takes (with_new_filesystem world added) place destination) (takes world place destination)
         (receivers_of nat_eq world destination) (λ mount m.
-        let its = receivers_own world names is sealed_off destination mount there own m in
+        let its = receivers_own world names is.mounts (no_events world names is sealed_off) destination mount there own m in
         ap (λ (f : Filesystem ℕ). not (nat_eq place.mount mount.number) && is_some mount.namespace
         && nat_eq destination.filesystem mount.filesystem && is_directory_under nat_eq f.files mount.root place.node)
         (found_before world added mount.filesystem mount.root (shows mount its.0))))
@@ -151,16 +153,16 @@ module _ (world : World ℕ) (names : List TaskName) (is : IsWorld nat_eq world)
     added_parts_in_part added = ap (λ to. to ∷ filter (takes (with_new_filesystem part added) place to)
         (receivers_of nat_eq part to)) same_destination
         ∙ ap (λ list. destination ∷ filter (takes (with_new_filesystem part added) place destination) list)
-        (receivers_alike world names is sealed_off destination there own) ∙ ap (λ list. destination ∷ list)
+        (receivers_alike world names is.mounts (no_events world names is sealed_off) destination there own) ∙ ap (λ list. destination ∷ list)
         (filter_alike (takes (with_new_filesystem part added) place destination) (takes part place destination)
         (receivers_of nat_eq world destination) (λ mount m.
-        let its = receivers_own world names is sealed_off destination mount there own m in
+        let its = receivers_own world names is.mounts (no_events world names is sealed_off) destination mount there own m in
         ap (λ (f : Filesystem ℕ). not (nat_eq place.mount mount.number) && is_some mount.namespace
         && nat_eq destination.filesystem mount.filesystem && is_directory_under nat_eq f.files mount.root place.node)
         (found_before part added mount.filesystem mount.root
         (ap (λ (f : Filesystem ℕ). is_directory_node (f.files.tree.node mount.root)) (reached_alike mount its.0 its.1)
         ∙ shows mount its.0)))) ∙ sym (ap (λ list. destination ∷ filter (takes part place destination) list)
-        (receivers_alike world names is sealed_off destination there own))
+        (receivers_alike world names is.mounts (no_events world names is sealed_off) destination there own))
         ∙ sym (ap (λ to. to ∷ filter (takes part place to) (receivers_of nat_eq part to)) same_destination)
 
     -- what is added at each part

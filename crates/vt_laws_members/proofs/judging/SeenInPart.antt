@@ -4,6 +4,7 @@ use Rattle.std.proofs.Common.{◌≡◌, refl, sym, ap, subst, ◌∙◌, inl, i
 use Rattle.std.specs.Prelude.{option_to_list}
 use Rattle.std.specs.List.{list_all}
 use Rattle.std.proofs.lemmas.Bool.{and_parts}
+use Rattle.vt_laws_sealed.proofs.part.part.MountsOver.{numbered}
 use Rattle.vt_spec.specs.Language.Calls.{TaskName}
 use Rattle.vt_spec.specs.FileTree.{is_directory_under}
 use Rattle.vt_spec.specs.Lists.{is_among}
@@ -19,7 +20,7 @@ use Rattle.vt_laws_sealed.specs.Part.Walks.{AreOn}
 use Rattle.vt_laws_sealed.proofs.part.part.PartOfPart.{found, used_directly_used}
 use Rattle.vt_laws_sealed.proofs.part.walks.WalksAgree.{Each}
 use Rattle.vt_laws_members.specs.Judging.{MembersSeeAlike, is_theirs}
-use Rattle.vt_laws_members.proofs.judging.Grounds.{IsGround, IsTheirs, its_mount, numbered, over_alike, over_theirs, same_mount, theirs_from, theirs_test, up_alike, up_each}
+use Rattle.vt_laws_members.proofs.judging.Grounds.{IsGround, IsTheirs, its_mount, over_alike, over_theirs, same_mount, theirs_from, theirs_test, up_alike, up_each}
 
 module _ (world : World ℕ) (names : List TaskName) (is : IsWorld nat_eq world) where
   abbrev theirs : List (Task ℕ)

@@ -4,10 +4,12 @@ use Rattle.std.proofs.lemmas.Grind.{common_steps}
 use Rattle.std.specs.List.{filter_map, list_any}
 use Rattle.std.proofs.lemmas.Bool.{or_cases, or_left, or_parts}
 use Rattle.std.proofs.lemmas.List.Elements.{filter-append, filter_map-append}
+use Rattle.vt_laws_mounts.proofs.GroupsUp.{source_from_group}
+use Rattle.vt_laws_sealed.proofs.part.part.MountsOver.{numbered}
 use Rattle.vt_spec.specs.Language.Calls.{TaskName}
 use Rattle.vt_spec.specs.Lists.{holds_of, then_some, when}
 use Rattle.vt_spec.specs.Machine.Invariants.{IsWorld, MountInvariants}
-use Rattle.vt_spec.specs.Machine.Mounts.{Location, Mount, Propagation, group_of, source_of}
+use Rattle.vt_spec.specs.Machine.Mounts.{Location, Mount, Propagation, source_of}
 use Rattle.vt_spec.specs.Machine.Mounts.Propagation.{Private}
 use Rattle.vt_spec.specs.Machine.Receives.{is_member_of}
 use Rattle.vt_spec.specs.Machine.Sealed.{is_at, is_member_task, is_own_mount, locations, members, outsiders, own_mounts, part_of, roots_and_directories, sealed, seen_by_descriptor, used_directly}
@@ -18,7 +20,7 @@ use Rattle.vt_laws_mounts.proofs.mounts.MountsReplaced.{found_itself}
 use Rattle.vt_laws_sealed.proofs.part.Kept.{filter_map_map, filter_map_same}
 use Rattle.vt_laws_sealed.proofs.part.groups.ReceiversAlike.{member_group}
 use Rattle.vt_laws_sealed.proofs.part.part.PartOfPart.{is_own, keep, kept_whole}
-use Rattle.vt_laws_members.proofs.judging.Grounds.{IsTheirs, numbered}
+use Rattle.vt_laws_members.proofs.judging.Grounds.{IsTheirs}
 use Rattle.vt_laws_members.proofs.judging.SeenInPart.{theirs_directly}
 use Rattle.vt_laws_sealed.proofs.outsiders.SeenLater.{shown_at}
 use Rattle.vt_laws_members.proofs.changes.letting_go.Changed.{mount_under}
@@ -124,9 +126,6 @@ filter_within {A} p q r (x ∷ xs) less = by (r x) refl (filter_within p q r xs 
 -- a mount in no group
 no_group : (kind : Propagation ℕ) → kind ≡ Private → (g : ℕ) → source_of kind ≡ Some g → ⊥
 no_group kind e g f = none_is_some g (sym (ap source_of e) ∙ f)
-
-pub group_source : (kind : Propagation ℕ) (g : ℕ) → group_of kind ≡ Some g → source_of kind ≡ Some g
-group_source kind g e = grind (arith, common_steps, none_is_some)
 
 module _ (it : Remaking) (does : ChangesTheirs it) (moves : MovesTheirs it) where
   abbrev world : World ℕ
@@ -270,7 +269,7 @@ module _ (it : Remaking) (does : ChangesTheirs it) (moves : MovesTheirs it) wher
       let y = any_among (is_member_of nat_eq group) (own_mounts nat_eq v names) h in
       let own = among-from_filter (owns new) v.mounts y.0 y.1 in
       master_same world names it.is it.sealed_off group (source_heard y.0 own.0 own.1 group
-      (group_source y.0.propagation group (member_group group y.0 y.2)))
+      (source_from_group y.0.propagation group (member_group group y.0 y.2)))
 
   -- mounts by their numbers
   pub shown_after : (y : Mount ℕ) → Among y v.mounts → (l : Location ℕ) → l.mount ≡ y.number → mount_at nat_eq v l ≡ y

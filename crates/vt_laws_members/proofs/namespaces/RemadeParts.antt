@@ -17,7 +17,7 @@ use Rattle.vt_laws_members.proofs.namespaces.RemadeRaised.{raised_alike}
 use Rattle.vt_laws_members.proofs.namespaces.RemadeReady.{remade_ready}
 
 -- the part of a world after the last step
-raised_part : (before w : World ℕ) (names : List TaskName) (name : TaskName)
+pub raised_part : (before w : World ℕ) (names : List TaskName) (name : TaskName)
     → part_of nat_eq (numbers_raised nat_eq before name [] (settled nat_eq w)) names
     ≡ record (part_of nat_eq (settled nat_eq w) names) {
       namespaces = filter (λ (n : Namespace ℕ). is_own_namespace nat_eq w names n.number)

@@ -3,6 +3,7 @@ use Rattle.std.proofs.Common.{arith, ◌≡◌, refl, sym, ap, subst, ◌∙◌,
 use Rattle.std.proofs.lemmas.Grind.{common_steps}
 use Rattle.std.proofs.lemmas.Bool.{and_parts, or_left}
 use Rattle.std.proofs.lemmas.List.Elements.{filter-append}
+use Rattle.vt_laws_mounts.proofs.GroupsUp.{source_from_group}
 use Rattle.vt_spec.specs.Language.Calls.{TaskName}
 use Rattle.vt_spec.specs.Lists.{holds_of, same_list, same_option, then_some}
 use Rattle.vt_spec.specs.Machine.Filesystems.{raised}
@@ -23,7 +24,7 @@ use Rattle.vt_laws_sealed.proofs.part.part.PartOfPart.{is_own, keep, kept_how}
 use Rattle.vt_laws_members.proofs.changes.letting_go.EndedRaised.{raised_number, same_list_alike}
 use Rattle.vt_laws_members.proofs.changes.letting_go.Heard.{heard_by_own, master_same, own_kept, private_source}
 use Rattle.vt_laws_members.proofs.changes.letting_go.SeeLess.{filter_less}
-use Rattle.vt_laws_members.proofs.namespaces.Remade.{ChangesTheirs, MovesTheirs, Remaking, group_source, in_spaces, namespaces_less, own_before, own_was, source_heard, v, v_part}
+use Rattle.vt_laws_members.proofs.namespaces.Remade.{ChangesTheirs, MovesTheirs, Remaking, in_spaces, namespaces_less, own_before, own_was, source_heard, v, v_part}
 
 abbrev its_in : ℕ → Mount ℕ → Bool
 its_in n m = holds_of (nat_eq n) m.namespace
@@ -36,7 +37,7 @@ settled_mounts : (w : World ℕ) (n : ℕ) → mounts_of nat_eq (settled nat_eq 
 settled_mounts w n = filter_less (its_in n) (mount_lives nat_eq w) w.mounts
     (λ m h. or_left (is_some m.namespace) (is_located nat_eq w m.number) (attached n m h))
 
-lives_members : (members : ℕ → Bool) (master : ℕ → Option ℕ) (g : ℕ) → Lives members master g → members g ≡ true
+pub lives_members : (members : ℕ → Bool) (master : ℕ → Option ℕ) (g : ℕ) → Lives members master g → members g ≡ true
 lives_members members master g (has_no_master it here none) = here
 lives_members members master g (has_master it above here e later) = here
 
@@ -53,7 +54,7 @@ module _ (b : World ℕ) (kept : MountInvariants nat_eq b) where
           (sym (private_source z.propagation (and_parts (not (is_some z.mount_point)) (is_private z.propagation)
           (sym (ap (λ o. is_some o || (not (is_some z.mount_point) && is_private z.propagation)) e)
           ∙ among_from_list_all is_nowhere_or_attached b.mounts kept.nowhere z n)).1)
-          ∙ group_source z.propagation g (member_group g z h))
+          ∙ source_from_group z.propagation g (member_group g z h))
 
   settled_members : (y : Mount ℕ) → Among y b.mounts → (g : ℕ) → source_of y.propagation ≡ Some g
       → has_members nat_eq (settled nat_eq b).mounts g ≡ true

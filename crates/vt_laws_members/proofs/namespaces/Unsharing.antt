@@ -204,7 +204,7 @@ module _ (world : World ℕ) (names : List TaskName) (name : TaskName) (it : IsC
           (λ rest. ⊎_elim (λ e. subst OnTheirs (sym e) (directory_theirs world names it.is u k))
           (λ none. absurd none) rest) n
 
-  places_moved : (l : Location ℕ) → Among l (locations new) → Among l (locations old) ⊎ (OnTheirs l ⊎ OnCopy l)
+  pub places_moved : (l : Location ℕ) → Among l (locations new) → Among l (locations old) ⊎ (OnTheirs l ⊎ OnCopy l)
   places_moved l m =
       let t = among-from_flat_map locations_of new l m in
       let u = set_from t.0 t.1 in

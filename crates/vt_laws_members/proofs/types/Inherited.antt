@@ -1,30 +1,26 @@
 -- Groups whose members have changed: what mounts and groups inherit, and what the sweep leaves of them.
-use Rattle.std.proofs.Common.{arith, ◌≡◌, refl, sym, ap, ◌∙◌, ℕ, nat_eq, Bool, true, false, cond, Option, Some, None, map}
+use Rattle.std.proofs.Common.{arith, ◌≡◌, refl, sym, ap, ◌∙◌, ℕ, nat_eq, Bool, true, false, cond, Option, None, map}
 use Rattle.std.proofs.lemmas.Grind.{common_steps}
 use Rattle.std.specs.List.{list_any}
 use Rattle.std.proofs.lemmas.Bool.{not-false, or_parts}
-use Rattle.vt_spec.specs.Machine.Mounts.{Mount, Propagation, group_of, source_of}
+use Rattle.vt_laws_mounts.proofs.GroupsUp.{source_from_group}
+use Rattle.vt_spec.specs.Machine.Mounts.{Mount, Propagation}
 use Rattle.vt_spec.specs.Machine.Receives.{has_members, heir, inherited, inheriting, lost_a_group, regrouped, regrouped_by}
 use Rattle.vt_spec.specs.Machine.Settled.{settled}
 use Rattle.vt_spec.specs.Machine.World.{World}
 use Rattle.vt_spec.proofs.Found.{find-chain_start}
 use Rattle.vt_spec.proofs.Lists.{any_among, map_twice, none_among}
-use Rattle.vt_spec.proofs.Options.{none_is_some}
 use Rattle.vt_laws_mounts.proofs.Groups.{members-inherited, mounts-regrouped}
 use Rattle.vt_laws_mounts.specs.LettingGo.Detaching.{with_changed}
 use Rattle.vt_laws_mounts.specs.LettingGo.InUse.{AllInUse}
 use Rattle.vt_laws_mounts.proofs.letting_go.leaving.UsesKept.{types_keep_all}
 use Rattle.vt_laws_sealed.proofs.part.groups.ReceiversAlike.{member_group}
 
--- a member of a group receives from it
-pub source_from : (kind : Propagation ℕ) (group : ℕ) → group_of kind ≡ Some group → source_of kind ≡ Some group
-source_from kind group e = grind (arith, common_steps, none_is_some)
-
 -- a group that has a member inherits its master, also where nothing is lost
 pub master-inherited : (t : World ℕ) (group : ℕ) → has_members nat_eq t.mounts group ≡ true
     → (regrouped nat_eq t).master group ≡ heir nat_eq t (t.master group)
 master-inherited t group h =
-    grind (arith, common_steps, any_among, or_parts, none_among, source_from, member_group, find-chain_start, not-false)
+    grind (arith, common_steps, any_among, or_parts, none_among, source_from_group, member_group, find-chain_start, not-false)
 
 module _ (w : World ℕ) (kind : Mount ℕ → Propagation ℕ) (masters : ℕ → Option ℕ) where
   -- the world with other types and masters, before groups inherit

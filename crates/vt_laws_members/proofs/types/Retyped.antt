@@ -6,6 +6,9 @@ use Rattle.std.specs.List.{list_any}
 use Rattle.std.proofs.lemmas.Bool.{and_parts, false_from_ne_true}
 use Rattle.std.proofs.lemmas.List.{length-map}
 use Rattle.std.proofs.lemmas.Option.{same_Some}
+use Rattle.vt_laws_members.proofs.changes.letting_go.Regrouped.{find_alike}
+use Rattle.vt_laws_mounts.proofs.GroupsUp.{source_from_group}
+use Rattle.vt_laws_sealed.proofs.part.part.MountsOver.{numbered}
 use Rattle.vt_spec.specs.Language.Calls.{TaskName, TypeWord}
 use Rattle.vt_spec.specs.Lists.{Fresh, chain, holds_of}
 use Rattle.vt_spec.specs.Machine.Invariants.{IsWorld, is_private}
@@ -25,17 +28,10 @@ use Rattle.vt_laws_mounts.proofs.letting_go.sweeps.OfWorlds.{all_in_use}
 use Rattle.vt_laws_sealed.proofs.part.groups.EventsApart.{none_hears, sides}
 use Rattle.vt_laws_sealed.proofs.part.groups.ReceiversAlike.{member_group, own_member, same_up}
 use Rattle.vt_laws_sealed.proofs.part.part.PartOfPart.{keep, kept_how}
-use Rattle.vt_laws_members.proofs.judging.Grounds.{numbered}
 use Rattle.vt_laws_members.proofs.changes.letting_go.Heard.{IsHeard, above_heard, apart, heard_by_own, master_same, own_in_part, part_source, up_heard}
 use Rattle.vt_laws_members.specs.Types.TypeChanges.{takes_groups}
-use Rattle.vt_laws_members.proofs.types.Inherited.{between, kind_left, master_left, master_left_so, source_from}
+use Rattle.vt_laws_members.proofs.types.Inherited.{between, kind_left, master_left, master_left_so}
 use Rattle.vt_laws_members.proofs.types.TypesLeft.{AreTypedAlike}
-
--- a search by tests that agree on a list
-find_alike : (p q : ℕ → Bool) (xs : List ℕ) → ((x : ℕ) → Among x xs → p x ≡ q x) → find p xs ≡ find q xs
-find_alike p q [] same = refl
-find_alike p q (x ∷ xs) same = ap (λ b. cond b (Some x) (find p xs)) (same x (inl refl))
-    ∙ ap (cond (q x) (Some x)) (find_alike p q xs (λ y m. same y (inr m)))
 
 -- chains by steps that agree on the way
 chain_alike : (f g : ℕ → Option ℕ) (P : ℕ → Type 0) → ((a b : ℕ) → f a ≡ Some b → P a → P b)
@@ -64,7 +60,7 @@ same_after : (a b : ℕ) (word : TypeWord) (kind : Propagation ℕ) → takes_gr
     → type_after a word kind ≡ type_after b word kind
 same_after a b word kind e = grind (arith, common_steps, true≢false)
 
-master_source : (kind : Propagation ℕ) (g : ℕ) → master_after kind ≡ Some g → source_of kind ≡ Some g
+pub master_source : (kind : Propagation ℕ) (g : ℕ) → master_after kind ≡ Some g → source_of kind ≡ Some g
 master_source kind g e = grind (arith, common_steps, none_is_some)
 
 module _ (fresh : Fresh ℕ) (word : TypeWord) (named : List (Mount ℕ)) where
@@ -128,7 +124,7 @@ new_none world is fresh serves k =
     (all_in_use world is).groups (fresh k) (false_from_ne_true (has_members nat_eq world.mounts (fresh k)) (λ h.
     let y = any_among (is_member_of nat_eq (fresh k)) world.mounts h in
     true≢false (sym (eq-eqb (fresh k) (fresh k) refl) ∙ unlike world fresh serves y.0 y.1 (fresh k)
-    (source_from y.0.propagation (fresh k) (member_group (fresh k) y.0 y.2)) k)))
+    (source_from_group y.0.propagation (fresh k) (member_group (fresh k) y.0 y.2)) k)))
 
 module _ (world : World ℕ) (names : List TaskName) (is : IsWorld nat_eq world)
     (sealed_off : sealed nat_eq world names ≡ true) (fresh : Fresh ℕ) (serves : Serves nat_eq world fresh)
@@ -210,7 +206,7 @@ module _ (world : World ℕ) (names : List TaskName) (is : IsWorld nat_eq world)
       by : (b : Bool) → is_named fresh word named m ≡ b → Among m owns
       by true e = part_named m n e
       by false e = part_source world names is sealed_off m n g
-          (source_from m.propagation g (member_group g m (member_was m g e h)))
+          (source_from_group m.propagation g (member_group g m (member_was m g e h)))
 
   is_in : (m : Mount ℕ) → Among m owns → (g : ℕ) → is_member_of nat_eq g (changed m) ≡ true
       → (has t g ≡ true) × (has t_part g ≡ true)
@@ -236,7 +232,7 @@ module _ (world : World ℕ) (names : List TaskName) (is : IsWorld nat_eq world)
   heard_old g heard =
       let own = own_member world names is.mounts events g heard.0 heard.1 in
       unlike world fresh serves own.0 (in_world own.0 own.1) g
-      (source_from own.0.propagation g (member_group g own.0 own.2))
+      (source_from_group own.0.propagation g (member_group g own.0 own.2))
 
   -- a group of theirs, or a new one
   abbrev IsGroup : ℕ → Type 0
@@ -317,7 +313,7 @@ module _ (world : World ℕ) (names : List TaskName) (is : IsWorld nat_eq world)
       by true e = ⊎_elim (λ was. inl (heard_by_own world names is sealed_off m own g was))
           (λ new. inr (new.0, index_of nat_eq named m.number, new.1))
           (shared_was (numbers_by nat_eq fresh named m.number) word m.propagation g e)
-      by false e = inl (heard_by_own world names is sealed_off m own g (source_from m.propagation g e))
+      by false e = inl (heard_by_own world names is sealed_off m own g (source_from_group m.propagation g e))
 
   group_after : (m : Mount ℕ) → Among m owns → (g : ℕ) → source_of (inherited nat_eq t (kind m)) ≡ Some g → HasGroup g
   group_after m own g = by (kind m) refl
@@ -372,7 +368,7 @@ module _ (world : World ℕ) (names : List TaskName) (is : IsWorld nat_eq world)
   old_there supply unlike_own g heard =
       let own = own_member world names is.mounts (apart world names is sealed_off).events g heard.0 heard.1 in
       old_kept supply word named there.master g
-      (unlike_own own.0 own.1 g (source_from own.0.propagation g (member_group g own.0 own.2))) named
+      (unlike_own own.0 own.1 g (source_from_group own.0.propagation g (member_group g own.0 own.2))) named
 
   -- one supply for both
   new_agree : (g : ℕ) → IsNewGroup fresh word g

@@ -20,7 +20,7 @@ use Rattle.vt_laws_mounts.specs.Mounts.Copies.{CopiesKeepNumbers, IsOneOf, Serve
 use Rattle.vt_spec.specs.Machine.Namespaces.{copied_mount}
 use Rattle.vt_laws_mounts.proofs.mounts.MountsAttached.{numbers_attached, others}
 use Rattle.std.proofs.lemmas.Option.{same_Some, slice_get_within}
-use Rattle.vt_spec.proofs.Truths.{nat_eq_false_turned as apart}
+use Rattle.vt_spec.proofs.Truths.{nat_eq_false_turned}
 use Rattle.vt_spec.proofs.Worlds.{number-mount_in}
 use Rattle.vt_spec.proofs.FreshNumbers.{evens-distinct, odds-distinct, odds-no_evens, served-distinct}
 
@@ -54,7 +54,7 @@ number_in_use world mount m = mount_uses world mount m mount.number (inl refl)
 pub number_is_old : (world : World ℕ) (fresh : Fresh ℕ) → Serves nat_eq world fresh → (number : ℕ)
     → Among number (numbers_of world.mounts) → (k : ℕ) → nat_eq number (fresh k) ≡ false
 number_is_old world fresh serves number m k =
-    apart (fresh k) number (false_from_ne_true (nat_eq (fresh k) number) (λ same.
+    nat_eq_false_turned (fresh k) number (false_from_ne_true (nat_eq (fresh k) number) (λ same.
     let from = among-from_map (λ (mount : Mount ℕ). mount.number) world.mounts number m in
     true≢false (sym (is_among_numbers (numbers_in_use world) (fresh k)
     (subst (λ n. Among n (numbers_in_use world)) (sym (eqb-true (fresh k) number same ∙ from.2))
@@ -290,7 +290,7 @@ module _ (world : World ℕ) (new : Copies ℕ) (place : Location ℕ) (moves : 
       let from = among-from_flat_map copies list copy n in
       let e = each from.0 from.1 in
       let t = copied_from from.0 e.1 copy from.2 in
-      apart copy.number old.number (false_from_ne_true (nat_eq copy.number old.number) (λ same.
+      nat_eq_false_turned copy.number old.number (false_from_ne_true (nat_eq copy.number old.number) (λ same.
       true≢false (sym (is_among_numbers (numbers_in_use world) (new.copy from.0.number t.0.number)
       (subst (λ number. Among number (numbers_in_use world)) (sym (sym t.2 ∙ eqb-true copy.number old.number same))
       (number_in_use world old m)))
@@ -319,7 +319,7 @@ copies_keep_numbers world new place true mounts serve own one = finish world new
     (filter (takes_part nat_eq world place) (receivers_of nat_eq world (mount_at nat_eq world place)))
     (takers_apart world place one (group_of (mount_at nat_eq world place).propagation)) (λ part m. (
       inr m,
-      apart place.mount part.number (taker_elsewhere world place part (among-from_filter (takes_part nat_eq world place)
+      nat_eq_false_turned place.mount part.number (taker_elsewhere world place part (among-from_filter (takes_part nat_eq world place)
           (receivers_of nat_eq world (mount_at nat_eq world place)) part m).1),
     )) refl
 

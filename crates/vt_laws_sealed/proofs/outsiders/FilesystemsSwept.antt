@@ -23,7 +23,7 @@ use Rattle.vt_laws_sealed.proofs.outsiders.OtherMounts.{located_there}
 use Rattle.vt_laws_sealed.proofs.outsiders.SeenLater.{lowered_by, shown_at, changed_of, there_later, own_later, used_later, lower_of}
 
 -- what a filter takes is not kept, and what it leaves is kept alike
-filter_map_filtered : {A B : Type 0} (k later : A → Option B) (p : A → Bool) (xs : List A)
+pub filter_map_filtered : {A B : Type 0} (k later : A → Option B) (p : A → Bool) (xs : List A)
     → ((x : A) → Among x xs → p x ≡ true → later x ≡ k x) → ((x : A) → Among x xs → p x ≡ false → k x ≡ None)
     → filter_map later (filter p xs) ≡ filter_map k xs
 filter_map_filtered k later p [] same none = refl

@@ -1,14 +1,15 @@
 -- Flags of a mount of others that are set.
-use Rattle.std.proofs.Common.{arith, ◌≡◌, refl, sym, ap, subst, ◌∙◌, ℕ, nat_eq, Bool, true, false, cond, List, [], Some, Ok, map, ◌||◌, eqb-true}
+use Rattle.std.proofs.Common.{arith, ◌≡◌, refl, sym, ap, subst, ◌∙◌, inl, ℕ, nat_eq, Bool, true, false, cond, List, [], Some, Ok, filter, map, not, ◌||◌, eqb-true}
 use Rattle.std.proofs.lemmas.Grind.{common_steps}
+use Rattle.vt_laws_mounts.proofs.letting_go.Lists.{filter-map}
 use Rattle.vt_spec.specs.Language.Calls.{Call, MountFlags, TaskName}
 use Rattle.vt_spec.specs.Language.Calls.Call.{Remount}
-use Rattle.vt_spec.specs.Lists.{Fresh, when}
+use Rattle.vt_spec.specs.Lists.{Fresh, holds_of, when}
 use Rattle.vt_spec.specs.Machine.Apply.{apply}
 use Rattle.vt_spec.specs.Machine.Judge.{judge_in}
 use Rattle.vt_spec.specs.Machine.Mounts.{Mount, Propagation, no_mount, replaced_if_same}
 use Rattle.vt_spec.specs.Machine.Permits.Permit.{ToSetFlags}
-use Rattle.vt_spec.specs.Machine.Sealed.{is_at, locations, members, roots_and_directories, seen_by_descriptor, share_events, shares_no_events}
+use Rattle.vt_spec.specs.Machine.Sealed.{is_at, is_own_namespace, locations, members, other_mounts, own_mounts, roots_and_directories, seen_by_descriptor, share_events, shares_no_events}
 use Rattle.vt_spec.specs.Machine.Settled.{settled}
 use Rattle.vt_spec.specs.Machine.World.{Task, World, mount_numbered, task_called, with_mounts}
 use Rattle.vt_spec.proofs.Lists.{Among, map_alike}
@@ -23,8 +24,9 @@ use Rattle.vt_laws_sealed.proofs.part.part.PartOfPart.{is_own, keep}
 use Rattle.vt_laws_sealed.specs.Part.Seals.{IsApart}
 use Rattle.vt_laws_sealed.proofs.part.seals.ByPart.{apart_if_sealed}
 use Rattle.vt_laws_sealed.specs.Outsiders.{IsOutsidersCall}
-use Rattle.vt_laws_sealed.proofs.outsiders.Changing.{KeepsPlaces, changing_leaves_apart, others_changed, own_changed}
-use Rattle.vt_laws_sealed.proofs.outsiders.OtherMounts.{namespace_outside, not_own, not_stood_on}
+use Rattle.vt_laws_sealed.proofs.outsiders.ChangedWorlds.{KeepsOrDetaches, changing_leaves_apart, others_rest}
+use Rattle.vt_laws_sealed.proofs.outsiders.StandingApart.{NothingNew, StandsApart}
+use Rattle.vt_laws_sealed.proofs.outsiders.OtherMounts.{namespace_outside, not_own, not_stood_on, standing_apart}
 use Rattle.vt_laws_sealed.proofs.outsiders.OwnTasks.{caller_outside, nothing_is_swept}
 use Rattle.vt_laws_sealed.proofs.outsiders.Raising.{all-map_same}
 use Rattle.vt_laws_sealed.proofs.outsiders.Staying.{LeavesApart}
@@ -34,8 +36,21 @@ module _ (world : World ℕ) (number : ℕ) (flags : MountFlags) where
   abbrev pub set : Mount ℕ → Mount ℕ
   set mount = cond (nat_eq number mount.number) (record mount { flags = flags }) mount
 
-  set_keeps : KeepsPlaces set
-  set_keeps = grind (arith, common_steps)
+  number_kept : (mount : Mount ℕ) → (set mount).number ≡ mount.number
+  number_kept mount = grind (arith, common_steps)
+
+  filesystem_kept : (mount : Mount ℕ) → (set mount).filesystem ≡ mount.filesystem
+  filesystem_kept mount = grind (arith, common_steps)
+
+  namespace_kept : (mount : Mount ℕ) → (set mount).namespace ≡ mount.namespace
+  namespace_kept mount = grind (arith, common_steps)
+
+  set_keeps : KeepsOrDetaches set
+  set_keeps = record {
+    number = number_kept;
+    filesystem = filesystem_kept;
+    namespace = λ mount. inl (namespace_kept mount);
+  }
 
   type_kept : (mount : Mount ℕ) → (set mount).propagation ≡ mount.propagation
   type_kept mount = grind (arith, common_steps)
@@ -47,6 +62,9 @@ module _ (world : World ℕ) (fresh : Fresh ℕ) (names : List TaskName) (name :
   where
     apart_before : IsApart world names
     apart_before = apart_if_sealed world names outsider.is outsider.sealed_off
+
+    abbrev so_far : StandsApart world names NothingNew
+    so_far = standing_apart world names apart_before
 
     for_remount : (path : List ℕ) × (call ≡ Remount path flags)
     for_remount = permits_are_for_their_calls fresh world task call (ToSetFlags number flags) judged
@@ -98,19 +116,22 @@ module _ (world : World ℕ) (fresh : Fresh ℕ) (names : List TaskName) (name :
     share_by a b =
         share_events nat_eq world (record (no_mount 0) { propagation = a }) (record (no_mount 0) { propagation = b })
 
-    events_same : shares_no_events nat_eq (with_mounts world (map (set world number flags) world.mounts)) names
-        ≡ shares_no_events nat_eq world names
-    events_same = search (
-      arith,
-      common_steps,
-      set_keeps,
-      own_changed,
-      apart_before,
-      kept_same,
-      others_changed,
-      all-map_same,
-      type_kept,
-    )
+    abbrev flagged : World ℕ
+    flagged = with_mounts world (map (set world number flags) world.mounts)
+
+    in_namespaces : (test : ℕ → Bool) → filter (λ (mount : Mount ℕ). holds_of test mount.namespace) flagged.mounts
+        ≡ map (set world number flags) (filter (λ (mount : Mount ℕ). holds_of test mount.namespace) world.mounts)
+    in_namespaces test = filter-map (λ (mount : Mount ℕ). holds_of test mount.namespace) (set world number flags)
+        world.mounts (λ mount. ap (holds_of test) (namespace_kept world number flags mount))
+
+    own_are : own_mounts nat_eq flagged names ≡ map (set world number flags) (own_mounts nat_eq world names)
+    own_are = in_namespaces (is_own_namespace nat_eq world names)
+
+    others_are : other_mounts nat_eq flagged names ≡ map (set world number flags) (other_mounts nat_eq world names)
+    others_are = in_namespaces (λ namespace. not (is_own_namespace nat_eq world names namespace))
+
+    events_same : shares_no_events nat_eq flagged names ≡ shares_no_events nat_eq world names
+    events_same = search (arith, common_steps, own_are, others_are, all-map_same, type_kept)
 
     pub flags_leave : LeavesApart world
         (settled nat_eq (apply nat_eq fresh world task (ToSetFlags number flags)).world) names []
@@ -119,5 +140,6 @@ module _ (world : World ℕ) (fresh : Fresh ℕ) (names : List TaskName) (name :
         (ap takes_uses for_remount.1) (ap sets_type for_remount.1) refl
         ∙ ap (with_mounts world) (map_alike (replaced_if_same nat_eq (record old { flags = flags }))
         (set world number flags) world.mounts same_set)))
-        (changing_leaves_apart world names apart_before (set world number flags) (set_keeps world number flags)
-        kept_same world.master (λ group e. refl) (events_same ∙ apart_before.events))
+        (changing_leaves_apart world names so_far (set world number flags) (set_keeps world number flags)
+        kept_same world.master world.tasks world.namespaces (others_rest world names so_far) (λ group e. refl)
+        (events_same ∙ apart_before.events))

@@ -15,7 +15,7 @@ use Rattle.vt_laws_sealed.specs.Outsiders.{AreOutsiders, IsOutsidersCall, OneCal
 use Rattle.vt_laws_sealed.proofs.outsiders.EveryPermit.{outsiders_leave_a_sealed_set}
 
 -- a task of this name is found where one is
-found_called : (member : TaskName) (tasks : List (Task ℕ)) (task : Task ℕ) → Among task tasks
+pub found_called : (member : TaskName) (tasks : List (Task ℕ)) (task : Task ℕ) → Among task tasks
     → same_name member task.name ≡ true → is_some (find (λ (t : Task ℕ). same_name member t.name) tasks) ≡ true
 found_called member [] task m e = absurd m
 found_called member (first ∷ rest) task m e =
@@ -29,7 +29,7 @@ found_called member (first ∷ rest) task m e =
         (λ here. absurd (true≢false (sym e ∙ ap (λ (t : Task ℕ). same_name member t.name) here ∙ f))) next m
 
 -- names of the set stay names of tasks where the set stays
-still_called : (world later : World ℕ) (names : List TaskName) → members later names ≡ members world names
+pub still_called : (world later : World ℕ) (names : List TaskName) → members later names ≡ members world names
     → are_all_called world names ≡ true → are_all_called later names ≡ true
 still_called world later names same there =
     list_all_from_among (λ member. is_some (task_called later member)) names (λ member m.

@@ -19,22 +19,22 @@ use Rattle.vt_laws_sealed.proofs.part.part.Observed.{own_mounts_same}
 use Rattle.vt_laws_mounts.proofs.mounts.MountsPlaces.{same_location_itself}
 
 -- what is compared with itself is the same
-same_bool_itself : (b : Bool) → same_bool b b ≡ true
+pub same_bool_itself : (b : Bool) → same_bool b b ≡ true
 same_bool_itself true = refl
 same_bool_itself false = refl
 
-same_flags_itself : (flags : MountFlags) → same_flags flags flags ≡ true
+pub same_flags_itself : (flags : MountFlags) → same_flags flags flags ≡ true
 same_flags_itself flags = grind (arith, common_steps, and_from, same_bool_itself)
 
-same_point_itself : (point : Option (Location ℕ)) → same_option (same_location nat_eq) point point ≡ true
+pub same_point_itself : (point : Option (Location ℕ)) → same_option (same_location nat_eq) point point ≡ true
 same_point_itself None = refl
 same_point_itself (Some location) = same_location_itself location
 
-same_group_itself : (group : Option ℕ) → same_option nat_eq group group ≡ true
+pub same_group_itself : (group : Option ℕ) → same_option nat_eq group group ≡ true
 same_group_itself None = refl
 same_group_itself (Some group) = eq-eqb group group refl
 
-same_propagation_itself : (kind : Propagation ℕ) → same_propagation nat_eq kind kind ≡ true
+pub same_propagation_itself : (kind : Propagation ℕ) → same_propagation nat_eq kind kind ≡ true
 same_propagation_itself kind = grind (arith, common_steps, eq-eqb)
 
 same_mount_itself : (before later : World ℕ) (mount : Mount ℕ) → master_above later mount ≡ master_above before mount

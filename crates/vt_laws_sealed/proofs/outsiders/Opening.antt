@@ -38,7 +38,7 @@ use Rattle.vt_laws_sealed.proofs.outsiders.Standing.{IsGround, directory_ground,
 use Rattle.vt_laws_sealed.proofs.outsiders.Staying.{LeavesApart}
 
 -- a new descriptor is at its file, the others where they were
-inserted_at : (new : Descriptor ℕ) (descriptors : List (Descriptor ℕ)) (location : Location ℕ)
+pub inserted_at : (new : Descriptor ℕ) (descriptors : List (Descriptor ℕ)) (location : Location ℕ)
     → Among location (map (λ (d : Descriptor ℕ). d.location) (inserted new descriptors))
     → (location ≡ new.location) ⊎ Among location (map (λ (d : Descriptor ℕ). d.location) descriptors)
 inserted_at new [] location m = m

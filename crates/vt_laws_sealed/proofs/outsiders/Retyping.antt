@@ -41,9 +41,11 @@ use Rattle.vt_laws_sealed.proofs.part.part.Observed.{own_mounts_same}
 use Rattle.vt_laws_sealed.proofs.part.part.PartOfPart.{is_own, keep}
 use Rattle.vt_laws_sealed.proofs.part.seals.ByPart.{apart_if_sealed}
 use Rattle.vt_laws_sealed.specs.Outsiders.{IsOutsidersCall}
-use Rattle.vt_laws_sealed.proofs.outsiders.Changing.{KeepsPlaces, changing_leaves_apart, others_changed, sees}
+use Rattle.vt_laws_sealed.proofs.outsiders.ChangedWorlds.{others_rest}
 use Rattle.vt_laws_sealed.proofs.outsiders.OtherMounts.{Foreign, HearsGroup, IsIn, tree_in, events_stay_apart, foreign_above, is_other, member_not_new, member_of_heard, namespace_outside, not_own, not_stood_on, other_hears_foreign, standing_apart_with}
 use Rattle.vt_laws_sealed.proofs.outsiders.OwnTasks.{caller_outside}
+use Rattle.vt_laws_sealed.proofs.outsiders.Regrouping.{IsOfOthers, after_all, all_changed, mounts_are, of_nobody, old_type, own_stays, regrouping_leaves_apart}
+use Rattle.vt_laws_sealed.proofs.outsiders.Reshaping.{IsReshaped}
 use Rattle.vt_laws_sealed.proofs.outsiders.StandingApart.{StandsApart}
 use Rattle.vt_laws_sealed.proofs.outsiders.Staying.{LeavesApart}
 
@@ -74,20 +76,8 @@ module _ (world : World ℕ) (names : List TaskName) (apart : IsApart world name
   abbrev so_far : StandsApart world names (IsNewBy fresh)
   so_far = standing_apart_with world names apart fresh serves
 
-  -- types are set, and groups are as they were
-  abbrev middle : World ℕ
-  middle = record world {
-    mounts = map (retyped_mount nat_eq group word named) world.mounts;
-    master = with_new_groups nat_eq group world.master named;
-  }
-
   abbrev IsForeign : ℕ → Type 0
   IsForeign = Foreign world names so_far
-
-  -- a type that only groups of others are in
-  abbrev IsOfOthers : Propagation ℕ → Type 0
-  IsOfOthers kind = ((number : ℕ) → group_of kind ≡ Some number → IsForeign number)
-      × ((number : ℕ) → kind ≡ Slave number → IsForeign number)
 
   abbrev is_named : Mount ℕ → Bool
   is_named mount = list_any (λ (other : Mount ℕ). nat_eq mount.number other.number) named
@@ -109,22 +99,6 @@ module _ (world : World ℕ) (names : List TaskName) (apart : IsApart world name
   stays mount e =
       ap (λ b. cond b (record mount { propagation = type_after (group mount.number) word mount.propagation }) mount) e
 
-  -- a group that a mount of theirs hears has a member of theirs, also when types are set
-  members_stay : (own : Mount ℕ) → Among own (own_mounts nat_eq world names) → (number : ℕ)
-      → HearsGroup world names so_far world own.propagation number → has_members nat_eq middle.mounts number ≡ true
-  members_stay own m number how =
-      let member = member_of_heard world names so_far own m number how in
-      any_from_among (is_member_of nat_eq number) middle.mounts member.0
-      (subst (λ x. Among x middle.mounts) (stays member.0 (own_not_named member.0 member.1))
-      (among-map retype world.mounts member.0
-      (among-from_filter (is_own_mount nat_eq world names) world.mounts member.0 member.1).0)) member.2
-
-  heir_stays : (own : Mount ℕ) → Among own (own_mounts nat_eq world names) → (number : ℕ)
-      → HearsGroup world names so_far world own.propagation number → heir nat_eq middle (Some number) ≡ Some number
-  heir_stays own m number how =
-      find-chain_start (has_members nat_eq middle.mounts) middle.master (length middle.mounts) number
-      (members_stay own m number how)
-
   -- Groups of others
   old_foreign : (other : Mount ℕ) → Among other (other_mounts nat_eq world names) → (number : ℕ)
       → HearsGroup world names so_far world other.propagation number → IsForeign number
@@ -135,8 +109,11 @@ module _ (world : World ℕ) (names : List TaskName) (apart : IsApart world name
       let at = named_in mount m in
       is_other world names namespace outside mount at.0 at.1
 
-  middle_above : (number above : ℕ) → IsForeign number → middle.master number ≡ Some above → IsForeign above
-  middle_above number above foreign e = ⊎_elim
+  abbrev set_master : ℕ → Option ℕ
+  set_master = with_new_groups nat_eq group world.master named
+
+  set_above : (number above : ℕ) → IsForeign number → set_master number ≡ Some above → IsForeign above
+  set_above number above foreign e = ⊎_elim
       (λ same. foreign_above world names so_far number above foreign (sym same ∙ e))
       (λ made. after made.0 (named_other made.0 made.1) made.0.propagation refl (sym made.3 ∙ e))
       (new_masters group number named world.master)
@@ -148,38 +125,29 @@ module _ (world : World ℕ) (names : List TaskName) (apart : IsApart world name
       after mount m Private k h = none_is_some above h
       after mount m Unbindable k h = none_is_some above h
 
-  heir_foreign : (number found : ℕ) → IsForeign number → heir nat_eq middle (Some number) ≡ Some found → IsForeign found
-  heir_foreign number found foreign e =
-      along_chain middle.master IsForeign (λ above lower up lower_foreign. middle_above lower above lower_foreign up)
-      (length middle.mounts) number found foreign (is_among_numbers (groups_up middle number) found
-      (found_among (has_members nat_eq middle.mounts) (groups_up middle number) found e))
+  abbrev Others : Propagation ℕ → Type 0
+  Others = IsOfOthers world names so_far
 
   -- the type of a mount of others, once types are set
   retyped_foreign : (other : Mount ℕ) → Among other (other_mounts nat_eq world names)
-      → IsOfOthers (retype other).propagation
+      → Others (retype other).propagation
   retyped_foreign other m = by (is_named other)
     where
-      old : IsOfOthers other.propagation
-      old = (
-        λ number e. old_foreign other m number (inl e),
-        λ number e. old_foreign other m number (inr (ap (master_of world) e)),
-      )
+      old : Others other.propagation
+      old = old_type world names so_far other m
 
       made : (number : ℕ) → group other.number ≡ number → IsForeign number
       made number e = let new = new_group other.number in inr (new.0, sym e ∙ new.1)
 
-      none : IsOfOthers Private
-      none = (λ number e. none_is_some number e, λ number e. none_is_some number (ap source_of e))
-
-      unbindable : IsOfOthers Unbindable
+      unbindable : Others Unbindable
       unbindable = (λ number e. none_is_some number e, λ number e. none_is_some number (ap source_of e))
 
-      shared_new : IsOfOthers (Shared (group other.number))
+      shared_new : Others (Shared (group other.number))
       shared_new = grind (arith, common_steps, made, same_Some, none_is_some)
 
       typed : (word : TypeWord) (kind : Propagation ℕ) → other.propagation ≡ kind
-          → IsOfOthers (type_after (group other.number) word kind)
-      typed ToShared (Shared g) k = subst IsOfOthers k old
+          → Others (type_after (group other.number) word kind)
+      typed ToShared (Shared g) k = subst Others k old
       typed ToShared (Slave g) k = shared_new
       typed ToShared Private k = shared_new
       typed ToShared Unbindable k = shared_new
@@ -187,212 +155,73 @@ module _ (world : World ℕ) (names : List TaskName) (apart : IsApart world name
         λ number e. none_is_some number e,
         λ number e. old_foreign other m number (inl (ap group_of k ∙ ap source_of e)),
       )
-      typed ToSlave (Slave g) k = subst IsOfOthers k old
-      typed ToSlave Private k = none
+      typed ToSlave (Slave g) k = subst Others k old
+      typed ToSlave Private k = of_nobody world names so_far
       typed ToSlave Unbindable k = unbindable
-      typed ToPrivate kind k = none
+      typed ToPrivate kind k = of_nobody world names so_far
       typed ToUnbindable kind k = unbindable
 
-      by : (b : Bool) → IsOfOthers
+      by : (b : Bool) → Others
           (cond b (record other { propagation = type_after (group other.number) word other.propagation })
           other).propagation
       by true = typed word other.propagation refl
       by false = old
 
-  -- and once their slaves have other masters
-  inherited_foreign : (kind : Propagation ℕ) → IsOfOthers kind → IsOfOthers (inherited nat_eq middle kind)
-  inherited_foreign (Shared g) is = is
-  inherited_foreign (Slave g) is = by (heir nat_eq middle (Some g)) refl
+  retyped_shape : (mount : Mount ℕ) → IsReshaped mount (retype mount)
+  retyped_shape mount = by (is_named mount)
     where
-      by : (o : Option ℕ) → heir nat_eq middle (Some g) ≡ o → IsOfOthers (slave_of_heir o)
-      by None e = (λ number f. none_is_some number f, λ number f. none_is_some number (ap source_of f))
-      by (Some found) e = (
-        λ number f. none_is_some number f,
-        λ number f. subst IsForeign (same_Some found number (ap source_of f)) (heir_foreign g found (is.1 g refl) e),
+      by : (b : Bool) → IsReshaped mount
+          (cond b (record mount { propagation = type_after (group mount.number) word mount.propagation }) mount)
+      by true = (
+        mount.namespace,
+        mount.mount_point,
+        type_after (group mount.number) word mount.propagation,
+        refl,
+        inl refl,
       )
-  inherited_foreign Private is = is
-  inherited_foreign Unbindable is = is
+      by false = (mount.namespace, mount.mount_point, mount.propagation, refl, inl refl)
+
+  own_same : (own : Mount ℕ) → Among own (own_mounts nat_eq world names) → retype own ≡ own
+  own_same own m = stays own (own_not_named own m)
+
+  nowhere_same : (mount : Mount ℕ) → Among mount world.mounts → mount.namespace ≡ None → retype mount ≡ mount
+  nowhere_same mount there none = stays mount (not_named mount there (λ e. none_is_some namespace (sym none ∙ e)))
+
+  own_set : (number : ℕ) → list_any (is_member_of nat_eq number) (own_mounts nat_eq world names) ≡ true
+      → set_master number ≡ world.master number
+  own_set number h =
+      let own = any_among (is_member_of nat_eq number) (own_mounts nat_eq world names) h in
+      let there = (among-from_filter (is_own_mount nat_eq world names) world.mounts own.0 own.1).0 in
+      ⊎_elim (λ e. e) (λ made. let new = new_group made.0.number in
+      absurd (member_not_new world fresh serves own.0 number new.0 there (member_group number own.0 own.2)
+      (made.2 ∙ new.1))) (new_masters group number named world.master)
 
   -- All of it, where some group lost its last member, or none did
   module _ (lost : Bool) where
-    abbrev regroup : Mount ℕ → Mount ℕ
-    regroup mount = cond lost (inheriting nat_eq middle mount) mount
-
     abbrev change : Mount ℕ → Mount ℕ
-    change mount = regroup (retype mount)
+    change = all_changed world names so_far retype retyped_shape own_same nowhere_same retyped_foreign set_master
+        set_above own_set world.tasks world.namespaces (others_rest world names so_far) lost
 
-    abbrev after_all : World ℕ
-    after_all = regrouped_by nat_eq lost middle
+    abbrev retyped : World ℕ
+    retyped = after_all world names so_far retype retyped_shape own_same nowhere_same retyped_foreign set_master
+        set_above own_set world.tasks world.namespaces (others_rest world names so_far) lost
 
-    mounts_are : after_all.mounts ≡ map change world.mounts
-    mounts_are = by lost ∙ map_twice regroup retype world.mounts
-      where
-        by : (b : Bool) → (regrouped_by nat_eq b middle).mounts
-            ≡ map (λ (mount : Mount ℕ). cond b (inheriting nat_eq middle mount) mount) middle.mounts
-        by true = refl
-        by false = sym (map_same (λ (mount : Mount ℕ). mount) middle.mounts (λ mount m. refl))
+    retyped_are : retyped.mounts ≡ map change world.mounts
+    retyped_are = mounts_are world names so_far retype retyped_shape own_same nowhere_same retyped_foreign set_master
+        set_above own_set world.tasks world.namespaces (others_rest world names so_far) lost
 
-    -- only the type changes
-    retyped_type : (mount : Mount ℕ) → (kind : Propagation ℕ) × (retype mount ≡ record mount { propagation = kind })
-    retyped_type mount = by (is_named mount)
-      where
-        by : (b : Bool) → (kind : Propagation ℕ)
-            × (cond b (record mount { propagation = type_after (group mount.number) word mount.propagation }) mount
-            ≡ record mount { propagation = kind })
-        by true = (type_after (group mount.number) word mount.propagation, refl)
-        by false = (mount.propagation, refl)
-
-    regrouped_type : (mount : Mount ℕ) → (kind : Propagation ℕ) × (regroup mount ≡ record mount { propagation = kind })
-    regrouped_type mount = by lost
-      where
-        by : (b : Bool) → (kind : Propagation ℕ)
-            × (cond b (inheriting nat_eq middle mount) mount ≡ record mount { propagation = kind })
-        by true = (inherited nat_eq middle mount.propagation, refl)
-        by false = (mount.propagation, refl)
-
-    changed_type : (mount : Mount ℕ) → (kind : Propagation ℕ) × (change mount ≡ record mount { propagation = kind })
-    changed_type mount = grind (arith, common_steps, retyped_type mount, regrouped_type (retype mount))
-
-    keeps : KeepsPlaces change
-    keeps = grind (arith, common_steps, changed_type)
-
-    -- a mount of theirs stays
-    own_type_stays : (own : Mount ℕ) → Among own (own_mounts nat_eq world names)
-        → inherited nat_eq middle own.propagation ≡ own.propagation
-    own_type_stays own m = by own.propagation refl
-      where
-        by : (kind : Propagation ℕ) → own.propagation ≡ kind → inherited nat_eq middle kind ≡ kind
-        by (Shared g) e = refl
-        by (Slave g) e = ap slave_of_heir (heir_stays own m g (inr (ap (master_of world) e)))
-        by Private e = refl
-        by Unbindable e = refl
-
-    regroup_stays : (mount : Mount ℕ) → inherited nat_eq middle mount.propagation ≡ mount.propagation
-        → regroup mount ≡ mount
-    regroup_stays mount e = grind (arith, common_steps)
-
-    own_stays : (own : Mount ℕ) → Among own (own_mounts nat_eq world names) → change own ≡ own
-    own_stays own m = ap regroup (stays own (own_not_named own m)) ∙ regroup_stays own (own_type_stays own m)
-
-    nowhere_stays : (mount : Mount ℕ) → Among mount world.mounts → mount.namespace ≡ None → change mount ≡ mount
-    nowhere_stays mount there none =
-        ap regroup (stays mount (not_named mount there (λ e. none_is_some namespace (sym none ∙ e))))
-        ∙ regroup_stays mount (by mount.propagation (and_parts (not (is_some mount.mount_point))
-        (is_private mount.propagation)
-        (sym (ap (λ o. is_some o || (not (is_some mount.mount_point) && is_private mount.propagation)) none)
-        ∙ among_from_list_all is_nowhere_or_attached world.mounts apart.is.mounts.nowhere mount there)).1)
-      where
-        by : (kind : Propagation ℕ) → is_private kind ≡ true → inherited nat_eq middle kind ≡ kind
-        by kind h = grind (arith, common_steps, true≢false)
-
-    kept_same : (mount : Mount ℕ) → Among mount world.mounts
-        → keep world names (members world names) (change mount) ≡ keep world names (members world names) mount
-    kept_same mount there = by mount.namespace refl
-      where
-        by : (o : Option ℕ) → mount.namespace ≡ o
-            → keep world names (members world names) (change mount) ≡ keep world names (members world names) mount
-        by None e = ap (keep world names (members world names)) (nowhere_stays mount there e)
-        by (Some n) e = which (is_own_namespace nat_eq world names n) refl
-          where
-            which : (b : Bool) → is_own_namespace nat_eq world names n ≡ b
-                → keep world names (members world names) (change mount) ≡ keep world names (members world names) mount
-            which true own = ap (keep world names (members world names)) (own_stays mount
-                (among-filter (is_own_mount nat_eq world names) world.mounts mount there
-                (ap (holds_of (is_own_namespace nat_eq world names)) e ∙ own)))
-            which false other =
-                let no : (is_own world names (members world names) mount
-                || is_at nat_eq (roots_and_directories (members world names)) mount) ≡ false =
-                ap (λ b. b || is_at nat_eq (roots_and_directories (members world names)) mount)
-                (not_own world names n other mount there e) ∙ not_stood_on world names apart n other mount there e in
-                let changed = changed_type mount in
-                ap (keep world names (members world names)) changed.1
-                ∙ ap (λ b. cond b (Some (record mount { propagation = changed.0 }))
-                (when (is_at nat_eq (locations (members world names)) mount) (seen_by_descriptor mount))) no
-                ∙ sym (ap (λ b. cond b (Some mount)
-                (when (is_at nat_eq (locations (members world names)) mount) (seen_by_descriptor mount))) no)
-
-    -- masters of groups of theirs
-    own_master_stays : (number : ℕ) → list_any (is_member_of nat_eq number) (own_mounts nat_eq world names) ≡ true
-        → after_all.master number ≡ world.master number
-    own_master_stays number h =
-        let own = any_among (is_member_of nat_eq number) (own_mounts nat_eq world names) h in
-        let there = (among-from_filter (is_own_mount nat_eq world names) world.mounts own.0 own.1).0 in
-        let is_in = member_group number own.0 own.2 in
-        let same : middle.master number ≡ world.master number = ⊎_elim (λ e. e)
-        (λ made. let new = new_group made.0.number in
-        absurd (member_not_new world fresh serves own.0 number new.0 there is_in (made.2 ∙ new.1)))
-        (new_masters group number named world.master) in
-        by lost same (above own.0 own.1 is_in (world.master number) refl)
-      where
-        above : (own : Mount ℕ) → Among own (own_mounts nat_eq world names) → group_of own.propagation ≡ Some number
-            → (o : Option ℕ) → world.master number ≡ o → heir nat_eq middle o ≡ o
-        above own m is_in o e = grind (arith, common_steps, heir_stays, same_Some, none_is_some)
-
-        by : (b : Bool) → middle.master number ≡ world.master number
-            → heir nat_eq middle (world.master number) ≡ world.master number
-            → (regrouped_by nat_eq b middle).master number ≡ world.master number
-        by true same up = ap (heir nat_eq middle) same ∙ up
-        by false same up = same
-
-    after_above : (number above : ℕ) → IsForeign number → after_all.master number ≡ Some above → IsForeign above
-    after_above number above foreign = by lost
-      where
-        up : (o : Option ℕ) → middle.master number ≡ o → heir nat_eq middle o ≡ Some above → IsForeign above
-        up None e f = none_is_some above f
-        up (Some upper) e f = heir_foreign upper above (middle_above number upper foreign e) f
-
-        by : (b : Bool) → (regrouped_by nat_eq b middle).master number ≡ Some above → IsForeign above
-        by true e = up (middle.master number) refl e
-        by false e = middle_above number above foreign e
+    own_stay : (own : Mount ℕ) → Among own (own_mounts nat_eq world names) → change own ≡ own
+    own_stay = own_stays world names so_far retype retyped_shape own_same nowhere_same retyped_foreign set_master
+        set_above own_set world.tasks world.namespaces (others_rest world names so_far) lost
 
     -- the sweep may take masters, but not those of groups of theirs
-    module _ (master : ℕ → Option ℕ)
-        (taken : (number : ℕ) → (master number ≡ after_all.master number) ⊎ (master number ≡ None))
-        (theirs_stay : (number : ℕ) → list_any (is_member_of nat_eq number) (own_mounts nat_eq world names) ≡ true
-        → master number ≡ after_all.master number) where
-      abbrev left : World ℕ
-      left = record world { mounts = map change world.mounts; master = master }
-
-      own_masters : (number : ℕ) → list_any (is_member_of nat_eq number) (own_mounts nat_eq world names) ≡ true
-          → master number ≡ world.master number
-      own_masters number h = theirs_stay number h ∙ own_master_stays number h
-
-      left_above : (number above : ℕ) → IsForeign number → master number ≡ Some above → IsForeign above
-      left_above number above foreign e =
-          ⊎_elim (λ same. after_above number above foreign (sym same ∙ e)) (λ none. none_is_some above (sym none ∙ e))
-          (taken number)
-
-      heard_foreign : (kind : Propagation ℕ) → IsOfOthers kind → (number : ℕ)
-          → HearsGroup world names so_far left kind number → IsForeign number
-      heard_foreign (Shared g) is number how = ⊎_elim (is.0 number) (λ e. left_above g number (is.0 g refl) e) how
-      heard_foreign (Slave g) is number how = grind (arith, common_steps, none_is_some, same_Some)
-      heard_foreign Private is number how = ⊎_elim (λ e. none_is_some number e) (λ e. none_is_some number e) how
-      heard_foreign Unbindable is number how = ⊎_elim (λ e. none_is_some number e) (λ e. none_is_some number e) how
-
-      changed_foreign : (other : Mount ℕ) → Among other (other_mounts nat_eq world names)
-          → IsOfOthers (change other).propagation
-      changed_foreign other m = by lost
-        where
-          by : (b : Bool) → IsOfOthers (cond b (inheriting nat_eq middle (retype other)) (retype other)).propagation
-          by true = inherited_foreign (retype other).propagation (retyped_foreign other m)
-          by false = retyped_foreign other m
-
-      own_kinds : (own : Mount ℕ) → Among own (own_mounts nat_eq world names)
-          → master_of left own.propagation ≡ master_of world own.propagation
-      own_kinds own m = grind (arith, common_steps, own_masters, any_from_among, eq-eqb)
-
-      events : shares_no_events nat_eq left names ≡ true
-      events = events_stay_apart world names so_far left
-          (own_mounts_same world left names (sees world names apart change keeps kept_same master own_masters))
-          own_kinds (λ other m number how.
-          let from = among-from_map change (other_mounts nat_eq world names) other
-          (subst (Among other) (others_changed world names apart change keeps kept_same master) m) in
-          heard_foreign (change from.0).propagation (changed_foreign from.0 from.1) number
-          (subst (λ kind. HearsGroup world names so_far left kind number)
-          (ap (λ (x : Mount ℕ). x.propagation) from.2) how))
-
-      pub retyping_leaves_apart : LeavesApart world left names []
-      retyping_leaves_apart = changing_leaves_apart world names apart change keeps kept_same master own_masters events
+    retyping_leaves_apart : (master : ℕ → Option ℕ)
+        → ((number : ℕ) → (master number ≡ retyped.master number) ⊎ (master number ≡ None))
+        → ((number : ℕ) → list_any (is_member_of nat_eq number) (own_mounts nat_eq world names) ≡ true
+        → master number ≡ retyped.master number)
+        → LeavesApart world (record world { mounts = map change world.mounts; master = master }) names []
+    retyping_leaves_apart = regrouping_leaves_apart world names so_far retype retyped_shape own_same nowhere_same
+        retyped_foreign set_master set_above own_set world.tasks world.namespaces (others_rest world names so_far) lost
 
 -- what a change of types names is in the namespace
 named_are_in : (world : World ℕ) (names : List TaskName) (apart : IsApart world names) (namespace number : ℕ)
@@ -464,7 +293,7 @@ module _ (world : World ℕ) (fresh : Fresh ℕ) (names : List TaskName) (name :
 
   done_mounts : done.mounts ≡ map changes world.mounts
   done_mounts =
-      mounts_are world names apart_before fresh outsider.serves task.namespace outside its_group its_new word its_named
+      retyped_are world names apart_before fresh outsider.serves task.namespace outside its_group its_new word its_named
       its_named_in has_lost
 
   swept : settled nat_eq done ≡ record world { mounts = map changes world.mounts; master = last_master }
@@ -490,7 +319,7 @@ module _ (world : World ℕ) (fresh : Fresh ℕ) (names : List TaskName) (name :
       (any_from_among (is_member_of nat_eq n) (filter (mount_lives nat_eq done) done.mounts) own.0
       (among-filter (mount_lives nat_eq done) done.mounts own.0 (subst (Among own.0) (sym done_mounts)
       (subst (λ x. Among x (map changes world.mounts))
-      (own_stays world names apart_before fresh outsider.serves task.namespace outside its_group its_new word its_named
+      (own_stay world names apart_before fresh outsider.serves task.namespace outside its_group its_new word its_named
       its_named_in has_lost own.0 own.1) (among-map changes world.mounts own.0 at.0)))
       (or_left (is_some own.0.namespace) _ (lives own.0.namespace at.1))) own.2)
     where

@@ -49,13 +49,13 @@ pub IsPermutation-filter : {A : Type 0} (p : A → Bool) (xs ys : List A) → Is
 IsPermutation-filter p xs ys h = rw (filter_as_flat_map p xs, filter_as_flat_map p ys)
     (IsPermutation-flat_map (λ x. cond (p x) (x ∷ []) []) xs ys h)
 
+pub and_swapped : (a b c : Bool) → (a && (b && c)) ≡ (b && (a && c))
+and_swapped true b c = refl
+and_swapped false true c = refl
+and_swapped false false c = refl
+
 pub list_all-IsPermutation : {A : Type 0} (p : A → Bool) (xs ys : List A) → IsPermutation xs ys
     → list_all p xs ≡ list_all p ys
 list_all-IsPermutation p = along_permutation (λ xs ys. list_all p xs ≡ list_all p ys) (λ xs. refl)
-    (λ x xs ys h. ap (λ b. p x && b) h) (λ x y xs. turned (p x) (p y) (list_all p xs))
+    (λ x xs ys h. ap (λ b. p x && b) h) (λ x y xs. and_swapped (p x) (p y) (list_all p xs))
     (λ xs ys zs first second. first ∙ second)
-  where
-    turned : (a b c : Bool) → (a && (b && c)) ≡ (b && (a && c))
-    turned true b c = refl
-    turned false true c = refl
-    turned false false c = refl

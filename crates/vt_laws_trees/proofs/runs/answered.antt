@@ -3,7 +3,9 @@ pub mod AlikeAnswered
 pub mod AlikeApplied
 pub mod AlikeAttached
 pub mod AlikeChanges
+pub mod AlikeCopies
 pub mod AlikeDirected
+pub mod AlikeFiles
 pub mod AlikeLines
 pub mod AlikeListed
 pub mod AlikeMounts
@@ -11,4 +13,5 @@ pub mod AlikeNamespaces
 pub mod AlikeRenamed
 pub mod AlikeSettled
 pub mod AlikeWorlds
+pub mod PlainStays
 pub mod TaskChanges

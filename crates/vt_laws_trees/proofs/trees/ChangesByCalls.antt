@@ -28,6 +28,7 @@ use Rattle.vt_laws_trees.proofs.trees.TreesForgotten.{settling_keeps_trees}
 use Rattle.vt_laws_trees.proofs.trees.TreesOfWorlds.{numbered, raised_keeps_world, same_filesystems, change_keeps_world, new_at, taken_files}
 use Rattle.vt_laws_trees.proofs.trees.TreesWalked.{after_holds, IsFilePlace, IsNewPlace, at_end, place_is_file}
 use Rattle.vt_laws_rules.proofs.given.CallsGranted.{call_holds}
+use Rattle.vt_laws_rules.specs.Plain.{IsPlain}
 use Rattle.vt_laws_rules.specs.Granted.{IsGranted, directory_made, symlink_made, whiteout_made}
 use Rattle.vt_laws_rules.specs.Granted.IsGranted.{changes_mark, changes_mode, changes_owner, creates, creates_exclusively, makes_directory, makes_hard_link, makes_symlink, makes_whiteout, mounts_overlayfs, mounts_tmpfs, opens, opens_existing, overwrites_file, removes_directory, renames, unlinks, writes_new_file, writes_part}
 use Rattle.vt_spec.proofs.NodeChanges.{entries_in-no_directory, nil_from_not_some}
@@ -62,13 +63,18 @@ pub new_tree_is : (root : ℕ) → IsFileTree (new_tree nat_eq root)
 new_tree_is root = grind (arith, common_steps, is_tree-tree_of_root, root_only)
 
 -- a filesystem more
+pub new_is_plain : (world : World ℕ) (filesystem : Filesystem ℕ) → is_overlay filesystem ≡ false → IsPlain world
+    → All (λ f. is_overlay f ≡ false) (world.filesystems ++ (filesystem ∷ []))
+new_is_plain world filesystem plain all =
+    All-append (λ f. is_overlay f ≡ false) world.filesystems (filesystem ∷ []) all
+    (All-cons (λ f. is_overlay f ≡ false) filesystem [] plain (All-nil (λ f. is_overlay f ≡ false)))
+
 pub more_filesystems : (world after_call : World ℕ) (filesystem : Filesystem ℕ)
     → after_call.filesystems ≡ world.filesystems ++ (filesystem ∷ [])
     → is_overlay filesystem ≡ false → IsFileTree filesystem.files → IsWorldOfTrees world → IsWorldOfTrees after_call
 more_filesystems world after_call filesystem same plain tree conditions = record {
   plain = subst (All (λ f. is_overlay f ≡ false)) (sym same)
-      (All-append (λ f. is_overlay f ≡ false) world.filesystems (filesystem ∷ []) conditions.plain
-      (All-cons (λ f. is_overlay f ≡ false) filesystem [] plain (All-nil (λ f. is_overlay f ≡ false))));
+      (new_is_plain world filesystem plain conditions.plain);
   trees = subst (All (λ f. IsFileTree f.files)) (sym same)
       (All-append (λ f. IsFileTree f.files) world.filesystems (filesystem ∷ []) conditions.trees
       (All-cons (λ f. IsFileTree f.files) filesystem [] tree (All-nil (λ f. IsFileTree f.files))));
@@ -87,17 +93,19 @@ without_dead_plain chosen world plain =
     (All-weaker (λ f. is_overlay f ≡ false) (λ f. is_overlay (only_used nat_eq world (chosen f) f) ≡ false)
     (λ f is. used_plain world (chosen f) f is) world.filesystems plain)
 
-pub settled_keeps : (world : World ℕ) → IsWorldOfTrees world → IsWorldOfTrees (settled nat_eq world)
-settled_keeps world conditions =
+pub settled_plain : (world : World ℕ) → IsPlain world → IsPlain (settled nat_eq world)
+settled_plain world plain =
     let mounted_world = without_dead_mounts nat_eq world in
     let living = without_dead_filesystems nat_eq mounted_world in
-    let plain_living : All (λ f. is_overlay f ≡ false) living.filesystems =
-    All-filter (filesystem_lives nat_eq mounted_world) (λ f. is_overlay f ≡ false) world.filesystems conditions.plain in
-    record {
-      plain = without_dead_plain (λ f. not (is_overlay f)) (without_dead_in nat_eq is_overlay living)
-          (without_dead_plain is_overlay living plain_living);
-      trees = settling_keeps_trees world conditions.trees;
-    }
+    without_dead_plain (λ f. not (is_overlay f)) (without_dead_in nat_eq is_overlay living)
+    (without_dead_plain is_overlay living
+    (All-filter (filesystem_lives nat_eq mounted_world) (λ f. is_overlay f ≡ false) world.filesystems plain))
+
+pub settled_keeps : (world : World ℕ) → IsWorldOfTrees world → IsWorldOfTrees (settled nat_eq world)
+settled_keeps world conditions = record {
+  plain = settled_plain world conditions.plain;
+  trees = settling_keeps_trees world conditions.trees;
+}
 
 -- each way in which a call is granted
 module _ (fresh : Fresh ℕ) (world : World ℕ) (task : Task ℕ) (conditions : IsWorldOfTrees world)

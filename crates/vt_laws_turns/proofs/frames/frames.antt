@@ -4,7 +4,6 @@ pub mod FilesystemsGoOn
 pub mod FilesystemsUnraised
 pub mod NamespacesGoOn
 pub mod PivotsRaise
-pub mod PolicyLeaves
 pub mod SameMounts
 pub mod ShownAlike
 pub mod SweptFilesystems

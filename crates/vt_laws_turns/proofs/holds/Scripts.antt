@@ -33,7 +33,7 @@ use Rattle.vt_laws_turns.proofs.holds.Holding.{one_turn, schedulers_begin_so}
 abbrev is_early : ℕ → ℕ → Bool
 is_early n number = nat_le (row number) n
 
-row_of : (n k : ℕ) → row (numbers_for (suc n) k) ≡ suc n
+pub row_of : (n k : ℕ) → row (numbers_for (suc n) k) ≡ suc n
 row_of n k = ap row (spread_for n k) ∙ row-spread (suc n) k
 
 not_early : (n number : ℕ) → row number ≡ suc n → is_early n number ≡ false

@@ -1,3 +1,2 @@
 -- What the proofs of src/runs.rt use.
-pub mod LinesAlike
 pub mod RunsTold

@@ -6,6 +6,7 @@ use Rattle.std.specs.List.{list_all}
 use Rattle.std.specs.Prelude.{⊤}
 use Rattle.vt_laws_trees.specs.Calls.Inodes.{change_of, written_if_some}
 use Rattle.vt_laws_mounts.specs.Counts.BesideOverlays.{OverlaysHaveNoUpper}
+use Rattle.vt_laws_worlds.proofs.overlays_stay.left.Given.{given_to_task}
 use Rattle.vt_laws_worlds.specs.Given.LeftWorlds.{IsGivenToTask}
 use Rattle.vt_laws_worlds.specs.OverlayPermits.Asked.{change_asked}
 use Rattle.vt_laws_worlds.specs.OverlaysRead.Writers.{ChangesHaveLayers, OpensCopyNothing, PlainOnesAreChanged, WritersHaveLayers, writes_to_a_layer}
@@ -111,11 +112,6 @@ changes_have_layers world fresh task permit location change well given asks = su
     (calls_are_granted nat_eq (looks_of nat_eq world) (overfills nat_eq fresh world task) task given.call permit
     given.judged))
 
--- a call that is not the mount of an overlay
-to_task : (fresh : Fresh ℕ) (world : World ℕ) (task : Task ℕ) (permit : Permit ℕ) → IsGiven fresh world task permit
-    → IsGivenToTask fresh world task permit
-to_task fresh world task permit given = grind (arith, common_steps)
-
 -- where no overlay has an upper layer, one with an upper layer is none
 plain_there : (world : World ℕ) (location : Location ℕ) → OverlaysHaveNoUpper world
     → has_no_upper (looks_of nat_eq world) location ≡ false → is_overlay (filesystem_at nat_eq world location) ≡ false
@@ -140,7 +136,7 @@ asked_so fresh world permit made e = e
 
 pub plain_ones_are_changed : PlainOnesAreChanged
 plain_ones_are_changed world fresh task permit location change none well given asks = plain_there world location none
-    (changes_have_layers world fresh task permit location change well (to_task fresh world task permit given)
+    (changes_have_layers world fresh task permit location change well (given_to_task fresh world task permit given)
     (asked_so fresh world permit (location, change) asks))
 
 pub opens_copy_nothing : OpensCopyNothing
@@ -156,5 +152,5 @@ opens_copy_nothing world fresh task file access none well given = by (is_copied_
         (sym (overlaid (filesystem_at nat_eq world file).overlay (λ overlay. lies_only_in_lowers overlay file.node)
         (and_true_right (opens_for_writing access) _ e)) ∙ plain_there world file none
         (changes_have_layers world fresh task (ToOpen file access) file (CopyUp file.node) well
-        (to_task fresh world task (ToOpen file access) given) (ap (λ copied. when copied (file, CopyUp file.node)) e))))
+        (given_to_task fresh world task (ToOpen file access) given) (ap (λ copied. when copied (file, CopyUp file.node)) e))))
     by false e = refl

@@ -41,7 +41,7 @@ use Rattle.vt_spec.specs.Machine.Looks.{Looks, looks_of}
 use Rattle.vt_spec.specs.Machine.Mounts.{Location, Mount}
 use Rattle.vt_spec.specs.Machine.Namespaces.{pivoted_task}
 use Rattle.vt_spec.specs.Machine.NewMounts.{overlay_filesystem, plain_filesystem}
-use Rattle.vt_spec.specs.Machine.Outcomes.{Outcome, after as outcome_after}
+use Rattle.vt_spec.specs.Machine.Outcomes.{Outcome, after}
 use Rattle.vt_spec.specs.Machine.Permits.{Permit}
 use Rattle.vt_spec.specs.Machine.Permits.Permit.{ToClose, ToEnterNamespace, ToExit, ToFork, ToOpen, ToOpenNew, ToPivot, ToSetCredentials, ToSetDirectory, ToSetRoot, ToSetUmask, ToUnshare}
 use Rattle.vt_spec.specs.Machine.Policy.{call_outcome, numbers_raised, raised_task}
@@ -254,4 +254,4 @@ every_call_keeps_writers world fresh name call is serves few well =
     applied : (task : Task ℕ) (permit : Permit ℕ) → judge_in nat_eq fresh world task call ≡ Ok permit
         → (call_outcome nat_eq fresh world task call).world ≡ (apply nat_eq fresh world task permit).world
     applied task permit judged = ap (λ (o : Outcome ℕ). o.world) (call_is_judged_then_applied fresh world task call
-        ∙ ap (λ j. outcome_after world j (apply nat_eq fresh world task)) judged)
+        ∙ ap (λ j. after world j (apply nat_eq fresh world task)) judged)

@@ -1,3 +1,2 @@
 -- What the proofs of src/in_use.rt use.
-pub mod InUseNamed
 pub mod InUseServes

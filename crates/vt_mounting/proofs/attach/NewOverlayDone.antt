@@ -25,7 +25,7 @@ use Rattle.vt_laws_mounts.proofs.letting_go.Lists.{Among, among-append, among-ap
 use Rattle.vt_laws_mounts.proofs.letting_go.sweeps.OfWorlds.{worlds_have_trees}
 use Rattle.vt_laws_mounts.proofs.mounts.MountsNumbered.{parts_apart}
 use Rattle.vt_laws_mounts.specs.Mounts.Attaching.{OneNumberAMount}
-use Rattle.vt_laws_worlds.proofs.one_text.answered.AlikeWorlds.{alike_from_same}
+use Rattle.vt_laws_trees.proofs.runs.answered.AlikeWorlds.{alike_from_same, sameness_is_an_equivalence}
 use Rattle.vt_laws_worlds.proofs.one_text.same.SameWhole.{any_same_worlds_are_worlds}
 use Rattle.vt_world.specs.OverlaysKept.Kept.{ShowsLayers}
 use Rattle.vt_world.proofs.overlays_made.Supplied.{mounts_get_counts}
@@ -33,13 +33,12 @@ use Rattle.vt_laws_worlds.proofs.overlays_read.Kept.{permits_keep_writers}
 use Rattle.vt_laws_worlds.proofs.overlays_read.Swept.{same_worlds_have_layers_alike}
 use Rattle.vt_laws_worlds.specs.OverlaysRead.Writers.{WritersHaveLayers}
 use Rattle.vt_laws_worlds.specs.OverlaysStay.Woven.{woven}
-use Rattle.vt_laws_worlds.proofs.permits.same.EachHas.{each_among, each_holds}
+use Rattle.vt_laws_trees.proofs.runs.EachHas.{each_among, each_holds}
 use Rattle.vt_laws_worlds.proofs.permits.taken.PartsKept as Kept
 use Rattle.vt_laws_worlds.proofs.permits.taken.TakenNumbers.{counted_later}
 use Rattle.vt_laws_rules.proofs.same.SameFiles.{directory_under_same}
 use Rattle.vt_laws_rules.proofs.same.SameLooks.{found_same}
 use Rattle.vt_laws_rules.specs.Numbers.{KeepsTo, location_named}
-use Rattle.vt_laws_trees.proofs.runs.answered.AlikeWorlds.{sameness_is_an_equivalence}
 use Rattle.vt_laws_trees.specs.Runs.Handed.{counts_from, is_counted_before}
 use Rattle.vt_laws_worlds.proofs.worlds.Roots.{directory_there}
 use Rattle.vt_fs.specs.FilesystemsValue.{Filesystems, filesystems_seen, shown}

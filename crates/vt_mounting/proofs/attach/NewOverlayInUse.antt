@@ -22,11 +22,11 @@ use Rattle.vt_laws_mounts.specs.LettingGo.Keeping.{has_only_named}
 use Rattle.vt_laws_mounts.specs.LettingGo.OneByOne.{Inode}
 use Rattle.vt_laws_mounts.proofs.letting_go.Lists.{Among, all_pass, among_from_all, is_among_left, or_first, or_second, passes}
 use Rattle.vt_laws_mounts.proofs.letting_go.sweeps.UsesCounted.{used_while_counted}
-use Rattle.vt_laws_worlds.proofs.one_text.answered.AlikeSettled.{used_permuted}
-use Rattle.vt_laws_worlds.proofs.one_text.answered.AlikeWorlds.{alike_from_same}
+use Rattle.vt_laws_trees.proofs.runs.answered.AlikeSettled.{used_permuted}
+use Rattle.vt_laws_trees.proofs.runs.answered.AlikeWorlds.{alike_from_same}
 use Rattle.vt_laws_worlds.proofs.one_text.same.SameInvariants.{roots_keep}
 use Rattle.vt_laws_worlds.specs.OverlaysStay.Woven.{woven}
-use Rattle.vt_laws_worlds.proofs.permits.same.EachHas.{each_holds}
+use Rattle.vt_laws_trees.proofs.runs.EachHas.{each_holds}
 use Rattle.vt_laws_trees.proofs.runs.Each.{each_flat}
 use Rattle.vt_laws_trees.proofs.runs.Permuted.{list_all-IsPermutation}
 use Rattle.vt_laws_worlds.proofs.RaisedInUse.{worlds_are_in_use}

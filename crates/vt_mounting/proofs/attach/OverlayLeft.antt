@@ -27,8 +27,8 @@ use Rattle.vt_laws_trees.specs.Layers.Layers.Mounted as mounted
 use Rattle.vt_laws_mounts.specs.LettingGo.Keeping.{has_only_named}
 use Rattle.vt_laws_mounts.specs.LettingGo.OneByOne.{Inode}
 use Rattle.vt_laws_mounts.proofs.letting_go.Lists.{all_from_among}
-use Rattle.vt_laws_worlds.proofs.one_text.answered.AlikeAttached.{attach_alike}
-use Rattle.vt_laws_worlds.proofs.one_text.answered.AlikeWorlds.{Alike, alike_from_same, alike_onward, same_from_alike}
+use Rattle.vt_laws_trees.proofs.runs.answered.AlikeAttached.{attach_alike}
+use Rattle.vt_laws_trees.proofs.runs.answered.AlikeWorlds.{Alike, alike_from_same, alike_onward, same_from_alike, sameness_is_an_equivalence}
 use Rattle.vt_world.proofs.overlays_kept.inodes.InodesInOrder.{inodes_are_the_tree, inodes_have_their_objects, inodes_stay}
 use Rattle.vt_world.specs.OverlaysKept.Inodes.{inodes_kept}
 use Rattle.vt_world.specs.OverlaysKept.Kept.{IsShownAlike, ShowsLayer, ShowsLayers, with_objects}
@@ -39,7 +39,6 @@ use Rattle.vt_laws_worlds.specs.OverlaysStay.Woven.{woven}
 use Rattle.vt_laws_rules.proofs.same.SameLooks.{found_same}
 use Rattle.vt_laws_trees.proofs.runs.Each.{each_append}
 use Rattle.vt_laws_trees.proofs.runs.Permuted.{IsPermutation-flat_map, list_all-IsPermutation}
-use Rattle.vt_laws_trees.proofs.runs.answered.AlikeWorlds.{sameness_is_an_equivalence}
 use Rattle.vt_location.specs.Numbers.{counted}
 use Rattle.vt_fs.proofs.Numbers.{found_by_number}
 use Rattle.vt_fs.specs.FilesystemsValue.{Filesystems, filesystems_seen, shown}

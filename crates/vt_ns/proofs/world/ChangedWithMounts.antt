@@ -45,10 +45,9 @@ use Rattle.vt_laws_mounts.specs.LettingGo.Overlays.{is_plain, let_go_all_inodes,
 use Rattle.vt_laws_mounts.specs.LettingGo.TreeChanges.{ChangesTree}
 use Rattle.vt_mount.specs.MountsValue.{MountEntry}
 use Rattle.vt_laws_trees.specs.Runs.Handed.{is_counted_before}
-use Rattle.vt_laws_worlds.proofs.one_text.answered.AlikeMounts.{regrouped_alike}
-use Rattle.vt_laws_worlds.proofs.one_text.answered.AlikeSettled.{settled_alike}
-use Rattle.vt_laws_worlds.proofs.one_text.answered.AlikeWorlds.{alike_from_same, same_from_alike}
-use Rattle.vt_laws_trees.proofs.runs.answered.AlikeWorlds.{sameness_is_an_equivalence}
+use Rattle.vt_laws_trees.proofs.runs.answered.AlikeMounts.{regrouped_alike}
+use Rattle.vt_laws_trees.proofs.runs.answered.AlikeSettled.{settled_alike}
+use Rattle.vt_laws_trees.proofs.runs.answered.AlikeWorlds.{alike_from_same, same_from_alike, sameness_is_an_equivalence}
 use Rattle.vt_laws_worlds.specs.Worlds.Kept.{IsUnderWay}
 use Rattle.vt_laws_worlds.specs.Worlds.Permits.{IsFitPermit, NamesWhatIsThere}
 use Rattle.vt_laws_worlds.proofs.kept.MountsKept.{all_mounts_kept}

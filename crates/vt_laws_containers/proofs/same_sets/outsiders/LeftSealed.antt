@@ -1,12 +1,11 @@
 -- Calls of others leave a sealed set sealed and its part the same, in all worlds that are the same as the policy's.
 use Rattle.std.proofs.Common.{◌≡◌, refl, sym, ap, subst, ◌∙◌, ℕ, nat_eq, true, List, [], ◌∷◌, Option, Some, None, is_some}
 use Rattle.vt_laws_members.proofs.judging.AllJudged.{called_alike}
-use Rattle.vt_laws_worlds.proofs.one_text.answered.AlikeChanges.{task_alike}
-use Rattle.vt_laws_worlds.proofs.one_text.answered.AlikeWorlds.{alike_from_same}
+use Rattle.vt_laws_trees.proofs.runs.answered.AlikeChanges.{task_alike}
+use Rattle.vt_laws_trees.proofs.runs.answered.AlikeWorlds.{alike_from_same, SameTask, sameness_is_an_equivalence}
 use Rattle.vt_laws_worlds.proofs.one_text.same.SameWhole.{any_same_worlds_are_worlds}
 use Rattle.vt_laws_worlds.proofs.overlay_permits.worlds.EveryCall.{every_call_keeps_worlds}
-use Rattle.vt_laws_worlds.proofs.permits.same.EachHas.{each_among}
-use Rattle.vt_laws_trees.proofs.runs.answered.AlikeWorlds.{SameTask, sameness_is_an_equivalence}
+use Rattle.vt_laws_trees.proofs.runs.EachHas.{each_among}
 use Rattle.vt_laws_trees.proofs.runs.Each.{IfAny}
 use Rattle.vt_laws_containers.proofs.same_sets.sets.PartsAlike.{same_worlds_have_same_parts}
 use Rattle.vt_laws_containers.proofs.same_sets.sets.SealedAlike.{same_worlds_are_sealed_alike, same_worlds_give_footholds_alike}

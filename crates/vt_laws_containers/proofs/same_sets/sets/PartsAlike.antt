@@ -3,13 +3,12 @@ use Rattle.std.proofs.Common.{◌≡◌, ap, subst, ◌∙◌, ℕ, nat_eq, Bool
 use Rattle.std.specs.List.{cons_option, list_any}
 use Rattle.std.specs.List.Sorted.{IsPermutation}
 use Rattle.std.proofs.lemmas.List.Sorted.{list_any-IsPermutation}
-use Rattle.vt_laws_worlds.proofs.one_text.answered.AlikeChanges.{found_alike}
-use Rattle.vt_laws_worlds.proofs.one_text.answered.AlikeWorlds.{Alike, alike_from_same, mounts_of_one, same_from_alike}
+use Rattle.vt_laws_trees.proofs.runs.answered.AlikeChanges.{found_alike}
+use Rattle.vt_laws_trees.proofs.runs.answered.AlikeWorlds.{Alike, alike_from_same, mounts_of_one, same_from_alike, SameNamespace, SameTask, with_mounts_of}
 use Rattle.vt_laws_rules.proofs.same.SameFiles.{under_same}
-use Rattle.vt_laws_trees.proofs.runs.answered.AlikeWorlds.{SameNamespace, SameTask, with_mounts_of}
 use Rattle.vt_laws_trees.proofs.runs.Each.{Each, IfAny, each_filter, each_flat}
 use Rattle.vt_laws_trees.proofs.runs.Permuted.{IsPermutation-filter}
-use Rattle.vt_laws_containers.proofs.same_sets.sets.SealedAlike.{directly_same, members_alike, own_same, places_same, used_same}
+use Rattle.vt_laws_trees.proofs.runs.answered.AlikeDirected.{directly_same, members_alike, own_same, places_same, used_same}
 use Rattle.vt_laws_containers.specs.SameSets.Sets.{SameWorldsHaveSameParts}
 use Rattle.vt_spec.specs.FileTree.{FileTree}
 use Rattle.vt_spec.specs.Language.Calls.{TaskName}

@@ -1,6 +1,7 @@
 -- A turn of theirs that answers a call which ends alike in the part is a turn of their part.
 use Rattle.std.proofs.Common.{arith, ◌≡◌, refl, sym, ap, subst, ◌∙◌, ℕ, nat_eq, Bool, true, false, true≢false, not, List, [], ◌∷◌, Some, None, Ok, Err, Result, filter, is_ok, is_some, map}
 use Rattle.std.proofs.lemmas.Grind.{common_steps}
+use Rattle.vt_laws_worlds.proofs.overlays_stay.weaving.WovenLists.{filters_swapped}
 use Rattle.vt_spec.specs.declared.errors.Deny.{Deny}
 use Rattle.vt_spec.specs.Language.Answers.{Answer}
 use Rattle.vt_spec.specs.Language.Calls.{Call, TaskName, same_name}
@@ -20,7 +21,7 @@ use Rattle.vt_laws_turns.proofs.played.Turning.{Turns, turn_is}
 use Rattle.vt_laws_containers.specs.SealedTurns.MembersTurns.{TheirAnswersAreOfTheGrownPart, TheirAnswersAreOfTheirPart, TheirRefusalsAreOfTheirPart, TurnsAlikeFor, part_of_sched}
 use Rattle.vt_laws_containers.specs.SealedTurns.OutsidersTurns.{their_calls}
 use Rattle.vt_laws_containers.proofs.sealed_turns.members.Grown.{were_of_the_set}
-use Rattle.vt_laws_containers.proofs.sealed_turns.members.TurnsAlike.{swapped, their_turns_answer_alike}
+use Rattle.vt_laws_containers.proofs.sealed_turns.members.TurnsAlike.{their_turns_answer_alike}
 
 -- what a turn that answers a call leaves
 record IsAnswered (sched : Sched ℕ) (name : TaskName) (line : ℕ) (call : Call) (fresh : Fresh ℕ) (turned : Turned ℕ)
@@ -67,7 +68,7 @@ calls_left_of names set name under_way were =
     let own = λ (p : Progress ℕ). is_among same_name p.task names in
     let of_set = λ (p : Progress ℕ). is_among same_name p.task set in
     let others = λ (p : Progress ℕ). not (same_name name p.task) in
-    ap (filter of_set) (sym (swapped own others under_way))
+    ap (filter of_set) (sym (filters_swapped own others under_way))
     ∙ filter_less of_set own (filter others under_way) (λ p m. were p (among-from_filter others under_way p m).0)
 
 abbrev sched_of : World ℕ → List Queue → List (Progress ℕ) → Sched ℕ

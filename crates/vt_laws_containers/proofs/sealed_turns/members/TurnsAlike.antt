@@ -3,6 +3,7 @@ use Rattle.std.proofs.Common.{arith, ◌≡◌, refl, sym, ap, subst, ◌∙◌,
 use Rattle.std.proofs.lemmas.Grind.{common_steps}
 use Rattle.std.specs.Prelude.{nat_le, slice_get}
 use Rattle.std.specs.List.{list_any}
+use Rattle.vt_laws_worlds.proofs.overlays_stay.weaving.WovenLists.{filters_swapped}
 use Rattle.vt_spec.specs.declared.errors.Deny.{Deny}
 use Rattle.vt_spec.specs.Errors.{unless}
 use Rattle.vt_spec.specs.Language.Calls.{Call, TaskName, same_name}
@@ -29,11 +30,6 @@ use Rattle.vt_laws_containers.specs.SealedTurns.MembersTurns.{HasCallsUnderWay, 
 use Rattle.vt_laws_containers.specs.SealedTurns.OutsidersTurns.{their_calls}
 use Rattle.vt_laws_containers.proofs.sealed_turns.members.Numbers.{filesystem_same, found_kept, namespace_same, overtaken_alike, seen_used}
 use Rattle.vt_laws_containers.proofs.sealed_turns.members.RoutesAlike.{routes_alike}
-
--- filters by two tests, in whatever order
-pub swapped : {A : Type 0} (p q : A → Bool) (list : List A) → filter p (filter q list) ≡ filter q (filter p list)
-swapped p q [] = refl
-swapped {A} p q (a ∷ rest) = grind (arith, common_steps, swapped p q rest)
 
 module _ (sched : Sched ℕ) (names : List TaskName) (has : HasCallsUnderWay sched) where
   abbrev world : World ℕ
@@ -113,7 +109,7 @@ module _ (sched : Sched ℕ) (names : List TaskName) (has : HasCallsUnderWay sch
             ≡ next ∷ without_progress next.task (their_calls names sched.under_way)
         calls = ap (λ b. cond b (next ∷ their_calls names (without_progress next.task sched.under_way))
             (their_calls names (without_progress next.task sched.under_way))) its_own
-            ∙ ap (λ l. next ∷ l) (swapped (λ (p : Progress ℕ). is_among same_name p.task names)
+            ∙ ap (λ l. next ∷ l) (filters_swapped (λ (p : Progress ℕ). is_among same_name p.task names)
             (λ (p : Progress ℕ). not (same_name next.task p.task)) sched.under_way)
 
     next_alike : (before : Progress ℕ) (o : Option (List ℕ)) → before.task ≡ task.name

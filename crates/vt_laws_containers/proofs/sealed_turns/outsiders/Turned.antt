@@ -1,6 +1,7 @@
 -- A turn of an outsider changes the world by a call of the outsider, and no queue and no call under way of theirs.
 use Rattle.std.proofs.Common.{arith, ◌≡◌, refl, sym, ap, subst, ◌∙◌, ℕ, nat_eq, Bool, true, false, true≢false, cond, not, List, [], ◌∷◌, Some, find, map}
 use Rattle.std.proofs.lemmas.Grind.{common_steps}
+use Rattle.vt_laws_sealed.proofs.outsiders.InTurn.{still_called}
 use Rattle.vt_spec.specs.Language.Calls.{Call, TaskName, same_name}
 use Rattle.vt_spec.specs.Language.Script.Who.{Someone}
 use Rattle.vt_spec.specs.Lists.{Fresh, is_among, rest_of}
@@ -141,11 +142,6 @@ pub called_so : (world later : World ℕ) (names : List TaskName) → members la
     → (member : TaskName) → is_among same_name member names ≡ true → task_called later member ≡ task_called world member
 called_so world later names same member theirs = sym (called_alike names member theirs later.tasks)
     ∙ ap (find (λ (t : Task ℕ). same_name member t.name)) same ∙ called_alike names member theirs world.tasks
-
-still_called : (world later : World ℕ) (names : List TaskName) → members later names ≡ members world names
-    → are_all_called world names ≡ true → are_all_called later names ≡ true
-still_called world later names same there =
-    grind (arith, common_steps, list_all_from_among, called_so, any_from_among, same_name_itself, among_from_list_all)
 
 in_turn : (schedule : List Turn) (sched : Sched ℕ) (names : List TaskName) → HasItSealed sched names
     → AreOutsidersTurns sched names schedule → LeaveTheirs sched (left_by sched schedule) names

@@ -3,6 +3,7 @@ use Rattle.std.proofs.Common.{arith, ◌≡◌, refl, sym, ap, subst, ◌∙◌,
 use Rattle.std.proofs.lemmas.Grind.{common_steps}
 use Rattle.std.specs.List.{list_any}
 use Rattle.std.proofs.lemmas.Bool.{or_cases, or_left, or_parts, or_right}
+use Rattle.vt_laws_sealed.proofs.part.part.MountsOver.{nowhere_stands, numbered}
 use Rattle.vt_spec.specs.Language.Calls.{TaskName}
 use Rattle.vt_spec.specs.Lists.{holds_of, then_some}
 use Rattle.vt_spec.specs.Machine.Invariants.{IsWorld, MountInvariants, Stands}
@@ -17,7 +18,7 @@ use Rattle.vt_laws_worlds.proofs.worlds.Reached.{namespace_below}
 use Rattle.vt_laws_sealed.proofs.part.part.PartOfPart.{is_own, keep, located}
 use Rattle.vt_laws_sealed.proofs.part.seals.ByPart.{apart_if_sealed}
 use Rattle.vt_laws_sealed.proofs.outsiders.OtherMounts.{located_there}
-use Rattle.vt_laws_members.proofs.judging.Grounds.{IsTheirs, nowhere_stands, numbered, same_mount}
+use Rattle.vt_laws_members.proofs.judging.Grounds.{IsTheirs, same_mount}
 use Rattle.vt_laws_members.proofs.judging.SeenInPart.{theirs_directly}
 use Rattle.vt_laws_members.proofs.changes.letting_go.SeeLess.{SeeLess}
 

@@ -1,45 +1,24 @@
 -- Where mounts of theirs are detached, and the rest is swept and raised, the part is what is left of the part.
-use Rattle.std.proofs.Common.{◌≡◌, refl, sym, ap, ◌∙◌, ℕ, nat_eq, Bool, true, false, List, [], filter, map, not}
+use Rattle.std.proofs.Common.{◌≡◌, sym, ap, ◌∙◌, ℕ, nat_eq, Bool, true, false, List, [], filter, map, not}
 use Rattle.std.specs.List.{list_any}
+use Rattle.vt_laws_members.proofs.namespaces.RemadeParts.{raised_part}
 use Rattle.vt_spec.specs.Language.Calls.{TaskName}
 use Rattle.vt_spec.specs.Machine.Detach.{is_going}
-use Rattle.vt_spec.specs.Machine.Filesystems.{raised, raised_if_changed}
 use Rattle.vt_spec.specs.Machine.Invariants.{IsWorld, MountInvariants}
 use Rattle.vt_spec.specs.Machine.Mounts.{Location, Mount}
 use Rattle.vt_spec.specs.Machine.Policy.{numbers_raised, raised_namespace, raised_task}
-use Rattle.vt_spec.specs.Machine.Sealed.{is_member_task, is_own_namespace, locations, members, outsiders, own_lowers, part_of, sealed, used_filesystems}
+use Rattle.vt_spec.specs.Machine.Sealed.{is_member_task, locations, members, outsiders, own_lowers, part_of, sealed, used_filesystems}
 use Rattle.vt_spec.specs.Machine.Settled.{settled}
 use Rattle.vt_spec.specs.Machine.World.{Namespace, Task, World}
-use Rattle.vt_spec.proofs.Lists.{Among, map_same}
+use Rattle.vt_spec.proofs.Lists.{Among}
 use Rattle.vt_laws_sealed.proofs.part.part.PartOfPart.{is_own}
-use Rattle.vt_laws_members.proofs.changes.tasks.Retasked.{retasked}
 use Rattle.vt_laws_members.proofs.changes.letting_go.EndedPartReady.{ended_part_ready}
 use Rattle.vt_laws_members.proofs.changes.letting_go.EndedRaised.{raised_alike}
 use Rattle.vt_laws_members.proofs.changes.letting_go.EndedReady.{ended_ready}
-use Rattle.vt_laws_members.proofs.changes.letting_go.Ends.{raised_members, raised_sees}
+use Rattle.vt_laws_members.proofs.changes.letting_go.Ends.{raised_members}
 use Rattle.vt_laws_members.proofs.changes.letting_go.LessSeen.{one_part}
 use Rattle.vt_laws_members.proofs.changes.letting_go.NamespaceLess.{SetIsLess, ended, ended_less, ended_part}
 use Rattle.vt_laws_members.proofs.changes.letting_go.Sweep.{part_of_settled, swept_of}
-
--- the part of a world after the last step
-raised_part : (before w : World ℕ) (set : List TaskName) (name : TaskName)
-    → part_of nat_eq (numbers_raised nat_eq before name [] (settled nat_eq w)) set
-    ≡ record (part_of nat_eq (settled nat_eq w) set) {
-      namespaces = filter (λ (n : Namespace ℕ). is_own_namespace nat_eq w set n.number)
-          (map (raised_namespace nat_eq before (settled nat_eq w)) w.namespaces);
-      tasks = filter (is_member_task set) (map (raised_task name) w.tasks);
-    }
-raised_part before w set name = (λ i. part_of nat_eq (record renamed {
-  filesystems = map_same (raised_if_changed nat_eq []) (settled nat_eq w).filesystems (λ f m. refl) i;
-  tasks = map (raised_task name) w.tasks;
-  change = raised w.change;
-}) set) ∙ retasked renamed set set (map (raised_task name) w.tasks) (raised w.change)
-    (raised_sees renamed set name (raised w.change))
-  where
-    renamed : World ℕ
-    renamed = record (settled nat_eq w) {
-      namespaces = map (raised_namespace nat_eq before (settled nat_eq w)) w.namespaces;
-    }
 
 module _ (world : World ℕ) (names : List TaskName) (is : IsWorld nat_eq world)
     (sealed_off : sealed nat_eq world names ≡ true) (set : List TaskName) (gone : List ℕ)

@@ -5,12 +5,13 @@ use Rattle.std.specs.List.{cons_option, filter_map, list_any}
 use Rattle.std.proofs.lemmas.Bool.{or_left}
 use Rattle.std.proofs.lemmas.List.{length-map}
 use Rattle.std.proofs.lemmas.Option.{same_Some}
+use Rattle.vt_laws_mounts.proofs.GroupsUp.{source_from_group}
 use Rattle.vt_spec.specs.Language.Calls.{TaskName}
 use Rattle.vt_spec.specs.Lists.{chain, holds_of, same_list, same_option, then_some}
 use Rattle.vt_spec.specs.Machine.Detach.{after_going, is_going}
 use Rattle.vt_spec.specs.Machine.Filesystems.{raised}
 use Rattle.vt_spec.specs.Machine.Invariants.{IsWorld}
-use Rattle.vt_spec.specs.Machine.Mounts.{Mount, Propagation, group_of, same_location, source_of}
+use Rattle.vt_spec.specs.Machine.Mounts.{Mount, Propagation, same_location, source_of}
 use Rattle.vt_spec.specs.Machine.Mounts.Propagation.{Private, Shared, Slave, Unbindable}
 use Rattle.vt_spec.specs.Machine.Policy.{master_above, raised_namespace, same_flags, same_mount, same_mounts_in, same_propagation}
 use Rattle.vt_spec.specs.Machine.Receives.{groups_up, has_members, heir, inherited, is_member_of, slave_of_heir}
@@ -68,9 +69,6 @@ space_same b t u w x gone m = grind (arith, common_steps, ended_by)
 kind_after : (b : Bool) (t w : World ℕ) (gone : List ℕ) (m : Mount ℕ) → is_going nat_eq gone m.number ≡ false
     → (ended_mount b t w gone m).propagation ≡ cond b (inherited nat_eq t m.propagation) m.propagation
 kind_after b t w gone m e = grind (arith, common_steps, ended_by)
-
-member_source : (kind : Propagation ℕ) (g : ℕ) → group_of kind ≡ Some g → source_of kind ≡ Some g
-member_source kind g e = grind (arith, common_steps, none_is_some)
 
 pub raised_number : (before after : World ℕ) (n : Namespace ℕ)
     → (raised_namespace nat_eq before after n).number ≡ n.number
@@ -204,7 +202,7 @@ module _ (world : World ℕ) (names : List TaskName) (is : IsWorld nat_eq world)
       let is_in = ap (is_member_of nat_eq g) (sym z.2) ∙ y.2 in
       let was = member_was b t_part part gone g z.0 is_in in
       let own = part_source world names is sealed_off z.0 z.1 g
-      (member_source z.0.propagation g (member_group g z.0 was)) in
+      (source_from_group z.0.propagation g (member_group g z.0 was)) in
       let from = among-from_filter (is_own_mount nat_eq world names) world.mounts z.0 own in
       let alike = mount_alike world names is sealed_off gone own_go b z.0 own in
       lives_on v t_world world z.0 (among-map after world.mounts z.0 from.0)

@@ -1,9 +1,10 @@
 -- The filesystems that nothing uses are in no part.
-use Rattle.std.proofs.Common.{arith, ◌≡◌, refl, sym, ap, ◌∙◌, inl, inr, ⊎_elim, ℕ, nat_eq, Bool, true, false, cond, true≢false, List, [], ◌∷◌, ◌++◌, Option, Some, None, filter, find, flat_map, ◌&&◌, ◌||◌, eq-eqb, eqb-true}
+use Rattle.std.proofs.Common.{arith, ◌≡◌, refl, sym, ap, ◌∙◌, inl, inr, ⊎_elim, ℕ, nat_eq, Bool, true, false, cond, true≢false, List, [], ◌∷◌, ◌++◌, Some, None, filter, find, flat_map, ◌&&◌, ◌||◌, eq-eqb, eqb-true}
 use Rattle.std.proofs.lemmas.Grind.{common_steps}
 use Rattle.std.specs.Prelude.{unwrap_or}
-use Rattle.std.specs.List.{filter_map, list_any}
+use Rattle.std.specs.List.{list_any}
 use Rattle.std.proofs.lemmas.Bool.{and_from, and_parts, false_from_ne_true, or_cases, or_left, or_right}
+use Rattle.vt_laws_sealed.proofs.outsiders.FilesystemsSwept.{filter_map_filtered}
 use Rattle.vt_spec.specs.FileTree.{FileTree}
 use Rattle.vt_spec.specs.Language.Calls.{TaskName}
 use Rattle.vt_spec.specs.Lists.{is_among, when}
@@ -22,13 +23,6 @@ use Rattle.vt_laws_members.proofs.judging.Locks.{has_layer}
 -- each world shows what it shows
 pub sees_itself : (a : World ℕ) (set : List TaskName) → SeesTheSame a a set
 sees_itself a set = grind (arith, common_steps)
-
--- what a filter takes is not kept, and what it leaves is kept alike
-kept_filtered : {A B : Type 0} (k later : A → Option B) (p : A → Bool) (xs : List A)
-    → ((x : A) → Among x xs → p x ≡ true → later x ≡ k x) → ((x : A) → Among x xs → p x ≡ false → k x ≡ None)
-    → filter_map later (filter p xs) ≡ filter_map k xs
-kept_filtered k later p [] same none = refl
-kept_filtered k later p (x ∷ xs) same none = grind (arith, common_steps, kept_filtered k later p xs)
 
 module _ (a : World ℕ) (set : List TaskName) (used : List ℕ) (lowers : List (Layer ℕ))
     (it : Ready a set used lowers) where
@@ -105,7 +99,7 @@ module _ (a : World ℕ) (set : List TaskName) (used : List ℕ) (lowers : List 
     mounts = refl;
     masters = λ group e. refl;
     direct = λ number m. found_alive number (direct_alive number (among_from_contains direct number m));
-    filesystems = kept_filtered (shown_of a used_there lowers_there) (shown_of living used_there lowers_there)
+    filesystems = filter_map_filtered (shown_of a used_there lowers_there) (shown_of living used_there lowers_there)
         (filesystem_lives nat_eq a) a.filesystems
         (λ x m lives. ap (λ (f : Filesystem ℕ). cond (is_among nat_eq x.number used_there) (Some x)
         (when (has_lower x.number) (lowered f.files x))) (found_alive x.number lives))

@@ -4,22 +4,23 @@ use Rattle.std.proofs.lemmas.Grind.{common_steps}
 use Rattle.std.specs.Prelude.{option_map}
 use Rattle.std.specs.List.{filter_map, list_any}
 use Rattle.std.proofs.lemmas.Bool.{and_parts, or_cases, or_left, or_right}
+use Rattle.vt_laws_mounts.proofs.GroupsUp.{source_from_group}
+use Rattle.vt_laws_sealed.proofs.part.part.MountsOver.{numbered}
 use Rattle.vt_spec.specs.Language.Calls.{TaskName}
 use Rattle.vt_spec.specs.Lists.{holds_of, then_some, when}
 use Rattle.vt_spec.specs.Machine.Detach.{after_going, is_going, mount_point_left}
 use Rattle.vt_spec.specs.Machine.Invariants.{IsWorld, is_nowhere_or_attached, is_private}
-use Rattle.vt_spec.specs.Machine.Mounts.{Location, Mount, Propagation, detached, group_of, source_of}
+use Rattle.vt_spec.specs.Machine.Mounts.{Location, Mount, detached}
 use Rattle.vt_spec.specs.Machine.Receives.{is_member_of}
 use Rattle.vt_spec.specs.Machine.Sealed.{is_at, is_member_task, is_own_mount, locations, members, own_mounts, part_of, roots_and_directories, sealed, seen_by_descriptor, used_directly}
 use Rattle.vt_spec.specs.Machine.World.{Namespace, Task, World, locations_of, mount_at, mount_numbered}
 use Rattle.vt_spec.proofs.Lists.{Among, among-append, among-append_left, among-append_right, among-filter, among-flat_map, among-from_filter, among-from_flat_map, among-from_map, among-map, among_from_list_all, any_among, any_from_among, pair-map}
-use Rattle.vt_spec.proofs.Options.{none_is_some}
 use Rattle.vt_laws_mounts.specs.Mounts.Invariants.{OneNumberEach}
 use Rattle.vt_laws_mounts.proofs.mounts.MountsReplaced.{found_itself}
 use Rattle.vt_laws_sealed.proofs.part.Kept.{filter_map_map, filter_map_same}
 use Rattle.vt_laws_sealed.proofs.part.groups.ReceiversAlike.{member_group}
 use Rattle.vt_laws_sealed.proofs.part.part.PartOfPart.{is_own, keep, kept_whole}
-use Rattle.vt_laws_members.proofs.judging.Grounds.{IsGround, IsTheirs, numbered}
+use Rattle.vt_laws_members.proofs.judging.Grounds.{IsGround, IsTheirs}
 use Rattle.vt_laws_members.proofs.judging.SeenInPart.{directory_theirs, root_theirs, theirs_directly}
 use Rattle.vt_laws_sealed.proofs.outsiders.SeenLater.{shown_at}
 use Rattle.vt_laws_members.proofs.changes.letting_go.Changed.{mount_under}
@@ -70,9 +71,6 @@ private_alike b t u w x gone m e none = grind (arith, common_steps, true≢false
 pub stub_stays : (b : Bool) (t w : World ℕ) (gone : List ℕ) (m : Mount ℕ)
     → ended_mount b t w gone (seen_by_descriptor m) ≡ seen_by_descriptor m
 stub_stays b t w gone m = grind (arith, common_steps)
-
-source_from : (kind : Propagation ℕ) (g : ℕ) → group_of kind ≡ Some g → source_of kind ≡ Some g
-source_from kind g e = grind (arith, common_steps, none_is_some)
 
 -- a mount where they stand is theirs, or in no namespace
 pub stands_on : (world : World ℕ) (names : List TaskName) (is : IsWorld nat_eq world) (m : Mount ℕ)
@@ -380,7 +378,7 @@ module _ (world : World ℕ) (names : List TaskName) (is : IsWorld nat_eq world)
       let is_in = member_was b t_world world gone group from.0 (ap (is_member_of nat_eq group) (sym from.2) ∙ y.2) in
       master_alike world names is sealed_off gone own_go b group (heard_by_own world names is sealed_off from.0
       (among-filter (is_own_mount nat_eq world names) world.mounts from.0 from.1 was.1) group
-      (source_from from.0.propagation group (member_group group from.0 is_in)))
+      (source_from_group from.0.propagation group (member_group group from.0 is_in)))
 
   abbrev spaces : List (Task ℕ) → Namespace ℕ → Bool
   spaces ts n = list_any (λ (t : Task ℕ). nat_eq n.number t.namespace) ts

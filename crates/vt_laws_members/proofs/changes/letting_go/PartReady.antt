@@ -3,6 +3,7 @@ use Rattle.std.proofs.Common.{arith, ◌≡◌, refl, sym, ap, subst, ◌∙◌,
 use Rattle.std.proofs.lemmas.Grind.{common_steps}
 use Rattle.std.specs.List.{list_any}
 use Rattle.std.proofs.lemmas.Bool.{or_left, or_right}
+use Rattle.vt_laws_sealed.proofs.part.part.MountsOver.{nowhere_stands}
 use Rattle.vt_spec.specs.Language.Calls.{TaskName}
 use Rattle.vt_spec.specs.Lists.{holds_of}
 use Rattle.vt_spec.specs.Machine.Invariants.{IsWorld}
@@ -16,7 +17,7 @@ use Rattle.vt_laws_mounts.specs.Mounts.Invariants.{OneNumberEach}
 use Rattle.vt_laws_sealed.proofs.part.part.Observed.{lowers_same, used_same}
 use Rattle.vt_laws_sealed.proofs.part.part.PartOfPart.{is_own, keep, kept_how, kept_whole}
 use Rattle.vt_laws_sealed.proofs.outsiders.SeenLater.{shown_at}
-use Rattle.vt_laws_members.proofs.judging.Grounds.{IsTheirs, nowhere_stands}
+use Rattle.vt_laws_members.proofs.judging.Grounds.{IsTheirs}
 use Rattle.vt_laws_members.proofs.judging.MountPoints.{part_mount}
 use Rattle.vt_laws_members.proofs.judging.MountTrees.{part_one_number}
 use Rattle.vt_laws_members.proofs.changes.letting_go.Changed.{LetsGo, ground_is, ground_whole, owned_same, mount_parent, placed_on, sees_less}

@@ -5,11 +5,13 @@ use Rattle.std.specs.Prelude.{option_map}
 use Rattle.std.specs.List.{list_any}
 use Rattle.std.proofs.lemmas.Bool.{and_parts, false_from_ne_true}
 use Rattle.std.proofs.lemmas.List.{length-map}
+use Rattle.vt_laws_mounts.proofs.GroupsUp.{source_from_group}
+use Rattle.vt_laws_sealed.proofs.part.part.MountsOver.{numbered}
 use Rattle.vt_spec.specs.Language.Calls.{TaskName}
 use Rattle.vt_spec.specs.Lists.{holds_of, then_some}
 use Rattle.vt_spec.specs.Machine.Detach.{after_going, is_going, mount_point_left, mount_point_of_parent}
 use Rattle.vt_spec.specs.Machine.Invariants.{HasLivingGroups, IsWorld, is_nowhere_or_attached, is_private}
-use Rattle.vt_spec.specs.Machine.Mounts.{Location, Mount, Propagation, detached, group_of, source_of}
+use Rattle.vt_spec.specs.Machine.Mounts.{Location, Mount, Propagation, detached, source_of}
 use Rattle.vt_spec.specs.Machine.Mounts.Propagation.{Private, Shared, Slave, Unbindable}
 use Rattle.vt_spec.specs.Machine.Receives.{groups_up, has_members, heir, inherited, inheriting, is_lost_group, is_member_of, lost_a_group, regrouped_by}
 use Rattle.vt_spec.specs.Machine.Sealed.{shares_no_events, is_own_mount, is_own_namespace, members, other_mounts, own_mounts, part_of, sealed}
@@ -20,12 +22,12 @@ use Rattle.vt_spec.proofs.Truths.{same_truth}
 use Rattle.vt_laws_sealed.proofs.part.groups.EventsApart.{members_of, none_hears, sides}
 use Rattle.vt_laws_sealed.proofs.part.groups.ReceiversAlike.{OtherLives, member_group, none_other, other_above, same_up, start_hears}
 use Rattle.vt_laws_sealed.proofs.part.part.PartOfPart.{is_own}
-use Rattle.vt_laws_members.proofs.judging.Grounds.{IsTheirs, numbered, parent_theirs, same_mount, up_alike}
+use Rattle.vt_laws_members.proofs.judging.Grounds.{IsTheirs, parent_theirs, same_mount, up_alike}
 use Rattle.vt_laws_members.proofs.judging.MountTrees.{own_theirs}
 use Rattle.vt_laws_members.proofs.changes.letting_go.Heard.{IsHeard, above_heard, apart, heard_by_own, master_same, own_in_part, part_source, private_source, up_heard}
 
 -- a search by tests that agree
-find_alike : (p q : ℕ → Bool) (xs : List ℕ) → ((x : ℕ) → Among x xs → p x ≡ q x) → find p xs ≡ find q xs
+pub find_alike : (p q : ℕ → Bool) (xs : List ℕ) → ((x : ℕ) → Among x xs → p x ≡ q x) → find p xs ≡ find q xs
 find_alike p q [] same = refl
 find_alike p q (x ∷ xs) same = cc (same x (inl refl), find_alike p q xs (λ y m. same y (inr m)))
 
@@ -55,9 +57,6 @@ one_side p (Some n) h g = true≢false (sym g ∙ ap not h)
 -- a mount without a source has lost no group
 unlost_none : (t : World ℕ) (m : Mount ℕ) → source_of m.propagation ≡ None → lost_a_group nat_eq t m ≡ false
 unlost_none t m e = ap (λ o. is_lost_group nat_eq t o || is_lost_group nat_eq t (then_some o t.master)) e
-
-member_source : (kind : Propagation ℕ) (g : ℕ) → group_of kind ≡ Some g → source_of kind ≡ Some g
-member_source kind g e = grind (arith, common_steps, none_is_some)
 
 module _ (world : World ℕ) (names : List TaskName) (is : IsWorld nat_eq world)
     (sealed_off : sealed nat_eq world names ≡ true) (gone : List ℕ)
@@ -114,7 +113,7 @@ module _ (world : World ℕ) (names : List TaskName) (is : IsWorld nat_eq world)
       let from = among-from_map cut_there part.mounts at.0 at.1 in
       let its = cut_member part g from.0 (ap (is_member_of nat_eq g) (sym from.2) ∙ at.2) in
       let own = part_source world names is sealed_off from.0 from.1 g
-      (member_source from.0.propagation g (member_group g from.0 its.0)) in
+      (source_from_group from.0.propagation g (member_group g from.0 its.0)) in
       any_from_among (is_member_of nat_eq g) left.mounts (cut from.0) (among-map cut world.mounts from.0
       (among-from_filter (is_own_mount nat_eq world names) world.mounts from.0 own).0)
       (stays_member world g from.0 its.1 its.0))

@@ -3,6 +3,8 @@ use Rattle.std.proofs.Common.{arith, ◌≡◌, refl, sym, ap, subst, ◌∙◌,
 use Rattle.std.proofs.lemmas.Grind.{common_steps}
 use Rattle.std.specs.Prelude.{⊤, IfOk, is_ok}
 use Rattle.std.proofs.lemmas.Bool.{or_parts}
+use Rattle.vt_laws_members.proofs.detached.lazily.GoingAlike.{going_alike, going_own}
+use Rattle.vt_laws_sealed.proofs.part.part.MountsOver.{nowhere_stands, numbered}
 use Rattle.vt_spec.specs.Errors.{Rules, unless}
 use Rattle.vt_spec.specs.Language.Answers.Answer.{Done}
 use Rattle.vt_spec.specs.Language.Calls.{Call, TaskName}
@@ -25,8 +27,8 @@ use Rattle.vt_spec.proofs.Lists.{Among, among-from_filter_map, among_numbers, no
 use Rattle.vt_laws_mounts.proofs.ends.Ending.{unmount_keeps_mounts}
 use Rattle.vt_laws_sealed.proofs.part.part.PartOfPart.{is_own, keep, kept_how}
 use Rattle.vt_laws_members.specs.Judging.{is_theirs}
-use Rattle.vt_laws_members.proofs.judging.Busy.{going_alike, going_own}
-use Rattle.vt_laws_members.proofs.judging.Grounds.{IsTheirs, nowhere_stands, numbered, same_mount, theirs_from}
+use Rattle.vt_laws_members.proofs.judging.Busy.{no_events}
+use Rattle.vt_laws_members.proofs.judging.Grounds.{IsTheirs, same_mount, theirs_from}
 use Rattle.vt_laws_members.specs.Changes.Changes.{EndAlike, EndsAlike, IsCallOfTheirs, grown}
 use Rattle.vt_laws_members.specs.Changes.LettingGo.{UmountsEndAlike}
 use Rattle.vt_laws_members.proofs.changes.looks.Granted.{of_rules, of_walk}
@@ -86,7 +88,7 @@ module _ (world : World ℕ) (names : List TaskName) (is : IsWorld nat_eq world)
   own_go : (m : Mount ℕ) → Among m world.mounts → is_going nat_eq (going nat_eq world mount) m.number ≡ true
       → is_own world names (members world names) m ≡ true
   own_go m n h =
-      let its = going_own world names is sealed_off mount m.number there own
+      let its = going_own world names is.mounts (no_events world names is sealed_off) mount m.number there own
       (among_numbers (going nat_eq world mount) m.number h) in
       let same : its.0 ≡ m = sym (numbered world names is.mounts its.0 its.1) ∙ ap (mount_numbered nat_eq world) its.3
       ∙ numbered world names is.mounts m n in
@@ -123,7 +125,7 @@ module _ (world : World ℕ) (names : List TaskName) (name : TaskName) (call : C
           (ap (λ (m : Mount ℕ). m.namespace) is_it ∙ none) e
 
   same_going : going nat_eq there (mount_numbered nat_eq there number) ≡ going nat_eq world mount_of
-  same_going = grind (arith, common_steps, same_mount, theirs, going_alike, mount_there, mount_own)
+  same_going = grind (arith, common_steps, same_mount, theirs, going_alike world names it.is.mounts (no_events world names it.is it.sealed_off), mount_there, mount_own)
 
   pub alone_there : has_child nat_eq there number ≡ false
   alone_there = none_from_among (stands_on nat_eq number) there.mounts (λ y m.

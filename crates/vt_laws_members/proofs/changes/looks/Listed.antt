@@ -2,6 +2,7 @@
 use Rattle.std.proofs.Common.{arith, ◌≡◌, refl, sym, ap, ◌∙◌, ⊎_elim, ℕ, nat_eq, Bool, true, List, ◌∷◌, Option, Some, None, map, eq-eqb}
 use Rattle.std.proofs.lemmas.Grind.{common_steps}
 use Rattle.std.specs.Prelude.{option_map, option_to_list}
+use Rattle.vt_laws_sealed.proofs.part.part.MountsOver.{numbered}
 use Rattle.vt_spec.specs.Language.Answers.{Spot}
 use Rattle.vt_spec.specs.Language.Calls.{TaskName}
 use Rattle.vt_spec.specs.Lists.{each_once, holds_of, is_among}
@@ -16,7 +17,7 @@ use Rattle.vt_spec.proofs.Lists.{Among, among-filter, among-from_filter, any_fro
 use Rattle.vt_laws_mounts.proofs.letting_go.Lists.{flat_map_alike}
 use Rattle.vt_laws_sealed.proofs.part.Kept.{filter_kept}
 use Rattle.vt_laws_sealed.proofs.part.part.PartOfPart.{found, is_own, keep, kept_how}
-use Rattle.vt_laws_members.proofs.judging.Grounds.{IsTheirs, numbered, parent_theirs}
+use Rattle.vt_laws_members.proofs.judging.Grounds.{IsTheirs, parent_theirs}
 use Rattle.vt_laws_members.proofs.judging.MountPoints.{in_own}
 use Rattle.vt_laws_members.proofs.judging.MountTrees.{own_theirs, own_whole}
 use Rattle.vt_laws_members.proofs.judging.SeenInPart.{filesystem_alike, mount_alike, theirs_used}

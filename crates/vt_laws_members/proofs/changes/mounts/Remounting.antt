@@ -32,7 +32,7 @@ use Rattle.vt_laws_members.proofs.changes.tasks.Denied.{denial_ends_alike, run_b
 use Rattle.vt_laws_members.proofs.changes.letting_go.Moving.{StandsHere, at_directory, one}
 use Rattle.vt_laws_members.proofs.changes.letting_go.PartMounts.{part_mounts}
 use Rattle.vt_laws_members.proofs.changes.letting_go.Umounting.{of_passed}
-use Rattle.vt_laws_members.proofs.changes.mounts.FlagsLeft.{later, later_part, parts_left}
+use Rattle.vt_laws_members.proofs.changes.mounts.FlagsLeft.{flags_left, later, later_part}
 use Rattle.vt_laws_members.proofs.changes.part.SettledPart.{part_in_use}
 
 -- What a granted remount sets
@@ -118,7 +118,7 @@ module _ (world : World ℕ) (names : List TaskName) (name : TaskName) (path : L
       (subst (λ o. EndAlike (grown names name (Remount path flags) o.answer) o
       (granted Done (numbers_raised nat_eq there name [] now_there))) (sym first) (record {
         answer = refl;
-        part = parts_left world names it.is it.sealed_off mount_of mount_there own flags name;
+        part = flags_left world names it.is it.sealed_off mount_of mount_there own flags name;
       }))
 
 pub remounts_end_alike : RemountsEndAlike

@@ -1,5 +1,5 @@
 -- What a granted call of theirs that makes, gives or takes a name asks of a plain tree.
-use Rattle.std.proofs.Common.{arith, ◌≡◌, refl, sym, ap, subst, ◌∙◌, ⊎_elim, ℕ, nat_eq, eqb-true, eq-eqb, true, false, true≢false, List, [], ◌∷◌, Some, Ok, is_some, map, ◌&&◌}
+use Rattle.std.proofs.Common.{arith, ◌≡◌, refl, sym, ap, subst, ◌∙◌, ⊎_elim, ℕ, nat_eq, eq-eqb, true, false, true≢false, List, Some, Ok, is_some, map, ◌&&◌}
 use Rattle.std.proofs.lemmas.Grind.{common_steps}
 use Rattle.std.proofs.lemmas.Bool.{or_cases}
 use Rattle.vt_spec.specs.FileTree.{FileTree}
@@ -54,17 +54,6 @@ module _ (world : World ℕ) (old : Filesystem ℕ) (files : FileTree ℕ) (plai
   pub tree_changes : (after : World ℕ) → ChangesFilesystem after lost old (with_files old files)
   tree_changes after =
       grind (arith, common_steps, all_pass, or_first, passes, or_second, lost_name, or_cases, no_objects)
-
-  -- they are of it
-  pub lost_here : (number object : ℕ) → nat_eq old.number number ≡ false → is_inode_among number object lost ≡ false
-  lost_here number object e = by unnamed
-    where
-      apart : nat_eq number old.number ≡ false
-      apart = grind (arith, common_steps, true≢false, eq-eqb, eqb-true)
-
-      by : (list : List ℕ) → is_inode_among number object (map (λ inode. (old.number, inode)) list) ≡ false
-      by [] = refl
-      by (first ∷ rest) = cc (apart, by rest)
 
 -- A call that is granted
 module _ (world : World ℕ) (names : List TaskName) (name : TaskName) (call : Call) (is : IsWorld nat_eq world)

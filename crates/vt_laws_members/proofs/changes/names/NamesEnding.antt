@@ -23,14 +23,13 @@ use Rattle.vt_spec.specs.Machine.World.{Filesystem, Task, World, filesystem_at, 
 use Rattle.vt_laws_rules.specs.Granted.{IsGranted}
 use Rattle.vt_laws_rules.specs.Granted.IsGranted.{makes_hard_link, unlinks}
 use Rattle.vt_laws_rules.proofs.given.Inversion.{calls_are_granted}
-use Rattle.vt_laws_mounts.specs.LettingGo.FileChanges.{names_lost}
 use Rattle.vt_laws_worlds.specs.OverlayPermits.Asked.{change_asked}
 use Rattle.vt_laws_members.proofs.judging.Grounds.{IsTheirs, theirs_from}
 use Rattle.vt_laws_members.proofs.judging.SeenInPart.{filesystem_alike, theirs_used}
 use Rattle.vt_laws_members.specs.Changes.Changes.{EndsAlike, IsCallOfTheirs, grown}
 use Rattle.vt_laws_members.specs.Changes.NameChanges.{LinksEndAlike, MkdirsEndAlike, NewFilesEndAlike, PlainMakingEndsAlike, SymlinksEndAlike, UnlinksEndAlike, WhiteoutsEndAlike}
 use Rattle.vt_laws_members.proofs.changes.looks.Told.{member_called, ran}
-use Rattle.vt_laws_members.proofs.changes.names.AskedNames.{changes_so, lost, lost_here, old_alone, tree_changes}
+use Rattle.vt_laws_members.proofs.changes.names.AskedNames.{old_alone}
 use Rattle.vt_laws_members.proofs.changes.names.GrantedNames.{Names, granted_theirs}
 use Rattle.vt_laws_members.proofs.changes.names.TreesEnding.{plain_run, tree_ends, with_tree}
 use Rattle.vt_laws_members.proofs.changes.tasks.Denied.{run_by, same_judgement}
@@ -85,14 +84,8 @@ module _ (world : World ℕ) (names : List TaskName) (name : TaskName) (call : C
   pub naming_ends : ran name call world fresh (Some task) ≡ with_tree world name old (changed nat_eq old.files change)
       → ran name call part other (Some task) ≡ with_tree part name old (changed nat_eq old.files change)
       → EndsAlike world names name call fresh other
-  naming_ends =
-      let so = changes_so world names name call it.is it.sealed_off task found served serves permit judged location
-      change asks names_it in
-      tree_ends world names name call it fresh other task found stays location plain used naming_alone
+  naming_ends = tree_ends world names name call it fresh other task found stays location used naming_alone
       (changed nat_eq old.files change)
-      (lost world old (changed nat_eq old.files change) plain (names_lost old.files change) so)
-      (tree_changes world old (changed nat_eq old.files change) plain (names_lost old.files change) so)
-      (lost_here world old (changed nat_eq old.files change) plain (names_lost old.files change) so)
 
 -- a change of names at a location, in a call that needs no number
 module _ (world : World ℕ) (names : List TaskName) (name : TaskName) (call : Call)

@@ -110,8 +110,7 @@ new_opens_end_alike world names name path access how it task found fresh serves 
         (old.number ∷ []) w
     moves w in_use one used_there = record {
       in_use = in_use_changed w in_use (swap old files)
-          (swap_changes w in_use old files plain [] (tree_changes world old files plain [] none_lost)
-          (λ number object e. refl) one);
+          (swap_changes w old files [] (tree_changes world old files plain [] none_lost) one);
       part_moved = part_with_files w names (both old files) (both_numbered old files)
           (λ x m. both_overlaid old files x (one x m)) (λ x unused. kept x unused (nat_eq old.number x.number) refl);
     }

@@ -4,6 +4,7 @@ use Rattle.std.proofs.Common.{arith, ◌≡◌, refl, sym, ap, ◌∙◌, ⊎_el
 use Rattle.std.proofs.lemmas.Grind.{common_steps}
 use Rattle.std.specs.List.{list_all, list_any}
 use Rattle.std.proofs.lemmas.Bool.{false_from_ne_true, or_from}
+use Rattle.vt_laws_mounts.proofs.GroupsUp.{source_from_group}
 use Rattle.vt_spec.specs.Language.Calls.{TaskName}
 use Rattle.vt_spec.specs.Lists.{holds_of}
 use Rattle.vt_spec.specs.Machine.Detach.{is_going}
@@ -25,10 +26,6 @@ use Rattle.vt_laws_members.proofs.changes.letting_go.Heard.{IsHeard, above_heard
 use Rattle.vt_laws_members.proofs.changes.letting_go.NamespaceLess.{ended, ended_by, ended_mount, ended_part, member_was, placed_so}
 use Rattle.vt_laws_members.proofs.changes.letting_go.Regrouped.{left, left_part, master_after}
 use Rattle.vt_laws_members.proofs.changes.letting_go.Taken.{all_last, set_stays}
-
--- a member receives from its group
-group_source : (kind : Propagation ℕ) (g : ℕ) → group_of kind ≡ Some g → source_of kind ≡ Some g
-group_source kind g e = grind (arith, common_steps, none_is_some)
 
 module _ (world : World ℕ) (names : List TaskName) (is : IsWorld nat_eq world)
     (sealed_off : sealed nat_eq world names ≡ true) (gone : List ℕ)
@@ -152,14 +149,14 @@ module _ (world : World ℕ) (names : List TaskName) (is : IsWorld nat_eq world)
       among-filter (λ (q : Mount ℕ). holds_of IsOther q.namespace) world.mounts u.0 u.1 u.4 in
       or_from (receives_events_of nat_eq here y z) (receives_events_of nat_eq here z y)
       (hears_not (IsHeard world names is sealed_off) y z (λ g e. heard_by_own world names is sealed_off x.0 mine g
-      (group_source x.0.propagation g (group_was x.0 g (ap (λ (q : Mount ℕ). group_of q.propagation) (sym x.2) ∙ e))))
+      (source_from_group x.0.propagation g (group_was x.0 g (ap (λ (q : Mount ℕ). group_of q.propagation) (sym x.2) ∙ e))))
       (λ g e. master_reached (IsHeard world names is sealed_off) (above_heard world names is sealed_off) x.0 x.3
       (heard_by_own world names is sealed_off x.0 mine) g
       (ap (λ (q : Mount ℕ). master_of here q.propagation) (sym x.2) ∙ e))
       (λ g heard h. none_hears world names is.mounts events g u.0 heard.0 other
       (member_was b t world gone g u.0 (ap (is_member_of nat_eq g) (sym u.2) ∙ h))))
       (hears_not (OtherLives world names is.mounts events) z y (λ g e. start u.0 u.1 other g
-      (group_source u.0.propagation g (group_was u.0 g (ap (λ (q : Mount ℕ). group_of q.propagation) (sym u.2) ∙ e))))
+      (source_from_group u.0.propagation g (group_was u.0 g (ap (λ (q : Mount ℕ). group_of q.propagation) (sym u.2) ∙ e))))
       (λ g e. master_reached (OtherLives world names is.mounts events)
       (other_above world names is.mounts events) u.0 u.3
       (start u.0 u.1 other) g (ap (λ (q : Mount ℕ). master_of here q.propagation) (sym u.2) ∙ e))

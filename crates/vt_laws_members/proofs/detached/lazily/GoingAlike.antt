@@ -23,9 +23,9 @@ use Rattle.vt_laws_worlds.proofs.worlds.Reached.{namespace_below}
 use Rattle.vt_laws_sealed.specs.Part.Groups.{SharesNoEvents}
 use Rattle.vt_laws_sealed.proofs.part.Kept.{filter_both, filter_map_same}
 use Rattle.vt_laws_sealed.proofs.part.groups.ReceiversAlike.{no_event_of_theirs_reaches_others, their_groups_receive_alike}
-use Rattle.vt_laws_sealed.proofs.part.part.MountsOver.{same_child}
+use Rattle.vt_laws_sealed.proofs.part.part.MountsOver.{same_child, numbered}
 use Rattle.vt_laws_sealed.proofs.part.part.PartOfPart.{is_own, keep, kept_how, kept_whole}
-use Rattle.vt_laws_members.proofs.judging.Grounds.{IsTheirs, child_theirs, its_mount, numbered, own_by, parent_theirs, same_mount, stands_itself, theirs_whole}
+use Rattle.vt_laws_members.proofs.judging.Grounds.{IsTheirs, child_theirs, its_mount, own_by, parent_theirs, same_mount, stands_itself, theirs_whole}
 use Rattle.vt_laws_members.proofs.judging.MountTrees.{stands_where}
 
 -- a mount in no namespace receives from no group
@@ -76,7 +76,7 @@ module _ (world : World ℕ) (names : List TaskName) (invariants : MountInvarian
 
   -- Receivers
 
-  receivers_own : (mount receiver : Mount ℕ) → Among mount world.mounts → owns mount ≡ true
+  pub receivers_own : (mount receiver : Mount ℕ) → Among mount world.mounts → owns mount ≡ true
       → Among receiver (receivers_of nat_eq world mount) → Among receiver world.mounts × (owns receiver ≡ true)
   receivers_own mount receiver m own at = by (group_of mount.propagation) refl at
     where
@@ -106,7 +106,7 @@ module _ (world : World ℕ) (names : List TaskName) (invariants : MountInvarian
           let from = among-from_filter (receives nat_eq world group) world.mounts receiver at in
           (from.0, side from.0 group e from.1 receiver.namespace refl)
 
-  receivers_alike : (mount : Mount ℕ) → Among mount world.mounts → owns mount ≡ true
+  pub receivers_alike : (mount : Mount ℕ) → Among mount world.mounts → owns mount ≡ true
       → receivers_of nat_eq part mount ≡ receivers_of nat_eq world mount
   receivers_alike mount m own = by (group_of mount.propagation) refl
     where

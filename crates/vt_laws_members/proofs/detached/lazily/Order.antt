@@ -2,6 +2,7 @@
 use Rattle.std.proofs.lemmas.Grind.{common_steps}
 use Rattle.std.proofs.Common.{◌≡◌, refl, sym, ap, subst, ◌∙◌, inl, inr, ⊎_elim, ℕ, zero, suc, nat_eq, arith, true, List, [], ◌∷◌, Option, Some, None, length, ◌≤◌}
 use Rattle.std.specs.Prelude.{if◌then◌else◌, nat_lt}
+use Rattle.vt_laws_sealed.proofs.part.part.MountsOver.{numbered}
 use Rattle.vt_spec.specs.Language.Calls.{TaskName}
 use Rattle.vt_spec.specs.Lists.{folded}
 use Rattle.vt_spec.specs.Machine.Detach.{depth_of, insert_deepest}
@@ -16,7 +17,7 @@ use Rattle.vt_laws_mounts.specs.Mounts.Standing.{AllStand}
 use Rattle.vt_laws_mounts.proofs.ends.EndingOrder.{among_inserted, from_tree, taken_in_turn}
 use Rattle.vt_laws_mounts.proofs.mounts.Standing.{depth_by_rank, rank, rank_child}
 use Rattle.vt_laws_sealed.proofs.part.part.PartOfPart.{is_own}
-use Rattle.vt_laws_members.proofs.judging.Grounds.{IsTheirs, numbered, parent_theirs, same_mount}
+use Rattle.vt_laws_members.proofs.judging.Grounds.{IsTheirs, parent_theirs, same_mount}
 use Rattle.vt_laws_members.proofs.judging.MountTrees.{child_own, own_theirs, tree_alike}
 use Rattle.vt_laws_members.proofs.changes.letting_go.PartMounts.{part_mounts}
 

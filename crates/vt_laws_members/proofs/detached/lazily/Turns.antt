@@ -4,6 +4,7 @@ use Rattle.std.specs.List.{list_any}
 use Rattle.std.proofs.lemmas.Bool.{or_cases}
 use Rattle.std.proofs.lemmas.List.{append-nil, append_assoc}
 use Rattle.std.proofs.lemmas.List.Folds.{list_any-append}
+use Rattle.vt_laws_sealed.proofs.part.part.MountsOver.{numbered}
 use Rattle.vt_spec.specs.Language.Calls.{TaskName}
 use Rattle.vt_spec.specs.Lists.{folded, holds_of}
 use Rattle.vt_spec.specs.Machine.Detach.{going, is_going, taken_away, unmounted_if_there}
@@ -18,7 +19,6 @@ use Rattle.vt_laws_mounts.proofs.letting_go.ends.NamespacesEnd.{nothing_taken}
 use Rattle.vt_laws_mounts.proofs.ends.EndingLazy.{IsUnderWay, next}
 use Rattle.vt_laws_mounts.proofs.mounts.MountsReplaced.{found_itself}
 use Rattle.vt_laws_sealed.proofs.part.part.PartOfPart.{is_own, same_members}
-use Rattle.vt_laws_members.proofs.judging.Grounds.{numbered}
 use Rattle.vt_laws_members.proofs.changes.letting_go.Heard.{own_in_part}
 use Rattle.vt_laws_members.proofs.changes.letting_go.LessSeen.{one_part}
 use Rattle.vt_laws_members.proofs.changes.letting_go.NamespaceLess.{ended_less, ended_mount, own_before, placed_so, shape_kept}

@@ -2,6 +2,7 @@
 use Rattle.std.proofs.Common.{arith, ◌≡◌, refl, sym, ap, subst, ◌∙◌, ⊎_elim, inl, ℕ, nat_eq, eq-eqb, Bool, true, false, true≢false, List, Option, Some, None, filter, flat_map, length, map, ◌&&◌}
 use Rattle.std.proofs.lemmas.Grind.{common_steps}
 use Rattle.std.specs.List.{list_any}
+use Rattle.vt_laws_sealed.proofs.part.part.MountsOver.{nowhere_stands, numbered}
 use Rattle.vt_spec.specs.Language.Calls.{TaskName}
 use Rattle.vt_spec.specs.Lists.{holds_of}
 use Rattle.vt_spec.specs.Machine.Detach.{is_going, is_point, mounts_on, points_of}
@@ -19,7 +20,7 @@ use Rattle.vt_laws_mounts.proofs.mounts.Standing.LiesIn.{itself, under}
 use Rattle.vt_laws_worlds.proofs.worlds.Reached.{namespace_below}
 use Rattle.vt_laws_sealed.proofs.part.Kept.{filter_both}
 use Rattle.vt_laws_sealed.proofs.part.part.PartOfPart.{is_own, keep, kept_how}
-use Rattle.vt_laws_members.proofs.judging.Grounds.{nowhere_stands, numbered, own_by, parent_theirs, same_mount}
+use Rattle.vt_laws_members.proofs.judging.Grounds.{own_by, parent_theirs, same_mount}
 use Rattle.vt_laws_members.proofs.judging.MountPoints.{part_mount}
 use Rattle.vt_laws_members.proofs.judging.MountTrees.{own_theirs, own_whole, tree_alike}
 use Rattle.vt_laws_members.proofs.judging.SeenInPart.{OnTheirs, filesystem_alike}

@@ -74,7 +74,7 @@ permits_fit world fresh task asked permit (writes_part number offset bytes descr
 permits_fit world fresh task asked permit other_way = tt
 
 -- on a plain filesystem, or through an overlay
-either : {P : Type 0} (b : Bool) → ((b ≡ false) → P) → ((b ≡ true) → P) → P
+pub either : {P : Type 0} (b : Bool) → ((b ≡ false) → P) → ((b ≡ true) → P) → P
 either true plain merged = merged refl
 either false plain merged = plain refl
 

@@ -20,13 +20,13 @@ use Rattle.vt_laws_mounts.proofs.letting_go.sweeps.MergedSteps.{Apart, ChosenAre
 use Rattle.vt_laws_mounts.proofs.letting_go.sweeps.OneByOne.{filesystems_go_one_by_one, groups_go_one_by_one, mounts_go_one_by_one}
 use Rattle.vt_spec.proofs.Found.{is_among_left, is_among_right}
 
-overlay_without : (gone : ℕ → Bool) (f : Filesystem ℕ) → is_overlay (without_all gone f) ≡ is_overlay f
+pub overlay_without : (gone : ℕ → Bool) (f : Filesystem ℕ) → is_overlay (without_all gone f) ≡ is_overlay f
 overlay_without gone f = grind (arith, common_steps)
 
 plain_without : (gone : ℕ → Bool) (f : Filesystem ℕ) → is_plain (without_all gone f) ≡ is_plain f
 plain_without gone f = ap not (overlay_without gone f)
 
-upper_without : (number : ℕ) (gone : ℕ → Bool) (f : Filesystem ℕ)
+pub upper_without : (number : ℕ) (gone : ℕ → Bool) (f : Filesystem ℕ)
     → has_upper_in number (without_all gone f) ≡ has_upper_in number f
 upper_without number gone f = grind (arith, common_steps)
 

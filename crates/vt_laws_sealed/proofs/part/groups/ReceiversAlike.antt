@@ -5,6 +5,7 @@ use Rattle.std.specs.Prelude.{unwrap_or}
 use Rattle.std.specs.List.{filter_map}
 use Rattle.std.proofs.lemmas.Bool.{and_parts, false_from_ne_true, not-true, or_left, or_right}
 use Rattle.std.proofs.lemmas.Option.{same_Some}
+use Rattle.vt_laws_mounts.proofs.GroupsUp.{source_from_group}
 use Rattle.vt_spec.specs.Language.Calls.{TaskName}
 use Rattle.vt_spec.specs.Lists.{holds_of, is_among, when}
 use Rattle.vt_spec.specs.Machine.Invariants.{HasLivingGroups, Lives, MountInvariants}
@@ -192,10 +193,6 @@ module _ (world : World ℕ) (names : List TaskName) (is : MountInvariants nat_e
       (λ not_own. ⊎_elim (λ other. none_in_part group x heard lives other)
       (λ none. no_source part group x none) not_own) (place_of x m))
       (λ stub. ap (receives nat_eq part group) (sym stub.0)) (kept_how world names theirs x y e))
-
--- a group of theirs lives, and a mount of theirs hears it
-source_from_group : (kind : Propagation ℕ) (group : ℕ) → group_of kind ≡ Some group → source_of kind ≡ Some group
-source_from_group kind group e = grind (arith, common_steps, none_is_some)
 
 group_lives : (world : World ℕ) (names : List TaskName) (own : Mount ℕ) (group : ℕ) → MountInvariants nat_eq world
     → Among own (own_mounts nat_eq world names) → group_of own.propagation ≡ Some group

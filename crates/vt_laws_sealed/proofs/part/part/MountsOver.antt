@@ -38,10 +38,10 @@ module _ (world : World ℕ) (names : List TaskName) (is : MountInvariants nat_e
   IsWhole number = (mount : Mount ℕ) × Among mount world.mounts × (mount.number ≡ number) × (kept mount ≡ Some mount)
       × ((is_own world names theirs mount ≡ true) ⊎ (mount.namespace ≡ None))
 
-  numbered : (mount : Mount ℕ) → Among mount world.mounts → mount_numbered nat_eq world mount.number ≡ mount
+  pub numbered : (mount : Mount ℕ) → Among mount world.mounts → mount_numbered nat_eq world mount.number ≡ mount
   numbered mount m = found_itself world.mounts is.one_number mount m
 
-  nowhere_stands : (mount : Mount ℕ) (at : Location ℕ) → Among mount world.mounts → mount.namespace ≡ None
+  pub nowhere_stands : (mount : Mount ℕ) (at : Location ℕ) → Among mount world.mounts → mount.namespace ≡ None
       → mount.mount_point ≡ Some at → ⊥
   nowhere_stands mount at m n p = grind (arith, common_steps, among_from_list_all, true≢false, and_parts)
 

@@ -207,10 +207,10 @@ module _ (fresh : Fresh ℕ) (world : World ℕ) (name : TaskName) (call : Call)
               refl,
             ))
 
-    opened_has : (file : Location ℕ) (path : List ℕ) (access : Access) (creation : Creation)
-        → call ≡ OpenFile path access creation
+    opened_has : (file : Location ℕ) (path : List ℕ) (access : Access) (how : Creation)
+        → call ≡ OpenFile path access how
         → HasOrOpens call task.descriptors (with_descriptor task file access).descriptors
-    opened_has file path access creation opens held among = grind (arith, common_steps, among_inserted)
+    opened_has file path access how opens held among = grind (arith, common_steps, among_inserted)
 
     -- what becomes of a task by each permit
     done : (permit : Permit ℕ) → judge_in nat_eq fresh world task call ≡ Ok permit

@@ -7,7 +7,7 @@ use Rattle.vt_spec.specs.FileTree.{FileTree, is_kind, is_kind_in}
 use Rattle.vt_spec.specs.Language.Changes.{changed, content_with_mark, node_with_mark, with_inode}
 use Rattle.vt_spec.specs.Language.Changes.Change.{Move}
 use Rattle.vt_spec.specs.Lists.{Fresh, then_some, when}
-use Rattle.vt_spec.specs.Machine.CopyUp.{Merge, Stack, hides_directory, merge_with_moved as moved_overlay, path_to, shown_in_lowers_at, upper_directory_named, whiteout_of, without_contents}
+use Rattle.vt_spec.specs.Machine.CopyUp.{Merge, Stack, hides_directory, merge_with_moved, path_to, shown_in_lowers_at, upper_directory_named, whiteout_of, without_contents}
 use Rattle.vt_spec.specs.Machine.Layers.{Shown, has_lower_directory, view_of}
 use Rattle.vt_spec.specs.Machine.Views
 use Rattle.vt_spec.specs.Machine.Views.{View, cuts, hides, node_led, shown_from, shown_over}
@@ -695,6 +695,6 @@ module _ (fresh : Fresh ℕ) (stack : Stack ℕ) (merge : Merge ℕ) (whole : Is
 
 pub move_keeps_shown : MoveKeepsShown
 move_keeps_shown fresh stack merge f old t new o whole stands_f stands_t stands_o vacant may alone =
-    what_is_shown stack (moved_overlay nat_eq fresh stack merge f old t new o)
+    what_is_shown stack (merge_with_moved nat_eq fresh stack merge f old t new o)
     (later_is_fine fresh stack merge whole f old t new o stands_f stands_t stands_o may vacant alone
     (is_some (shown_in_lowers_at nat_eq stack merge f old)) (hides_directory nat_eq stack merge t new) refl refl)

@@ -1,19 +1,21 @@
--- Each call is answered alike in two worlds that are alike.
-use Rattle.std.proofs.Common.{arith, ◌≡◌, refl, sym, ap, subst, ◌∙◌, ℕ, nat_eq, Bool, true, false, not, ◌||◌, List, Option, Some, None, Ok, Err, is_ok, ok_or}
-use Rattle.std.proofs.lemmas.Grind.{common_steps}
+-- Each call is answered alike in two worlds that are alike, where what is copied up is.
+use Rattle.std.proofs.Common.{◌≡◌, refl, sym, ap, subst, ◌∙◌, ℕ, nat_eq, Bool, true, false, not, ◌||◌, List, Option, Some, None, Ok, Err, is_ok, ok_or}
+use Rattle.vt_laws_rules.proofs.denials.Unchanged.{directive_changes_nothing}
 use Rattle.vt_laws_rules.proofs.given.GivenPermits.{permits_are_for_their_calls}
-use Rattle.vt_laws_rules.specs.Given.{IsFor}
-use Rattle.vt_laws_rules.proofs.judged.CallsJudged.{policy_judges_then_applies}
 use Rattle.vt_laws_rules.proofs.same.SameJudged.{plain_has_one_name}
 use Rattle.vt_laws_rules.proofs.same.SameMany.{same_worlds_judge_alike}
-use Rattle.vt_laws_trees.proofs.runs.answered.AlikeApplied.{OutcomesAlike, apply_alike, is_for_overlay}
-use Rattle.vt_laws_trees.proofs.runs.answered.AlikeChanges.{task_alike}
+use Rattle.vt_laws_rules.specs.Given.{IsFor}
+use Rattle.vt_laws_rules.specs.Plain.{IsPlain}
+use Rattle.vt_laws_trees.proofs.runs.answered.AlikeApplied.{OutcomesAlike, apply_alike}
+use Rattle.vt_laws_trees.proofs.runs.answered.AlikeChanges.{CopiesAlike, task_alike}
 use Rattle.vt_laws_trees.proofs.runs.answered.AlikeDirected.{directed_alike}
 use Rattle.vt_laws_trees.proofs.runs.answered.AlikeSettled.{raised_alike, settled_alike}
-use Rattle.vt_laws_trees.proofs.runs.answered.AlikeWorlds.{Alike, SameTask, alike_from_same, plain_from_alike, same_from_alike}
-use Rattle.vt_laws_trees.proofs.runs.Each.{IfAny}
+use Rattle.vt_laws_trees.proofs.runs.answered.AlikeWorlds.{Alike, SameTask, alike_from_same, same_from_alike}
+use Rattle.vt_laws_trees.proofs.runs.answered.PlainStays.{finished_plain, is_for_overlay, permit_plain, plain_numbered}
 use Rattle.vt_laws_trees.proofs.runs.answered.TaskChanges.{judged_bare}
+use Rattle.vt_laws_trees.proofs.runs.Each.{IfAny}
 use Rattle.vt_laws_trees.specs.Runs.Answered.{SameWorldsAreAnsweredAlike, SameWorldsAreDirectedAlike}
+use Rattle.vt_laws_trees.specs.Trees.Calls.{mounts_overlay}
 use Rattle.vt_spec.specs.declared.errors.Rule.TheVariants.{S2}
 use Rattle.vt_spec.specs.Errors.{denial}
 use Rattle.vt_spec.specs.Language.Calls.{Call, TaskName}
@@ -25,29 +27,21 @@ use Rattle.vt_spec.specs.Machine.Outcomes.{Outcome, after}
 use Rattle.vt_spec.specs.Machine.Permits.{Permit}
 use Rattle.vt_spec.specs.Machine.Permits.Permit.{ToMountOverlay}
 use Rattle.vt_spec.specs.Machine.Policy.{filesystems_changed_by, finished, finished_by, only_looks, policy}
+use Rattle.vt_spec.specs.Machine.SameWorlds.{LowerObjectsHaveOneName}
 use Rattle.vt_spec.specs.Machine.World.{Task, World, task_called}
-use Rattle.vt_laws_trees.specs.Trees.Calls.{mounts_overlay}
 
--- a permit for another call mounts no overlay
-no_overlay : (fresh : Fresh ℕ) (world : World ℕ) (task : Task ℕ) (call : Call) (permit : Permit ℕ)
-    → mounts_overlay call ≡ false → IsFor (looks_of nat_eq world) task call permit → is_for_overlay permit ≡ false
-no_overlay fresh world task call (ToMountOverlay place overlay flags) plain for = sym (ap mounts_overlay for.2) ∙ plain
-no_overlay fresh world task call permit plain for = refl
-
-module _ (fresh : Fresh ℕ) (one other : World ℕ) (same : Alike one other) (call : Call)
-    (plain : mounts_overlay call ≡ false) where
+module _ (fresh : Fresh ℕ) (one other : World ℕ) (same : Alike one other)
+    (named : LowerObjectsHaveOneName nat_eq one) (copies : CopiesAlike one other) (call : Call) where
   module _ (task again : Task ℕ) (alike : SameTask task again) where
     judged_alike : judge_in nat_eq fresh one task call ≡ judge_in nat_eq fresh other again call
     judged_alike = sym (judged_bare fresh one task call) ∙ (λ i. judge_in nat_eq fresh one (alike i) call)
-        ∙ judged_bare fresh one again call ∙ same_worlds_judge_alike one other (same_from_alike one other same)
-        (plain_has_one_name one (plain_from_alike one other same)) fresh again call
+        ∙ judged_bare fresh one again call
+        ∙ same_worlds_judge_alike one other (same_from_alike one other same) named fresh again call
 
-    permitted_alike : (judgement : Judgement ℕ) → judge_in nat_eq fresh one task call ≡ judgement
-        → OutcomesAlike (after one judgement (apply nat_eq fresh one task))
+    permitted_alike : (judgement : Judgement ℕ) → OutcomesAlike (after one judgement (apply nat_eq fresh one task))
         (after other judgement (apply nat_eq fresh other again))
-    permitted_alike (Ok permit) judged = apply_alike fresh one other same task again alike permit
-        (no_overlay fresh one task call permit plain (permits_are_for_their_calls fresh one task call permit judged))
-    permitted_alike (Err deny) judged = record { answer = refl; worlds = same }
+    permitted_alike (Ok permit) = apply_alike fresh one other same copies task again alike permit
+    permitted_alike (Err deny) = record { answer = refl; worlds = same }
 
     -- the outcome before the last step
     outcome_alike : OutcomesAlike (after one (judge_in nat_eq fresh one task call) (apply nat_eq fresh one task))
@@ -55,7 +49,7 @@ module _ (fresh : Fresh ℕ) (one other : World ℕ) (same : Alike one other) (c
     outcome_alike = subst (λ judgement. OutcomesAlike
         (after one (judge_in nat_eq fresh one task call) (apply nat_eq fresh one task))
         (after other judgement (apply nat_eq fresh other again)))
-        judged_alike (permitted_alike (judge_in nat_eq fresh one task call) refl)
+        judged_alike (permitted_alike (judge_in nat_eq fresh one task call))
 
   module _ (name : TaskName) where
     last_alike : (keeps : Bool) (changed others : List ℕ) (under again : Outcome ℕ) → OutcomesAlike under again
@@ -88,22 +82,51 @@ module _ (fresh : Fresh ℕ) (one other : World ℕ) (same : Alike one other) (c
     called_alike (Some task) (Some again) alike = finished_alike _ _ _ _ (outcome_alike task again alike)
 
     pub policy_alike : OutcomesAlike (policy nat_eq fresh one name call) (policy nat_eq fresh other name call)
-    policy_alike = subst (λ outcome. OutcomesAlike outcome (policy nat_eq fresh other name call))
-        (sym (policy_judges_then_applies fresh one name call))
-        (subst (OutcomesAlike (after one (ok_or (task_called one name) (denial S2)) (by_task one)))
-        (sym (policy_judges_then_applies fresh other name call))
-        (called_alike (task_called one name) (task_called other name) (task_alike one other same name)))
+    policy_alike = called_alike (task_called one name) (task_called other name) (task_alike one other same name)
+
+-- Plain worlds: nothing is copied up in them, and only the mount of an overlay leaves one that is not plain.
+pub plain_copies : (one other : World ℕ) → IsPlain one → CopiesAlike one other
+plain_copies one other plain number overlay again upper next is top below over =
+    absurd (cc (plain_numbered one plain number))
+
+module _ (fresh : Fresh ℕ) (world : World ℕ) (plain : IsPlain world) (name : TaskName) (call : Call)
+    (other : mounts_overlay call ≡ false) where
+  no_overlay : (task : Task ℕ) (permit : Permit ℕ) → IsFor (looks_of nat_eq world) task call permit
+      → is_for_overlay permit ≡ false
+  no_overlay task (ToMountOverlay place overlay flags) for = sym (ap mounts_overlay for.2) ∙ other
+  no_overlay task permit for = refl
+
+  judged_plain : (task : Task ℕ) (judgement : Judgement ℕ) → judge_in nat_eq fresh world task call ≡ judgement
+      → IsPlain (after world judgement (apply nat_eq fresh world task)).world
+  judged_plain task (Ok permit) judged = permit_plain fresh world task permit plain
+      (no_overlay task permit (permits_are_for_their_calls fresh world task call permit judged))
+  judged_plain task (Err deny) judged = plain
+
+  pub policy_plain : IsPlain (policy nat_eq fresh world name call).world
+  policy_plain = by (task_called world name)
+    where
+      by : (task : Option (Task ℕ)) → IsPlain (after world (ok_or task (denial S2)) (λ task. finished nat_eq world name
+          call (filesystems_changed_by nat_eq world (judge_in nat_eq fresh world task call))
+          (after world (judge_in nat_eq fresh world task call) (apply nat_eq fresh world task)))).world
+      by None = plain
+      by (Some task) =
+          finished_plain _ world name _ _ (judged_plain task (judge_in nat_eq fresh world task call) refl)
 
 pub same_worlds_are_answered_alike : SameWorldsAreAnsweredAlike
 same_worlds_are_answered_alike one other same plain fresh name call no_mount =
-    let alike = policy_alike fresh one other (alike_from_same one other same plain) call no_mount name in
+    let alike = policy_alike fresh one other (alike_from_same one other same) (plain_has_one_name one plain)
+    (plain_copies one other plain) call name in
     record {
       answer = alike.answer;
       worlds = same_from_alike _ _ alike.worlds;
-      plain = plain_from_alike _ _ alike.worlds;
+      plain = policy_plain fresh one plain name call no_mount;
     }
 
 pub same_worlds_are_directed_alike : SameWorldsAreDirectedAlike
 same_worlds_are_directed_alike one other same plain directive =
-    let alike = directed_alike one other (alike_from_same one other same plain) directive in
-    grind (arith, common_steps, same_from_alike, plain_from_alike)
+    let alike = directed_alike one other (alike_from_same one other same) directive in
+    record {
+      answer = alike.answer;
+      worlds = same_from_alike _ _ alike.worlds;
+      plain = subst IsPlain (sym (directive_changes_nothing one directive)) plain;
+    }

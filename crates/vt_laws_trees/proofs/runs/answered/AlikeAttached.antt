@@ -1,16 +1,20 @@
 -- What is attached in two worlds that are alike.
-use Rattle.std.proofs.Common.{◌≡◌, refl, ap, subst, ℕ, nat_eq, Bool, true, false, not, ◌&&◌, List, [], ◌∷◌, length, filter, flat_map, None, is_some}
-use Rattle.vt_laws_rules.proofs.same.SameFiles.{directory_under_same}
-use Rattle.vt_laws_trees.proofs.runs.answered.AlikeChanges.{found_alike}
+use Rattle.std.proofs.Common.{◌≡◌, refl, ap, subst, ℕ, nat_eq, Bool, true, false, not, ◌&&◌, List, [], ◌∷◌, length, map, filter, flat_map, is_some}
+use Rattle.std.specs.List.{sum}
+use Rattle.vt_laws_rules.proofs.same.SameFiles.{as_many, directory_under_same}
+use Rattle.vt_laws_trees.proofs.runs.answered.AlikeChanges.{found_alike, opened_same}
 use Rattle.vt_laws_trees.proofs.runs.answered.AlikeMounts.{of_one}
-use Rattle.vt_laws_trees.proofs.runs.answered.AlikeWorlds.{Alike, AlikeFilesystem, files_itself, with_mounts_of}
-use Rattle.vt_laws_trees.proofs.runs.Each.{each_append}
+use Rattle.vt_laws_trees.proofs.runs.answered.AlikeWorlds.{Alike, with_mounts_of}
+use Rattle.vt_laws_rules.proofs.same.SameMany.{same_filesystem_itself}
+use Rattle.vt_laws_trees.proofs.runs.Each.{each_append, each_to_one}
 use Rattle.vt_spec.specs.Language.Calls.{MountFlags}
-use Rattle.vt_spec.specs.Lists.{Fresh, holds_of}
+use Rattle.vt_spec.specs.Lists.{Fresh, evens, holds_of, odds}
 use Rattle.vt_spec.specs.Machine.Attach.{attach, attached_at, bind_tree, bindable_children, bindable_tree, bound, bound_at, copies_from, graft_of, parts_of, receivers_of, stands_under, takes_part}
 use Rattle.vt_spec.specs.Machine.Mounts.{Location, Mount}
-use Rattle.vt_spec.specs.Machine.NewMounts.{mounted, new_mount, with_new_filesystem}
-use Rattle.vt_spec.specs.Machine.World.{Filesystem, World, mount_at}
+use Rattle.vt_spec.specs.Machine.Merging.{merged_inodes, merged_objects}
+use Rattle.vt_spec.specs.Machine.NewMounts.{mounted, new_mount, overlay_filesystem, overlay_of_inodes, with_new_filesystem}
+use Rattle.vt_spec.specs.Machine.SameWorlds.{SameFilesystem}
+use Rattle.vt_spec.specs.Machine.World.{Filesystem, Overlay, World, mount_at, shown_layers}
 
 module _ (one other : World ℕ) (same : Alike one (with_mounts_of one other)) where
   takes_same : (place : Location ℕ) (mount : Mount ℕ)
@@ -68,16 +72,26 @@ bind_alike fresh source place recursive =
     (attached_alike one other same fresh place false (bind_tree nat_eq one source recursive)))
 
 pub mounted_alike : (fresh : Fresh ℕ) (place : Location ℕ) (filesystem : Filesystem ℕ) (flags : MountFlags)
-    → filesystem.overlay ≡ None → (one other : World ℕ) → Alike one other
+    (one other : World ℕ) → Alike one other
     → Alike (mounted nat_eq fresh one place filesystem flags) (mounted nat_eq fresh other place filesystem flags)
-mounted_alike fresh place filesystem flags plain one other same =
+mounted_alike fresh place filesystem flags one other same =
     attach_alike fresh place false (new_mount filesystem.number filesystem.files.tree.root flags ∷ [])
     (with_new_filesystem one filesystem) (with_new_filesystem other filesystem) (record {
       mounts = same.mounts;
       master = same.master;
-      filesystems = each_append AlikeFilesystem one.filesystems other.filesystems (filesystem ∷ []) (filesystem ∷ [])
-          same.filesystems
-          (record { number = refl; files = files_itself filesystem.files; plain = plain; plain_too = plain }, tt);
+      filesystems = each_append SameFilesystem one.filesystems other.filesystems (filesystem ∷ []) (filesystem ∷ [])
+          same.filesystems (same_filesystem_itself filesystem, tt);
       namespaces = same.namespaces;
       tasks = same.tasks;
     })
+
+-- The filesystem of a new overlay is one: it is made of the trees of its layers, and of how many inodes there are.
+pub overlay_made_alike : (fresh : Fresh ℕ) (overlay : Overlay ℕ) (one other : World ℕ) → Alike one other
+    → overlay_filesystem nat_eq fresh one overlay ≡ overlay_filesystem nat_eq fresh other overlay
+overlay_made_alike fresh overlay one other same = λ i. overlay_of_inodes nat_eq (evens fresh 0) (odds fresh 0) overlay
+    (merged_inodes nat_eq (odds fresh) (is_some overlay.upper)
+    (map (λ layer. opened_same one other same layer i) (shown_layers overlay))
+    (merged_objects (map (λ layer. opened_same one other same layer i) (shown_layers overlay))
+    (sum (each_to_one SameFilesystem (λ (filesystem : Filesystem ℕ). length filesystem.files.numbers)
+    (λ (filesystem : Filesystem ℕ). length filesystem.files.numbers)
+    (λ a b alike. as_many a.files b.files alike.files) one.filesystems other.filesystems same.filesystems i))))

@@ -1,24 +1,31 @@
 -- Directives are answered alike in two worlds that are alike.
-use Rattle.std.proofs.Common.{arith, ◌≡◌, refl, sym, ap, ◌∙◌, ℕ, nat_eq, Bool, true, false, cond, not, ◌&&◌, ◌||◌, ◌+◌, List, [], ◌∷◌, ◌++◌, map, filter, flat_map, Option, Some, None, is_some, option_map}
+use Rattle.std.proofs.Common.{arith, ◌≡◌, refl, sym, ap, subst, ◌∙◌, ℕ, nat_eq, Bool, true, false, not, ◌&&◌, ◌||◌, ◌+◌, List, [], ◌∷◌, ◌++◌, map, filter, flat_map, Option, Some, None, Ok, is_some, option_map}
 use Rattle.std.proofs.lemmas.Grind.{common_steps}
 use Rattle.std.specs.List.{list_all, list_any}
+use Rattle.std.proofs.lemmas.List.Sorted.{list_any-IsPermutation}
 use Rattle.vt_laws_trees.proofs.runs.answered.AlikeApplied.{OutcomesAlike}
 use Rattle.vt_laws_trees.proofs.runs.answered.AlikeChanges.{found_alike, task_alike}
-use Rattle.vt_laws_trees.proofs.runs.answered.AlikeSettled.{overlay_same}
-use Rattle.vt_laws_trees.proofs.runs.answered.AlikeWorlds.{Alike, AlikeFilesystem, SameNamespace, SameTask, mounts_of_one, with_mounts_of}
+use Rattle.vt_laws_trees.proofs.runs.answered.AlikeWorlds.{Alike, SameNamespace, SameTask, mounts_of_one, with_mounts_of}
+use Rattle.vt_laws_trees.proofs.runs.EachHas.{each_all}
 use Rattle.vt_laws_trees.proofs.runs.Each.{Each, IfAny, each_any, each_filter, each_flat, each_to_one}
+use Rattle.vt_laws_trees.proofs.runs.Permuted.{IsPermutation-flat_map, list_all-IsPermutation}
+use Rattle.vt_spec.specs.declared.errors.Rule.TheVariants.{S2}
 use Rattle.vt_spec.specs.Language.Answers.{PeerLine}
+use Rattle.vt_spec.specs.Language.Answers.Answer.{PeerList, YesNo}
 use Rattle.vt_spec.specs.Language.Calls.{Directive, TaskName}
 use Rattle.vt_spec.specs.Language.Calls.Directive.{AskPeers, AskSealed}
-use Rattle.vt_spec.specs.Lists.{counted_from, each_once, holds_of}
+use Rattle.vt_spec.specs.FileTree.{FileTree, targets_in}
+use Rattle.vt_spec.specs.Lists.{counted_from, each_once, holds_of, is_among}
 use Rattle.vt_spec.specs.Machine.Listing.{attached_in, groups_seen, is_slave_of, number_among, peer_lines}
 use Rattle.vt_spec.specs.Machine.Locked.{overlay_or, overlays}
 use Rattle.vt_spec.specs.Machine.Mounts.{Location, Mount}
+use Rattle.vt_spec.specs.Machine.Outcomes.{granted, judged}
 use Rattle.vt_spec.specs.Machine.Receives.{is_member_of}
 use Rattle.vt_spec.specs.Machine.Sealed.{all_named, change_layers, directed, holds_all_tasks, shares_no_events, share_events, is_lower_root, is_member_task, is_own_namespace, locations, members, no_outsider_on, no_outsider_on_mounts, no_such_task, outsiders, sealed, used_alone, used_directly, used_filesystems, wholly_locked}
 use Rattle.vt_spec.specs.Machine.World.{Filesystem, Layer, Namespace, Overlay, Task, World, filesystem_numbered, is_overlay, locations_of, mount_at, task_called}
 use Rattle.std.specs.Prelude.{option_to_list}
-use Rattle.vt_spec.specs.Machine.Settled.{has_layer_on}
+use Rattle.vt_spec.specs.Machine.SameWorlds.{SameFiles, SameFilesystem}
+use Rattle.vt_spec.specs.Machine.Settled.{named_in}
 
 -- Peers
 module _ (one other : World ℕ) (same : Alike one (with_mounts_of one other)) where
@@ -28,7 +35,8 @@ module _ (one other : World ℕ) (same : Alike one (with_mounts_of one other)) w
   attached_from k [] [] each = refl
   attached_from k [] (b ∷ others) each = absurd each
   attached_from k (a ∷ ones) [] each = absurd each
-  attached_from k (a ∷ ones) (b ∷ others) each = grind (arith, common_steps, attached_from (k + 1) ones others each.1)
+  attached_from k (a ∷ ones) (b ∷ others) each = λ i.
+      attached_in nat_eq one (k, each.0 i) ++ attached_from (k + 1) ones others each.1 i
 
   -- the lines of peers, by the mounts that are attached
   abbrev places_among : List (ℕ × ℕ × Mount ℕ) → (Mount ℕ → Bool) → List (ℕ × ℕ)
@@ -54,20 +62,37 @@ peers_alike one other same =
     mounts_of_one (λ world. Alike one world → peer_lines nat_eq one ≡ peer_lines nat_eq world) one other same
     (peers_same one other) same
 
--- there is no overlay
-no_overlays : (ones others : List (Filesystem ℕ)) → Each AlikeFilesystem ones others
-    → (filter is_overlay ones ≡ []) × (filter is_overlay others ≡ [])
-no_overlays [] [] each = (refl, refl)
-no_overlays [] (b ∷ others) each = absurd each
-no_overlays (a ∷ ones) [] each = absurd each
-no_overlays (a ∷ ones) (b ∷ others) each = grind (arith, common_steps, no_overlays ones others each.1)
+-- the overlays of both
+pub overlays_alike : (ones others : List (Filesystem ℕ)) → Each SameFilesystem ones others
+    → Each SameFilesystem (filter is_overlay ones) (filter is_overlay others)
+overlays_alike ones others same =
+    each_filter SameFilesystem is_overlay is_overlay (λ a b alike. ap is_some alike.overlay) ones others same
+
+-- whether each inode but the root has a name
+all_named_alike : (one other : FileTree ℕ) → SameFiles one other → all_named nat_eq one ≡ all_named nat_eq other
+all_named_alike one other same =
+    list_all-IsPermutation (λ number. nat_eq number one.tree.root || is_among nat_eq number (named_in one)) one.numbers
+    other.numbers same.numbers
+    ∙ (λ i. list_all (λ number. nat_eq number (same.tree i).root || named number i) other.numbers)
+  where
+    named : (number : ℕ) → is_among nat_eq number (named_in one) ≡ is_among nat_eq number (named_in other)
+    named number = list_any-IsPermutation (nat_eq number) (named_in one)
+        (flat_map (λ directory. targets_in (one.tree.node directory)) other.numbers)
+        (IsPermutation-flat_map (λ directory. targets_in (one.tree.node directory)) one.numbers other.numbers
+        same.numbers) ∙ (λ i. is_among nat_eq number
+        (flat_map (λ directory. targets_in ((same.tree i).node directory)) other.numbers))
+
+-- the overlay has this root directory of the filesystem as a lower layer
+abbrev lower_root_by : ℕ → ℕ → Overlay ℕ → Bool
+lower_root_by filesystem root overlay =
+    list_any (λ layer. nat_eq filesystem layer.filesystem && nat_eq root layer.directory) overlay.lowers
 
 -- Sealed tasks
 module _ (one other : World ℕ) (same : Alike one (with_mounts_of one other)) (names : List TaskName) where
   abbrev second : World ℕ
   second = with_mounts_of one other
 
-  members_alike : Each SameTask (members one names) (members second names)
+  pub members_alike : Each SameTask (members one names) (members second names)
   members_alike = each_filter SameTask (is_member_task names) (is_member_task names)
       (λ a b alike. ap (is_member_task names) alike) one.tasks other.tasks same.tasks
 
@@ -76,13 +101,13 @@ module _ (one other : World ℕ) (same : Alike one (with_mounts_of one other)) (
       each_filter SameTask (λ task. not (is_member_task names task)) (λ task. not (is_member_task names task))
       (λ a b alike. ap (λ task. not (is_member_task names task)) alike) one.tasks other.tasks same.tasks
 
-  own_same : is_own_namespace nat_eq one names ≡ is_own_namespace nat_eq second names
+  pub own_same : is_own_namespace nat_eq one names ≡ is_own_namespace nat_eq second names
   own_same = λ i namespace.
       each_any SameTask (λ task. nat_eq namespace task.namespace) (λ task. nat_eq namespace task.namespace)
       (λ a b alike. ap (λ task. nat_eq namespace task.namespace) alike) (members one names) (members second names)
       members_alike i
 
-  places_same : (ones others : List (Task ℕ)) → Each SameTask ones others → locations ones ≡ locations others
+  pub places_same : (ones others : List (Task ℕ)) → Each SameTask ones others → locations ones ≡ locations others
   places_same ones others each =
       each_flat SameTask locations_of locations_of (λ a b alike. ap locations_of alike) ones others each
 
@@ -121,7 +146,7 @@ module _ (one other : World ℕ) (same : Alike one (with_mounts_of one other)) (
       list_all (λ (location : Location ℕ). not (holds_of (own_same i) (mount_at nat_eq one location).namespace))
       (places_same (outsiders one names) (outsiders second names) outsiders_alike i)
 
-  directly_same : used_directly nat_eq one names ≡ used_directly nat_eq second names
+  pub directly_same : used_directly nat_eq one names ≡ used_directly nat_eq second names
   directly_same = λ i. map (λ (mount : Mount ℕ). mount.filesystem) (own_by (own_same i))
       ++ map (λ (location : Location ℕ). (mount_at nat_eq one location).filesystem)
       (places_same (members one names) (members second names) members_alike i)
@@ -129,10 +154,9 @@ module _ (one other : World ℕ) (same : Alike one (with_mounts_of one other)) (
   layers_at : (number : ℕ)
       → change_layers (filesystem_numbered nat_eq one number) ≡ change_layers (filesystem_numbered nat_eq second number)
   layers_at number = ap (overlay_or [] (λ (overlay : Overlay ℕ). map (λ (layer : Layer ℕ). layer.filesystem)
-      (option_to_list overlay.upper ++ option_to_list overlay.work)))
-      (overlay_same _ _ (found_alike one second same number))
+      (option_to_list overlay.upper ++ option_to_list overlay.work))) (found_alike one second same number).overlay
 
-  used_same : used_filesystems nat_eq one names ≡ used_filesystems nat_eq second names
+  pub used_same : used_filesystems nat_eq one names ≡ used_filesystems nat_eq second names
   used_same = λ i. each_once nat_eq (directly_same i ++ flat_map (λ number. layers_at number i) (directly_same i))
 
   no_outsider_same : (filesystem : ℕ)
@@ -142,34 +166,32 @@ module _ (one other : World ℕ) (same : Alike one (with_mounts_of one other)) (
       && not (list_any (λ (location : Location ℕ). nat_eq filesystem (mount_at nat_eq one location).filesystem)
       (places_same (outsiders one names) (outsiders second names) outsiders_alike i))
 
-  abbrev none : (filter is_overlay one.filesystems ≡ []) × (filter is_overlay other.filesystems ≡ [])
-  none = no_overlays one.filesystems other.filesystems same.filesystems
+  pub alone_same : (filesystem : ℕ) → used_alone nat_eq one names filesystem ≡ used_alone nat_eq second names filesystem
+  alone_same filesystem = grind (arith, common_steps, no_outsider_same, each_all, overlays_alike)
 
-  alone_same : (filesystem : ℕ) → used_alone nat_eq one names filesystem ≡ used_alone nat_eq second names filesystem
-  alone_same filesystem =
-      ap (λ merged. no_outsider_on nat_eq one names filesystem && list_all (λ (merged : Filesystem ℕ).
-      not (has_layer_on nat_eq filesystem merged) || no_outsider_on nat_eq one names merged.number) merged) none.0
-      ∙ ap (λ b. b && true) (no_outsider_same filesystem)
-      ∙ sym (ap (λ merged. no_outsider_on nat_eq second names filesystem && list_all (λ (merged : Filesystem ℕ).
-      not (has_layer_on nat_eq filesystem merged) || no_outsider_on nat_eq second names merged.number) merged) none.1)
-
-  locked_no : (world : World ℕ) → overlays world ≡ [] → (filesystem : ℕ)
-      → wholly_locked nat_eq world names filesystem ≡ false
-  locked_no world no_overlay filesystem = ap (λ merged. list_any (λ (merged : Filesystem ℕ).
-      is_lower_root nat_eq filesystem (filesystem_numbered nat_eq world filesystem).files.tree.root merged
-      && used_alone nat_eq world names merged.number) merged
-      && all_named nat_eq (filesystem_numbered nat_eq world filesystem).files) no_overlay
+  named_same : (filesystem : ℕ) → all_named nat_eq (filesystem_numbered nat_eq one filesystem).files
+      ≡ all_named nat_eq (filesystem_numbered nat_eq second filesystem).files
+  named_same filesystem = all_named_alike _ _ (found_alike one second same filesystem).files
 
   locked_same : (filesystem : ℕ)
       → wholly_locked nat_eq one names filesystem ≡ wholly_locked nat_eq second names filesystem
-  locked_same filesystem = locked_no one none.0 filesystem ∙ sym (locked_no second none.1 filesystem)
+  locked_same filesystem = λ i. each_any SameFilesystem
+      (λ merged. is_lower_root nat_eq filesystem (filesystem_numbered nat_eq one filesystem).files.tree.root merged
+      && used_alone nat_eq one names merged.number)
+      (λ merged. is_lower_root nat_eq filesystem (filesystem_numbered nat_eq second filesystem).files.tree.root merged
+      && used_alone nat_eq second names merged.number) (λ a b alike. λ j.
+      overlay_or false (λ overlay. lower_root_by filesystem
+      ((found_alike one second same filesystem).files.tree j).root overlay) (alike.overlay j)
+      && (alone_same a.number ∙ (λ k. used_alone nat_eq second names (alike.number k))) j)
+      (overlays one) (overlays second) (overlays_alike one.filesystems other.filesystems same.filesystems) i
+      && named_same filesystem i
 
   sealed_same : sealed nat_eq one names ≡ sealed nat_eq second names
   unfolding sealed
   sealed_same = λ i. holds_all_same i && no_link_same i && on_mounts_same i
       && list_all (λ filesystem. alone_same filesystem i || locked_same filesystem i) (used_same i)
 
-sealed_alike : (names : List TaskName) (one other : World ℕ) → Alike one other
+pub sealed_alike : (names : List TaskName) (one other : World ℕ) → Alike one other
     → sealed nat_eq one names ≡ sealed nat_eq other names
 sealed_alike names one other same =
     mounts_of_one (λ world. Alike one world → sealed nat_eq one names ≡ sealed nat_eq world names) one other same
@@ -187,5 +209,15 @@ missing_same one other same name = by (task_called one name) (task_called other 
 
 pub directed_alike : (one other : World ℕ) → Alike one other → (directive : Directive)
     → OutcomesAlike (directed nat_eq one directive) (directed nat_eq other directive)
-directed_alike one other same AskPeers = grind (arith, common_steps, peers_alike)
-directed_alike one other same (AskSealed names) = grind (arith, common_steps, missing_same, sealed_alike)
+directed_alike one other same AskPeers =
+    record { answer = λ i. Ok (PeerList (peers_alike one other same i)); worlds = same }
+directed_alike one other same (AskSealed names) =
+    subst (λ missing. OutcomesAlike (directed nat_eq one (AskSealed names))
+    (judged other ((missing, S2) ∷ []) (granted (YesNo (sealed nat_eq other names)) other)))
+    (λ i. list_any (λ name. missing_same one other same name i) names) (by (list_any (no_such_task one) names))
+  where
+    by : (missing : Bool)
+        → OutcomesAlike (judged one ((missing, S2) ∷ []) (granted (YesNo (sealed nat_eq one names)) one))
+        (judged other ((missing, S2) ∷ []) (granted (YesNo (sealed nat_eq other names)) other))
+    by true = record { answer = refl; worlds = same }
+    by false = record { answer = λ i. Ok (YesNo (sealed_alike names one other same i)); worlds = same }

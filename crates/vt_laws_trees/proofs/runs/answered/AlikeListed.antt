@@ -2,7 +2,6 @@
 use Rattle.std.proofs.Common.{◌≡◌, ℕ, nat_eq, List, map, is_some, option_map}
 use Rattle.vt_laws_rules.proofs.same.SameFiles.{path_same}
 use Rattle.vt_laws_trees.proofs.runs.answered.AlikeChanges.{found_alike, here_alike}
-use Rattle.vt_laws_trees.proofs.runs.answered.AlikeSettled.{overlay_same}
 use Rattle.vt_laws_trees.proofs.runs.answered.AlikeWorlds.{Alike, mounts_of_one, with_mounts_of}
 use Rattle.vt_spec.specs.Machine.Listing.{filesystems_seen, groups_seen, mount_line, mount_lines, number_among, spot_of, type_line}
 use Rattle.vt_spec.specs.Machine.Mounts.{Location, Mount}
@@ -19,7 +18,7 @@ module _ (one other : World ℕ) (same : Alike one (with_mounts_of one other)) w
           spot_of (path_same _ _ (here_alike one (with_mounts_of one other) same place).files
               (mount_at nat_eq one place).root place.node i),
         )) mount.mount_point;
-        overlay = is_some (overlay_same _ _ shown i);
+        overlay = is_some (shown.overlay i);
         filesystem = number_among nat_eq (filesystems_seen nat_eq mounts) mount.filesystem;
         root = spot_of (path_same _ _ shown.files (shown.files.tree i).root mount.root i);
         flags = mount.flags;

@@ -1,5 +1,5 @@
 -- Calls on mounts and namespaces in two worlds that are alike.
-use Rattle.std.proofs.Common.{arith, ◌≡◌, refl, subst, ◌∙◌, ℕ, nat_eq, Bool, List, [], ◌∷◌, map, filter, flat_map, Option, Some, None, is_some}
+use Rattle.std.proofs.Common.{arith, ◌≡◌, refl, subst, ℕ, nat_eq, Bool, List, [], ◌∷◌, map, filter, flat_map, Option, Some, None, is_some}
 use Rattle.std.proofs.lemmas.Grind.{common_steps}
 use Rattle.std.specs.List.{list_any}
 use Rattle.vt_laws_trees.proofs.runs.answered.AlikeChanges.{here_alike}
@@ -7,11 +7,12 @@ use Rattle.vt_laws_trees.proofs.runs.answered.AlikeWorlds.{Alike, mounts_of_one,
 use Rattle.vt_laws_trees.proofs.runs.Each.{chosen}
 use Rattle.vt_spec.specs.Language.Calls.{MountFlags, TypeWord}
 use Rattle.vt_spec.specs.Lists.{Fresh, folded}
-use Rattle.vt_spec.specs.Machine.Detach.{after_going, deepest_first, going, is_point, lazily_unmounted, points_of, taken_away, unmounted, unmounted_if_there, without_mounts_on, without_replaced}
+use Rattle.vt_spec.specs.Machine.Detach.{after_going, deepest_first, going, is_point, lazily_unmounted, points_of, taken_away, unmounted, unmounted_if_there, upper_points, without_mounts_on, without_replaced}
+use Rattle.vt_spec.specs.Machine.Locked.{overlay_or}
 use Rattle.vt_spec.specs.Machine.Mounts.{Location, Mount, mount_tree, numbers_by, with_mount}
 use Rattle.vt_spec.specs.Machine.Receives.{lost_a_group, regrouped, regrouped_by}
 use Rattle.vt_spec.specs.Machine.Types.{named_mounts, retyped_mount, with_new_groups, with_type}
-use Rattle.vt_spec.specs.Machine.World.{World, mount_numbered, with_mounts}
+use Rattle.vt_spec.specs.Machine.World.{World, filesystem_at, mount_numbered, with_mounts}
 
 -- worlds that are alike, with other mounts
 pub with_mounts_alike : (one other : World ℕ) → Alike one other → (mounts again : List (Mount ℕ)) → mounts ≡ again
@@ -101,7 +102,9 @@ points_same : (location : Location ℕ) (one other : World ℕ) → Alike one ot
     → points_of nat_eq one location ≡ points_of nat_eq other location
 points_same location one other same =
     let here = here_alike one other same location in
-    grind (arith, common_steps)
+    λ i. (here.number i, location.node)
+    ∷ overlay_or [] (λ overlay. upper_points one (filesystem_at nat_eq one location) overlay location.node)
+    (here.overlay i)
 
 pub without_mounts_on_alike : (location : Location ℕ) (one other : World ℕ) → Alike one other
     → Alike (without_mounts_on nat_eq one location) (without_mounts_on nat_eq other location)

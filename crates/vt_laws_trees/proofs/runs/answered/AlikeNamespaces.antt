@@ -1,7 +1,6 @@
 -- Calls on namespaces and tasks in two worlds that are alike.
 use Rattle.std.proofs.Common.{arith, ◌≡◌, refl, ap, ℕ, nat_eq, not, ◌&&◌, [], ◌∷◌, ◌++◌, ◌+◌, map, filter}
 use Rattle.std.proofs.lemmas.Grind.{common_steps}
-use Rattle.std.specs.Prelude.{unwrap_or}
 use Rattle.std.specs.List.{list_any}
 use Rattle.vt_laws_trees.proofs.runs.answered.AlikeChanges.{replaced_alike, with_task_alike, with_tasks_alike}
 use Rattle.vt_laws_trees.proofs.runs.answered.AlikeMounts.{of_one, taken_alike}
@@ -10,7 +9,7 @@ use Rattle.vt_laws_trees.proofs.runs.Each.{chosen, each_any, each_append, each_f
 use Rattle.vt_spec.specs.Language.Calls.{TaskName, same_name}
 use Rattle.vt_spec.specs.Lists.{Fresh, evens, holds_of, odds}
 use Rattle.vt_spec.specs.Machine.Mounts.{Location, Mount, numbers_by}
-use Rattle.vt_spec.specs.Machine.Namespaces.{copied_mount, entered_at, has_tasks, is_in_ended, namespace_entered, namespace_root, namespaces_ended, pivoted, unshared, unshared_task}
+use Rattle.vt_spec.specs.Machine.Namespaces.{copied_mount, has_tasks, is_in_ended, namespace_entered, namespaces_ended, pivoted, unshared, unshared_task}
 use Rattle.vt_spec.specs.Machine.Tasks.{with_child}
 use Rattle.vt_spec.specs.Machine.World.{Namespace, Task, World, mounts_of, without_task}
 
@@ -40,11 +39,7 @@ module _ (one other : World ℕ) (same : Alike one other) where
       one.namespaces
       ≡ list_any (λ (namespace : Namespace ℕ). nat_eq number namespace.number && has_tasks nat_eq other namespace)
       other.namespaces
-  lives_same number =
-      each_any SameNamespace (λ namespace. nat_eq number namespace.number && has_tasks nat_eq one namespace)
-      (λ namespace. nat_eq number namespace.number && has_tasks nat_eq other namespace)
-      (λ a b alike. λ i. nat_eq number (alike i).number && has_tasks_same a b alike i)
-      one.namespaces other.namespaces same.namespaces
+  lives_same number = grind (arith, common_steps, each_any, has_tasks_same)
 
 pub ended_alike : (one other : World ℕ) → Alike one other
     → Alike (namespaces_ended nat_eq one) (namespaces_ended nat_eq other)
@@ -86,11 +81,8 @@ unshared_alike fresh task again alike one other same = mounts_of_one
 pub entered_alike : (namespace : ℕ) (task again : Task ℕ) → SameTask task again → (one other : World ℕ)
     → Alike one other
     → Alike (namespace_entered nat_eq one task namespace) (namespace_entered nat_eq other again namespace)
-entered_alike namespace task again alike one other same = mounts_of_one (λ world. Alike one world
-    → Alike (namespace_entered nat_eq one task namespace) (namespace_entered nat_eq world again namespace)) one other
-    same (λ same.
-    with_task_alike one (with_mounts_of one other) same _ _
-    (λ i. entered_at (alike i) namespace (unwrap_or (namespace_root nat_eq one namespace) (alike i).root))) same
+entered_alike namespace task again alike one other same =
+    grind (arith, common_steps, mounts_of_one, with_task_alike, with_mounts_of)
 
 pub pivoted_alike : (namespace : ℕ) (root new : Mount ℕ) (put : Location ℕ) (one other : World ℕ) → Alike one other
     → Alike (pivoted nat_eq one namespace root new put) (pivoted nat_eq other namespace root new put)

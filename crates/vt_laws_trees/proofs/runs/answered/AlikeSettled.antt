@@ -1,13 +1,13 @@
 -- What nothing uses goes alike in two worlds that are alike.
-use Rattle.std.proofs.Common.{arith, ◌≡◌, sym, ap, subst, ◌∙◌, ℕ, nat_eq, Bool, true, false, cond, not, ◌&&◌, ◌||◌, List, [], ◌∷◌, ◌++◌, map, filter, filter_map, flat_map, None, is_some, if◌then◌else◌}
 use Rattle.std.proofs.lemmas.Grind.{common_steps}
+use Rattle.std.proofs.Common.{arith, ◌≡◌, refl, ap, subst, ◌∙◌, ℕ, nat_eq, Bool, true, false, cond, not, ◌&&◌, ◌||◌, List, [], ◌∷◌, ◌++◌, map, filter, filter_map, flat_map, Option, Some, None, is_some, option_to_list, if◌then◌else◌}
 use Rattle.std.specs.List.{list_all, list_any}
 use Rattle.std.specs.List.Sorted.{IsPermutation}
-use Rattle.std.proofs.lemmas.List.Sorted.{IsPermutation-append_left, IsPermutation-cons, list_any-IsPermutation}
+use Rattle.std.proofs.lemmas.List.Sorted.{IsPermutation-append_left, IsPermutation-append_right, IsPermutation-cons, IsPermutation-refl, IsPermutation-trans, list_any-IsPermutation}
 use Rattle.vt_laws_trees.proofs.runs.answered.AlikeChanges.{locations_same}
 use Rattle.vt_laws_trees.proofs.runs.answered.AlikeMounts.{with_mounts_alike}
-use Rattle.vt_laws_trees.proofs.runs.answered.AlikeWorlds.{Alike, AlikeFilesystem, SameNamespace, SameTask}
-use Rattle.vt_laws_trees.proofs.runs.Each.{each_any, each_filter, each_flat, each_map}
+use Rattle.vt_laws_trees.proofs.runs.answered.AlikeWorlds.{Alike, SameNamespace, SameTask}
+use Rattle.vt_laws_trees.proofs.runs.Each.{Each, each_any, each_filter, each_flat, each_map}
 use Rattle.vt_laws_trees.proofs.runs.Permuted.{IsPermutation-filter, IsPermutation-flat_map, list_all-IsPermutation}
 use Rattle.vt_spec.specs.FileTree.{FileTree, targets_in}
 use Rattle.vt_spec.specs.Language.Calls.{TaskName}
@@ -16,13 +16,30 @@ use Rattle.vt_spec.specs.Machine.Filesystems.{raised, raised_if_changed}
 use Rattle.vt_spec.specs.Machine.Locked.{of_overlay, overlay_or}
 use Rattle.vt_spec.specs.Machine.Mounts.{Location, Mount, mount_in, root_of}
 use Rattle.vt_spec.specs.Machine.Policy.{numbers_raised, raised_namespace, raised_task}
-use Rattle.vt_spec.specs.Machine.SameWorlds.{SameFiles}
+use Rattle.vt_spec.specs.Machine.SameWorlds.{SameFiles, SameFilesystem}
 use Rattle.vt_spec.specs.Machine.Settled.{filesystem_lives, layers_in, located_in, objects_of_overlay, only_among, only_used, only_used_by, only_used_of, settled, used_in, without_dead_filesystems, without_dead_groups, without_dead_in, without_dead_inodes, without_dead_mounts}
 use Rattle.vt_spec.specs.Machine.World.{Filesystem, Namespace, Overlay, Task, World, is_overlay, layers_of, upper_object}
 
--- both have no overlay
-pub overlay_same : (a b : Filesystem ℕ) → AlikeFilesystem a b → a.overlay ≡ b.overlay
-overlay_same a b alike = alike.plain ∙ sym alike.plain_too
+filter_map_as_flat_map : {A B : Type 0} (h : A → Option B) (xs : List A)
+    → filter_map h xs ≡ flat_map (λ x. option_to_list (h x)) xs
+filter_map_as_flat_map h [] = refl
+filter_map_as_flat_map h (x ∷ xs) = grind (arith, common_steps, filter_map_as_flat_map h xs)
+
+filter_map_permuted : {A B : Type 0} (h : A → Option B) (xs ys : List A) → IsPermutation xs ys
+    → IsPermutation (filter_map h xs) (filter_map h ys)
+filter_map_permuted h xs ys permuted = rw (filter_map_as_flat_map h xs, filter_map_as_flat_map h ys)
+    (IsPermutation-flat_map (λ x. option_to_list (h x)) xs ys permuted)
+
+-- what is made of two lists, where of each two elements the same is made in another order
+each_permuted : {A B C : Type 0} (R : A → B → Type 0) (f : A → List C) (g : B → List C)
+    → ((a : A) (b : B) → R a b → IsPermutation (f a) (g b)) → (ones : List A) (others : List B)
+    → Each R ones others → IsPermutation (flat_map f ones) (flat_map g others)
+each_permuted R f g alike [] [] each = IsPermutation-refl []
+each_permuted R f g alike [] (b ∷ others) each = absurd each
+each_permuted R f g alike (a ∷ ones) [] each = absurd each
+each_permuted R f g alike (a ∷ ones) (b ∷ others) each =
+    IsPermutation-trans _ _ _ (IsPermutation-append_left (flat_map f ones) _ _ (alike a b each.0))
+    (IsPermutation-append_right (g b) _ _ (each_permuted R f g alike ones others each.1))
 
 -- the upper inodes that are real objects of an overlay
 abbrev pub objects_by : ℕ → Filesystem ℕ → Overlay ℕ → List ℕ
@@ -30,10 +47,10 @@ objects_by filesystem merged overlay = if holds_of (λ layer. nat_eq filesystem 
     then filter_map (λ number. upper_object (overlay.real number)) merged.files.numbers else []
 
 -- the numbers in use are the same in another order
-abbrev SameAmong : List ℕ → List ℕ → Type 0
+abbrev pub SameAmong : List ℕ → List ℕ → Type 0
 SameAmong used again = (number : ℕ) → is_among nat_eq number used ≡ is_among nat_eq number again
 
-among_alike : (one other : FileTree ℕ) → SameFiles one other → (used again : List ℕ) → SameAmong used again
+pub among_alike : (one other : FileTree ℕ) → SameFiles one other → (used again : List ℕ) → SameAmong used again
     → SameFiles (only_among nat_eq used one) (only_among nat_eq again other)
 among_alike one other same used again among = record {
   tree = λ i. record {
@@ -45,10 +62,10 @@ among_alike one other same used again among = record {
       (IsPermutation-filter (λ number. is_among nat_eq number used) one.numbers other.numbers same.numbers);
 }
 
-used_alike : (one other : Filesystem ℕ) → AlikeFilesystem one other → (used again : List ℕ) → SameAmong used again
-    → AlikeFilesystem (only_used_of nat_eq used one) (only_used_of nat_eq again other)
+used_alike : (one other : Filesystem ℕ) → SameFilesystem one other → (used again : List ℕ) → SameAmong used again
+    → SameFilesystem (only_used_of nat_eq used one) (only_used_of nat_eq again other)
 used_alike one other same used again among =
-    subst (λ b. AlikeFilesystem (only_used_of nat_eq used one) (only_used_by nat_eq b again other)) all_alike
+    subst (λ b. SameFilesystem (only_used_of nat_eq used one) (only_used_by nat_eq b again other)) all_alike
     (by (list_all (λ number. is_among nat_eq number used) one.files.numbers))
   where
     all_alike : list_all (λ number. is_among nat_eq number used) one.files.numbers
@@ -56,23 +73,41 @@ used_alike one other same used again among =
     all_alike = list_all-IsPermutation (λ number. is_among nat_eq number used) one.files.numbers other.files.numbers
         same.files.numbers ∙ (λ i. list_all (λ number. among number i) other.files.numbers)
 
-    by : (b : Bool) → AlikeFilesystem (only_used_by nat_eq b used one) (only_used_by nat_eq b again other)
+    by : (b : Bool) → SameFilesystem (only_used_by nat_eq b used one) (only_used_by nat_eq b again other)
     by b = grind (arith, common_steps, among_alike)
 
 module _ (one other : World ℕ) (same : Alike one other) where
   layers_same : (a b : ℕ) → a ≡ b → layers_in nat_eq one a ≡ layers_in nat_eq other b
   layers_same a b alike = λ i. map (λ layer. layer.directory) (filter (λ layer. nat_eq (alike i) layer.filesystem)
-      (each_flat AlikeFilesystem (of_overlay [] layers_of) (of_overlay [] layers_of)
-      (λ first second known. ap (overlay_or [] layers_of) (overlay_same first second known))
+      (each_flat SameFilesystem (of_overlay [] layers_of) (of_overlay [] layers_of)
+      (λ first second known. ap (overlay_or [] layers_of) known.overlay)
       one.filesystems other.filesystems same.filesystems i))
 
-  objects_same : (a b : ℕ) → flat_map (objects_of_overlay nat_eq a) one.filesystems
-      ≡ flat_map (objects_of_overlay nat_eq b) other.filesystems
-  objects_same a b = each_flat AlikeFilesystem (objects_of_overlay nat_eq a) (objects_of_overlay nat_eq b)
-      (λ first second known.
-      ap (overlay_or [] (objects_by a first)) known.plain
-      ∙ sym (ap (overlay_or [] (objects_by b second)) known.plain_too))
-      one.filesystems other.filesystems same.filesystems
+  objects_permuted : (a b : ℕ) → a ≡ b → IsPermutation (flat_map (objects_of_overlay nat_eq a) one.filesystems)
+      (flat_map (objects_of_overlay nat_eq b) other.filesystems)
+  objects_permuted a b alike = subst (λ n. IsPermutation (flat_map (objects_of_overlay nat_eq a) one.filesystems)
+      (flat_map (objects_of_overlay nat_eq n) other.filesystems)) alike
+      (each_permuted SameFilesystem (objects_of_overlay nat_eq a) (objects_of_overlay nat_eq a) of_one
+      one.filesystems other.filesystems same.filesystems)
+    where
+      by : (b : Bool) (overlay : Overlay ℕ) (first second : List ℕ) → IsPermutation first second
+          → IsPermutation (cond b (filter_map (λ number. upper_object (overlay.real number)) first) [])
+          (cond b (filter_map (λ number. upper_object (overlay.real number)) second) [])
+      by true overlay first second permuted =
+          filter_map_permuted (λ number. upper_object (overlay.real number)) first second permuted
+      by false overlay first second permuted = IsPermutation-refl []
+
+      over : (first second : Filesystem ℕ) → SameFilesystem first second → (overlay : Option (Overlay ℕ))
+          → IsPermutation (overlay_or [] (objects_by a first) overlay) (overlay_or [] (objects_by a second) overlay)
+      over first second known None = IsPermutation-refl []
+      over first second known (Some overlay) =
+          by (holds_of (λ layer. nat_eq a layer.filesystem) overlay.upper) overlay first.files.numbers
+          second.files.numbers known.files.numbers
+
+      of_one : (first second : Filesystem ℕ) → SameFilesystem first second
+          → IsPermutation (objects_of_overlay nat_eq a first) (objects_of_overlay nat_eq a second)
+      of_one first second known = subst (λ overlay. IsPermutation (objects_of_overlay nat_eq a first)
+          (overlay_or [] (objects_by a second) overlay)) known.overlay (over first second known first.overlay)
 
   located_same : (a b : ℕ) → a ≡ b → located_in nat_eq one a ≡ located_in nat_eq other b
   located_same a b alike = λ i. map (λ (location : Location ℕ). location.node)
@@ -80,20 +115,24 @@ module _ (one other : World ℕ) (same : Alike one other) where
       (locations_same one other same i ++ map root_of (same.mounts i)
       ++ filter_map (λ (mount : Mount ℕ). mount.mount_point) (same.mounts i)))
 
-  used_permuted : (a b : Filesystem ℕ) → AlikeFilesystem a b
+  pub used_permuted : (a b : Filesystem ℕ) → SameFilesystem a b
       → IsPermutation (used_in nat_eq one a) (used_in nat_eq other b)
   used_permuted a b alike = subst (IsPermutation (used_in nat_eq one a)) (λ i. (alike.files.tree i).root
       ∷ (flat_map (λ directory. targets_in ((alike.files.tree i).node directory)) b.files.numbers
       ++ located_same a.number b.number alike.number i ++ layers_same a.number b.number alike.number i
-      ++ objects_same a.number b.number i)) (IsPermutation-cons a.files.tree.root _ _
+      ++ flat_map (objects_of_overlay nat_eq b.number) other.filesystems)) (IsPermutation-cons a.files.tree.root _ _
+      (IsPermutation-trans _ _ _
       (IsPermutation-append_left (flat_map (objects_of_overlay nat_eq a.number) one.filesystems) _ _
       (IsPermutation-append_left (layers_in nat_eq one a.number) _ _
       (IsPermutation-append_left (located_in nat_eq one a.number) _ _
       (IsPermutation-flat_map (λ directory. targets_in (a.files.tree.node directory)) a.files.numbers
-      b.files.numbers alike.files.numbers)))))
+      b.files.numbers alike.files.numbers)))) (IsPermutation-append_right
+      (flat_map (λ directory. targets_in (a.files.tree.node directory)) b.files.numbers
+      ++ located_in nat_eq one a.number ++ layers_in nat_eq one a.number) _ _
+      (objects_permuted a.number b.number alike.number))))
 
-  only_used_alike : (b : Bool) (first second : Filesystem ℕ) → AlikeFilesystem first second
-      → AlikeFilesystem (only_used nat_eq one b first) (only_used nat_eq other b second)
+  only_used_alike : (b : Bool) (first second : Filesystem ℕ) → SameFilesystem first second
+      → SameFilesystem (only_used nat_eq one b first) (only_used nat_eq other b second)
   only_used_alike true first second alike =
       used_alike first second alike (used_in nat_eq one first) (used_in nat_eq other second)
       (λ number. list_any-IsPermutation (nat_eq number) (used_in nat_eq one first) (used_in nat_eq other second)
@@ -101,15 +140,15 @@ module _ (one other : World ℕ) (same : Alike one other) where
   only_used_alike false first second alike = alike
 
   without_dead_in_alike : (chosen : Filesystem ℕ → Bool)
-      → ((first second : Filesystem ℕ) → AlikeFilesystem first second → chosen first ≡ chosen second)
+      → ((first second : Filesystem ℕ) → SameFilesystem first second → chosen first ≡ chosen second)
       → Alike (without_dead_in nat_eq chosen one) (without_dead_in nat_eq chosen other)
   without_dead_in_alike chosen by_one = record {
     mounts = same.mounts;
     master = same.master;
     filesystems =
-        each_map AlikeFilesystem AlikeFilesystem (λ filesystem. only_used nat_eq one (chosen filesystem) filesystem)
+        each_map SameFilesystem SameFilesystem (λ filesystem. only_used nat_eq one (chosen filesystem) filesystem)
         (λ filesystem. only_used nat_eq other (chosen filesystem) filesystem) (λ first second alike.
-        subst (λ b. AlikeFilesystem (only_used nat_eq one (chosen first) first) (only_used nat_eq other b second))
+        subst (λ b. SameFilesystem (only_used nat_eq one (chosen first) first) (only_used nat_eq other b second))
         (by_one first second alike) (only_used_alike (chosen first) first second alike))
         one.filesystems other.filesystems same.filesystems;
     namespaces = same.namespaces;
@@ -125,15 +164,15 @@ module _ (one other : World ℕ) (same : Alike one other) where
   abbrev is_shown : List (Mount ℕ) → ℕ → Bool
   is_shown mounts filesystem = list_any (λ (mount : Mount ℕ). nat_eq filesystem mount.filesystem) mounts
 
-  lives_same : (first second : Filesystem ℕ) → AlikeFilesystem first second
+  pub lives_same : (first second : Filesystem ℕ) → SameFilesystem first second
       → filesystem_lives nat_eq one first ≡ filesystem_lives nat_eq other second
-  lives_same first second alike = grind (arith, common_steps, each_any, overlay_same)
+  lives_same first second alike = grind (arith, common_steps, each_any)
 
   without_dead_filesystems_alike : Alike (without_dead_filesystems nat_eq one) (without_dead_filesystems nat_eq other)
   without_dead_filesystems_alike = record {
     mounts = same.mounts;
     master = same.master;
-    filesystems = each_filter AlikeFilesystem (filesystem_lives nat_eq one) (filesystem_lives nat_eq other) lives_same
+    filesystems = each_filter SameFilesystem (filesystem_lives nat_eq one) (filesystem_lives nat_eq other) lives_same
         one.filesystems other.filesystems same.filesystems;
     namespaces = same.namespaces;
     tasks = same.tasks;
@@ -146,17 +185,17 @@ without_dead_inodes_alike : (one other : World ℕ) → Alike one other
     → Alike (without_dead_inodes nat_eq one) (without_dead_inodes nat_eq other)
 without_dead_inodes_alike one other same =
     without_dead_in_alike (without_dead_in nat_eq is_overlay one) (without_dead_in nat_eq is_overlay other)
-    (without_dead_in_alike one other same is_overlay
-    (λ first second alike. ap is_some (overlay_same first second alike))) (λ filesystem. not (is_overlay filesystem))
-    (λ first second alike. ap (λ overlay. not (is_some overlay)) (overlay_same first second alike))
+    (without_dead_in_alike one other same is_overlay (λ first second alike. ap is_some alike.overlay))
+    (λ filesystem. not (is_overlay filesystem))
+    (λ first second alike. ap (λ overlay. not (is_some overlay)) alike.overlay)
 
 pub settled_alike : (one other : World ℕ) → Alike one other → Alike (settled nat_eq one) (settled nat_eq other)
 settled_alike one other same = without_dead_groups_alike _ _ (without_dead_inodes_alike _ _
     (without_dead_filesystems_alike _ _ (without_dead_mounts_alike one other same)))
 
 -- Change numbers, however they are raised
-filesystem_raised : (a b : Filesystem ℕ) → AlikeFilesystem a b → (raise again : Bool) (change other : ℕ)
-    → AlikeFilesystem (cond raise (record a { change = change }) a) (cond again (record b { change = other }) b)
+filesystem_raised : (a b : Filesystem ℕ) → SameFilesystem a b → (raise again : Bool) (change other : ℕ)
+    → SameFilesystem (cond raise (record a { change = change }) a) (cond again (record b { change = other }) b)
 filesystem_raised a b alike raise again change other = grind (arith, common_steps)
 
 namespace_raised : (a b : Namespace ℕ) → SameNamespace a b → (keep again : Bool) (change other : ℕ)
@@ -180,7 +219,7 @@ raised_alike before again name changed others one other same = record {
   mounts = same.mounts;
   master = same.master;
   filesystems =
-      each_map AlikeFilesystem AlikeFilesystem (raised_if_changed nat_eq changed) (raised_if_changed nat_eq others)
+      each_map SameFilesystem SameFilesystem (raised_if_changed nat_eq changed) (raised_if_changed nat_eq others)
       (λ a b alike. filesystem_raised a b alike _ _ (raised a.change) (raised b.change))
       one.filesystems other.filesystems same.filesystems;
   namespaces =

@@ -107,7 +107,7 @@ pub counts_serve_named : CountsServeNamed
 counts_serve_named next world named = counts_serve next world (named_is_kept (is_counted_before next) world named)
 
 -- endless numbers are never given out
-endless : LeavesEndless may_be_given
+pub endless : LeavesEndless may_be_given
 endless = record {
   left_over = never_given;
   place = λ number. number / 4;

@@ -3,6 +3,7 @@ use Rattle.std.proofs.lemmas.Grind.{common_steps}
 use Rattle.std.proofs.Common.{◌≡◌, ◌≢◌, refl, sym, ap, subst, ◌∙◌, inl, ℕ, nat_eq, true≢false, cond, List, ◌*◌, Option, Some, None, find, eqb-true, eq-eqb, arith}
 use Rattle.std.specs.Prelude.{option_map, unwrap_or}
 use Rattle.std.specs.List.{list_any}
+use Rattle.vt_laws_worlds.proofs.overlay_permits.worlds.PolicyLeads.{named_leaves}
 use Rattle.vt_spec.specs.Lists.{Fresh}
 use Rattle.vt_spec.specs.Machine.Apply.{apply, filesystems_changed}
 use Rattle.vt_spec.specs.Machine.Filesystems.{raised, raised_if_changed}
@@ -19,7 +20,6 @@ use Rattle.vt_laws_worlds.proofs.worlds.SeenTrees.{unused_by_filesystem}
 use Rattle.vt_laws_turns.specs.Frames.Unraised.{IsCallIn, IsFilesystemUnraised, KeepsFilesystem, UnraisedFilesystemsStay}
 use Rattle.vt_laws_turns.proofs.frames.frames.FilesystemsGoOn.{GoesOn, filesystems_go_on}
 use Rattle.vt_laws_turns.proofs.frames.frames.FilesystemsGoOn.GoesOn.{Changed, New, Old}
-use Rattle.vt_laws_turns.proofs.frames.frames.PolicyLeaves.{policy_leaves}
 use Rattle.vt_laws_turns.proofs.frames.frames.SameMounts.{rises}
 use Rattle.vt_laws_turns.proofs.frames.frames.SweptFilesystems.{Stays, kept_on, same_kept, swept_stays}
 use Rattle.vt_laws_turns.proofs.frames.frames.Unraised.{not_stale}
@@ -132,8 +132,8 @@ module _ (world : World ℕ) (fresh : Fresh ℕ) (given : IsCallIn world fresh) 
         by (Some left) e = keeps left e (filesystems_go_on world fresh task permit (before left e) (swept left e).1)
 
 pub unraised_filesystems_stay : UnraisedFilesystemsStay
-unraised_filesystems_stay world fresh name call number given = policy_leaves
+unraised_filesystems_stay world fresh name call number given = named_leaves
     (λ later. IsFilesystemUnraised world later number
     → KeepsFilesystem (filesystem_numbered nat_eq world number) (filesystem_numbered nat_eq later number))
     world fresh name call (λ same. same_kept (filesystem_numbered nat_eq world number))
-    (λ task permit granted. granted_stays world fresh given number name task permit)
+    (λ task found permit granted. granted_stays world fresh given number name task permit)

@@ -3,6 +3,7 @@ use Rattle.std.proofs.lemmas.Grind.{common_steps}
 use Rattle.std.proofs.Common.{◌≡◌, ◌≢◌, refl, sym, ap, ◌∙◌, inl, inr, ℕ, nat_eq, Bool, true, false, cond, List, [], ◌∷◌, ◌*◌, Option, Some, None, find, eqb-true, eq-eqb, arith}
 use Rattle.std.specs.Prelude.{option_map, unwrap_or}
 use Rattle.std.specs.List.{list_any}
+use Rattle.vt_laws_worlds.proofs.overlay_permits.worlds.PolicyLeads.{named_leaves}
 use Rattle.vt_spec.specs.Language.Calls.{TaskName}
 use Rattle.vt_spec.specs.Lists.{Fresh}
 use Rattle.vt_spec.specs.Machine.Apply.{apply, filesystems_changed}
@@ -20,7 +21,6 @@ use Rattle.vt_laws_turns.proofs.frames.Found.{found_map, found_one}
 use Rattle.vt_laws_turns.proofs.frames.frames.FilesystemsGoOn.{GoesOn, filesystems_go_on}
 use Rattle.vt_laws_turns.proofs.frames.frames.FilesystemsGoOn.GoesOn.{Changed, New, Old}
 use Rattle.vt_laws_turns.proofs.frames.frames.FilesystemsUnraised.{change_in, unraised_filesystems_stay}
-use Rattle.vt_laws_turns.proofs.frames.frames.PolicyLeaves.{policy_leaves}
 use Rattle.vt_laws_turns.proofs.frames.frames.SweptFilesystems.{kept_on, same_kept, swept_stays}
 use Rattle.vt_laws_turns.proofs.frames.in_turn.NumbersRise.{Rises, first_unraised, given_in, next_is}
 
@@ -87,9 +87,9 @@ filesystem_change number world = filesystem_change_of nat_eq world number
 
 filesystem_step : (number : ℕ) (world : World ℕ) (one : CallBetween) → IsWorld nat_eq world → IsBeside number world one
     → Rises (filesystem_change number world) (filesystem_change number (after_call world one))
-filesystem_step number world one is beside = policy_leaves
+filesystem_step number world one is beside = named_leaves
     (λ later. Rises (filesystem_change number world) (filesystem_change number later)) world one.fresh one.name one.call
-    (inl refl) (λ task permit granted. granted_rises world one.fresh (given_in number world one is beside) number
+    (inl refl) (λ task found permit granted. granted_rises world one.fresh (given_in number world one is beside) number
     (beside.not_held (2 * 0)) one.name task permit)
 
 filesystem_stays : (calls : List CallBetween) (world : World ℕ) (number : ℕ) → IsWorld nat_eq world

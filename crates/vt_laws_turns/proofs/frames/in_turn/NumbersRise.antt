@@ -2,6 +2,7 @@
 use Rattle.std.proofs.lemmas.Grind.{common_steps}
 use Rattle.std.proofs.Common.{◌≡◌, ◌≢◌, refl, sym, ap, subst, ◌∙◌, ◌⊎◌, inl, inr, ⊎_elim, ℕ, nat_eq, Bool, true, false, true≢false, cond, List, [], ◌∷◌, ◌+◌, ◌*◌, ◌≤◌, Option, Some, find, eqb-true, eq-eqb, ne_eqb, arith}
 use Rattle.std.specs.Prelude.{option_map, ◌==◌}
+use Rattle.vt_laws_worlds.proofs.overlay_permits.worlds.PolicyLeads.{named_leaves}
 use Rattle.vt_spec.specs.Language.Calls.{Call, TaskName}
 use Rattle.vt_spec.specs.Lists.{Fresh}
 use Rattle.vt_spec.specs.Machine.Apply.{apply, filesystems_changed}
@@ -18,7 +19,6 @@ use Rattle.vt_laws_turns.specs.Frames.InTurn.{AreBeside, AreOfOthers, CallBetwee
 use Rattle.vt_laws_turns.specs.Frames.Unraised.{IsCallIn, IsNamespaceUnraised}
 use Rattle.vt_laws_turns.proofs.frames.frames.NamespacesGoOn.{namespace_found, namespaces_go_on}
 use Rattle.vt_laws_turns.proofs.frames.frames.PivotsRaise.{other_tasks_of_unraised_namespaces_stay}
-use Rattle.vt_laws_turns.proofs.frames.frames.PolicyLeaves.{policy_leaves}
 use Rattle.vt_laws_turns.proofs.frames.frames.Unraised.{change_in, not_stale, unraised_namespaces_keep_mounts}
 use Rattle.vt_laws_turns.proofs.frames.Found.{found_map}
 
@@ -110,10 +110,10 @@ module _ (world : World ℕ) (fresh : Fresh ℕ) (given : IsCallIn world fresh) 
 pub namespace_rises : (world : World ℕ) (fresh : Fresh ℕ) (name : TaskName) (call : Call) (number : ℕ)
     → IsCallIn world fresh → fresh (2 * 0) ≢ number → Rises (namespace_change_of nat_eq world number)
     (namespace_change_of nat_eq (policy nat_eq fresh world name call).world number)
-namespace_rises world fresh name call number given other = policy_leaves
+namespace_rises world fresh name call number given other = named_leaves
     (λ later. Rises (namespace_change_of nat_eq world number) (namespace_change_of nat_eq later number))
     world fresh name call (inl refl)
-    (λ task permit granted. granted_rises world fresh given number other name task permit)
+    (λ task found permit granted. granted_rises world fresh given number other name task permit)
 
 -- Several calls
 pub given_in : (number : ℕ) (world : World ℕ) (one : CallBetween) → IsWorld nat_eq world → IsBeside number world one

@@ -6,9 +6,9 @@ use mathlib.Core.List.{reverse-cons}
 use Rattle.std.proofs.lemmas.Option.{same_Some}
 use Rattle.vt_laws_trees.proofs.layers.layers.UpperLine.{named_so}
 use Rattle.vt_laws_trees.proofs.layers.layers.UpperWorld.{above_upper, overlay_tree}
-use Rattle.vt_laws_worlds.proofs.one_text.answered.AlikeChanges.{CopiesAlike, found_alike}
-use Rattle.vt_laws_worlds.proofs.one_text.answered.AlikeCopies.{AllUpper, LinesAlike, MergesAlike}
-use Rattle.vt_laws_worlds.proofs.one_text.answered.AlikeWorlds.{Alike}
+use Rattle.vt_laws_trees.proofs.runs.answered.AlikeChanges.{CopiesAlike, found_alike}
+use Rattle.vt_laws_trees.proofs.runs.answered.AlikeCopies.{AllUpper, LinesAlike, MergesAlike}
+use Rattle.vt_laws_trees.proofs.runs.answered.AlikeWorlds.{Alike}
 use Rattle.vt_laws_rules.proofs.same.SameFiles.{one_found}
 use Rattle.vt_laws_rules.proofs.same.SameNames.{worlds_have_one_name}
 use Rattle.vt_spec.proofs.NodeChanges.{entry_from}

@@ -3,11 +3,10 @@ use Rattle.std.proofs.Common.{◌≡◌, sym, ◌∙◌, ℕ, nat_eq, true, ◌|
 use Rattle.std.specs.List.{list_all, list_any}
 use Rattle.std.proofs.lemmas.List.Sorted.{list_any-IsPermutation}
 use Rattle.vt_laws_mounts.specs.LettingGo.InUse.{AllInUse, is_inode_used}
-use Rattle.vt_laws_worlds.proofs.one_text.answered.AlikeChanges.{locations_same}
-use Rattle.vt_laws_worlds.proofs.one_text.answered.AlikeSettled.{lives_same, used_permuted}
-use Rattle.vt_laws_worlds.proofs.one_text.answered.AlikeWorlds.{Alike}
-use Rattle.vt_laws_worlds.proofs.permits.same.EachHas.{each_all, each_holds}
-use Rattle.vt_laws_trees.proofs.runs.answered.AlikeWorlds.{with_mounts_of}
+use Rattle.vt_laws_trees.proofs.runs.answered.AlikeChanges.{locations_same}
+use Rattle.vt_laws_trees.proofs.runs.answered.AlikeSettled.{lives_same, used_permuted}
+use Rattle.vt_laws_trees.proofs.runs.answered.AlikeWorlds.{Alike, with_mounts_of}
+use Rattle.vt_laws_trees.proofs.runs.EachHas.{each_all, each_holds}
 use Rattle.vt_laws_trees.proofs.runs.Permuted.{list_all-IsPermutation}
 use Rattle.vt_spec.specs.Machine.Mounts.{Location, Mount}
 use Rattle.vt_spec.specs.Machine.SameWorlds.{SameFilesystem}

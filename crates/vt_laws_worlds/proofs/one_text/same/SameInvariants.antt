@@ -4,10 +4,9 @@ use Rattle.std.proofs.lemmas.Grind.{common_steps}
 use Rattle.std.specs.Prelude.{option_to_list}
 use Rattle.std.specs.List.{list_all, list_any}
 use Rattle.std.proofs.lemmas.List.Sorted.{list_any-IsPermutation}
-use Rattle.vt_laws_worlds.proofs.permits.same.EachHas.{each_all, each_among, each_holds, each_pair}
-use Rattle.vt_laws_worlds.proofs.one_text.answered.AlikeChanges.{found_alike, locations_same}
-use Rattle.vt_laws_worlds.proofs.one_text.answered.AlikeWorlds.{Alike}
-use Rattle.vt_laws_trees.proofs.runs.answered.AlikeWorlds.{SameNamespace, SameTask, with_mounts_of}
+use Rattle.vt_laws_trees.proofs.runs.EachHas.{each_all, each_among, each_holds, each_pair}
+use Rattle.vt_laws_trees.proofs.runs.answered.AlikeChanges.{found_alike, locations_same}
+use Rattle.vt_laws_trees.proofs.runs.answered.AlikeWorlds.{Alike, SameNamespace, SameTask, with_mounts_of}
 use Rattle.vt_laws_trees.proofs.runs.Each.{each_any, each_to_one}
 use Rattle.vt_laws_trees.proofs.runs.Permuted.{list_all-IsPermutation}
 use Rattle.vt_spec.specs.declared.attributes.Kind.TheVariants.{File}

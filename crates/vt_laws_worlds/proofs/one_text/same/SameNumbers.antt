@@ -6,8 +6,7 @@ use Rattle.vt_laws_rules.specs.Renaming.{Renaming}
 use Rattle.vt_laws_worlds.specs.OneText.Same.{AnySameWorldsKeepToNumbers}
 use Rattle.vt_spec.specs.Machine.SameWorlds.{SameFilesystem}
 use Rattle.vt_laws_rules.proofs.judged.NumbersRaised.{bare_task}
-use Rattle.vt_laws_worlds.proofs.one_text.answered.AlikeWorlds.{Alike, alike_from_same}
-use Rattle.vt_laws_trees.proofs.runs.answered.AlikeWorlds.{SameNamespace, SameTask}
+use Rattle.vt_laws_trees.proofs.runs.answered.AlikeWorlds.{Alike, alike_from_same, SameNamespace, SameTask}
 use Rattle.vt_laws_trees.proofs.runs.Each.{Each}
 use Rattle.vt_spec.specs.Machine.Renaming.{renamed, renamed_filesystem, renamed_mount, renamed_namespace, renamed_node, renamed_overlay, renamed_task}
 use Rattle.vt_spec.specs.Machine.World.{Filesystem, Namespace, Task, World}

@@ -3,10 +3,10 @@ use Rattle.std.proofs.Common.{arith, ◌≡◌, sym, ap, subst, ◌∙◌, ℕ, 
 use Rattle.std.proofs.lemmas.Grind.{common_steps}
 use Rattle.std.specs.List.{list_all, list_any}
 use Rattle.std.proofs.lemmas.List.Sorted.{list_any-IsPermutation}
-use Rattle.vt_laws_worlds.proofs.one_text.answered.AlikeChanges.{found_alike, opened_same}
-use Rattle.vt_laws_worlds.proofs.one_text.answered.AlikeDirected.{overlays_alike}
-use Rattle.vt_laws_worlds.proofs.one_text.answered.AlikeWorlds.{Alike}
-use Rattle.vt_laws_worlds.proofs.permits.same.EachHas.{each_all}
+use Rattle.vt_laws_trees.proofs.runs.answered.AlikeChanges.{found_alike, opened_same}
+use Rattle.vt_laws_trees.proofs.runs.answered.AlikeDirected.{overlays_alike}
+use Rattle.vt_laws_trees.proofs.runs.answered.AlikeWorlds.{Alike}
+use Rattle.vt_laws_trees.proofs.runs.EachHas.{each_all}
 use Rattle.vt_laws_rules.proofs.same.SameFiles.{under_same}
 use Rattle.vt_laws_trees.proofs.runs.Each.{each_any, each_flat}
 use Rattle.vt_spec.specs.declared.attributes.Kind.TheVariants.{White}

@@ -3,12 +3,11 @@ use Rattle.std.proofs.Common.{arith, ℕ}
 use Rattle.std.proofs.lemmas.Grind.{common_steps}
 use Rattle.vt_laws_mounts.proofs.letting_go.sweeps.InUse.{nothing_goes}
 use Rattle.vt_laws_mounts.proofs.letting_go.sweeps.OfWorlds.{all_in_use}
-use Rattle.vt_laws_worlds.proofs.one_text.answered.AlikeWorlds.{Alike, alike_from_same, mounts_of_one}
+use Rattle.vt_laws_trees.proofs.runs.answered.AlikeWorlds.{Alike, alike_from_same, mounts_of_one, with_mounts_of}
 use Rattle.vt_laws_worlds.proofs.one_text.same.SameInUse.{in_use}
 use Rattle.vt_laws_worlds.proofs.one_text.same.SameInvariants.{mounts_keep, namespaces_keep, roots_keep, tasks_keep, trees_keep}
 use Rattle.vt_laws_worlds.proofs.one_text.same.SameOverlays.{overlays_keep}
 use Rattle.vt_laws_worlds.specs.OneText.Same.{AnySameWorldsAreUnderWay, AnySameWorldsAreWorlds}
-use Rattle.vt_laws_trees.proofs.runs.answered.AlikeWorlds.{with_mounts_of}
 use Rattle.vt_laws_worlds.specs.Worlds.Kept.{IsUnderWay}
 use Rattle.vt_spec.specs.Machine.World.{World}
 

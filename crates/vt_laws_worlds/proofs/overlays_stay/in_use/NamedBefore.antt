@@ -2,10 +2,9 @@
 use Rattle.std.proofs.Common.{◌≡◌, refl, sym, ap, ◌∙◌, ℕ, eqb-true, Bool, true, false, true≢false, not, ◌&&◌, ◌==◌}
 use Rattle.vt_laws_worlds.proofs.one_text.in_use.InUseServes.{any_worlds_keep_to_numbers_in_use}
 use Rattle.vt_laws_worlds.specs.Permits.InUse.{is_in_use}
-use Rattle.vt_laws_rules.proofs.numbers.Supports.{used_numbers_are_named}
+use Rattle.vt_laws_worlds.proofs.permits.in_use.InUseServes.{used_before}
 use Rattle.vt_laws_trees.specs.Runs.Handed.{is_counted_before, is_named_before}
 use Rattle.vt_laws_worlds.specs.OverlaysStay.InUse.{AnyWorldsKeepToNamedBefore}
-use Rattle.vt_laws_worlds.proofs.permits.in_use.InUseServes.{leaves_two}
 
 pub any_worlds_keep_to_named_before : AnyWorldsKeepToNamedBefore
 any_worlds_keep_to_named_before next inode world whole keeps out =
@@ -15,5 +14,4 @@ any_worlds_keep_to_named_before next inode world whole keeps out =
     by : (number : ℕ) → is_in_use world number ≡ true → (same : Bool) → (number == inode) ≡ same
         → (is_counted_before next number && not (number == inode)) ≡ true
     by number used true e = absurd (true≢false (sym used ∙ ap (is_in_use world) (eqb-true number inode e) ∙ out))
-    by number used false e =
-        (λ i. used_numbers_are_named (is_counted_before next) world keeps (leaves_two next) number used i && not (e i))
+    by number used false e = (λ i. used_before next world keeps number used i && not (e i))

@@ -5,6 +5,7 @@ use Rattle.std.specs.Prelude.{All}
 use Rattle.std.specs.List.{list_all}
 use Rattle.std.proofs.lemmas.Bool.{and_parts, ltb-true}
 use Rattle.std.proofs.lemmas.List.Elements.{All-head, All-tail}
+use Rattle.vt_laws_trees.proofs.runs.Permuted.{and_swapped}
 use Rattle.vt_spec.specs.Machine.SameWorlds.{SameFilesystem, SameFilesystems}
 use Rattle.vt_spec.specs.Machine.World.{Filesystem}
 use Rattle.vt_laws_worlds.specs.OverlaysStay.Woven.{PlainOnesAreFound, RisingListsAreWoven, WovenListsAreAlike, WovenListsAreFailing, WovenListsAreFiltered, WovenListsArePassing, WovenListsPassAll, are_rising, put_in, woven}
@@ -135,30 +136,21 @@ rising_filtered stays (first ∷ rest) rising =
     by true before later = λ i. all_filtered (is_before first) stays rest before i && later i
     by false before later = later
 
-turned : {A : Type 0} (p q : A → Bool) (list : List A) → filter p (filter q list) ≡ filter q (filter p list)
-turned p q [] = refl
-turned p q (first ∷ rest) = by (p first) (q first) refl refl (turned p q rest)
-  where
-    by : (a b : Bool) → p first ≡ a → q first ≡ b → filter p (filter q rest) ≡ filter q (filter p rest)
-        → filter p (cond b (first ∷ filter q rest) (filter q rest))
-        ≡ filter q (cond a (first ∷ filter p rest) (filter p rest))
-    by a b e f later = grind (arith, common_steps)
+-- filters by two tests, in whatever order
+pub filters_swapped : {A : Type 0} (p q : A → Bool) (list : List A) → filter p (filter q list) ≡ filter q (filter p list)
+filters_swapped p q [] = refl
+filters_swapped {A} p q (first ∷ rest) = grind (arith, common_steps, filters_swapped p q rest)
 
 pub woven_lists_are_filtered : WovenListsAreFiltered
 woven_lists_are_filtered test stays plain overlays parted overlays_rise rising =
     sym (rising_lists_are_woven test (filter stays (woven plain overlays))
     (rising_filtered stays (woven plain overlays) rising)) ∙ (λ i. woven
-    ((turned (fails test) stays (woven plain overlays)
+    ((filters_swapped (fails test) stays (woven plain overlays)
     ∙ ap (filter stays) (woven_lists_are_failing test plain overlays parted)) i)
-    ((turned test stays (woven plain overlays)
+    ((filters_swapped test stays (woven plain overlays)
     ∙ ap (filter stays) (woven_lists_are_passing test plain overlays parted overlays_rise)) i))
 
 -- Tests
-
-aside : (a b c : Bool) → (a && (b && c)) ≡ (b && (a && c))
-aside true b c = refl
-aside false true c = refl
-aside false false c = refl
 
 put_tested : (test : Filesystem ℕ → Bool) (f : Filesystem ℕ) (list : List (Filesystem ℕ))
     → list_all test (put_in f list) ≡ (test f && list_all test list)
@@ -168,7 +160,7 @@ put_tested test f (first ∷ rest) = by (is_before first f) (put_tested test f r
     by : (b : Bool) → list_all test (put_in f rest) ≡ (test f && list_all test rest)
         → list_all test (cond b (first ∷ put_in f rest) (f ∷ first ∷ rest))
         ≡ (test f && (test first && list_all test rest))
-    by true later = ap (λ b. test first && b) later ∙ aside (test first) (test f) (list_all test rest)
+    by true later = ap (λ b. test first && b) later ∙ and_swapped (test first) (test f) (list_all test rest)
     by false later = refl
 
 pub woven_lists_pass_all : WovenListsPassAll
@@ -179,7 +171,7 @@ woven_lists_pass_all test plain [] = by (list_all test plain)
     by false = refl
 woven_lists_pass_all test plain (overlay ∷ rest) = put_tested test overlay (woven plain rest)
     ∙ ap (λ b. test overlay && b) (woven_lists_pass_all test plain rest)
-    ∙ aside (test overlay) (list_all test plain) (list_all test rest)
+    ∙ and_swapped (test overlay) (list_all test plain) (list_all test rest)
 
 -- Sameness
 

@@ -4,15 +4,18 @@ use Rattle.std.proofs.Common.{eq-eqb, eqb-true, ne_eqb, ◌≡◌, ◌≢◌, re
 use Rattle.vt_laws_rules.proofs.numbers.NamedWorlds.{named_is_kept}
 use Rattle.vt_laws_rules.proofs.numbers.Supports.{used_numbers_are_named}
 use Rattle.vt_laws_rules.specs.Numbers.{KeepsTo, LeavesOutTwo}
-use Rattle.vt_laws_worlds.proofs.permits.in_use.InUseNamed.{worlds_have_numbers_in_use}
-use Rattle.vt_laws_worlds.specs.Permits.InUse.{CountsServeWorlds, HandedNumbersServeWorlds, WorldsKeepToNamedBefore, WorldsKeepToNumbersInUse, is_in_use}
+use Rattle.vt_laws_worlds.proofs.one_text.in_use.InUseNamed.{any_worlds_have_numbers_in_use}
+use Rattle.vt_laws_worlds.specs.Permits.InUse.{CountsServeWorlds, HandedNumbersServeWorlds, WorldsHaveNumbersInUse, WorldsKeepToNumbersInUse, is_in_use}
 use Rattle.vt_laws_trees.specs.Runs.Handed.{counts_from, is_counted_before, is_named_before}
 use Rattle.vt_spec.specs.Machine.World.{World}
 use Rattle.std.proofs.lemmas.Bool.{le-ltb}
 
+pub worlds_have_numbers_in_use : WorldsHaveNumbersInUse
+worlds_have_numbers_in_use world whole plain = any_worlds_have_numbers_in_use world whole
+
 pub worlds_keep_to_numbers_in_use : WorldsKeepToNumbersInUse
 worlds_keep_to_numbers_in_use named world whole plain among renaming leaves =
-    named_is_kept (is_in_use world) world (worlds_have_numbers_in_use world whole plain) renaming
+    named_is_kept (is_in_use world) world (any_worlds_have_numbers_in_use world whole) renaming
     (λ number used. leaves number (among number used))
 
 -- numbers that are never given are not among those before a count
@@ -23,7 +26,7 @@ leaves_two next = (3, 7, apart, refl, refl)
     apart e = absurd (omega arith)
 
 -- what is in use is among the numbers before
-used_before : (next : ℕ) (world : World ℕ) → KeepsTo (is_counted_before next) world → (number : ℕ)
+pub used_before : (next : ℕ) (world : World ℕ) → KeepsTo (is_counted_before next) world → (number : ℕ)
     → is_in_use world number ≡ true → is_counted_before next number ≡ true
 used_before next world keeps number used =
     used_numbers_are_named (is_counted_before next) world keeps (leaves_two next) number used
@@ -52,13 +55,3 @@ counts_serve_worlds next world keeps = record {
 pub handed_numbers_serve_worlds : HandedNumbersServeWorlds
 handed_numbers_serve_worlds next place inode world keeps even out =
     grind (arith, common_steps, eqb-true, unused_count, counts_apart)
-
-pub worlds_keep_to_named_before : WorldsKeepToNamedBefore
-worlds_keep_to_named_before next inode world whole plain keeps out =
-    worlds_keep_to_numbers_in_use (is_named_before next inode) world whole plain (λ number used.
-    by number used (number == inode) refl)
-  where
-    by : (number : ℕ) → is_in_use world number ≡ true → (same : Bool) → (number == inode) ≡ same
-        → (is_counted_before next number && not (number == inode)) ≡ true
-    by number used true e = absurd (true≢false (sym used ∙ ap (is_in_use world) (eqb-true number inode e) ∙ out))
-    by number used false e = (λ i. used_before next world keeps number used i && not (e i))

@@ -4,10 +4,9 @@ use Rattle.vt_laws_rules.proofs.numbers.Renamings.{named_world, renamed_itself}
 use Rattle.vt_laws_rules.proofs.numbers.Commuting.{Named, commutes_nat}
 use Rattle.vt_laws_rules.specs.Renaming.{Renaming}
 use Rattle.vt_laws_worlds.proofs.permits.named.NamedPermits.{named_permit, permit_left}
-use Rattle.vt_laws_worlds.proofs.permits.same.SameNumbers.{same_worlds_keep_to_numbers}
+use Rattle.vt_laws_worlds.proofs.one_text.same.SameNumbers.{any_same_worlds_keep_to_numbers}
 use Rattle.vt_laws_worlds.specs.Permits.Left.{left_by}
 use Rattle.vt_laws_worlds.specs.Permits.Named.{renamed_permit, PermitsKeepToNumbers, SameKeepsToNumbersToo}
-use Rattle.vt_laws_trees.proofs.runs.answered.AlikeWorlds.{same_worlds_are_plain_alike, sameness_is_an_equivalence}
 use Rattle.vt_spec.specs.Language.Calls.{TaskName}
 use Rattle.vt_spec.specs.Lists.{Fresh}
 use Rattle.vt_spec.specs.Machine.Apply.{apply}
@@ -59,7 +58,5 @@ permits_keep_to_numbers named fresh world task permit called keeps supplied is r
 
 pub same_keeps_to_numbers_too : SameKeepsToNumbersToo
 same_keeps_to_numbers_too named fresh world task permit other called keeps supplied is same plain =
-    same_worlds_keep_to_numbers named (left_by fresh world task permit) other same
-    (same_worlds_are_plain_alike other (left_by fresh world task permit)
-    (sameness_is_an_equivalence.back (left_by fresh world task permit) other same) plain)
+    any_same_worlds_keep_to_numbers named (left_by fresh world task permit) other same
     (permits_keep_to_numbers named fresh world task permit called keeps supplied is)

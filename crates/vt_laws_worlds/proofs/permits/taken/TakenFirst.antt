@@ -4,6 +4,7 @@ use Rattle.std.proofs.Common.{◌≡◌, refl, sym, ap, subst, ◌∙◌, true�
 use Rattle.std.specs.Prelude.{All, unwrap_or, ◌==◌}
 use Rattle.std.specs.List.{list_all}
 use Rattle.std.proofs.lemmas.Bool.{and_parts}
+use Rattle.vt_laws_trees.proofs.runs.answered.PlainStays.{same_plain}
 use Rattle.vt_laws_worlds.proofs.permits.taken.TakenAttached.{copied_same, index_bound, moved_same}
 use Rattle.vt_laws_worlds.specs.Permits.Named.{permit_named}
 use Rattle.vt_laws_worlds.proofs.permits.taken.TakenTypes.{retyped_same}
@@ -64,9 +65,6 @@ found_ungrouped (mount ∷ rest) all number = by (nat_eq number mount.number)
 change_same : (world : World ℕ) → IsPlain world → (fresh again : Fresh ℕ) (location : Location ℕ) (change : Change ℕ)
     → with_change nat_eq fresh world location change ≡ with_change nat_eq again world location change
 change_same world plain fresh again location change = grind (arith, common_steps, plain_numbered)
-
-taken_plain : (world after : World ℕ) → after.filesystems ≡ world.filesystems → IsPlain world → IsPlain after
-taken_plain world after same plain = subst (All (λ (f : Filesystem ℕ). is_overlay f ≡ false)) (sym same) plain
 
 pub nonempty : (list : List (Mount ℕ)) → (length (filter (is_root_mount nat_eq) list) == 1) ≡ true → 0 < length list
 nonempty [] e = absurd (true≢false (sym e))
@@ -131,7 +129,7 @@ module _ (world : World ℕ) (whole : IsWorld nat_eq world) (plain : IsPlain wor
         → with_change nat_eq fresh (without_mounts_on nat_eq world gone) location change
         ≡ with_change nat_eq again (without_mounts_on nat_eq world gone) location change
     taken_same gone location change = change_same (without_mounts_on nat_eq world gone)
-        (taken_plain world (without_mounts_on nat_eq world gone)
+        (same_plain world (without_mounts_on nat_eq world gone)
         (filesystems-taken_away world _) plain) fresh again location change
 
     replaced_same : (replaced : Option (Location ℕ)) (location : Location ℕ) (change : Change ℕ)

@@ -2,6 +2,7 @@
 use Rattle.std.proofs.Common.{arith, ◌≡◌, ◌≢◌, refl, sym, ap, subst, ◌∙◌, ℕ, nat_eq, List, [], ◌∷◌, ◌++◌, length, Option, Some, None, is_some, unwrap_or}
 use Rattle.std.proofs.lemmas.Grind.{common_steps}
 use Rattle.std.specs.Prelude.{option_map}
+use Rattle.vt_laws_trees.proofs.layers.layers.UpperShown.{without_last_of_longer}
 use Rattle.vt_spec.specs.FileTree.{FileTree}
 use Rattle.vt_spec.specs.Language.Changes.{changed}
 use Rattle.vt_spec.specs.Language.Changes.Change.{Make}
@@ -50,11 +51,6 @@ longer : (front rest : List (List ℕ)) (name : List ℕ) → (front ++ name ∷
 longer [] rest name e = absurd cc
 longer (word ∷ front) rest name e = longer front rest name (ap rest_of e)
 
-without_last_is : (front : List (List ℕ)) (name : List ℕ) → without_last (front ++ name ∷ []) ≡ front
-without_last_is [] name = refl
-without_last_is (word ∷ []) name = refl
-without_last_is (word ∷ next ∷ front) name = ap (λ l. word ∷ l) (without_last_is (next ∷ front) name)
-
 last_is : (default name : List ℕ) (front : List (List ℕ)) → last_or default (front ++ name ∷ []) ≡ name
 last_is default name [] = refl
 last_is default name (word ∷ front) = last_is word name front
@@ -70,7 +66,7 @@ module _ (fresh : Fresh ℕ) (stack : Stack ℕ) (merge : Merge ℕ) (front : Li
   over : (seen : Option (Node ℕ)) → object_above stack later front ≡ above
       → option_map (copy_node above) seen ≡ Some (copy_node above node) → copy_over fresh stack later path None seen
       ≡ changed nat_eq later (Make above name (fresh (length path)) (copy_node above node))
-  over seen at e = grind (arith, common_steps, none_is_some, without_last_is, last_is, same_Some)
+  over seen at e = grind (arith, common_steps, none_is_some, without_last_of_longer, last_is, same_Some)
 
 pub step_by_step : CopiesGoStepByStep
 step_by_step fresh stack merge whole new front name parent above node leads none seen is =

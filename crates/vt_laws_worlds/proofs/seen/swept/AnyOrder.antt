@@ -4,6 +4,7 @@ use Rattle.std.proofs.lemmas.Grind.{common_steps}
 use Rattle.std.specs.Prelude.{All}
 use Rattle.std.proofs.lemmas.List.Elements.{All-filter, All-map}
 use Rattle.std.proofs.lemmas.Map.Views.{any-filter_same}
+use Rattle.vt_laws_mounts.proofs.letting_go.sweeps.WithOverlays.{upper_without, overlay_without}
 use Rattle.vt_spec.specs.Lists.{folded, is_among}
 use Rattle.vt_spec.specs.Machine.Settled.{filesystem_lives, located_in, settled}
 use Rattle.vt_spec.specs.Machine.World.{Filesystem, World, is_overlay}
@@ -21,7 +22,7 @@ use Rattle.vt_laws_mounts.proofs.letting_go.sweeps.Merged.{HasReals, without_all
 use Rattle.vt_laws_worlds.specs.Seen.SweptBefore.{AnyMayGoBefore, AnyOrderIsTheSweep, HasMountsInUse, LocationsStay, Loser, let_go_loser}
 use Rattle.vt_laws_worlds.specs.Seen.SweptBefore.Loser.{AFilesystem, AGroup, AnInode}
 use Rattle.vt_laws_worlds.proofs.seen.swept.Inodes.{inodes_may_go_before, let_go_is_less, went, went_unused}
-use Rattle.vt_laws_worlds.proofs.seen.swept.Stages.{less, overlay_less, reals_less, upper_less, with_less}
+use Rattle.vt_laws_worlds.proofs.seen.swept.Stages.{less, reals_less, with_less}
 use Rattle.vt_laws_worlds.proofs.seen.swept.Wholes.{filesystems_may_go_before, groups_may_go_before}
 
 -- A tree without inodes that are not its root and have no name is a tree.
@@ -106,8 +107,8 @@ module _ (chosen : Filesystem ℕ → Bool) (world : World ℕ) (inode : Inode) 
   upper_kept : (f : Filesystem ℕ) → UpperApart world f → UpperApart (with_less goes world) (less goes f)
   upper_kept f apart is = All-map (λ g. has_upper_in f.number g ≡ false) (less goes) world.filesystems
       (all_from_among (λ g. has_upper_in f.number (less goes g) ≡ false) world.filesystems (λ g m.
-      upper_less f.number (goes g) g ∙ among_from_all (λ x. has_upper_in f.number x ≡ false) world.filesystems
-      (apart (sym (overlay_less (goes f) f) ∙ is)) g m))
+      upper_without f.number (goes g) g ∙ among_from_all (λ x. has_upper_in f.number x ≡ false) world.filesystems
+      (apart (sym (overlay_without (goes f) f) ∙ is)) g m))
 
   inode_kept : HasMountsInUse (let_go_in chosen world inode)
   inode_kept = subst HasMountsInUse (sym (let_go_is_less chosen world inode)) (record {

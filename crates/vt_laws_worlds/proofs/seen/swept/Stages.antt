@@ -3,6 +3,7 @@ use Rattle.std.proofs.Common.{arith, ◌≡◌, refl, sym, ap, subst, ◌∙◌,
 use Rattle.std.proofs.lemmas.Grind.{common_steps}
 use Rattle.std.specs.Prelude.{All, filter_map}
 use Rattle.std.proofs.lemmas.Bool.{cases_Bool, not-true}
+use Rattle.vt_laws_mounts.proofs.letting_go.sweeps.WithOverlays.{upper_without, overlay_without}
 use Rattle.vt_spec.specs.Lists.{is_among}
 use Rattle.vt_spec.specs.Machine.Locked.{of_overlay}
 use Rattle.vt_spec.specs.Machine.Settled.{layers_in, located_in, named_in, objects_of_overlay, only_used, only_used_of, used_in, without_dead_in, without_dead_inodes}
@@ -15,13 +16,6 @@ use Rattle.vt_laws_mounts.proofs.letting_go.sweeps.InUse.{layers-left, no_object
 use Rattle.vt_laws_mounts.proofs.letting_go.sweeps.Inodes.{numbers_without}
 use Rattle.vt_laws_mounts.proofs.letting_go.sweeps.Merged.{HasReals, left_of, named_without, reals_without, without_all, without_both, without_nothing}
 use Rattle.vt_laws_mounts.proofs.letting_go.sweeps.MergedSteps.{layers_without}
-
-pub overlay_less : (gone : ℕ → Bool) (f : Filesystem ℕ) → is_overlay (without_all gone f) ≡ is_overlay f
-overlay_less gone f = grind (arith, common_steps)
-
-pub upper_less : (number : ℕ) (gone : ℕ → Bool) (f : Filesystem ℕ)
-    → has_upper_in number (without_all gone f) ≡ has_upper_in number f
-upper_less number gone f = grind (arith, common_steps)
 
 -- what is not there has no real object, still
 pub reals_less : (gone : ℕ → Bool) (f : Filesystem ℕ) → HasReals f → HasReals (without_all gone f)
@@ -124,7 +118,7 @@ module _ (went : Filesystem ℕ → ℕ → Bool) (world : World ℕ) (trees : H
   no_objects_left f m is = flat_map_none (objects_of_overlay nat_eq f.number) (map (less went) world.filesystems)
       (λ x n. let from = among-from_map (less went) world.filesystems x n in
       no_upper_objects world f.number x (ap (has_upper_in f.number) from.2
-      ∙ upper_less f.number (went from.0) from.0 ∙ no_upper_in f m is from.0 from.1))
+      ∙ upper_without f.number (went from.0) from.0 ∙ no_upper_in f m is from.0 from.1))
 
   -- then inodes of plain trees are still to go
   abbrev plain_went : Filesystem ℕ → ℕ → Bool
@@ -144,7 +138,7 @@ module _ (went : Filesystem ℕ → ℕ → Bool) (world : World ℕ) (trees : H
 
   first_alike : (f : Filesystem ℕ) → Among f world.filesystems
       → only_used nat_eq left (is_overlay (less went f)) (less went f) ≡ less plain_went (first f)
-  first_alike f m = ap (λ b. only_used nat_eq left b (less went f)) (overlay_less (went f) f) ∙ ⊎_elim
+  first_alike f m = ap (λ b. only_used nat_eq left b (less went f)) (overlay_without (went f) f) ∙ ⊎_elim
       (λ is. ap (λ b. only_used nat_eq left b (less went f)) is
       ∙ swept_alike went world f (tree_of f m) (reals_of f m) (unused f m)
       (no_objects_left f m is ∙ sym (no_objects_in f m is)) ∙ sym (ap (λ b. only_used nat_eq world b f) is)
@@ -203,14 +197,14 @@ module _ (went : Filesystem ℕ → ℕ → Bool) (world : World ℕ) (trees : H
       ≡ flat_map (objects_of_overlay nat_eq number) second_world.filesystems
   objects_second number = flat_map-map (less plain_went) (objects_of_overlay nat_eq number) second_world.filesystems
       (λ g. ⊎_elim (λ is. ap (objects_of_overlay nat_eq number) (stays_whole g is))
-      (λ isnt. no_objects world number (less plain_went g) (overlay_less (plain_went g) g ∙ isnt)
+      (λ isnt. no_objects world number (less plain_went g) (overlay_without (plain_went g) g ∙ isnt)
       ∙ sym (no_objects world number g isnt)) (cases_Bool (is_overlay g)))
 
   second_alike : (g : Filesystem ℕ) → Among g second_world.filesystems
       → only_used nat_eq (with_less plain_went second_world) (not (is_overlay (less plain_went g))) (less plain_went g)
       ≡ only_used nat_eq second_world (not (is_overlay g)) g
   second_alike g m = ap (λ b. only_used nat_eq (with_less plain_went second_world) (not b) (less plain_went g))
-      (overlay_less (plain_went g) g) ∙ ⊎_elim
+      (overlay_without (plain_went g) g) ∙ ⊎_elim
       (λ is. ap (λ b. only_used nat_eq (with_less plain_went second_world) (not b) (less plain_went g)) is
       ∙ stays_whole g is ∙ sym (ap (λ b. only_used nat_eq second_world (not b) g) is))
       (λ isnt. ap (λ b. only_used nat_eq (with_less plain_went second_world) (not b) (less plain_went g)) isnt

@@ -2,6 +2,7 @@
 use Rattle.std.proofs.Common.{arith, ◌≡◌, ap, ◌∙◌, ℕ, nat_eq, Bool, false, not, ◌||◌, ◌&&◌, filter}
 use Rattle.std.proofs.lemmas.Grind.{common_steps}
 use Rattle.std.proofs.lemmas.Bool.{or_parts}
+use Rattle.vt_spec.proofs.Truths.{or_false_right}
 use Rattle.vt_spec.specs.Machine.Mounts.{Mount}
 use Rattle.vt_spec.specs.Machine.Settled.{filesystem_lives, has_layer_on, is_mounted, mount_lives, without_dead_filesystems, without_dead_groups, without_dead_inodes, without_dead_mounts}
 use Rattle.vt_spec.specs.Machine.World.{Filesystem, World, with_mounts}
@@ -10,16 +11,12 @@ use Rattle.vt_laws_mounts.specs.LettingGo.OneByOne.{let_go_filesystem}
 use Rattle.vt_laws_mounts.proofs.letting_go.Lists.{any-filter, fails, filter_less, none_passes}
 use Rattle.vt_laws_worlds.specs.Seen.SweptBefore.{FilesystemsMayGoBefore, GroupsMayGoBefore, MountsMayGoBefore}
 
--- what passes the second test passes the first
-skipped : (a b : Bool) → (a || b) ≡ false → b ≡ false
-skipped a b e = (or_parts a b e).1
-
 pub mounts_may_go_before : MountsMayGoBefore
 mounts_may_go_before world number =
     ap (λ mounts. without_dead_groups nat_eq (without_dead_inodes nat_eq (without_dead_filesystems nat_eq
     (with_mounts world mounts)))) (filter_less (mount_lives nat_eq world)
     (λ mount. not (nat_eq mount.number number) || mount_lives nat_eq world mount) world.mounts
-    (λ mount m e. skipped (not (nat_eq mount.number number)) (mount_lives nat_eq world mount) e))
+    (λ mount m e. or_false_right (not (nat_eq mount.number number)) (mount_lives nat_eq world mount) e))
 
 -- a filesystem that is not in use before mounts go is not in use then
 module _ (world : World ℕ) (number : ℕ) where
@@ -43,7 +40,7 @@ module _ (world : World ℕ) (number : ℕ) where
   not_mounted : (filesystem : Filesystem ℕ) → stays filesystem ≡ false
       → is_mounted nat_eq mounted filesystem.number ≡ false
   not_mounted filesystem e = mounted_before filesystem.number (or_parts (is_mounted nat_eq world filesystem.number) _
-      (skipped (not (nat_eq filesystem.number number)) (filesystem_lives nat_eq world filesystem) e)).0
+      (or_false_right (not (nat_eq filesystem.number number)) (filesystem_lives nat_eq world filesystem) e)).0
 
   not_layering : (on : ℕ) (filesystem : Filesystem ℕ) → stays filesystem ≡ false → layered mounted on filesystem ≡ false
   not_layering on filesystem e = grind (arith, common_steps, not_mounted)
@@ -59,7 +56,7 @@ module _ (world : World ℕ) (number : ℕ) where
 
   -- what is let go is not in use then
   dead : (filesystem : Filesystem ℕ) → stays filesystem ≡ false → filesystem_lives nat_eq mounted filesystem ≡ false
-  dead filesystem e = grind (arith, common_steps, or_parts, skipped, mounted_before, none_passes, less, fails)
+  dead filesystem e = grind (arith, common_steps, or_parts, or_false_right, mounted_before, none_passes, less, fails)
 
 pub filesystems_may_go_before : FilesystemsMayGoBefore
 filesystems_may_go_before world number =

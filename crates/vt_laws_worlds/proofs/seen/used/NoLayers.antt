@@ -5,6 +5,7 @@ use Rattle.std.proofs.lemmas.List.{append-nil}
 use Rattle.std.proofs.lemmas.List.Elements.{filter-append}
 use Rattle.std.specs.List.{filter_map, flat_map, list_all}
 use Rattle.std.specs.Prelude.{option_to_list}
+use Rattle.vt_spec.proofs.Truths.{and_true_left, and_true_right}
 use Rattle.vt_spec.specs.Lists.{holds_of}
 use Rattle.vt_spec.specs.Machine.Invariants.{is_plain_layer}
 use Rattle.vt_spec.specs.Machine.Locked.{of_overlay, overlay_or}
@@ -14,14 +15,6 @@ use Rattle.vt_spec.proofs.Found.{found_passes}
 use Rattle.vt_laws_trees.proofs.layers.layers.UpperWorld.{overlay_found}
 use Rattle.vt_laws_worlds.specs.Seen.InodeUses.{OverlaysAreUsedByLocations}
 
-first_holds : (a b : Bool) → (a && b) ≡ true → a ≡ true
-first_holds true b e = refl
-first_holds false b e = e
-
-second_holds : (a b : Bool) → (a && b) ≡ true → b ≡ true
-second_holds true b e = e
-second_holds false b e = absurd (true≢false (sym e))
-
 module _ (world : World ℕ) (number : ℕ) (overlay : Overlay ℕ)
     (is : (filesystem_numbered nat_eq world number).overlay ≡ Some overlay) where
   abbrev here : Layer ℕ → Bool
@@ -29,12 +22,12 @@ module _ (world : World ℕ) (number : ℕ) (overlay : Overlay ℕ)
 
   -- a plain layer is not in this filesystem
   elsewhere : (layer : Layer ℕ) → is_plain_layer nat_eq world layer ≡ true → here layer ≡ false
-  elsewhere layer plain = grind (arith, common_steps, true≢false, first_holds, eqb-true)
+  elsewhere layer plain = grind (arith, common_steps, true≢false, and_true_left, eqb-true)
 
   none : (layers : List (Layer ℕ)) → list_all (is_plain_layer nat_eq world) layers ≡ true → filter here layers ≡ []
   none [] plain = refl
   none (layer ∷ layers) plain = ap (λ b. if b then layer ∷ filter here layers else filter here layers)
-      (elsewhere layer (first_holds _ _ plain)) ∙ none layers (second_holds (is_plain_layer nat_eq world layer) _ plain)
+      (elsewhere layer (and_true_left _ _ plain)) ∙ none layers (and_true_right (is_plain_layer nat_eq world layer) _ plain)
 
   abbrev plain_overlay : Filesystem ℕ → Bool
   plain_overlay = of_overlay true (λ o. list_all (is_plain_layer nat_eq world) (layers_of o))
@@ -49,8 +42,8 @@ module _ (world : World ℕ) (number : ℕ) (overlay : Overlay ℕ)
       → filter here (flat_map (of_overlay [] layers_of) all) ≡ []
   none_in [] plain = refl
   none_in (f ∷ all) plain = filter-append here (of_overlay [] layers_of f) (flat_map (of_overlay [] layers_of) all)
-      ∙ (λ i. none_of f.overlay f refl (first_holds _ _ plain) i
-      ++ none_in all (second_holds (plain_overlay f) _ plain) i)
+      ∙ (λ i. none_of f.overlay f refl (and_true_left _ _ plain) i
+      ++ none_in all (and_true_right (plain_overlay f) _ plain) i)
 
   abbrev objects_by : Filesystem ℕ → Overlay ℕ → List ℕ
   objects_by f o = if holds_of here o.upper then filter_map (λ n. upper_object (o.real n)) f.files.numbers else []
@@ -59,7 +52,7 @@ module _ (world : World ℕ) (number : ℕ) (overlay : Overlay ℕ)
       → list_all (is_plain_layer nat_eq world) (layers_of o) ≡ true → holds_of here o.upper ≡ false
   no_upper o None e plain = ap (holds_of here) e
   no_upper o (Some layer) e plain = ap (holds_of here) e
-      ∙ elsewhere layer (first_holds _ _ (sym (ap (λ upper. list_all (is_plain_layer nat_eq world)
+      ∙ elsewhere layer (and_true_left _ _ (sym (ap (λ upper. list_all (is_plain_layer nat_eq world)
       (option_to_list upper ++ option_to_list o.work ++ o.lowers)) e) ∙ plain))
 
   no_objects_of : (o : Option (Overlay ℕ)) (f : Filesystem ℕ) → f.overlay ≡ o → plain_overlay f ≡ true
@@ -72,8 +65,8 @@ module _ (world : World ℕ) (number : ℕ) (overlay : Overlay ℕ)
   no_objects : (all : List (Filesystem ℕ)) → list_all plain_overlay all ≡ true
       → flat_map (objects_of_overlay nat_eq number) all ≡ []
   no_objects [] plain = refl
-  no_objects (f ∷ all) plain = (λ i. no_objects_of f.overlay f refl (first_holds _ _ plain) i
-      ++ no_objects all (second_holds (plain_overlay f) _ plain) i)
+  no_objects (f ∷ all) plain = (λ i. no_objects_of f.overlay f refl (and_true_left _ _ plain) i
+      ++ no_objects all (and_true_right (plain_overlay f) _ plain) i)
 
 -- the filesystem that is found has the number
 number_is : (world : World ℕ) (number : ℕ) (overlay : Overlay ℕ)

@@ -37,7 +37,7 @@ use Rattle.vt_spec.specs.Tree.{Content, Node, is_directory_node, kind_of, node_w
 use Rattle.vt_spec.specs.Tree.Content.{Directory, Regular, Symlink, Whiteout}
 use Rattle.vt_laws_trees.specs.Calls.Inodes.{change_of}
 use Rattle.vt_laws_trees.specs.Trees.{IsFileTree}
-use Rattle.vt_laws_trees.proofs.trees.ChangesNodes.{changed_node_there as there}
+use Rattle.vt_laws_trees.proofs.trees.ChangesNodes.{changed_node_there}
 use Rattle.vt_laws_trees.proofs.trees.TreesWalked.{Ends}
 use Rattle.vt_laws_worlds.specs.Worlds.Kept.{IsPlain}
 use Rattle.vt_laws_worlds.proofs.worlds.Reached.{others_are_files}
@@ -243,7 +243,7 @@ module _ (world : World ℕ) (fresh : Fresh ℕ) (name : TaskName) (path bytes :
         reading self stands file.node ∙ all_stays world fresh name
         (Write path bytes) Done is plain serves refl refl did file change fresh asks does something tt tree refl
         file.node
-        ∙ there (files_at nat_eq world file) file.node (node_with_bytes bytes) ∙ ap (node_with_bytes bytes) old.2 in
+        ∙ changed_node_there (files_at nat_eq world file) file.node (node_with_bytes bytes) ∙ ap (node_with_bytes bytes) old.2 in
         let before : stepped nat_eq (looks_of nat_eq world) did.task place.parent place.last ≡ Ok file =
         ap (stepped nat_eq (looks_of nat_eq world) did.task place.parent) (named_last place.last named)
         ∙ ap (λ o. ok_or o (denial W6)) (at_file.object_is ∙ object) in

@@ -1,6 +1,4 @@
-use Rattle.vt_laws_worlds.proofs.permits.same.SameInUse.{same_worlds_are_worlds}
-use Rattle.vt_laws_worlds.proofs.permits.same.SameInvariants.{same_worlds_are_under_way}
-use Rattle.vt_laws_worlds.proofs.permits.same.SameNumbers.{same_worlds_keep_to_numbers}
+use Rattle.vt_laws_worlds.proofs.permits.same.SamePlain.{same_worlds_are_under_way, same_worlds_are_worlds, same_worlds_keep_to_numbers}
 use Rattle.vt_laws_worlds.proofs.permits.same.same_worlds_are_worlds.Goals as goal
 
 pub returns-clause-worlds : goal.returns-clause-worlds

@@ -5,8 +5,8 @@ use Rattle.std.specs.List.{list_all}
 use Rattle.vt_laws_rules.specs.Numbers.{KeepsTo}
 use Rattle.vt_laws_worlds.proofs.permits.in_use.InUseServes.{counts_serve_worlds, handed_numbers_serve_worlds}
 use Rattle.vt_laws_worlds.proofs.permits.left.PermitsLeave.{given_permits_leave_worlds}
-use Rattle.vt_laws_worlds.proofs.permits.same.SameInUse.{same_worlds_are_worlds}
-use Rattle.vt_laws_worlds.proofs.permits.same.SameNumbers.{same_worlds_keep_to_numbers}
+use Rattle.vt_laws_worlds.proofs.one_text.same.SameNumbers.{any_same_worlds_keep_to_numbers}
+use Rattle.vt_laws_worlds.proofs.permits.same.SamePlain.{same_worlds_are_worlds}
 use Rattle.vt_laws_worlds.proofs.permits.steps.steps_keep_worlds.Answers.Ungrouped.{left_free}
 use Rattle.vt_laws_worlds.proofs.permits.taken.TakenGiven.{given_counts_go_on, no_overlay_given}
 use Rattle.vt_laws_worlds.proofs.permits.taken.TakenJudged.{given_with_any_supply}
@@ -49,8 +49,8 @@ steps_keep_worlds next inode later world task permit other step low same =
       whole = after.0;
       plain = after.1;
       counted = λ renaming leaves.
-          same_worlds_keep_to_numbers (is_counted_before (next + counts_taken world task permit))
-          (left_by (handed_to next inode permit) world task permit) other same left.1
+          any_same_worlds_keep_to_numbers (is_counted_before (next + counts_taken world task permit))
+          (left_by (handed_to next inode permit) world task permit) other same
           (given_counts_go_on next inode world task permit step.even step.whole step.plain step.ungrouped step.counted
           given) renaming (λ number named.
           leaves number (counted_later (next + counts_taken world task permit) later number low named));

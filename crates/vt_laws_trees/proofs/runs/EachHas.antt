@@ -3,7 +3,7 @@ use Rattle.std.proofs.Common.{◌≡◌, refl, Bool, ◌&&◌, ◌||◌, inl, in
 use Rattle.std.specs.Prelude.{All}
 use Rattle.std.specs.List.{list_all}
 use Rattle.std.proofs.lemmas.List.Elements.{All-cons, All-head, All-nil, All-tail}
-use Rattle.vt_laws_mounts.proofs.letting_go.Lists.{Among}
+use Rattle.vt_spec.proofs.Lists.{Among}
 use Rattle.vt_laws_trees.proofs.runs.Each.{Each, each_any}
 use Rattle.vt_spec.specs.Lists.{any_pair}
 

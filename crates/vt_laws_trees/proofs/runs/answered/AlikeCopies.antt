@@ -5,7 +5,7 @@ use Rattle.std.proofs.Common.{arith, ◌≡◌, refl, sym, ap, subst, ◌∙◌,
 use Rattle.std.specs.Prelude.{⊤}
 use Rattle.std.proofs.lemmas.List.Sorted.{IsPermutation-cons}
 use Rattle.vt_laws_rules.proofs.same.SameFiles.{ancestors_same, path_same}
-use Rattle.vt_laws_trees.proofs.runs.answered.AlikeChanges.{changed_alike}
+use Rattle.vt_laws_trees.proofs.runs.answered.AlikeFiles.{changed_alike, node_changed}
 use Rattle.vt_spec.specs.FileTree.{FileTree, a_name}
 use Rattle.vt_spec.specs.Language.Changes.{Change, changed_node, content_with_parent, node_with_attr, node_with_mark, node_without_entry, with_inode, with_moved, with_name}
 use Rattle.vt_spec.specs.Language.Changes.Change.{AddName, CopyUp, Make, Move, Remove, SetAttr, SetBytes, SetMark}
@@ -35,14 +35,6 @@ LinesAlike one other = (object : ℕ) → (a_name nat_eq one.files object ≡ a_
     ⊎ (AllUpper one (line_to nat_eq one.files object) × AllUpper other (line_to nat_eq other.files object))
 
 -- Trees
-pub node_changed : (one other : FileTree ℕ) → SameFiles one other → (number : ℕ)
-    (change : Option (Node ℕ) → Option (Node ℕ))
-    → SameFiles (changed_node nat_eq one number change) (changed_node nat_eq other number change)
-node_changed one other same number change = record {
-  tree = λ i. with_node nat_eq (same.tree i) number (change ((same.tree i).node number));
-  numbers = same.numbers;
-}
-
 inode_added : (one other : FileTree ℕ) → SameFiles one other → (number : ℕ) (node again : Node ℕ) → node ≡ again
     → SameFiles (with_inode nat_eq one number node) (with_inode nat_eq other number again)
 inode_added one other same number node again alike = record {
@@ -145,9 +137,9 @@ copy_alike one other same lines object copy node again alike =
         (λ all. absurd (true≢false (sym (line_ends one.files one object (a_name nat_eq one.files object) all.0) ∙ is)))
         (lines object)
 
-lines_after_copy : (one other : Merge ℕ) → LinesAlike one other → (object copy : ℕ) (node again : Option (Node ℕ))
-    (b c : Bool) → LinesAlike (copy_of nat_eq one object copy node b) (copy_of nat_eq other object copy again c)
-lines_after_copy one other lines object copy node again b c number =
+lines_after_copy : (one other : Merge ℕ) → LinesAlike one other → (object copy : ℕ) (seen again : Option (Node ℕ))
+    (b c : Bool) → LinesAlike (copy_of nat_eq one object copy seen b) (copy_of nat_eq other object copy again c)
+lines_after_copy one other lines object copy seen again b c number =
     grind (arith, common_steps, copy_files, all_grow, copy_grows)
 
 -- two overlays that are alike, and copy alike
