@@ -19,9 +19,9 @@ use Rattle.vt_spec.specs.Machine.Rightful.{mounter_allows, node_allows}
 use Rattle.vt_spec.specs.Machine.Walking.{Here, Stop, walk_end}
 use Rattle.vt_spec.proofs.Walk.{directory_walk, object_walk, symlink_walk}
 use Rattle.vt_spec.specs.Machine.World.{Task, World, mount_at, node_at, task_called}
-use Rattle.vt_spec.specs.Rights.{Credentials, allows, execute_right, is_directory, read_right}
+use Rattle.vt_spec.specs.Rights.{Credentials, allows, execute_right, read_right}
 use Rattle.vt_spec.specs.Tree.{Content, Node, bytes_in, is_directory_node, kind_of, names_in}
-use Rattle.vt_spec.specs.Tree.Content.{Regular, Symlink}
+use Rattle.vt_spec.specs.Tree.Content.{Regular}
 use Rattle.vt_laws_worlds.specs.Worlds.Kept.{IsPlain}
 use Rattle.vt_laws_worlds.proofs.Plain.{plain_numbered}
 use Rattle.vt_laws_later_calls.specs.LaterPaths.{reads_all}

@@ -1,5 +1,5 @@
 -- Groups that lose their last member.
-use Rattle.std.proofs.Common.{arith, ◌≡◌, refl, ap, ◌∙◌, ℕ, nat_eq, true, false, ◌||◌, List, [], ◌∷◌, length, map, Option, Some, None}
+use Rattle.std.proofs.Common.{arith, ◌≡◌, refl, ap, ◌∙◌, ℕ, nat_eq, true, false, List, [], ◌∷◌, length, map, Option, Some, None}
 use Rattle.std.proofs.lemmas.Grind.{common_steps}
 use Rattle.std.proofs.lemmas.Bool.{or_parts, not-false}
 use Rattle.vt_spec.specs.Machine.Mounts.{Mount, Propagation, group_of}

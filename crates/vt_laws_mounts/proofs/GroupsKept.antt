@@ -1,5 +1,5 @@
 -- Groups live on through changes of mounts.
-use Rattle.std.proofs.Common.{arith, ◌≡◌, refl, sym, ap, subst, ◌∙◌, true, false, Bool, List, None, Option, Some, [], eq-eqb, eqb-true, filter, find, is_some, length, map, not, true≢false, ℕ, ⊎_elim, ◌&&◌, ◌++◌, ◌||◌, ◌∷◌, nat_eq}
+use Rattle.std.proofs.Common.{arith, ◌≡◌, refl, sym, ap, subst, ◌∙◌, true, false, Bool, List, None, Option, Some, [], eq-eqb, eqb-true, filter, find, is_some, length, map, not, true≢false, ℕ, ⊎_elim, ◌++◌, ◌||◌, ◌∷◌, nat_eq}
 use Rattle.std.proofs.lemmas.Grind.{common_steps}
 use Rattle.std.proofs.Math.Bool.{and-false}
 use Rattle.std.specs.List.{list_any}
@@ -11,7 +11,7 @@ use Rattle.vt_laws_mounts.proofs.GroupsUp.Up.{above, here}
 use Rattle.vt_spec.proofs.Lists.{Among, among-append, among-append_left, among-filter, among-from_filter, among-from_map, among-map, among_from_list_all, any_among, any_from_among, head_among, none_among, tail_among}
 use Rattle.vt_laws_mounts.specs.Mounts.Receivers.{GroupsLive}
 use Rattle.vt_laws_mounts.specs.Mounts.Invariants.{KeptByEndedNamespaces, KeptByInheritance, KeptByLazyUnmount, KeptByPivot, KeptByTakingAway, KeptByUnmount, KeptByUnshare, SettlingKeepsGroups, FlagsKeepGroups}
-use Rattle.vt_spec.specs.Machine.Mounts.{Mount, Propagation, group_of, mount_in, mount_tree, source_of, with_mount, replaced_if_same, numbers_by}
+use Rattle.vt_spec.specs.Machine.Mounts.{Mount, Propagation, group_of, mount_tree, source_of, with_mount, replaced_if_same, numbers_by}
 use Rattle.vt_spec.specs.Machine.World.{World, mount_at, mount_numbered, mounts_of, with_flags}
 use Rattle.vt_spec.specs.Machine.Detach.{after_going, deepest_first, going, is_going, unmounted, unmounted_if_there}
 use Rattle.vt_spec.specs.Machine.Namespaces.{copied_mount, is_in_ended, pivoted, pivoted_mount, unshared}

@@ -1,12 +1,12 @@
 -- Permits to look, to change tasks, and to change files leave others as they were.
 use Rattle.std.proofs.lemmas.Grind.{common_steps}
-use Rattle.std.proofs.Common.{◌≡◌, refl, sym, ap, subst, ◌∙◌, ◌⊎◌, inl, inr, ⊎_elim, ℕ, nat_eq, Bool, true, false, true≢false, List, [], ◌∷◌, Some, Ok, filter, map, not, arith}
+use Rattle.std.proofs.Common.{◌≡◌, refl, sym, ap, subst, ◌∙◌, inl, inr, ⊎_elim, ℕ, nat_eq, Bool, true, false, true≢false, List, Some, Ok, filter, map, not, arith}
 use Rattle.std.specs.Prelude.{IfOk, ◌==◌}
 use Rattle.vt_laws_sealed.proofs.outsiders.Opening.{inserted_at}
 use Rattle.vt_spec.specs.Language.Calls.{Access, Call, TaskName}
 use Rattle.vt_spec.specs.Lists.{Fresh, evens, odds}
 use Rattle.vt_spec.specs.Machine.Apply.{apply}
-use Rattle.vt_spec.specs.Machine.Descriptors.{inserted, is_copied_up, with_descriptor, without_descriptor}
+use Rattle.vt_spec.specs.Machine.Descriptors.{is_copied_up, with_descriptor, without_descriptor}
 use Rattle.vt_spec.specs.Machine.Judge.{judge_in}
 use Rattle.vt_spec.specs.Machine.Mounts.{Location}
 use Rattle.vt_spec.specs.Machine.Permits.{Permit}

@@ -3,13 +3,13 @@ use Rattle.std.proofs.lemmas.Grind.{common_steps}
 use Rattle.std.proofs.Common.{◌≡◌, ◌≢◌, refl, sym, ap, subst, ◌∙◌, inl, ℕ, nat_eq, Bool, true, false, true≢false, cond, not, List, [], ◌∷◌, ◌++◌, ◌||◌, Option, Some, None, Result, Ok, Err, find, is_ok, is_some, map, ◌+◌, arith}
 use Rattle.std.specs.Prelude.{⊤}
 use Rattle.std.proofs.lemmas.Bool.{and_from, not-true}
-use Rattle.vt_laws_sealed.proofs.outsiders.InTurn.{still_called, found_called}
+use Rattle.vt_laws_sealed.proofs.outsiders.InTurn.{found_called}
 use Rattle.vt_spec.specs.declared.errors.Deny.{Deny}
 use Rattle.vt_spec.specs.Language.Answers.{Answer}
 use Rattle.vt_spec.specs.Language.Answers.Answer.{Child}
 use Rattle.vt_spec.specs.Language.Calls.{Call, TaskName, same_name}
 use Rattle.vt_spec.specs.Language.Calls.Call.{Exit}
-use Rattle.vt_spec.specs.Lists.{Fresh, is_among}
+use Rattle.vt_spec.specs.Lists.{Fresh}
 use Rattle.vt_spec.specs.Machine.Apply.{apply}
 use Rattle.vt_spec.specs.Machine.Filesystems.{raised}
 use Rattle.vt_spec.specs.Machine.Judge.{Judgement, judge_in}
@@ -17,15 +17,13 @@ use Rattle.vt_spec.specs.Machine.Outcomes.{Outcome, after}
 use Rattle.vt_spec.specs.Machine.Permits.{Permit}
 use Rattle.vt_spec.specs.Machine.Permits.Permit.{Allowed, ToBind, ToChange, ToClose, ToEnterNamespace, ToExit, ToFork, ToList, ToListMounts, ToMake, ToMountOverlay, ToMountPlain, ToMove, ToOpen, ToOpenNew, ToPivot, ToRead, ToReadPart, ToRemoveDirectory, ToRename, ToSetCredentials, ToSetDirectory, ToSetFlags, ToSetRoot, ToSetType, ToSetUmask, ToStat, ToUnmount, ToUnmountLazily, ToUnshare, ToWritePart}
 use Rattle.vt_spec.specs.Machine.Policy.{filesystems_changed_by, finished_by, only_looks, policy, raised_task}
-use Rattle.vt_spec.specs.Machine.Sealed.{is_member_task, members}
 use Rattle.vt_spec.specs.Machine.Tasks.{child_name, child_of}
 use Rattle.vt_spec.specs.Machine.World.{Task, World, replaced_if_called, task_called}
 use Rattle.vt_spec.proofs.Found.{found_among, found_passes}
-use Rattle.vt_spec.proofs.Lists.{Among, among-append_right, among-filter, among-from_filter, among-map, among_from_list_all, any_from_among, list_all_from_among}
+use Rattle.vt_spec.proofs.Lists.{among-append_right, among-from_filter, among-map, among_from_list_all, list_all_from_among}
 use Rattle.vt_spec.proofs.Options.{some_from_is_some}
 use Rattle.vt_spec.proofs.Worlds.{same_name_itself, same_task_name}
 use Rattle.vt_laws_trees.proofs.calls.tasks.TasksLaws.{only_exit_leaves, other_tasks_stay}
-use Rattle.vt_laws_worlds.proofs.worlds.CallsKept.{name_found}
 use Rattle.vt_laws_sealed.specs.Outsiders.{are_all_called}
 use Rattle.vt_laws_members.specs.Changes.Changes.{grown, left}
 use Rattle.vt_laws_members.proofs.changes.looks.Told.{ran}

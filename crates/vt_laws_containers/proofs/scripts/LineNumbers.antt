@@ -10,7 +10,7 @@ use Rattle.vt_spec.specs.Language.Script.{Grammar}
 use Rattle.vt_spec.specs.Machine.Run.{Serves, line_step, numbers_for, numbers_in_use, step_world}
 use Rattle.vt_spec.specs.Machine.World.{World}
 use Rattle.vt_laws_rules.specs.Numbers.{IsSuppliedFrom, KeepsTo, LeavesOutTwo}
-use Rattle.vt_laws_rules.proofs.numbers.Rows.{col, col-spread, row, row-spread, spread_for}
+use Rattle.vt_laws_rules.proofs.numbers.Rows.{col, col-spread, row, spread_for}
 use Rattle.vt_laws_rules.proofs.numbers.Supports.{calls_keep_to_numbers, lines_keep_to_numbers, used_numbers_are_named}
 use Rattle.vt_laws_containers.specs.Scripts.{HasEarlierNumbers}
 

@@ -6,11 +6,11 @@ use Rattle.std.proofs.lemmas.Bool.{false_from_ne_true, not-true}
 use Rattle.vt_laws_members.proofs.namespaces.Unsharing.{places_moved}
 use Rattle.vt_spec.specs.Language.Calls.{TaskName, same_name}
 use Rattle.vt_spec.specs.Language.Calls.Call.{Unshare}
-use Rattle.vt_spec.specs.Lists.{Fresh, holds_of, is_among, odds}
+use Rattle.vt_spec.specs.Lists.{Fresh, holds_of, is_among}
 use Rattle.vt_spec.specs.Machine.Invariants.{MountInvariants, is_listed}
-use Rattle.vt_spec.specs.Machine.Mounts.{Location, Mount, detached, group_of, numbers_by}
+use Rattle.vt_spec.specs.Machine.Mounts.{Location, Mount, detached, group_of}
 use Rattle.vt_spec.specs.Machine.Mounts.Propagation.{Private}
-use Rattle.vt_spec.specs.Machine.Namespaces.{is_copied, location_on_copy, moved_location, namespaces_ended, unshared}
+use Rattle.vt_spec.specs.Machine.Namespaces.{namespaces_ended, unshared}
 use Rattle.vt_spec.specs.Machine.Receives.{is_member_of}
 use Rattle.vt_spec.specs.Machine.Run.{Serves}
 use Rattle.vt_spec.specs.Machine.Sealed.{is_member_task, is_own_mount, is_own_namespace, locations, master_of, members, other_mounts, outsiders, own_mounts, share_events, shares_no_events, used_directly}
@@ -23,8 +23,7 @@ use Rattle.vt_laws_mounts.proofs.mounts.MountsReplaced.{found_itself}
 use Rattle.vt_laws_mounts.proofs.namespaces.Unsharing.{unshare_keeps_mounts}
 use Rattle.vt_laws_sealed.specs.Part.Seals.{IsApart}
 use Rattle.vt_laws_sealed.proofs.part.seals.ByPart.{apart_if_sealed}
-use Rattle.vt_laws_members.proofs.judging.Grounds.{IsTheirs}
-use Rattle.vt_laws_members.proofs.judging.SeenInPart.{directory_theirs, root_theirs, theirs_directly}
+use Rattle.vt_laws_members.proofs.judging.SeenInPart.{theirs_directly}
 use Rattle.vt_laws_sealed.proofs.outsiders.OtherMounts.{located_there, namespace_outside}
 use Rattle.vt_laws_members.specs.Changes.Changes.{IsCallOfTheirs}
 use Rattle.vt_laws_members.proofs.changes.letting_go.Callers.{replaced_how}

@@ -27,7 +27,7 @@ use Rattle.vt_laws_mounts.specs.LettingGo.OneByOne.{Inode}
 use Rattle.vt_laws_worlds.specs.OverlaysLetGo.NamesGiven.{name_given, replaced_in_upper, upper_at_name}
 use Rattle.vt_laws_worlds.specs.OverlayPermits.Asked.{change_asked}
 use Rattle.vt_laws_worlds.proofs.overlay_permits.asked.AskedOverlays.{permits_ask_properly}
-use Rattle.vt_laws_later_calls.specs.Whiteouts.{IsWhiteoutOfUpper, ReplacedAreWhiteouts, replaced_as, replaced_if, replaced_in, replaced_over}
+use Rattle.vt_laws_later_calls.specs.Whiteouts.{IsWhiteoutOfUpper, ReplacedAreWhiteouts, replaced_as, replaced_if, replaced_over}
 
 -- what an option that leads on leads to
 leads_on : {A B : Type 0} (o : Option A) (next : A → Option B) (b : B) → then_some o next ≡ Some b

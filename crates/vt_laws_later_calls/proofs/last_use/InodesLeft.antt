@@ -11,7 +11,7 @@ use Rattle.vt_spec.specs.Machine.Settled.{without_dead_in, without_dead_inodes}
 use Rattle.vt_spec.specs.Machine.World.{Filesystem, Overlay, World, filesystem_numbered, is_overlay, no_filesystem}
 use Rattle.vt_laws_mounts.specs.LettingGo.Counts.{inode_uses}
 use Rattle.vt_laws_mounts.specs.LettingGo.InUse.{HasTrees, InodesInUse, UppersArePlain, is_inode_used}
-use Rattle.vt_laws_mounts.specs.LettingGo.OneByOne.{Inode, InodesInUseBut, is_used_or_among, let_go_inode, without_inode, without_inode_at}
+use Rattle.vt_laws_mounts.specs.LettingGo.OneByOne.{Inode, InodesInUseBut, is_used_or_among, let_go_inode, without_inode_at}
 use Rattle.vt_laws_mounts.specs.LettingGo.Overlays.{RealsAreThere, is_plain, let_go_in, let_go_in_of, let_go_plain, uppers_in, uppers_of, uppers_of_inode, uppers_of_inode_in, without_inode_of, without_real}
 use Rattle.vt_laws_mounts.proofs.letting_go.Lists.{Among, all_from_among, all_pass, among-from_map, among_from_all, flat_map_none, found_by, found_in, map_same, passes}
 use Rattle.vt_laws_mounts.proofs.letting_go.sweeps.InUse.{inodes_stay}

@@ -22,7 +22,7 @@ use Rattle.vt_spec.specs.Machine.Mounts.{Location}
 use Rattle.vt_spec.specs.Machine.Descriptors.{with_descriptor}
 use Rattle.vt_spec.specs.Machine.Rows.{new_file}
 use Rattle.vt_spec.specs.Machine.Outcomes.{after}
-use Rattle.vt_spec.specs.Machine.Policy.{finished, policy, raised_task}
+use Rattle.vt_spec.specs.Machine.Policy.{policy, raised_task}
 use Rattle.vt_spec.specs.Machine.Rightful.{node_allows}
 use Rattle.vt_spec.specs.Machine.Run.{Serves}
 use Rattle.vt_spec.specs.Machine.Settled.{settled}

@@ -1,12 +1,12 @@
 -- What a new mount leaves at a destination that is not shared: one mount more, and the filesystem that it shows.
-use Rattle.std.proofs.Common.{arith, ◌≡◌, refl, ap, subst, ◌∙◌, ℕ, nat_eq, eq-eqb, true, false, not, List, [], ◌∷◌, ◌++◌, None, Some, filter, flat_map, is_some, map}
+use Rattle.std.proofs.Common.{arith, ◌≡◌, refl, ap, subst, ◌∙◌, ℕ, nat_eq, eq-eqb, true, false, List, [], ◌∷◌, ◌++◌, None, Some, filter, flat_map, is_some, map}
 use Rattle.std.proofs.lemmas.Grind.{common_steps}
 use Rattle.std.proofs.lemmas.List.{append-nil}
 use Rattle.std.specs.Prelude.{if◌then◌else◌}
 use Rattle.vt_spec.specs.Language.Calls.{MountFlags}
 use Rattle.vt_spec.specs.Lists.{Fresh, odds}
 use Rattle.vt_spec.specs.Machine.Apply.{apply}
-use Rattle.vt_spec.specs.Machine.Attach.{Copies, Graft, copies_at, copies_from, copy_mount_point, graft_of, pushed_up, receivers_of, takes_part, twig_of, type_at, type_at_part}
+use Rattle.vt_spec.specs.Machine.Attach.{Copies, Graft, copies_at, copies_from, copy_mount_point, graft_of, pushed_up, receivers_of, takes_part, twig_of, type_at_part}
 use Rattle.vt_spec.specs.Machine.Mounts.{Location, Mount, group_of}
 use Rattle.vt_spec.specs.Machine.Mounts.Propagation.{Private}
 use Rattle.vt_spec.specs.Machine.NewMounts.{new_mount, plain_filesystem, with_new_filesystem}

@@ -1,5 +1,5 @@
 -- How a call ends by its judgement.
-use Rattle.std.proofs.Common.{arith, ◌≡◌, ap, ◌∙◌, ℕ, nat_eq, ◌||◌, Some, Err}
+use Rattle.std.proofs.Common.{arith, ◌≡◌, ℕ, nat_eq, Some, Err}
 use Rattle.std.proofs.lemmas.Grind.{common_steps}
 use Rattle.vt_spec.specs.declared.errors.Deny.{Deny}
 use Rattle.vt_spec.specs.Language.Calls.{Call, TaskName}

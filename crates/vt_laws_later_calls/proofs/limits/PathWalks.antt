@@ -1,7 +1,6 @@
 -- Walks of paths of one word, and of two, from the task's root to a destination.
 use Rattle.std.proofs.Common.{arith, ◌≡◌, ap, ◌∙◌, ℕ, nat_eq, true, false, List, [], ◌∷◌, None, Some, Result, Ok, reverse}
 use Rattle.std.proofs.lemmas.Grind.{common_steps}
-use Rattle.std.specs.Prelude.{if◌then◌else◌}
 use Rattle.vt_spec.specs.declared.errors.Deny.{Deny}
 use Rattle.vt_spec.specs.declared.errors.Rule.TheVariants.{W8}
 use Rattle.vt_spec.specs.Machine.Mounts.{Location, topmost}

@@ -21,7 +21,6 @@ use Rattle.vt_spec.specs.Machine.Invariants.{IsWorld, MountInvariants, is_listed
 use Rattle.vt_spec.specs.Machine.Listing.{filesystems_seen, groups_in_type, groups_seen, groups_shown, mount_line, mount_lines, number_among, mount_point_spot, spot_of, type_line}
 use Rattle.vt_spec.specs.Machine.Mounts.{Location, Mount, Propagation}
 use Rattle.vt_spec.specs.Machine.Mounts.Propagation.{Private, Shared, Slave, Unbindable}
-use Rattle.vt_spec.specs.Machine.Outcomes.{after}
 use Rattle.vt_spec.specs.Machine.Permits.{Permit}
 use Rattle.vt_spec.specs.Machine.Permits.Permit.{ToUnshare}
 use Rattle.vt_spec.specs.Machine.Policy.{numbers_raised, policy, raised_task}

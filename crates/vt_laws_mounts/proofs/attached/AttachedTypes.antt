@@ -2,7 +2,6 @@
 -- that of the tree, and each mount of the tree has a copy at each part.
 use Rattle.std.proofs.Common.{arith, ◌≡◌, refl, sym, ap, subst, ◌∙◌, true, false, nat_eq, ℕ, Bool, List, None, Option, Some, [], eq-eqb, eqb-true, flat_map, inl, inr, map, ⊎_elim, ◌++◌, ◌∷◌, ◌⊎◌}
 use Rattle.std.proofs.lemmas.Grind.{common_steps}
-use Rattle.std.specs.Prelude.{if◌then◌else◌}
 use Rattle.vt_spec.proofs.Lists.{Among, among-append, among-append_left, among-append_right, among-flat_map, among-from_flat_map, among-from_map, among-map, among_numbers, any_among, any_from_among}
 use Rattle.vt_spec.specs.Machine.Attach.{Copies, Graft, Twig, added_mounts, attached_by, copies_at, copy_at, copy_number, graft_of, parts_of, pushed_up, twig_of, type_at, type_at_part, type_on_shared, with_moved_mounts}
 use Rattle.vt_spec.specs.Lists.{folded, is_among, rest_of}

@@ -9,7 +9,6 @@ use Rattle.vt_spec.specs.Machine.World.{World, mount_at, mount_numbered, with_fl
 use Rattle.vt_spec.specs.Lists.{chain, is_among, last_or, same_option}
 use Rattle.vt_laws_mounts.proofs.mounts.MountsFound.{found-map, found_there, numbers-map}
 use Rattle.vt_laws_mounts.proofs.mounts.MountsReplaced.{found_itself, numbers-with_mount, one_number_by_numbers, related-with_mount}
-use Rattle.vt_spec.specs.Machine.Receives.{regrouped}
 use Rattle.vt_spec.specs.Machine.Invariants.{last_parent, stands_in_its_namespace}
 use Rattle.std.proofs.lemmas.List.{length-map}
 use Rattle.vt_laws_mounts.proofs.Groups.{mounts-regrouped}

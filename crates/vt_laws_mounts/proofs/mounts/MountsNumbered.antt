@@ -1,6 +1,6 @@
 -- New mounts have numbers of their own.
 use Rattle.std.proofs.lemmas.Grind.{common_steps}
-use Rattle.std.proofs.Common.{◌≡◌, refl, sym, ap, subst, ◌∙◌, true, false, suc, nat_eq, ℕ, Bool, List, [], arith, eqb-true, flat_map, inl, inr, length, map, not, option_map, true≢false, unwrap_or, ⊎_elim, ◌&&◌, ◌++◌, ◌+◌, ◌<◌, ◌∷◌, Some, None, Option, eq-eqb, filter, ◌/◌}
+use Rattle.std.proofs.Common.{◌≡◌, refl, sym, ap, subst, ◌∙◌, true, false, suc, nat_eq, ℕ, Bool, List, [], arith, eqb-true, flat_map, inl, inr, length, map, option_map, true≢false, unwrap_or, ⊎_elim, ◌&&◌, ◌++◌, ◌+◌, ◌<◌, ◌∷◌, Some, None, Option, eq-eqb, filter, ◌/◌}
 use Rattle.std.specs.List.{list_any}
 use Rattle.vt_spec.specs.Machine.Mounts.{Mount, Location, group_of, numbers_by, index_of}
 use Rattle.vt_spec.proofs.Lists.{Among, among-append, among-append_left, among-flat_map, among-from_filter, among-from_flat_map, among-from_map, any_among, is_among_numbers, none_among, none_from_among, among-map, pair-filter, pair-map}

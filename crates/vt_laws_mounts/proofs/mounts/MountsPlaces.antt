@@ -1,5 +1,5 @@
 -- Where mounts stand.
-use Rattle.std.proofs.Common.{arith, ◌≡◌, refl, sym, ap, ◌∙◌, ℕ, nat_eq, eq-eqb, true, false, true≢false, ◌&&◌, List, [], ◌∷◌, Some, is_some}
+use Rattle.std.proofs.Common.{arith, ◌≡◌, refl, sym, ap, ◌∙◌, ℕ, nat_eq, eq-eqb, true, true≢false, ◌&&◌, List, [], ◌∷◌, Some, is_some}
 use Rattle.std.proofs.lemmas.Grind.{common_steps}
 use Rattle.std.proofs.lemmas.Bool.{and_from, or_parts}
 use Rattle.std.proofs.lemmas.Option.{same_Some}

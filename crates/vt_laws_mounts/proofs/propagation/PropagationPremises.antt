@@ -1,11 +1,10 @@
 -- What the laws of propagation ask for holds of binds, new mounts and moves.
-use Rattle.std.proofs.Common.{arith, ◌≡◌, refl, sym, ap, subst, ◌∙◌, nat_eq, ℕ, inl, inr, true≢false, ⊎_elim, ◌∷◌, length}
+use Rattle.std.proofs.Common.{arith, ◌≡◌, refl, sym, ap, subst, ◌∙◌, nat_eq, ℕ, inl, inr, true≢false, ⊎_elim, length}
 use Rattle.std.proofs.lemmas.Grind.{common_steps}
 use Rattle.std.specs.Prelude.{Contains}
 use Rattle.vt_spec.proofs.Lists.{Among, among_from_contains, contains_from_among}
 use Rattle.vt_spec.specs.Machine.Attach.{bind_tree, moved_tree}
 use Rattle.vt_spec.specs.Machine.Mounts.{Mount}
-use Rattle.vt_spec.specs.Machine.NewMounts.{new_mount}
 use Rattle.vt_spec.specs.Machine.World.{mount_at}
 use Rattle.vt_laws_mounts.specs.Mounts.Propagation.{BindsCan, MovesCan, NewMountsCan}
 use Rattle.vt_laws_mounts.proofs.GroupsLiving.{tested_live}

@@ -1,34 +1,31 @@
 -- Types of mounts of others that are set: mount(2) with MS_SHARED, MS_SLAVE, MS_PRIVATE or MS_UNBINDABLE.
-use Rattle.std.proofs.Common.{arith, ◌≡◌, refl, sym, ap, subst, ◌∙◌, ◌⊎◌, inl, inr, ⊎_elim, ℕ, nat_eq, Bool, true, false, cond, true≢false, List, [], ◌∷◌, Option, Some, None, Ok, filter, is_some, length, map, not, ◌&&◌, ◌||◌, eq-eqb, eqb-true}
+use Rattle.std.proofs.Common.{arith, ◌≡◌, refl, sym, ap, subst, ◌∙◌, ◌⊎◌, inl, inr, ⊎_elim, ℕ, nat_eq, Bool, true, false, cond, true≢false, List, [], ◌∷◌, Option, Some, None, Ok, filter, is_some, length, map, eqb-true}
 use Rattle.std.proofs.lemmas.Grind.{common_steps}
 use Rattle.std.specs.List.{list_any}
-use Rattle.std.proofs.lemmas.Bool.{and_parts, false_from_ne_true, or_left}
+use Rattle.std.proofs.lemmas.Bool.{false_from_ne_true, or_left}
 use Rattle.std.proofs.lemmas.Option.{same_Some}
 use Rattle.vt_spec.specs.Language.Calls.{Call, TaskName, TypeWord}
 use Rattle.vt_spec.specs.Language.Calls.Call.{SetType}
 use Rattle.vt_spec.specs.Language.Calls.TypeWord.{ToPrivate, ToShared, ToSlave, ToUnbindable}
-use Rattle.vt_spec.specs.Lists.{Fresh, holds_of, when}
+use Rattle.vt_spec.specs.Lists.{Fresh, holds_of}
 use Rattle.vt_spec.specs.Machine.Apply.{apply}
-use Rattle.vt_spec.specs.Machine.Invariants.{is_nowhere_or_attached, is_private}
 use Rattle.vt_spec.specs.Machine.Judge.{judge_in}
 use Rattle.vt_spec.specs.Machine.Mounts.{Mount, Propagation, group_of, index_of, numbers_by, source_of}
 use Rattle.vt_spec.specs.Machine.Mounts.Propagation.{Private, Shared, Slave, Unbindable}
 use Rattle.vt_spec.specs.Machine.Outcomes.{after}
 use Rattle.vt_spec.specs.Machine.Permits.Permit.{ToSetType}
 use Rattle.vt_spec.specs.Machine.Policy.{call_outcome}
-use Rattle.vt_spec.specs.Machine.Receives.{groups_up, has_members, heir, inherited, inheriting, is_member_of, lost_a_group, regrouped_by, slave_of_heir}
+use Rattle.vt_spec.specs.Machine.Receives.{is_member_of, lost_a_group, regrouped_by}
 use Rattle.vt_spec.specs.Machine.Run.{Serves}
-use Rattle.vt_spec.specs.Machine.Sealed.{is_at, is_own_mount, is_own_namespace, locations, master_of, members, other_mounts, own_mounts, roots_and_directories, seen_by_descriptor, shares_no_events}
+use Rattle.vt_spec.specs.Machine.Sealed.{is_own_mount, is_own_namespace, master_of, other_mounts, own_mounts}
 use Rattle.vt_spec.specs.Machine.Settled.{mount_lives, settled}
 use Rattle.vt_spec.specs.Machine.Types.{master_after, named_mounts, retyped_mount, type_after, with_master, with_new_groups}
 use Rattle.vt_spec.specs.Machine.World.{Task, World, mount_numbered, task_called}
-use Rattle.vt_spec.proofs.Found.{find-chain_start, found_among}
-use Rattle.vt_spec.proofs.Lists.{Among, among-filter, among-from_filter, among-from_map, among-map, among_from_list_all, any_among, any_from_among, is_among_numbers, map_same, map_twice}
+use Rattle.vt_spec.proofs.Lists.{Among, among-filter, among-from_filter, among-map, any_among, any_from_among}
 use Rattle.vt_spec.proofs.Options.{none_is_some}
 use Rattle.vt_spec.proofs.Worlds.{found_or_none}
 use Rattle.vt_laws_trees.specs.Trees.Calls.{mounts_overlay}
 use Rattle.vt_laws_mounts.proofs.mounts.MountsReplaced.{found_itself}
-use Rattle.vt_laws_mounts.proofs.mounts.Receivers.{along_chain}
 use Rattle.vt_laws_rules.proofs.given.GivenPermits.{permits_are_for_their_calls}
 use Rattle.vt_laws_worlds.proofs.worlds.CallsKept.{name_found}
 use Rattle.vt_laws_worlds.proofs.worlds.FitPermitsNamed.{all_permits_fit}
@@ -37,12 +34,10 @@ use Rattle.vt_laws_later_calls.specs.Ends.{KeepsAllButMasters}
 use Rattle.vt_laws_trees.specs.Layers.Layers.ChangesUpper.{IsNewBy}
 use Rattle.vt_laws_sealed.specs.Part.Seals.{IsApart}
 use Rattle.vt_laws_sealed.proofs.part.groups.ReceiversAlike.{member_group}
-use Rattle.vt_laws_sealed.proofs.part.part.Observed.{own_mounts_same}
-use Rattle.vt_laws_sealed.proofs.part.part.PartOfPart.{is_own, keep}
 use Rattle.vt_laws_sealed.proofs.part.seals.ByPart.{apart_if_sealed}
 use Rattle.vt_laws_sealed.specs.Outsiders.{IsOutsidersCall}
 use Rattle.vt_laws_sealed.proofs.outsiders.ChangedWorlds.{others_rest}
-use Rattle.vt_laws_sealed.proofs.outsiders.OtherMounts.{Foreign, HearsGroup, IsIn, tree_in, events_stay_apart, foreign_above, is_other, member_not_new, member_of_heard, namespace_outside, not_own, not_stood_on, other_hears_foreign, standing_apart_with}
+use Rattle.vt_laws_sealed.proofs.outsiders.OtherMounts.{Foreign, HearsGroup, IsIn, tree_in, foreign_above, is_other, member_not_new, namespace_outside, other_hears_foreign, standing_apart_with}
 use Rattle.vt_laws_sealed.proofs.outsiders.OwnTasks.{caller_outside}
 use Rattle.vt_laws_sealed.proofs.outsiders.Regrouping.{IsOfOthers, after_all, all_changed, mounts_are, of_nobody, old_type, own_stays, regrouping_leaves_apart}
 use Rattle.vt_laws_sealed.proofs.outsiders.Reshaping.{IsReshaped}

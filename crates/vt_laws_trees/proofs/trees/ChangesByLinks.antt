@@ -11,7 +11,6 @@ use Rattle.vt_laws_trees.specs.Trees.{IsFileTree, MayAddName}
 use Rattle.vt_laws_trees.proofs.trees.ChangesByRemoving.{shown}
 use Rattle.vt_laws_trees.proofs.trees.ChangesOfCalls.{place_is_free}
 use Rattle.vt_laws_trees.proofs.trees.TreesWalked.{IsNewPlace, not_true, place_is_file}
-use Rattle.vt_spec.specs.Machine.Invariants.{is_there}
 
 module _ (world : World ℕ) (task : Task ℕ) (old : Location ℕ) (place : Place ℕ)
     (there : is_some (node_at nat_eq world old) ≡ true)

@@ -1,5 +1,5 @@
 -- A name that is missing, in a directory that is not removed, is free.
-use Rattle.std.proofs.Common.{arith, ◌≡◌, refl, ap, ◌∙◌, true≢false, ℕ, nat_eq, false, not, ◌&&◌, Option, Some, None, is_some, option_map}
+use Rattle.std.proofs.Common.{arith, ◌≡◌, refl, ap, true≢false, ℕ, nat_eq, false, Option, Some, None, is_some, option_map}
 use Rattle.std.proofs.lemmas.Grind.{common_steps}
 use Rattle.vt_spec.specs.Errors.{NoneFails}
 use Rattle.vt_spec.specs.Machine.Walking.{Place, is_special, name_of}

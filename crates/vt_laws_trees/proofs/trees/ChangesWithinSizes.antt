@@ -1,6 +1,6 @@
 -- Every call but the mount of an overlay keeps names, link texts and files within the limits.
 use Rattle.std.proofs.lemmas.Grind.{common_steps}
-use Rattle.std.proofs.Common.{arith, eq-eqb, ◌≡◌, refl, sym, ap, subst, ◌∙◌, true≢false, ℕ, ◌+◌, ◌≤◌, nat_eq, nat_le, le-leb, leb-true, ltb-false, Bool, true, false, not, cond, List, [], ◌∷◌, ◌++◌, length, take, drop, ◌&&◌, inl, inr, ⊎_elim, Option, Some, None, is_some, ok_or}
+use Rattle.std.proofs.Common.{arith, eq-eqb, ◌≡◌, refl, sym, ap, subst, ◌∙◌, true≢false, ℕ, ◌+◌, ◌≤◌, nat_eq, nat_le, le-leb, leb-true, ltb-false, Bool, true, false, not, cond, List, [], ◌∷◌, ◌++◌, length, ◌&&◌, inl, inr, ⊎_elim, Option, Some, None, is_some, ok_or}
 use Rattle.std.proofs.lemmas.List.{length-append, length-drop, length-take}
 use Rattle.std.specs.List.{All, list_all, list_any}
 use Rattle.std.proofs.lemmas.List.Elements.{All-append, All-cons, All-filter, All-nil}

@@ -6,9 +6,7 @@ use Rattle.std.proofs.lemmas.Map.Made.{length-le_from_is_member}
 use Rattle.std.proofs.lemmas.Option.{same_Some}
 use Rattle.std.specs.Cmp.{nat_eq_equiv}
 use Rattle.std.specs.List.{AllByRecursion, IsDistinct}
-use Rattle.vt_spec.specs.Rights.{is_directory}
 use Rattle.vt_spec.specs.Tree.{Node, Tree, entries_in, is_directory_node, parent_in}
-use Rattle.vt_spec.specs.Tree.Content.{Directory}
 use Rattle.vt_spec.specs.TreeInvariant.{entry_at, led, IsDirectory, IsReached, IsTree}
 use Rattle.vt_spec.specs.FileTree.{FileTree, has_entry_to, is_directory_under, named_parent, targets_in}
 use Rattle.vt_spec.specs.Lists.{chain, is_among, when}

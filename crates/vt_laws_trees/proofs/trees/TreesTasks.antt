@@ -1,6 +1,6 @@
 -- What calls do to tasks keeps the limits of tasks.
 use Rattle.std.proofs.lemmas.Grind.{common_steps}
-use Rattle.std.proofs.Common.{nat_eq, ◌≡◌, ◌≢◌, refl, ap, ◌∙◌, true≢false, ℕ, suc, ◌+◌, ◌<◌, ◌≤◌, ◌==◌, ◌%◌, arith, nat_le, nat_lt, eq-eqb, eqb-true, le-leb, le-ltb, leb-true, leb-false, lt-ltb, Bool, true, false, not, cond, List, [], ◌∷◌, ◌++◌, length, map, ◌&&◌, Option, Some, None}
+use Rattle.std.proofs.Common.{nat_eq, ◌≡◌, refl, true≢false, ℕ, suc, ◌+◌, ◌≤◌, ◌==◌, ◌%◌, arith, nat_le, nat_lt, eq-eqb, eqb-true, le-leb, le-ltb, leb-true, leb-false, lt-ltb, Bool, true, false, not, cond, List, [], ◌∷◌, ◌++◌, length, map, ◌&&◌, Option, Some, None}
 use Rattle.std.proofs.Math.Nat.{mod-lt}
 use Rattle.std.proofs.lemmas.List.{length-append}
 use Rattle.std.proofs.lemmas.Bool.{and_parts}

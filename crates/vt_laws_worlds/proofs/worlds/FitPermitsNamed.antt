@@ -9,7 +9,6 @@ use Rattle.vt_laws_rules.specs.Granted.{IsGranted}
 use Rattle.vt_laws_rules.specs.Granted.IsGranted.{binds, changes_directory, changes_flags, changes_mark, changes_mode, changes_owner, changes_root, changes_type, creates, creates_exclusively, enters_namespace, makes_directory, makes_hard_link, makes_symlink, makes_whiteout, mounts_overlayfs, mounts_tmpfs, moves_mount, opens, opens_existing, overwrites_file, pivots_root, removes_directory, renames, unlinks, unmounts, unmounts_lazily, writes_new_file, writes_part}
 use Rattle.vt_spec.proofs.Lists.{among_from_list_all}
 use Rattle.vt_spec.proofs.Truths.{or_false_left}
-use Rattle.vt_spec.proofs.Walk.{placed}
 use Rattle.vt_spec.proofs.Worlds.{special_word}
 use Rattle.vt_spec.specs.Errors.{denial}
 use Rattle.vt_spec.specs.FileTree.{is_kind_in}

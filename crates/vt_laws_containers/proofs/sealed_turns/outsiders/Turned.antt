@@ -1,6 +1,5 @@
 -- A turn of an outsider changes the world by a call of the outsider, and no queue and no call under way of theirs.
-use Rattle.std.proofs.Common.{arith, ◌≡◌, refl, sym, ap, subst, ◌∙◌, ℕ, nat_eq, Bool, true, false, true≢false, cond, not, List, [], ◌∷◌, Some, find, map}
-use Rattle.std.proofs.lemmas.Grind.{common_steps}
+use Rattle.std.proofs.Common.{◌≡◌, refl, sym, ap, subst, ◌∙◌, ℕ, nat_eq, Bool, true, false, true≢false, cond, not, List, [], ◌∷◌, Some, find, map}
 use Rattle.vt_laws_sealed.proofs.outsiders.InTurn.{still_called}
 use Rattle.vt_spec.specs.Language.Calls.{Call, TaskName, same_name}
 use Rattle.vt_spec.specs.Language.Script.Who.{Someone}
@@ -10,11 +9,9 @@ use Rattle.vt_spec.specs.Machine.Policy.{policy}
 use Rattle.vt_spec.specs.Machine.Sealed.{members}
 use Rattle.vt_spec.specs.Machine.Turns.{Progress, Sched, Turned, one_further, queue_of, same_who, shortened, turn, without_progress}
 use Rattle.vt_spec.specs.Machine.World.{Task, World, task_called}
-use Rattle.vt_spec.proofs.Lists.{among_from_list_all, any_from_among, list_all_from_among}
-use Rattle.vt_spec.proofs.Worlds.{same_name_itself}
 use Rattle.vt_laws_members.proofs.judging.AllJudged.{called_alike}
 use Rattle.vt_laws_worlds.proofs.overlay_permits.worlds.EveryCall.{every_call_keeps_worlds}
-use Rattle.vt_laws_sealed.specs.Outsiders.{LeavesItSealed, are_all_called}
+use Rattle.vt_laws_sealed.specs.Outsiders.{LeavesItSealed}
 use Rattle.vt_laws_sealed.proofs.outsiders.EveryPermit.{outsiders_leave_a_sealed_set}
 use Rattle.vt_laws_turns.specs.Commits.{Turn, left_by}
 use Rattle.vt_laws_turns.proofs.TurnShapes.{Shape, turn_shape}

@@ -1,6 +1,6 @@
 -- Whether a mount in the first namespace has room: it comes to the shared mount, and to its peer in the other
 -- namespace.
-use Rattle.std.proofs.Common.{arith, ◌≡◌, refl, sym, ap, subst, ◌∙◌, true≢false, ℕ, suc, nat_eq, nat_lt, eqb-true, Bool, true, false, cond, not, ◌&&◌, ◌||◌, ◌+◌, ◌*◌, List, [], ◌∷◌, ◌++◌, Option, None, Some, Ok, filter, find, is_some, length, map}
+use Rattle.std.proofs.Common.{arith, ◌≡◌, refl, sym, ap, subst, ◌∙◌, true≢false, ℕ, suc, nat_eq, nat_lt, eqb-true, Bool, true, false, cond, not, ◌&&◌, ◌||◌, ◌+◌, ◌*◌, List, [], ◌∷◌, ◌++◌, Option, None, Some, Ok, filter, is_some, length, map}
 use Rattle.std.proofs.lemmas.Grind.{common_steps}
 use Rattle.std.proofs.Math.Bool.{or-false}
 use Rattle.std.specs.Prelude.{codes, option_to_list}
@@ -12,7 +12,7 @@ use Rattle.vt_laws_mounts.proofs.mounts.MountsPlaces.{stands_there}
 use Rattle.vt_laws_mounts.proofs.mounts.Receivers.{start_among}
 use Rattle.vt_spec.specs.FileTree.{is_directory_under, is_removed}
 use Rattle.vt_spec.specs.Language.Limits.{most_mounts, most_symlinks}
-use Rattle.vt_spec.specs.Lists.{chain, holds_of, is_among}
+use Rattle.vt_spec.specs.Lists.{holds_of, is_among}
 use Rattle.vt_spec.specs.Machine.Attach.{parts_of, receivers_of, takes_part}
 use Rattle.vt_spec.specs.Machine.Invariants.{IsWorld}
 use Rattle.vt_spec.specs.Machine.Looks.{looks_of}

@@ -11,7 +11,7 @@ use Rattle.vt_spec.specs.Lists.{Fresh, any_pair, is_among}
 use Rattle.vt_spec.specs.Machine.Filesystems.{with_change, with_files}
 use Rattle.vt_spec.specs.Machine.Mounts.{Location}
 use Rattle.vt_spec.specs.Machine.Settled.{settled}
-use Rattle.vt_spec.specs.Machine.World.{Filesystem, Overlay, World, filesystem_at, filesystem_numbered, is_overlay}
+use Rattle.vt_spec.specs.Machine.World.{Filesystem, World, filesystem_at, filesystem_numbered, is_overlay}
 use Rattle.vt_spec.specs.Fits.{Fits, MayReplace}
 use Rattle.vt_spec.specs.Inodes.{Inodes, changed, node_in, tree_of, with_changed, without_replaced}
 use Rattle.vt_spec.specs.Tree.{Node, entries_in, entry_named, is_directory_node, node_with_bytes, node_with_entry}

@@ -9,14 +9,13 @@ use Rattle.vt_spec.specs.Language.Changes.{Change}
 use Rattle.vt_spec.specs.Lists.{any_pair, is_among}
 use Rattle.vt_spec.specs.Machine.World.{Filesystem}
 use Rattle.vt_spec.specs.Fits.{Fits}
-use Rattle.vt_spec.specs.Inodes.{Inode, Inodes, changed, node_in, pinned}
+use Rattle.vt_spec.specs.Inodes.{Inodes, changed, node_in, pinned}
 use Rattle.vt_laws_mounts.specs.LettingGo.TreeChanges.{with_tree}
 use Rattle.vt_laws_mounts.proofs.letting_go.Lists.{all_pass, is_among_numbers}
 use Rattle.vt_laws_mounts.proofs.counts.counting.Times.{among_times, times_in}
 use Rattle.vt_laws_mounts.specs.Counts.BesideOverlays.{NamesKeepAllBesideOverlays}
 use Rattle.vt_laws_mounts.specs.Counts.Changing.{NamesKeepAll, TakesNoName}
 use Rattle.vt_laws_mounts.proofs.counts.changing.Changes as After
-use Rattle.vt_laws_mounts.proofs.counts.changing.NameCounts as Names
 use Rattle.vt_laws_mounts.proofs.counts.using.Swept as Swept
 use Rattle.vt_laws_mounts.proofs.counts.using.Swept.{base_of}
 use Rattle.vt_laws_mounts.proofs.counts.changing.TreeCounts.{IsStart, changed_same}

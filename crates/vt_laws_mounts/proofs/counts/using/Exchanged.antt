@@ -8,7 +8,7 @@ use Rattle.vt_spec.specs.FileTree.{targets_in}
 use Rattle.vt_spec.specs.Lists.{folded, holds_of, is_among}
 use Rattle.vt_spec.specs.Machine.Locked.{of_overlay, overlay_or}
 use Rattle.vt_spec.specs.Machine.Settled.{layers_in, located_in, named_in, objects_of_overlay, used_in}
-use Rattle.vt_spec.specs.Machine.World.{Filesystem, Overlay, World, filesystem_numbered, layers_of, no_filesystem}
+use Rattle.vt_spec.specs.Machine.World.{Filesystem, World, filesystem_numbered, layers_of, no_filesystem}
 use Rattle.vt_spec.specs.Inodes.{Inodes, node_in}
 use Rattle.vt_spec.specs.Inodes as Trees
 use Rattle.vt_spec.specs.Tree.{Node}

@@ -1,5 +1,5 @@
 -- What calls that change plain trees let go of.
-use Rattle.std.proofs.Common.{arith, ◌≡◌, refl, sym, ap, subst, ◌∙◌, ◌⊎◌, inl, inr, ⊎_elim, ℕ, nat_eq, true, false, cond, ◌||◌, List, [], ◌∷◌, flat_map, map, true≢false, Option, Some, None, is_some, option_to_list}
+use Rattle.std.proofs.Common.{arith, ◌≡◌, refl, sym, ap, subst, ◌∙◌, ◌⊎◌, inl, inr, ⊎_elim, ℕ, nat_eq, true, false, ◌||◌, List, [], ◌∷◌, flat_map, map, true≢false, Option, Some, None, is_some, option_to_list}
 use Rattle.std.proofs.lemmas.Grind.{common_steps}
 use Rattle.std.proofs.lemmas.Bool.{or_parts}
 use Rattle.std.specs.Cmp.Lexicographic.{bytes_decides}

@@ -1,5 +1,5 @@
 -- What calls of tasks let go of.
-use Rattle.std.proofs.Common.{arith, ◌≡◌, refl, sym, ap, append_assoc, true≢false, ◌+◌, subst, ◌∙◌, ◌⊎◌, inl, inr, ℕ, nat_eq, Bool, true, false, not, ◌||◌, List, [], ◌∷◌, ◌++◌, filter, map}
+use Rattle.std.proofs.Common.{arith, ◌≡◌, refl, sym, append_assoc, true≢false, ◌+◌, subst, ◌⊎◌, inl, inr, ℕ, nat_eq, true, List, [], ◌∷◌, ◌++◌}
 use Rattle.std.proofs.lemmas.Grind.{common_steps}
 use Rattle.vt_spec.proofs.Lists.{among_from_contains}
 use Rattle.vt_spec.specs.Machine.Mounts.{Location}
@@ -13,7 +13,6 @@ use Rattle.vt_laws_mounts.proofs.letting_go.leaving.FilesChanged.{none_left, rep
 use Rattle.vt_laws_mounts.proofs.letting_go.leaving.LeftWithOverlays.{leaving_overlays_lets_go, staying_keeps_overlays}
 use Rattle.vt_laws_mounts.proofs.letting_go.Lists.{Among, all_pass, among-filter, among-from_map, among-map, passes}
 use Rattle.std.proofs.lemmas.List.Folds.{list_any-append}
-use Rattle.std.specs.Prelude.{◌==◌}
 use Rattle.std.proofs.lemmas.Bool.{cases_Bool}
 
 -- a descriptor is closed, or is there still

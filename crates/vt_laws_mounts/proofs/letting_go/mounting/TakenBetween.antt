@@ -1,7 +1,7 @@
 -- Mounts are taken away from a world that was swept before, or that was not: after the sweep that follows the two
 -- worlds are one.
 use Rattle.std.proofs.lemmas.Grind.{common_steps}
-use Rattle.std.proofs.Common.{◌≡◌, refl, sym, ap, subst, ◌∙◌, ⊎_elim, ℕ, zero, suc, nat_eq, eqb-true, eq-eqb, Bool, true, false, cond, not, ◌||◌, List, ◌++◌, filter, find, length, map, true≢false, Option, Some, None, is_some, option_map, arith}
+use Rattle.std.proofs.Common.{◌≡◌, refl, sym, ap, subst, ◌∙◌, ⊎_elim, ℕ, zero, suc, nat_eq, eqb-true, eq-eqb, Bool, true, false, cond, not, ◌||◌, List, ◌++◌, filter, length, map, true≢false, Option, Some, None, is_some, option_map, arith}
 use Rattle.std.specs.Prelude.{filter_map}
 use Rattle.std.specs.List.{list_any}
 use Rattle.std.proofs.lemmas.Bool.{or_cases}

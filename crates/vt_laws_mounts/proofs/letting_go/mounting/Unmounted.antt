@@ -5,7 +5,7 @@ use Rattle.std.specs.List.{list_any}
 use Rattle.std.proofs.lemmas.Bool.{false_from_ne_true, or_cases, cases_Bool, or_parts}
 use Rattle.vt_spec.specs.Lists.{folded, holds_of, is_among}
 use Rattle.vt_spec.specs.Machine.Detach.{deepest_first, going, is_going, lazily_unmounted, mounts_on, taken_away, unmounted, unmounted_if_there}
-use Rattle.vt_spec.specs.Machine.Mounts.{Location, Mount, detached, group_of, mount_in, mount_tree, root_of}
+use Rattle.vt_spec.specs.Machine.Mounts.{Location, Mount, group_of, mount_in, mount_tree, root_of}
 use Rattle.vt_spec.specs.Machine.Receives.{has_members, heir, is_member_of, lost_a_group, regrouped_by}
 use Rattle.vt_spec.specs.Machine.Settled.{is_located, mount_lives, settled}
 use Rattle.vt_spec.specs.Machine.World.{World, mount_at, mount_numbered}

@@ -1,5 +1,5 @@
 -- A granted call changes no inode but those that its permit names.
-use Rattle.std.proofs.Common.{arith, ◌≡◌, refl, sym, ap, ◌∙◌, true≢false, inl, inr, ◌⊎◌, ℕ, nat_eq, eq-eqb, Bool, true, false, cond, ◌&&◌, ◌||◌, ◌∷◌, Option, Some, None}
+use Rattle.std.proofs.Common.{arith, ◌≡◌, refl, sym, ap, ◌∙◌, true≢false, inl, inr, ◌⊎◌, ℕ, nat_eq, eq-eqb, Bool, true, false, cond, ◌&&◌, Option, Some, None}
 use Rattle.std.proofs.lemmas.Grind.{common_steps}
 use Rattle.std.specs.Prelude.{option_to_list}
 use Rattle.vt_laws_rules.proofs.given.GivenPermits.{permits_are_for_their_calls}

@@ -6,7 +6,7 @@ use Rattle.vt_spec.specs.declared.errors.Rule.TheVariants.{S2}
 use Rattle.vt_spec.specs.Errors.{denial}
 use Rattle.vt_spec.specs.Machine.Apply.{apply}
 use Rattle.vt_spec.specs.Language.Calls.{Call, TaskName}
-use Rattle.vt_spec.specs.Machine.Filesystems.{filesystems_raised, raised}
+use Rattle.vt_spec.specs.Machine.Filesystems.{filesystems_raised}
 use Rattle.vt_spec.specs.Machine.Judge.{Judgement, judge_in}
 use Rattle.vt_spec.specs.Lists.{Fresh}
 use Rattle.vt_spec.specs.Machine.Outcomes.{after, denied}

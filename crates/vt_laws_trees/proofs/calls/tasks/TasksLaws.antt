@@ -1,5 +1,5 @@
 -- The laws of tasks.
-use Rattle.std.proofs.Common.{arith, ◌≡◌, refl, sym, ap, subst, ◌∙◌, inl, inr, ◌⊎◌, ⊎_elim, ℕ, Contains, true, Some, None}
+use Rattle.std.proofs.Common.{arith, ◌≡◌, refl, sym, ap, subst, inl, inr, ◌⊎◌, ⊎_elim, ℕ, Contains, true, Some, None}
 use Rattle.std.proofs.lemmas.Grind.{common_steps}
 use Rattle.vt_laws_trees.proofs.calls.tasks.TasksFound.{Found}
 use Rattle.vt_laws_trees.proofs.calls.tasks.TasksOwn.{Becomes, BecomesTask, IsRaised, becomes, stays_or_changed}

@@ -9,7 +9,7 @@ use Rattle.std.specs.Prelude.{codes, if◌then◌else◌}
 use Rattle.vt_laws_trees.proofs.calls.ways.WaysEnds.{object_searched}
 use Rattle.vt_laws_trees.proofs.calls.ways.WaysSearched.{IsNamedAt, IsStep, placed_step, word_step}
 use Rattle.vt_laws_trees.proofs.calls.ways.WaysWalked.{followed_searched, path_text_same, words_searched}
-use Rattle.vt_laws_trees.specs.Calls.Searched.{IsSearchable, IsSearchedTo, IsSearchedToName, IsSearchedWay, IsSearchedWayToName, NewLeafWaysAreSearched, NewNameWaysAreSearched, OldLeafWaysAreSearched, OldNameWaysAreSearched, PlaceWaysAreSearched, RenamedWaysAreSearched, SymlinkWaysAreSearched}
+use Rattle.vt_laws_trees.specs.Calls.Searched.{IsSearchable, IsSearchedToName, IsSearchedWay, IsSearchedWayToName, NewLeafWaysAreSearched, NewNameWaysAreSearched, OldLeafWaysAreSearched, OldNameWaysAreSearched, PlaceWaysAreSearched, RenamedWaysAreSearched, SymlinkWaysAreSearched}
 use Rattle.vt_laws_trees.specs.Calls.Searched.WayToName.{name_in, no_name}
 use Rattle.vt_spec.specs.declared.errors.Rule.TheVariants.{W3, W6}
 use Rattle.vt_spec.specs.Machine.Looks.{looks_of}

@@ -4,7 +4,7 @@ use Rattle.std.proofs.Common.{◌≡◌, ◌≢◌, ◌<◌, ◌↔◌, refl, sy
 use Rattle.vt_spec.specs.declared.attributes.Kind.TheVariants.{White}
 use Rattle.vt_spec.specs.FileTree.{is_kind, is_kind_in}
 use Rattle.vt_spec.proofs.Layers.{cuts, shown_from, shown_over}
-use Rattle.vt_spec.specs.Machine.Layers.{OpenLayer, Shown, at_path, hides, node_at_path, shown}
+use Rattle.vt_spec.specs.Machine.Layers.{OpenLayer, Shown, at_path, node_at_path, shown}
 use Rattle.vt_spec.specs.Lists.{then_some}
 use Rattle.vt_spec.specs.Tree.{Content, Node, kind_of}
 use Rattle.vt_spec.specs.Tree.Content.{Directory, Regular, Symlink, Whiteout}

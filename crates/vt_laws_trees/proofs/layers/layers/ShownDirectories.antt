@@ -1,6 +1,6 @@
 -- What is shown under a name is shown in a directory.
 use Rattle.std.proofs.lemmas.Grind.{common_steps}
-use Rattle.std.proofs.Common.{◌≡◌, ◌≢◌, refl, sym, ap, subst, ◌∙◌, true≢false, arith, ℕ, suc, ◌+◌, Bool, true, false, not, List, [], ◌∷◌, ◌++◌, Option, Some, None, is_some, option_and_then, slice_get}
+use Rattle.std.proofs.Common.{◌≡◌, ◌≢◌, refl, sym, ap, subst, ◌∙◌, true≢false, arith, ℕ, suc, ◌+◌, Bool, true, false, List, [], ◌∷◌, ◌++◌, Option, Some, None, is_some, option_and_then, slice_get}
 use Rattle.vt_spec.proofs.Layers.{cuts, shown_from, shown_over}
 use Rattle.vt_spec.specs.Machine.Layers.{OpenLayer, Shown, at_path, hides, node_at_path}
 use Rattle.vt_spec.specs.Lists.{then_some}

@@ -15,7 +15,6 @@ use Rattle.vt_spec.specs.Machine.NewMounts.{inode_count, overlay_filesystem}
 use Rattle.vt_spec.specs.Machine.World.{Filesystem, Layer, Overlay, Real, World, filesystem_numbered, is_overlay, no_filesystem, open_layer, shown_layers}
 use Rattle.vt_spec.specs.Machine.Invariants.{IsMerged, IsWorld, ListsNumbers, SameObject, is_plain_layer, is_there, node_shown, real_node, same_content}
 use Rattle.vt_spec.specs.Tree.{Content, Node, is_directory_node}
-use Rattle.vt_spec.specs.Tree.Content.{Directory}
 use Rattle.vt_spec.specs.TreeInvariant.{IsDirectory, IsTree, entry_at, led}
 use Rattle.vt_laws_trees.specs.Layers.Layers.Mounted.{AreLayers, RemountShowsTheSame}
 use Rattle.vt_laws_trees.proofs.layers.layers.ShownAlike.{shown_alike}

@@ -1,7 +1,7 @@
 -- In a world, a change through an overlay writes to new inodes and to the overlay's own objects in the upper layer
 -- alone.
 use Rattle.std.proofs.lemmas.Grind.{common_steps}
-use Rattle.std.proofs.Common.{◌≡◌, ◌≢◌, ◌<◌, All, refl, sym, ap, subst, ◌∙◌, true≢false, arith, ℕ, suc, nat_eq, Bool, true, false, cond, not, ◌&&◌, List, [], ◌∷◌, ◌++◌, map, length, Option, Some, None, is_some}
+use Rattle.std.proofs.Common.{◌≡◌, ◌≢◌, ◌<◌, All, refl, sym, ap, subst, ◌∙◌, true≢false, arith, ℕ, suc, nat_eq, Bool, true, false, cond, not, List, [], ◌∷◌, ◌++◌, map, length, Option, Some, None, is_some}
 use Rattle.std.specs.List.{find, list_all}
 use Rattle.std.specs.Prelude.{option_to_list}
 use Rattle.vt_spec.specs.Language.Changes.{Change}
@@ -9,14 +9,14 @@ use Rattle.vt_spec.specs.Machine.CopyUp.{Merge, merge_changed}
 use Rattle.vt_spec.specs.FileTree.{FileTree, a_name}
 use Rattle.vt_spec.specs.Machine.Filesystems.{filesystem_changed, merge_of, overlay_changed, stack_of, with_change, with_files, with_merge}
 use Rattle.vt_spec.specs.Machine.Layers.{OpenLayer, shown}
-use Rattle.vt_spec.specs.Lists.{Fresh, without_last}
+use Rattle.vt_spec.specs.Lists.{Fresh}
 use Rattle.vt_spec.specs.Machine.Locked.{of_overlay, overlay_or}
 use Rattle.vt_spec.specs.Machine.Merging.{merged_at, real_object}
 use Rattle.vt_spec.specs.Machine.Mounts.{Location}
 use Rattle.vt_spec.specs.Machine.World.{Filesystem, Layer, Overlay, Real, World, filesystem_at, filesystem_numbered, files_at, is_overlay, layers_of, mount_at, open_layer, upper_object, with_filesystem}
 use Rattle.vt_spec.specs.Machine.Invariants.{IsMerged, IsWorld, ListsNumbers, is_plain_layer, number_at_path}
 use Rattle.vt_spec.specs.Tree.{Node, is_directory_node}
-use Rattle.vt_spec.specs.TreeInvariant.{IsTree, entry_at, led}
+use Rattle.vt_spec.specs.TreeInvariant.{IsTree, entry_at}
 use Rattle.vt_spec.proofs.Trees.{led-append}
 use Rattle.vt_laws_trees.specs.Layers.Layers.Mounted.{AreLayers}
 use Rattle.vt_laws_trees.specs.Layers.Layers.Untouched.{IsKept}

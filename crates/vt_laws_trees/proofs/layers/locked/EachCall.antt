@@ -1,5 +1,5 @@
 -- Each call on files leaves the filesystems as they were, or with one change that is granted.
-use Rattle.std.proofs.Common.{arith, List, None, Option, Some, [], ap, eqb-true, false, inl, is_some, nat_eq, ne_eqb, not, option_map, refl, subst, sym, true, true≢false, unwrap_or, ℕ, ◌*◌, ◌+◌, ◌||◌, ◌∙◌, ◌∷◌, ◌≡◌, ◌≢◌, Result}
+use Rattle.std.proofs.Common.{arith, List, None, Option, Some, [], ap, eqb-true, false, inl, is_some, nat_eq, ne_eqb, not, option_map, refl, subst, sym, true, true≢false, unwrap_or, ℕ, ◌||◌, ◌∙◌, ◌∷◌, ◌≡◌, ◌≢◌, Result}
 use Rattle.std.proofs.lemmas.Grind.{common_steps}
 use Rattle.vt_spec.specs.Language.Calls.{Access, Call}
 use Rattle.vt_spec.specs.Language.Changes.{Change}

@@ -1,5 +1,5 @@
 -- Where what lies under a layer stays as it was, paths lead from the layer's directory where they led.
-use Rattle.std.proofs.Common.{arith, ◌≡◌, ◌≢◌, sym, ap, ◌∙◌, true≢false, eq-eqb, ℕ, nat_eq, true, cond, not, ◌&&◌, ◌||◌, List, Some, is_some}
+use Rattle.std.proofs.Common.{arith, ◌≡◌, ◌≢◌, sym, ap, ◌∙◌, true≢false, eq-eqb, ℕ, nat_eq, true, cond, not, List, Some, is_some}
 use Rattle.std.proofs.lemmas.Grind.{common_steps}
 use Rattle.std.specs.List.{find}
 use Rattle.vt_spec.specs.FileTree.{is_directory_under, is_file_under}

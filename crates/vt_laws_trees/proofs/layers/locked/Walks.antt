@@ -1,5 +1,5 @@
 -- Where a task's walk ends something is, and so where its descriptors are.
-use Rattle.std.proofs.Common.{arith, ◌≡◌, refl, sym, ap, subst, ℕ, zero, suc, nat_eq, Bool, true, false, cond, List, [], ◌∷◌, ◌+◌, reverse, Option, Some, None, is_some, Ok, Result, ok_or, inr}
+use Rattle.std.proofs.Common.{arith, ◌≡◌, refl, subst, ℕ, zero, suc, nat_eq, Bool, true, false, cond, List, [], ◌∷◌, ◌+◌, reverse, Option, Some, None, is_some, Ok, Result, ok_or, inr}
 use Rattle.std.proofs.lemmas.Grind.{common_steps}
 use Rattle.std.specs.List.{find}
 use Rattle.std.specs.Prelude.{option_to_list}

@@ -1,8 +1,7 @@
 -- Changes that move no path of a layer: bytes, attributes and marks, and changes elsewhere in its tree.
-use Rattle.std.proofs.Common.{arith, ◌≡◌, refl, sym, ap, subst, ◌∙◌, true≢false, ne_eqb, ℕ, nat_eq, true, false, ◌||◌, List, [], ◌∷◌, Option, Some, None, is_some, option_and_then}
+use Rattle.std.proofs.Common.{arith, ◌≡◌, refl, sym, ap, subst, ◌∙◌, true≢false, ne_eqb, ℕ, nat_eq, true, false, List, [], ◌∷◌, Option, Some, None, is_some, option_and_then}
 use Rattle.std.proofs.lemmas.Grind.{common_steps}
 use Rattle.vt_spec.specs.Language.Changes.{Change, changed, changed_node, node_with_attr, node_with_mark, with_inode}
-use Rattle.vt_spec.specs.Language.Changes.Change.{Make}
 use Rattle.vt_spec.specs.FileTree.{FileTree}
 use Rattle.vt_spec.specs.Lists.{is_among, then_some}
 use Rattle.vt_spec.specs.Tree.{Node, Tree, entries_in, entries_of, entry_named, node_with_bytes}

@@ -5,7 +5,7 @@ use Rattle.vt_spec.specs.Language.Changes.{Change}
 use Rattle.vt_spec.specs.Language.Changes.Change.{AddName, CopyUp, Make, Move, Remove, SetAttr, SetBytes, SetMark}
 use Rattle.vt_spec.specs.Lists.{Fresh, odds, then_some}
 use Rattle.vt_spec.specs.Machine.CopyUp.{Merge, Stack, copied_up, hides_directory, merge_changed, shown_in_lowers_at}
-use Rattle.vt_spec.specs.Machine.Layers.{Shown, at_path, shown}
+use Rattle.vt_spec.specs.Machine.Layers.{Shown, shown}
 use Rattle.vt_spec.specs.Machine.Merging.{layer_node, real_object}
 use Rattle.vt_spec.specs.Machine.World.{Real, upper_object}
 use Rattle.vt_spec.specs.Machine.World.Real.{Lower, Upper}

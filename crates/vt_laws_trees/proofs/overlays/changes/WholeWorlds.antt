@@ -1,5 +1,5 @@
 -- An overlay of a world, as one record.
-use Rattle.std.proofs.Common.{arith, ◌≡◌, sym, ap, subst, ◌∙◌, ℕ, nat_eq, ◌++◌, map, Option, Some, slice_get}
+use Rattle.std.proofs.Common.{arith, ◌≡◌, sym, ap, subst, ℕ, nat_eq, ◌++◌, map, Option, Some}
 use Rattle.std.proofs.lemmas.Grind.{common_steps}
 use Rattle.std.proofs.lemmas.Option.{slice_get-map}
 use Rattle.std.specs.Prelude.{option_to_list}

@@ -3,7 +3,7 @@ use Rattle.std.proofs.Common.{arith, ◌≡◌, refl, sym, ap, subst, ◌∙◌,
 use Rattle.std.proofs.lemmas.Grind.{common_steps}
 use Rattle.vt_spec.specs.declared.attributes.Attr.{Attr}
 use Rattle.vt_spec.specs.declared.attributes.Kind.TheVariants.{White}
-use Rattle.vt_spec.specs.FileTree.{is_kind, is_kind_in, is_opaque_in}
+use Rattle.vt_spec.specs.FileTree.{is_kind_in, is_opaque_in}
 use Rattle.vt_spec.specs.Language.Changes.{changed_node, node_with_attr}
 use Rattle.vt_spec.specs.Language.Changes.Change.{SetAttr, SetBytes}
 use Rattle.vt_spec.specs.Lists.{then_some}

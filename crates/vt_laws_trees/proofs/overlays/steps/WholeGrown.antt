@@ -13,7 +13,6 @@ use Rattle.vt_spec.specs.Machine.World.Real.{Lower, Upper}
 use Rattle.vt_spec.specs.Machine.Invariants.{SameObject, number_at_path, same_content}
 use Rattle.vt_spec.specs.Rights.{is_directory}
 use Rattle.vt_spec.specs.Tree.{Content, Node, bytes_of, is_directory_node, kind_of}
-use Rattle.vt_spec.specs.Tree.Content.{Symlink}
 use Rattle.vt_laws_trees.specs.Layers.Layers.Mounted.{IsAlike}
 use Rattle.vt_laws_trees.specs.Overlays.WhatIsShown.{inode_behind, real_seen}
 use Rattle.vt_laws_trees.proofs.layers.layers.ShownAlike.{white_alike}

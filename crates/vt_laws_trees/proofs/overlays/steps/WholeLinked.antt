@@ -2,7 +2,7 @@
 use Rattle.std.proofs.Common.{arith, ◌≡◌, refl, sym, ap, subst, ◌∙◌, true≢false, ℕ, nat_eq, Bool, true, false, not, cond, ◌||◌, List, [], ◌∷◌, ◌++◌, map, Option, Some, None, is_some, option_and_then}
 use Rattle.std.proofs.lemmas.Grind.{common_steps}
 use Rattle.vt_spec.specs.declared.attributes.Kind.TheVariants.{White}
-use Rattle.vt_spec.specs.FileTree.{FileTree, is_kind, is_kind_in, opaque_of}
+use Rattle.vt_spec.specs.FileTree.{FileTree, is_kind_in, opaque_of}
 use Rattle.vt_spec.specs.Language.Changes.{changed}
 use Rattle.vt_spec.specs.Language.Changes.Change.{AddName}
 use Rattle.vt_spec.specs.Lists.{then_some, when}
@@ -12,7 +12,6 @@ use Rattle.vt_spec.specs.Machine.Views.{View, hides, node_led, shown_from}
 use Rattle.vt_spec.specs.Machine.World.Real.{Upper}
 use Rattle.vt_spec.specs.Machine.Invariants.{SameObject, number_at_path}
 use Rattle.vt_spec.specs.Tree.{Node, is_directory_node}
-use Rattle.vt_spec.specs.Tree.Content.{Directory}
 use Rattle.vt_spec.specs.TreeInvariant.{IsDirectory, IsTree, entry_at, led}
 use Rattle.vt_spec.proofs.Trees.{led-append}
 use Rattle.vt_laws_trees.specs.Trees.{MayAddName}

@@ -9,7 +9,6 @@ use Rattle.vt_spec.specs.Language.Changes.Change.{Move}
 use Rattle.vt_spec.specs.Lists.{Fresh, then_some, when}
 use Rattle.vt_spec.specs.Machine.CopyUp.{Merge, Stack, hides_directory, merge_with_moved, path_to, shown_in_lowers_at, upper_directory_named, whiteout_of, without_contents}
 use Rattle.vt_spec.specs.Machine.Layers.{Shown, has_lower_directory, view_of}
-use Rattle.vt_spec.specs.Machine.Views
 use Rattle.vt_spec.specs.Machine.Views.{View, cuts, hides, node_led, shown_from, shown_over}
 use Rattle.vt_spec.specs.Machine.World.{Real, upper_object}
 use Rattle.vt_spec.specs.Machine.World.Real.{Lower, Upper}

@@ -1,5 +1,5 @@
 -- An overlay in which all inodes and their real objects are as they were, but for names.
-use Rattle.std.proofs.Common.{arith, ◌≡◌, ◌∙◌, ℕ, List, Option, Some, None}
+use Rattle.std.proofs.Common.{arith, ◌≡◌, ℕ, List, Option, Some, None}
 use Rattle.std.proofs.lemmas.Grind.{common_steps}
 use Rattle.vt_spec.specs.FileTree.{FileTree}
 use Rattle.vt_spec.specs.Lists.{then_some}

@@ -12,7 +12,6 @@ use Rattle.vt_spec.specs.FileTree.{FileTree}
 use Rattle.vt_spec.specs.Language.Changes.{changed, changed_node, node_with_parent, node_without_entry, with_inode, with_name, without_entry, without_name}
 use Rattle.vt_spec.specs.Language.Changes.Change.{Remove}
 use Rattle.vt_spec.specs.Tree.{Entries, Node, entries_in, entry_named, is_directory_node, name_cmp, node_with_entry, with_entry}
-use Rattle.vt_spec.specs.Tree.Content.{Directory}
 use Rattle.vt_spec.specs.TreeInvariant.{IsDirectory, IsReached, entry_at}
 use Rattle.vt_spec.proofs.Nodes.{entry_named-with_entry, entry_named-without_entry}
 use Rattle.vt_laws_trees.proofs.overlays.whole.UpperGoes.{Goes, IsGood, change_reaches, goes_by, goes_none}

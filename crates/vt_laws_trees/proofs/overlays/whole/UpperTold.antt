@@ -1,12 +1,12 @@
 -- Where the names of a plain tree lead after each part of a change.
-use Rattle.std.proofs.Common.{arith, ◌≡◌, ◌≢◌, refl, sym, ap, ◌∙◌, ⊎_elim, inl, inr, ◌⊎◌, ℕ, nat_eq, Bool, true, false, List, [], Option, Some, None}
+use Rattle.std.proofs.Common.{arith, ◌≡◌, refl, sym, ap, ◌∙◌, ⊎_elim, inl, inr, ◌⊎◌, ℕ, nat_eq, Bool, true, false, List, [], Option, Some, None}
 use Rattle.std.proofs.lemmas.Grind.{common_steps}
 use Rattle.std.proofs.lemmas.Bool.Decides.{eqb_tells}
 use Rattle.vt_spec.specs.FileTree.{FileTree}
 use Rattle.vt_spec.specs.Language.Changes.{changed_node, node_with_mark, node_with_parent, node_without_entries, with_inode, with_moved, with_name, without_name, without_parent}
 use Rattle.vt_spec.specs.Lists.{Fresh}
 use Rattle.vt_spec.specs.Machine.CopyUp.{Stack, name_left_by, whiteout_of, with_mark, without_contents}
-use Rattle.vt_spec.specs.Tree.{Node, entries_in, entries_of, entry_named, node_with_entry}
+use Rattle.vt_spec.specs.Tree.{Node, entries_in, entries_of, entry_named}
 use Rattle.vt_spec.specs.TreeInvariant.{entry_at}
 use Rattle.vt_spec.proofs.Nodes.{is_directory-node_with_entry, node_other, node_set}
 use Rattle.vt_laws_trees.proofs.trees.ChangesNames.{given_told, untaken_told}

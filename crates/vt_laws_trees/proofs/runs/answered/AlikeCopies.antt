@@ -7,11 +7,10 @@ use Rattle.std.proofs.lemmas.List.Sorted.{IsPermutation-cons}
 use Rattle.vt_laws_rules.proofs.same.SameFiles.{ancestors_same, path_same}
 use Rattle.vt_laws_trees.proofs.runs.answered.AlikeFiles.{changed_alike, node_changed}
 use Rattle.vt_spec.specs.FileTree.{FileTree, a_name}
-use Rattle.vt_spec.specs.Language.Changes.{Change, changed_node, content_with_parent, node_with_attr, node_with_mark, node_without_entry, with_inode, with_moved, with_name}
+use Rattle.vt_spec.specs.Language.Changes.{Change, content_with_parent, node_with_attr, node_with_mark, node_without_entry, with_inode, with_moved, with_name}
 use Rattle.vt_spec.specs.Language.Changes.Change.{AddName, CopyUp, Make, Move, Remove, SetAttr, SetBytes, SetMark}
 use Rattle.vt_spec.specs.Lists.{Fresh, evens, odds, then_some}
 use Rattle.vt_spec.specs.Machine.CopyUp.{Merge, Stack, changed_both, copied_content, copied_each, copied_up, copy_named, copy_of, copy_of_node, copy_parent, hides_directory, is_directory_shown, is_in_upper, line_by, line_to, merge_changed, merge_with_link, merge_with_moved, merge_with_new, merge_without_name, name_left, name_left_by, shown_in_lowers_at, upper_directory_named, upper_of, with_mark, with_real, without_contents}
-use Rattle.vt_spec.specs.Machine.Layers.{shown_in_lowers}
 use Rattle.vt_spec.specs.Machine.SameWorlds.{SameFiles}
 use Rattle.vt_spec.specs.Machine.World.{upper_object}
 use Rattle.vt_spec.specs.Machine.World.Real.{Upper}

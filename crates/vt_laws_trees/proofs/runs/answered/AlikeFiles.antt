@@ -1,5 +1,5 @@
 -- A change of files in two trees that are the same but for the order of the numbers beside them.
-use Rattle.std.proofs.Common.{◌≡◌, subst, ℕ, nat_eq, List, Option, Some, None}
+use Rattle.std.proofs.Common.{subst, ℕ, nat_eq, List, Option, Some, None}
 use Rattle.std.proofs.lemmas.List.Sorted.{IsPermutation-cons}
 use Rattle.vt_spec.specs.FileTree.{FileTree}
 use Rattle.vt_spec.specs.Language.Changes.{Change, changed, changed_node, node_with_attr, node_with_mark, node_with_parent, node_without_entry, with_inode, without_parent}

@@ -1,5 +1,5 @@
 -- Calls that mount no overlay leave plain filesystems.
-use Rattle.std.proofs.Common.{arith, ◌≡◌, refl, sym, ap, subst, true≢false, inl, ℕ, nat_eq, Bool, true, false, List, [], ◌∷◌, ◌++◌, Option, Some, None}
+use Rattle.std.proofs.Common.{◌≡◌, refl, sym, ap, subst, true≢false, inl, ℕ, nat_eq, Bool, true, false, List, [], ◌∷◌, Some, None}
 use Rattle.std.specs.List.{All}
 use Rattle.vt_laws_rules.specs.Plain.{IsPlain}
 use Rattle.vt_laws_trees.proofs.trees.ChangesByCalls.{new_is_plain, settled_plain}
@@ -21,7 +21,7 @@ use Rattle.vt_spec.specs.Machine.Permits.{Permit}
 use Rattle.vt_spec.specs.Machine.Permits.Permit.{ToChange, ToMake, ToMountOverlay, ToMountPlain, ToOpen, ToOpenNew, ToRemoveDirectory, ToRename, ToWritePart}
 use Rattle.vt_spec.specs.Machine.Policy.{finished_by}
 use Rattle.vt_spec.specs.Machine.Settled.{settled}
-use Rattle.vt_spec.specs.Machine.World.{Filesystem, Overlay, Task, World, filesystem_at, filesystem_numbered, is_overlay, mount_at, new_plain}
+use Rattle.vt_spec.specs.Machine.World.{Task, World, filesystem_at, filesystem_numbered, is_overlay, mount_at, new_plain}
 
 pub plain_numbered : (world : World ℕ) → IsPlain world → (number : ℕ)
     → (filesystem_numbered nat_eq world number).overlay ≡ None

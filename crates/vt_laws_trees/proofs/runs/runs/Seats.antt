@@ -1,6 +1,6 @@
 -- Whatever leaves endless numbers over is renamed into the first row.
 use Rattle.std.proofs.lemmas.Grind.{common_steps}
-use Rattle.std.proofs.Common.{◌≡◌, ◌≢◌, ap, ◌∙◌, ℕ, zero, suc, ◌==◌, ◌+◌, ◌*◌, ◌/◌, ◌%◌, ◌<◌, Bool, true, false, cond, arith, eq-eqb, ne_eqb, eqb-true}
+use Rattle.std.proofs.Common.{◌≡◌, ap, ◌∙◌, ℕ, zero, suc, ◌==◌, ◌+◌, ◌*◌, ◌/◌, ◌%◌, ◌<◌, Bool, true, false, arith, eq-eqb, ne_eqb, eqb-true}
 use Rattle.std.proofs.lemmas.Bool.{eqb-false}
 use Rattle.vt_laws_rules.proofs.numbers.Cells.{cell, cell-number_in_row, number_in_row, number_in_row-cell}
 use Rattle.vt_laws_rules.proofs.numbers.Rows.{col, col-spread, row, row-spread, row_first, spread, spread-row}

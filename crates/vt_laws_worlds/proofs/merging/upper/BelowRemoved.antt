@@ -10,7 +10,7 @@ use Rattle.vt_spec.specs.Machine.Invariants.{number_at_path}
 use Rattle.vt_spec.specs.Machine.Views.{hides}
 use Rattle.vt_spec.specs.Machine.World.{upper_object}
 use Rattle.vt_spec.specs.Machine.World.Real.{Upper}
-use Rattle.vt_spec.specs.Tree.{entry_named, is_directory_node, node_with_entry}
+use Rattle.vt_spec.specs.Tree.{is_directory_node, node_with_entry}
 use Rattle.vt_spec.specs.TreeInvariant.{entry_at, led}
 use Rattle.vt_spec.proofs.Nodes.{node_other}
 use Rattle.vt_spec.proofs.Trees.{led-append}

@@ -27,7 +27,6 @@ use Rattle.vt_laws_trees.proofs.layers.views.After.{on_top}
 use Rattle.std.proofs.lemmas.Slice.Eq.{bytes_eq-Decides}
 use Rattle.vt_laws_trees.proofs.overlays.changes.WholeTogether.{stands_above}
 use Rattle.vt_spec.specs.Tree.{Content, Node, Tree}
-use Rattle.vt_spec.specs.Tree.Content.{Directory}
 use Rattle.std.proofs.lemmas.List.{length-reverse, map-append}
 use Rattle.std.proofs.lemmas.Option.{same_Some}
 use Rattle.vt_spec.proofs.Options.{none_is_some}

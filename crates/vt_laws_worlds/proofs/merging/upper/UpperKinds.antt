@@ -9,7 +9,6 @@ use Rattle.vt_spec.specs.Machine.CopyUp.{Merge, Stack, changed_both, copied_each
 use Rattle.vt_spec.specs.Machine.Invariants.{number_at_path}
 use Rattle.vt_spec.specs.Machine.Layers.{shown_in_lowers}
 use Rattle.vt_spec.specs.Machine.World.{upper_object}
-use Rattle.vt_spec.specs.Machine.World.Real.{Upper}
 use Rattle.vt_spec.specs.Tree.{Node, is_directory_node, node_with_bytes}
 use Rattle.vt_spec.specs.TreeInvariant.{entry_at}
 use Rattle.vt_laws_trees.specs.Layers.Layers.ChangesUpper.{StandsInUpper}

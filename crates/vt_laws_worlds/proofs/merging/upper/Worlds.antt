@@ -12,7 +12,6 @@ use Rattle.vt_spec.specs.Machine.Mounts.{Location, mount_tree}
 use Rattle.vt_spec.specs.Machine.Descriptors.{opened, with_copy}
 use Rattle.vt_spec.specs.Machine.Detach.{mounts_on, taken_away}
 use Rattle.vt_spec.specs.Machine.Permits.{Permit}
-use Rattle.vt_spec.specs.Machine.Outcomes.{after}
 use Rattle.vt_laws_rules.proofs.judged.CallsJudged.{call_is_judged_then_applied}
 use Rattle.vt_spec.specs.Machine.World.{Filesystem, Layer, Overlay, Task, World, filesystem_at, filesystem_numbered, mount_at, no_filesystem, with_filesystem}
 use Rattle.vt_spec.specs.Tree.{is_directory_node}

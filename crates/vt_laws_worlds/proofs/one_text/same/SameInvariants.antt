@@ -2,7 +2,7 @@
 use Rattle.std.proofs.Common.{arith, ◌≤◌, ◌≡◌, sym, ap, subst, ◌∙◌, ℕ, nat_eq, Bool, ◌&&◌, [], ◌∷◌, ◌++◌, map, Option, is_some}
 use Rattle.std.proofs.lemmas.Grind.{common_steps}
 use Rattle.std.specs.Prelude.{option_to_list}
-use Rattle.std.specs.List.{list_all, list_any}
+use Rattle.std.specs.List.{list_all}
 use Rattle.std.proofs.lemmas.List.Sorted.{list_any-IsPermutation}
 use Rattle.vt_laws_trees.proofs.runs.EachHas.{each_all, each_among, each_holds, each_pair}
 use Rattle.vt_laws_trees.proofs.runs.answered.AlikeChanges.{found_alike, locations_same}
@@ -15,7 +15,7 @@ use Rattle.vt_spec.specs.Language.Calls.{same_name}
 use Rattle.vt_spec.specs.Lists.{is_among}
 use Rattle.vt_spec.specs.Machine.Mounts.{Location, Mount}
 use Rattle.vt_spec.specs.Machine.SameWorlds.{SameFiles, SameFilesystem}
-use Rattle.vt_spec.specs.Machine.World.{Descriptor, Filesystem, Namespace, Task, World, all_locations, filesystem_numbered, mount_at, mounts_of}
+use Rattle.vt_spec.specs.Machine.World.{Descriptor, Filesystem, Namespace, Task, World, all_locations, filesystem_numbered, mount_at}
 use Rattle.vt_spec.specs.Machine.Invariants.{ForksAreCounted, ListsNumbers, MountInvariants, NamespaceInvariants, TaskInvariants, TreeInvariants, has_fit_names, has_fit_text, is_fit_filesystem, is_no_larger, is_within_limits}
 use Rattle.vt_spec.proofs.Lists.{among_from_contains, contains_from_among}
 use Rattle.vt_spec.specs.Tree.{Node, Tree, is_directory_node}

@@ -1,6 +1,6 @@
 -- What each way in which a call is granted asks for: what may be done.
 use Rattle.std.proofs.lemmas.Grind.{common_steps}
-use Rattle.std.proofs.Common.{List, None, Option, Some, [], ap, arith, drop, false, inl, inr, is_some, le-leb, leb-true, ltb-false, nat_eq, nat_le, not, refl, sym, take, true, true≢false, ℕ, ◌&&◌, ◌*◌, ◌+◌, ◌==◌, ◌∙◌, ◌∷◌, ◌≡◌}
+use Rattle.std.proofs.Common.{List, Option, Some, [], ap, arith, drop, false, inl, inr, is_some, le-leb, leb-true, ltb-false, nat_eq, nat_le, not, refl, sym, take, true, true≢false, ℕ, ◌&&◌, ◌*◌, ◌+◌, ◌==◌, ◌∙◌, ◌∷◌, ◌≡◌}
 use Rattle.vt_spec.specs.Errors.{NoneFails}
 use Rattle.std.proofs.lemmas.List.{length-append, length-drop, length-take}
 use Rattle.std.specs.Prelude.{length, nat_lt, ◌++◌}

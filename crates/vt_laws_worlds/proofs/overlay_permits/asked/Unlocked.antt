@@ -1,5 +1,5 @@
 -- What each way in which a call is granted asks for spares what is locked.
-use Rattle.std.proofs.Common.{arith, List, Some, [], ap, eqb-true, false, nat_eq, refl, sym, true, true≢false, ℕ, ◌||◌, ◌∙◌, ◌∷◌, ◌≡◌}
+use Rattle.std.proofs.Common.{arith, List, Some, [], ap, eqb-true, false, nat_eq, refl, sym, true, true≢false, ℕ, ◌||◌, ◌∙◌, ◌≡◌}
 use Rattle.std.proofs.lemmas.Grind.{common_steps}
 use Rattle.std.proofs.lemmas.Bool.{or_parts}
 use Rattle.std.specs.List.{list_any}

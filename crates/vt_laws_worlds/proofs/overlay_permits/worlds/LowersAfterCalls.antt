@@ -4,7 +4,7 @@ use Rattle.std.proofs.lemmas.Grind.{common_steps}
 use Rattle.std.specs.Prelude.{option_map, unwrap_or}
 use Rattle.std.specs.List.{list_any}
 use Rattle.vt_spec.specs.Language.Calls.{Call, TaskName}
-use Rattle.vt_spec.specs.Language.Calls.Call.{MountOverlay, Write}
+use Rattle.vt_spec.specs.Language.Calls.Call.{MountOverlay}
 use Rattle.vt_spec.specs.Language.Changes.{Change}
 use Rattle.vt_spec.specs.Language.Changes.Change.{AddName, CopyUp, Make, Move, Remove, SetAttr, SetBytes, SetMark}
 use Rattle.vt_spec.specs.Lists.{Fresh, holds_of, then_some}

@@ -1,5 +1,5 @@
 -- Over whole scripts lower layers stay as they were while their overlay is live.
-use Rattle.std.proofs.Common.{arith, ◌≡◌, sym, subst, ◌∙◌, ℕ, nat_eq, Bool, true, false, List, [], ◌∷◌, Option, Some}
+use Rattle.std.proofs.Common.{arith, ◌≡◌, sym, subst, ℕ, nat_eq, Bool, true, false, List, [], ◌∷◌, Option, Some}
 use Rattle.std.proofs.lemmas.Grind.{common_steps}
 use Rattle.std.specs.Prelude.{length, nat_lt}
 use Rattle.vt_spec.specs.Lists.{Fresh}

@@ -1,5 +1,5 @@
 -- A granted rmdir, or rename, takes away mounts of other namespaces alone, so the mount that it goes through stays.
-use Rattle.std.proofs.Common.{arith, ◌≡◌, refl, sym, ap, subst, ◌∙◌, ⊎_elim, true≢false, ℕ, nat_eq, true, false, ◌&&◌, Ok, Option, Some, None, flat_map, is_some, length, map}
+use Rattle.std.proofs.Common.{arith, ◌≡◌, refl, sym, ap, subst, ◌∙◌, ⊎_elim, true≢false, ℕ, nat_eq, true, false, Ok, Option, Some, None, flat_map, is_some, length, map}
 use Rattle.std.proofs.lemmas.Grind.{common_steps}
 use Rattle.std.proofs.lemmas.Bool.{false_from_ne_true, or_parts}
 use Rattle.std.specs.List.{list_all, list_any}

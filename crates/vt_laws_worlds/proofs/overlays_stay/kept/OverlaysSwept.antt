@@ -9,7 +9,7 @@ use Rattle.vt_spec.specs.Machine.Locked.{of_overlay, overlay_or}
 use Rattle.vt_spec.specs.Machine.Permits.{Permit}
 use Rattle.vt_spec.specs.Machine.SameWorlds.{SameFilesystems}
 use Rattle.vt_spec.specs.Machine.Settled.{filesystem_lives, has_layer_on, is_mounted, only_used, only_used_by, settled, used_in, without_dead_in, without_dead_mounts}
-use Rattle.vt_spec.specs.Machine.World.{Filesystem, Overlay, Task, World, is_overlay}
+use Rattle.vt_spec.specs.Machine.World.{Filesystem, Task, World, is_overlay}
 use Rattle.vt_spec.proofs.Lists.{Among, all_from_among, among-filter, among_from_all, among-from_filter, among-from_map, none_among, none_from_among}
 use Rattle.vt_laws_mounts.specs.LettingGo.Keeping.{has_only_named}
 use Rattle.vt_laws_mounts.specs.LettingGo.TreesOverlays.{in_use_of}

@@ -1,5 +1,5 @@
 -- Permits with other numbers.
-use Rattle.std.proofs.Common.{arith, ◌≡◌, ap, true≢false, ℕ, Bool, true, ◌&&◌, Option}
+use Rattle.std.proofs.Common.{arith, ◌≡◌, true≢false, ℕ, Bool, true, Option}
 use Rattle.std.proofs.lemmas.Grind.{common_steps}
 use Rattle.std.specs.Prelude.{option_map}
 use Rattle.vt_laws_rules.specs.Numbers.{location_named, none_or}

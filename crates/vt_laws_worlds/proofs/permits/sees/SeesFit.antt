@@ -23,9 +23,7 @@ use Rattle.vt_spec.specs.Machine.Invariants.{IsWorld, ListsNumbers, has_fit_name
 use Rattle.vt_spec.specs.Fits.{Fits, MayReplace}
 use Rattle.vt_spec.specs.Inodes.{Inode, Inodes, parent_above, tree_of}
 use Rattle.vt_spec.specs.PathText.{is_empty}
-use Rattle.vt_spec.specs.Rights.{is_directory}
 use Rattle.vt_spec.specs.Tree.{Node, Tree, bytes_in, is_directory_node, parent_in}
-use Rattle.vt_spec.specs.Tree.Content.{Directory}
 use Rattle.vt_spec.specs.TreeInvariant.{HasName, IsDirectory, IsReached, IsTree, entry_at, led}
 use Rattle.vt_spec.proofs.Lists.{chain_ends, chain_goes_on}
 use Rattle.vt_spec.proofs.Trees.{parent_reached, reached_named}

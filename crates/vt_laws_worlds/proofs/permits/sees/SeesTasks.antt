@@ -26,9 +26,7 @@ use Rattle.vt_spec.specs.Machine.Rules.Removing.{object_there}
 use Rattle.vt_spec.specs.Machine.Walking.{Here, directory_walk, is_directory_there, symlink_walk}
 use Rattle.vt_spec.specs.Machine.World.{Task, World, is_directory_at, node_at, task_called}
 use Rattle.vt_spec.specs.PathText.{is_empty}
-use Rattle.vt_spec.specs.Rights.{is_directory}
 use Rattle.vt_spec.specs.Tree.{Node, entries_in, is_directory_node}
-use Rattle.vt_spec.specs.Tree.Content.{Symlink}
 use Rattle.vt_spec.specs.declared.attributes.Kind.TheVariants.{Symlink as SymlinkKind}
 use Rattle.vt_laws_trees.proofs.trees.ChangesByLinks.{may_link}
 use Rattle.vt_laws_trees.proofs.trees.ChangesByRemoving.{may_move, old_removable}

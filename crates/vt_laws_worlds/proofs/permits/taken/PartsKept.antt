@@ -1,5 +1,5 @@
 -- A filesystem that is added to a world changes no parts of an attachment.
-use Rattle.std.proofs.Common.{arith, ◌≡◌, ap, ◌∙◌, true≢false, ℕ, nat_eq, not, ◌&&◌, true, ◌∷◌, ◌++◌, find, is_some}
+use Rattle.std.proofs.Common.{arith, ◌≡◌, ap, true≢false, ℕ, nat_eq, not, ◌&&◌, ◌∷◌, is_some}
 use Rattle.std.proofs.lemmas.Grind.{common_steps}
 use Rattle.std.proofs.lemmas.Bool.{and_parts}
 use Rattle.std.proofs.lemmas.List.Folds.{find-append}

@@ -1,7 +1,7 @@
 -- Only the first numbers of a supply are taken.
 use Rattle.std.proofs.lemmas.Grind.{common_steps}
 use Rattle.std.proofs.Common.{◌≡◌, refl, sym, ap, subst, ◌∙◌, true≢false, ℕ, zero, suc, ◌+◌, ◌*◌, ◌<◌, nat_eq, Bool, true, false, cond, List, [], ◌∷◌, length, map, filter, Option, Some, None, find, arith}
-use Rattle.std.specs.Prelude.{All, unwrap_or, ◌==◌}
+use Rattle.std.specs.Prelude.{unwrap_or, ◌==◌}
 use Rattle.std.specs.List.{list_all}
 use Rattle.std.proofs.lemmas.Bool.{and_parts}
 use Rattle.vt_laws_trees.proofs.runs.answered.PlainStays.{same_plain}
@@ -27,7 +27,7 @@ use Rattle.vt_spec.specs.Machine.Permits.{Permit}
 use Rattle.vt_spec.specs.Machine.Permits.Permit.{ToBind, ToChange, ToMake, ToMountOverlay, ToMountPlain, ToMove, ToOpen, ToOpenNew, ToRemoveDirectory, ToRename, ToSetType, ToUnshare, ToWritePart}
 use Rattle.vt_spec.specs.Machine.Settled.{settled}
 use Rattle.vt_spec.specs.Machine.Types.{named_mounts, retyped}
-use Rattle.vt_spec.specs.Machine.World.{Filesystem, Namespace, Overlay, Task, World, is_overlay, mount_numbered, mounts_of, new_plain, node_at, task_called}
+use Rattle.vt_spec.specs.Machine.World.{Namespace, Overlay, Task, World, mount_numbered, mounts_of, new_plain, node_at, task_called}
 use Rattle.vt_spec.specs.Machine.Invariants.{IsWorld, has_one_root, is_listed, is_root_mount}
 use Rattle.vt_spec.specs.Tree.{Node, bytes_in}
 use Rattle.vt_spec.proofs.Lists.{among_from_list_all, among_numbers, among-from_map}

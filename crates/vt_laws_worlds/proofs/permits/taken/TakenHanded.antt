@@ -1,6 +1,6 @@
 -- A program's supply: counts with the number of an inode at its place.
 use Rattle.std.proofs.lemmas.Grind.{common_steps}
-use Rattle.std.proofs.Common.{eq-eqb, lt-ltb, ◌≡◌, refl, ◌∙◌, true≢false, ℕ, zero, suc, ◌+◌, ◌*◌, ◌%◌, ◌/◌, ◌==◌, ◌<◌, nat_lt, true, false, cond, ◌&&◌, ◌||◌, arith}
+use Rattle.std.proofs.Common.{eq-eqb, lt-ltb, ◌≡◌, refl, true≢false, ℕ, zero, suc, ◌+◌, ◌%◌, ◌/◌, ◌==◌, ◌<◌, nat_lt, true, cond, ◌&&◌, ◌||◌, arith}
 use Rattle.std.proofs.lemmas.Bool.{or_right}
 use Rattle.vt_laws_worlds.proofs.permits.taken.TakenNumbers.{counts_go_on}
 use Rattle.vt_laws_worlds.specs.Permits.Taken.{HandedCountsGoOn, counts_taken, handed_to, numbers_taken}

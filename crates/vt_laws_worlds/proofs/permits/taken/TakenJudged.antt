@@ -9,7 +9,6 @@ use Rattle.vt_laws_worlds.proofs.permits.taken.PartsKept.{same_parts}
 use Rattle.vt_laws_worlds.specs.Permits.Taken.{GivenWithAnySupply, JudgementsDoNotSeeSupplies}
 use Rattle.vt_spec.specs.Errors.{and_then, unless}
 use Rattle.vt_spec.specs.Language.Calls.{Call, MountFlags}
-use Rattle.vt_spec.specs.Language.Calls.Call.{Bind, MountPlain}
 use Rattle.vt_spec.specs.Language.Limits.{most_mounts}
 use Rattle.vt_spec.specs.Lists.{Fresh, holds_of, odds, rest_of}
 use Rattle.vt_spec.specs.Machine.Apply.{apply, overfills}

@@ -6,7 +6,7 @@ use Rattle.vt_laws_trees.proofs.layers.layers.UpperShown.{without_last_of_longer
 use Rattle.vt_spec.specs.FileTree.{FileTree}
 use Rattle.vt_spec.specs.Language.Changes.{changed}
 use Rattle.vt_spec.specs.Language.Changes.Change.{Make}
-use Rattle.vt_spec.specs.Lists.{Fresh, last_or, rest_of, then_some, without_last}
+use Rattle.vt_spec.specs.Lists.{Fresh, last_or, rest_of, then_some}
 use Rattle.vt_spec.specs.Machine.CopyUp.{Merge, Stack, copied_up}
 use Rattle.vt_spec.specs.Machine.Invariants.{SameObject, number_at_path}
 use Rattle.vt_spec.specs.Tree.{Node}

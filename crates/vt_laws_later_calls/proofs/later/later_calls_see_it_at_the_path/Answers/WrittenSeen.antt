@@ -20,7 +20,6 @@ use Rattle.vt_spec.specs.Machine.Apply.{apply}
 use Rattle.vt_spec.specs.Machine.Filesystems.{with_change}
 use Rattle.vt_spec.specs.Machine.Judge.{make_permit, unnumbered, write_permit, written_permit}
 use Rattle.vt_spec.specs.Machine.Looks.{Looks, looks_of}
-use Rattle.vt_spec.specs.Machine.Looks as Look
 use Rattle.vt_spec.specs.Machine.Mounts.{Location}
 use Rattle.vt_spec.specs.Machine.Rows.{file_mode, new_attr, new_file}
 use Rattle.vt_spec.specs.Machine.Permits.{Permit}

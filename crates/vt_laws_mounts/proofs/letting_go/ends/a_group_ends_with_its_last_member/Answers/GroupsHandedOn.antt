@@ -1,5 +1,5 @@
 -- A group that loses its last member hands its slaves on.
-use Rattle.std.proofs.Common.{arith, ◌≡◌, refl, ap, ◌∙◌, ℕ, suc, nat_eq, eqb-true, eq-eqb, Bool, true, false, cond, ◌||◌, find, length, true≢false, Option, Some, None, option_to_list}
+use Rattle.std.proofs.Common.{arith, ◌≡◌, refl, ap, ℕ, suc, nat_eq, eqb-true, eq-eqb, Bool, true, false, find, length, true≢false, Option, Some, None, option_to_list}
 use Rattle.std.proofs.lemmas.Grind.{common_steps}
 use Rattle.std.specs.List.{list_all, list_any}
 use Rattle.std.proofs.lemmas.Bool.{and_parts, or_parts, cases_Bool}

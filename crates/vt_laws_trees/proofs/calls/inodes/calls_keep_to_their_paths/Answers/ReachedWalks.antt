@@ -1,5 +1,5 @@
 -- What a permit names lies where the walks of its call lead, or its descriptors are.
-use Rattle.std.proofs.Common.{arith, Result, ap, eqb-true, is_some, map, nat_eq, not, option_map, refl, subst, sym, true≢false, ◌&&◌, ◌∙◌}
+use Rattle.std.proofs.Common.{arith, Result, ap, eqb-true, is_some, map, nat_eq, option_map, refl, subst, sym, true≢false, ◌&&◌, ◌∙◌}
 use Rattle.std.proofs.lemmas.Grind.{common_steps}
 use Rattle.std.proofs.Math.Bool.{and-false}
 use Rattle.std.proofs.lemmas.Bool.{or_parts}

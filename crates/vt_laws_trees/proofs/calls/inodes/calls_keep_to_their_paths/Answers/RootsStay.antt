@@ -13,7 +13,7 @@ use Rattle.vt_spec.specs.Lists.{Fresh, evens, odds}
 use Rattle.vt_spec.specs.Machine.Apply.{apply}
 use Rattle.vt_spec.specs.Machine.CopyUp.{Merge, Stack, copied_each, copied_up, copy_of, hides_directory, is_in_upper, line_to, merge_changed, merge_with_link, merge_with_moved, merge_with_new, merge_without_name, name_left, shown_in_lowers_at, upper_directory_named, upper_of, without_contents}
 use Rattle.vt_spec.specs.Machine.Detach.{without_replaced}
-use Rattle.vt_spec.specs.Machine.Filesystems.{filesystem_changed, merge_of, overlay_changed, raised, raised_if_changed, stack_of, with_change, with_files}
+use Rattle.vt_spec.specs.Machine.Filesystems.{filesystem_changed, merge_of, overlay_changed, raised_if_changed, stack_of, with_change, with_files}
 use Rattle.vt_spec.specs.Machine.Judge.{Judgement, judge_in}
 use Rattle.vt_spec.specs.Machine.Mounts.{Location}
 use Rattle.vt_spec.specs.Machine.Namespaces.{unshared}

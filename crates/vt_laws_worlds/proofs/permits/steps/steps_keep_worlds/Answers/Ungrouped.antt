@@ -17,7 +17,7 @@ use Rattle.vt_spec.specs.Language.Changes.Change.{CopyUp, Make, Move, Remove, Se
 use Rattle.vt_spec.specs.Lists.{Fresh, evens, folded, holds_of, odds}
 use Rattle.vt_spec.specs.Machine.Apply.{apply}
 use Rattle.vt_spec.specs.Machine.Attach.{Copies, Twig, added_mounts, attach, bind_tree, bindable_children, bindable_tree, copies_from, stands_under, with_moved_mounts}
-use Rattle.vt_spec.specs.Machine.Detach.{after_going, deepest_first, mount_point_left, taken_away, unmounted, unmounted_if_there, without_mounts_on, without_replaced}
+use Rattle.vt_spec.specs.Machine.Detach.{after_going, deepest_first, mount_point_left, taken_away, unmounted_if_there, without_mounts_on, without_replaced}
 use Rattle.vt_spec.specs.Machine.Filesystems.{filesystem_changed, with_change}
 use Rattle.vt_spec.specs.Machine.Mounts.{Location, Mount, Propagation, children, detached, mount_tree, numbers_by, stands_on, with_mount}
 use Rattle.vt_spec.specs.Machine.Mounts.Propagation.{Private, Shared, Slave, Unbindable}
