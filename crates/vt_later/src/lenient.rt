@@ -117,10 +117,6 @@ impl<'a, L: LookAtMounts> Look for Lenient<'a, L> {
         self.world.is_lost(at)
     }
 
-    fn ways_stay_found(&self) {
-        self.world.ways_stay_found()
-    }
-
     fn is_overlay(&self, at: Location) -> bool {
         self.world.is_overlay(at)
     }

@@ -3,8 +3,8 @@ use Rattle.std.specs.Prelude.{Bool, List, Option, Some, false, nat_eq, option_ma
 use Rattle.std.specs.List.{list_any}
 use Rattle.vt_spec.specs.Machine.Filesystems.{lies_only_in_lowers}
 use Rattle.vt_spec.specs.Machine.Locked.{overlay_or}
-use Rattle.vt_spec.specs.Machine.Looks.{Looks, is_directory_at, mount_at, topmost}
-use Rattle.vt_spec.specs.Machine.Walking.{entry_location, is_lost, parent_location}
+use Rattle.vt_spec.specs.Machine.Looks.{Looks, is_directory_at, topmost}
+use Rattle.vt_spec.specs.Machine.Walking.{is_lost}
 use Rattle.vt_spec.specs.Machine.Mounts as meant
 use Rattle.vt_spec.specs.Machine.Mounts.{no_mount}
 use Rattle.vt_spec.specs.Tree.{Node, bytes_of, kind_of}
@@ -29,15 +29,10 @@ pub record IsGround (looks : Looks ℕ) (mount : MountId) (ground : Ground) : Ty
 abbrev pub is_at_or_below : Looks ℕ → ℕ → ℕ → Bool
 is_at_or_below looks top mount = list_any (λ other. nat_eq other.number mount) (looks.mount_tree top)
 
--- `..` of a directory leads somewhere: so it does of the parent, unless the directory is the root of its mount, and of
--- each directory that an entry leads to
-pub record WaysStayFound (looks : Looks ℕ) : Type 0 where
-  pub upward : (here : meant.Location ℕ) → is_lost nat_eq looks here ≡ false
-      → nat_eq here.node (mount_at looks here).root ≡ false
-      → is_lost nat_eq looks (parent_location nat_eq looks here) ≡ false
-  pub downward : (here object : meant.Location ℕ) (name : List ℕ) → is_lost nat_eq looks here ≡ false
-      → entry_location nat_eq looks here name ≡ Some object → is_directory_at looks object ≡ true
-      → is_lost nat_eq looks object ≡ false
+-- a directory at the second location is not lost, if that at the first is not: `..` of it leads somewhere
+abbrev pub StaysFound : Looks ℕ → meant.Location ℕ → meant.Location ℕ → Type 0
+StaysFound looks here there =
+    is_lost nat_eq looks here ≡ false → is_directory_at looks there ≡ true → is_lost nat_eq looks there ≡ false
 
 -- of an overlay, what is there lies only in lower layers
 abbrev pub is_only_below : Looks ℕ → meant.Location ℕ → Bool

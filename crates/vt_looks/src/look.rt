@@ -17,7 +17,7 @@ ghost use Rattle.vt_location.specs.Locations.{location_of, number_of};
 ghost use Rattle.vt_location.specs.Numbers.{mount_number, namespace_number};
 ghost use Rattle.vt_permits.specs.GrantValue.{attachment_permit};
 ghost use Rattle.vt_looks.specs.Asking.{asked_at, asked_by};
-ghost use Rattle.vt_looks.specs.Looking.{IsGround, WaysStayFound, front, is_at_or_below, is_only_below, mount_seen};
+ghost use Rattle.vt_looks.specs.Looking.{IsGround, StaysFound, front, is_at_or_below, is_only_below, mount_seen};
 
 use crate::asked::Asked;
 use vt_cred::Rights;
@@ -81,21 +81,28 @@ pub trait Look {
     fn node(&self, at: Location) -> Option<&Node>
         ensures { option_copied result ≡ real self.now (location_of at) };
 
-    /// The entry of a name in the directory at a location, of which this is the real object.
+    /// The entry of a name in the directory at a location, of which this is the real object. `..` of a directory that
+    /// an entry leads to is not lost, if that of the directory itself is not.
     fn entry(&self, at: Location, object: &Node, name: &[u8]) -> Option<Entry<'_>>
         requires { real self.now (location_of at) ≡ Some object.now }
         ensures node { option_map (λ entry. number_of entry.node) result
             ≡ entry_named name.now (entries_in ((looks self.now).node (location_of at))) }
         ensures object { IfSome result (λ entry. option_copied entry.object
-            ≡ real self.now (record { mount = mount_number at.mount; node = number_of entry.node })) };
+            ≡ real self.now (record { mount = mount_number at.mount; node = number_of entry.node })) }
+        ensures found { IfSome result (λ entry. StaysFound (looks self.now) (location_of at)
+            (record { mount = mount_number at.mount; node = number_of entry.node })) };
 
     /// Whether the directory at a location has entries: ENOTEMPTY of rmdir(2).
     fn is_nonempty(&self, at: Location) -> bool
         ensures { result ≡ is_nonempty (looks self.now) (location_of at) };
 
-    /// The parent of the directory at a location; of anything else, itself.
+    /// The parent of the directory at a location; of anything else, itself. `..` of the parent is not lost, if that of
+    /// the directory is not, and the directory is not the root of its mount.
     fn parent(&self, at: Location) -> NodeRef
-        ensures { number_of result ≡ parent_in (number_of at.node) ((looks self.now).node (location_of at)) };
+        ensures node { number_of result ≡ parent_in (number_of at.node) ((looks self.now).node (location_of at)) }
+        ensures found { nat_eq (number_of at.node) (mount_at (looks self.now) (location_of at)).root ≡ false
+            → StaysFound (looks self.now) (location_of at)
+            (record { mount = mount_number at.mount; node = number_of result }) };
 
     /// What a walk keeps of a mount.
     fn ground(&self, mount: MountId) -> Ground
@@ -119,11 +126,6 @@ pub trait Look {
     /// Whether `..` of a directory leads nowhere: it is removed, or does not lie under the root of its mount: ENOENT.
     fn is_lost(&self, at: Location) -> bool
         ensures { result ≡ is_lost nat_eq (looks self.now) (location_of at) };
-
-    /// A theorem about every such world, which does nothing: from a directory that is not lost, its parent is not lost,
-    /// and no directory that it has an entry of.
-    fn ways_stay_found(&self)
-        ensures { WaysStayFound (looks self.now) };
 
     /// Whether a location is in an overlay: its entries and its parent are then those of merged layers.
     fn is_overlay(&self, at: Location) -> bool

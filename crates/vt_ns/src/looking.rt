@@ -163,10 +163,6 @@ impl Look for World {
         }
     }
 
-    fn ways_stay_found(&self) {
-        self.is_held();
-    }
-
     fn is_overlay(&self, at: Location) -> bool {
         self.overlay_on(at.mount).is_some()
     }

@@ -8,4 +8,3 @@ mod Trails
 mod WalksOfPaths
 mod FilesWalked
 pub mod WalkEnds
-pub mod FoundWays

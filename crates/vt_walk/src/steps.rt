@@ -8,7 +8,7 @@ ghost use Rattle.vt_spec.specs.PathText.{words};
 ghost use Rattle.vt_spec.specs.Tree.{entries_in, entry_named};
 ghost use Rattle.vt_location.specs.Locations.{location_of};
 ghost use Rattle.vt_location.specs.Numbers.{mount_number};
-ghost use Rattle.vt_looks.specs.Looking.{IsGround};
+ghost use Rattle.vt_looks.specs.Looking.{IsGround, StaysFound};
 ghost use Rattle.vt_tasks.specs.TaskValue.{task_of};
 ghost use Rattle.vt_walk.specs.PendingTexts.{link_passed, walked_on_from};
 ghost use Rattle.vt_walk.specs.PlainWalks.{Follow, followed, last_walked, symlink_start, word_led, words_walked};
@@ -76,6 +76,8 @@ fn entry_there<'a, L: Look>(
         ≡ option_map (λ object. record { mount = mount_number here.mount; node = object })
         (entry_named name.now (entries_in ((L.looks world.now).node (location_of here)))) }
     ensures object { IfSome result (λ entry. IsNodeAt (L.real world.now) entry.0 (option_copied entry.1)) }
+    ensures found { IfSome result (λ entry.
+        StaysFound (L.looks world.now) (location_of here) (location_of entry.0)) }
 {
     let entry = world.entry(here, directory, name)?;
     let location = Location {
@@ -110,7 +112,6 @@ fn stepped<'a, L: Look>(
         LastWord::DotDot => step_up(world, who, from.location, from.is_found),
         LastWord::Named(name) => match entry_there(world, from.location, directory, name) {
             Some((entry, object)) => {
-                world.ways_stay_found();
                 if ground.is_bare {
                     return Ok(Step {
                         location: entry,

@@ -2,10 +2,11 @@
 ghost use Rattle.std.specs.Prelude.{◌≡◌, nat_eq, option_copied, option_map, false, true, IfOk};
 ghost use Rattle.vt_spec.specs.Lists.{last_or};
 ghost use Rattle.vt_spec.specs.Machine.Mounts.{same_location};
-ghost use Rattle.vt_spec.specs.Machine.Looks.{topmost};
+ghost use Rattle.vt_spec.specs.Machine.Looks.{mount_at, topmost};
 ghost use Rattle.vt_spec.specs.Machine.Walking.{hop, hops, is_lost, is_top, parent_location, stepped};
 ghost use Rattle.vt_spec.specs.Machine.Walking.LastWord.{DotDot};
 ghost use Rattle.vt_location.specs.Locations.{location_of, number_of};
+ghost use Rattle.vt_looks.specs.Looking.{StaysFound};
 ghost use Rattle.vt_tasks.specs.TaskValue.{task_of};
 ghost use Rattle.vt_walk.specs.WalkValue.{IsFound, IsLent, step_result};
 
@@ -69,7 +70,9 @@ fn is_top<L: Look>(world: &L, who: &Task, here: Location) -> bool
 
 // The parent of a directory, on the same mount.
 fn parent_location<L: Look>(world: &L, here: Location) -> Location
-    ensures { location_of result ≡ parent_location nat_eq (L.looks world.now) (location_of here) }
+    ensures location { location_of result ≡ parent_location nat_eq (L.looks world.now) (location_of here) }
+    ensures found { nat_eq (number_of here.node) (mount_at (L.looks world.now) (location_of here)).root ≡ false
+        → StaysFound (L.looks world.now) (location_of here) (location_of result) }
 {
     Location {
         mount: here.mount,
@@ -137,6 +140,5 @@ pub(crate) fn step_up<'a, L: Look>(
     if is_lost(world, here, start, is_found) {
         return Err(Rule::W8.denial());
     }
-    world.ways_stay_found();
     Ok(entered(world, parent_location(world, here), true, None))
 }

@@ -1,7 +1,6 @@
 -- A directory that is not removed lies under the root of its filesystem; and which directories are lost on their
 -- mounts.
 use Rattle.std.proofs.Common.{◌≡◌, refl, sym, ap, subst, ◌∙◌, ⊎_elim, true≢false, ℕ, zero, suc, nat_eq, eq-eqb, eqb-true, Bool, true, false, cond, not, ◌||◌, List, [], ◌∷◌, length, Option, Some, None, is_some}
-use Rattle.std.specs.Prelude.{option_map}
 use Rattle.vt_spec.specs.FileTree.{FileTree, has_entry_to, is_directory_under, is_removed, named_parent, targets_in}
 use Rattle.vt_spec.specs.Lists.{chain, is_among, when}
 use Rattle.vt_spec.specs.Machine.Invariants.{ListsNumbers}
@@ -22,7 +21,7 @@ use Rattle.vt_laws_trees.proofs.trees.TreesReached.{filled_reached, not_removed_
 use Rattle.vt_laws_trees.proofs.trees.TreesOfWorlds.{numbered_anyhow}
 use Rattle.vt_fs.specs.Laws.{LieUnderRoot, is_lost_under}
 use Rattle.vt_fs.proofs.TreesLookedAt.{nowhere_under}
-use Rattle.vt_looks.specs.Looking.{WaysStayFound}
+use Rattle.vt_looks.specs.Looking.{StaysFound}
 use Rattle.vt_mounting.specs.Detach.Looking.{looks_of_value}
 use Rattle.vt_world.specs.Held.{IsHeld}
 use Rattle.vt_world.specs.WorldValue.{WorldValue, world_of}
@@ -313,25 +312,20 @@ module _ (value : WorldValue) (held : IsHeld value) where
       record { upward = found_upward filesystem.files is; downward = found_downward filesystem.files is }))
       (nowhere_ways (no_filesystem number).files (λ number. refl))
 
-  pub ways_stay_found : WaysStayFound (looks_of_value value)
-  ways_stay_found = record {
-    upward = λ here found other.
-        let mount = mount_at nat_eq (world_of value) here in
-        (ways_at mount.filesystem).upward mount.root here.node found other;
-    downward = λ here object name found entry is.
-        let mount = mount_at nat_eq (world_of value) here in
-        down here object name found (entry_named name (entries_in (node_at nat_eq (world_of value) here))) refl entry is;
-  }
-    where
-      down : (here object : meant.Location ℕ) (name : List ℕ) → is_lost nat_eq (looks_of_value value) here ≡ false
-          → (o : Option ℕ) → entry_named name (entries_in (node_at nat_eq (world_of value) here)) ≡ o
-          → option_map (λ (object : ℕ). record { mount = here.mount; node = object }) o ≡ Some object
-          → is_directory_node (node_at nat_eq (world_of value) object) ≡ true
-          → is_lost nat_eq (looks_of_value value) object ≡ false
-      down here object name found None e entry is = absurd cc
-      down here object name found (Some number) e entry is =
-          let mount = mount_at nat_eq (world_of value) here in
-          let same : object ≡ record { mount = here.mount; node = number } = cc in
-          subst (λ (object : meant.Location ℕ). is_directory_node (node_at nat_eq (world_of value) object) ≡ true
-          → is_lost nat_eq (looks_of_value value) object ≡ false) (sym same)
-          (λ is. (ways_at mount.filesystem).downward mount.root here.node number name found e is) is
+  -- the parent of a directory, unless that is the root of its mount
+  pub parent_stays_found : (here : meant.Location ℕ) (parent : ℕ)
+      → parent ≡ parent_in here.node (node_at nat_eq (world_of value) here)
+      → nat_eq here.node (mount_at nat_eq (world_of value) here).root ≡ false
+      → StaysFound (looks_of_value value) here (record { mount = here.mount; node = parent })
+  parent_stays_found here parent is other found directory =
+      let mount = mount_at nat_eq (world_of value) here in
+      ap (λ number. is_lost nat_eq (looks_of_value value) (record { mount = here.mount; node = number })) is
+      ∙ (ways_at mount.filesystem).upward mount.root here.node found other
+
+  -- what an entry leads to
+  pub entry_stays_found : (here : meant.Location ℕ) (name : List ℕ) (object : ℕ)
+      → Some object ≡ entry_named name (entries_in (node_at nat_eq (world_of value) here))
+      → StaysFound (looks_of_value value) here (record { mount = here.mount; node = object })
+  entry_stays_found here name object entry found directory =
+      let mount = mount_at nat_eq (world_of value) here in
+      (ways_at mount.filesystem).downward mount.root here.node object name found (sym entry) directory

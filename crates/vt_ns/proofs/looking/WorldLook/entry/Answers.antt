@@ -1,14 +1,16 @@
 use Rattle.std.proofs.Common.{ap, option_map, rules, subst, sym, ◌≡◌, ◌∙◌, ℕ}
 use Rattle.std.specs.Prelude.{IfSome, Option, option_copied}
 use Rattle.vt_spec.specs.Tree.{Node, entries_in, entry_named}
-use Rattle.vt_location.specs.Locations.{number_of}
+use Rattle.vt_location.specs.Locations.{location_of, number_of}
 use Rattle.vt_looks.specs.declared.look.Entry.{Entry}
 use Rattle.vt_overlay.specs.declared.nodes.Entry.{Entry as Found}
 use Rattle.vt_store.specs.StoreValue.{lent_in}
 use Rattle.vt_mounting.proofs.detach.StoreShown.{store_stands}
 use Rattle.vt_ns.proofs.looking.LooksKept.{node_is, object_beside, object_is, seen_if_lent}
+use Rattle.vt_ns.proofs.looking.LostKept.{entry_stays_found}
 use Rattle.vt_ns.proofs.looking.WorldLook.entry.Goals as goal
 use Rattle.vt_ns.specs.contracts.world.World.{the_view}
+use Rattle.vt_world.specs.Held.{IsHeld}
 
 pub entry-requires : goal.entry-requires
 entry-requires c = record {
@@ -46,3 +48,7 @@ returns-clause-object c = subst (λ (result : Option Found). IfSome result (λ (
     c.args.at (search rules) _
     (seen_if_lent (the_view c.self.inside) c.self.inside.store c.args.self.now c.self.view_is c.self.invariant
     c.args.at (search rules) c.args.object.now c.requires)
+
+pub returns-clause-found : goal.returns-clause-found
+returns-clause-found c = entry_stays_found c.args.self.now (subst IsHeld c.self.view_is c.self.invariant)
+    (location_of c.args.at) c.args.name.now (number_of c.in_ok-found.found.node) (returns-clause-node c)
