@@ -13,7 +13,6 @@ pub mod FileRenaming
 pub mod FilesOpened
 pub mod ForkedTasks
 pub mod ListedWorlds
-pub mod LookingAlone
 pub mod MountsOn
 pub mod MovedEvents
 pub mod OpeningNew

@@ -1,7 +1,6 @@
 pub mod Trees
 pub mod Lent
 pub mod Mounters
-pub mod LookingAlone
 pub mod Told
 pub mod Entering
 pub mod Opening

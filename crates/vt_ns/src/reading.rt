@@ -11,7 +11,6 @@ ghost use Rattle.vt_permits.specs.declared.grant.LookGrant.TheVariants.{ReadPart
 ghost use Rattle.vt_tasks.specs.TaskValue.{task_of};
 ghost use Rattle.vt_mounting.specs.Detach.Events.{Permits};
 ghost use Rattle.vt_ns.specs.Lent.{real_of_value};
-ghost use Rattle.vt_ns.specs.LookingAlone.{LookingChangesNothing};
 ghost use Rattle.vt_ns.specs.Told.{told_by};
 ghost use Rattle.vt_world.specs.Held.{IsHeld};
 ghost use Rattle.vt_world.specs.WorldValue.{world_of};
@@ -26,13 +25,6 @@ use vt_request::{StatLine, TaskName};
 use vt_tasks::Task;
 
 impl World {
-    /// A theorem, which does nothing: an event that only looks leaves the world as it was.
-    pub fn looking_changes_nothing(&self)
-        ensures { LookingChangesNothing self.now }
-    {
-        let _ = &self.tasks;
-    }
-
     /// The task of this name.
     #[inline(always)]
     pub fn task(&self, name: &TaskName) -> Option<&Task>
