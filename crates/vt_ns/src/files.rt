@@ -83,13 +83,11 @@ impl World {
         ensures err { OnErr result (self.new ≡ self.old) }
     {
         let bytes = part.bytes.as_slice();
+        let plain = self.store.plain_mut();
         if bytes.is_empty() {
-            self.is_held();
             return Ok(());
         }
-        self.store
-            .plain_mut()
-            .write_at(part.file.node, part.offset, bytes)
+        plain.write_at(part.file.node, part.offset, bytes)
     }
 
     /// Makes an inode under a name of a directory: mkdir(2), symlink(2), mknod(2).

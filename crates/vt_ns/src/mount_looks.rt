@@ -14,6 +14,7 @@ ghost use Rattle.vt_spec.specs.Machine.World.{Overlay, World as Meant};
 ghost use Rattle.vt_tasks.specs.TaskValue.{task_of};
 ghost use Rattle.vt_layers.specs.LayersValue.{lowers_alone, lowers_of};
 ghost use Rattle.vt_mounting.specs.Detach.Looking.{looks_of_value, overfills_of};
+ghost use Rattle.vt_world.specs.Held.{IsHeld};
 ghost use Rattle.vt_world.specs.WorldValue.{world_of};
 
 use crate::world::World;
@@ -85,7 +86,6 @@ impl World {
         ensures { result ≡ (looks_of_value self.now).is_in_use
             (overlay_at (looks_of_value self.now) (task_of _who.now) (lowers_alone (lowers_of _lowers.now))) }
     {
-        self.is_held();
         false
     }
 
@@ -94,7 +94,6 @@ impl World {
         ensures ok { (overlay : Overlay ℕ) (flags : MountFlags) → IfOk result (λ too_many.
             too_many ≡ overfills_of self.now (ToMountOverlay (location_of destination) overlay flags)) }
     {
-        self.is_held();
         self.has_too_many_with(destination, 1)
     }
 
@@ -103,7 +102,6 @@ impl World {
         ensures ok { IfOk result (λ too_many.
             too_many ≡ overfills_of self.now (attachment_permit attachment)) }
     {
-        self.is_held();
         match attachment {
             Attachment::Plain { destination, .. } => self.has_too_many_with(destination, 1),
             Attachment::Bind(bind) => {
@@ -121,6 +119,7 @@ impl World {
             → parts_of nat_eq world (location_of place) ≡ parts_of nat_eq (world_of self.now) (location_of place)
             → length tree ≡ count
             → too_many ≡ has_too_many nat_eq (attached_by nat_eq world new (location_of place) false tree)) }
+        ensures held { IsHeld self.now }
     {
         if self.mounts.get(place.mount).is_none() {
             return Ok(false);
@@ -138,7 +137,6 @@ impl World {
         ensures ok { IfOk result (λ too_many. too_many
             ≡ overfills_of self.now (ToMove (mount_number mount) (location_of place))) }
     {
-        self.is_held();
         if self.mounts.get(place.mount).is_none() {
             return Ok(false);
         }

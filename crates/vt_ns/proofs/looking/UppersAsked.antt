@@ -1,5 +1,5 @@
 -- What is asked of overlays that have an upper layer alone: no overlay has one, so it is asked of plain trees.
-use Rattle.std.proofs.Common.{◌≡◌, refl, sym, ap, ◌∙◌, ⊎_elim, true≢false, ℕ, nat_eq, false, not, List, [], Option, Some, None, is_some, map}
+use Rattle.std.proofs.Common.{◌≡◌, refl, sym, ap, ◌∙◌, true≢false, ℕ, nat_eq, false, not, List, [], Option, Some, None, is_some, map}
 use Rattle.std.specs.Prelude.{option_to_list}
 use Rattle.vt_spec.specs.Language.Changes.{Change}
 use Rattle.vt_spec.specs.Machine.Filesystems.{has_lower_directory_at, mounter_rules, overlay_rules, path_of_name}
@@ -8,24 +8,23 @@ use Rattle.vt_spec.specs.Machine.Locked.{of_overlay, overlay_or}
 use Rattle.vt_spec.specs.Machine.Mounts as meant
 use Rattle.vt_spec.specs.Machine.Rules.Conditions.{has_no_upper}
 use Rattle.vt_spec.specs.Machine.World.{Filesystem, Overlay, filesystem_at, filesystem_numbered, mount_at, open_layer}
-use Rattle.vt_laws_trees.proofs.trees.TreesOfWorlds.{numbered_all}
-use Rattle.vt_world.specs.Held.{IsHeld}
+use Rattle.vt_laws_trees.proofs.trees.TreesOfWorlds.{numbered_anyhow}
 use Rattle.vt_world.specs.WorldValue.{WorldValue, world_of}
 use Rattle.vt_mounting.specs.Detach.Looking.{looks_of_value}
+use Rattle.vt_ns.proofs.WithoutUppers.{none_has_upper}
 
 -- no overlay that is found has an upper layer
-pub found_without : (value : WorldValue) → IsHeld value → (number : ℕ)
+pub found_without : (value : WorldValue) (number : ℕ)
     → of_overlay false (λ overlay. is_some overlay.upper) (filesystem_numbered nat_eq (world_of value) number) ≡ false
-found_without value held number = ⊎_elim (λ none. none)
-    (λ missing. ap (of_overlay false (λ overlay. is_some overlay.upper)) missing.0)
-    (numbered_all (λ (f : Filesystem ℕ). of_overlay false (λ overlay. is_some overlay.upper) f ≡ false) number
-    (world_of value).filesystems held.overlays.read_only)
+found_without value number =
+    numbered_anyhow (λ (f : Filesystem ℕ). of_overlay false (λ overlay. is_some overlay.upper) f ≡ false) number
+    (world_of value).filesystems (none_has_upper value) refl
 
-module _ (value : WorldValue) (held : IsHeld value) (at : meant.Location ℕ)
+module _ (value : WorldValue) (at : meant.Location ℕ)
     (asked : has_no_upper (looks_of_value value) at ≡ false) where
   plain_there : (filesystem_at nat_eq (world_of value) at).overlay ≡ None
   plain_there = by (filesystem_at nat_eq (world_of value) at).overlay
-      (found_without value held (mount_at nat_eq (world_of value) at).filesystem) asked
+      (found_without value (mount_at nat_eq (world_of value) at).filesystem) asked
     where
       by : (o : Option (Overlay ℕ)) → overlay_or false (λ overlay. is_some overlay.upper) o ≡ false
           → overlay_or false (λ overlay. not (is_some overlay.upper)) o ≡ false → o ≡ None

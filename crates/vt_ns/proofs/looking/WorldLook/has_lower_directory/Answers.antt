@@ -5,4 +5,4 @@ use Rattle.vt_ns.proofs.looking.WorldLook.has_lower_directory.Goals as goal
 
 pub returns : goal.returns
 returns c =
-    sym (no_lower_directory c.args.self.now c.is_held.ensures (location_of c.args._at) c.requires c.args._name.now)
+    sym (no_lower_directory c.args.self.now (location_of c.args._at) c.requires c.args._name.now)

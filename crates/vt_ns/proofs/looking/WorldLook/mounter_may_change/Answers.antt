@@ -6,4 +6,4 @@ use Rattle.vt_ns.proofs.looking.WorldLook.mounter_may_change.Goals as goal
 
 pub returns : goal.returns
 returns c change asked = ap (λ rules. unless rules (Ok tt))
-    (sym (unasked c.args.self.now c.is_held.ensures (location_of c.args._at) c.requires change))
+    (sym (unasked c.args.self.now (location_of c.args._at) c.requires change))

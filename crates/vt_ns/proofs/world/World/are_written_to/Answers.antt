@@ -1,10 +1,9 @@
 use Rattle.vt_layers.specs.LayersValue.{lowers_of}
 use Rattle.vt_tasks.specs.TaskValue.{task_of}
 use Rattle.vt_mounting.specs.Detach.Looking.{looks_of_value}
-use Rattle.vt_world.specs.WorldValue.{world_of}
 use Rattle.vt_ns.proofs.LayersInUse.{none_in_use}
 use Rattle.vt_ns.proofs.world.World.are_written_to.Goals as goal
 
 pub returns : goal.returns
-returns c = none_in_use (world_of c.args.self.now) (looks_of_value c.args.self.now) (task_of c.args._who.now)
-    (lowers_of c.args._lowers.now) c.is_held.ensures.overlays.read_only c.is_held.ensures.in_world.overlays.fit_layers
+returns c = none_in_use c.args.self.now (looks_of_value c.args.self.now) (task_of c.args._who.now)
+    (lowers_of c.args._lowers.now)

@@ -12,7 +12,7 @@ use Rattle.vt_ns.proofs.world.World.has_too_many.Goals as goal
 pub returns-in-Plain : goal.returns-in-Plain
 returns-in-Plain c = record {
   ok = IfOk-weaker c.has_too_many_with.result _ _ (λ too_many tells.
-      plain_overfills c.args.self.now c.is_held.ensures (location_of c.in-Plain.destination) too_many
+      plain_overfills c.args.self.now c.has_too_many_with.ensures.held (location_of c.in-Plain.destination) too_many
       (flags_of c.in-Plain.flags) tells
       ∙ ap (λ attachment. overfills_of c.args.self.now (attachment_permit attachment)) (sym c.in-Plain.is))
       c.has_too_many_with.ensures.ok;
@@ -27,7 +27,7 @@ returns-in_ok-tree-in-Bind c = record {
       let sized : length (bind_tree nat_eq (world_of value) source c.in-Bind.bind.recursive) ≡ length items =
       tree_sized items (bind_tree nat_eq (world_of value) source c.in-Bind.bind.recursive) c.in_ok-tree-in-Bind.ensures.ok in
       IfOk-weaker c.has_too_many_with-in-Bind.result _ _ (λ too_many tells.
-      bind_overfills value c.is_held.ensures destination too_many source c.in-Bind.bind.recursive
+      bind_overfills value c.has_too_many_with-in-Bind.ensures.held destination too_many source c.in-Bind.bind.recursive
       (λ one copies added same invariants parts size.
       tells one copies added same invariants parts
       (omega (arith, size, sized, c.len.ensures, c.in_ok-tree-in-Bind.tree.ok.0)))

@@ -7,13 +7,14 @@ use Rattle.vt_mount.specs.MountsValue.{mounts_in}
 use Rattle.vt_propagate.specs.Filling.{GrowsBy}
 use Rattle.vt_spec.specs.Machine.Attach.{attached_by}
 use Rattle.vt_spec.specs.Machine.Mounts.{Mount, mount_in, mount_tree}
+use Rattle.vt_world.specs.Held.{IsHeld}
 use Rattle.vt_world.specs.WorldValue.{WorldValue, world_of}
 use Rattle.vt_ns.proofs.Overfilling.{absent_grows, moves_from, new, none_found, nowhere_moved, rest_kept, tree, tree_sized}
 use Rattle.vt_ns.proofs.world.World.has_too_many_moved.Goals as goal
 
 pub returns-then-is_none : goal.returns-then-is_none
 returns-then-is_none c = record {
-  ok = nowhere_moved c.args.self.now c.is_held.ensures (counted c.args.mount.count) (location_of c.args.place)
+  ok = nowhere_moved c.args.self.now (subst IsHeld c.self.view_is c.self.invariant) (counted c.args.mount.count) (location_of c.args.place)
       (ap (λ (value : WorldValue). find (λ (mount : Mount ℕ). nat_eq (counted c.args.place.mount.count) mount.number)
       (mounts_in value.mounts)) (sym c.self.view_is)
       ∙ none_found c.get.result _ c.get.ensures (c.is_none.ensures ∙ ap not c.if-is_none.true));
@@ -26,15 +27,15 @@ returns-in_default c = record {
       let place = location_of c.args.place in
       let missing = ap (λ (one : WorldValue). find (λ (mount : Mount ℕ). nat_eq number mount.number)
       (mounts_in one.mounts)) (sym c.self.view_is) ∙ sym c.in_default.ensures in
-      let after = attached_by nat_eq (world_of value) (new value c.is_held.ensures number place) place true
-      (tree value c.is_held.ensures number place) in
+      let after = attached_by nat_eq (world_of value) (new value (subst IsHeld c.self.view_is c.self.invariant) number place) place true
+      (tree value (subst IsHeld c.self.view_is c.self.invariant) number place) in
       let parts = rest_kept c.in_ok-parts.parts.items _ c.in_ok-parts.ensures.ok
       ∙ ap (λ kept. map mount_of (take (length kept - 1) (drop 1 kept))) (sym c.deref.ensures.value) in
       IfOk-weaker c.overfills.result _ _ (λ too_many tells.
       tells (world_of value) after (ap
-      (λ (one : WorldValue). mounts_in one.mounts) c.self.view_is) c.is_held.ensures.in_world.namespaces refl
+      (λ (one : WorldValue). mounts_in one.mounts) c.self.view_is) (subst IsHeld c.self.view_is c.self.invariant).in_world.namespaces refl
       (subst (λ some. GrowsBy (world_of value) after some 1) parts
-      (absent_grows value c.is_held.ensures number place missing))) c.overfills.ensures.more;
+      (absent_grows value (subst IsHeld c.self.view_is c.self.invariant) number place missing))) c.overfills.ensures.more;
 }
 
 pub returns : goal.returns
@@ -46,15 +47,15 @@ returns c = record {
       ≡ Some (mount_of c.in-Some.moved) =
       ap (λ (one : WorldValue). find (λ (mount : Mount ℕ). nat_eq number mount.number) (mounts_in one.mounts))
       (sym c.self.view_is) ∙ sym c.in-Some.ensures in
-      let count : length (tree value c.is_held.ensures number place) ≡ length c.in_ok-tree.tree.items =
-      tree_sized c.in_ok-tree.tree.items (tree value c.is_held.ensures number place) (c.in_ok-tree.ensures.ok
+      let count : length (tree value (subst IsHeld c.self.view_is c.self.invariant) number place) ≡ length c.in_ok-tree.tree.items =
+      tree_sized c.in_ok-tree.tree.items (tree value (subst IsHeld c.self.view_is c.self.invariant) number place) (c.in_ok-tree.ensures.ok
       ∙ ap (λ (one : WorldValue). map (λ (mount : Mount ℕ). mount.number)
       (mount_tree nat_eq (mounts_in one.mounts) (mount_in nat_eq (mounts_in one.mounts) number))) c.self.view_is) in
       IfOk-weaker c.overfills-2.result _ _ (λ too_many tells.
-      tells (world_of value) (new value c.is_held.ensures number place) place (tree value c.is_held.ensures number place)
-      (ap (λ (one : WorldValue). mounts_in one.mounts) c.self.view_is) c.is_held.ensures.in_world.namespaces
+      tells (world_of value) (new value (subst IsHeld c.self.view_is c.self.invariant) number place) place (tree value (subst IsHeld c.self.view_is c.self.invariant) number place)
+      (ap (λ (one : WorldValue). mounts_in one.mounts) c.self.view_is) (subst IsHeld c.self.view_is c.self.invariant).in_world.namespaces
       (ap (map mount_of) c.deref-2.ensures.value ∙ c.in_ok-parts.ensures.ok)
       (omega (arith, count, c.len.ensures, c.in_ok-tree.tree.ok.0))
-      (moves_from value c.is_held.ensures number place (mount_of c.in-Some.moved) found c.in-Some.moved.namespace refl))
+      (moves_from value (subst IsHeld c.self.view_is c.self.invariant) number place (mount_of c.in-Some.moved) found c.in-Some.moved.namespace refl))
       c.overfills-2.ensures.moved;
 }

@@ -1,8 +1,9 @@
-use Rattle.std.proofs.Common.{ap, map, not, refl, sym, ◌∙◌}
+use Rattle.std.proofs.Common.{ap, map, not, refl, subst, sym, ◌∙◌}
 use Rattle.std.proofs.lemmas.Result.{IfOk-weaker}
 use Rattle.vt_location.specs.Locations.{location_of}
 use Rattle.vt_location.specs.MountValue.{mount_of}
 use Rattle.vt_mount.specs.MountsValue.{mounts_in}
+use Rattle.vt_world.specs.Held.{IsHeld}
 use Rattle.vt_world.specs.WorldValue.{WorldValue}
 use Rattle.vt_ns.proofs.Overfilling.{none_found, nothing_added}
 use Rattle.vt_ns.proofs.world.World.has_too_many_with.Goals as goal
@@ -13,6 +14,7 @@ returns-then-is_none c = record {
       nothing_added (mounts_in c.self.inside.mounts) (location_of c.args.place)
       (none_found c.get.result _ c.get.ensures (c.is_none.ensures ∙ ap not c.if-is_none.true)) world new tree
       (ap (λ (value : WorldValue). mounts_in value.mounts) c.self.view_is ∙ same) invariants;
+  held = subst IsHeld c.self.view_is c.self.invariant;
 }
 
 pub returns : goal.returns
@@ -22,4 +24,5 @@ returns c = record {
       (ap (λ (value : WorldValue). mounts_in value.mounts) c.self.view_is ∙ same) invariants
       (ap (map mount_of) c.deref.ensures.value ∙ c.in_ok-parts.ensures.ok ∙ sym parts) size refl)
       c.overfills.ensures.added;
+  held = subst IsHeld c.self.view_is c.self.invariant;
 }

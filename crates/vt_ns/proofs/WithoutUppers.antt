@@ -1,0 +1,40 @@
+-- No overlay of the code's world has an upper layer, nor a work directory.
+use Rattle.std.proofs.Common.{All, List, [], false, is_some, refl, ◌∷◌, ◌≡◌, ℕ}
+use Rattle.std.proofs.lemmas.List.Elements.{All-cons, All-nil}
+use Rattle.vt_spec.specs.Machine.Locked.{of_overlay, upper_and_work}
+use Rattle.vt_spec.specs.Machine.World.{Filesystem}
+use Rattle.vt_fs.specs.FilesystemsValue.{FilesystemEntry, Filesystems, filesystem_seen, filesystems_seen}
+use Rattle.vt_laws_mounts.specs.Counts.BesideOverlays.{OverlaysHaveNoUpper}
+use Rattle.vt_mounting.proofs.detach.NodesFound.{woven_all}
+use Rattle.vt_world.specs.WorldValue.{OverlayEntry, WorldValue, overlay_seen, overlays_seen, world_of}
+
+module _ (P : Filesystem ℕ → Type 0) where
+  plain_all : ((entry : FilesystemEntry) → P (filesystem_seen entry)) → (all : Filesystems)
+      → All P (filesystems_seen all)
+  plain_all each [] = All-nil P
+  plain_all each (entry ∷ rest) =
+      All-cons P (filesystem_seen entry) (filesystems_seen rest) (each entry) (plain_all each rest)
+
+  overlays_all : ((entry : OverlayEntry) → P (overlay_seen entry)) → (all : List OverlayEntry)
+      → All P (overlays_seen all)
+  overlays_all each [] = All-nil P
+  overlays_all each (entry ∷ rest) =
+      All-cons P (overlay_seen entry) (overlays_seen rest) (each entry) (overlays_all each rest)
+
+  -- what holds of each filesystem that is kept holds of all of the world
+  all_kept : ((entry : FilesystemEntry) → P (filesystem_seen entry)) → ((entry : OverlayEntry) → P (overlay_seen entry))
+      → (value : WorldValue) → All P (world_of value).filesystems
+  all_kept plain overlay value =
+      woven_all P (filesystems_seen value.filesystems) (overlays_seen value.overlays)
+      (plain_all plain value.filesystems) (overlays_all overlay value.overlays)
+
+pub none_has_upper : (value : WorldValue) → OverlaysHaveNoUpper (world_of value)
+none_has_upper = all_kept (λ filesystem. of_overlay false (λ overlay. is_some overlay.upper) filesystem ≡ false)
+    (λ entry. refl) (λ entry. refl)
+
+-- so changes write to no layer
+abbrev pub WritesToNone : Filesystem ℕ → Type 0
+WritesToNone filesystem = of_overlay [] upper_and_work filesystem ≡ []
+
+pub all_write_to_none : (value : WorldValue) → All WritesToNone (world_of value).filesystems
+all_write_to_none = all_kept WritesToNone (λ entry. refl) (λ entry. refl)
