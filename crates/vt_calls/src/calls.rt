@@ -2,6 +2,7 @@
 ghost use Rattle.std.specs.Prelude.{◌≡◌, Err, IfErr, IfOk};
 ghost use Rattle.vt_request.specs.Requests.{call_of};
 ghost use Rattle.vt_answers.specs.Ends.{change_after};
+ghost use Rattle.vt_world.specs.Held.{IsHeld};
 ghost use Rattle.vt_calls.specs.KernelValue.{kernel_world};
 ghost use Rattle.vt_calls.specs.Meets.{Ends};
 ghost use Rattle.vt_calls.specs.Permitted.{IsPermitted};
@@ -50,7 +51,6 @@ impl Calls for Kernel {
     }
 
     fn call(&mut self, name: &TaskName, call: Call) -> Result<Answer, Deny> {
-        self.world.is_held();
         let after = change_after(&call, self.change);
         let answer = judged_call(&mut self.world, self.change, name, call)?;
         self.change = after;
@@ -77,7 +77,8 @@ fn change_after(call: &Call, change: u64) -> u64
 // Judges a call in the world of this change number, and spends its permit.
 #[inline(always)]
 fn judged_call(world: &mut World, change: u64, name: &TaskName, call: Call) -> Result<Answer, Deny>
-    ensures { Ends world.old name.now (call_of call) result world.new }
+    ensures ends { Ends world.old name.now (call_of call) result world.new }
+    ensures held { IsHeld world.old }
 {
     match permit_of(world, change, name, call) {
         Ok(permit) => apply(world, change, name, permit),
@@ -91,6 +92,7 @@ fn judged_call(world: &mut World, change: u64, name: &TaskName, call: Call) -> R
 fn permit_of(world: &World, change: u64, name: &TaskName, call: Call) -> Result<Permit, Deny>
     ensures ok { IfOk result (λ permit. IsPermitted world.now change name.now (call_of call) permit) }
     ensures err { IfErr result (λ deny. Ends world.now name.now (call_of call) (Err deny) world.now) }
+    ensures held { IsHeld world.now }
 {
     let Some(task) = world.task(name) else {
         return Err(Rule::S2.denial());

@@ -81,8 +81,7 @@ pub trait Look {
     fn node(&self, at: Location) -> Option<&Node>
         ensures { option_copied result ≡ real self.now (location_of at) };
 
-    /// The entry of a name in the directory at a location, of which this is the real object. `..` of a directory that
-    /// an entry leads to is not lost, if that of the directory itself is not.
+    /// The entry of a name in the directory at a location, of which this is the real object.
     fn entry(&self, at: Location, object: &Node, name: &[u8]) -> Option<Entry<'_>>
         requires { real self.now (location_of at) ≡ Some object.now }
         ensures node { option_map (λ entry. number_of entry.node) result
@@ -96,8 +95,7 @@ pub trait Look {
     fn is_nonempty(&self, at: Location) -> bool
         ensures { result ≡ is_nonempty (looks self.now) (location_of at) };
 
-    /// The parent of the directory at a location; of anything else, itself. `..` of the parent is not lost, if that of
-    /// the directory is not, and the directory is not the root of its mount.
+    /// The parent of the directory at a location; of anything else, itself.
     fn parent(&self, at: Location) -> NodeRef
         ensures node { number_of result ≡ parent_in (number_of at.node) ((looks self.now).node (location_of at)) }
         ensures found { nat_eq (number_of at.node) (mount_at (looks self.now) (location_of at)).root ≡ false

@@ -50,14 +50,3 @@ impl Model for World {
       next = w.next;
     }) };
 }
-
-impl World {
-    ghost use Rattle.vt_world.specs.Held.{IsHeld};
-
-    /// It has the invariants of a world, and what is counted is exact.
-    pub fn is_held(&self)
-        ensures { IsHeld self.now }
-    {
-        let _ = &self.tasks;
-    }
-}
