@@ -1,5 +1,5 @@
 -- What the definitions see of the mounts that are kept.
-use Rattle.std.specs.Prelude.{Bool, List, Option, [], filter, find, if◌then◌else◌, is_some, map, nat_eq, nat_lt, not, option_map, true, unwrap_or, ℕ, ◌&&◌, ◌+◌, ◌-◌, ◌∷◌}
+use Rattle.std.specs.Prelude.{Bool, List, Option, [], filter, find, if◌then◌else◌, is_some, map, nat_eq, nat_lt, not, option_map, true, unwrap_or, ℕ, ◌&&◌, ◌++◌, ◌+◌, ◌-◌, ◌≡◌, ◌∷◌}
 use Rattle.std.specs.List.{list_all}
 use Rattle.std.specs.FinMap.Entries.{put}
 use Rattle.std.specs.Ordering.{nat_cmp}
@@ -28,6 +28,10 @@ mounts_in entries = map (λ entry. entry.mount) entries
 abbrev pub are_ascending : List (meant.Mount ℕ) → Bool
 are_ascending [] = true
 are_ascending (mount ∷ mounts) = list_all (λ later. nat_lt mount.number later.number) mounts && are_ascending mounts
+
+-- with these after them, mounts that ascend still do
+abbrev pub ComeAfter : List (meant.Mount ℕ) → List (meant.Mount ℕ) → Type 0
+ComeAfter new mounts = are_ascending mounts ≡ true → are_ascending (mounts ++ new) ≡ true
 
 -- the entry of the mount with this number
 abbrev pub entry_numbered : List MountEntry → ℕ → Option MountEntry

@@ -15,7 +15,7 @@ ghost use Rattle.vt_mount.specs.declared.mounted.Mounted.{Mounted};
 ghost use Rattle.vt_mount.specs.Reserved.{Reserves, mount_points_of, moved_places, namespaces_of};
 ghost use Rattle.vt_mount.specs.Indexed.{IsIndexed};
 ghost use Rattle.vt_mount.specs.Moving.{all_moves, is_small, move_of, with_points};
-ghost use Rattle.vt_mount.specs.MountsValue.{MountEntry, are_ascending, entries_of, in_order, mounts_in, unused_entry, without};
+ghost use Rattle.vt_mount.specs.MountsValue.{ComeAfter, MountEntry, are_ascending, entries_of, in_order, mounts_in, unused_entry, without};
 
 use crate::indexes::Indexes;
 use crate::mounted::Mounted;
@@ -109,7 +109,7 @@ impl Mounts {
         last: F,
     ) -> Result<Vec<Moved>, AllocError>
         requires callable { F.IsAlwaysCallable last }
-        requires order { are_ascending (mounts_in self.old ++ map mount_of new.now) ≡ true }
+        requires order { ComeAfter (map mount_of new.now) (mounts_in self.old) }
         ensures ok { OnOk result (self.new ≡ with_points points.now self.old ++ map unused_entry new.now) }
         ensures moved { IfOk result (λ moved. map move_of moved.items ≡ all_moves points.now self.old) }
         ensures small { IfOk result (λ moved. list_all is_small moved.items ≡ true) }

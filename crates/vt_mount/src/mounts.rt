@@ -79,26 +79,17 @@ impl Mounts {
         self.by_number.len()
     }
 
-    /// A theorem, which does nothing: the mounts are in the ascending order of their numbers, no two of which are
-    /// equal.
-    pub fn are_ascending(&self)
-        ensures { are_ascending (mounts_in self.now) ≡ true }
+    /// The allocator of all that they have.
+    ///
+    /// Mounts are in the ascending order of their numbers, no two of which are equal. Each number is that of a count, and
+    /// so is that of each group that a type names.
+    #[inline(always)]
+    pub fn alloc(&self) -> Global
+        ensures order { are_ascending (mounts_in self.now) ≡ true }
+        ensures counted { list_all (λ mount. mount.number % 4 == 1) (mounts_in self.now) ≡ true }
+        ensures sources { list_all has_counted_source (mounts_in self.now) ≡ true }
     {
-        let _ = &self.by_number;
-    }
-
-    /// A theorem, which does nothing: each mount has the number of a count.
-    pub fn are_counted(&self)
-        ensures { list_all (λ mount. mount.number % 4 == 1) (mounts_in self.now) ≡ true }
-    {
-        let _ = &self.by_number;
-    }
-
-    /// A theorem, which does nothing: each group that a type names has the number of a count.
-    pub fn groups_are_counted(&self)
-        ensures { list_all has_counted_source (mounts_in self.now) ≡ true }
-    {
-        let _ = &self.by_number;
+        *self.by_number.allocator()
     }
 
     /// The mount of this number.
@@ -151,9 +142,10 @@ impl Mounts {
 
     /// Sets the propagation type of one mount: mount(2) with `MS_PRIVATE` and so on. It does not allocate.
     pub fn set_propagation(&mut self, id: MountId, propagation: Propagation)
-        ensures { self.new
+        ensures mounts { self.new
             ≡ changed (mount_number id)
             (λ entry. record entry { mount = record entry.mount { propagation = propagation_of propagation } }) self.old }
+        ensures order { are_ascending (mounts_in self.old) ≡ true }
     {
         if let Some(kept) = self.by_number.get_mut(&id) {
             kept.propagation = propagation;

@@ -40,7 +40,6 @@ impl Mounts {
         ensures ok { OnOk result (self.new ≡ moved_to one (moved_to other self.old)) }
         ensures err { OnErr result (self.new ≡ self.old) }
     {
-        self.are_ascending();
         let points = [one, other];
         self.attach_all_then(&[], &points, &mut (), |_| Ok(()))?;
         Ok(())

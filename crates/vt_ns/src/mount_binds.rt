@@ -30,11 +30,10 @@ impl World {
             (bind_tree nat_eq (world_of self.old) (location_of bind.source) bind.recursive)) }
         ensures err { OnErr result (self.new ≡ self.old) }
     {
-        self.mounts.are_ascending();
-        self.mounts.are_counted();
+        let alloc = self.mounts.alloc();
         let place = bind.destination;
         let tree = self.mounts_bound(bind.source, bind.recursive)?;
-        let parts = parts(self.alloc, &self.mounts, &self.groups, &*self, place)?;
+        let parts = parts(&self.mounts, &self.groups, &*self, place)?;
         let Some(taken) = numbers_taken(parts.len(), tree.len(), u64::MAX - self.next) else {
             return Err(AllocError);
         };
@@ -49,7 +48,7 @@ impl World {
             step: 1,
         };
         attach_graft(
-            self.alloc,
+            alloc,
             &mut self.mounts,
             &mut self.groups,
             &mut self.store,

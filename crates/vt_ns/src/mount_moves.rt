@@ -91,10 +91,9 @@ impl World {
             (mount_number mount)))) }
         ensures err { OnErr result (self.new ≡ self.old) }
     {
-        self.mounts.are_ascending();
-        self.mounts.are_counted();
+        let alloc = self.mounts.alloc();
         let tree = self.mounts_below(mount)?;
-        let parts = parts(self.alloc, &self.mounts, &self.groups, &*self, place)?;
+        let parts = parts(&self.mounts, &self.groups, &*self, place)?;
         let Some(taken) = numbers_taken(parts.len(), tree.len(), u64::MAX - self.next) else {
             return Err(AllocError);
         };
@@ -109,7 +108,7 @@ impl World {
             step: 1,
         };
         move_tree(
-            self.alloc,
+            alloc,
             &mut self.mounts,
             &mut self.groups,
             &mut self.store,
@@ -126,14 +125,13 @@ impl World {
         ensures ok { IfOk result (λ tree. map mount_of tree.items ≡ mount_tree nat_eq (mounts_in self.now.mounts)
             (mount_numbered nat_eq (world_of self.now) (mount_number mount))) }
     {
-        self.mounts.are_ascending();
         let origins = self.mounts.tree(mount)?;
         let top = self.mounts.get(mount).unwrap();
         let source = Location {
             mount: top.number,
             node: top.root,
         };
-        bound_mounts(self.alloc, &self.mounts, &origins, source)
+        bound_mounts(self.mounts.alloc(), &self.mounts, &origins, source)
     }
 
     /// Where a mount is attached.

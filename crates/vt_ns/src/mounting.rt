@@ -50,12 +50,11 @@ impl World {
             ≡ self.old.next + 4 * length (parts_of nat_eq (world_of self.old) (location_of place))) }
         ensures err { OnErr result (self.new ≡ self.old) }
     {
-        self.mounts.are_ascending();
-        self.mounts.are_counted();
+        let alloc = self.mounts.alloc();
         if self.next == u64::MAX {
             return Err(AllocError);
         }
-        let parts = parts(self.alloc, &self.mounts, &self.groups, &*self, place)?;
+        let parts = parts(&self.mounts, &self.groups, &*self, place)?;
         // Two numbers for the filesystem and its root come between those of the copies.
         let Some(taken) = numbers_taken(parts.len(), 2, u64::MAX - 1 - self.next) else {
             return Err(AllocError);
@@ -73,7 +72,7 @@ impl World {
             step: 2,
         };
         mount_new(
-            self.alloc,
+            alloc,
             &mut self.mounts,
             &mut self.groups,
             &mut self.store,

@@ -35,16 +35,15 @@ impl World {
             ≡ self.old.next + 4 * length (parts_of nat_eq (world_of self.old) (location_of new.destination))) }
         ensures err { OnErr result (self.new ≡ self.old) }
     {
-        self.mounts.are_ascending();
-        self.mounts.are_counted();
+        let alloc = self.mounts.alloc();
         if self.next == u64::MAX {
             return Err(AllocError);
         }
         let place = new.destination;
-        let lowers = layers_kept(self.alloc, new.lowers.as_slice())?;
+        let lowers = layers_kept(alloc, new.lowers.as_slice())?;
         let top = lowers.as_slice().first().unwrap().directory.slot;
         let mounter = self.tasks.get(name).unwrap().cred.clone()?;
-        let parts = parts(self.alloc, &self.mounts, &self.groups, &*self, place)?;
+        let parts = parts(&self.mounts, &self.groups, &*self, place)?;
         // Two numbers for the filesystem and its root come between those of the copies.
         let Some(taken) = numbers_taken(parts.len(), 2, u64::MAX - 1 - self.next) else {
             return Err(AllocError);
@@ -62,7 +61,7 @@ impl World {
             step: 2,
         };
         attach_overlay(
-            self.alloc,
+            alloc,
             &mut self.mounts,
             &mut self.groups,
             &mut self.store,

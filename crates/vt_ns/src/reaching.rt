@@ -29,6 +29,6 @@ impl World {
         ensures ok { IfOk result (λ parts. map mount_of parts.items
             ≡ parts_of nat_eq (world_of self.now) (location_of place)) }
     {
-        parts(self.alloc, &self.mounts, &self.groups, self, place)
+        parts(&self.mounts, &self.groups, self, place)
     }
 }

@@ -60,9 +60,8 @@ impl World {
         ensures ok { IfOk result (λ tree. map mount_of tree.items
             ≡ meant.bind_tree nat_eq (world_of self.now) (location_of source) recursive) }
     {
-        self.mounts.are_ascending();
         let origins = self.bind_tree(source, recursive)?;
-        bound_mounts(self.alloc, &self.mounts, &origins, source)
+        bound_mounts(self.mounts.alloc(), &self.mounts, &origins, source)
     }
 
     // Puts the mounts at or under a source on a stack, the last one first.

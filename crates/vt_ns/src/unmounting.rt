@@ -148,7 +148,6 @@ fn take_away(
         groups: &[],
         points: &plan.points,
     };
-    mounts.are_ascending();
     attach_planned(mounts, groups, store, &moved)?;
     detach_together(mounts, groups, store, &plan.gone);
     Ok(())

@@ -23,7 +23,7 @@ impl World {
         ensures counts { OnOk result (self.new.next ≤ self.old.next + 2 * length self.old.mounts) }
         ensures err { OnErr result (self.new ≡ self.old) }
     {
-        self.mounts.are_counted();
+        let alloc = self.mounts.alloc();
         let task = self.tasks.get(name).unwrap();
         let (left, root, directory) = (task.namespace, task.root, task.directory);
         let taken = 2 * self.mounts.attached_in(left).len() as u64;
@@ -36,7 +36,7 @@ impl World {
         let store = &mut self.store;
         let new_root = moved(mounts, left, root, next);
         let new_directory = moved(mounts, left, directory, next);
-        attach_copies(self.alloc, mounts, groups, store, left, next)?;
+        attach_copies(alloc, mounts, groups, store, left, next)?;
         move_use(mounts, root.mount, new_root.mount);
         move_use(mounts, directory.mount, new_directory.mount);
         let new = NamespaceId::new(next);

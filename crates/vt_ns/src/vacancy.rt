@@ -19,8 +19,7 @@ impl World {
     pub fn next_inode_is_vacant(&self, directory: Location)
         ensures { NextInodeIsVacant self.now (location_of directory) }
     {
-        self.mounts.are_counted();
-        self.mounts.groups_are_counted();
+        let _ = self.mounts.alloc();
         let _next = self.next;
         let filesystem = self.shown(directory.mount);
         if let Some(next) = self.store.plain().next_number(filesystem) {
@@ -32,8 +31,7 @@ impl World {
     pub fn next_root_is_vacant(&self)
         ensures { NextRootIsVacant self.now }
     {
-        self.mounts.are_counted();
-        self.mounts.groups_are_counted();
+        let _ = self.mounts.alloc();
         let _next = self.next;
     }
 
@@ -42,8 +40,7 @@ impl World {
     pub fn next_filesystem_is_new(&self)
         ensures { NextFilesystemIsNew self.now }
     {
-        self.mounts.are_counted();
-        self.mounts.groups_are_counted();
+        let _ = self.mounts.alloc();
         let _next = self.next;
     }
 }

@@ -53,7 +53,7 @@ pub fn attachment(
     let indexes = Indexes::new(alloc, graft)?;
     let copies = copies(alloc, mounts, groups, graft, counts, &indexes)?;
     let new = new_groups(alloc, mounts, groups, graft, counts, &indexes)?;
-    let points = pushes(alloc, mounts, graft, &copies)?;
+    let points = pushes(mounts, graft, &copies)?;
     Ok(Plan {
         copies,
         groups: new,

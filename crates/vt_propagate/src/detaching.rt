@@ -45,6 +45,6 @@ pub fn unmount(
         (map (left_by (map mount_number plan.gone.items) (map point_of plan.points.items)) world.mounts))) }
 {
     let gone = going(alloc, mounts, groups, id)?;
-    let points = points_left(alloc, mounts, &gone)?;
+    let points = points_left(mounts, &gone)?;
     Ok(Detachment { gone, points })
 }

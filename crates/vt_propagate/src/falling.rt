@@ -25,18 +25,13 @@ pub(crate) struct Gone<'a> {
 
 /// The new mount points of the mounts that stay where these are detached. A mount on one of them takes that one's mount
 /// point; if that is on one of them too, the mount point of that, and so on.
-pub(crate) fn points_left(
-    alloc: Global,
-    mounts: &Mounts,
-    gone: &[MountId],
-) -> Result<Vec<NewPoint>, AllocError>
+pub(crate) fn points_left(mounts: &Mounts, gone: &[MountId]) -> Result<Vec<NewPoint>, AllocError>
     ensures ok { IfOk result (λ points. (world : World ℕ) → mounts_in mounts.now ≡ world.mounts
         → LeavesBy world (map mount_number gone.now) (map point_of points.items)) }
     ensures each { IfOk result (λ points. (world : World ℕ) → mounts_in mounts.now ≡ world.mounts
         → All (FallsTo world (map mount_number gone.now)) (map point_of points.items)) }
 {
-    mounts.are_ascending();
-    all_left(alloc, mounts, gone)
+    all_left(mounts.alloc(), mounts, gone)
 }
 
 // The new mount points of all mounts on these.

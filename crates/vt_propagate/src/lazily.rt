@@ -41,7 +41,7 @@ pub fn unmount_lazily(
         → All (FallsTo world (map mount_number plan.gone.items)) (map point_of plan.points.items)) }
 {
     let gone = going_lazily(alloc, mounts, groups, id)?;
-    let points = points_left(alloc, mounts, &gone)?;
+    let points = points_left(mounts, &gone)?;
     Ok(Detachment { gone, points })
 }
 

@@ -24,7 +24,6 @@ use vt_mount::{Mounts, NewPoint};
 /// The new mount points of the mounts that stand at the places of receivers: each goes onto the topmost mount of the
 /// copies there, which are given as `copies` returns them. Where a tree moves, its first mount leaves its place before.
 pub(crate) fn pushes(
-    alloc: Global,
     mounts: &Mounts,
     graft: &Graft,
     copies: &[Mount],
@@ -39,8 +38,7 @@ pub(crate) fn pushes(
     ensures once { IfOk result (λ points. OneNumberAMount (map mount_of graft.now.parts.now)
         → MovesOnce (mounts_in mounts.now) (map point_of points.items)) }
 {
-    mounts.are_ascending();
-    all_pushes(alloc, mounts, graft, copies)
+    all_pushes(mounts.alloc(), mounts, graft, copies)
 }
 
 // The new mount points at all parts.

@@ -21,7 +21,6 @@ use vt_mount::Mounts;
 /// The mounts at which a tree of mounts is attached: the destination's mount, then the receivers that take part, in
 /// order of attachment. A receiver takes part if it is attached and shows the destination.
 pub fn parts<R: Reach>(
-    alloc: Global,
     mounts: &Mounts,
     groups: &Groups,
     directories: &R,
@@ -32,7 +31,7 @@ pub fn parts<R: Reach>(
         → ReachesAs world (R.under directories.now)
         → map mount_of parts.items ≡ parts_of nat_eq world (location_of place)) }
 {
-    mounts.are_ascending();
+    let alloc = mounts.alloc();
     let parent = mounts.get(place.mount).unwrap();
     let receivers = receivers_of(alloc, groups, parent.propagation)?;
     with_receivers(alloc, mounts, directories, place, parent, &receivers)

@@ -39,7 +39,6 @@ fn hand_to(mounts: &mut Mounts, id: MountId, lost: GroupId, heir: Option<GroupId
     ensures { mounts.new ≡ changed (mount_number id) (after_end (group_number lost) (option_map group_number heir))
         mounts.old }
 {
-    mounts.are_ascending();
     let Some(mount) = mounts.get(id) else {
         return;
     };

@@ -112,7 +112,6 @@ pub fn set_types(mounts: &mut Mounts, types: &[Mount])
 fn follow(mounts: &mut Mounts, groups: &Groups, id: MountId)
     ensures { mounts.new ≡ changed (mount_number id) (typed_entry groups.now) mounts.old }
 {
-    mounts.are_ascending();
     let Some(mount) = mounts.get(id) else {
         return;
     };

@@ -4,7 +4,7 @@ ghost use Rattle.std.specs.List.{list_all};
 ghost use Rattle.vt_location.specs.Locations.{location_of};
 ghost use Rattle.vt_location.specs.MountValue.{mount_of};
 ghost use Rattle.vt_location.specs.Numbers.{counted, mount_number, namespace_number};
-ghost use Rattle.vt_mount.specs.MountsValue.{are_ascending, mounts_in, uses_of, writers_of};
+ghost use Rattle.vt_mount.specs.MountsValue.{mounts_in, uses_of, writers_of};
 ghost use Rattle.vt_spec.specs.Lists.{holds_of};
 ghost use Rattle.vt_spec.specs.Machine.Mounts as meant;
 ghost use Rattle.vt_spec.specs.Machine.Namespaces.{location_on_copy};
@@ -59,9 +59,8 @@ fn copies(
     next: u64,
 ) -> Result<Vec<Mount>, AllocError>
     requires { next + 2 * length (attached_in (namespace_number namespace) mounts.now) + 1 < u64.MAX }
-    ensures copies { IfOk result (λ copies. map mount_of copies.items
+    ensures { IfOk result (λ copies. map mount_of copies.items
         ≡ copies_of next (attached_in (namespace_number namespace) mounts.now)) }
-    ensures order { are_ascending (mounts_in mounts.now) ≡ true }
 {
     let originals = mounts.attached_in(namespace);
     let mut copies = Vec::with_capacity(alloc, originals.len())?;

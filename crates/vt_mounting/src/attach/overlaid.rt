@@ -5,7 +5,7 @@ ghost use Rattle.vt_group.specs.Together.{GrowsTo, new_group, typed};
 ghost use Rattle.vt_location.specs.declared.locations.Location.{Location};
 ghost use Rattle.vt_location.specs.Locations.{location_of};
 ghost use Rattle.vt_location.specs.MountValue.{mount_of};
-ghost use Rattle.vt_mount.specs.MountsValue.{are_ascending, mounts_in};
+ghost use Rattle.vt_mount.specs.MountsValue.{ComeAfter, mounts_in};
 ghost use Rattle.vt_propagate.specs.Copying.{HasRoomFor};
 ghost use Rattle.vt_store.specs.LayersHeld.{new_overlay};
 ghost use Rattle.vt_store.specs.StoreValue.{StoreValue};
@@ -74,7 +74,7 @@ fn attach_with_overlay(
     mounter: Cred,
     plan: &Planned,
 ) -> Result<(), AllocError>
-    requires ascending { are_ascending (mounts_in mounts.old ++ map mount_of plan.now.copies.now) ≡ true }
+    requires ascending { ComeAfter (map mount_of plan.now.copies.now) (mounts_in mounts.old) }
     requires above { list_all (λ entry. nat_lt entry.count filesystem.count) store.old.overlays ≡ true }
     ensures ok { OnOk result ((held : StoreValue)
         × IsWithOverlay (new_overlay filesystem lowers.items mounter) store.old held

@@ -6,7 +6,7 @@ ghost use Rattle.vt_group.specs.Together.{GrowsTo, new_group, typed};
 ghost use Rattle.vt_location.specs.declared.locations.Location.{Location};
 ghost use Rattle.vt_location.specs.Locations.{location_of};
 ghost use Rattle.vt_location.specs.MountValue.{mount_of};
-ghost use Rattle.vt_mount.specs.MountsValue.{are_ascending, mounts_in};
+ghost use Rattle.vt_mount.specs.MountsValue.{ComeAfter, mounts_in};
 ghost use Rattle.vt_spec.specs.Lists.{folded};
 ghost use Rattle.vt_mounting.specs.Attach.Planned.{AreMoves, is_small, left_of, pinned_by, points_left, points_taken};
 ghost use Rattle.vt_mounting.specs.Attach.Planned.{taken_of, unpinned_by, with_planned, with_points};
@@ -44,7 +44,7 @@ pub fn attach_planned(
     store: &mut Store,
     plan: &Planned,
 ) -> Result<(), AllocError>
-    requires { are_ascending (mounts_in mounts.old ++ map mount_of plan.now.copies.now) ≡ true }
+    requires { ComeAfter (map mount_of plan.now.copies.now) (mounts_in mounts.old) }
     ensures ok { OnOk result ((left : List Location)
         × (map location_of left ≡ points_left plan.now.points.now mounts.old)
         × (list_all is_small left ≡ true)
@@ -71,7 +71,7 @@ pub(crate) fn attach_grouped(
     plan: &Planned,
     types: &[Mount],
 ) -> Result<(), AllocError>
-    requires { are_ascending (mounts_in mounts.old ++ map mount_of plan.now.copies.now) ≡ true }
+    requires { ComeAfter (map mount_of plan.now.copies.now) (mounts_in mounts.old) }
     ensures ok { OnOk result ((left : List Location)
         × (map location_of left ≡ points_left plan.now.points.now mounts.old)
         × (list_all is_small left ≡ true)
@@ -160,7 +160,7 @@ pub(crate) fn enter_planned(
     plan: &Planned,
     types: &[Mount],
 ) -> Result<Vec<Moved>, AllocError>
-    requires { are_ascending (mounts_in mounts.old ++ map mount_of plan.now.copies.now) ≡ true }
+    requires { ComeAfter (map mount_of plan.now.copies.now) (mounts_in mounts.old) }
     ensures mounts_ok { OnOk result
         (mounts.new ≡ with_points plan.now.points.now mounts.old ++ map unused_entry plan.now.copies.now) }
     ensures moves { IfOk result (λ moved.

@@ -13,7 +13,7 @@ loop-id-init c = none_set (propagation_of c.args.kind) c.args.mounts.now
 pub loop-id-preserved : goal.loop-id-preserved
 loop-id-preserved c = set_next c.args.mounts.now c.loop-id.mounts c.set_propagation.new.self
     (propagation_of c.args.kind) c.args.ids.now c.loop-id.id-index _
-    c.loop-id-test.true c.set_propagation.ensures c.loop-id.invariant
+    c.loop-id-test.true c.set_propagation.ensures.mounts c.loop-id.invariant
 
 pub returns : goal.returns
 returns c = c.loop-id.invariant ∙ ap (λ ids. map (retyped (set_if (map (λ id. counted id.count) ids)

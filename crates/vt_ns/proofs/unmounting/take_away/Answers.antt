@@ -12,7 +12,7 @@ use Rattle.vt_mounting.proofs.detach.OverlaysListed.{left_still, left_twice}
 use Rattle.vt_ns.proofs.unmounting.take_away.Goals as goal
 
 pub attach_planned-requires : goal.attach_planned-requires
-attach_planned-requires c = ap are_ascending (append-nil (mounts_in c.args.mounts.now)) ∙ c.are_ascending.ensures
+attach_planned-requires c = λ order. ap are_ascending (append-nil (mounts_in c.args.mounts.now)) ∙ order
 
 pub returns-clause-ok : goal.returns-clause-ok
 returns-clause-ok c =

@@ -11,11 +11,11 @@ pub returns-clause-ok : goal.returns-clause-ok
 returns-clause-ok c = IfOk-weaker c.all_left.result _ _ (λ points is world same.
     subst (LeavesBy world (counts c.args.gone.now)) (sym (is
     ∙ ap (λ mounts. all_points_left mounts (counts c.args.gone.now)) same))
-    (leaves world (ap are_ascending (sym same) ∙ c.are_ascending.ensures) (counts c.args.gone.now))) c.all_left.ensures
+    (leaves world (ap are_ascending (sym same) ∙ c.alloc.ensures.order) (counts c.args.gone.now))) c.all_left.ensures
 
 pub returns-clause-each : goal.returns-clause-each
 returns-clause-each c = IfOk-weaker c.all_left.result _ _ (λ points is world same.
     subst (All (FallsTo world (counts c.args.gone.now))) (sym (is
     ∙ ap (λ mounts. all_points_left mounts (counts c.args.gone.now)) same))
-    (each_falls world (ap are_ascending (sym same) ∙ c.are_ascending.ensures) (counts c.args.gone.now)))
+    (each_falls world (ap are_ascending (sym same) ∙ c.alloc.ensures.order) (counts c.args.gone.now)))
     c.all_left.ensures

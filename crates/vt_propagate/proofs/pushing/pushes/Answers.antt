@@ -15,7 +15,7 @@ returns-clause-ok c =
     IfOk-weaker c.all_pushes.result _ _ (λ points is world counts same one_child parts copies.
     subst (PushesBy world graft counts) (sym (is ∙ (λ i. pushes_from (same i) (leaver graft) (location_of graft.place)
     (length graft.tree.now) (parts i) (copies i))))
-    (all_pushed world one_child (ap are_ascending (sym same) ∙ c.are_ascending.ensures) graft counts))
+    (all_pushed world one_child (ap are_ascending (sym same) ∙ c.alloc.ensures.order) graft counts))
     c.all_pushes.ensures
 
 pub returns-clause-leaver : goal.returns-clause-leaver
@@ -31,5 +31,5 @@ returns-clause-once c =
     let graft = c.args.graft.now in
     IfOk-weaker c.all_pushes.result _ _ (λ points is apart.
     subst (MovesOnce (mounts_in c.args.mounts.now)) (sym is)
-    (pushed_once (mounts_in c.args.mounts.now) c.are_ascending.ensures (leaver graft) (location_of graft.place)
+    (pushed_once (mounts_in c.args.mounts.now) c.alloc.ensures.order (leaver graft) (location_of graft.place)
     (length graft.tree.now) (map mount_of graft.parts.now) (map mount_of c.args.copies.now) apart)) c.all_pushes.ensures

@@ -12,7 +12,7 @@ returns-in_default c = absent_unchanged (counted c.args.id.count)
     (sym c.get.ensures ∙ ap (option_map mount_of) c.in_default.is)
 
 pub returns : goal.returns
-returns c = c.set_propagation.ensures ∙ set_so (counted c.args.id.count)
+returns c = c.set_propagation.ensures.mounts ∙ set_so (counted c.args.id.count)
     (λ number kind. type_after_end (counted c.args.lost.count) (option_map group_number c.args.heir) kind)
-    (propagation_of c.type_after_end.result) c.args.mounts.now c.are_ascending.ensures (mount_of c.in-Some.mount)
+    (propagation_of c.type_after_end.result) c.args.mounts.now c.set_propagation.ensures.order (mount_of c.in-Some.mount)
     (sym c.get.ensures ∙ ap (option_map mount_of) c.in-Some.is) c.type_after_end.ensures

@@ -14,7 +14,7 @@ returns-in_default c = absent_unchanged (counted c.args.id.count) (typed_entry c
     (sym c.get.ensures ∙ ap (option_map mount_of) c.in_default.is)
 
 pub returns : goal.returns
-returns c = c.set_propagation.ensures ∙ set_so (counted c.args.id.count)
+returns c = c.set_propagation.ensures.mounts ∙ set_so (counted c.args.id.count)
     (λ number kind. if is_unbindable kind then Unbindable else propagation_in c.args.groups.now number)
-    (propagation_of c.follows.result) c.args.mounts.now c.are_ascending.ensures (mount_of c.in-Some.mount)
+    (propagation_of c.follows.result) c.args.mounts.now c.set_propagation.ensures.order (mount_of c.in-Some.mount)
     (sym c.get.ensures ∙ ap (option_map mount_of) c.in-Some.is) c.follows.ensures

@@ -11,7 +11,7 @@ loop-pair-init c = none_shared c.share.new.self c.args.mounts.now
 pub loop-pair-preserved : goal.loop-pair-preserved
 loop-pair-preserved c =
     shared_next c.share.new.self c.args.mounts.now c.loop-pair.mounts c.set_propagation.new.self c.args.named.now c.loop-pair.pair-index _
-    c.loop-pair-test.true _ c.told.ensures c.set_propagation.ensures c.loop-pair.invariant
+    c.loop-pair-test.true _ c.told.ensures c.set_propagation.ensures.mounts c.loop-pair.invariant
 
 pub returns-clause-types_ok : goal.returns-clause-types_ok
 returns-clause-types_ok c = c.loop-pair.invariant

@@ -3,7 +3,8 @@ use Rattle.std.specs.Option.{option_copied_mut}
 use Rattle.vt_location.specs.MountValue.{propagation_of}
 use Rattle.vt_mount.specs.declared.mounted.Mounted.{Mounted}
 use Rattle.vt_mount.specs.Indexed.{IsIndexed}
-use Rattle.vt_mount.specs.MountsValue.{MountEntry, entries_of, in_order}
+use Rattle.vt_mount.specs.MountsValue.{MountEntry, are_ascending, entries_of, in_order, mounts_in}
+use Rattle.vt_mount.proofs.MoveLemmas.{ascending-kept}
 use Rattle.vt_mount.proofs.WriteLemmas.{entries-written, indexed-written, is-written, not-written}
 use Rattle.vt_mount.proofs.mounts.Mounts.set_propagation.Goals as goal
 use Rattle.vt_mount.proofs.mounts.Mounts.set_propagation.Goals.{in-Some, in_default}
@@ -26,8 +27,8 @@ invariant_of-self c =
           (ap (λ map. map.entries) c.get_mut.follows.holds-at-none)) c.self.invariant)
     ]
 
-pub returns : goal.returns
-returns c =
+pub returns-clause-mounts : goal.returns-clause-mounts
+returns-clause-mounts c =
     let map = c.self.inside.by_number in
     let change = λ (one : Mounted). record one { propagation = c.args.propagation } in
     let seen = λ (entry : MountEntry). record entry { mount = record entry.mount { propagation = propagation_of c.args.propagation } } in
@@ -42,3 +43,7 @@ returns c =
           (not-written c.args.id change map _ (sym c.get_mut.ensures.value ∙ ap option_copied_mut w.in_default.is)
           (ap (λ map. map.entries) c.get_mut.follows.holds-at-none)) c.self.view_is
     ]
+
+pub returns-clause-order : goal.returns-clause-order
+returns-clause-order c =
+    ap (λ now. are_ascending (mounts_in now)) (sym c.self.view_is) ∙ ascending-kept c.self.inside.by_number.entries

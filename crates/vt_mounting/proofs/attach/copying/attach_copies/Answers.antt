@@ -14,13 +14,13 @@ use Rattle.vt_mounting.proofs.attach.UnsharingLemmas.{copies_ascend}
 use Rattle.vt_mounting.proofs.attach.copying.attach_copies.Goals as goal
 
 pub attach_planned-requires : goal.attach_planned-requires
-attach_planned-requires c =
+attach_planned-requires c = λ order.
     let all = mounts_in c.args.mounts.now in
-    ap (λ new. are_ascending (all ++ new)) (ap (map mount_of) c.deref.ensures.value ∙ c.in_ok-added.ensures.copies)
+    ap (λ new. are_ascending (all ++ new)) (ap (map mount_of) c.deref.ensures.value ∙ c.in_ok-added.ensures)
     ∙ copies_ascend c.args.next all
-    (attached_in (counted c.args.namespace.count) c.args.mounts.now) c.in_ok-added.ensures.order c.requires.before
+    (attached_in (counted c.args.namespace.count) c.args.mounts.now) order c.requires.before
     (ascending_filter (λ mount. holds_of
-    (nat_eq (counted c.args.namespace.count)) mount.namespace) all c.in_ok-added.ensures.order)
+    (nat_eq (counted c.args.namespace.count)) mount.namespace) all order)
 
 -- no mount leaves a mount point
 none_moves : (copies : List Mount) (left : List Location) (k : Kept) → map location_of left ≡ []
@@ -33,7 +33,7 @@ returns-clause-ok c =
     let made = c.in_ok-attach_planned.ensures.ok in
     record {
       added = c.deref.result.now;
-      copied = ap (map mount_of) c.deref.ensures.value ∙ c.in_ok-added.ensures.copies;
+      copied = ap (map mount_of) c.deref.ensures.value ∙ c.in_ok-added.ensures;
       slots = c.in_ok-attach_planned.ensures.slots;
       attached = made.3 ∙ none_moves c.deref.result.now made.0 _ made.1;
       grows = c.in_ok-attach_planned.ensures.groups_ok;

@@ -47,8 +47,8 @@ loop-id-preserved c =
           (ap (option_map change) (sym c.get.ensures ∙ ap (option_map mount_of) w.in_default.is))
     ]
 
-pub returns-clause-copies : goal.returns-clause-copies
-returns-clause-copies c =
+pub returns : goal.returns
+returns c =
     let all = attached_in (counted c.args.namespace.count) c.args.mounts.now in
     let change : Mount ℕ → Mount ℕ = copied_by c.args.next all in
     c.loop-id.invariant ∙ ap (filter_map (λ id. option_map change

@@ -19,7 +19,7 @@ from_there : {A : Type 0} (n : ℕ) (xs : List A) → take (length xs - n) (drop
 from_there n xs = (λ i. take (sym (length-drop n xs) i) (drop n xs)) ∙ take-length (drop n xs)
 
 pub attach_grouped-requires : goal.attach_grouped-requires
-attach_grouped-requires c =
+attach_grouped-requires c = λ order.
     let may = c.requires.may in
     let n = length c.args.graft.now.tree.now in
     let front = mounts_in c.args.mounts.now in

@@ -1,14 +1,22 @@
-use Rattle.std.proofs.Common.{List, map, subst, sym, ◌≡◌}
+use Rattle.std.proofs.Common.{List, ap, map, subst, sym, ◌++◌, ◌≡◌, ◌∙◌}
 use Rattle.vt_group.specs.declared.groups.NewGroup.{NewGroup}
 use Rattle.vt_group.specs.Together.{new_group}
 use Rattle.vt_location.specs.declared.mounts.Mount.{Mount}
 use Rattle.vt_location.specs.MountValue.{mount_of}
-use Rattle.vt_mount.specs.MountsValue.{mounts_in}
+use Rattle.vt_mount.specs.MountsValue.{are_ascending, mounts_in}
 use Rattle.vt_propagate.specs.Attaching.{AttachesBy}
 use Rattle.vt_propagate.specs.Pushing.{MovesOnce}
 use Rattle.vt_mounting.specs.Attach.Planned.{Point}
 use Rattle.vt_mounting.specs.Attach.PlannedUses.{point_seen}
 use Rattle.vt_mounting.proofs.attach.overlaid.attach_overlay.Goals as goal
+
+pub attach_with_overlay-requires-clause-ascending : goal.attach_with_overlay-requires-clause-ascending
+attach_with_overlay-requires-clause-ascending c = λ order.
+    let may = c.requires.may in
+    let front = mounts_in c.args.mounts.now in
+    let attaches = c.in_ok-plan.ensures.ok may.world may.seen may.one_child may.parts_are in
+    ap (λ (list : List Mount). are_ascending (front ++ map mount_of list)) c.deref.ensures.value
+    ∙ ap (λ list. are_ascending (front ++ list)) attaches.copies_are ∙ may.ascending
 
 pub returns-clause-ok : goal.returns-clause-ok
 returns-clause-ok c =

@@ -58,7 +58,7 @@ attach_graft-requires-clause-may c =
     parts_found value c.args.self.now c.self.view_is c.self.invariant c.args.bind.destination
     c.in_ok-parts.parts.items c.deref.result.now c.deref.ensures.value c.in_ok-parts.ensures.ok in
     may_bind value c.self.invariant c.args.name.now c.args.bind.source c.args.bind.recursive graft counts permits
-    tree_is refl parts_are refl refl c.are_ascending.ensures c.are_counted.ensures
+    tree_is refl parts_are refl refl c.alloc-alloc.ensures.order c.alloc-alloc.ensures.counted
 
 abbrev after : (c : goal.After-drop-tree-2) → WorldValue
 after c = with_store c.attach_graft.new.store (record (the_view c.self.inside) {
@@ -115,7 +115,7 @@ done c =
     (bind_is_done value c.self.invariant c.args.name.now c.args.bind.source c.args.bind.recursive graft counts
     permits tree_is refl parts_are refl refl c.attach_graft.new.mounts c.attach_graft.new.groups
     c.attach_graft.new.store.plain (map merged_of c.attach_graft.new.store.overlays)
-    (c.self.inside.next + c.in-Some.taken) grafted c.are_ascending.ensures c.are_counted.ensures grows)
+    (c.self.inside.next + c.in-Some.taken) grafted c.alloc-alloc.ensures.order c.alloc-alloc.ensures.counted grows)
 
 pub invariant_of-self-2 : goal.invariant_of-self-2
 invariant_of-self-2 c = (done c).held

@@ -72,7 +72,7 @@ attach_overlay-requires-clause-may c =
     may_mount_overlay value c.self.inside.store c.self.invariant c.args.name.now c.args.new permits
     c.in_ok-lowers.lowers.items lowers_are c.in_ok-mounter.mounter mounter_is c.unwrap.result.now top_is (omega arith)
     c.mount_of_overlay.result c.mount_of_overlay.ensures graft refl refl refl parts_are counts refl refl
-    c.are_ascending.ensures c.are_counted.ensures
+    c.alloc-alloc.ensures.order c.alloc-alloc.ensures.counted
 
 pub attach_overlay-requires-clause-above : goal.attach_overlay-requires-clause-above
 attach_overlay-requires-clause-above c = overlays_below (the_view c.self.inside) c.self.inside.store c.self.invariant
@@ -119,7 +119,7 @@ done c =
     overlay_mounted value c.self.inside.store c.self.invariant c.args.name.now c.args.new permits
     c.in_ok-lowers.lowers.items lowers_are c.in_ok-mounter.mounter mounter_is c.unwrap.result.now top_is (omega arith)
     c.mount_of_overlay.result c.mount_of_overlay.ensures graft refl refl refl parts_are counts refl refl
-    c.are_ascending.ensures c.are_counted.ensures
+    c.alloc-alloc.ensures.order c.alloc-alloc.ensures.counted
     (omega arith) attached.0 c.attach_overlay.new.store attached.1 c.in_ok-attach_overlay.ensures.overlays
     c.attach_overlay.new.mounts c.attach_overlay.new.groups (c.self.inside.next + c.in-Some.taken) attached.2 grows
 

@@ -60,7 +60,7 @@ mount_new-requires-clause-may c =
     parts_found value c.args.self.now c.self.view_is c.self.invariant c.args.place c.in_ok-parts.parts.items
     c.deref.result.now c.deref.ensures.value c.in_ok-parts.ensures.ok in
     may_mount value c.self.invariant c.args.name.now graft counts
-    (flags_of c.args.flags) permits refl tree_is parts_are refl refl c.are_ascending.ensures c.are_counted.ensures
+    (flags_of c.args.flags) permits refl tree_is parts_are refl refl c.alloc-alloc.ensures.order c.alloc-alloc.ensures.counted
 
 abbrev after : (c : goal.After-drop-parts-2) → WorldValue
 after c = with_store c.mount_new.new.store (record (the_view c.self.inside) {
@@ -111,7 +111,7 @@ done c =
     c.args.name.now (ToMountPlain (location_of c.args.place) (flags_of c.args.flags)) permits
     (new_mount_is_done value c.self.invariant c.args.name.now graft counts
     (flags_of c.args.flags) permits refl tree_is parts_are refl refl
-    c.are_ascending.ensures c.are_counted.ensures made.0 made.1 (omega arith)
+    c.alloc-alloc.ensures.order c.alloc-alloc.ensures.counted made.0 made.1 (omega arith)
     c.mount_new.new.mounts c.mount_new.new.groups c.mount_new.new.store.plain
     (map merged_of c.mount_new.new.store.overlays) (c.self.inside.next + c.in-Some.taken) grafted grows)
 

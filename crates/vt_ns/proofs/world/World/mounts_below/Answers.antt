@@ -36,7 +36,7 @@ returns c = record {
       (mount_tree nat_eq (mounts_in value.mounts) (mount_numbered nat_eq (world_of value) (counted c.args.mount.count))) =
       ap (map (λ id. counted id.count)) c.deref.ensures.value ∙ c.in_ok-origins.ensures.ok in
       IfOk-weaker c.bound_mounts.result _ _ (λ tree is. is
-      ∙ tree_below value (counted c.args.mount.count) there c.are_ascending.ensures c.unwrap-top.result
+      ∙ tree_below value (counted c.args.mount.count) there c.alloc.ensures.order c.unwrap-top.result
       (sym (ap (option_map mount_of) c.unwrap-top.ensures) ∙ c.get.ensures) c.deref.result.now are
       ∙ ap (λ (v : WorldValue). mount_tree nat_eq (mounts_in v.mounts)
       (mount_numbered nat_eq (world_of v) (counted c.args.mount.count))) c.self.view_is) c.bound_mounts.ensures;

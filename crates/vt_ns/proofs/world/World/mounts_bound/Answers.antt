@@ -24,7 +24,7 @@ returns c = record {
       (bind_tree nat_eq (world_of v) (location_of c.args.source) c.args.recursive)) (sym c.self.view_is) in
       IfOk-weaker c.bound_mounts.result _ _ (λ tree is. is
       ∙ tree_bound value c.self.invariant c.args.source c.args.recursive
-      small there c.are_ascending.ensures c.deref.result.now are
+      small there c.alloc.ensures.order c.deref.result.now are
       ∙ ap (λ (v : WorldValue). bind_tree nat_eq (world_of v) (location_of c.args.source) c.args.recursive)
       c.self.view_is) c.bound_mounts.ensures;
 }

@@ -62,7 +62,7 @@ move_tree-requires-clause-may c =
     c.deref.result.now c.deref.ensures.value c.in_ok-parts.ensures.ok in
     may_move value c.self.invariant c.args.name.now
     (counted c.args.mount.count) graft counts permits tree_is refl parts_are refl refl
-    c.are_ascending.ensures c.are_counted.ensures
+    c.alloc-alloc.ensures.order c.alloc-alloc.ensures.counted
 
 abbrev after : (c : goal.After-drop-tree-2) → WorldValue
 after c = with_store c.move_tree.new.store (record (the_view c.self.inside) {
@@ -121,7 +121,7 @@ done c =
     (move_is_done value c.self.invariant c.args.name.now (counted c.args.mount.count) graft counts permits tree_is
     refl parts_are refl refl shared c.move_tree.new.mounts c.move_tree.new.groups c.move_tree.new.store.plain
     (map merged_of c.move_tree.new.store.overlays) (c.self.inside.next + c.in-Some.taken) moved
-    c.are_ascending.ensures c.are_counted.ensures grows)
+    c.alloc-alloc.ensures.order c.alloc-alloc.ensures.counted grows)
 
 pub invariant_of-self-2 : goal.invariant_of-self-2
 invariant_of-self-2 c = (done c).held

@@ -6,5 +6,5 @@ use Rattle.vt_ns.proofs.world.World.next_filesystem_is_new.Goals as goal
 
 pub returns : goal.returns
 returns c = subst NextFilesystemIsNew c.self.view_is
-    (next_is_new (the_view c.self.inside) c.self.invariant (omega arith) c.are_counted.ensures
-    c.groups_are_counted.ensures)
+    (next_is_new (the_view c.self.inside) c.self.invariant (omega arith) c.alloc.ensures.counted
+    c.alloc.ensures.sources)

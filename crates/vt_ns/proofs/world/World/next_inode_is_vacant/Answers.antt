@@ -17,7 +17,7 @@ returns-in-Some c =
     let number = here_number next c.in-Some.ensures.birth
     ∙ (λ i. inode_number (c.in-Some.ensures.filesystem i).count next.slot) in
     subst (λ value. NextInodeIsVacant value (location_of c.args.directory)) c.self.view_is
-    (next_is_vacant (the_view c.self.inside) c.self.invariant (omega arith) c.are_counted.ensures c.groups_are_counted.ensures
+    (next_is_vacant (the_view c.self.inside) c.self.invariant (omega arith) c.alloc.ensures.counted c.alloc.ensures.sources
     (location_of c.args.directory) count (subst (λ value. counted count
     ≡ (mount_numbered nat_eq (world_of value) (counted c.args.directory.mount.count)).filesystem)
     (sym c.self.view_is) c.shown-filesystem.ensures) next.slot (omega arith)
@@ -28,7 +28,7 @@ pub returns-in_default : goal.returns-in_default
 returns-in_default c =
     let count = c.shown-filesystem.result.count in
     subst (λ value. NextInodeIsVacant value (location_of c.args.directory)) c.self.view_is
-    (none_is_vacant (the_view c.self.inside) c.self.invariant (omega arith) c.are_counted.ensures c.groups_are_counted.ensures
+    (none_is_vacant (the_view c.self.inside) c.self.invariant (omega arith) c.alloc.ensures.counted c.alloc.ensures.sources
     (location_of c.args.directory) count (subst (λ value. counted count
     ≡ (mount_numbered nat_eq (world_of value) (counted c.args.directory.mount.count)).filesystem)
     (sym c.self.view_is) c.shown-filesystem.ensures) (rw c.plain.ensures at c.in_default.ensures.number))

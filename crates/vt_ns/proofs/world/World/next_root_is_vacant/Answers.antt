@@ -6,4 +6,4 @@ use Rattle.vt_ns.proofs.world.World.next_root_is_vacant.Goals as goal
 
 pub returns : goal.returns
 returns c = subst NextRootIsVacant c.self.view_is
-    (root_is_vacant (the_view c.self.inside) c.self.invariant (omega arith) c.are_counted.ensures c.groups_are_counted.ensures)
+    (root_is_vacant (the_view c.self.inside) c.self.invariant (omega arith) c.alloc.ensures.counted c.alloc.ensures.sources)

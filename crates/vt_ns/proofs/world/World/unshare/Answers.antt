@@ -28,13 +28,13 @@ use Rattle.vt_ns.proofs.world.StoresKept.{kept_is}
 use Rattle.vt_ns.proofs.world.World.unshare.Goals as goal
 
 pub attach_copies-requires-clause-before : goal.attach_copies-requires-clause-before
-attach_copies-requires-clause-before c = numbers_before (the_view c.self.inside) c.self.invariant c.are_counted.ensures
+attach_copies-requires-clause-before c = numbers_before (the_view c.self.inside) c.self.invariant c.alloc-alloc.ensures.counted
 
 pub move_use-requires-clause-uses : goal.move_use-requires-clause-uses
 move_use-requires-clause-uses c =
     let own = c.unwrap-task.result.now in
     let made = c.in_ok-attach_copies.ensures.ok in
-    uses_left (the_view c.self.inside) c.self.invariant c.are_counted.ensures
+    uses_left (the_view c.self.inside) c.self.invariant c.alloc-alloc.ensures.counted
     (attached_in (counted own.namespace.count) c.self.inside.mounts)
     made.added c.attach_copies.new.mounts c.attach_copies.new.store.plain
     (map merged_of c.attach_copies.new.store.overlays)
@@ -45,7 +45,7 @@ pub move_use-requires-clause-writers : goal.move_use-requires-clause-writers
 move_use-requires-clause-writers c =
     let own = c.unwrap-task.result.now in
     let made = c.in_ok-attach_copies.ensures.ok in
-    writers_left (the_view c.self.inside) c.self.invariant c.are_counted.ensures
+    writers_left (the_view c.self.inside) c.self.invariant c.alloc-alloc.ensures.counted
     (attached_in (counted own.namespace.count) c.self.inside.mounts)
     made.added c.attach_copies.new.mounts c.attach_copies.new.store.plain
     (map merged_of c.attach_copies.new.store.overlays)
@@ -56,7 +56,7 @@ pub move_use-requires-2-clause-uses : goal.move_use-requires-2-clause-uses
 move_use-requires-2-clause-uses c = λ other.
     let own = c.unwrap-task.result.now in
     let made = c.in_ok-attach_copies.ensures.ok in
-    uses_left_then (the_view c.self.inside) c.self.invariant c.are_counted.ensures
+    uses_left_then (the_view c.self.inside) c.self.invariant c.alloc-alloc.ensures.counted
     (attached_in (counted own.namespace.count) c.self.inside.mounts)
     made.added c.attach_copies.new.mounts c.attach_copies.new.store.plain
     (map merged_of c.attach_copies.new.store.overlays)
@@ -68,7 +68,7 @@ pub move_use-requires-2-clause-writers : goal.move_use-requires-2-clause-writers
 move_use-requires-2-clause-writers c = λ other.
     let own = c.unwrap-task.result.now in
     let made = c.in_ok-attach_copies.ensures.ok in
-    writers_left_then (the_view c.self.inside) c.self.invariant c.are_counted.ensures
+    writers_left_then (the_view c.self.inside) c.self.invariant c.alloc-alloc.ensures.counted
     (attached_in (counted own.namespace.count) c.self.inside.mounts)
     made.added c.attach_copies.new.mounts c.attach_copies.new.store.plain
     (map merged_of c.attach_copies.new.store.overlays)
@@ -138,7 +138,7 @@ done c =
           (with_use_moved (counted own.directory.mount.count) (counted directory.mount.count)) c.move_use.ensures;
       entered = entered c;
       left = c.leave_namespace.ensures.mounts;
-      before = numbers_before (the_view c.self.inside) c.self.invariant c.are_counted.ensures;
+      before = numbers_before (the_view c.self.inside) c.self.invariant c.alloc-alloc.ensures.counted;
       namespaces_left = c.leave_namespace.ensures.namespaces;
       tasks = c.move_root_and_directory.ensures.rest ∙ ap (λ n. changed_called c.args.name.now (λ task. record task {
         namespace = counted n;
