@@ -1,29 +1,7 @@
 -- What a permit leaves has the world's change number that was there: the policy's last step alone raises it.
 use Rattle.std.proofs.Common.{◌≡◌, refl, sym, ap, ◌∙◌, ℕ, Bool, true, false, cond, nat_eq, List, [], ◌∷◌, Option, Some, None, is_some, filter, flat_map, map, Ok, Err, is_ok, ok_or, not, ◌||◌}
+use Rattle.vt_spec.proofs.Common.{Allowed, Answer, Call, Change, CopyUp, Filesystem, Fresh, Judgement, Layer, Location, Make, Mount, Move, Outcome, Overlay, Permit, Remove, SetBytes, Task, TaskName, ToBind, ToChange, ToClose, ToEnterNamespace, ToExit, ToFork, ToList, ToListMounts, ToMake, ToMountOverlay, ToMountPlain, ToMove, ToOpen, ToOpenNew, ToPivot, ToRead, ToReadPart, ToRemoveDirectory, ToRename, ToSetCredentials, ToSetDirectory, ToSetFlags, ToSetRoot, ToSetType, ToSetUmask, ToStat, ToUnmount, ToUnmountLazily, ToUnshare, ToWritePart, World, after, after_going, apply, bytes_in, deepest_first, denial, evens, filesystem_at, filesystem_changed, filesystems_changed_by, finished, finished_by, folded, going, is_copied_up, is_in_ended, judge_in, list_any, lost_a_group, mount_numbered, mount_tree, mounts_on, named_mounts, namespace_entered, namespaces_ended, node_at, numbers_by, odds, only_looks, overlay_changed, overwritten, pwritten, raised, regrouped, regrouped_by, retyped_mount, taken_away, task_called, unmounted, unmounted_if_there, unshared, with_change, with_copy, with_mounts, with_new_groups, without_mounts_on, without_task}
 use Rattle.vt_spec.specs.declared.errors.Rule.TheVariants.{S2}
-use Rattle.vt_spec.specs.Errors.{denial}
-use Rattle.vt_spec.specs.Language.Answers.{Answer}
-use Rattle.vt_spec.specs.Language.Calls.{Call, TaskName}
-use Rattle.vt_spec.specs.Language.Changes.{Change}
-use Rattle.vt_spec.specs.Language.Changes.Change.{CopyUp, Make, Move, Remove, SetBytes}
-use Rattle.std.specs.List.{list_any}
-use Rattle.vt_spec.specs.Lists.{Fresh, evens, folded, odds}
-use Rattle.vt_spec.specs.Machine.Apply.{apply}
-use Rattle.vt_spec.specs.Machine.Detach.{after_going, deepest_first, going, mounts_on, taken_away, unmounted, unmounted_if_there, without_mounts_on}
-use Rattle.vt_spec.specs.Machine.Descriptors.{is_copied_up, pwritten, with_copy}
-use Rattle.vt_spec.specs.Machine.Filesystems.{filesystem_changed, overlay_changed, raised, with_change}
-use Rattle.vt_spec.specs.Machine.Judge.{Judgement, judge_in}
-use Rattle.vt_spec.specs.Machine.Mounts.{Location, Mount, mount_tree, numbers_by}
-use Rattle.vt_spec.specs.Machine.Namespaces.{is_in_ended, namespace_entered, namespaces_ended, unshared}
-use Rattle.vt_spec.specs.Machine.Outcomes.{Outcome, after}
-use Rattle.vt_spec.specs.Machine.Permits.{Permit}
-use Rattle.vt_spec.specs.Machine.Permits.Permit.{Allowed, ToBind, ToChange, ToClose, ToEnterNamespace, ToExit, ToFork, ToList, ToListMounts, ToMake, ToMountOverlay, ToMountPlain, ToMove, ToOpen, ToOpenNew, ToPivot, ToRead, ToReadPart, ToRemoveDirectory, ToRename, ToSetCredentials, ToSetDirectory, ToSetFlags, ToSetRoot, ToSetType, ToSetUmask, ToStat, ToUnmount, ToUnmountLazily, ToUnshare, ToWritePart}
-use Rattle.vt_spec.specs.Machine.Policy.{filesystems_changed_by, finished, finished_by, only_looks}
-use Rattle.vt_spec.specs.Machine.Receives.{lost_a_group, regrouped, regrouped_by}
-use Rattle.vt_spec.specs.Machine.Types.{named_mounts, retyped_mount, with_new_groups}
-use Rattle.vt_spec.specs.Machine.World.{Filesystem, Layer, Overlay, Task, World, filesystem_at, mount_numbered, node_at, task_called, with_mounts, without_task}
-use Rattle.vt_spec.specs.Tree.{bytes_in}
-use Rattle.vt_spec.specs.Machine.Descriptors.{overwritten}
 use Rattle.vt_answers.specs.Ends.{change_after}
 use Rattle.vt_answers.specs.Numbers.{RaisesTheChangeNumber}
 

@@ -1,6 +1,6 @@
 -- Numbers for a line that makes nothing: half of those that are never given out.
 use Rattle.std.proofs.Common.{◌≡◌, ◌≢◌, refl, sym, ap, subst, ◌∙◌, true≢false, ℕ, ◌==◌, ◌+◌, ◌*◌, ◌/◌, ◌%◌, Bool, true, false, cond, not, arith, eq-eqb, ne_eqb, eqb-true}
-use Rattle.vt_spec.specs.Machine.World.{World}
+use Rattle.vt_spec.proofs.Common.{World}
 use Rattle.vt_laws_rules.specs.Numbers.{Allotment, KeepsTo, Lot, is_in_hand_lot, is_kept_lot}
 use Rattle.vt_laws_rules.specs.Numbers.Lot.{Kept, LeftOver, New}
 use Rattle.vt_laws_rules.proofs.numbers.Supports.{opening_keeps_to_four}

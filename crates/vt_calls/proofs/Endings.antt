@@ -1,20 +1,8 @@
 -- How a call ends, from what its judgement and its event say.
-use Rattle.std.proofs.Common.{◌≡◌, refl, sym, ap, subst, ◌∙◌, ℕ, false, nat_eq, Some, None, Result, Ok, Err, ok_or, inl, inr}
-use Rattle.std.specs.Prelude.{OnErr, OnOk, ⊤}
-use Rattle.std.specs.declared.alloc.AllocError.{AllocError}
+use Rattle.std.proofs.Common.{◌≡◌, refl, sym, ap, subst, ◌∙◌, ℕ, false, nat_eq, Some, None, Result, Ok, Err, ok_or, inl, inr, OnErr, OnOk}
+use Rattle.vt_spec.proofs.Common.{AllocError, Call, Judgement, Permit, SameWorlds, Task, TaskName, after, apply, call_outcome, denial, filesystems_changed_by, finished, judge_in, looks_of, overfills, policy, settled, task_called, ⊤}
 use Rattle.vt_spec.specs.declared.errors.Deny.{Deny}
 use Rattle.vt_spec.specs.declared.errors.Rule.TheVariants.{S2, S5}
-use Rattle.vt_spec.specs.Errors.{denial}
-use Rattle.vt_spec.specs.Language.Calls.{Call, TaskName}
-use Rattle.vt_spec.specs.Machine.Apply.{apply, overfills}
-use Rattle.vt_spec.specs.Machine.Judge.{Judgement, judge_in}
-use Rattle.vt_spec.specs.Machine.Looks.{looks_of}
-use Rattle.vt_spec.specs.Machine.Outcomes.{after}
-use Rattle.vt_spec.specs.Machine.Permits.{Permit}
-use Rattle.vt_spec.specs.Machine.Policy.{call_outcome, filesystems_changed_by, finished, policy}
-use Rattle.vt_spec.specs.Machine.SameWorlds.{SameWorlds}
-use Rattle.vt_spec.specs.Machine.Settled.{settled}
-use Rattle.vt_spec.specs.Machine.World.{Task, task_called}
 use Rattle.vt_permits.specs.Allocating.{TakesMemory}
 use Rattle.vt_permits.specs.Memory.{JudgesAlike, JudgesByReceivers}
 use Rattle.vt_permits.specs.GrantValue.{permit_of}

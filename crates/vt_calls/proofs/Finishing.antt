@@ -1,25 +1,12 @@
 -- How the policy ends a call that is judged, change numbers aside.
 use Rattle.std.proofs.Common.{◌≡◌, refl, sym, ap, subst, ◌∙◌, ℕ, Bool, true, false, cond, nat_eq, List, [], ◌∷◌, map, Some, Ok, Err, ok_or, ◌||◌, not, is_ok}
+use Rattle.vt_spec.proofs.Common.{Allowed, Answer, Call, FileTree, Filesystem, Fresh, Judgement, Outcome, Permit, SameFiles, SameFilesystems, SameWorlds, Task, TaskName, World, after, apply, call_outcome, denial, filesystems_changed_by, finished, finished_by, judge_in, only_looks, policy, settled, task_called, without_changes}
 use Rattle.vt_spec.specs.declared.errors.Deny.{Deny}
 use Rattle.vt_spec.specs.declared.errors.Rule.TheVariants.{S2}
-use Rattle.vt_spec.specs.Errors.{denial}
-use Rattle.vt_spec.specs.FileTree.{FileTree}
-use Rattle.vt_spec.specs.Language.Answers.{Answer}
-use Rattle.vt_spec.specs.Language.Calls.{Call, TaskName}
-use Rattle.vt_spec.specs.Lists.{Fresh}
-use Rattle.vt_spec.specs.Machine.Apply.{apply}
-use Rattle.vt_spec.specs.Machine.Judge.{Judgement, judge_in}
-use Rattle.vt_spec.specs.Machine.Outcomes.{Outcome, after}
-use Rattle.vt_spec.specs.Machine.Permits.{Permit}
-use Rattle.vt_spec.specs.Machine.Policy.{call_outcome, filesystems_changed_by, finished, finished_by, only_looks, policy}
-use Rattle.vt_spec.specs.Machine.SameWorlds.{SameFiles, SameFilesystems, SameWorlds, without_changes}
-use Rattle.vt_spec.specs.Machine.Settled.{settled}
-use Rattle.vt_spec.specs.Machine.World.{Filesystem, Task, World, task_called}
 use Rattle.vt_laws_rules.proofs.judged.CallsJudged.{call_is_judged_then_applied}
 use Rattle.vt_laws_rules.proofs.judged.NumbersRaised.{last_step_raises_numbers_alone}
 use Rattle.vt_laws_rules.proofs.denials.Unchanged.{look_changes_nothing}
 use Rattle.vt_laws_trees.proofs.runs.answered.AlikeWorlds.{files_itself, sameness_is_an_equivalence}
-use Rattle.vt_spec.specs.Machine.Permits.Permit.{Allowed}
 
 -- Worlds that are one but for change numbers are the same.
 abbrev bare : Filesystem ℕ → Filesystem ℕ

@@ -1,13 +1,8 @@
 -- What the judgement of a call by code says of its permit, or of its refusal.
-use Rattle.std.proofs.Common.{◌≡◌, refl, sym, subst, ◌∙◌, ℕ, true, nat_eq, Some, Result, Ok, Err, arith}
-use Rattle.std.specs.Prelude.{IfErr, IfOk}
-use Rattle.std.proofs.lemmas.Grind.{common_steps}
+use Rattle.std.proofs.Common.{◌≡◌, refl, sym, subst, ◌∙◌, ℕ, true, nat_eq, Some, Result, Ok, Err, arith, IfErr, IfOk}
+use Rattle.vt_spec.proofs.Common.{Bind, Fork, Judgement, LinkTo, MakeWhiteout, Mkdir, MountOverlay, MountPlain, MoveMount, OpenFile, Rename, Rmdir, SymlinkAt, Task, TaskName, Umount, Unlink, Write, common_steps, judge, judge_in, task_called}
 use Rattle.vt_spec.specs.declared.errors.Deny.{Deny}
-use Rattle.vt_spec.specs.Machine.Judge.{Judgement, judge, judge_in}
-use Rattle.vt_spec.specs.Machine.World.{Task, task_called}
 use Rattle.vt_spec.specs.Language.Calls as spec
-use Rattle.vt_spec.specs.Language.Calls.{TaskName}
-use Rattle.vt_spec.specs.Language.Calls.Call.{Bind, Fork, LinkTo, MakeWhiteout, Mkdir, MountOverlay, MountPlain, MoveMount, OpenFile, Rename, Rmdir, SymlinkAt, Umount, Unlink, Write}
 use Rattle.vt_permits.specs.Allocating.{TakesMemory}
 use Rattle.vt_permits.specs.Memory.{JudgesAlike, JudgesByReceivers}
 use Rattle.vt_policy.specs.Allocating.{IsJudgedWithMemory}

@@ -1,16 +1,8 @@
 -- A kernel's world is that of its events but for its change number, so a call ends alike in both.
-use Rattle.std.proofs.Common.{◌≡◌, refl, sym, ap, subst, ◌∙◌, ℕ, nat_eq, List, Result, Ok, Err, inl, inr}
-use Rattle.std.specs.Prelude.{OnErr}
+use Rattle.std.proofs.Common.{◌≡◌, refl, sym, ap, subst, ◌∙◌, ℕ, nat_eq, List, Result, Ok, Err, inl, inr, OnErr}
+use Rattle.vt_spec.proofs.Common.{Call, Fresh, Outcome, PeerList, SameWorlds, TaskName, directed, peer_lines, policy}
 use Rattle.vt_spec.specs.declared.errors.Deny.{Deny}
-use Rattle.vt_spec.specs.Language.Calls.{Call, TaskName}
-use Rattle.vt_spec.specs.Lists.{Fresh}
 use Rattle.vt_spec.specs.Language.Answers.{PeerLine}
-use Rattle.vt_spec.specs.Language.Answers.Answer.{PeerList}
-use Rattle.vt_spec.specs.Machine.Listing.{peer_lines}
-use Rattle.vt_spec.specs.Machine.Outcomes.{Outcome}
-use Rattle.vt_spec.specs.Machine.Policy.{policy}
-use Rattle.vt_spec.specs.Machine.SameWorlds.{SameWorlds}
-use Rattle.vt_spec.specs.Machine.Sealed.{directed}
 use Rattle.vt_laws_rules.specs.Numbers.{Allotment}
 use Rattle.vt_laws_worlds.proofs.one_text.answered.AlikeAnswered.{any_same_worlds_are_answered_alike, any_same_worlds_are_directed_alike}
 use Rattle.vt_laws_worlds.proofs.one_text.same.SameNumbers.{any_same_worlds_keep_to_numbers}

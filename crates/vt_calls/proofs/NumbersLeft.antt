@@ -1,10 +1,6 @@
 -- The world after a call has numbers for what is made next.
 use Rattle.std.proofs.Common.{◌≡◌, ap, ℕ, nat_eq, ◌==◌, ◌+◌, ◌*◌, ◌%◌, Bool, true, false, cond, not, arith, ne_eqb}
-use Rattle.vt_spec.specs.Language.Calls.{Call, TaskName}
-use Rattle.vt_spec.specs.Machine.Permits.{Permit}
-use Rattle.vt_spec.specs.Machine.Permits.Permit.{ToMake, ToMountOverlay, ToMountPlain, ToOpenNew}
-use Rattle.vt_spec.specs.Machine.Policy.{policy}
-use Rattle.vt_spec.specs.Machine.SameWorlds.{SameWorlds}
+use Rattle.vt_spec.proofs.Common.{Call, Permit, SameWorlds, TaskName, ToMake, ToMountOverlay, ToMountPlain, ToOpenNew, policy}
 use Rattle.vt_laws_rules.specs.Numbers.{IsSuppliedFrom, KeepsTo}
 use Rattle.vt_laws_rules.proofs.numbers.Supports.{calls_keep_to_numbers}
 use Rattle.vt_laws_worlds.proofs.one_text.same.SameNumbers.{any_same_worlds_keep_to_numbers}

@@ -1,20 +1,8 @@
 -- A grant that mounts no overlay is given to no call that does.
 use Rattle.std.proofs.Common.{◌≡◌, false, nat_eq, refl, subst, true, ℕ, Bool, List, [], ◌∷◌, Result, Ok, Err, Option, None, Some}
+use Rattle.vt_spec.proofs.Common.{Fresh, Judgement, LayerLocations, Location, Looks, MountFlags, MountOverlay, OverlayWords, Permit, Rules, Task, ToMountOverlay, World, admin_rules, and_then, destination_walk, judge, judge_in, layer_rules, layers_walked, looks_of, mount_overlay_permit, new_mount_rules, overfills, overlay_at, overlay_permit_by, unless, walk_end}
 use Rattle.vt_spec.specs.declared.errors.Deny.{Deny}
-use Rattle.vt_spec.specs.Errors.{Rules, and_then, unless}
 use Rattle.vt_spec.specs.Language.Calls as spec
-use Rattle.vt_spec.specs.Language.Calls.{MountFlags, OverlayWords}
-use Rattle.vt_spec.specs.Language.Calls.Call.{MountOverlay}
-use Rattle.vt_spec.specs.Lists.{Fresh}
-use Rattle.vt_spec.specs.Machine.Judge.{Judgement, judge, judge_in, mount_overlay_permit, overlay_permit_by}
-use Rattle.vt_spec.specs.Machine.Apply.{overfills}
-use Rattle.vt_spec.specs.Machine.Looks.{Looks, looks_of}
-use Rattle.vt_spec.specs.Machine.Mounts.{Location}
-use Rattle.vt_spec.specs.Machine.Permits.{Permit}
-use Rattle.vt_spec.specs.Machine.Permits.Permit.{ToMountOverlay}
-use Rattle.vt_spec.specs.Machine.Rules.Mounting.{LayerLocations, admin_rules, destination_walk, layer_rules, layers_walked, new_mount_rules, overlay_at}
-use Rattle.vt_spec.specs.Machine.Walking.{walk_end}
-use Rattle.vt_spec.specs.Machine.World.{Task, World}
 use Rattle.vt_laws_trees.specs.Trees.Calls.{mounts_overlay}
 use Rattle.vt_permits.specs.GrantValue.{permit_of}
 use Rattle.vt_permits.specs.declared.grant.Attachment.TheVariants as attachment

@@ -1,12 +1,6 @@
 -- What the mount of an overlay is handed serves, and may be given: counts, and even numbers for its inodes.
 use Rattle.std.proofs.Common.{◌≡◌, ap, ℕ, ◌==◌, ◌%◌, ◌≤◌, Bool, true, false, cond, not, List, [], ◌∷◌, length, arith, eqb-true, ne_eqb}
-use Rattle.std.specs.List.{list_all}
-use Rattle.std.proofs.lemmas.Bool.{and_parts}
-use Rattle.vt_spec.specs.Language.Calls.{MountFlags}
-use Rattle.vt_spec.specs.Machine.Mounts.{Location}
-use Rattle.vt_spec.specs.Machine.NewMounts.{inode_count}
-use Rattle.vt_spec.specs.Machine.Permits.Permit.{ToMountOverlay}
-use Rattle.vt_spec.specs.Machine.World.{Overlay}
+use Rattle.vt_spec.proofs.Common.{Location, MountFlags, Overlay, ToMountOverlay, and_parts, inode_count, list_all}
 use Rattle.vt_laws_worlds.specs.Given.NumbersHanded.{Placed, handed_at}
 use Rattle.vt_world.specs.OverlaysMade.Made.{IsNew, placed_inodes}
 use Rattle.vt_world.proofs.overlays_made.Serves.{births_apart, supplies_for_overlays_serve}

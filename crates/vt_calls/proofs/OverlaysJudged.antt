@@ -1,20 +1,7 @@
 -- A judgement goes neither by the numbers handed in nor, as to room for mounts, by the task: the mount of an overlay's
 -- too.
 use Rattle.std.proofs.Common.{◌≡◌, refl, sym, ◌∙◌, ℕ, nat_eq, Bool, List, Option, None, Some, Ok}
-use Rattle.vt_spec.specs.Errors.{and_then, unless}
-use Rattle.vt_spec.specs.Language.Calls.{Call, MountFlags, OverlayWords}
-use Rattle.vt_spec.specs.Language.Calls.Call.{MountOverlay}
-use Rattle.vt_spec.specs.Lists.{Fresh}
-use Rattle.vt_spec.specs.Machine.Apply.{overfills}
-use Rattle.vt_spec.specs.Machine.Invariants.{IsWorld}
-use Rattle.vt_spec.specs.Machine.Judge.{judge, judge_in, mount_overlay_permit}
-use Rattle.vt_spec.specs.Machine.Looks.{Looks, looks_of}
-use Rattle.vt_spec.specs.Machine.Mounts.{Location}
-use Rattle.vt_spec.specs.Machine.Permits.{Permit}
-use Rattle.vt_spec.specs.Machine.Permits.Permit.{ToMountOverlay}
-use Rattle.vt_spec.specs.Machine.Rules.Mounting.{admin_rules, destination_walk, layer_rules, layers_walked, new_mount_rules, overlay_at}
-use Rattle.vt_spec.specs.Machine.Walking.{walk_end}
-use Rattle.vt_spec.specs.Machine.World.{Overlay, Task, World}
+use Rattle.vt_spec.proofs.Common.{Call, Fresh, IsWorld, Location, Looks, MountFlags, MountOverlay, Overlay, OverlayWords, Permit, Task, ToMountOverlay, World, admin_rules, and_then, destination_walk, judge, judge_in, layer_rules, layers_walked, looks_of, mount_overlay_permit, new_mount_rules, overfills, overlay_at, unless, walk_end}
 use Rattle.vt_laws_later_calls.proofs.limits.room.Counted.{overlays_ask_for_room}
 use Rattle.vt_laws_worlds.proofs.permits.taken.TakenJudged.{judgements_do_not_see_supplies}
 use Rattle.vt_laws_trees.specs.Runs.Handed.{counts_from}

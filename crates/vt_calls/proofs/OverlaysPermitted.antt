@@ -1,12 +1,7 @@
 -- A grant to mount an overlay: its permit, whose numbers serve, and the world that it leaves.
-use Rattle.std.proofs.Common.{◌≡◌, ap, refl, sym, subst, ◌∙◌, ℕ, Some, Result, Ok, Err}
-use Rattle.std.specs.Prelude.{OnErr, OnOk, ⊤}
-use Rattle.std.specs.declared.alloc.AllocError.{AllocError}
-use Rattle.std.proofs.lemmas.Option.{same_Some}
+use Rattle.std.proofs.Common.{◌≡◌, ap, refl, sym, subst, ◌∙◌, ℕ, Some, Result, Ok, Err, OnErr, OnOk}
+use Rattle.vt_spec.proofs.Common.{AllocError, SameWorlds, Task, TaskName, same_Some, task_called, ⊤}
 use Rattle.vt_spec.specs.declared.errors.Deny.{Deny}
-use Rattle.vt_spec.specs.Language.Calls.{TaskName}
-use Rattle.vt_spec.specs.Machine.SameWorlds.{SameWorlds}
-use Rattle.vt_spec.specs.Machine.World.{Task, task_called}
 use Rattle.vt_cred.specs.MountFlags.{flags_of}
 use Rattle.vt_world.specs.OverlaysMade.Made.{IsNew}
 use Rattle.vt_laws_trees.specs.Runs.Handed.{counts_from}

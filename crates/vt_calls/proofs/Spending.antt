@@ -1,7 +1,7 @@
 -- What a permit that is spent grants is granted in the world of its number, and what applies it ends the call.
 use Rattle.std.proofs.Common.{◌≡◌, sym, subst, ◌∙◌, ℕ, Result}
+use Rattle.vt_spec.proofs.Common.{Call, TaskName}
 use Rattle.vt_spec.specs.declared.errors.Deny.{Deny}
-use Rattle.vt_spec.specs.Language.Calls.{Call, TaskName}
 use Rattle.vt_permits.specs.declared.grant.Grant.{Grant}
 use Rattle.vt_request.specs.declared.answer.Answer.{Answer}
 use Rattle.vt_world.specs.WorldValue.{WorldValue}

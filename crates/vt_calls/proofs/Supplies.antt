@@ -1,12 +1,6 @@
 -- The numbers that a permit is handed: they serve the world, so the permit is given with them.
 use Rattle.std.proofs.Common.{◌≡◌, subst, ◌∙◌, ℕ, false, nat_eq, Some, Ok}
-use Rattle.std.specs.Prelude.{⊤}
-use Rattle.vt_spec.specs.Language.Calls.{Call, TaskName}
-use Rattle.vt_spec.specs.Machine.Judge.{judge_in}
-use Rattle.vt_spec.specs.Machine.Permits.{Permit}
-use Rattle.vt_spec.specs.Machine.Permits.Permit.{ToMake, ToMountOverlay, ToMountPlain, ToOpenNew}
-use Rattle.vt_spec.specs.Machine.Run.{Serves}
-use Rattle.vt_spec.specs.Machine.World.{task_called}
+use Rattle.vt_spec.proofs.Common.{Call, Permit, Serves, TaskName, ToMake, ToMountOverlay, ToMountPlain, ToOpenNew, judge_in, task_called, ⊤}
 use Rattle.vt_laws_rules.specs.Numbers.{Allotment, IsSuppliedFrom}
 use Rattle.vt_laws_rules.proofs.numbers.Texts.{room_serves}
 use Rattle.vt_location.specs.Numbers.{inode_number}

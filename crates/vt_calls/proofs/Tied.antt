@@ -1,10 +1,7 @@
 -- What the world of the code judges is what the definitions judge: whether a namespace gets too many mounts does not go
 -- by the task.
 use Rattle.std.proofs.Common.{◌≡◌, refl, ℕ, false, nat_eq}
-use Rattle.vt_spec.specs.Language.Calls.{Call}
-use Rattle.vt_spec.specs.Language.Calls.Call.{MountOverlay}
-use Rattle.vt_spec.specs.Machine.Judge.{bind_permit, judge, judge_in, mount_plain_permit, move_permit}
-use Rattle.vt_spec.specs.Machine.World.{Task}
+use Rattle.vt_spec.proofs.Common.{Call, MountOverlay, Task, bind_permit, judge, judge_in, mount_plain_permit, move_permit}
 use Rattle.vt_laws_trees.specs.Runs.Handed.{counts_from}
 use Rattle.vt_laws_trees.specs.Trees.Calls.{mounts_overlay}
 use Rattle.vt_mounting.specs.Detach.Looking.{looks_of_value, overfills_of}

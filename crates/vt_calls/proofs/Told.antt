@@ -1,11 +1,7 @@
 -- What a call is answered of a descriptor or a child that was made.
 use Rattle.std.proofs.Common.{◌≡◌, ap, ◌∙◌, ℕ, List, Option, Some, option_map, Result, Ok}
+use Rattle.vt_spec.proofs.Common.{Answer, Child, Opened, Task, child_name, free_number}
 use Rattle.vt_spec.specs.declared.errors.Deny.{Deny}
-use Rattle.vt_spec.specs.Language.Answers.{Answer}
-use Rattle.vt_spec.specs.Language.Answers.Answer.{Child, Opened}
-use Rattle.vt_spec.specs.Machine.Descriptors.{free_number}
-use Rattle.vt_spec.specs.Machine.Tasks.{child_name}
-use Rattle.vt_spec.specs.Machine.World.{Task}
 
 abbrev opened_as : ℕ → Result Answer Deny
 opened_as number = Ok (Opened number)

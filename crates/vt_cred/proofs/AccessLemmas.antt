@@ -1,13 +1,12 @@
 -- Each test of the rules of access against its words.
 use Rattle.std.proofs.Common.{◌≡◌, ℕ, ◌==◌, Bool, true, false, not, ◌&&◌, ◌||◌, ◌⊎◌, if◌then◌else◌, refl, inl, inr, ⊎_elim, Decides}
-use Rattle.std.specs.List.{list_any}
-use Rattle.std.proofs.lemmas.Bool.{false≢true}
-use Rattle.std.proofs.lemmas.Bool.Decides.{Decides-eqb, Decides-and, Decides-or, Decides-not, Decides-at, Decides-like, Decides-by_or}
+use Rattle.vt_spec.proofs.Common.{Credentials, Decides-at, allows, execute_right, false≢true, has_all, is_directory, list_any, owns}
+use Rattle.std.proofs.lemmas.Bool.Decides.{Decides-eqb, Decides-and, Decides-or, Decides-not, Decides-like, Decides-by_or}
 use Rattle.std.proofs.lemmas.List.Elements.{Decides-contains}
 use Rattle.vt_spec.specs.declared.attributes.Kind.{Kind}
 use Rattle.vt_spec.specs.declared.attributes.Kind.TheVariants.{Dir, File, Symlink, White}
 use Rattle.vt_spec.specs.declared.attributes.Attr.{Attr}
-use Rattle.vt_spec.specs.Rights.{Credentials, has_all, execute_right, cap_dac_override, cap_dac_read_search, cap_fowner, owner_bits, group_bits, other_bits, is_sticky, is_member, class_bits, is_directory, has_execute_bit, override_grants, read_search_grants, allows, owns, may_delete_sticky}
+use Rattle.vt_spec.specs.Rights.{cap_dac_override, cap_dac_read_search, cap_fowner, owner_bits, group_bits, other_bits, is_sticky, is_member, class_bits, has_execute_bit, override_grants, read_search_grants, may_delete_sticky}
 use Rattle.vt_cred.specs.Access.{Includes, IsInGroup, ClassGrants, HasExecuteBit, OverrideGrants, ReadSearchGrants, Allows, Owns, MayDeleteSticky}
 use Rattle.vt_cred.proofs.BitLemmas.{Decides-has_all, Decides-IsBitSet}
 

@@ -1,12 +1,11 @@
 -- Sets of bits: what `has_all` and a mask say of each bit.
-use Rattle.std.proofs.Common.{◌≡◌, ◌==◌, ℕ, ◌+◌, ◌-◌, ◌*◌, ◌^◌, ◌<◌, ◌≤◌, ◌⊎◌, ◌↔◌, sym, ◌∙◌, ap, inl, inr, arith, Decides}
-use Rattle.std.specs.Prelude.{bit_and, IsBitSet}
+use Rattle.std.proofs.Common.{◌≡◌, ◌==◌, ℕ, ◌+◌, ◌-◌, ◌*◌, ◌^◌, ◌<◌, ◌≤◌, ◌⊎◌, ◌↔◌, sym, ◌∙◌, ap, inl, inr, arith, Decides, bit_and, IsBitSet, pow_pos}
+use Rattle.vt_spec.proofs.Common.{cases_lt, has_all}
 use Rattle.std.specs.Int.{bit_at}
-use Rattle.std.proofs.lemmas.Bool.{cases_lt}
 use Rattle.std.proofs.lemmas.Bool.Decides.{Decides-eqb}
-use Rattle.std.proofs.lemmas.Nat.{and_assoc, and-not, and_comm, and_mask, bit_set_by_shift, pow_below, pow_pos}
+use Rattle.std.proofs.lemmas.Nat.{and_assoc, and-not, and_comm, and_mask, bit_set_by_shift, pow_below}
 use Rattle.std.proofs.lemmas.Nat.Bits.{bit_at-lt, bit_at_above, bit_at_and, shr_and_one, same_from_bits, and_pow}
-use Rattle.vt_spec.specs.Rights.{has_all, masked}
+use Rattle.vt_spec.specs.Rights.{masked}
 use Rattle.vt_cred.specs.Access.{Includes, IsWithout}
 
 one-from_IsBitSet : (n place : ℕ) → IsBitSet n place → bit_at n place ≡ 1

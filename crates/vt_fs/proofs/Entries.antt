@@ -1,17 +1,13 @@
 -- The filesystems as the map keeps them, and as contracts see them.
-use Rattle.std.proofs.Common.{◌≡◌, refl, sym, ap, ◌∙◌, ℕ, suc, Bool, true, false, T, cond, ◌||◌, ◌&&◌, nat_eq, nat_lt, eq-eqb, List, [], ◌∷◌, ◌++◌, map, filter, not, slice_get, Option, Some, None, option_map, unwrap_or, is_some, length}
-use Rattle.std.specs.Prelude.{IsSome}
-use Rattle.std.specs.List.{AllByRecursion, IsDistinct, list_all, list_any}
-use Rattle.std.specs.Map.{keys_of, lookup}
-use Rattle.std.proofs.lemmas.Bool.{eqb-true}
+use Rattle.std.proofs.Common.{◌≡◌, refl, sym, ap, ◌∙◌, ℕ, suc, Bool, true, false, T, cond, ◌||◌, ◌&&◌, nat_eq, nat_lt, eq-eqb, List, [], ◌∷◌, ◌++◌, map, filter, not, slice_get, Option, Some, None, option_map, unwrap_or, is_some, length, IsSome, eqb-true}
+use Rattle.vt_spec.proofs.Common.{AllByRecursion, T_and_left, T_and_right, any_pair, keys_of, list_all, list_any, lookup}
+use Rattle.std.specs.List.{IsDistinct}
 use Rattle.indexmap.specs.IndexMap.{IndexMap, WritesThrough, get_by}
-use Rattle.vt_spec.specs.Lists.{any_pair}
 use Rattle.vt_location.specs.declared.numbers.FilesystemId.{FilesystemId}
 use Rattle.vt_location.specs.InOrder.{in_order_by}
 use Rattle.vt_fs.specs.declared.filesystems.Filesystem.{Filesystem as Held}
 use Rattle.vt_fs.specs.FilesystemsValue.{FilesystemEntry, Filesystems, entries_in, entry_at, entry_of, held, held_entry, no_entry, with_changed, without}
 use Rattle.vt_location.proofs.OrderLemmas.{IsChanged, apart-below, change_kept, changed-by, in_order-changed, in_order-last, in_order-removed, is_above, length-in_order, looked-in_order, rises, rises-in_order}
-use Rattle.vt_spec.proofs.Truths.{T_and_left, T_and_right}
 pub use Rattle.vt_spec.proofs.Truths.{or_false_left as or_first}
 pub use Rattle.vt_spec.proofs.Truths.{or_false_right as or_second}
 

@@ -1,10 +1,8 @@
 -- What the definitions see of a new filesystem.
-use Rattle.std.proofs.Common.{◌≡◌, refl, sym, ap, ◌∙◌, true≢false, ℕ, nat_eq, eq-eqb, eqb-true, Bool, true, false, ◌||◌, List, [], ◌∷◌, length, Some, None, is_some}
-use Rattle.std.specs.Prelude.{if◌then◌else◌}
+use Rattle.std.proofs.Common.{◌≡◌, refl, sym, ap, ◌∙◌, true≢false, ℕ, nat_eq, eq-eqb, eqb-true, Bool, true, false, ◌||◌, List, [], ◌∷◌, length, Some, None, is_some, if◌then◌else◌}
+use Rattle.vt_spec.proofs.Common.{Inodes, is_among, new_directory, node_in, one_directory, tree_of}
 use Rattle.vt_spec.specs.declared.attributes.Attr.{Attr}
-use Rattle.vt_spec.specs.Lists.{is_among}
-use Rattle.vt_spec.specs.Inodes.{Inodes, node_in, one_directory, tree_of}
-use Rattle.vt_spec.specs.Tree.{new_directory, tree_of_root}
+use Rattle.vt_spec.specs.Tree.{tree_of_root}
 use Rattle.vt_location.specs.Numbers.{counted, inode_number}
 use Rattle.vt_fs.specs.FilesystemsValue.{FilesystemEntry, filesystem_seen, inodes_seen, new_filesystem, numbers_seen}
 use Rattle.vt_fs.proofs.Numbers.{numbers_counted, numbers_listed}

@@ -1,17 +1,8 @@
 -- A node that the tree of a filesystem does not have.
-use Rattle.std.proofs.Common.{◌≡◌, refl, sym, ap, subst, ◌∙◌, true≢false, ℕ, zero, suc, ◌<◌, ◌≤◌, ◌+◌, ◌*◌, ◌/◌, ◌&&◌, ◌||◌, arith, Bool, true, false, cond, nat_eq, nat_lt, List, [], ◌∷◌, map, reverse, Option, Some, None, option_map, is_some, not, ne_eqb, le-ltb}
-use Rattle.std.specs.Prelude.{IfSome, IsSome, if◌then◌else◌, take_while}
-use Rattle.std.proofs.lemmas.Bool.{eqb-true}
-use Rattle.std.proofs.lemmas.List.Sums.{take_while-cons}
-use Rattle.std.proofs.lemmas.Option.{same_Some}
-use Rattle.vt_spec.specs.Language.Changes.{node_with_attr, node_with_mark}
-use Rattle.vt_spec.specs.Language.Changes.Change.{SetAttr, SetBytes, SetMark}
+use Rattle.std.proofs.Common.{◌≡◌, refl, sym, ap, subst, ◌∙◌, true≢false, ℕ, zero, suc, ◌<◌, ◌≤◌, ◌+◌, ◌*◌, ◌/◌, ◌&&◌, ◌||◌, arith, Bool, true, false, cond, nat_eq, nat_lt, List, [], ◌∷◌, map, reverse, Option, Some, None, option_map, is_some, not, ne_eqb, le-ltb, IfSome, IsSome, if◌then◌else◌, take_while, eqb-true}
+use Rattle.vt_spec.proofs.Common.{FileTree, Inode, Inodes, IsDirectory, Node, SetAttr, SetBytes, SetMark, ancestors, any_pair, before_first, chain, count_after, entries_in, entry_at, entry_named, inode_with_node, is_directory_node, is_directory_under, is_removed, node_in, node_with_attr, node_with_bytes, node_with_mark, own_name, path_down, pinned, renamed_inode, same_Some, take_while-cons, unpinned, used_once_less, used_once_more, when, with_changed}
 use Rattle.vt_spec.specs.declared.attributes.Attr.{Attr}
-use Rattle.vt_spec.specs.FileTree.{FileTree, ancestors, is_directory_under, is_removed, own_name, path_down}
-use Rattle.vt_spec.specs.Inodes.{Inode, Inodes, changed, count_after, inode_with_node, node_in, pinned, renamed_inode, unpinned, used_once_less, used_once_more, with_changed, with_inode}
-use Rattle.vt_spec.specs.Lists.{any_pair, before_first, chain, when}
-use Rattle.vt_spec.specs.Tree.{Node, entries_in, entry_named, is_directory_node, node_with_bytes}
-use Rattle.vt_spec.specs.TreeInvariant.{IsDirectory, entry_at as number_at}
+use Rattle.vt_spec.specs.Inodes.{changed, with_inode}
 use Rattle.vt_location.specs.declared.births.Birth.{Birth}
 use Rattle.vt_location.specs.declared.births.Birth.TheVariants.{Below, Here}
 use Rattle.vt_location.specs.declared.locations.NodeRef.{NodeRef}
@@ -145,7 +136,7 @@ module _ (fs : Filesystems) (f number : ℕ) (o : Option ℕ) (nowhere : o ≡ N
   pub directory_has_slot : IsDirectory (files_at fs f).tree number → IsSome o
   directory_has_slot is = has_slot (λ none. true≢false (sym is ∙ ap is_directory_node none))
 
-  pub parent_has_slot : (name : List ℕ) (object : ℕ) → number_at (files_at fs f).tree number name ≡ Some object
+  pub parent_has_slot : (name : List ℕ) (object : ℕ) → entry_at (files_at fs f).tree number name ≡ Some object
       → IsSome o
   parent_has_slot name object named = has_slot (λ none. true≢false (ap is_some (sym named)
       ∙ ap (λ node. is_some (entry_named name (entries_in node))) none))

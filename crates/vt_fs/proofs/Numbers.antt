@@ -1,15 +1,10 @@
 -- The numbers beside a tree.
-use Rattle.std.proofs.Common.{◌≡◌, refl, sym, ap, ◌∙◌, ℕ, zero, suc, ◌+◌, ◌<◌, nat_eq, eq-eqb, ne_eqb, eqb-true, Bool, true, false, cond, ◌||◌, List, [], ◌∷◌, map, length, slice_index_or, count_by, Option, Some, None, is_some, option_map, unwrap_or, arith}
-use Rattle.std.specs.Prelude.{find}
-use Rattle.std.proofs.lemmas.List.Sums.{sum_by-cons}
-use Rattle.vt_spec.specs.Lists.{any_pair, is_among}
-use Rattle.vt_spec.specs.Machine.World.{Filesystem, no_filesystem}
-use Rattle.vt_spec.specs.Inodes.{Inode, node_in, renamed_inode}
+use Rattle.std.proofs.Common.{◌≡◌, refl, sym, ap, ◌∙◌, ℕ, zero, suc, ◌+◌, ◌<◌, nat_eq, eq-eqb, ne_eqb, eqb-true, Bool, true, false, cond, ◌||◌, List, [], ◌∷◌, map, length, slice_index_or, count_by, Option, Some, None, is_some, option_map, unwrap_or, arith, find}
+use Rattle.vt_spec.proofs.Common.{Filesystem, Inode, any_pair, is_among, no_filesystem, node_in, or_false_left, or_false_right, renamed_inode, same_truth, sum_by-cons}
 use Rattle.vt_location.specs.Numbers.{counted, exchanged, inode_number, is_inode_of}
 use Rattle.vt_fs.specs.FilesystemsValue.{Filesystems, entry_of, filesystem_seen, filesystems_seen, filled_from, no_entry}
 use Rattle.vt_fs.specs.Laws.{FilesystemsAreFound, NumbersAreApart, NumbersAreCounted, NumbersAreListed}
 use Rattle.vt_location.proofs.NumberLemmas.{counted_test, exchanged_back, inode_same, slot_of}
-use Rattle.vt_spec.proofs.Truths.{or_false_left, or_false_right, same_truth}
 
 abbrev Slots : Type 0
 Slots = List (Option (Inode ℕ))

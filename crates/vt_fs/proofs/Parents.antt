@@ -1,17 +1,8 @@
 -- In a tree of a world, a directory has a name in its parent or is its own parent.
-use Rattle.std.proofs.Common.{◌≡◌, ◌≢◌, refl, sym, ap, ◌∙◌, true≢false, ℕ, zero, suc, nat_eq, eq-eqb, eqb-true, ne_eqb, Bool, true, false, not, ◌||◌, List, [], ◌∷◌, length, Option, Some, None, is_some}
-use Rattle.std.specs.Prelude.{if◌then◌else◌}
-use Rattle.vt_spec.specs.FileTree.{has_entry_to, is_directory_under, is_removed, named_parent, targets_in}
-use Rattle.vt_spec.specs.Lists.{chain, is_among, when}
-use Rattle.vt_spec.specs.Inodes.{Inodes, is_directory_under as is_under_in, parent_above, tree_of}
-use Rattle.vt_spec.specs.Tree.{Content, Node, Tree, is_directory_node, parent_in}
-use Rattle.vt_spec.specs.Tree.Content.{Directory, Regular, Symlink, Whiteout}
-use Rattle.vt_spec.specs.TreeInvariant.{HasOwnParents, IsDirectory, IsTree, entry_at, led}
-use Rattle.vt_spec.proofs.Trees.{found}
+use Rattle.std.proofs.Common.{◌≡◌, ◌≢◌, refl, sym, ap, ◌∙◌, true≢false, ℕ, zero, suc, nat_eq, eq-eqb, eqb-true, ne_eqb, Bool, true, false, not, ◌||◌, List, [], ◌∷◌, length, Option, Some, None, is_some, if◌then◌else◌}
+use Rattle.vt_spec.proofs.Common.{Content, Directory, HasOwnParents, Inodes, IsDirectory, IsTree, Node, Regular, Symlink, Tree, Whiteout, chain, entry_at, entry_from, entry_to, found, has_entry_to, is_among, is_directory_node, is_directory_under, is_removed, led, named_parent, or-false, parent_above, parent_in, same_Some, targets_in, tree_of, when}
+use Rattle.vt_spec.specs.Inodes.{is_directory_under as is_under_in}
 use Rattle.vt_fs.specs.Laws.{ParentsAreNamed, TreesNameParents}
-use Rattle.std.proofs.Math.Bool.{or-false}
-use Rattle.std.proofs.lemmas.Option.{same_Some}
-use Rattle.vt_spec.proofs.NodeChanges.{entry_from, entry_to}
 
 nothing : {P : Type 0} (a : ℕ) → None ≡ Some a → P
 nothing a e = absurd cc

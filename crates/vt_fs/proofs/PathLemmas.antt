@@ -1,14 +1,6 @@
 -- The path from one directory down to another, found by going up from the lower one.
-use Rattle.std.proofs.Common.{◌≡◌, refl, sym, ap, subst, ◌∙◌, not, true≢false, ℕ, ◌-◌, zero, suc, nat_eq, arith, Bool, true, false, cond, ◌||◌, List, [], ◌∷◌, ◌++◌, map, reverse, Option, Some, None, is_some, option_map}
-use Rattle.std.specs.Prelude.{find, unwrap_or, if◌then◌else◌}
-use Rattle.std.specs.List.{list_any}
-use Rattle.std.proofs.lemmas.List.{append-nil, append_assoc, map-append, reverse-append}
-use Rattle.std.proofs.lemmas.List.Sums.{take_while-cons}
-use Rattle.vt_spec.specs.FileTree.{has_entry_to, named_parent, own_name}
-use Rattle.vt_spec.specs.Lists.{before_first, chain, is_among, when}
-use Rattle.vt_spec.specs.Inodes.{Inodes, tree_of}
-use Rattle.vt_spec.specs.Tree.{Content, Entries, Node, Tree, entries_in, entries_of, entry_named, is_directory_node, parent_in}
-use Rattle.vt_spec.specs.Tree.Content.{Directory, Regular, Symlink, Whiteout}
+use Rattle.std.proofs.Common.{◌≡◌, refl, sym, ap, subst, ◌∙◌, not, true≢false, ℕ, ◌-◌, zero, suc, nat_eq, arith, Bool, true, false, cond, ◌||◌, List, [], ◌∷◌, ◌++◌, map, reverse, Option, Some, None, is_some, option_map, find, unwrap_or, if◌then◌else◌, append-nil, append_assoc}
+use Rattle.vt_spec.proofs.Common.{Content, Directory, Entries, Inodes, Node, Regular, Symlink, Tree, Whiteout, before_first, chain, entries_in, entries_of, entry_named, has_entry_to, is_among, is_directory_node, list_any, map-append, named_parent, own_name, parent_in, reverse-append, take_while-cons, tree_of, when}
 use Rattle.vt_node.specs.Listed.{HasOneName}
 use Rattle.vt_fs.specs.Trees.Paths.{NamesDirectoriesOnce, files_of}
 

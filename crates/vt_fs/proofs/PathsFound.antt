@@ -1,11 +1,6 @@
 -- Paths from one directory of a filesystem down to another.
 use Rattle.std.proofs.Common.{◌≡◌, refl, sym, ap, ◌∙◌, true≢false, ℕ, nat_eq, ne_eqb, Bool, true, false, cond, ◌||◌, not, List, [], ◌∷◌, map, reverse, Option, Some, None, is_some, option_map, unwrap_or}
-use Rattle.std.proofs.lemmas.List.Sums.{take_while-cons}
-use Rattle.std.proofs.lemmas.Option.{same_Some}
-use Rattle.vt_spec.specs.FileTree.{named_parent, own_name, path_down}
-use Rattle.vt_spec.specs.Lists.{before_first, chain, is_among, when}
-use Rattle.vt_spec.specs.Inodes.{tree_of as tree_of_inodes}
-use Rattle.vt_spec.specs.Tree.{is_directory_node}
+use Rattle.vt_spec.proofs.Common.{before_first, chain, is_among, is_directory_node, named_parent, own_name, path_down, same_Some, take_while-cons, tree_of as tree_of_inodes, when}
 use Rattle.vt_fs.specs.Trees.Paths.{NamesDirectoriesOnce, files_of, path_in}
 use Rattle.vt_fs.specs.Trees.TreeValue.{TreeValue, inodes_of, tree_of}
 use Rattle.vt_location.specs.declared.locations.NodeRef.{NodeRef}

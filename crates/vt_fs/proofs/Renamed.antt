@@ -1,11 +1,8 @@
 -- A tree by the numbers of its inodes: whatever is made of it is what is made of it by slots, renamed.
 use Rattle.std.proofs.Common.{◌≡◌, refl, ℕ, nat_eq, Bool, List, Option, option_map}
+use Rattle.vt_spec.proofs.Common.{Change, Inodes, Node, entry_at, one_directory, parent_in, pinned, renamed_node, tree_of, unpinned, uses_in}
 use Rattle.vt_spec.specs.declared.attributes.Attr.{Attr}
-use Rattle.vt_spec.specs.Language.Changes.{Change}
-use Rattle.vt_spec.specs.Machine.Renaming.{renamed_node}
-use Rattle.vt_spec.specs.Inodes.{Inodes, changed, is_directory_under, one_directory, pinned, renamed_inodes, tree_of, unpinned, uses_in}
-use Rattle.vt_spec.specs.Tree.{Node, parent_in}
-use Rattle.vt_spec.specs.TreeInvariant.{entry_at}
+use Rattle.vt_spec.specs.Inodes.{changed, is_directory_under, renamed_inodes}
 use Rattle.vt_laws_rules.specs.Renaming.{Renaming, renamed_change}
 use Rattle.vt_laws_rules.proofs.numbers.Commuting.{Named, commutes_nat, node_itself, option_itself, inode_itself, change_itself}
 use Rattle.vt_fs.specs.Trees.Paths.{path_in}

@@ -1,22 +1,14 @@
 -- A filesystem that is there, with this tree; and what a change of that tree changes.
-use Rattle.std.proofs.Common.{◌≡◌, refl, sym, ap, subst, ◌∙◌, true≢false, ℕ, Bool, true, false, cond, nat_eq, List, [], ◌∷◌, not, Option, Some, None, option_map, unwrap_or, is_some, MutBor}
-use Rattle.std.specs.Prelude.{IsSome, if◌then◌else◌}
-use Rattle.std.specs.List.{list_any}
-use Rattle.std.specs.Option.{option_copied_mut}
-use Rattle.std.proofs.lemmas.Bool.{eqb-true}
-use Rattle.vt_spec.specs.Language.Changes.{Change}
-use Rattle.vt_spec.specs.Lists.{any_pair, is_empty_list}
-use Rattle.vt_spec.specs.Inodes.{Inode, Inodes, changed, is_directory_under, node_in, pinned, renamed_inode, tree_of as tree_of_inodes, unpinned, uses_in}
-use Rattle.vt_spec.specs.Fits.{MayReplace, StaysOutside}
-use Rattle.vt_spec.specs.Tree.{Entries, Node, entries_in, is_directory_node, parent_in}
-use Rattle.vt_spec.specs.TreeInvariant.{IsDirectory, entry_at as number_at}
+use Rattle.std.proofs.Common.{◌≡◌, refl, sym, ap, subst, ◌∙◌, true≢false, ℕ, Bool, true, false, cond, nat_eq, List, [], ◌∷◌, not, Option, Some, None, option_map, unwrap_or, is_some, MutBor, IsSome, if◌then◌else◌, eqb-true}
+use Rattle.vt_spec.proofs.Common.{Change, Entries, Inode, Inodes, IsDirectory, MayReplace, Node, any_pair, entries_in, entry_at as number_at, is_directory_node, is_empty_list, list_any, node_in, option_copied_mut, or_false_left, or_false_right, parent_in, pinned, renamed_inode, tree_of as tree_of_inodes, unpinned, uses_in}
+use Rattle.vt_spec.specs.Inodes.{changed, is_directory_under}
+use Rattle.vt_spec.specs.Fits.{StaysOutside}
 use Rattle.vt_location.specs.Numbers.{exchanged}
 use Rattle.vt_fs.specs.Trees.Paths.{path_in}
 use Rattle.vt_fs.specs.Trees.TreeValue.{TreeValue, inodes_of, tree_of}
 use Rattle.vt_fs.specs.FilesystemsValue.{ChangesInodes, FilesystemEntry, Filesystems, entry_at, entry_of, files_at, files_seen, inodes_at, inodes_seen, no_entry, node_seen, seen_in, shown, shown_entry, shown_with, with_tree, without}
 use Rattle.vt_location.proofs.NumberLemmas.{exchanged_back}
 use Rattle.vt_fs.proofs.Renamed.{by_numbers, changed_by_numbers, entry_by_numbers, node_by_numbers, own_by_numbers, path_by_numbers, pinned_by_numbers, plain_by_numbers, root_by_numbers, under_by_numbers, unpinned_by_numbers, uses_by_numbers}
-use Rattle.vt_spec.proofs.Truths.{or_false_left, or_false_right}
 use Rattle.vt_laws_rules.specs.Renaming.{renamed_change}
 
 -- the filesystem of this count is there, with this tree, and no two have one count

@@ -1,10 +1,6 @@
 -- Where an inode is not in a tree, nothing lies under it, and it lies under nothing.
 use Rattle.std.proofs.Common.{◌≡◌, refl, sym, ap, ◌∙◌, true≢false, ℕ, zero, suc, nat_eq, ne_eqb, Bool, true, false, cond, not, ◌||◌, length, Option, Some, None, is_some}
-use Rattle.vt_spec.specs.FileTree.{FileTree, has_entry_to, is_directory_under, is_removed, named_parent, targets_in}
-use Rattle.vt_spec.specs.Lists.{chain, is_among, when}
-use Rattle.vt_spec.specs.Tree.{Node, Tree, parent_in}
-use Rattle.vt_spec.proofs.Lists.{chain_ends, chain_goes_on}
-use Rattle.std.proofs.Math.Bool.{or-false}
+use Rattle.vt_spec.proofs.Common.{FileTree, Node, Tree, chain, chain_ends, chain_goes_on, has_entry_to, is_among, is_directory_under, is_removed, named_parent, or-false, parent_in, targets_in, when}
 
 one_number : (a b : ℕ) → Some a ≡ Some b → a ≡ b
 one_number a b e = cc

@@ -1,17 +1,6 @@
 -- Mounts get types, and new groups masters, one after another.
-use Rattle.std.proofs.Common.{◌≡◌, refl, sym, ap, ◌∙◌, true, false, Bool, List, None, Option, Some, [], cond, is_some, map, option_map, true≢false, ℕ, nat_eq, nat_lt, ◌||◌, ◌∷◌, inl, inr, ne_eqb, length, take, get_or, ◌<◌, ◌+◌}
-use Rattle.std.proofs.lemmas.Bool.{and_from, and_parts, eqb-false, eqb-true}
-use Rattle.std.proofs.lemmas.List.{map-append, take_more}
-use Rattle.std.specs.Prelude.{if◌then◌else◌}
-use Rattle.std.specs.List.{list_all}
-use Rattle.std.specs.Map.{lookup, remove_entry}
-use Rattle.vt_spec.specs.Lists.{folded, is_among}
-use Rattle.vt_spec.specs.Machine.Attach.{masters_with}
-use Rattle.vt_spec.specs.Machine.Mounts.{Propagation}
-use Rattle.vt_spec.specs.Machine.Receives.{has_members}
-use Rattle.vt_spec.specs.Machine.Settled.{without_dead_groups}
-use Rattle.vt_spec.specs.Machine.World.{World}
-use Rattle.vt_spec.proofs.Lists.{Among, among_from_all, folded-snoc}
+use Rattle.std.proofs.Common.{◌≡◌, refl, sym, ap, ◌∙◌, true, false, Bool, List, None, Option, Some, [], cond, is_some, map, option_map, true≢false, ℕ, nat_eq, nat_lt, ◌||◌, ◌∷◌, inl, inr, ne_eqb, length, take, get_or, ◌<◌, ◌+◌, eqb-true, if◌then◌else◌}
+use Rattle.vt_spec.proofs.Common.{Among, Propagation, World, among_from_all, and_from, and_parts, eqb-false, folded, folded-snoc, has_members, is_among, list_all, lookup, map-append, masters_with, remove_entry, take_more, without_dead_groups}
 use Rattle.vt_location.specs.declared.numbers.GroupId.{GroupId}
 use Rattle.vt_group.specs.Grouping.{Grouping, Has, HasGroup, are_rising, master_in}
 use Rattle.vt_location.specs.Numbers.{group_number}

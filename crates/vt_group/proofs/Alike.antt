@@ -1,18 +1,8 @@
 -- Worlds whose mounts have the same numbers and shown types, and whose living groups have the same masters, have the
 -- same
 -- groups once they are regrouped.
-use Rattle.std.proofs.Common.{◌≡◌, refl, sym, ap, ◌∙◌, true, false, Bool, List, None, Option, Some, [], cond, find, length, map, option_map, ℕ, nat_eq, ◌||◌, ◌∷◌, inl, inr, suc}
-use Rattle.std.specs.Prelude.{filter_map}
-use Rattle.std.specs.List.{cons_option, list_any}
-use Rattle.vt_spec.specs.Lists.{chain, holds_of}
-use Rattle.vt_spec.specs.Machine.Mounts.{Mount, Propagation, group_of, source_of}
-use Rattle.vt_spec.specs.Machine.Mounts.Propagation.{Private, Shared, Slave, Unbindable}
-use Rattle.vt_spec.specs.Machine.Receives.{has_members, heir, inherited, inheriting, is_member_of, regrouped, slave_of_heir}
-use Rattle.vt_spec.specs.Machine.Settled.{without_dead_groups}
-use Rattle.vt_spec.specs.Machine.World.{World}
-use Rattle.vt_spec.specs.Machine.Invariants.{Lives}
-use Rattle.vt_spec.specs.Machine.Invariants.Lives.{has_master, has_no_master}
-use Rattle.vt_spec.proofs.Lists.{Among, any_among}
+use Rattle.std.proofs.Common.{◌≡◌, refl, sym, ap, ◌∙◌, true, false, Bool, List, None, Option, Some, [], cond, find, length, map, option_map, ℕ, nat_eq, ◌||◌, ◌∷◌, inl, inr, suc, filter_map}
+use Rattle.vt_spec.proofs.Common.{Among, Lives, Mount, Private, Propagation, Shared, Slave, Unbindable, World, any_among, chain, cons_option, group_of, has_master, has_members, has_no_master, heir, holds_of, inherited, inheriting, is_member_of, list_any, regrouped, slave_of_heir, source_of, without_dead_groups}
 use Rattle.vt_group.specs.Grouping.{Grouping, Has, are_rising, peer_of, peers_of}
 use Rattle.vt_group.specs.Laws.{shown}
 use Rattle.vt_group.proofs.Heirs.{master_inherited}

@@ -1,15 +1,7 @@
 -- What the answers of several functions share.
-use Rattle.std.proofs.Common.{◌≡◌, ℕ, Bool, false, suc, refl, sym, ap, ◌∙◌, map, nat_eq, Option, None, Some, option_map, List, [], ◌∷◌, ◌++◌, ◌||◌, true≢false, ne_eqb}
-use Rattle.std.proofs.lemmas.Bool.{eqb-false}
-use Rattle.std.specs.Prelude.{Err, Ok, OnOk, Result, is_err, unwrap_or}
+use Rattle.std.proofs.Common.{◌≡◌, ℕ, Bool, false, suc, refl, sym, ap, ◌∙◌, map, nat_eq, Option, None, Some, option_map, List, [], ◌∷◌, ◌++◌, ◌||◌, true≢false, ne_eqb, Err, Ok, OnOk, Result, is_err, unwrap_or, nat_cmp}
+use Rattle.vt_spec.proofs.Common.{Private, chain, chain_goes_on, eqb-false, group_of, holds_of, is_among, list_any, lookup, values_of}
 use Rattle.std.specs.BTreeMap.{is_at}
-use Rattle.std.specs.List.{list_any}
-use Rattle.std.specs.Map.{lookup, values_of}
-use Rattle.std.specs.Ordering.{nat_cmp}
-use Rattle.vt_spec.specs.Lists.{chain, holds_of, is_among}
-use Rattle.vt_spec.specs.Machine.Mounts.{group_of}
-use Rattle.vt_spec.specs.Machine.Mounts.Propagation.{Private}
-use Rattle.vt_spec.proofs.Lists.{chain_goes_on}
 use Rattle.vt_location.specs.declared.mounts.Propagation.{Propagation}
 use Rattle.vt_group.specs.Grouping.{Grouping, propagation_in}
 use Rattle.vt_location.specs.Numbers.{counted}

@@ -1,22 +1,6 @@
 -- A mount gets another type: which groups still have members, and what is left to regroup.
-use Rattle.std.proofs.Common.{◌≡◌, ℕ, Bool, true, false, cond, ◌||◌, List, [], ◌∷◌, map, nat_eq, nat_lt, Option, Some, None, is_some, refl, sym, ap, subst, ◌∙◌, arith, true≢false, ne_eqb, eq-eqb, lt-ltb, inl, inr, ⊎_elim, ◌⊎◌}
-use Rattle.std.proofs.lemmas.Bool.{eqb-true, eqb-false, ltb-true, ltb-false, and_parts, and_from}
-use Rattle.std.proofs.lemmas.Option.{same_Some}
-use Rattle.std.specs.Prelude.{IfSome, Contains, if◌then◌else◌, unwrap_or}
-use Rattle.std.specs.BTreeMap.{insert_entry}
-use Rattle.std.specs.List.{list_all}
-use Rattle.std.specs.Map.{lookup, remove_entry}
-use Rattle.std.specs.Ordering.{match_ordering, nat_cmp}
-use Rattle.std.specs.declared.cmp.Ordering.TheVariants.{Less, Equal, Greater}
-use Rattle.vt_spec.specs.Lists.{holds_of}
-use Rattle.vt_spec.specs.Machine.Mounts.{Mount, Propagation, group_of, source_of}
-use Rattle.vt_spec.specs.Machine.Mounts.Propagation.{Private, Shared, Slave, Unbindable}
-use Rattle.vt_spec.specs.Machine.Receives.{has_members, is_member_of, regrouped}
-use Rattle.vt_spec.specs.Machine.Types.{with_master}
-use Rattle.vt_spec.specs.Machine.World.{World}
-use Rattle.vt_spec.specs.Machine.Invariants.{HasLivingGroups, Lives}
-use Rattle.vt_spec.specs.Machine.Invariants.Lives.{has_master, has_no_master}
-use Rattle.vt_spec.proofs.Lists.{Among, among-from_map, among-map, among_from_all, among_from_contains, any_among, any_from_among, is_among_numbers}
+use Rattle.std.proofs.Common.{◌≡◌, ℕ, Bool, true, false, cond, ◌||◌, List, [], ◌∷◌, map, nat_eq, nat_lt, Option, Some, None, is_some, refl, sym, ap, subst, ◌∙◌, arith, true≢false, ne_eqb, eq-eqb, lt-ltb, inl, inr, ⊎_elim, ◌⊎◌, eqb-true, ltb-true, ltb-false, IfSome, Contains, if◌then◌else◌, unwrap_or, nat_cmp, Less, Equal, Greater}
+use Rattle.vt_spec.proofs.Common.{Among, HasLivingGroups, Lives, Mount, Private, Propagation, Shared, Slave, Unbindable, World, among-from_map, among-map, among_from_all, among_from_contains, and_from, and_parts, any_among, any_from_among, eqb-false, group_of, has_master, has_members, has_no_master, holds_of, insert_entry, is_among_numbers, is_member_of, list_all, lookup, match_ordering, regrouped, remove_entry, same_Some, source_of, with_master}
 use Rattle.vt_group.specs.Grouping.{Grouping, Has, HasGroup, HasMount, LacksGroup, are_rising, below, peers_of, propagation_in, retyped_if, with_propagation}
 use Rattle.vt_group.specs.Steps.{ended_if_lost, retyped}
 use Rattle.vt_laws_mounts.proofs.GroupsUp.{live_members, master_has_members}

@@ -1,20 +1,10 @@
 -- Mounts and groups that come are listed first.
-use Rattle.std.proofs.Common.{◌≡◌, ℕ, Bool, true, false, cond, ◌+◌, ◌<◌, List, [], ◌∷◌, ◌++◌, get_or, length, map, nat_eq, Option, None, Some, is_some, option_map, refl, sym, ap, subst, take, ◌∙◌, true≢false}
-use Rattle.std.proofs.lemmas.Bool.{eqb-true}
-use Rattle.std.proofs.lemmas.List.{take_more}
-use Rattle.std.proofs.lemmas.Option.{same_Some}
-use Rattle.std.specs.Map.{lookup}
-use Rattle.std.specs.Prelude.{unwrap_or}
-use Rattle.std.specs.Ordering.{nat_cmp}
-use Rattle.std.specs.BTreeMap.{insert_entry, is_at}
-use Rattle.vt_spec.specs.Language.Calls.TypeWord.{ToShared}
-use Rattle.vt_spec.specs.Machine.Types.{master_after, type_after}
-use Rattle.vt_spec.specs.Lists.{folded}
-use Rattle.vt_spec.specs.Machine.Mounts.{Propagation as Type_of_mount, source_of}
+use Rattle.std.proofs.Common.{◌≡◌, ℕ, Bool, true, false, cond, ◌+◌, ◌<◌, List, [], ◌∷◌, ◌++◌, get_or, length, map, nat_eq, Option, None, Some, is_some, option_map, refl, sym, ap, subst, take, ◌∙◌, true≢false, eqb-true, unwrap_or, nat_cmp}
+use Rattle.vt_spec.proofs.Common.{Private as MeansPrivate, Propagation as Type_of_mount, Shared as MeansShared, Slave as MeansSlave, ToShared, folded, insert_entry, lookup, master_after, same_Some, source_of, take_more, type_after}
+use Rattle.std.specs.BTreeMap.{is_at}
 use Rattle.vt_location.specs.declared.mounts.Mount.{Mount}
 use Rattle.vt_location.specs.declared.mounts.Propagation.{Propagation}
 use Rattle.vt_location.specs.declared.mounts.Propagation.TheVariants.{Private, Shared, Slave, Unbindable}
-use Rattle.vt_spec.specs.Machine.Mounts.Propagation.{Private as MeansPrivate, Shared as MeansShared, Slave as MeansSlave}
 use Rattle.vt_location.specs.declared.numbers.GroupId.{GroupId}
 use Rattle.vt_location.specs.declared.numbers.MountId.{MountId}
 use Rattle.vt_location.specs.MountValue.{propagation_of}

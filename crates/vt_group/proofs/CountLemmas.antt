@@ -1,15 +1,9 @@
 -- Entries by counts, as contracts see them by numbers.
-use Rattle.std.proofs.Common.{◌≡◌, ℕ, Bool, true, false, cond, List, [], ◌∷◌, map, nat_eq, nat_lt, Option, Some, None, option_map, refl, sym, ap, subst, ◌∙◌, arith, ne_eqb}
-use Rattle.std.proofs.lemmas.Bool.{ltb-true}
-use Rattle.std.specs.Prelude.{filter_map}
-use Rattle.std.specs.List.{cons_option}
-use Rattle.std.specs.BTreeMap.{insert_entry, is_at}
-use Rattle.std.specs.Map.{lookup, remove_entry}
+use Rattle.std.proofs.Common.{◌≡◌, ℕ, Bool, true, false, cond, List, [], ◌∷◌, map, nat_eq, nat_lt, Option, Some, None, option_map, refl, sym, ap, subst, ◌∙◌, arith, ne_eqb, ltb-true, filter_map, is_eq, nat_cmp, Ordering, Less, Equal, Greater}
+use Rattle.vt_spec.proofs.Common.{cons_option, insert_entry, lookup, match_ordering, remove_entry}
+use Rattle.std.specs.BTreeMap.{is_at}
 use Rattle.std.specs.Map.Calls.{RetainsPairs}
-use Rattle.std.specs.Ordering.{is_eq, match_ordering, nat_cmp}
 use Rattle.vt_location.specs.Numbers.{counted}
-use Rattle.std.specs.declared.cmp.Ordering.{Ordering}
-use Rattle.std.specs.declared.cmp.Ordering.TheVariants.{Less, Equal, Greater}
 use Rattle.vt_location.proofs.NumberLemmas.{counted_test, counted_less}
 
 -- numbers of counts are ordered as the counts are

@@ -1,16 +1,8 @@
 -- How many members a group has, once one mount has another type.
-use Rattle.std.proofs.Common.{◌≡◌, ◌+◌, ◌≤◌, ◌<◌, ℕ, Bool, true, false, cond, List, [], ◌∷◌, ◌||◌, Option, None, Some, filter_map, is_some, le-ltb, length, lt-ltb, ltb, ltb-false, ltb-true, true≢false, refl, sym, ap, ◌∙◌, arith}
-use Rattle.std.proofs.lemmas.Cmp.{nat_cmp_total}
-use Rattle.std.proofs.lemmas.Option.{same_Some}
-use Rattle.std.specs.BTreeMap.{insert_entry, is_at}
-use Rattle.std.specs.List.{AllByRecursion, list_any}
+use Rattle.std.proofs.Common.{◌≡◌, ◌+◌, ◌≤◌, ◌<◌, ℕ, Bool, true, false, cond, List, [], ◌∷◌, ◌||◌, Option, None, Some, filter_map, is_some, le-ltb, length, lt-ltb, ltb, ltb-false, ltb-true, true≢false, refl, sym, ap, ◌∙◌, arith, is_eq, nat_cmp, Ordering, Equal, Greater, Less, IfSome, if◌then◌else◌, unwrap_or}
+use Rattle.vt_spec.proofs.Common.{AllByRecursion, holds_of, insert_entry, keys_of, list_any, lookup, match_ordering, nat_cmp_total, remove_entry, same_Some, then_some}
+use Rattle.std.specs.BTreeMap.{is_at}
 use Rattle.std.specs.List.Sorted.{IsStrictlySortedBy}
-use Rattle.std.specs.Map.{keys_of, lookup, remove_entry}
-use Rattle.std.specs.Ordering.{is_eq, match_ordering, nat_cmp}
-use Rattle.std.specs.declared.cmp.Ordering.{Ordering}
-use Rattle.std.specs.declared.cmp.Ordering.TheVariants.{Equal, Greater, Less}
-use Rattle.std.specs.Prelude.{IfSome, if◌then◌else◌, unwrap_or}
-use Rattle.vt_spec.specs.Lists.{holds_of, then_some}
 use Rattle.vt_location.specs.declared.mounts.Propagation.{Propagation}
 use Rattle.vt_location.specs.declared.mounts.Propagation.TheVariants.{Private, Shared, Slave, Unbindable}
 use Rattle.vt_location.specs.declared.numbers.GroupId.{GroupId}

@@ -1,16 +1,7 @@
 -- Entries in order that a group's end changes or drops, found by their keys.
-use Rattle.std.proofs.Common.{◌≡◌, ℕ, Bool, true, false, cond, List, [], ◌∷◌, map, nat_eq, nat_lt, Option, None, Some, option_map, refl, sym, ap, ◌∙◌}
-use Rattle.std.proofs.lemmas.Bool.{and_from, and_parts, eqb-true}
-use Rattle.std.proofs.lemmas.Map.Keys.{sorted_head, sorted_tail}
-use Rattle.std.specs.Prelude.{filter_map, if◌then◌else◌, unwrap_or}
-use Rattle.std.specs.List.{AllByRecursion, cons_option, list_all}
+use Rattle.std.proofs.Common.{◌≡◌, ℕ, Bool, true, false, cond, List, [], ◌∷◌, map, nat_eq, nat_lt, Option, None, Some, option_map, refl, sym, ap, ◌∙◌, eqb-true, filter_map, if◌then◌else◌, unwrap_or, nat_cmp, Less, Equal, Greater}
+use Rattle.vt_spec.proofs.Common.{AllByRecursion, Private, Propagation, Shared, Slave, Unbindable, and_from, and_parts, cons_option, keys_of, list_all, lookup, sorted_head, sorted_tail, then_some}
 use Rattle.std.specs.List.Sorted.{IsStrictlySortedBy}
-use Rattle.std.specs.Map.{keys_of, lookup}
-use Rattle.std.specs.Ordering.{nat_cmp}
-use Rattle.std.specs.declared.cmp.Ordering.TheVariants.{Less, Equal, Greater}
-use Rattle.vt_spec.specs.Lists.{then_some}
-use Rattle.vt_spec.specs.Machine.Mounts.{Propagation}
-use Rattle.vt_spec.specs.Machine.Mounts.Propagation.{Private, Shared, Slave, Unbindable}
 use Rattle.vt_location.specs.Numbers.{counted}
 use Rattle.vt_group.specs.Grouping.{are_rising}
 use Rattle.vt_group.specs.Leaving.{slave_or_private, type_after_end}

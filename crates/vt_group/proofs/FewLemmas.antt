@@ -1,10 +1,7 @@
 -- What is in a list, once one was put into it or taken out of it.
-use Rattle.std.proofs.Common.{◌≡◌, ◌<◌, ◌+◌, ℕ, suc, Bool, true, false, List, ◌∷◌, ◌++◌, ◌||◌, drop, get_or, length, take, refl, sym, ap, ◌∙◌, arith}
+use Rattle.std.proofs.Common.{◌≡◌, ◌<◌, ◌+◌, ℕ, suc, Bool, true, false, List, ◌∷◌, ◌++◌, ◌||◌, drop, get_or, length, take, refl, sym, ap, ◌∙◌, arith, take-append-drop}
+use Rattle.vt_spec.proofs.Common.{IsEquivalence, list_any, list_any-append}
 use Rattle.std.proofs.Math.Seq.{drop-cons}
-use Rattle.std.proofs.lemmas.List.{take-append-drop}
-use Rattle.std.proofs.lemmas.List.Folds.{list_any-append}
-use Rattle.std.specs.Cmp.{IsEquivalence}
-use Rattle.std.specs.List.{list_any}
 
 -- some pass a test in the parts of a list
 any-parted : {T : Type 0} (test : T → Bool) (i : ℕ) (list : List T)

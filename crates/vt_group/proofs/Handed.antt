@@ -1,21 +1,16 @@
 -- What a group that ends leaves, one by one.
-use Rattle.std.proofs.Common.{◌≡◌, ℕ, Bool, true, false, ◌||◌, ◌∷◌, List, nat_eq, Option, None, Some, refl, sym, ap, ◌∙◌, option_map}
-use Rattle.std.proofs.lemmas.Bool.{eqb-true}
-use Rattle.std.specs.List.{list_any}
+use Rattle.std.proofs.Common.{◌≡◌, ℕ, Bool, true, false, ◌||◌, ◌∷◌, List, nat_eq, Option, None, Some, refl, sym, ap, ◌∙◌, option_map, eqb-true, if◌then◌else◌, unwrap_or}
+use Rattle.vt_spec.proofs.Common.{Private as MeansPrivate, Slave as SlaveOf, holds_of, list_any, nat_eq-swapped, then_some}
 use Rattle.std.specs.Option.{option_eq}
-use Rattle.std.specs.Prelude.{if◌then◌else◌, unwrap_or}
-use Rattle.vt_spec.specs.Lists.{holds_of, then_some}
 use Rattle.vt_location.specs.declared.mounts.Propagation.{Propagation}
 use Rattle.vt_location.specs.declared.mounts.Propagation.TheVariants.{Private, Shared, Slave, Unbindable}
 use Rattle.vt_location.specs.declared.numbers.GroupId.{GroupId}
 use Rattle.vt_group.specs.Handing.{group_handed, kind_handed}
-use Rattle.vt_spec.specs.Machine.Mounts.Propagation.{Private as MeansPrivate, Slave as SlaveOf}
 use Rattle.vt_location.specs.MountValue.{propagation_of}
 use Rattle.vt_location.specs.Numbers.{counted, group_number}
 use Rattle.vt_group.specs.Indexed.{has_source}
 use Rattle.vt_group.specs.Sets.{same_group}
 use Rattle.vt_group.specs.Steps.{handed, handed_type}
-use Rattle.vt_spec.proofs.Truths.{nat_eq-swapped}
 use Rattle.vt_location.proofs.NumberLemmas.{counted_test}
 
 -- what was handed is not handed again

@@ -1,14 +1,7 @@
 -- The heir of a group, one step up the masters at a time.
 use Rattle.std.proofs.Common.{◌≡◌, refl, sym, ap, ◌∙◌, true, false, zero, suc, Bool, None, Option, Some, arith, cond, find, is_some, length, not, true≢false, ℕ, nat_eq}
-use Rattle.std.proofs.lemmas.Bool.{not-false, or_parts}
-use Rattle.std.specs.List.{list_any}
-use Rattle.vt_spec.specs.Lists.{chain, last_or, then_some}
-use Rattle.vt_spec.specs.Machine.Mounts.{Mount, source_of}
-use Rattle.vt_spec.specs.Machine.Receives.{has_members, heir, is_lost_group, is_member_of, lost_a_group, regrouped, regrouped_by}
-use Rattle.vt_spec.specs.Machine.World.{World}
-use Rattle.vt_spec.proofs.Lists.{Among, any_among, chain_ends, chain_goes_on, last_of_chain, none_among}
+use Rattle.vt_spec.proofs.Common.{Among, Mount, World, any_among, chain, chain_ends, chain_goes_on, find-chain_start, has_members, heir, is_lost_group, is_member_of, last_of_chain, last_or, list_any, lost_a_group, none_among, not-false, or_parts, regrouped, regrouped_by, source_of, then_some}
 use Rattle.vt_group.proofs.Receiving.{Ends, chain_same}
-use Rattle.vt_spec.proofs.Found.{find-chain_start}
 use Rattle.vt_laws_mounts.proofs.GroupsKept.{member_shared}
 
 module _ (p : ℕ → Bool) (master : ℕ → Option ℕ) where

@@ -1,9 +1,6 @@
 -- What an index lists, once a part of it changed.
-use Rattle.std.proofs.Common.{◌≡◌, ℕ, Bool, true, false, List, [], ◌∷◌, ◌||◌, filter, nat_eq, Option, Some, is_some, refl, sym, ap, subst, ◌∙◌, true≢false, ne_eqb, eq-eqb, flat_map}
-use Rattle.std.proofs.lemmas.Bool.{eqb-true}
-use Rattle.std.proofs.lemmas.Map.Views.{any-filter_same}
-use Rattle.std.proofs.lemmas.List.Folds.{list_any-append}
-use Rattle.std.specs.List.{list_any}
+use Rattle.std.proofs.Common.{◌≡◌, ℕ, Bool, true, false, List, [], ◌∷◌, ◌||◌, filter, nat_eq, Option, Some, is_some, refl, sym, ap, subst, ◌∙◌, true≢false, ne_eqb, eq-eqb, flat_map, eqb-true}
+use Rattle.vt_spec.proofs.Common.{any-filter_same, list_any, list_any-append, or-true}
 use Rattle.vt_location.specs.declared.mounts.Propagation.{Propagation}
 use Rattle.vt_location.specs.declared.mounts.Propagation.TheVariants.{Private, Shared, Slave, Unbindable}
 use Rattle.vt_location.specs.declared.numbers.GroupId.{GroupId}
@@ -13,8 +10,7 @@ use Rattle.vt_group.specs.declared.sets.Sets.{Sets}
 use Rattle.vt_group.specs.Indexed.{has_source, is_listed, is_relative, source_of_kind}
 use Rattle.vt_group.specs.Names.{KeepsNames, Named, is_under, names_of}
 use Rattle.vt_group.specs.Sets.{has, same_group}
-use Rattle.vt_group.proofs.SetsLemmas.{same_id as same_number}
-use Rattle.std.proofs.Math.Bool.{or-true}
+use Rattle.vt_group.proofs.SetsLemmas.{same_id}
 
 module _ {A : Type 0} (p q : A → Bool) where
   one_more : (x : A) (xs : List A) → (p x ≡ true → q x ≡ true) → (list_any p xs ≡ true → list_any q xs ≡ true)
@@ -83,9 +79,9 @@ any-kept count at number ids left is some there = ap (list_any (λ id. nat_eq nu
 pub relative_of_source : (index : Index) (mount : MountId) (kind : Propagation) (group : GroupId)
     → has_source group kind ≡ true → is_listed index mount kind ≡ true → is_relative index mount group ≡ true
 relative_of_source index mount (Shared own) group source listed =
-    ap (is_relative index mount) (sym (same_number group own source)) ∙ listed
+    ap (is_relative index mount) (sym (same_id group own source)) ∙ listed
 relative_of_source index mount (Slave master) group source listed =
-    ap (is_relative index mount) (sym (same_number group master source)) ∙ listed
+    ap (is_relative index mount) (sym (same_id group master source)) ∙ listed
 relative_of_source index mount Private group source listed = absurd (true≢false (sym source))
 relative_of_source index mount Unbindable group source listed = absurd (true≢false (sym source))
 
@@ -107,9 +103,9 @@ unlisted_still Was Is types mount found is others own other kind at = by (nat_eq
 -- a type with one source does not have another
 pub apart_source : (lost group : GroupId) (kind : Propagation) → has_source lost kind ≡ false
     → has_source group kind ≡ true → same_group lost group ≡ false
-apart_source lost group (Shared own) apart source = ap (same_group lost) (sym (same_number group own source)) ∙ apart
+apart_source lost group (Shared own) apart source = ap (same_group lost) (sym (same_id group own source)) ∙ apart
 apart_source lost group (Slave master) apart source =
-    ap (same_group lost) (sym (same_number group master source)) ∙ apart
+    ap (same_group lost) (sym (same_id group master source)) ∙ apart
 apart_source lost group Private apart source = absurd (true≢false (sym source))
 apart_source lost group Unbindable apart source = absurd (true≢false (sym source))
 
@@ -130,13 +126,13 @@ apart_from_each name at names none among = by (same_group name at) refl
   where
     by : (b : Bool) → same_group name at ≡ b → same_group name at ≡ false
     by true same = absurd (true≢false (sym among
-        ∙ ap (λ (id : GroupId). list_any (λ other. same_group other id) names) (same_number name at same) ∙ none))
+        ∙ ap (λ (id : GroupId). list_any (λ other. same_group other id) names) (same_id name at same) ∙ none))
     by false apart = apart
 
 -- the source of a type is the group that it names
 pub source_told_kind : (group : GroupId) (kind : Propagation) → has_source group kind ≡ true
     → source_of_kind kind ≡ Some group
-source_told_kind group (Shared own) source = ap Some (same_number group own source)
-source_told_kind group (Slave master) source = ap Some (same_number group master source)
+source_told_kind group (Shared own) source = ap Some (same_id group own source)
+source_told_kind group (Slave master) source = ap Some (same_id group master source)
 source_told_kind group Private source = absurd (true≢false (sym source))
 source_told_kind group Unbindable source = absurd (true≢false (sym source))

@@ -1,9 +1,7 @@
 -- What holds of each entry of a map, once one entry was put in or taken out.
-use Rattle.std.proofs.Common.{◌≡◌, ℕ, Bool, true, false, cond, nat_eq, Option, None, Some, refl, sym, ap, subst, ◌∙◌}
-use Rattle.std.proofs.lemmas.Bool.{eqb-true}
-use Rattle.std.proofs.lemmas.Option.{same_Some}
+use Rattle.std.proofs.Common.{◌≡◌, ℕ, Bool, true, false, cond, nat_eq, Option, None, Some, refl, sym, ap, subst, ◌∙◌, eqb-true, nat_cmp}
+use Rattle.vt_spec.proofs.Common.{same_Some}
 use Rattle.std.specs.BTreeMap.{is_at}
-use Rattle.std.specs.Ordering.{nat_cmp}
 use Rattle.vt_group.proofs.CountLemmas.{at_count}
 use Rattle.vt_location.proofs.NumberLemmas.{counted_test}
 

@@ -1,14 +1,7 @@
 -- Mounts that are listed.
-use Rattle.std.proofs.Common.{◌≡◌, ℕ, Bool, true, false, cond, ◌||◌, List, [], ◌∷◌, map, nat_eq, Option, None, Some, is_some, refl, sym, ap, ◌∙◌, true≢false, arith, eq-eqb, option_map}
-use Rattle.std.proofs.lemmas.Bool.{eqb-true}
+use Rattle.std.proofs.Common.{◌≡◌, ℕ, Bool, true, false, cond, ◌||◌, List, [], ◌∷◌, map, nat_eq, Option, None, Some, is_some, refl, sym, ap, ◌∙◌, true≢false, arith, eq-eqb, option_map, eqb-true, nat_cmp, unwrap_or}
+use Rattle.vt_spec.proofs.Common.{Private, Propagation, group_of, holds_of, is_among, list_any, lookup, same_Some, source_of}
 use Rattle.std.specs.BTreeMap.{is_at}
-use Rattle.std.specs.List.{list_any}
-use Rattle.std.specs.Map.{lookup}
-use Rattle.std.specs.Ordering.{nat_cmp}
-use Rattle.std.specs.Prelude.{unwrap_or}
-use Rattle.vt_spec.specs.Lists.{holds_of, is_among}
-use Rattle.vt_spec.specs.Machine.Mounts.{Propagation, group_of, source_of}
-use Rattle.vt_spec.specs.Machine.Mounts.Propagation.{Private}
 use Rattle.vt_location.specs.declared.mounts.Propagation.{Propagation as Kept}
 use Rattle.vt_location.specs.declared.mounts.Propagation.TheVariants.{Private as Unshared, Shared, Slave, Unbindable}
 use Rattle.vt_location.specs.declared.numbers.GroupId.{GroupId}
@@ -16,7 +9,6 @@ use Rattle.vt_location.specs.declared.numbers.MountId.{MountId}
 use Rattle.vt_location.specs.MountValue.{propagation_of}
 use Rattle.vt_group.specs.Indexed.{has_source}
 use Rattle.vt_group.specs.Steps.{numbered_peer}
-use Rattle.std.proofs.lemmas.Option.{same_Some}
 use Rattle.vt_location.specs.Numbers.{counted}
 use Rattle.vt_group.proofs.CountLemmas.{at_count, lookup-numbered}
 use Rattle.vt_location.proofs.NumberLemmas.{counted_test}

@@ -1,14 +1,6 @@
 -- Groups live on through a change of one mount's type.
-use Rattle.std.proofs.Common.{◌≡◌, refl, sym, ap, subst, ◌∙◌, true, false, Bool, None, Option, Some, eq-eqb, ne_eqb, is_some, map, true≢false, ℕ, nat_eq}
-use Rattle.std.proofs.lemmas.Option.{same_Some}
-use Rattle.std.specs.Prelude.{IfSome, if◌then◌else◌}
-use Rattle.vt_spec.specs.Machine.Mounts.{Mount, Propagation, source_of}
-use Rattle.vt_spec.specs.Machine.Mounts.Propagation.{Private, Shared, Slave}
-use Rattle.vt_spec.specs.Machine.Receives.{has_members, is_member_of, regrouped}
-use Rattle.vt_spec.specs.Machine.Types.{with_master}
-use Rattle.vt_spec.specs.Machine.World.{World}
-use Rattle.vt_spec.specs.Machine.Invariants.{HasLivingGroups, Lives}
-use Rattle.vt_spec.proofs.Lists.{Among, among-from_map, among_from_all, any_among}
+use Rattle.std.proofs.Common.{◌≡◌, refl, sym, ap, subst, ◌∙◌, true, false, Bool, None, Option, Some, eq-eqb, ne_eqb, is_some, map, true≢false, ℕ, nat_eq, IfSome, if◌then◌else◌}
+use Rattle.vt_spec.proofs.Common.{Among, HasLivingGroups, Lives, Mount, Private, Propagation, Shared, Slave, World, among-from_map, among_from_all, any_among, has_members, is_member_of, regrouped, same_Some, source_of, with_master}
 use Rattle.vt_group.specs.Grouping.{retyped_if, HasGroup}
 use Rattle.vt_group.specs.Laws.{JoiningKeepsGroups, LeavingKeepsGroups, SlavesKeepGroups, StartingKeepsGroups}
 use Rattle.vt_group.proofs.Peers.{retyped_other, retyped_same}

@@ -1,9 +1,6 @@
 -- The mounts of a world have one type each.
 use Rattle.std.proofs.Common.{◌≡◌, nat_lt, option_map, Some, refl, ap, ◌∙◌, ℕ, true, List, [], ◌∷◌, Option, None}
-use Rattle.std.proofs.lemmas.Bool.{and_from, and_parts}
-use Rattle.std.specs.List.{cons_option, list_all}
-use Rattle.vt_spec.specs.Machine.Mounts.{Mount, source_of}
-use Rattle.vt_spec.specs.Machine.World.{World}
+use Rattle.vt_spec.proofs.Common.{Mount, World, and_from, and_parts, cons_option, list_all, source_of}
 use Rattle.vt_group.specs.Grouping.{Grouping, Has, are_rising, peers_of}
 use Rattle.vt_group.specs.Together.{is_ordered}
 use Rattle.vt_group.proofs.Regrouping.{keys}

@@ -1,18 +1,6 @@
 -- The mounts of a world that are shared or slaves, in order of attachment.
-use Rattle.std.proofs.Common.{◌≡◌, ℕ, Bool, true, false, cond, ◌||◌, List, [], ◌∷◌, map, nat_eq, nat_lt, Option, Some, None, option_map, is_some, refl, sym, ap, ◌∙◌, true≢false, arith, eq-eqb, ne_eqb, le-ltb, inl, inr, ⊎_elim}
-use Rattle.std.proofs.lemmas.Bool.{eqb-true, eqb-false, ltb-true, and_parts}
-use Rattle.std.specs.Prelude.{if◌then◌else◌}
-use Rattle.std.proofs.lemmas.Option.{same_Some}
-use Rattle.std.specs.BTreeMap.{insert_entry}
-use Rattle.std.specs.List.{cons_option, list_all, list_any}
-use Rattle.std.specs.Map.{lookup, remove_entry}
-use Rattle.std.specs.Ordering.{match_ordering, nat_cmp}
-use Rattle.std.specs.declared.cmp.Ordering.TheVariants.{Less, Equal, Greater}
-use Rattle.vt_spec.specs.Lists.{holds_of, is_among}
-use Rattle.vt_spec.specs.Machine.Mounts.{Mount, Propagation, group_of, source_of}
-use Rattle.vt_spec.specs.Machine.Mounts.Propagation.{Private, Shared, Slave, Unbindable}
-use Rattle.vt_spec.specs.Machine.Receives.{has_members}
-use Rattle.vt_spec.proofs.Lists.{Among, among_from_list_all, among_numbers, among-map, map_same}
+use Rattle.std.proofs.Common.{◌≡◌, ℕ, Bool, true, false, cond, ◌||◌, List, [], ◌∷◌, map, nat_eq, nat_lt, Option, Some, None, option_map, is_some, refl, sym, ap, ◌∙◌, true≢false, arith, eq-eqb, ne_eqb, le-ltb, inl, inr, ⊎_elim, eqb-true, ltb-true, if◌then◌else◌, nat_cmp, Less, Equal, Greater}
+use Rattle.vt_spec.proofs.Common.{Among, Mount, Private, Propagation, Shared, Slave, Unbindable, among-map, among_from_list_all, among_numbers, and_parts, cons_option, eqb-false, group_of, has_members, holds_of, insert_entry, is_among, list_all, list_any, lookup, map_same, match_ordering, remove_entry, same_Some, source_of}
 use Rattle.vt_group.specs.Grouping.{are_rising, peer_of, peers_of, retyped_if}
 use Rattle.vt_group.specs.Steps.{is_member}
 use Rattle.vt_laws_mounts.specs.Mounts.Attaching.{numbers_of}

@@ -1,20 +1,11 @@
 -- Who receives from a group: the mounts of the groups that are found from it downwards.
-use Rattle.std.proofs.lemmas.List.Filters.{length-filter_both}
-use Rattle.std.proofs.Common.{◌≡◌, refl, sym, ap, ◌∙◌, true, false, zero, suc, Bool, List, None, Option, Some, [], arith, cond, is_some, length, map, nat_eq, option_map, true≢false, ℕ, ◌||◌, ◌+◌, ◌∷◌, ◌≤◌, filter, not, ⊎_elim, inl, inr}
-use Rattle.std.proofs.lemmas.Bool.{and_parts, eqb-true, or_cases, or_parts}
-use Rattle.std.specs.List.{cons_option, list_all, list_any}
-use Rattle.vt_spec.specs.Lists.{any_pair, chain, holds_of, is_among, last_or}
-use Rattle.vt_spec.specs.Machine.Mounts.{Mount, Propagation, group_of, source_of}
-use Rattle.vt_spec.specs.Machine.Receives.{groups_up, has_members, receivers, receives}
-use Rattle.vt_spec.specs.Machine.World.{World}
-use Rattle.vt_spec.specs.Machine.Invariants.{HasLivingGroups, Lives}
-use Rattle.vt_spec.proofs.Lists.{Among, among-filter, among_from_all, among_from_list_all, any_among, any_from_among, chain_ends, chain_goes_on, last_of_chain, list_all_from_among, none_among}
+use Rattle.std.proofs.Common.{◌≡◌, refl, sym, ap, ◌∙◌, true, false, zero, suc, Bool, List, None, Option, Some, [], arith, cond, is_some, length, map, nat_eq, option_map, true≢false, ℕ, ◌||◌, ◌+◌, ◌∷◌, ◌≤◌, filter, not, ⊎_elim, inl, inr, eqb-true}
+use Rattle.vt_spec.proofs.Common.{Among, HasLivingGroups, Lives, Mount, Propagation, World, among-filter, among_from_all, among_from_list_all, and_parts, any_among, any_from_among, any_pair, chain, chain_ends, chain_goes_on, cons_option, group_of, groups_up, has_members, holds_of, is_among, last_of_chain, last_or, length-filter_both, list_all, list_all_from_among, list_any, none_among, or_cases, or_false_alone, or_parts, receivers, receives, same_truth, source_of}
 use Rattle.vt_group.specs.Grouping.{Grouping, Has, master_in, peer_of, peers_of}
 use Rattle.vt_group.specs.Receiving.{FindsBelow, receivers_from}
 use Rattle.vt_group.specs.Steps.{is_member}
 use Rattle.vt_laws_mounts.proofs.GroupsUp.{all_on_way, ends_within, way, way_apart, way_members}
 use Rattle.vt_group.proofs.Peers.{members-peers}
-use Rattle.vt_spec.proofs.Truths.{or_false_alone, same_truth}
 use Rattle.vt_laws_mounts.specs.Mounts.Receivers.{AllGroupsLive}
 
 module _ (master : ℕ → Option ℕ) where

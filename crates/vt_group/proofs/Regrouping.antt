@@ -1,21 +1,9 @@
 -- A group that may have lost its last member ends: what is left is what the world has once it is regrouped.
-use Rattle.std.proofs.Common.{◌≡◌, ℕ, Bool, true, false, cond, ◌||◌, List, [], ◌∷◌, length, map, nat_eq, nat_lt, Option, Some, None, find, option_map, is_some, refl, sym, ap, subst, ◌∙◌, not, arith, true≢false, ne_eqb, eq-eqb, inl, inr, ⊎_elim, ◌⊎◌, ◌≢◌}
-use Rattle.std.proofs.lemmas.Bool.{eqb-true, eqb-false, ltb-true, and_parts, and_from}
-use Rattle.std.proofs.lemmas.Option.{same_Some}
-use Rattle.std.specs.Prelude.{filter_map, if◌then◌else◌}
-use Rattle.std.specs.List.{cons_option, list_all, list_any}
-use Rattle.std.specs.Map.{lookup}
-use Rattle.vt_spec.specs.Lists.{chain, holds_of, then_some}
-use Rattle.vt_spec.specs.Machine.Mounts.{Mount, Propagation, source_of}
-use Rattle.vt_spec.specs.Machine.Mounts.Propagation.{Private, Shared, Slave, Unbindable}
-use Rattle.vt_spec.specs.Machine.Receives.{has_members, heir, inherited, inheriting, is_lost_group, is_member_of, lost_a_group, regrouped, regrouped_by, slave_of_heir}
-use Rattle.vt_spec.specs.Machine.Settled.{without_dead_groups}
-use Rattle.vt_spec.specs.Machine.World.{World}
-use Rattle.vt_spec.proofs.Lists.{Among, any_among, any_from_among, chain_goes_on}
+use Rattle.std.proofs.Common.{◌≡◌, ℕ, Bool, true, false, cond, ◌||◌, List, [], ◌∷◌, length, map, nat_eq, nat_lt, Option, Some, None, find, option_map, is_some, refl, sym, ap, subst, ◌∙◌, not, arith, true≢false, ne_eqb, eq-eqb, inl, inr, ⊎_elim, ◌⊎◌, ◌≢◌, eqb-true, ltb-true, filter_map, if◌then◌else◌}
+use Rattle.vt_spec.proofs.Common.{Among, Mount, Private, Propagation, Shared, Slave, Unbindable, World, and_from, and_parts, any_among, any_from_among, chain, chain_goes_on, cons_option, eqb-false, find-chain_start, has_members, heir, holds_of, inherited, inheriting, is_lost_group, is_member_of, list_all, list_any, lookup, lost_a_group, regrouped, regrouped_by, same_Some, slave_of_heir, source_of, then_some, without_dead_groups}
 use Rattle.vt_group.specs.Grouping.{Grouping, Has, are_rising, master_in, peer_of, peers_of}
 use Rattle.vt_group.specs.Steps.{ended, ended_if_lost, handed, handed_entry, handed_peer, has_peers, is_member}
 use Rattle.vt_group.proofs.Peers.{members-peers}
-use Rattle.vt_spec.proofs.Found.{find-chain_start}
 use Rattle.vt_laws_mounts.proofs.GroupsKept.{member_shared}
 use Rattle.vt_laws_mounts.proofs.Groups.{inherited_kept, mounts-regrouped, members-regrouped, master-regrouped, no_heir}
 use Rattle.vt_laws_mounts.proofs.mounts.MountsKept.{numbers_regrouped}

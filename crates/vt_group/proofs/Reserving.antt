@@ -1,20 +1,12 @@
 -- A map in which room is reserved: what a change of its places does to the values.
-use Rattle.std.proofs.Common.{◌≡◌, ℕ, Bool, true, false, cond, T, List, [], ◌∷◌, ◌||◌, Option, None, Some, is_some, nat_eq, refl, sym, ap, subst, ◌∙◌}
-use Rattle.std.proofs.lemmas.Bool.{eqb-true}
-use Rattle.std.proofs.lemmas.Cmp.{eq_by_cmp_equiv, nat_cmp_total}
+use Rattle.std.proofs.Common.{◌≡◌, ℕ, Bool, true, false, cond, T, List, [], ◌∷◌, ◌||◌, Option, None, Some, is_some, nat_eq, refl, sym, ap, subst, ◌∙◌, eqb-true, is_eq, is_lt, nat_cmp, Ordering, Equal, Greater, Less}
+use Rattle.vt_spec.proofs.Common.{AllByRecursion, T_and, T_and_left, T_and_right, below_all, find-put, insert_entry, is_sorted, is_sorted-put, keys_of, list_any, lookup, match_ordering, nat_cmp-IsAntisymmetric, nat_cmp_total, nat_eq-swapped, option_flatten, put, remove_entry, same_entries}
+use Rattle.std.proofs.lemmas.Cmp.{eq_by_cmp_equiv}
 use Rattle.std.proofs.lemmas.Map.{lookup-remove_entry}
 use Rattle.std.proofs.lemmas.Map.Keys.{IsDistinct-from_sorted}
-use Rattle.std.specs.BTreeMap.{insert_entry, is_at}
-use Rattle.std.specs.FinMap.{nat_cmp-IsAntisymmetric}
-use Rattle.std.specs.FinMap.Entries.{below_all, find, find-put, is_sorted, is_sorted-put, put, same_entries}
-use Rattle.std.specs.List.{AllByRecursion, list_any}
+use Rattle.std.specs.BTreeMap.{is_at}
+use Rattle.std.specs.FinMap.Entries.{find}
 use Rattle.std.specs.List.Sorted.{IsStrictlySortedBy}
-use Rattle.std.specs.Map.{keys_of, lookup, remove_entry}
-use Rattle.std.specs.Option.{option_flatten}
-use Rattle.std.specs.Ordering.{is_eq, is_lt, match_ordering, nat_cmp}
-use Rattle.std.specs.declared.cmp.Ordering.{Ordering}
-use Rattle.std.specs.declared.cmp.Ordering.TheVariants.{Equal, Greater, Less}
-use Rattle.vt_spec.proofs.Truths.{T_and, T_and_left, T_and_right, nat_eq-swapped}
 use Rattle.vt_location.specs.InOrder.{in_order_by}
 use Rattle.vt_location.proofs.OrderLemmas as kept
 use Rattle.vt_group.specs.ByNumber.{entries_of, has_room, values_of}

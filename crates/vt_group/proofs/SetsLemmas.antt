@@ -1,9 +1,6 @@
 -- What is under groups, once one set of them changed.
-use Rattle.std.proofs.Common.{◌≡◌, Bool, true, false, cond, List, [], Option, None, option_map, refl, sym, ap, ◌∙◌}
-use Rattle.std.proofs.lemmas.Bool.{eqb-true}
-use Rattle.std.specs.List.{list_any}
-use Rattle.std.specs.Map.{lookup}
-use Rattle.std.specs.Prelude.{if◌then◌else◌, unwrap_or, ◌&&◌}
+use Rattle.std.proofs.Common.{◌≡◌, Bool, true, false, cond, List, [], Option, None, option_map, refl, sym, ap, ◌∙◌, eqb-true, if◌then◌else◌, unwrap_or, ◌&&◌}
+use Rattle.vt_spec.proofs.Common.{list_any, lookup}
 use Rattle.vt_location.specs.declared.numbers.GroupId.{GroupId}
 use Rattle.vt_group.specs.declared.set.Set.{Set}
 use Rattle.vt_group.specs.declared.sets.Sets.{Sets}

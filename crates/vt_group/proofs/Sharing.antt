@@ -1,22 +1,6 @@
 -- Mounts become shared, all at once.
-use Rattle.std.proofs.Common.{◌≡◌, refl, sym, ap, subst, ◌∙◌, true, false, Bool, List, Option, Some, [], is_some, map, true≢false, ℕ, nat_eq, ◌||◌, ◌∷◌, inl, inr, ⊎_elim, eq-eqb, ◌⊎◌}
-use Rattle.std.proofs.lemmas.Bool.{and_parts, eqb-true, eqb-false}
-use Rattle.std.proofs.lemmas.Option.{same_Some}
-use Rattle.std.specs.Prelude.{All, Contains, if◌then◌else◌}
-use Rattle.std.specs.BTreeMap.{insert_entry}
-use Rattle.std.specs.List.{list_any}
-use Rattle.std.specs.Ordering.{nat_cmp}
-use Rattle.vt_spec.specs.Lists.{folded, is_among}
-use Rattle.vt_spec.specs.Language.Calls.TypeWord.{ToShared}
-use Rattle.vt_spec.specs.Machine.Attach.{masters_with}
-use Rattle.vt_spec.specs.Machine.Mounts.{Mount, Propagation, group_of, source_of}
-use Rattle.vt_spec.specs.Machine.Mounts.Propagation.{Private, Shared, Slave, Unbindable}
-use Rattle.vt_spec.specs.Machine.Receives.{has_members, is_member_of}
-use Rattle.vt_spec.specs.Machine.Types.{master_after, retyped, retyped_mount, type_after, with_master, with_new_groups}
-use Rattle.vt_spec.specs.Machine.World.{World}
-use Rattle.vt_spec.specs.Machine.Invariants.{HasLivingGroups, Lives}
-use Rattle.vt_spec.specs.Machine.Invariants.Lives.{has_master, has_no_master}
-use Rattle.vt_spec.proofs.Lists.{Among, all_from_among, among-from_map, among-map, among_from_all, among_from_contains, any_among, any_from_among, is_among_numbers, map_alike, map_twice}
+use Rattle.std.proofs.Common.{◌≡◌, refl, sym, ap, subst, ◌∙◌, true, false, Bool, List, Option, Some, [], is_some, map, true≢false, ℕ, nat_eq, ◌||◌, ◌∷◌, inl, inr, ⊎_elim, eq-eqb, ◌⊎◌, eqb-true, All, Contains, if◌then◌else◌, nat_cmp}
+use Rattle.vt_spec.proofs.Common.{Among, HasLivingGroups, Lives, Mount, Private, Propagation, Shared, Slave, ToShared, Unbindable, World, all_from_among, among-from_map, among-map, among_from_all, among_from_contains, and_parts, any_among, any_from_among, eqb-false, folded, group_of, has_master, has_members, has_no_master, insert_entry, is_among, is_among_numbers, is_member_of, list_any, map_alike, map_twice, master_after, masters_with, retyped, retyped_mount, same_Some, source_of, type_after, with_master, with_new_groups}
 use Rattle.vt_location.specs.declared.numbers.GroupId.{GroupId}
 use Rattle.vt_location.specs.declared.numbers.MountId.{MountId}
 use Rattle.vt_group.specs.Grouping.{Grouping, Has, HasGroup, LacksGroup, are_rising, peers_of, propagation_in, retyped_if}

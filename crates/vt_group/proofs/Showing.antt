@@ -1,13 +1,6 @@
 -- What the groups of a world say of it.
-use Rattle.std.proofs.Common.{◌≡◌, ℕ, Bool, true, false, cond, List, [], ◌∷◌, map, nat_eq, nat_lt, Some, None, is_some, refl, sym, ap, ◌∙◌, arith, true≢false, ne_eqb, eq-eqb, lt-ltb}
-use Rattle.std.proofs.lemmas.Bool.{eqb-true, eqb-false, ltb-true, ltb-false, and_parts, and_from}
-use Rattle.std.proofs.lemmas.Option.{same_Some}
-use Rattle.std.specs.Prelude.{unwrap_or}
-use Rattle.std.specs.List.{list_all}
-use Rattle.std.specs.Map.{lookup}
-use Rattle.vt_spec.specs.Machine.Mounts.{Mount, Propagation, source_of}
-use Rattle.vt_spec.specs.Machine.Mounts.Propagation.{Private, Shared, Slave, Unbindable}
-use Rattle.vt_spec.proofs.Lists.{Among, all_from_among}
+use Rattle.std.proofs.Common.{◌≡◌, ℕ, Bool, true, false, cond, List, [], ◌∷◌, map, nat_eq, nat_lt, Some, None, is_some, refl, sym, ap, ◌∙◌, arith, true≢false, ne_eqb, eq-eqb, lt-ltb, eqb-true, ltb-true, ltb-false, unwrap_or}
+use Rattle.vt_spec.proofs.Common.{Among, Mount, Private, Propagation, Shared, Slave, Unbindable, all_from_among, and_from, and_parts, eqb-false, list_all, lookup, same_Some, source_of}
 use Rattle.vt_group.specs.Grouping.{are_rising, peers_of, propagation_in}
 use Rattle.vt_group.specs.Laws.{HasOneGrouping, OpeningHasNoGroups, ShowsMasters, ShowsTypes, shown}
 use Rattle.vt_group.proofs.Peers.{lookup-absent, lookup-peer}

@@ -1,16 +1,6 @@
 -- Groups that end after each of several changes are those that end once after all of them.
-use Rattle.std.proofs.Common.{◌≡◌, refl, sym, ap, subst, ◌∙◌, true, false, Bool, List, None, Option, Some, [], cond, is_some, length, map, true≢false, ℕ, nat_eq, ◌||◌, ◌∷◌, inl, inr, eq-eqb}
-use Rattle.std.specs.Prelude.{if◌then◌else◌}
-use Rattle.std.proofs.lemmas.List.{length-map}
-use Rattle.vt_spec.specs.Lists.{holds_of}
-use Rattle.vt_spec.specs.Machine.Mounts.{Mount, Propagation, group_of, source_of}
-use Rattle.vt_spec.specs.Machine.Mounts.Propagation.{Private, Shared, Slave, Unbindable}
-use Rattle.vt_spec.specs.Machine.Receives.{has_members, heir, inherited, inheriting, is_member_of, regrouped, slave_of_heir}
-use Rattle.vt_spec.specs.Machine.Settled.{without_dead_groups}
-use Rattle.vt_spec.specs.Machine.World.{World}
-use Rattle.vt_spec.specs.Machine.Invariants.{HasLivingGroups, Lives}
-use Rattle.vt_spec.specs.Machine.Invariants.Lives.{has_master, has_no_master}
-use Rattle.vt_spec.proofs.Lists.{Among, among-from_map, among_from_all, any_among, any_from_among}
+use Rattle.std.proofs.Common.{◌≡◌, refl, sym, ap, subst, ◌∙◌, true, false, Bool, List, None, Option, Some, [], cond, is_some, length, map, true≢false, ℕ, nat_eq, ◌||◌, ◌∷◌, inl, inr, eq-eqb, if◌then◌else◌}
+use Rattle.vt_spec.proofs.Common.{Among, HasLivingGroups, Lives, Mount, Private, Propagation, Shared, Slave, Unbindable, World, among-from_map, among_from_all, any_among, any_from_among, group_of, has_master, has_members, has_no_master, heir, holds_of, inherited, inheriting, is_member_of, length-map, regrouped, slave_of_heir, source_of, without_dead_groups}
 use Rattle.vt_group.specs.Grouping.{Grouping, Has, are_rising, peers_of, retyped_if, with_propagation}
 use Rattle.vt_group.proofs.Heirs.{heir_above, heir_itself, master_inherited}
 use Rattle.vt_group.proofs.Living.{group_lives}

@@ -1,24 +1,6 @@
 -- Several mounts lose their groups: one after another, or all at once.
-use Rattle.std.proofs.Common.{◌≡◌, refl, sym, ap, subst, ◌∙◌, true, false, Bool, List, None, Option, Some, [], is_some, map, option_map, true≢false, ℕ, nat_eq, ◌||◌, ◌∷◌, ◌++◌, inl, inr, not, ne_eqb, length, take, get_or, ◌<◌, ◌+◌}
-use Rattle.std.proofs.lemmas.List.{map-append, take_more}
-use Rattle.std.proofs.lemmas.Bool.{eqb-true}
-use Rattle.std.proofs.lemmas.List.Folds.{list_any-append}
-use Rattle.std.proofs.lemmas.Option.{same_Some}
-use Rattle.std.specs.Prelude.{Contains, if◌then◌else◌, unwrap_or}
-use Rattle.std.specs.List.{list_any}
-use Rattle.std.specs.Map.{lookup}
-use Rattle.vt_spec.specs.Lists.{is_among, then_some}
-use Rattle.vt_spec.specs.Language.Calls.{TypeWord}
-use Rattle.vt_spec.specs.Language.Calls.TypeWord.{ToPrivate, ToSlave, ToUnbindable}
-use Rattle.vt_spec.specs.Machine.Detach.{after_going, mount_point_left, taken_away}
-use Rattle.vt_spec.specs.Machine.Mounts.{Mount, Propagation, detached, group_of, source_of}
-use Rattle.vt_spec.specs.Machine.Mounts.Propagation.{Private, Shared, Slave, Unbindable}
-use Rattle.vt_spec.specs.Machine.Receives.{has_members, inherited, inheriting, is_lost_group, is_member_of, lost_a_group, regrouped, regrouped_by}
-use Rattle.vt_spec.specs.Machine.Types.{master_after, retyped, retyped_mount, type_after, with_master, with_new_groups}
-use Rattle.vt_spec.specs.Machine.World.{World, with_mounts}
-use Rattle.vt_spec.specs.Machine.Invariants.{HasLivingGroups, Lives}
-use Rattle.vt_spec.specs.Machine.Invariants.Lives.{has_master, has_no_master}
-use Rattle.vt_spec.proofs.Lists.{Among, among-from_map, among-map, among_from_all, any_from_among, contains_from_among, map_alike, map_twice}
+use Rattle.std.proofs.Common.{◌≡◌, refl, sym, ap, subst, ◌∙◌, true, false, Bool, List, None, Option, Some, [], is_some, map, option_map, true≢false, ℕ, nat_eq, ◌||◌, ◌∷◌, ◌++◌, inl, inr, not, ne_eqb, length, take, get_or, ◌<◌, ◌+◌, eqb-true, Contains, if◌then◌else◌, unwrap_or}
+use Rattle.vt_spec.proofs.Common.{Among, HasLivingGroups, Lives, Mount, Private, Propagation, Shared, Slave, ToPrivate, ToSlave, ToUnbindable, TypeWord, Unbindable, World, after_going, among-from_map, among-map, among_from_all, any_from_among, contains_from_among, detached, group_of, has_master, has_members, has_no_master, inherited, inheriting, is_among, is_lost_group, is_member_of, list_any, list_any-append, lookup, lost_a_group, map-append, map_alike, map_twice, master_after, mount_point_left, nat_eq-swapped, or-false, regrouped, regrouped_by, retyped, retyped_mount, same_Some, source_of, take_more, taken_away, then_some, type_after, with_master, with_mounts, with_new_groups}
 use Rattle.vt_location.specs.declared.numbers.MountId.{MountId}
 use Rattle.vt_location.specs.Numbers.{counted}
 use Rattle.vt_group.specs.Grouping.{Grouping, Has, HasGroup, HasMount, LacksGroup, propagation_in, retyped_if, with_propagation}
@@ -31,8 +13,6 @@ use Rattle.vt_laws_mounts.proofs.GroupsUp.{live_members}
 use Rattle.vt_group.proofs.Peers.{lookup-among, retyped_other, retyped_same}
 use Rattle.vt_group.proofs.Showing.{shows_types}
 use Rattle.vt_group.proofs.Stepping.{OnlyLoses, between_live, steps_together}
-use Rattle.vt_spec.proofs.Truths.{nat_eq-swapped}
-use Rattle.std.proofs.Math.Bool.{or-false}
 use Rattle.vt_laws_mounts.proofs.GroupsKept.{shared_member}
 use Rattle.vt_laws_mounts.proofs.Groups.{group-inherited, mounts-regrouped, members-regrouped}
 use Rattle.vt_laws_mounts.specs.Mounts.Attaching.{numbers_of}

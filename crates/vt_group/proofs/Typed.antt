@@ -1,13 +1,6 @@
 -- A regrouped world has the types and masters of its groups.
-use Rattle.std.proofs.Common.{◌≡◌, refl, sym, subst, ◌∙◌, true, false, Bool, None, Option, Some, map, ℕ, nat_eq}
-use Rattle.std.specs.Prelude.{if◌then◌else◌}
-use Rattle.std.specs.List.{list_any}
-use Rattle.vt_spec.specs.Machine.Mounts.{Mount, Propagation, is_unbindable}
-use Rattle.vt_spec.specs.Machine.Mounts.Propagation.{Private, Shared, Slave, Unbindable}
-use Rattle.vt_spec.specs.Machine.Receives.{heir, inherited, inheriting, lost_a_group, regrouped, regrouped_by, slave_of_heir}
-use Rattle.vt_spec.specs.Machine.Settled.{without_dead_groups}
-use Rattle.vt_spec.specs.Machine.World.{World}
-use Rattle.vt_spec.proofs.Lists.{Among, among-map, among_from_all, map_alike}
+use Rattle.std.proofs.Common.{◌≡◌, refl, sym, subst, ◌∙◌, true, false, Bool, None, Option, Some, map, ℕ, nat_eq, if◌then◌else◌}
+use Rattle.vt_spec.proofs.Common.{Among, Mount, Private, Propagation, Shared, Slave, Unbindable, World, among-map, among_from_all, heir, inherited, inheriting, is_unbindable, list_any, lost_a_group, map_alike, regrouped, regrouped_by, slave_of_heir, without_dead_groups}
 use Rattle.vt_group.specs.Grouping.{Grouping, Has, master_in, propagation_in}
 use Rattle.vt_group.specs.Laws.{RegroupedIsTyped, shown, typed_by}
 use Rattle.vt_group.proofs.Showing.{shows_types}

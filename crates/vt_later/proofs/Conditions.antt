@@ -1,17 +1,11 @@
 -- A condition that is not let pass is as it was.
-use Rattle.std.proofs.Common.{◌==◌, ◌≡◌, Bool, None, Option, Some, ap, false, nat_eq, not, refl, true, true≢false, ℕ}
+use Rattle.std.proofs.Common.{◌==◌, ◌≡◌, Bool, None, Option, Some, ap, false, nat_eq, not, refl, true, true≢false, ℕ, is_some}
+use Rattle.vt_spec.proofs.Common.{Location, Looks, Node, Task, cap_sys_admin, has_all, holds_of, is_mount_point_anywhere, is_mount_point_in, is_read_only, lacks, list_any, may_not, node_allows}
 use Rattle.std.specs.Int.Bits.{bit_and, bit_or}
-use Rattle.std.specs.List.{list_any}
-use Rattle.std.specs.Prelude.{is_some}
 use Rattle.std.proofs.lemmas.Nat.{and_or_apart}
-use Rattle.vt_spec.specs.Lists.{holds_of}
-use Rattle.vt_spec.specs.Machine.Looks.{Looks, mount_at}
-use Rattle.vt_spec.specs.Machine.Mounts.{Location}
-use Rattle.vt_spec.specs.Machine.Rightful.{node_allows}
-use Rattle.vt_spec.specs.Machine.Rules.Conditions.{is_kept, is_mount_point_anywhere, is_mount_point_in, is_read_only, lacks, may_not}
-use Rattle.vt_spec.specs.Machine.World.{Task}
-use Rattle.vt_spec.specs.Tree.{Node}
-use Rattle.vt_spec.specs.Rights.{cap_dac_override, cap_dac_read_search, cap_fowner, cap_sys_admin, has_all}
+use Rattle.vt_spec.specs.Machine.Looks.{mount_at}
+use Rattle.vt_spec.specs.Machine.Rules.Conditions.{is_kept}
+use Rattle.vt_spec.specs.Rights.{cap_dac_override, cap_dac_read_search, cap_fowner}
 use Rattle.vt_later.specs.declared.passed.Passed.{Passed}
 use Rattle.vt_later.specs.Lenience.{added, admin_added, lenient_flags, lenient_looks, lenient_mounts_on, lenient_task, override_added}
 

@@ -1,11 +1,8 @@
 -- What refuses a call, where no allocation failed.
 use Rattle.std.proofs.Common.{◌≡◌, Err, Ok, Some, ap, inl, inr, ℕ}
+use Rattle.vt_spec.proofs.Common.{Call, Judgement, Task, denial}
 use Rattle.vt_spec.specs.declared.errors.Deny.{Deny}
 use Rattle.vt_spec.specs.declared.errors.Rule.TheVariants.{S5}
-use Rattle.vt_spec.specs.Errors.{denial}
-use Rattle.vt_spec.specs.Language.Calls.{Call}
-use Rattle.vt_spec.specs.Machine.Judge.{Judgement}
-use Rattle.vt_spec.specs.Machine.World.{Task}
 use Rattle.vt_permits.specs.Memory.{JudgesByReceivers}
 use Rattle.vt_later.specs.Lenience.{refused_by}
 

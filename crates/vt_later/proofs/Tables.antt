@@ -1,24 +1,11 @@
 -- The tables of rules over a world and a caller that let rules pass: every other rule fails as before. A table without
 -- a rule that can be let pass is not here.
 use Rattle.std.proofs.Common.{◌≡◌, Bool, List, [], ap, false, nat_eq, not, refl, true, ℕ, ◌&&◌, ◌∷◌}
+use Rattle.vt_spec.proofs.Common.{Access, Change, CopyUp, Location, Looks, MountFlags, Place, Rules, SetAttr, SetBytes, Task, admin_rules, attr_rules, bind_rules, enter_rules, exec_rules, execute_right, hard_link_rules, list_rules, make_rules, move_rules, moving, new_mount_rules, opaque_rules, open_rules, opens_for_writing, read_right, read_rules, remount_rules, removing, rename_rules, rewrite_rules, rmdir_rules, same_object_rules, umount_rules, unlink_rules, whiteout_rules, write_right}
 use Rattle.vt_spec.specs.declared.attributes.Attr.{Attr}
 use Rattle.vt_spec.specs.declared.errors.Rule.{Rule}
-use Rattle.vt_spec.specs.Errors.{Rules}
-use Rattle.vt_spec.specs.Language.Calls.{Access, MountFlags, opens_for_writing}
-use Rattle.vt_spec.specs.Language.Changes.{Change}
-use Rattle.vt_spec.specs.Language.Changes.Change.{CopyUp, SetAttr, SetBytes}
-use Rattle.vt_spec.specs.Machine.Looks.{Looks}
-use Rattle.vt_spec.specs.Machine.Mounts.{Location}
-use Rattle.vt_spec.specs.Machine.Rules.Attributes.{attr_rules, opaque_rules}
-use Rattle.vt_spec.specs.Machine.Rules.Descriptors.{access_rights, copy_rules, is_copied_up, open_rules}
-use Rattle.vt_spec.specs.Machine.Rules.Looking.{exec_rules, list_rules, read_rules}
-use Rattle.vt_spec.specs.Machine.Rules.Making.{hard_link_rules, make_rules, rewrite_rules, whiteout_rules}
-use Rattle.vt_spec.specs.Machine.Rules.Mounting.{admin_rules, bind_rules, move_rules, new_mount_rules, remount_rules, umount_rules}
-use Rattle.vt_spec.specs.Machine.Rules.Removing.{changes_parent, moving, removing, rename_rules, rmdir_rules, same_object_rules, unlink_rules}
-use Rattle.vt_spec.specs.Machine.Rules.Tasks.{enter_rules}
-use Rattle.vt_spec.specs.Machine.Walking.{Place}
-use Rattle.vt_spec.specs.Machine.World.{Task}
-use Rattle.vt_spec.specs.Rights.{execute_right, read_right, write_right}
+use Rattle.vt_spec.specs.Machine.Rules.Descriptors.{access_rights, copy_rules, is_copied_up}
+use Rattle.vt_spec.specs.Machine.Rules.Removing.{changes_parent}
 use Rattle.vt_later.specs.declared.passed.Passed.{Passed}
 use Rattle.vt_later.specs.Passing.{SameBut}
 use Rattle.vt_later.proofs.Conditions.{admin_kept, caller, noexec_kept, point_in_kept, point_kept, read_only_kept, replaced_kept, replaced_point_kept, right_kept, shown, sticky_kept}

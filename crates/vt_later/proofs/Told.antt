@@ -1,7 +1,7 @@
 -- What refuses a call where rules are let pass fails in the policy's own table.
 use Rattle.std.proofs.Common.{◌≡◌, Err, Ok, [], false, inl, inr, subst, sym, true, ◌∷◌, ◌∙◌}
+use Rattle.vt_spec.proofs.Common.{Rules, unless}
 use Rattle.vt_spec.specs.declared.errors.Deny.{Deny}
-use Rattle.vt_spec.specs.Errors.{Rules, unless}
 use Rattle.vt_later.specs.declared.passed.Passed.{Passed}
 use Rattle.vt_later.specs.Passing.{Fails, SameBut, lets_pass}
 

@@ -1,31 +1,9 @@
 -- Attributes that were set are told.
-use Rattle.std.proofs.Common.{◌≡◌, refl, sym, ap, subst, ◌∙◌, inl, inr, ◌⊎◌, ⊎_elim, true≢false, ℕ, nat_eq, true, false, List, Option, Some, None, is_some, Ok, Err}
-use Rattle.std.proofs.lemmas.Option.{same_Some}
+use Rattle.std.proofs.Common.{◌≡◌, refl, sym, ap, subst, ◌∙◌, inl, inr, ◌⊎◌, ⊎_elim, true≢false, ℕ, nat_eq, true, false, List, Option, Some, None, is_some, Ok, Err, Bool}
+use Rattle.vt_spec.proofs.Common.{Call, Change, Chmod, Chown, Done, Filesystem, Fresh, Here, IsWorld, Location, Looks, Node, Permit, Serves, SetAttr, Stat, StatLine, Task, TaskName, ToChange, Told, World, apply, attr_in, attr_with_mode, attr_with_owner, changed, denial, files_at, looks_of, mount_at, node_at, node_with_attr, object_walk, policy, raised_task, same_Some, stat_line, task_called, with_change}
 use Rattle.vt_spec.specs.declared.attributes.Attr.{Attr}
 use Rattle.vt_spec.specs.declared.errors.Deny.{Deny}
 use Rattle.vt_spec.specs.declared.errors.Rule.TheVariants.{W4}
-use Rattle.vt_spec.specs.Errors.{denial}
-use Rattle.vt_spec.specs.FileTree.{attr_in}
-use Rattle.vt_spec.specs.Language.Answers.{StatLine}
-use Rattle.vt_spec.specs.Language.Answers.Answer.{Done, Told}
-use Rattle.vt_spec.specs.Language.Calls.{Call, TaskName}
-use Rattle.vt_spec.specs.Language.Calls.Call.{Chmod, Chown, Stat}
-use Rattle.vt_spec.specs.Language.Changes.{Change, changed, node_with_attr}
-use Rattle.vt_spec.specs.Language.Changes.Change.{SetAttr}
-use Rattle.vt_spec.specs.Lists.{Fresh}
-use Rattle.vt_spec.specs.Machine.Apply.{apply, stat_line}
-use Rattle.vt_spec.specs.Machine.Filesystems.{with_change}
-use Rattle.vt_spec.specs.Machine.Looks.{Looks, looks_of}
-use Rattle.vt_spec.specs.Machine.Mounts.{Location}
-use Rattle.vt_spec.specs.Machine.Attributes.{attr_with_mode, attr_with_owner}
-use Rattle.vt_spec.specs.Machine.Permits.{Permit}
-use Rattle.vt_spec.specs.Machine.Permits.Permit.{ToChange}
-use Rattle.vt_spec.specs.Machine.Policy.{policy, raised_task}
-use Rattle.vt_spec.specs.Machine.Run.{Serves}
-use Rattle.vt_spec.specs.Machine.Walking.{Here, object_walk}
-use Rattle.vt_spec.specs.Machine.World.{Filesystem, Task, World, files_at, mount_at, node_at, task_called}
-use Rattle.vt_spec.specs.Machine.Invariants.{IsWorld}
-use Rattle.vt_spec.specs.Tree.{Node}
 use Rattle.vt_laws_trees.specs.Calls.Inodes.{change_of}
 use Rattle.vt_laws_trees.specs.Trees.{IsFileTree}
 use Rattle.vt_laws_trees.specs.Trees.Calls.{mounts_overlay}
@@ -49,7 +27,6 @@ use Rattle.vt_laws_later_calls.proofs.Ways.{Ends as EndsToo, LeadsToo}
 use Rattle.vt_laws_later_calls.proofs.WaysChanges.{TreeStays, ways_with_attr}
 use Rattle.vt_laws_later_calls.proofs.WaysPlaces.{object_too}
 use Rattle.vt_laws_later_calls.proofs.WaysStay.{StandsAs}
-use Rattle.std.specs.Prelude.{Bool}
 use Rattle.vt_laws_rules.specs.Granted.{IsGranted}
 use Rattle.vt_laws_rules.specs.Granted.IsGranted.{changes_mode, changes_owner}
 

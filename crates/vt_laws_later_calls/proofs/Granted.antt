@@ -1,25 +1,11 @@
 -- What a granted call of the machine leaves.
-use Rattle.std.proofs.Common.{arith, ◌≡◌, refl, sym, ap, ◌∙◌, ℕ, nat_eq, Bool, true, false, cond, not, List, [], ◌∷◌, ◌||◌, Option, Some, None, Result, Ok, Err, find, is_ok, map, ok_or}
-use Rattle.std.proofs.lemmas.Grind.{common_steps}
-use Rattle.std.specs.Prelude.{option_map}
+use Rattle.std.proofs.Common.{arith, ◌≡◌, refl, sym, ap, ◌∙◌, ℕ, nat_eq, Bool, true, false, cond, not, List, [], ◌∷◌, ◌||◌, Option, Some, None, Result, Ok, Err, find, is_ok, map, ok_or, option_map}
+use Rattle.vt_spec.proofs.Common.{Answer, Call, Fresh, Judgement, Outcome, Permit, Task, TaskName, World, after, answer-finished_by, apply, common_steps, denial, filesystems_changed, filesystems_changed_by, finished, finished_by, judge_in, looks_of, numbers_raised, only_looks, overfills, policy, raised_task, same_name, settled, task_called}
 use Rattle.vt_spec.specs.declared.errors.Deny.{Deny}
 use Rattle.vt_spec.specs.declared.errors.Rule.TheVariants.{S2}
-use Rattle.vt_spec.specs.Errors.{denial}
-use Rattle.vt_spec.specs.Machine.Apply.{apply, filesystems_changed, overfills}
-use Rattle.vt_spec.specs.Language.Calls.{Call, TaskName, same_name}
-use Rattle.vt_spec.specs.Machine.Judge.{Judgement, judge_in}
-use Rattle.vt_spec.specs.Lists.{Fresh}
-use Rattle.vt_spec.specs.Language.Answers.{Answer}
-use Rattle.vt_spec.specs.Machine.Outcomes.{Outcome, after}
-use Rattle.vt_spec.specs.Machine.Permits.{Permit}
-use Rattle.vt_spec.specs.Machine.Policy.{filesystems_changed_by, finished, finished_by, numbers_raised, only_looks, policy, raised_task}
-use Rattle.vt_spec.specs.Machine.Settled.{settled}
-use Rattle.vt_spec.specs.Machine.World.{Task, World, task_called}
 use Rattle.vt_laws_rules.proofs.judged.CallsJudged.{policy_judges_then_applies}
-use Rattle.vt_spec.proofs.Worlds.{answer-finished_by}
 use Rattle.vt_laws_rules.proofs.given.Inversion.{calls_are_granted}
 use Rattle.vt_laws_rules.specs.Granted.{IsGranted}
-use Rattle.vt_spec.specs.Machine.Looks.{looks_of}
 
 -- what a call that was granted, and does not only look, was permitted, and what it left
 pub record IsPermitted (world : World ℕ) (fresh : Fresh ℕ) (name : TaskName) (call : Call)

@@ -1,33 +1,14 @@
 -- What calls that look answer where their walks end.
-use Rattle.std.proofs.Common.{arith, ◌≡◌, refl, ap, ◌∙◌, ℕ, nat_eq, Bool, true, false, cond, not, ◌||◌, ◌&&◌, List, [], ◌∷◌, Option, Some, Ok, Err, ok_or}
-use Rattle.std.proofs.lemmas.Grind.{common_steps}
+use Rattle.std.proofs.Common.{arith, ◌≡◌, refl, ap, ◌∙◌, ℕ, nat_eq, Bool, true, false, cond, not, ◌||◌, ◌&&◌, List, [], ◌∷◌, Option, Some, Ok, Err, ok_or, Result}
+use Rattle.vt_spec.proofs.Common.{Answer, Bytes, Call, Content, Credentials, Fresh, Here, Judgement, Ls, Lstat, Names, Node, Outcome, Read, Readlink, Regular, Stat, Stop, Task, TaskName, ToList, ToRead, ToStat, Told, World, after, allows, and_then, apply, bytes_in, call_outcome, common_steps, denial, execute_right, filesystems_changed_by, finished, is_directory_node, is_kind_in, judge_in, kind_of, list_permit, lstat_permit, mount_at, mounter_allows, names_in, node_allows, node_at, policy, read_permit, read_right, readlink_permit, stat_line, stat_permit, task_called, unless, walk_end}
 use Rattle.vt_spec.specs.declared.attributes.Attr.{Attr}
 use Rattle.vt_spec.specs.declared.attributes.Kind.TheVariants.{File, Symlink as SymlinkKind}
 use Rattle.vt_spec.specs.declared.errors.Rule.TheVariants.{B1, C1, E5, S2}
-use Rattle.vt_spec.specs.Errors.{denial, and_then, unless}
-use Rattle.vt_spec.specs.FileTree.{is_kind_in}
-use Rattle.vt_spec.specs.Language.Answers.Answer.{Bytes, Names, Told}
-use Rattle.vt_spec.specs.Language.Calls.{Call, TaskName}
-use Rattle.vt_spec.specs.Language.Calls.Call.{Ls, Lstat, Read, Readlink, Stat}
-use Rattle.vt_spec.specs.Lists.{Fresh}
-use Rattle.vt_spec.specs.Machine.Judge.{judge_in, Judgement, list_permit, lstat_permit, read_permit, readlink_permit, stat_permit}
 use Rattle.vt_spec.proofs.Tables.{list_rules, read_rules, readlink_rules}
-use Rattle.vt_spec.specs.Machine.Apply.{stat_line, apply}
-use Rattle.vt_spec.specs.Machine.Outcomes.{Outcome, after}
-use Rattle.vt_spec.specs.Machine.Policy.{call_outcome, filesystems_changed_by, finished, policy}
-use Rattle.vt_spec.specs.Machine.Rightful.{mounter_allows, node_allows}
-use Rattle.vt_spec.specs.Machine.Walking.{Here, Stop, walk_end}
 use Rattle.vt_spec.proofs.Walk.{directory_walk, object_walk, symlink_walk}
-use Rattle.vt_spec.specs.Machine.World.{Task, World, mount_at, node_at, task_called}
-use Rattle.vt_spec.specs.Rights.{Credentials, allows, execute_right, read_right}
-use Rattle.vt_spec.specs.Tree.{Content, Node, bytes_in, is_directory_node, kind_of, names_in}
-use Rattle.vt_spec.specs.Tree.Content.{Regular}
 use Rattle.vt_laws_worlds.specs.Worlds.Kept.{IsPlain}
 use Rattle.vt_laws_worlds.proofs.Plain.{plain_numbered}
 use Rattle.vt_laws_later_calls.specs.LaterPaths.{reads_all}
-use Rattle.std.specs.Prelude.{Result}
-use Rattle.vt_spec.specs.Language.Answers.{Answer}
-use Rattle.vt_spec.specs.Machine.Permits.Permit.{ToList, ToRead, ToStat}
 use Rattle.vt_spec.specs.declared.errors.Deny.{Deny}
 
 -- Who may read everything

@@ -1,34 +1,11 @@
 -- What a granted open was permitted, and the descriptor that a task then has.
-use Rattle.std.proofs.lemmas.Grind.{common_steps}
-use Rattle.std.proofs.Common.{◌≡◌, ◌<◌, refl, sym, ap, ◌∙◌, ℕ, ◌+◌, nat_eq, eqb-true, eq-eqb, Bool, true, false, cond, ◌&&◌, List, [], ◌∷◌, Some, None, Ok, Err, Result, find, map, arith, nat_lt}
-use Rattle.std.proofs.lemmas.Bool.{and_parts, le-ltb, lt-ltb}
-use Rattle.std.proofs.lemmas.Slice.Eq.{bytes_eq-Decides}
-use Rattle.std.specs.Prelude.{nat_le}
+use Rattle.std.proofs.Common.{◌≡◌, ◌<◌, refl, sym, ap, ◌∙◌, ℕ, ◌+◌, nat_eq, eqb-true, eq-eqb, Bool, true, false, cond, ◌&&◌, List, [], ◌∷◌, Some, None, Ok, Err, Result, find, map, arith, nat_lt, le-ltb, lt-ltb, nat_le}
+use Rattle.vt_spec.proofs.Common.{Access, Answer, Descriptor, Fresh, Here, Location, Looks, NoCreation, OpenFile, Opened, Permit, Stop, Task, TaskName, ToOpen, World, and-false, and_parts, apply, are_ascending_from, bytes_eq-Decides, common_steps, free_above, free_from, inserted, is_within_limits, lies_only_in_lowers, mount_at, object_walk, opened, opens_for_writing, overlay_or, replaced_if_called, same_name, same_ok, task_called, walk_end, with_copy, with_task}
 use Rattle.vt_spec.specs.declared.errors.Deny.{Deny}
-use Rattle.vt_spec.specs.Machine.Apply.{apply}
-use Rattle.vt_spec.specs.Language.Calls.{Access, TaskName, opens_for_writing, same_name}
-use Rattle.vt_spec.specs.Language.Calls.Creation.{NoCreation}
-use Rattle.vt_spec.specs.Lists.{Fresh}
-use Rattle.vt_spec.specs.Machine.Locked.{overlay_or}
-use Rattle.vt_spec.specs.Machine.Looks.{Looks}
-use Rattle.vt_spec.specs.Machine.Mounts.{Location}
-use Rattle.vt_spec.specs.Machine.Descriptors.{free_from, inserted, opened, with_copy}
-use Rattle.vt_spec.specs.Language.Answers.{Answer}
-use Rattle.vt_spec.specs.Language.Answers.Answer.{Opened}
-use Rattle.vt_spec.specs.Machine.Permits.{Permit}
-use Rattle.vt_spec.specs.Machine.Permits.Permit.{ToOpen}
-use Rattle.vt_spec.specs.Machine.Filesystems.{lies_only_in_lowers}
-use Rattle.vt_spec.specs.Machine.Walking.{Here, Stop, object_walk, walk_end}
-use Rattle.vt_spec.specs.Machine.World.{Descriptor, Task, World, mount_at, replaced_if_called, task_called, with_task}
-use Rattle.vt_spec.specs.Machine.Invariants.{are_ascending_from, is_within_limits}
 use Rattle.vt_laws_worlds.specs.Worlds.Kept.{IsPlain}
 use Rattle.vt_laws_worlds.proofs.Plain.{plain_numbered}
-use Rattle.vt_spec.proofs.Refusals.{same_ok}
-use Rattle.std.proofs.Math.Bool.{and-false}
-use Rattle.vt_spec.proofs.Descriptors.{free_above}
 use Rattle.vt_laws_rules.specs.Granted.{IsGranted}
 use Rattle.vt_laws_rules.specs.Granted.IsGranted.{opens}
-use Rattle.vt_spec.specs.Language.Calls.Call.{OpenFile}
 
 pub inserted_found : (number : ℕ) (descriptors : List (Descriptor ℕ)) (new : Descriptor ℕ)
     → are_ascending_from number descriptors ≡ true → new.number ≡ free_from number descriptors

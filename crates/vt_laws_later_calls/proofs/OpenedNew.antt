@@ -1,33 +1,6 @@
 -- The descriptor of an open is on the file that is there, or with creat on a new one, which is empty.
-use Rattle.std.proofs.Common.{arith, ◌≡◌, refl, sym, ap, subst, ◌∙◌, true≢false, ℕ, nat_eq, eq-eqb, true, false, cond, List, [], take, drop, Some, None, Ok, find}
-use Rattle.std.proofs.lemmas.Grind.{common_steps}
-use Rattle.std.proofs.lemmas.Option.{same_Some}
-use Rattle.vt_spec.specs.FileTree.{FileTree}
-use Rattle.vt_spec.specs.Language.Answers.{Answer}
-use Rattle.vt_spec.specs.Language.Answers.Answer.{Bytes, Opened}
-use Rattle.vt_spec.specs.Language.Calls.{Access, Call, Creation, TaskName, opens_for_reading, opens_for_writing, same_name}
-use Rattle.vt_spec.specs.Language.Calls.Call.{OpenFile}
-use Rattle.vt_spec.specs.Language.Calls.Creation.{Exclusive, NoCreation, OrCreate}
-use Rattle.vt_spec.specs.Language.Changes.{changed, with_inode}
-use Rattle.vt_spec.specs.Language.Changes.Change.{Make}
-use Rattle.vt_spec.specs.Lists.{Fresh, evens, odds}
-use Rattle.vt_spec.specs.Machine.Apply.{apply, with_new_inode}
-use Rattle.vt_spec.specs.Machine.Judge.{open_new_permit}
-use Rattle.vt_spec.specs.Machine.Looks.{Looks, looks_of}
-use Rattle.vt_spec.specs.Machine.Mounts.{Location, mount_in}
-use Rattle.vt_spec.specs.Machine.Descriptors.{free_number, opened, with_descriptor}
-use Rattle.vt_spec.specs.Machine.Rows.{new_file}
-use Rattle.vt_spec.specs.Machine.Outcomes.{Outcome}
-use Rattle.vt_spec.specs.Machine.Permits.{Permit}
-use Rattle.vt_spec.specs.Machine.Permits.Permit.{ToOpen}
-use Rattle.vt_spec.specs.Machine.Policy.{policy, raised_task}
-use Rattle.vt_spec.specs.Machine.Rules.Descriptors.{descriptor_numbered}
-use Rattle.vt_spec.specs.Machine.Run.{Serves}
-use Rattle.vt_spec.specs.Machine.Walking.{Here, Place, file_walk, name_of, new_walk, object_walk, is_special}
-use Rattle.vt_spec.specs.Machine.World.{Descriptor, Task, World, files_at, filesystem_numbered, mount_at, node_at, task_called, with_task}
-use Rattle.vt_spec.specs.Machine.Invariants.{IsWorld, is_within_limits}
-use Rattle.vt_spec.specs.Tree.{Node, bytes_in, is_directory_node, node_with_entry}
-use Rattle.vt_spec.proofs.Nodes.{directory_used, none_is_not}
+use Rattle.std.proofs.Common.{arith, ◌≡◌, refl, sym, ap, subst, ◌∙◌, true≢false, ℕ, nat_eq, eq-eqb, true, false, cond, List, [], take, drop, Some, None, Ok, find, Bool}
+use Rattle.vt_spec.proofs.Common.{Access, Answer, Bytes, Call, Creation, Descriptor, Exclusive, FileTree, Fresh, Here, IsWorld, Location, Looks, Make, NoCreation, Node, OpenFile, Opened, OrCreate, Outcome, Permit, Place, Serves, Task, TaskName, ToOpen, World, apply, bytes_in, changed, common_steps, descriptor_numbered, directory_used, evens, file_walk, files_at, filesystem_numbered, free_number, is_directory_node, is_special, is_within_limits, looks_of, mount_at, mount_in, name_of, new_file, new_walk, node_at, node_with_entry, none_is_not, object_walk, odds, open_new_permit, opened, opens_for_reading, opens_for_writing, policy, raised_task, same_Some, same_name, task_called, with_descriptor, with_inode, with_new_inode, with_task}
 use Rattle.vt_laws_mounts.proofs.letting_go.Lists.{passes}
 use Rattle.vt_laws_trees.specs.Trees.Calls.{mounts_overlay}
 use Rattle.vt_laws_trees.specs.Trees.Limits.{names_few_groups}
@@ -45,7 +18,6 @@ use Rattle.vt_laws_later_calls.proofs.Opened.{called_replaced, descriptors_in_or
 use Rattle.vt_laws_later_calls.proofs.Stays.{still_called, still_seen}
 use Rattle.vt_laws_later_calls.proofs.Through.{descriptor_located, pread_of, raised_descriptors}
 use Rattle.vt_laws_trees.proofs.trees.TreesTasks.{called_there}
-use Rattle.std.specs.Prelude.{Bool}
 use Rattle.vt_laws_later_calls.proofs.Ways.{same_end}
 use Rattle.vt_laws_rules.specs.Granted.{IsGranted}
 use Rattle.vt_laws_rules.specs.Granted.IsGranted.{creates, creates_exclusively, opens_existing}

@@ -1,17 +1,6 @@
 -- What tasks are on stays where what nothing uses goes.
 use Rattle.std.proofs.Common.{◌≡◌, sym, ap, subst, ◌∙◌, ℕ, nat_eq, true, false, List, Some}
-use Rattle.vt_spec.specs.Machine.Apply.{apply, filesystems_changed}
-use Rattle.vt_spec.specs.Language.Calls.{Call, TaskName}
-use Rattle.vt_spec.specs.Machine.Filesystems.{raised}
-use Rattle.vt_spec.specs.Lists.{Fresh}
-use Rattle.vt_spec.specs.Machine.Mounts.{Location}
-use Rattle.vt_spec.specs.Language.Answers.{Answer}
-use Rattle.vt_spec.specs.Machine.Outcomes.{Outcome}
-use Rattle.vt_spec.specs.Machine.Policy.{numbers_raised, policy, raised_task}
-use Rattle.vt_spec.specs.Machine.Run.{Serves}
-use Rattle.vt_spec.specs.Machine.Settled.{settled}
-use Rattle.vt_spec.specs.Machine.World.{Task, World, locations_of, mount_at, node_at, task_called}
-use Rattle.vt_spec.specs.Machine.Invariants.{IsWorld}
+use Rattle.vt_spec.proofs.Common.{Answer, Call, Fresh, IsWorld, Location, Outcome, Serves, Task, TaskName, World, apply, filesystems_changed, locations_of, mount_at, node_at, numbers_raised, policy, raised, raised_task, settled, task_called}
 use Rattle.vt_laws_mounts.proofs.letting_go.Lists.{Among}
 use Rattle.vt_laws_trees.specs.Trees.Calls.{mounts_overlay}
 use Rattle.vt_laws_trees.specs.Trees.Limits.{names_few_groups}

@@ -1,33 +1,9 @@
 -- Bytes that were written by a descriptor are read by one.
-use Rattle.std.proofs.lemmas.Grind.{common_steps}
-use Rattle.std.proofs.Common.{◌≡◌, refl, sym, ap, ◌∙◌, ⊎_elim, ℕ, nat_eq, eq-eqb, Bool, true, cond, List, [], ◌∷◌, length, take, drop, Option, Some, None, Ok, ok_or, option_to_list, find, true≢false, inr, ◌+◌, ◌-◌, ◌++◌, arith}
-use Rattle.std.specs.Prelude.{replicate}
-use Rattle.std.proofs.Math.Seq.{drop-append_seam, take-append_seam}
-use Rattle.std.proofs.lemmas.List.{append_assoc, length-append, length-replicate, length-take-le}
-use Rattle.std.proofs.lemmas.Option.{same_Some}
+use Rattle.std.proofs.Common.{◌≡◌, refl, sym, ap, ◌∙◌, ⊎_elim, ℕ, nat_eq, eq-eqb, Bool, true, cond, List, [], ◌∷◌, length, take, drop, Option, Some, None, Ok, ok_or, option_to_list, find, true≢false, inr, ◌+◌, ◌-◌, ◌++◌, arith, replicate, append_assoc, length-append, length-take-le}
+use Rattle.vt_spec.proofs.Common.{Bytes, Call, Descriptor, Done, Filesystem, Fresh, IsWorld, Location, Looks, Node, Permit, Pread, Pwrite, SetBytes, Task, TaskName, ToWritePart, World, apply, bytes_in, common_steps, denial, descriptor_numbered, drop-append_seam, found_among, granted, has_regular_files_open, is_kind_in, locations_of, looks_of, mount_at, node_at, node_with_bytes, overwritten, padded, policy, pread_permit, pwritten, raised_task, same_Some, same_name, take-append_seam, task_called, with_change, with_filesystem}
+use Rattle.std.proofs.lemmas.List.{length-replicate}
 use Rattle.vt_spec.specs.declared.attributes.Kind.TheVariants.{File}
 use Rattle.vt_spec.specs.declared.errors.Rule.TheVariants.{S4}
-use Rattle.vt_spec.specs.Errors.{denial}
-use Rattle.vt_spec.specs.Machine.Apply.{apply}
-use Rattle.vt_spec.specs.Language.Calls.{Call, TaskName, same_name}
-use Rattle.vt_spec.specs.Language.Calls.Call.{Pread, Pwrite}
-use Rattle.vt_spec.specs.Language.Changes.Change.{SetBytes}
-use Rattle.vt_spec.specs.FileTree.{is_kind_in}
-use Rattle.vt_spec.specs.Machine.Filesystems.{with_change}
-use Rattle.vt_spec.specs.Machine.Judge.{pread_permit}
-use Rattle.vt_spec.specs.Lists.{Fresh}
-use Rattle.vt_spec.specs.Machine.Looks.{Looks, looks_of}
-use Rattle.vt_spec.specs.Machine.Mounts.{Location}
-use Rattle.vt_spec.specs.Machine.Descriptors.{overwritten, padded, pwritten}
-use Rattle.vt_spec.specs.Machine.Outcomes.{granted}
-use Rattle.vt_spec.specs.Language.Answers.Answer.{Bytes, Done}
-use Rattle.vt_spec.specs.Machine.Permits.{Permit}
-use Rattle.vt_spec.specs.Machine.Permits.Permit.{ToWritePart}
-use Rattle.vt_spec.specs.Machine.Policy.{policy, raised_task}
-use Rattle.vt_spec.specs.Machine.Rules.Descriptors.{descriptor_numbered}
-use Rattle.vt_spec.specs.Machine.World.{Descriptor, Filesystem, Task, World, locations_of, mount_at, node_at, task_called, with_filesystem}
-use Rattle.vt_spec.specs.Machine.Invariants.{IsWorld, has_regular_files_open}
-use Rattle.vt_spec.specs.Tree.{Node, bytes_in, node_with_bytes}
 use Rattle.vt_laws_mounts.proofs.letting_go.Lists.{Among, among-map, passes}
 use Rattle.vt_laws_worlds.specs.Worlds.Kept.{IsPlain}
 use Rattle.vt_laws_worlds.proofs.worlds.SeenTrees.{change_of_plain, changed_one, found_new, old_number}
@@ -35,7 +11,6 @@ use Rattle.vt_laws_trees.proofs.trees.TreesOfWorlds.{numbered}
 use Rattle.vt_laws_later_calls.specs.Later.{IsOneInode, PwriteThenPread}
 use Rattle.vt_laws_later_calls.proofs.Granted.{IsPermitted, permitted}
 use Rattle.vt_laws_later_calls.proofs.Stays.{still_called, still_seen}
-use Rattle.vt_spec.proofs.Found.{found_among}
 use Rattle.vt_laws_trees.proofs.trees.TreesTasks.{called_there, tasks-pwritten}
 use Rattle.vt_laws_rules.specs.Granted.{IsGranted}
 use Rattle.vt_laws_rules.specs.Granted.IsGranted.{writes_part}

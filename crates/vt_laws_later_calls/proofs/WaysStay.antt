@@ -1,28 +1,11 @@
 -- In a world that a call left, in which mounts stay and names stay or are missing, walks lead where they led.
 use Rattle.std.proofs.Common.{arith, ◌≡◌, refl, sym, ap, subst, ◌∙◌, inl, inr, ◌⊎◌, true≢false, ℕ, nat_eq, Bool, true, false, cond, not, ◌||◌, List, [], ◌∷◌, length, Option, Some, None, is_some, option_map, ok_or, Result, Ok, Err}
-use Rattle.std.proofs.lemmas.Grind.{common_steps}
-use Rattle.std.proofs.lemmas.Bool.{and_parts, not-false, or_parts}
-use Rattle.std.specs.Prelude.{⊤}
+use Rattle.vt_spec.proofs.Common.{Dot, DotDot, FileTree, IsWorld, LastWord, Location, Mount, Named, NoWord, Node, Task, Tree, World, among_from_list_all, and_parts, chain, common_steps, denial, directory_used, entries_in, entry_at, entry_named, execute_right, filesystem_numbered, has_its_root, hop, is_among, is_directory_at, is_directory_node, is_directory_under, is_lost, is_removed, last_or, looks_of, may, mount_at, mount_in, mount_numbered, mounter_allows, node_at, none_is_not, not-false, or_parts, parent_in, same_location, symlink_text, task_called, topmost, unless, ⊤}
 use Rattle.vt_spec.specs.declared.errors.Deny.{Deny}
 use Rattle.vt_spec.specs.declared.errors.Rule.TheVariants.{W4, W6, W8}
-use Rattle.vt_spec.specs.Errors.{denial, unless}
-use Rattle.vt_spec.specs.FileTree.{FileTree, is_directory_under, is_removed, symlink_text}
-use Rattle.vt_spec.specs.Lists.{chain, is_among, last_or}
-use Rattle.vt_spec.specs.Machine.Looks.{looks_of, may}
-use Rattle.vt_spec.specs.Machine.Mounts.{Location, Mount, mount_in, same_location, topmost}
-use Rattle.vt_spec.specs.Machine.Rightful.{mounter_allows}
-use Rattle.vt_spec.specs.Machine.Walking.{LastWord}
-use Rattle.vt_spec.proofs.Walk.{hop, is_lost, stepped}
-use Rattle.vt_spec.specs.Machine.Walking.LastWord.{Dot, DotDot, Named, NoWord}
-use Rattle.vt_spec.specs.Machine.World.{Task, World, filesystem_numbered, is_directory_at, mount_at, mount_numbered, node_at, task_called}
-use Rattle.vt_spec.specs.Machine.Invariants.{IsWorld, has_its_root}
-use Rattle.vt_spec.specs.Rights.{execute_right}
-use Rattle.vt_spec.specs.Tree.{Node, Tree, entries_in, entry_named, is_directory_node, parent_in}
-use Rattle.vt_spec.specs.TreeInvariant.{entry_at}
-use Rattle.vt_spec.proofs.Nodes.{directory_used, none_is_not}
+use Rattle.vt_spec.proofs.Walk.{stepped}
 use Rattle.vt_laws_mounts.specs.Mounts.Attaching.{numbers_of}
 use Rattle.vt_laws_mounts.proofs.mounts.MountsFound.{found_there}
-use Rattle.vt_spec.proofs.Lists.{among_from_list_all}
 use Rattle.vt_laws_trees.specs.Trees.{IsFileTree}
 use Rattle.vt_laws_trees.proofs.trees.TreesEntered.{chain_ends}
 use Rattle.vt_laws_worlds.proofs.permits.sees.SeesNames.{tree_here}

@@ -1,16 +1,10 @@
 -- Directories of a tree that are not lost are not lost where the names that lead to them stay.
 use Rattle.std.proofs.Common.{◌≡◌, refl, sym, ap, subst, ◌∙◌, ⊎_elim, true≢false, ℕ, zero, suc, nat_eq, eqb-true, eq-eqb, Bool, true, false, cond, not, ◌||◌, List, [], ◌∷◌, ◌++◌, length, Option, Some, None, is_some, option_and_then}
-use Rattle.vt_spec.specs.FileTree.{FileTree, has_entry_to, is_directory_under, is_removed, named_parent}
-use Rattle.vt_spec.specs.Lists.{chain, is_among, when}
-use Rattle.vt_spec.specs.Tree.{Tree, parent_in}
-use Rattle.vt_spec.specs.TreeInvariant.{IsDirectory, IsReached, IsTree, entry_at, led}
-use Rattle.vt_spec.proofs.Nodes.{directory_used, none_is_not}
-use Rattle.vt_spec.proofs.Trees.{found, led-append, parent_reached, reached_named}
+use Rattle.vt_spec.proofs.Common.{FileTree, IsDirectory, IsReached, IsTree, Tree, chain, directory_from_entry, directory_used, entry_at, found, has_entry_to, is_among, is_directory_under, is_removed, led, led-append, named_parent, none_is_not, parent_in, reached_named, same_Some, when}
+use Rattle.vt_spec.proofs.Trees.{parent_reached}
 use Rattle.vt_laws_trees.specs.Trees.{IsFileTree}
 use Rattle.vt_laws_trees.proofs.trees.TreesAbove.{parent_named, under_seen, led_directory}
 use Rattle.vt_laws_trees.proofs.trees.TreesReached.{not_removed_reached}
-use Rattle.std.proofs.lemmas.Option.{same_Some}
-use Rattle.vt_spec.proofs.NodeChanges.{directory_from_entry}
 
 -- The names that lead to a directory from what lies above it
 module _ (tree : Tree ℕ) (conditions : IsTree tree) where

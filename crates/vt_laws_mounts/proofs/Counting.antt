@@ -1,16 +1,6 @@
 -- How many mounts namespaces have once a tree is attached.
-use Rattle.std.proofs.lemmas.Grind.{common_steps}
-use Rattle.std.proofs.Common.{◌≡◌, ℕ, Bool, true, false, cond, ◌+◌, ◌*◌, ◌≤◌, ◌++◌, ◌||◌, List, [], ◌∷◌, map, filter, length, nat_eq, Option, None, Some, flat_map, suc, refl, sym, ap, ◌∙◌, arith, true≢false, inl, inr, append_assoc, eq-eqb, find}
-use Rattle.std.specs.Prelude.{unwrap_or}
-use Rattle.std.specs.List.{list_any}
-use Rattle.std.proofs.lemmas.Bool.{eqb-true, or_parts}
-use Rattle.std.proofs.lemmas.List.{length-append, length-map}
-use Rattle.std.proofs.lemmas.List.Elements.{filter-append}
-use Rattle.vt_spec.specs.Lists.{folded, holds_of, is_among}
-use Rattle.vt_spec.specs.Machine.Attach.{Copies, Graft, attached_by, copies_at, copy_at, graft_of, parts_of, pushed_up, receivers_of, takes_part, twig_of}
-use Rattle.vt_spec.specs.Machine.Mounts.{Location, Mount, group_of, mount_in, no_mount, with_mount}
-use Rattle.vt_spec.specs.Machine.World.{World, mount_at}
-use Rattle.vt_spec.proofs.Lists.{Among, among-from_map, among-map, is_among_numbers, none_among, map_alike}
+use Rattle.std.proofs.Common.{◌≡◌, ℕ, Bool, true, false, cond, ◌+◌, ◌*◌, ◌≤◌, ◌++◌, ◌||◌, List, [], ◌∷◌, map, filter, length, nat_eq, Option, None, Some, flat_map, suc, refl, sym, ap, ◌∙◌, arith, true≢false, inl, inr, append_assoc, eq-eqb, find, unwrap_or, eqb-true, length-append}
+use Rattle.vt_spec.proofs.Common.{Among, Copies, Graft, Location, Mount, World, among-from_map, among-map, attached_by, common_steps, copies_at, copy_at, filter-append, folded, graft_of, group_of, holds_of, is_among, is_among_numbers, length-map, list_any, map_alike, mount_at, mount_in, no_mount, none_among, or_parts, parts_of, pushed_up, receivers_of, takes_part, twig_of, with_mount}
 use Rattle.vt_laws_mounts.specs.Mounts.Attaching.{numbers_of, OneNumberAMount}
 use Rattle.vt_laws_mounts.proofs.mounts.MountsFound.{number_found}
 use Rattle.vt_laws_mounts.proofs.mounts.MountsReplaced.{found-with_mount_other, found_itself, numbers-with_mount, one_number_by_numbers}

@@ -1,13 +1,6 @@
 -- Groups that lose their last member.
 use Rattle.std.proofs.Common.{arith, ◌≡◌, refl, ap, ◌∙◌, ℕ, nat_eq, true, false, List, [], ◌∷◌, length, map, Option, Some, None}
-use Rattle.std.proofs.lemmas.Grind.{common_steps}
-use Rattle.std.proofs.lemmas.Bool.{or_parts, not-false}
-use Rattle.vt_spec.specs.Machine.Mounts.{Mount, Propagation, group_of}
-use Rattle.vt_spec.specs.Machine.Mounts.Propagation.{Private, Shared, Slave, Unbindable}
-use Rattle.vt_spec.specs.Machine.Receives.{has_members, heir, inherited, inheriting, lost_a_group, regrouped, slave_of_heir}
-use Rattle.vt_spec.specs.Machine.World.{World}
-use Rattle.vt_spec.proofs.Lists.{chain_ends, map_same, none_among}
-use Rattle.vt_spec.proofs.Found.{find-chain_start}
+use Rattle.vt_spec.proofs.Common.{Mount, Private, Propagation, Shared, Slave, Unbindable, World, chain_ends, common_steps, find-chain_start, group_of, has_members, heir, inherited, inheriting, lost_a_group, map_same, none_among, not-false, or_parts, regrouped, slave_of_heir}
 
 pub no_group_of_heir : (found : Option ℕ) → group_of (slave_of_heir found) ≡ None
 no_group_of_heir None = refl

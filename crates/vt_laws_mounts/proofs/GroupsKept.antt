@@ -1,31 +1,14 @@
 -- Groups live on through changes of mounts.
-use Rattle.std.proofs.Common.{arith, ◌≡◌, refl, sym, ap, subst, ◌∙◌, true, false, Bool, List, None, Option, Some, [], eq-eqb, eqb-true, filter, find, is_some, length, map, not, true≢false, ℕ, ⊎_elim, ◌++◌, ◌||◌, ◌∷◌, nat_eq}
-use Rattle.std.proofs.lemmas.Grind.{common_steps}
-use Rattle.std.proofs.Math.Bool.{and-false}
-use Rattle.std.specs.List.{list_any}
-use Rattle.vt_spec.specs.Machine.Mounts.Propagation.{Private, Shared, Slave, Unbindable}
+use Rattle.std.proofs.Common.{arith, ◌≡◌, refl, sym, ap, subst, ◌∙◌, true, false, Bool, List, None, Option, Some, [], eq-eqb, eqb-true, filter, find, is_some, length, map, not, true≢false, ℕ, ⊎_elim, ◌++◌, ◌||◌, ◌∷◌, nat_eq, if◌then◌else◌}
+use Rattle.vt_spec.proofs.Common.{Among, Lives, Mount, Private, Propagation, Shared, Slave, Unbindable, World, after_going, among-append, among-append_left, among-filter, among-from_filter, among-from_map, among-map, among_from_list_all, and-false, any_among, any_from_among, common_steps, copied_mount, deepest_first, evens, folded, going, group_of, groups_up, has_master, has_members, has_no_master, head_among, heir, holds_of, inherited, inheriting, is_among, is_going, is_in_ended, is_lost_group, is_member_of, is_nowhere_or_attached, list_any, lost_a_group, mount_at, mount_lives, mount_numbered, mount_tree, mounts_of, none_among, not-false, number-mount_in, numbers_by, odds, or_parts, pivoted, pivoted_mount, regrouped, regrouped_by, replaced_if_same, same_Some, settled, slave_of_heir, source_of, tail_among, then_some, unmounted, unmounted_if_there, unshared, with_flags, with_mount}
 use Rattle.vt_laws_mounts.proofs.GroupsUp.{EndsUp, LivesIn, Up, groups_live_by, lives_in, way_up}
 use Rattle.vt_laws_mounts.proofs.GroupsUp.EndsUp.{at_top, goes_up}
-use Rattle.vt_spec.specs.Machine.Invariants.Lives.{has_master, has_no_master}
 use Rattle.vt_laws_mounts.proofs.GroupsUp.Up.{above, here}
-use Rattle.vt_spec.proofs.Lists.{Among, among-append, among-append_left, among-filter, among-from_filter, among-from_map, among-map, among_from_list_all, any_among, any_from_among, head_among, none_among, tail_among}
 use Rattle.vt_laws_mounts.specs.Mounts.Receivers.{GroupsLive}
 use Rattle.vt_laws_mounts.specs.Mounts.Invariants.{KeptByEndedNamespaces, KeptByInheritance, KeptByLazyUnmount, KeptByPivot, KeptByTakingAway, KeptByUnmount, KeptByUnshare, SettlingKeepsGroups, FlagsKeepGroups}
-use Rattle.vt_spec.specs.Machine.Mounts.{Mount, Propagation, group_of, mount_tree, source_of, with_mount, replaced_if_same, numbers_by}
-use Rattle.vt_spec.specs.Machine.World.{World, mount_at, mount_numbered, mounts_of, with_flags}
-use Rattle.vt_spec.specs.Machine.Detach.{after_going, deepest_first, going, is_going, unmounted, unmounted_if_there}
-use Rattle.vt_spec.specs.Machine.Namespaces.{copied_mount, is_in_ended, pivoted, pivoted_mount, unshared}
-use Rattle.vt_spec.specs.Lists.{evens, folded, holds_of, is_among, odds, then_some}
 use Rattle.vt_laws_mounts.proofs.mounts.MountsReplaced.{found_itself, replaced_elsewhere, replaced_there}
 use Rattle.vt_laws_mounts.proofs.ends.Unmounting.{going_is_detached, middle, staying_is_placed}
-use Rattle.vt_spec.specs.Machine.Receives.{groups_up, has_members, heir, inherited, inheriting, is_lost_group, is_member_of, lost_a_group, regrouped, regrouped_by, slave_of_heir}
-use Rattle.std.specs.Prelude.{if◌then◌else◌}
-use Rattle.vt_spec.specs.Machine.Settled.{mount_lives, settled}
-use Rattle.vt_spec.specs.Machine.Invariants.{Lives, is_nowhere_or_attached}
 use Rattle.vt_laws_mounts.proofs.Groups.{members-inherited}
-use Rattle.std.proofs.lemmas.Bool.{not-false, or_parts}
-use Rattle.std.proofs.lemmas.Option.{same_Some}
-use Rattle.vt_spec.proofs.Worlds.{number-mount_in}
 
 -- what is found passes, and is there
 pub found_passes : (p : ℕ → Bool) (xs : List ℕ) (x : ℕ) → find p xs ≡ Some x

@@ -1,8 +1,6 @@
 -- Groups live just where the test of it says so.
 use Rattle.std.proofs.Common.{ℕ, nat_eq}
-use Rattle.vt_spec.specs.Machine.World.{World}
-use Rattle.vt_spec.specs.Machine.Invariants.{HasLivingGroups}
-use Rattle.vt_spec.proofs.Lists.{all_from_among, among_from_all}
+use Rattle.vt_spec.proofs.Common.{HasLivingGroups, World, all_from_among, among_from_all}
 use Rattle.vt_laws_mounts.specs.Mounts.Receivers.{AllGroupsLive, GroupsLive, LivingIsComputed}
 use Rattle.vt_laws_mounts.proofs.GroupsUp.{groups_live_by, lives_in}
 

@@ -1,28 +1,13 @@
 -- Groups live on through a change of type.
-use Rattle.std.proofs.Common.{arith, ◌≡◌, refl, sym, ap, subst, ◌∙◌, true, false, nat_eq, Bool, List, Option, Some, [], eq-eqb, eqb-true, inl, inr, true≢false, ⊎_elim, ◌∷◌, ◌⊎◌, ℕ}
-use Rattle.std.proofs.lemmas.Grind.{common_steps}
-use Rattle.vt_spec.specs.Machine.Mounts.{Mount, Propagation, index_of, source_of}
-use Rattle.vt_spec.specs.Machine.Mounts.Propagation.{Private, Shared, Slave, Unbindable}
+use Rattle.std.proofs.Common.{arith, ◌≡◌, refl, sym, ap, subst, ◌∙◌, true, false, nat_eq, Bool, List, Option, Some, [], eq-eqb, eqb-true, inl, inr, true≢false, ⊎_elim, ◌∷◌, ◌⊎◌, ℕ, if◌then◌else◌, option_to_list}
+use Rattle.vt_spec.proofs.Common.{Among, Mount, Private, Propagation, Shared, Slave, TypeWord, Unbindable, World, among-from_map, any_among, common_steps, eqb_tells, false_from_ne_true, found_or_none, has_master, has_members, has_no_master, index_of, is_among, is_among_numbers, is_member_of, master_after, named_mounts, numbers_in_use, same_Some, source_of, tree_among, type_after, used_by_mount, with_master, with_new_groups}
 use Rattle.vt_laws_mounts.proofs.GroupsUp.{EndsUp, LivesIn, lives_in}
 use Rattle.vt_laws_mounts.proofs.GroupsUp.EndsUp.{at_top, goes_up}
-use Rattle.vt_spec.specs.Machine.Invariants.Lives.{has_master, has_no_master}
-use Rattle.vt_spec.proofs.Lists.{Among, among-from_map, any_among, is_among_numbers}
-use Rattle.vt_spec.specs.Lists.{is_among}
 use Rattle.vt_laws_mounts.specs.Mounts.Receivers.{GroupsLive}
 use Rattle.vt_laws_mounts.specs.Mounts.Invariants.{TypeKeepsGroups}
-use Rattle.vt_spec.specs.Language.Calls.{TypeWord}
-use Rattle.vt_spec.specs.Machine.World.{World}
 use Rattle.vt_laws_mounts.proofs.mounts.MountsRetyped.{groups_by, next_world}
-use Rattle.std.proofs.lemmas.Bool.Decides.{eqb_tells}
-use Rattle.std.proofs.lemmas.Bool.{false_from_ne_true}
-use Rattle.vt_spec.specs.Machine.Receives.{has_members, is_member_of}
-use Rattle.std.specs.Prelude.{if◌then◌else◌, option_to_list}
-use Rattle.vt_spec.specs.Machine.Types.{master_after, named_mounts, type_after, with_master, with_new_groups}
 use Rattle.vt_laws_mounts.proofs.GroupsKept.{member_shared, regrouped_live}
-use Rattle.vt_spec.specs.Machine.Run.{numbers_in_use, used_by_mount}
 use Rattle.vt_laws_mounts.proofs.mounts.MountsNumbered.{mount_uses}
-use Rattle.std.proofs.lemmas.Option.{same_Some}
-use Rattle.vt_spec.proofs.Worlds.{found_or_none, tree_among}
 
 -- what a type that is taken has as its source
 source_taken : (new : ℕ) (word : TypeWord) (kind : Propagation ℕ) (source : ℕ)

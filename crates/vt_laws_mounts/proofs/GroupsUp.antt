@@ -1,20 +1,9 @@
 -- Groups that have members, and so up their masters to an end.
-use Rattle.std.proofs.lemmas.Grind.{common_steps}
-use Rattle.std.proofs.lemmas.List.Filters.{length-filter_both}
 use Rattle.std.proofs.Common.{◌≡◌, refl, sym, ap, subst, ◌∙◌, true, false, zero, suc, Bool, List, None, Option, Some, [], arith, is_some, length, nat_eq, true≢false, ℕ, ◌&&◌, ◌∷◌, ◌≤◌, eqb-true, filter, not, ⊎_elim}
-use Rattle.std.specs.List.{list_any, list_all}
+use Rattle.vt_spec.proofs.Common.{Among, Lives, Mount, Propagation, World, among-filter, among_from_list_all, among_numbers, and_from, and_parts, any_among, any_from_among, any_pair, chain, chain_ends, chain_goes_on, common_steps, false_from_ne_true, group_of, groups_up, has_master, has_members, has_no_master, is_among, is_member_of, last_of_chain, last_or, length-filter_both, list_all, list_all_from_among, list_any, none_among, none_from_not_some, none_is_some, not-true, or_from, or_parts, same_Some, source_of}
 use Rattle.vt_laws_mounts.proofs.mounts.Receivers.{along_chain, groups_live_at}
-use Rattle.std.proofs.lemmas.Bool.{and_parts, and_from, false_from_ne_true, not-true, or_from, or_parts}
-use Rattle.vt_spec.specs.Lists.{chain, is_among, last_or, any_pair}
-use Rattle.vt_spec.proofs.Lists.{chain_ends, chain_goes_on, last_of_chain, Among, among-filter, among_from_list_all, among_numbers, any_among, any_from_among, list_all_from_among, none_among}
 use Rattle.vt_laws_mounts.specs.Mounts.Receivers.{GroupsLive}
-use Rattle.vt_spec.specs.Machine.Mounts.{Mount, Propagation, group_of, source_of}
-use Rattle.vt_spec.specs.Machine.World.{World}
-use Rattle.vt_spec.specs.Machine.Receives.{groups_up, has_members, is_member_of}
-use Rattle.vt_spec.specs.Machine.Invariants.{Lives, has_living_groups, masters_end}
-use Rattle.vt_spec.specs.Machine.Invariants.Lives.{has_master, has_no_master}
-use Rattle.std.proofs.lemmas.Option.{same_Some}
-use Rattle.vt_spec.proofs.Options.{none_from_not_some, none_is_some}
+use Rattle.vt_spec.specs.Machine.Invariants.{has_living_groups, masters_end}
 
 -- a member of a group receives from it
 pub source_from_group : (kind : Propagation ℕ) (group : ℕ) → group_of kind ≡ Some group → source_of kind ≡ Some group

@@ -1,19 +1,8 @@
 -- The kinds of a call's turn.
-use Rattle.std.proofs.Common.{◌≡◌, refl, sym, ap, subst, ◌⊎◌, inl, inr, ℕ, nat_eq, Bool, true, false, List, [], ◌∷◌, Option, Some, None, Ok, Err, Result, ◌+◌}
-use Rattle.std.specs.Prelude.{nat_le, slice_get, unwrap_or}
+use Rattle.std.proofs.Common.{◌≡◌, refl, sym, ap, subst, ◌⊎◌, inl, inr, ℕ, nat_eq, Bool, true, false, List, [], ◌∷◌, Option, Some, None, Ok, Err, Result, ◌+◌, nat_le, slice_get, unwrap_or}
+use Rattle.vt_spec.proofs.Common.{Call, Calls, Fresh, Progress, Queued, Route, Sched, Someone, Task, Turned, call_turn_of, entry_rules, first_of_list, first_progress, first_turn, first_turn_by, found_passes, further, is_failing, is_overtaken, later_turn, looks_of, most_restarts, next_word, none_is_some, one_further, queue_of, queue_turn, restarted, routes, same_name, same_task_name, task_called, turn, turn_under_way, unless, word_walked_by, words_of}
 use Rattle.vt_spec.specs.declared.errors.Deny.{Deny}
-use Rattle.vt_spec.specs.Errors.{unless}
-use Rattle.vt_spec.specs.Language.Calls.{Call, same_name}
-use Rattle.vt_spec.specs.Language.Limits.{most_restarts}
-use Rattle.vt_spec.specs.Language.Script.Who.{Someone}
-use Rattle.vt_spec.specs.Lists.{Fresh, first_of_list}
-use Rattle.vt_spec.specs.Machine.Looks.{looks_of}
-use Rattle.vt_spec.specs.Machine.Turns.{Progress, Queued, Route, Sched, Turned, call_turn_of, entry_rules, first_progress, first_turn, first_turn_by, further, is_failing, is_overtaken, later_turn, next_word, one_further, queue_of, queue_turn, restarted, routes, run_whole, turn, turn_under_way, went_on, word_walked_by, words_of}
-use Rattle.vt_spec.specs.Machine.Turns.Item.{Calls}
-use Rattle.vt_spec.specs.Machine.World.{Task, task_called}
-use Rattle.vt_spec.proofs.Found.{found_passes}
-use Rattle.vt_spec.proofs.Options.{none_is_some}
-use Rattle.vt_spec.proofs.Worlds.{same_task_name}
+use Rattle.vt_spec.specs.Machine.Turns.{run_whole, went_on}
 use Rattle.vt_laws_turns.specs.Restarts.{IsNextOf, under_way_of}
 
 module _ (sched : Sched ℕ) (task : Task ℕ) (line : ℕ) (call : Call) (fresh : Fresh ℕ) where

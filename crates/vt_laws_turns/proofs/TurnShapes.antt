@@ -1,21 +1,8 @@
 -- What a turn leaves, by what stands first in its queue.
-use Rattle.std.proofs.Common.{◌≡◌, refl, sym, ap, subst, ◌∙◌, inl, inr, ℕ, nat_eq, Bool, true, false, List, [], ◌∷◌, Option, Some, None, ◌+◌}
-use Rattle.std.specs.Prelude.{nat_le}
-use Rattle.vt_spec.specs.Errors.{denial}
+use Rattle.std.proofs.Common.{◌≡◌, refl, sym, ap, subst, ◌∙◌, inl, inr, ℕ, nat_eq, Bool, true, false, List, [], ◌∷◌, Option, Some, None, ◌+◌, nat_le}
+use Rattle.vt_spec.proofs.Common.{Asks, Call, Calls, Fresh, Item, Nobody, Outcome, Progress, Queued, Refused, Sched, Someone, Task, TaskName, Turned, Who, call_turn_of, denial, denied, directed, first_of_list, first_progress, found_passes, is_overtaken, most_restarts, policy, queue_of, queue_turn, same_name, same_task_name, task_called, turn}
 use Rattle.vt_spec.specs.declared.errors.Rule.TheVariants.{S2, S5}
-use Rattle.vt_spec.specs.Language.Calls.{Call, TaskName, same_name}
-use Rattle.vt_spec.specs.Language.Limits.{most_restarts}
-use Rattle.vt_spec.specs.Language.Script.{Who}
-use Rattle.vt_spec.specs.Language.Script.Who.{Nobody, Someone}
-use Rattle.vt_spec.specs.Lists.{Fresh, first_of_list}
-use Rattle.vt_spec.specs.Machine.Outcomes.{Outcome, denied}
-use Rattle.vt_spec.specs.Machine.Policy.{policy}
-use Rattle.vt_spec.specs.Machine.Sealed.{directed}
-use Rattle.vt_spec.specs.Machine.Turns.{Item, Progress, Queued, Sched, Turned, call_replied, call_turn_of, first_progress, is_overtaken, queue_of, queue_turn, replied, turn}
-use Rattle.vt_spec.specs.Machine.Turns.Item.{Asks, Calls, Refused}
-use Rattle.vt_spec.specs.Machine.World.{Task, task_called}
-use Rattle.vt_spec.proofs.Found.{found_passes}
-use Rattle.vt_spec.proofs.Worlds.{same_task_name}
+use Rattle.vt_spec.specs.Machine.Turns.{call_replied, replied}
 use Rattle.vt_laws_turns.specs.Restarts.{IsNextOf, is_call, under_way_of}
 use Rattle.vt_laws_turns.proofs.TurnKinds.{GoesFurther, IsWalked, TurnKind, turn_of_call}
 use Rattle.vt_laws_turns.proofs.TurnKinds.TurnKind.{Begins, GoesOn, Restarts, Whole}

@@ -1,16 +1,9 @@
 -- A world of plain filesystems has no overlay of which anything could be asked.
-use Rattle.std.proofs.Common.{arith, ◌≡◌, refl, sym, ap, ◌∙◌, ℕ, nat_eq, Bool, true, false, [], None, true≢false, flat_map}
-use Rattle.std.proofs.lemmas.Grind.{common_steps}
-use Rattle.std.specs.Prelude.{All}
-use Rattle.std.specs.List.{list_any, list_all}
-use Rattle.vt_spec.specs.Machine.Locked.{live_upper_and_work, of_overlay, overlay_or, overlays}
-use Rattle.vt_spec.specs.Machine.World.{Filesystem, Overlay, World, filesystem_numbered, is_overlay}
-use Rattle.vt_spec.specs.Machine.Invariants.{OverlayInvariants}
-use Rattle.vt_spec.proofs.Lists.{Among, all_from_among, among_from_all, filter_none, list_all_from_among, none_from_among}
+use Rattle.std.proofs.Common.{arith, ◌≡◌, refl, sym, ap, ◌∙◌, ℕ, nat_eq, Bool, true, false, [], None, true≢false, flat_map, All}
+use Rattle.vt_spec.proofs.Common.{Among, Filesystem, Overlay, OverlayInvariants, World, all_from_among, among_from_all, common_steps, filesystem_numbered, filter_none, is_overlay, list_all, list_all_from_among, list_any, live_upper_and_work, none_from_among, none_from_not_some, of_overlay, overlay_or, overlays}
 use Rattle.vt_laws_mounts.specs.LettingGo.InUse.{UppersArePlain, has_upper_in}
 use Rattle.vt_laws_trees.proofs.trees.TreesOfWorlds.{numbered_anyhow}
 use Rattle.vt_laws_worlds.specs.Worlds.Kept.{IsPlain}
-use Rattle.vt_spec.proofs.Options.{none_from_not_some}
 
 module _ (world : World ℕ) (plain : IsPlain world) where
   pub no_overlay : (filesystem : Filesystem ℕ) → Among filesystem world.filesystems → filesystem.overlay ≡ None

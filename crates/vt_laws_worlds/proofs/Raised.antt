@@ -1,22 +1,9 @@
 -- Change numbers: no invariant reads one.
-use Rattle.std.proofs.Common.{arith, ◌≡◌, refl, sym, ap, subst, ◌∙◌, ◌≤◌, ℕ, nat_eq, Bool, false, List, [], ◌∷◌, ◌++◌, find, map}
-use Rattle.std.proofs.lemmas.Grind.{common_steps}
-use Rattle.std.specs.Prelude.{Option, is_some, option_to_list, unwrap_or, ◌&&◌}
-use Rattle.std.specs.List.{list_all}
-use Rattle.std.proofs.lemmas.List.Elements.{All-map}
-use Rattle.vt_spec.specs.FileTree.{FileTree, is_kind_in}
-use Rattle.vt_spec.specs.Lists.{is_among}
-use Rattle.vt_spec.specs.Machine.Mounts.{Location, Mount}
-use Rattle.vt_spec.specs.Machine.World.{Descriptor, Filesystem, Namespace, Task, World, all_locations, filesystem_numbered, is_overlay, locations_of, mount_at, no_filesystem}
-use Rattle.vt_spec.specs.Language.Calls.{same_name}
-use Rattle.vt_spec.specs.Machine.Invariants.{ForksAreCounted, ListsNumbers, MountInvariants, NamespaceInvariants, TaskInvariants, TreeInvariants, is_fit_filesystem, is_within_limits}
-use Rattle.vt_spec.specs.Tree.{Node, is_directory_node}
+use Rattle.std.proofs.Common.{arith, ◌≡◌, refl, sym, ap, subst, ◌∙◌, ◌≤◌, ℕ, nat_eq, Bool, false, List, [], ◌∷◌, ◌++◌, find, map, Option, is_some, option_to_list, unwrap_or, ◌&&◌}
+use Rattle.vt_spec.proofs.Common.{All-map, Descriptor, FileTree, Filesystem, ForksAreCounted, HasOwnParents, IsTree, ListsNumbers, Location, Mount, MountInvariants, Namespace, NamespaceInvariants, Node, Task, TaskInvariants, TreeInvariants, World, all-map, all_locations, among-from_map, among_from_contains, common_steps, contains_from_among, filesystem_numbered, is_among, is_directory_node, is_fit_filesystem, is_kind_in, is_overlay, is_within_limits, list_all, locations_of, map_twice, mount_at, no_filesystem, pair-map, same_name, stands_alike}
 use Rattle.vt_spec.specs.declared.attributes.Kind.TheVariants.{File}
-use Rattle.vt_spec.specs.TreeInvariant.{HasOwnParents, IsTree}
-use Rattle.vt_spec.proofs.Lists.{all-map, among-from_map, among_from_contains, contains_from_among, pair-map, map_twice}
 use Rattle.vt_laws_mounts.proofs.letting_go.Lists.{any-map, flat_map-map}
 use Rattle.vt_laws_worlds.specs.Worlds.Kept.{IsPlain, IsWorldButForUse, MountsShow}
-use Rattle.vt_spec.proofs.Worlds.{stands_alike}
 
 -- the trees by the numbers of their filesystems
 abbrev pub FilesBy : Type 0

@@ -1,17 +1,6 @@
 -- What is in use does not go by change numbers, so raising them keeps all invariants.
-use Rattle.std.proofs.Common.{arith, ◌≡◌, refl, sym, ap, subst, ◌∙◌, ℕ, nat_eq, true, cond, List, ◌∷◌, ◌++◌, ◌||◌, ◌&&◌, map, is_some}
-use Rattle.std.proofs.lemmas.Grind.{common_steps}
-use Rattle.std.specs.Prelude.{filter, filter_map}
-use Rattle.std.specs.List.{list_all, list_any}
-use Rattle.std.proofs.lemmas.List.Elements.{All-map, All-weaker}
-use Rattle.vt_spec.specs.Machine.Filesystems.{raised, raised_if_changed}
-use Rattle.vt_spec.specs.Machine.Mounts.{Location, Mount, root_of}
-use Rattle.vt_spec.specs.Machine.Policy.{numbers_raised, raised_namespace, raised_task, same_mounts_in}
-use Rattle.vt_spec.specs.Machine.Settled.{filesystem_lives, has_layer_on, is_mounted, settled, used_in}
-use Rattle.vt_spec.specs.Machine.World.{Filesystem, Layer, Namespace, Task, World, all_locations, mount_at}
-use Rattle.vt_spec.specs.Language.Calls.{TaskName, same_name}
-use Rattle.vt_spec.specs.Machine.Invariants.{IsWorld}
-use Rattle.vt_spec.proofs.Lists.{all-map}
+use Rattle.std.proofs.Common.{arith, ◌≡◌, refl, sym, ap, subst, ◌∙◌, ℕ, nat_eq, true, cond, List, ◌∷◌, ◌++◌, ◌||◌, ◌&&◌, map, is_some, filter, filter_map}
+use Rattle.vt_spec.proofs.Common.{All-map, All-weaker, Filesystem, IsWorld, Layer, Location, Mount, Namespace, Task, TaskName, World, all-map, all_locations, common_steps, filesystem_lives, has_layer_on, is_mounted, list_all, list_any, mount_at, numbers_raised, raised, raised_if_changed, raised_namespace, raised_task, root_of, same_mounts_in, same_name, settled, used_in}
 use Rattle.vt_laws_mounts.specs.LettingGo.InUse.{AllInUse, is_inode_used}
 use Rattle.vt_laws_mounts.proofs.letting_go.sweeps.InUse.{nothing_goes}
 use Rattle.vt_laws_mounts.proofs.letting_go.Lists.{any-map, flat_map-map}

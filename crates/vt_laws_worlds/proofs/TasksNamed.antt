@@ -1,19 +1,6 @@
 -- Tasks keep names of their own: what a fork names is a new name, where tasks have counted their forks.
-use Rattle.std.proofs.lemmas.Grind.{common_steps}
 use Rattle.std.proofs.Common.{◌≡◌, refl, sym, ap, subst, ◌∙◌, ◌⊎◌, inl, inr, ⊎_elim, ℕ, nat_eq, Bool, true, false, cond, true≢false, filter, not, List, [], ◌∷◌, ◌++◌, ◌+◌, ◌≤◌, ◌||◌, append_assoc, arith, is_some, map}
-use Rattle.std.specs.List.{list_any}
-use Rattle.std.specs.Cmp.Lexicographic.{bytes_decides}
-use Rattle.std.proofs.lemmas.Bool.{or_parts}
-use Rattle.vt_spec.specs.Lists.{Fresh, any_pair, first_of_list, rest_of}
-use Rattle.vt_spec.specs.Machine.Mounts.{Mount}
-use Rattle.vt_spec.specs.Machine.Namespaces.{pivoted_task}
-use Rattle.vt_spec.specs.Machine.Tasks.{child_name, child_of}
-use Rattle.vt_spec.specs.Machine.Invariants.{ForksAreCounted}
-use Rattle.vt_spec.specs.Machine.World.{Task, World, first_task, opening, replaced_if_called}
-use Rattle.vt_spec.specs.Language.Calls.{TaskName, same_name}
-use Rattle.vt_spec.specs.Rights.{Credentials}
-use Rattle.vt_spec.proofs.Lists.{Among, among-append, among-from_filter, among-from_map, among_from_contains, contains_from_among, none_among, none_from_among, pair-filter, pair-map}
-use Rattle.vt_spec.proofs.Worlds.{name-replaced_if_called, same_task_name}
+use Rattle.vt_spec.proofs.Common.{Among, Credentials, ForksAreCounted, Fresh, Mount, Task, TaskName, World, among-append, among-from_filter, among-from_map, among_from_contains, any_pair, bytes_decides, child_name, child_of, common_steps, contains_from_among, first_of_list, first_task, list_any, name-replaced_if_called, none_among, none_from_among, opening, or_parts, pair-filter, pair-map, pivoted_task, replaced_if_called, rest_of, same_name, same_task_name}
 
 -- A name that is put together in two ways
 module _ where

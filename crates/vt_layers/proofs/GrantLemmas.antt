@@ -1,15 +1,7 @@
 -- Layers without an upper one, as they are granted.
-use Rattle.std.proofs.Common.{◌≡◌, ℕ, true, false, [], ◌∷◌, List, Result, Ok, Err, Option, None, Some, map, nat_eq, refl, sym, take, ap, ◌∙◌}
-use Rattle.std.specs.Prelude.{is_some, not, option_map}
+use Rattle.std.proofs.Common.{◌≡◌, ℕ, true, false, [], ◌∷◌, List, Result, Ok, Err, Option, None, Some, map, nat_eq, refl, sym, take, ap, ◌∙◌, is_some, not, option_map}
+use Rattle.vt_spec.proofs.Common.{Layer, LayerLocations, Location, Looks, OverlayWords, Task, and_then, each_walked, layer_at, layers_walked, options_of, overlay_at, then_some, when}
 use Rattle.vt_spec.specs.declared.errors.Deny.{Deny}
-use Rattle.vt_spec.specs.Errors.{and_then}
-use Rattle.vt_spec.specs.Language.Calls.{OverlayWords}
-use Rattle.vt_spec.specs.Language.Script.{options_of}
-use Rattle.vt_spec.specs.Lists.{then_some, when}
-use Rattle.vt_spec.specs.Machine.Looks.{Looks}
-use Rattle.vt_spec.specs.Machine.Mounts.{Location}
-use Rattle.vt_spec.specs.Machine.Rules.Mounting.{LayerLocations, each_walked, layer_at, layers_walked, overlay_at}
-use Rattle.vt_spec.specs.Machine.World.{Layer, Task}
 use Rattle.vt_location.specs.Locations.{location_of}
 use Rattle.vt_request.specs.Requests.{options_named}
 use Rattle.vt_layers.specs.LayersValue.{first_layers, first_lowers, lowers_alone, lowers_of}

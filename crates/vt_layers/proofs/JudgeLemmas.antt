@@ -1,25 +1,8 @@
 -- Layers that options name, and mounts of overlays judged by them.
-use Rattle.std.proofs.Common.{◌≡◌, ◌≤◌, ℕ, Bool, true, false, [], ◌∷◌, Result, Ok, Err, Option, None, Some, length, take, nat_eq, refl, sym, ap, ◌∙◌, arith, length-take-le}
-use Rattle.std.specs.Prelude.{List, is_some, nat_lt, not, ◌&&◌}
-use Rattle.std.proofs.lemmas.Bool.Decides.{nat_tests}
-use Rattle.std.proofs.lemmas.List.{take_all}
+use Rattle.std.proofs.Common.{◌≡◌, ◌≤◌, ℕ, Bool, true, false, [], ◌∷◌, Result, Ok, Err, Option, None, Some, length, take, nat_eq, refl, sym, ap, ◌∙◌, arith, length-take-le, List, is_some, nat_lt, not, ◌&&◌, take_all}
+use Rattle.vt_spec.proofs.Common.{Call, Here, Judgement, LayerLocations, Location, Looks, MountFlags, OverlayWords, Permit, Rules, Task, ToMountOverlay as MeansToMount, and_then, cap_sys_admin, denial, destination_walk, has_single_lower, is_empty_list, lacks, layer_rules, layers_walked, most_lowers, mount_overlay_permit, nat_tests, new_mount_rules, overlay_at, overlay_permit_by, rest_of, unless, unless-let_through, unless-refused, walk_end}
 use Rattle.vt_spec.specs.declared.errors.Deny.{Deny}
 use Rattle.vt_spec.specs.declared.errors.Rule.TheVariants.{K1, O2, S5}
-use Rattle.vt_spec.specs.Errors.{Rules, and_then, denial, unless}
-use Rattle.vt_spec.specs.Language.Calls.{Call, MountFlags, OverlayWords}
-use Rattle.vt_spec.specs.Language.Limits.{most_lowers}
-use Rattle.vt_spec.specs.Lists.{is_empty_list, rest_of}
-use Rattle.vt_spec.specs.Machine.Judge.{Judgement, mount_overlay_permit, overlay_permit_by}
-use Rattle.vt_spec.specs.Machine.Looks.{Looks}
-use Rattle.vt_spec.specs.Machine.Mounts.{Location}
-use Rattle.vt_spec.specs.Machine.Permits.{Permit}
-use Rattle.vt_spec.specs.Machine.Permits.Permit.{ToMountOverlay as MeansToMount}
-use Rattle.vt_spec.specs.Machine.Rules.Conditions.{lacks}
-use Rattle.vt_spec.specs.Machine.Rules.Mounting.{LayerLocations, destination_walk, has_single_lower, layer_rules, layers_walked, new_mount_rules, overlay_at}
-use Rattle.vt_spec.specs.Machine.Walking.{Here, walk_end}
-use Rattle.vt_spec.specs.Machine.World.{Task}
-use Rattle.vt_spec.specs.Rights.{cap_sys_admin}
-use Rattle.vt_spec.proofs.Refusals.{unless-let_through, unless-refused}
 use Rattle.vt_permits.specs.Memory.{JudgesByReceivers}
 use Rattle.vt_rules.proofs.Rows.{skipped, stopped}
 use Rattle.vt_walk.specs.WalkValue.{location_end}

@@ -1,13 +1,8 @@
 -- The parts of a text, and paths among them.
-use Rattle.std.proofs.Common.{◌≡◌, ◌≢◌, ℕ, zero, suc, ◌+◌, ◌<◌, Bool, true, false, codes, cond, eqb, ◌||◌, List, [], ◌∷◌, length, get_or, take, drop, Option, None, Some, option_map, refl, sym, ap, ◌∙◌, arith}
-use Rattle.std.specs.List.{list_any}
-use Rattle.std.proofs.lemmas.Bool.{eq-eqb, ne_eqb}
-use Rattle.std.proofs.lemmas.Bool.Decides.{nat_tests}
-use Rattle.vt_spec.specs.Language.Calls.{OverlayWords}
-use Rattle.vt_spec.specs.Language.Script.{OptionItem, behind, each_of, lower_item, option_item, path_word, with_first, with_item}
+use Rattle.std.proofs.Common.{◌≡◌, ◌≢◌, ℕ, zero, suc, ◌+◌, ◌<◌, Bool, true, false, codes, cond, eqb, ◌||◌, List, [], ◌∷◌, length, get_or, take, drop, Option, None, Some, option_map, refl, sym, ap, ◌∙◌, arith, eq-eqb, ne_eqb}
+use Rattle.vt_spec.proofs.Common.{OverlayWords, each_of, folded, list_any, nat_tests, parts, path_word, then_some, with_byte, with_first}
+use Rattle.vt_spec.specs.Language.Script.{OptionItem, behind, lower_item, option_item, with_item}
 use Rattle.vt_spec.specs.Language.Script.OptionItem.{LowerItem}
-use Rattle.vt_spec.specs.Lists.{folded, then_some}
-use Rattle.vt_spec.specs.PathText.{parts, with_byte}
 use Rattle.vt_text.proofs.PathWords.{parts_some}
 
 -- the first part ends at the first separator

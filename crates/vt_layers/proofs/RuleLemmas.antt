@@ -1,19 +1,9 @@
 -- The rules of layers, as code checks them together.
-use Rattle.std.proofs.Common.{◌≡◌, ◌<◌, ◌≤◌, ◌+◌, ◌-◌, ℕ, Bool, true, false, not, ◌&&◌, ◌||◌, List, [], ◌∷◌, ◌++◌, Result, is_some, length, take, drop, get_or, map, nat_eq, option_map, refl, sym, ap, ◌∙◌}
-use Rattle.std.specs.List.{list_any}
-use Rattle.std.specs.Prelude.{nat_lt, option_to_list}
-use Rattle.std.proofs.lemmas.List.{append-nil, at_drop_all, at_drop_more, take_rest}
-use Rattle.std.proofs.lemmas.List.Folds.{list_any-append}
+use Rattle.std.proofs.Common.{◌≡◌, ◌<◌, ◌≤◌, ◌+◌, ◌-◌, ℕ, Bool, true, false, not, ◌&&◌, ◌||◌, List, [], ◌∷◌, ◌++◌, Result, is_some, length, take, drop, get_or, map, nat_eq, option_map, refl, sym, ap, ◌∙◌, nat_lt, option_to_list, append-nil}
+use Rattle.vt_spec.proofs.Common.{Layer, LayerLocations, Location, Looks, Rules, Task, any_pair, at_drop_all, at_drop_more, has_single_lower, is_empty_list, is_overlay_at, is_read_only, layer_at, layer_locations, layer_rules, list_any, list_any-append, most_lowers, one_under_another, overlay_at, take_rest, unless}
 use Rattle.vt_spec.specs.declared.errors.Deny.{Deny}
 use Rattle.vt_spec.specs.declared.errors.Rule.TheVariants.{O2, O3, O5}
-use Rattle.vt_spec.specs.Errors.{Rules, unless}
-use Rattle.vt_spec.specs.Language.Limits.{most_lowers}
-use Rattle.vt_spec.specs.Lists.{any_pair, is_empty_list}
-use Rattle.vt_spec.specs.Machine.Looks.{Looks}
-use Rattle.vt_spec.specs.Machine.Mounts.{Location}
-use Rattle.vt_spec.specs.Machine.Rules.Conditions.{is_overlay_at, is_read_only}
-use Rattle.vt_spec.specs.Machine.Rules.Mounting.{LayerLocations, has_single_lower, layer_at, layer_locations, layer_rules, lie_apart, one_under_another, overlay_at, upper_and_work_locations, upper_overlaps_work}
-use Rattle.vt_spec.specs.Machine.World.{Layer, Task}
+use Rattle.vt_spec.specs.Machine.Rules.Mounting.{lie_apart, upper_and_work_locations, upper_overlaps_work}
 use Rattle.vt_location.specs.Locations.{location_of}
 use Rattle.vt_layers.specs.LayerConditions.{checked_rules, lowers_rules}
 use Rattle.vt_layers.specs.LayersValue.{lowers_alone, lowers_of}

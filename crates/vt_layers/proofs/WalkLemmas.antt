@@ -1,13 +1,8 @@
 -- Walks to layers, one after another.
-use Rattle.std.proofs.Common.{◌≡◌, ◌≤◌, ℕ, suc, List, [], ◌∷◌, ◌++◌, Result, Ok, Err, Option, Some, length, take, nat_eq, refl, sym, ap, ◌∙◌, arith}
-use Rattle.std.proofs.lemmas.List.{append-nil, append_assoc, take_all, take-append-le}
+use Rattle.std.proofs.Common.{◌≡◌, ◌≤◌, ℕ, suc, List, [], ◌∷◌, ◌++◌, Result, Ok, Err, Option, Some, length, take, nat_eq, refl, sym, ap, ◌∙◌, arith, append-nil, append_assoc, take_all}
+use Rattle.vt_spec.proofs.Common.{Here, LayerLocations, Looks, Task, and_then, each_walked, source_walk, take-append-le, walk_end, walked_if_given}
 use Rattle.vt_spec.specs.declared.errors.Deny.{Deny}
-use Rattle.vt_spec.specs.Errors.{and_then}
-use Rattle.vt_spec.specs.Machine.Looks.{Looks}
 use Rattle.vt_spec.specs.Machine.Mounts as meant
-use Rattle.vt_spec.specs.Machine.Rules.Mounting.{LayerLocations, each_walked, source_walk, walked_if_given}
-use Rattle.vt_spec.specs.Machine.Walking.{Here, walk_end}
-use Rattle.vt_spec.specs.Machine.World.{Task}
 use Rattle.vt_location.specs.declared.locations.Location.{Location}
 use Rattle.vt_location.specs.Locations.{location_of}
 use Rattle.vt_walk.specs.WalkValue.{location_end}

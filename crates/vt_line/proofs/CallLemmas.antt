@@ -1,11 +1,9 @@
 -- Calls by their names and words.
-use Rattle.std.specs.Global.{Vec}
 use Rattle.std.proofs.Common.{List, None, Option, Some, Result, Err, option_map, refl, false, true, subst, sym, ap, ◌≡◌, ◌∙◌, ◌∷◌, [], ℕ, IsSome, IsSomeAnd}
-use Rattle.vt_spec.specs.Language.Calls.{Call}
+use Rattle.vt_spec.proofs.Common.{Call, One, Two, Version, call_read, no_more, path_word, then_some, word_then}
+use Rattle.std.specs.Global.{Vec}
 use Rattle.vt_spec.specs.Language.Calls as spec
-use Rattle.vt_spec.specs.Lists.{then_some}
-use Rattle.vt_spec.specs.Language.Script.{Version, call_read, names_no_upper, no_more, path_alone, path_word, two_paths, word_then}
-use Rattle.vt_spec.specs.Language.Script.Version.{One, Two}
+use Rattle.vt_spec.specs.Language.Script.{names_no_upper, path_alone, two_paths}
 use Rattle.vt_request.specs.declared.request.Call.{Call as KeptCall}
 use Rattle.vt_line.specs.declared.names.CallName.{CallName}
 use Rattle.vt_line.specs.declared.names.CallName.TheVariants.{Pair, Path, PivotRoot}

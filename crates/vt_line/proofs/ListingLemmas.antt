@@ -1,11 +1,9 @@
 -- The lines of a list of mounts, one after another.
-use Rattle.std.proofs.Common.{◌≡◌, ◌<◌, ◌+◌, ℕ, List, [], ◌∷◌, ◌++◌, append_assoc, codes, decimal, drop, get_or, length, map, refl, sym, ap, ◌∙◌, arith}
-use Rattle.std.proofs.lemmas.List.{drop_more}
+use Rattle.std.proofs.Common.{◌≡◌, ◌<◌, ◌+◌, ℕ, List, [], ◌∷◌, ◌++◌, append_assoc, codes, decimal, drop, get_or, length, map, refl, sym, ap, ◌∙◌, arith, flat_map}
+use Rattle.vt_spec.proofs.Common.{counted_from, drop_more, mount_point_words, printed_byte, printed_line, spaced}
 use Rattle.std.proofs.lemmas.List.Concat.{flat_map-append}
 use Rattle.std.specs.Global.{Vec}
-use Rattle.std.specs.List.{flat_map}
-use Rattle.vt_spec.specs.Language.Printed.{mount_line_words, mount_point_words, printed_byte, printed_line, printed_path, spaced}
-use Rattle.vt_spec.specs.Lists.{counted_from}
+use Rattle.vt_spec.specs.Language.Printed.{mount_line_words, printed_path}
 use Rattle.vt_request.specs.Answers.{mount_line_of}
 use Rattle.vt_request.specs.declared.answer.MountLine.{MountLine}
 use Rattle.vt_spec.specs.Language.Answers.{MountLine as Line}

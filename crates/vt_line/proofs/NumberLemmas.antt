@@ -1,11 +1,8 @@
 -- Numbers of the grammar, read from left to right.
-use Rattle.std.proofs.Common.{◌≡◌, ℕ, ◌+◌, ◌-◌, ◌*◌, ◌≤◌, ◌<◌, ◌≢◌, ◌&&◌, Bool, true, false, not, cond, eqb, leb, ltb, List, [], ◌∷◌, length, Option, Some, None, refl, lit≤, arith}
-use Rattle.std.proofs.lemmas.Bool.{leb-true}
-use Rattle.std.proofs.lemmas.Bool.Decides.{nat_tests}
+use Rattle.std.proofs.Common.{◌≡◌, ℕ, ◌+◌, ◌-◌, ◌*◌, ◌≤◌, ◌<◌, ◌≢◌, ◌&&◌, Bool, true, false, not, cond, eqb, leb, ltb, List, [], ◌∷◌, length, Option, Some, None, refl, lit≤, arith, leb-true}
+use Rattle.vt_spec.proofs.Common.{child_number, is_empty, list_all, nat_tests, value_from}
 use Rattle.std.proofs.Math.Nat.{mul-le-mul_right}
-use Rattle.std.specs.List.{list_all}
-use Rattle.vt_spec.specs.PathText.{is_empty}
-use Rattle.vt_spec.specs.Language.Script.{number_in, digits_below, value_from, child_number}
+use Rattle.vt_spec.specs.Language.Script.{number_in, digits_below}
 
 -- a number grows with each digit
 pub value_from-grows : (base value : ℕ) (text : List ℕ) → 1 ≤ base → value ≤ value_from base value text

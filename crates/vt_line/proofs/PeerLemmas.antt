@@ -1,7 +1,6 @@
 -- The list of peer groups as its lines, and the members of a group one behind the other.
-use Rattle.std.proofs.Common.{◌≡◌, refl, ap, ℕ, List, [], ◌∷◌, ◌++◌, map}
-use Rattle.std.specs.List.{flat_map}
-use Rattle.vt_spec.specs.Language.Printed.{peer_line_words, printed_line, printed_member}
+use Rattle.std.proofs.Common.{◌≡◌, refl, ap, ℕ, List, [], ◌∷◌, ◌++◌, map, flat_map}
+use Rattle.vt_spec.proofs.Common.{peer_line_words, printed_line, printed_member}
 use Rattle.vt_request.specs.Answers.{mount_place_of, peer_line_of}
 use Rattle.vt_request.specs.declared.answer.MountPlace.{MountPlace}
 use Rattle.vt_request.specs.declared.answer.PeerLine.{PeerLine}

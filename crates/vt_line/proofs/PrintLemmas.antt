@@ -1,15 +1,11 @@
 -- Texts printed in runs of plain bytes, with an escape after each.
-use Rattle.std.proofs.Common.{◌≡◌, ℕ, codes, decimal, suc, ◌<◌, ◌/◌, ◌%◌, cond, false, List, [], ◌∷◌, ◌++◌, length, map, All, IsTrue, slice_index, refl, sym, ap, ◌∙◌, arith, append_assoc}
-use Rattle.std.proofs.lemmas.List.{append-nil}
+use Rattle.std.proofs.Common.{◌≡◌, ℕ, codes, decimal, suc, ◌<◌, ◌/◌, ◌%◌, cond, false, List, [], ◌∷◌, ◌++◌, length, map, All, IsTrue, slice_index, refl, sym, ap, ◌∙◌, arith, append_assoc, append-nil, flat_map}
+use Rattle.vt_spec.proofs.Common.{Names, StatLine, is_plain, printed_byte, printed_line, printed_text, printed_value, spaced}
 use Rattle.std.proofs.lemmas.List.Concat.{flat_map-append}
-use Rattle.std.specs.List.{flat_map}
-use Rattle.vt_spec.specs.Language.Script.{is_plain}
 use Rattle.std.specs.Global.{Vec}
-use Rattle.vt_spec.specs.Language.Answers.Answer.{Names}
-use Rattle.vt_spec.specs.Language.Answers.{StatLine}
 use Rattle.vt_spec.specs.declared.attributes.Kind.{Kind}
 use Rattle.vt_spec.specs.declared.attributes.Kind.TheVariants.{Dir, File, Symlink, White}
-use Rattle.vt_spec.specs.Language.Printed.{hex_digit, owner_words, printed_byte, printed_line, printed_text, printed_value, spaced, stat_words}
+use Rattle.vt_spec.specs.Language.Printed.{hex_digit, owner_words, stat_words}
 use Rattle.vt_line.specs.Printing.{further_words, kind_text, printed_names}
 
 abbrev pub escape : ℕ → List ℕ

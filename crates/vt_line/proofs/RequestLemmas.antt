@@ -1,21 +1,10 @@
 -- What a line asks for, by its texts.
-use Rattle.std.proofs.Common.{inl, inr, ⊎_elim, eqb, IfErr, IfOk, IfSome, Bool, List, None, Ok, Option, Result, Some, Err, [], ap, arith, codes, cond, false, length, lit≤, option_map, refl, subst, suc, sym, true, unwrap_or, ℕ, ◌<◌, ◌≡◌, ◌≤◌, ◌∙◌, ◌∷◌, ◌||◌, ◌⊎◌, leb, IsSomeAnd}
-use Rattle.std.specs.List.{list_all}
-use Rattle.std.specs.Str.{bytes_eq}
-use Rattle.std.proofs.lemmas.Bool.{false≢true}
-use Rattle.std.proofs.lemmas.Bool.Decides.{nat_tests}
-use Rattle.vt_spec.specs.Errors.{denial}
+use Rattle.std.proofs.Common.{inl, inr, ⊎_elim, eqb, IfErr, IfOk, IfSome, Bool, List, None, Ok, Option, Result, Some, Err, [], ap, arith, codes, cond, false, length, lit≤, option_map, refl, subst, suc, sym, true, unwrap_or, ℕ, ◌<◌, ◌≡◌, ◌≤◌, ◌∙◌, ◌∷◌, ◌||◌, ◌⊎◌, leb, IsSomeAnd, bytes_eq}
+use Rattle.vt_spec.proofs.Common.{Asking, Call, Calling, Directive, MountOverlay, MountPlain, Nobody, One, Request, Someone, Two, Version, asked_by, call_words, capabilities_word, denial, each_of, false≢true, groups_word, identity_word, is_plain, is_silent, list_all, longest_line, nat_tests, no_more, options_of, path_word, plain_flags, raw_tokens, request_of, request_of_texts, task_word, then_some, token_text, word_then}
 use Rattle.vt_spec.specs.declared.errors.Deny.{Deny}
 use Rattle.vt_spec.specs.declared.errors.Rule.TheVariants.{S1, S5}
-use Rattle.vt_spec.specs.Language.Limits.{longest_line}
-use Rattle.vt_spec.specs.Language.Calls.{Call, Directive, plain_flags}
 use Rattle.vt_spec.specs.Language.Calls as asked
-use Rattle.vt_spec.specs.Language.Calls.Call.{MountOverlay, MountPlain}
-use Rattle.vt_spec.specs.Lists.{then_some}
-use Rattle.vt_spec.specs.Language.Script.{Request, Version, access_word, asked_by, attribute_words, bytes_word, call_asked, call_words, capabilities_word, chown_call, creation_words, descriptor_word, descriptor_words, directive_asked, each_of, flags_or_plain, flags_word, fork_words, groups_word, identity_word, is_plain, is_silent, kept_or_identity, may_have, mode_word, mount_words, mounting_words, naming_words, no_more, offset_word, options_of, overlays, path_alone, path_word, raw_tokens, request_of, request_of_texts, second_words, some_tasks, task_word, task_words, token_text, two_paths, type_word, word_then, yes_or_no_word}
-use Rattle.vt_spec.specs.Language.Script.Request.{Asking, Calling}
-use Rattle.vt_spec.specs.Language.Script.Version.{One, Two}
-use Rattle.vt_spec.specs.Language.Script.Who.{Nobody, Someone}
+use Rattle.vt_spec.specs.Language.Script.{access_word, attribute_words, bytes_word, call_asked, chown_call, creation_words, descriptor_word, descriptor_words, directive_asked, flags_or_plain, flags_word, fork_words, kept_or_identity, may_have, mode_word, mount_words, mounting_words, naming_words, offset_word, overlays, path_alone, second_words, some_tasks, task_words, two_paths, type_word, yes_or_no_word}
 use Rattle.vt_line.specs.declared.calls.ReadError.{ReadError}
 use Rattle.vt_line.specs.declared.calls.ReadError.TheVariants.{Grammar, Memory}
 use Rattle.vt_line.specs.declared.names.CallName.{CallName}

@@ -1,13 +1,11 @@
 -- Loops over a split, and what is read of each part.
 use Rattle.std.proofs.Common.{◌≡◌, ℕ, suc, eqb, ◌+◌, ◌≤◌, ◌<◌, get_or, List, [], ◌∷◌, length, drop, Option, None, Some, Result, Ok, Err, IfSome, OnErr, is_some, true, refl, subst, sym, ap, ◌∙◌, arith}
-use Rattle.std.proofs.lemmas.List.{at_drop_more, at_drop_all}
+use Rattle.vt_spec.proofs.Common.{at_drop_all, at_drop_more, each_of, parts, with_first}
 use Rattle.std.proofs.lemmas.Iterator.{YieldsList}
 use Rattle.std.proofs.lemmas.Iterator.Adapters.{YieldsList-from_skip}
 use Rattle.std.specs.Iterator.Adapters.{skip_source, skip_count, skip_steps}
 use Rattle.std.specs.declared.iter.Skip.{Skip}
 use Rattle.std.specs.List.{slice_split}
-use Rattle.vt_spec.specs.PathText.{parts}
-use Rattle.vt_spec.specs.Language.Script.{each_of, with_first}
 use Rattle.vt_line.proofs.TokenLemmas.{parts-split}
 
 -- a split yields the parts

@@ -1,19 +1,11 @@
 -- Tokens, read from left to right.
-use Rattle.std.proofs.Common.{◌≡◌, ℕ, ◌+◌, ◌≤◌, ◌<◌, eqb, leb, Bool, true, false, not, cond, ◌&&◌, ◌||◌, List, [], ◌∷◌, ◌++◌, codes, length, filter, take, drop, sum, Option, Some, None, option_map, refl, sym, subst, add-zero, zero-add, add_assoc, ap, ◌∙◌, arith, lit≤, length-drop}
-use Rattle.std.proofs.lemmas.List.{append_assoc, take_all, take-append-le, drop-append-le}
-use Rattle.std.proofs.lemmas.Slice.Eq.{bytes_eq-Decides}
+use Rattle.std.proofs.Common.{◌≡◌, ℕ, ◌+◌, ◌≤◌, ◌<◌, eqb, leb, Bool, true, false, not, cond, ◌&&◌, ◌||◌, List, [], ◌∷◌, ◌++◌, codes, length, filter, take, drop, sum, Option, Some, None, option_map, refl, sym, subst, add-zero, zero-add, add_assoc, ap, ◌∙◌, arith, lit≤, length-drop, append_assoc, take_all, find, sum_by, bytes_eq}
+use Rattle.vt_spec.proofs.Common.{AfterBackslash, Between, Failed, and_parts, bytes_eq-Decides, cond-None, each_of, false≢true, is_empty, is_plain, is_silent, list_all, nat_tests, option_map_or, parts, raw_tokens, sum_by-cons, take-append-le, token_text, with_byte, with_first}
+use Rattle.std.proofs.lemmas.List.{drop-append-le}
 use Rattle.std.proofs.lemmas.Iterator.{YieldsList}
-use Rattle.std.proofs.lemmas.List.Sums.{sum_by-cons}
-use Rattle.std.proofs.lemmas.Bool.Decides.{nat_tests}
-use Rattle.std.specs.Option.{option_map_or}
-use Rattle.std.specs.List.{find, list_all, slice_split, onto_first, sum_by}
-use Rattle.std.specs.Str.{bytes_eq}
-use Rattle.vt_spec.specs.PathText.{parts, with_byte, is_empty}
-use Rattle.vt_spec.specs.Language.Script.{each_of, is_plain, is_silent, raw_tokens, is_silent_token, spelled, token_text, with_completed, with_first}
-use Rattle.vt_spec.specs.Language.Script.Reading.{AfterBackslash, Between, Failed}
+use Rattle.std.specs.List.{slice_split, onto_first}
+use Rattle.vt_spec.specs.Language.Script.{is_silent_token, spelled, with_completed}
 use Rattle.vt_line.specs.Tokens.{cut, few_texts}
-use Rattle.std.proofs.lemmas.Bool.{and_parts, false≢true}
-use Rattle.vt_spec.proofs.Options.{cond-None}
 
 -- the parts of a text are those of a split
 with_byte-onto_first : (byte : ℕ) (texts : List (List ℕ)) → with_byte false byte texts ≡ onto_first byte texts

@@ -1,22 +1,14 @@
 -- Task names and capabilities.
-use Rattle.std.proofs.Common.{◌≡◌, ℕ, zero, suc, Bool, true, false, cond, List, [], ◌∷◌, codes, drop, is_some, IsSome, length, Option, Some, None, option_map, refl, sym, ap, ◌∙◌, arith, nat_eq, eqb, leb, ltb, ◌≤◌, ◌<◌, ◌&&◌, subst, lit<}
-use Rattle.std.proofs.lemmas.Bool.{ltb-true, and_parts, false≢true}
+use Rattle.std.proofs.Common.{◌≡◌, ℕ, zero, suc, Bool, true, false, cond, List, [], ◌∷◌, codes, drop, is_some, IsSome, length, Option, Some, None, option_map, refl, sym, ap, ◌∙◌, arith, nat_eq, eqb, leb, ltb, ◌≤◌, ◌<◌, ◌&&◌, subst, lit<, ltb-true, bytes_eq, IsUtf8, IsAscii}
+use Rattle.vt_spec.proofs.Common.{and_parts, bytes_eq-Decides, capabilities_word, capability_named, child_number, cond-None, each_of, false≢true, groups_word, identity_word, is_empty_list, list_all, nat_tests, parts, pointwise, task_word, with_first}
 use Rattle.std.specs.Bool.{then_some}
-use Rattle.std.specs.List.{list_all}
-use Rattle.std.specs.Str.{bytes_eq, IsUtf8, IsAscii}
-use Rattle.std.specs.Cmp.Lexicographic.{pointwise}
 use Rattle.std.specs.Int.Bits.{bit_or, or_zero_l}
-use Rattle.std.proofs.lemmas.Bool.Decides.{nat_tests}
 use Rattle.std.proofs.lemmas.Nat.Bits.{bit_at_or, same_from_bits}
 use Rattle.std.proofs.lemmas.Str.{IsUtf8-from_ascii}
-use Rattle.std.proofs.lemmas.Slice.Eq.{bytes_eq-Decides}
 use Rattle.bitflags.specs.Sets.{find_row, find_name}
 use Rattle.vt_cred.specs.Caps.{capability_table}
 use Rattle.vt_spec.specs.Language.Calls.CapabilityWord.{These}
-use Rattle.vt_spec.specs.PathText.{parts}
-use Rattle.vt_spec.specs.Language.Script.{task_word, name_of_parts, each_of, with_first, child_number, capability_named, capabilities_word, union, groups_word, identity_word}
-use Rattle.vt_spec.specs.Lists.{is_empty_list}
-use Rattle.vt_spec.proofs.Options.{cond-None}
+use Rattle.vt_spec.specs.Language.Script.{name_of_parts, union}
 use Rattle.vt_line.specs.Tokens.{cut}
 
 -- a task's name by its first part

@@ -1,9 +1,8 @@
 -- The lines of a text, one after the other, and how many of them are refused.
-use Rattle.std.proofs.Common.{◌≡◌, ◌≤◌, ◌<◌, ◌+◌, ◌==◌, ◌∷◌, ◌++◌, ◌∙◌, [], ℕ, List, length, Bool, true, false, cond, ap, sym, append_assoc, length-append, arith, refl}
-use Rattle.std.proofs.lemmas.Grind.{common_steps}
-use Rattle.std.specs.List.{count_by}
-use Rattle.std.proofs.lemmas.List.Sums.{count_by-le-length, sum_by-cons}
-use Rattle.vt_spec.specs.Language.Script.{Version, lines_of, with_line_byte}
+use Rattle.std.proofs.Common.{◌≡◌, ◌≤◌, ◌<◌, ◌+◌, ◌==◌, ◌∷◌, ◌++◌, ◌∙◌, [], ℕ, List, length, Bool, true, false, cond, ap, sym, append_assoc, length-append, arith, refl, count_by}
+use Rattle.vt_spec.proofs.Common.{Version, common_steps, lines_of, sum_by-cons}
+use Rattle.std.proofs.lemmas.List.Sums.{count_by-le-length}
+use Rattle.vt_spec.specs.Language.Script.{with_line_byte}
 use Rattle.vt_script.specs.Progress.{HasNoNewline, whole_lines}
 use Rattle.vt_script.proofs.RunLemmas.{lines_of-newline, lines_of-last, lines_of-whole, whole_lines-append, whole_lines-newline}
 use Rattle.vt_lines.specs.Refused.{is_refused, refused_in}

@@ -1,19 +1,12 @@
 -- The list of peer groups, by the places and types of all attached mounts.
-use Rattle.std.proofs.Common.{◌≡◌, ◌<◌, ◌≤◌, refl, sym, ap, ◌∙◌, ℕ, suc, ◌+◌, Bool, true, false, cond, nat_eq, List, [], ◌∷◌, ◌++◌, map, filter, length, take, get_or, append_assoc, Option, Some, None, option_map, arith}
-use Rattle.std.specs.Prelude.{filter_map, flat_map, if◌then◌else◌}
-use Rattle.std.specs.List.{cons_option}
-use Rattle.std.proofs.lemmas.Grind.{flat_map-append}
-use Rattle.std.proofs.lemmas.List.{append-nil, length-append, length-map, length-take-le, map-append, take_more}
+use Rattle.std.proofs.Common.{◌≡◌, ◌<◌, ◌≤◌, refl, sym, ap, ◌∙◌, ℕ, suc, ◌+◌, Bool, true, false, cond, nat_eq, List, [], ◌∷◌, ◌++◌, map, filter, length, take, get_or, append_assoc, Option, Some, None, option_map, arith, filter_map, flat_map, if◌then◌else◌, append-nil, length-append, length-take-le}
+use Rattle.vt_spec.proofs.Common.{Mount, Namespace, Propagation, World, cons_option, counted_from, each_once, flat_map-append, groups_in_type, groups_seen, groups_shown, is_member_of, length-map, map-append, mounts_of, number_among, peer_lines, take_more, when}
 use Rattle.std.proofs.lemmas.Simd.{map-map}
 use Rattle.vt_location.specs.declared.numbers.GroupId.{GroupId}
 use Rattle.vt_location.specs.declared.numbers.MountId.{MountId}
 use Rattle.vt_location.specs.declared.numbers.NamespaceId.{NamespaceId}
 use Rattle.vt_location.specs.Numbers.{counted}
-use Rattle.vt_spec.specs.Lists.{counted_from, each_once, when}
-use Rattle.vt_spec.specs.Machine.Listing.{all_attached, attached_in, groups_in_type, groups_seen, groups_shown, is_slave_of, number_among, peer_line, peer_lines}
-use Rattle.vt_spec.specs.Machine.Mounts.{Mount, Propagation}
-use Rattle.vt_spec.specs.Machine.Receives.{is_member_of}
-use Rattle.vt_spec.specs.Machine.World.{Namespace, World, mounts_of}
+use Rattle.vt_spec.specs.Machine.Listing.{all_attached, attached_in, is_slave_of, peer_line}
 use Rattle.vt_mount.proofs.AttachedLemmas.{picked_next}
 use Rattle.vt_mount.proofs.EntryLemmas.{same_count}
 use Rattle.vt_group.specs.Sets.{same_group}

@@ -1,11 +1,7 @@
 -- The list of a namespace's mounts: places in it, and the filesystems that it shows, each once.
-use Rattle.std.proofs.Common.{◌≡◌, ◌<◌, true≢false, refl, sym, ap, ◌∙◌, ℕ, ◌+◌, Bool, true, false, not, cond, ◌||◌, nat_eq, eqb-true, eq-eqb, ne_eqb, List, [], ◌∷◌, ◌++◌, map, filter, length, take, get_or, position, Option, Some, None, option_map, unwrap_or, arith}
-use Rattle.std.specs.Prelude.{filter_map, flat_map, nat_lt}
-use Rattle.std.specs.List.{cons_option, list_any, position_or_len}
-use Rattle.std.proofs.lemmas.Bool.{lt-ltb, ltb-false, ltb-true}
-use Rattle.std.proofs.lemmas.Grind.{flat_map-append}
-use Rattle.std.proofs.lemmas.List.{append-nil, map-append}
-use Rattle.std.proofs.lemmas.List.Elements.{filter-append}
+use Rattle.std.proofs.Common.{◌≡◌, ◌<◌, true≢false, refl, sym, ap, ◌∙◌, ℕ, ◌+◌, Bool, true, false, not, cond, ◌||◌, nat_eq, eqb-true, eq-eqb, ne_eqb, List, [], ◌∷◌, ◌++◌, map, filter, length, take, get_or, position, Option, Some, None, option_map, unwrap_or, arith, filter_map, flat_map, nat_lt, lt-ltb, ltb-false, ltb-true, append-nil}
+use Rattle.vt_spec.proofs.Common.{Mount, cons_option, each_once, filter-append, flat_map-append, index_from, list_any, map-append, number_among}
+use Rattle.std.specs.List.{position_or_len}
 use Rattle.indexmap.specs.IndexSet.{insert_key}
 use Rattle.vt_fs.proofs.Entries.{key_eq}
 use Rattle.vt_location.proofs.NumberLemmas.{counted_test}
@@ -13,9 +9,6 @@ use Rattle.vt_location.specs.declared.numbers.FilesystemId.{FilesystemId}
 use Rattle.vt_location.specs.declared.numbers.GroupId.{GroupId}
 use Rattle.vt_location.specs.declared.numbers.MountId.{MountId}
 use Rattle.vt_location.specs.Numbers.{counted}
-use Rattle.vt_spec.specs.Lists.{each_once, index_from}
-use Rattle.vt_spec.specs.Machine.Listing.{number_among}
-use Rattle.vt_spec.specs.Machine.Mounts.{Mount}
 use Rattle.vt_mount.specs.Attached.{AreOf}
 use Rattle.vt_listing.specs.GroupsListed.{SeesMore, group_numbers}
 use Rattle.vt_mount.proofs.AttachedLemmas.{picked_next, place_of, places_alike}

@@ -1,15 +1,9 @@
 -- Where mounts stand, and where the trees begin that they show.
-use Rattle.std.proofs.Common.{◌≡◌, sym, ap, ◌∙◌, ℕ, nat_eq, ne_eqb, true, false, ◌&&◌, List, Option, Some, None, option_map, reverse, map, unwrap_or}
-use Rattle.std.specs.Prelude.{find}
-use Rattle.vt_spec.specs.FileTree.{FileTree, ancestors, is_directory_under, own_name, path_down}
-use Rattle.vt_spec.specs.Lists.{before_first, when}
-use Rattle.vt_spec.specs.Language.Answers.{Spot}
+use Rattle.std.proofs.Common.{◌≡◌, sym, ap, ◌∙◌, ℕ, nat_eq, ne_eqb, true, false, ◌&&◌, List, Option, Some, None, option_map, reverse, map, unwrap_or, find}
+use Rattle.vt_spec.proofs.Common.{FileTree, Spot, Tree, World, ancestors, before_first, filesystem_numbered, is_directory_under, mount_point_spot, no_mount, own_name, path_down, spot_of, when}
 use Rattle.vt_spec.specs.Language.Answers.Spot.{Gone}
-use Rattle.vt_spec.specs.Machine.Listing.{mount_point_spot, root_spot, spot_of}
+use Rattle.vt_spec.specs.Machine.Listing.{root_spot}
 use Rattle.vt_spec.specs.Machine.Mounts as meant
-use Rattle.vt_spec.specs.Machine.Mounts.{no_mount}
-use Rattle.vt_spec.specs.Machine.World.{World, filesystem_numbered}
-use Rattle.vt_spec.specs.Tree.{Tree}
 use Rattle.vt_location.specs.declared.locations.Location.{Location}
 use Rattle.vt_location.specs.declared.locations.NodeRef.{NodeRef}
 use Rattle.vt_location.specs.declared.mounts.Mount.{Mount}

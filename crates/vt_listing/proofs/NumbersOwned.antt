@@ -1,8 +1,6 @@
 -- The inodes of plain filesystems and of overlays have numbers of their own nodes, which tell them apart.
 use Rattle.std.proofs.Common.{◌≡◌, ◌<◌, ◌≤◌, refl, sym, ap, subst, ◌∙◌, true≢false, ℕ, nat_eq, eq-eqb, Bool, true, false, List, Option, Some, None, is_some, length, arith}
-use Rattle.std.proofs.lemmas.Option.{slice_get_within}
-use Rattle.vt_spec.specs.Inodes.{node_in}
-use Rattle.vt_spec.specs.Tree.{Node}
+use Rattle.vt_spec.proofs.Common.{Node, node_in, slice_get_within}
 use Rattle.vt_laws_mounts.proofs.letting_go.Lists.{among_from_all}
 use Rattle.vt_location.specs.declared.births.Birth.TheVariants.{Here}
 use Rattle.vt_location.specs.declared.locations.NodeRef.{NodeRef}

@@ -1,9 +1,6 @@
 -- What a table of mounts shows of the worlds that have its mounts, groups and filesystems.
 use Rattle.std.proofs.Common.{◌≡◌, refl, ◌∙◌, nat_eq, ℕ, List, [], Option, map, reverse}
-use Rattle.vt_spec.specs.FileTree.{FileTree, ancestors, own_name, path_down}
-use Rattle.vt_spec.specs.Lists.{before_first, is_among, when}
-use Rattle.vt_spec.specs.Machine.World.{World, filesystem_numbered}
-use Rattle.vt_spec.specs.Tree.{Tree}
+use Rattle.vt_spec.proofs.Common.{FileTree, Tree, World, ancestors, before_first, filesystem_numbered, is_among, own_name, path_down, when}
 use Rattle.vt_group.specs.Grouping.{master_in}
 use Rattle.vt_location.specs.Numbers.{counted}
 use Rattle.vt_mount.specs.MountsValue.{mounts_in}

@@ -1,7 +1,6 @@
 -- Numbers tell nodes apart.
-use Rattle.std.proofs.Common.{◌≡◌, ◌<◌, ◌+◌, ◌*◌, ℕ, true, ◌&&◌, nat_eq, nat_lt, refl, sym, ap, ◌∙◌, arith, eq-eqb, true≢false}
-use Rattle.std.proofs.lemmas.Bool.{eqb-true, ltb-true}
-use Rattle.vt_spec.specs.Machine.Mounts.{same_location}
+use Rattle.std.proofs.Common.{◌≡◌, ◌<◌, ◌+◌, ◌*◌, ℕ, true, ◌&&◌, nat_eq, nat_lt, refl, sym, ap, ◌∙◌, arith, eq-eqb, true≢false, eqb-true, ltb-true}
+use Rattle.vt_spec.proofs.Common.{and_true_left, and_true_right, same_location, same_truth}
 use Rattle.vt_location.specs.declared.births.Birth.{Birth}
 use Rattle.vt_location.specs.declared.births.Birth.TheVariants.{Below, Here}
 use Rattle.vt_location.specs.declared.locations.Location.{Location}
@@ -12,7 +11,6 @@ use Rattle.vt_location.specs.SameNodes.{same_birth, same_node}
 use Rattle.vt_location.specs.NodeNumbers.{BirthsAreNoInodes, IsSmall, NumbersAreOneToOne}
 use Rattle.vt_location.specs.Numbers.{inode_number, is_own_number}
 use Rattle.vt_location.proofs.NumberLemmas.{counted_test, is_own, own_inode, slot_of}
-use Rattle.vt_spec.proofs.Truths.{and_true_left, and_true_right, same_truth}
 
 -- two digits of a number
 split : (a b x y : ℕ) → a < 18446744073709551616 → b < 18446744073709551616

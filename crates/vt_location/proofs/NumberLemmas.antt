@@ -1,9 +1,8 @@
 -- The numbers of what is counted, and of inodes in their slots, are different where those are.
-use Rattle.std.proofs.Common.{◌≡◌, ◌≢◌, ◌<◌, ◌≤◌, ◌+◌, ◌-◌, ◌*◌, ℕ, Bool, true, false, not, nat_eq, nat_lt, ◌&&◌, refl, sym, ap, ◌∙◌, arith, lt-ltb, le-ltb, eq-eqb}
-use Rattle.std.specs.Prelude.{if◌then◌else◌, ◌/◌}
-use Rattle.std.proofs.lemmas.Bool.{eqb-true, ltb-true, ltb-false, not-true}
+use Rattle.std.proofs.Common.{◌≡◌, ◌≢◌, ◌<◌, ◌≤◌, ◌+◌, ◌-◌, ◌*◌, ℕ, Bool, true, false, not, nat_eq, nat_lt, ◌&&◌, refl, sym, ap, ◌∙◌, arith, lt-ltb, le-ltb, eq-eqb, if◌then◌else◌, ◌/◌, eqb-true, ltb-true, ltb-false}
+use Rattle.vt_spec.proofs.Common.{and_true_first, and_true_left, and_true_right, not-true, same_truth}
 use Rattle.vt_location.specs.Numbers.{counted, exchanged, inode_number, is_inode_of, is_own_number}
-use Rattle.vt_spec.proofs.Truths.{and_from_three, and_true_first, and_true_left, and_true_right, same_truth}
+use Rattle.vt_spec.proofs.Truths.{and_from_three}
 
 pub counted_same : (a b : ℕ) → counted a ≡ counted b → a ≡ b
 counted_same a b e = omega arith

@@ -1,18 +1,11 @@
 -- What is kept by hash under numbers, in their order, in whatever order it is kept.
-use Rattle.std.proofs.Common.{◌≡◌, ◌<◌, suc, ◌+◌, ℕ, Bool, true, false, cond, ◌&&◌, T, List, [], ◌∷◌, ◌++◌, map, filter, length, not, nat_eq, nat_lt, Option, None, Some, is_some, option_map, refl, sym, ap, subst, ◌∙◌, arith, eq-eqb, ne_eqb}
-use Rattle.std.specs.Ordering.{eq_by_cmp, is_eq, is_lt}
-use Rattle.std.specs.declared.cmp.Ordering.{Ordering}
-use Rattle.std.specs.declared.cmp.Ordering.TheVariants.{Less, Equal, Greater}
-use Rattle.std.specs.Cmp.{IsTotalOrder, nat_cmp_is, unsigned_tied}
-use Rattle.std.proofs.lemmas.Cmp.{nat_cmp_total}
-use Rattle.std.proofs.lemmas.Bool.{eqb-true, eqb-false, ltb-true}
-use Rattle.std.specs.FinMap.{nat_cmp-IsAntisymmetric}
-use Rattle.std.specs.FinMap.Entries.{below_all, find, find-append, find-put, find-where_key, is_sorted, is_sorted-put, is_sorted-where_key, length-put, same_entries}
-use Rattle.std.specs.List.{AllByRecursion, IsDistinct, list_all}
-use Rattle.std.specs.Map.{keys_of, lookup}
-use Rattle.std.proofs.lemmas.Map.Keys.{IsDistinct-head, IsDistinct-tail}
+use Rattle.std.proofs.Common.{◌≡◌, ◌<◌, suc, ◌+◌, ℕ, Bool, true, false, cond, ◌&&◌, T, List, [], ◌∷◌, ◌++◌, map, filter, length, not, nat_eq, nat_lt, Option, None, Some, is_some, option_map, refl, sym, ap, subst, ◌∙◌, arith, eq-eqb, ne_eqb, is_eq, is_lt, Ordering, Less, Equal, Greater, eqb-true, ltb-true}
+use Rattle.vt_spec.proofs.Common.{AllByRecursion, IsDistinct-head, IsDistinct-tail, IsTotalOrder, T_and, T_and_left, T_and_right, and_true_left, and_true_right, below_all, eq_by_cmp, eqb-false, find-put, find-where_key, is_sorted, is_sorted-put, is_sorted-where_key, keys_of, list_all, lookup, nat_cmp-IsAntisymmetric, nat_cmp_is, nat_cmp_total, same_entries}
+use Rattle.std.specs.Cmp.{unsigned_tied}
+use Rattle.std.specs.FinMap.Entries.{find, find-append, length-put}
+use Rattle.std.specs.List.{IsDistinct}
 use Rattle.vt_location.specs.InOrder.{cmp_by, in_order_by}
-use Rattle.vt_spec.proofs.Truths.{T_and, T_and_left, T_and_right, and_true_left, and_true_right, cond-not}
+use Rattle.vt_spec.proofs.Truths.{cond-not}
 
 module _ {K : Type 0} (count : K → ℕ) where
   -- two keys have one count

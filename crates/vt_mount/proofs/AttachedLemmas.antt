@@ -1,23 +1,15 @@
 -- The mounts that are attached in a namespace, by their identifiers: where one stands among them, and what is made of
 -- them one after the other.
-use Rattle.std.proofs.Common.{◌≡◌, ◌<◌, ◌≤◌, refl, sym, ap, ◌∙◌, ⊎_elim, inl, inr, ℕ, zero, suc, ◌+◌, Bool, true, false, cond, ◌&&◌, ◌||◌, nat_eq, eqb-true, eq-eqb, ne_eqb, List, [], ◌∷◌, ◌++◌, map, filter, find, length, take, get_or, Option, Some, None, option_map, unwrap_or, Result, Ok, Err, arith}
-use Rattle.std.specs.Prelude.{filter_map, nat_lt}
-use Rattle.std.specs.List.{cons_option, list_all, list_any}
+use Rattle.std.proofs.Common.{◌≡◌, ◌<◌, ◌≤◌, refl, sym, ap, ◌∙◌, ⊎_elim, inl, inr, ℕ, zero, suc, ◌+◌, Bool, true, false, cond, ◌&&◌, ◌||◌, nat_eq, eqb-true, eq-eqb, ne_eqb, List, [], ◌∷◌, ◌++◌, map, filter, find, length, take, get_or, Option, Some, None, option_map, unwrap_or, Result, Ok, Err, arith, filter_map, nat_lt, nat_cmp, lt-ltb, ltb-false, ltb-true, append-nil}
+use Rattle.vt_spec.proofs.Common.{Among, Mount, among-from_filter, among_from_list_all, and_parts, cons_option, filter_map-append, holds_of, index_from, list_all, list_all_from_among, list_any, map-append, nat_tests, none_from_among, take_more}
 use Rattle.std.specs.Result.{result_unwrap_or}
 use Rattle.std.specs.List.Sorted.{IsBinarySearchResult, IsNonDecreasingBy, IsSearchInRange}
-use Rattle.std.specs.Ordering.{nat_cmp, ordering_index}
-use Rattle.std.proofs.lemmas.Bool.{and_parts, lt-ltb, ltb-false, ltb-true}
-use Rattle.std.proofs.lemmas.Bool.Decides.{nat_tests}
+use Rattle.std.specs.Ordering.{ordering_index}
 use Rattle.std.proofs.lemmas.Cmp.{ranked}
-use Rattle.std.proofs.lemmas.List.{append-nil, map-append, take_more}
-use Rattle.std.proofs.lemmas.List.Elements.{filter_map-append}
 use Rattle.std.proofs.lemmas.List.Sorted.{IsNonDecreasingBy-from_default}
 use Rattle.vt_location.specs.declared.numbers.MountId.{MountId}
 use Rattle.vt_location.specs.Numbers.{counted}
 use Rattle.vt_location.proofs.NumberLemmas.{counted_test}
-use Rattle.vt_spec.proofs.Lists.{Among, among-from_filter, among_from_list_all as passes, list_all_from_among as all_pass, none_from_among as none_passes}
-use Rattle.vt_spec.specs.Lists.{holds_of, index_from}
-use Rattle.vt_spec.specs.Machine.Mounts.{Mount}
 use Rattle.vt_mount.specs.Attached.{AreOf, are_rising, attached_in}
 use Rattle.vt_mount.specs.MountsValue.{MountEntry, are_ascending, mounts_in}
 
@@ -128,8 +120,8 @@ ascending_filter p (mount ∷ all) rising =
   where
     by : (b : Bool) → list_all (λ (later : Mount ℕ). nat_lt mount.number later.number) all ≡ true
         → are_ascending (filter p all) ≡ true → are_ascending (cond b (mount ∷ filter p all) (filter p all)) ≡ true
-    by true less rest = λ i. all_pass (λ (later : Mount ℕ). nat_lt mount.number later.number) (filter p all)
-        (λ x m. passes (λ (later : Mount ℕ). nat_lt mount.number later.number) all less x
+    by true less rest = λ i. list_all_from_among (λ (later : Mount ℕ). nat_lt mount.number later.number) (filter p all)
+        (λ x m. among_from_list_all (λ (later : Mount ℕ). nat_lt mount.number later.number) all less x
         (among-from_filter p all x m).0) i && rest i
     by false less rest = rest
 
@@ -191,12 +183,12 @@ ascending_found (first ∷ rest) rising mount m =
     ⊎_elim (λ same. ap (λ b. cond b (Some first) (find (λ x. nat_eq mount.number x.number) rest))
     (eq-eqb mount.number first.number (ap (λ (x : Mount ℕ). x.number) same)) ∙ ap Some (sym same)) (λ later.
     let less = ltb-true first.number mount.number
-    (passes (λ (later : Mount ℕ). nat_lt first.number later.number) rest parts.0 mount later) in
+    (among_from_list_all (λ (later : Mount ℕ). nat_lt first.number later.number) rest parts.0 mount later) in
     ap (λ b. cond b (Some first) (find (λ x. nat_eq mount.number x.number) rest))
     (ne_eqb mount.number first.number (λ e. absurd (omega (arith, less, e))))
     ∙ ascending_found rest parts.1 mount later) m
 
--- a mount is among those that pass if it is found and passes
+-- a mount is among those that pass if it is found and among_from_list_all
 pub found_among : (n : ℕ) (p : Mount ℕ → Bool) (mounts : List (Mount ℕ)) → are_ascending mounts ≡ true
     → list_any (λ mount. nat_eq n mount.number) (filter p mounts)
     ≡ holds_of p (find (λ mount. nat_eq n mount.number) mounts)
@@ -208,9 +200,9 @@ found_among n p (mount ∷ mounts) rising =
   where
     others : list_all (λ (later : Mount ℕ). nat_lt mount.number later.number) mounts ≡ true
         → nat_eq n mount.number ≡ true → list_any (λ (x : Mount ℕ). nat_eq n x.number) (filter p mounts) ≡ false
-    others all e = none_passes (λ (x : Mount ℕ). nat_eq n x.number) (filter p mounts) (λ x m.
+    others all e = none_from_among (λ (x : Mount ℕ). nat_eq n x.number) (filter p mounts) (λ x m.
         let less = ltb-true mount.number x.number
-        (passes (λ (later : Mount ℕ). nat_lt mount.number later.number) mounts all x
+        (among_from_list_all (λ (later : Mount ℕ). nat_lt mount.number later.number) mounts all x
         (among-from_filter p mounts x m).0) in
         let same = eqb-true n mount.number e in
         ne_eqb n x.number (λ is. absurd (omega (arith, less, same, is))))

@@ -1,9 +1,7 @@
 -- The entries that contracts see of what is kept.
-use Rattle.std.proofs.Common.{◌≡◌, ℕ, suc, Bool, true, false, cond, ◌&&◌, List, [], ◌∷◌, ◌++◌, map, length, not, nat_eq, nat_lt, Option, None, Some, is_some, option_map, slice_get, refl, sym, ap, ◌∙◌, ◌<◌, ◌⊎◌, inl, inr, arith, eq-eqb, ne_eqb}
-use Rattle.std.specs.Prelude.{find as seek}
-use Rattle.std.proofs.lemmas.Bool.{eqb-true}
-use Rattle.std.specs.List.{IsDistinct, list_all}
-use Rattle.std.specs.Map.{keys_of, lookup}
+use Rattle.std.proofs.Common.{◌≡◌, ℕ, suc, Bool, true, false, cond, ◌&&◌, List, [], ◌∷◌, ◌++◌, map, length, not, nat_eq, nat_lt, Option, None, Some, is_some, option_map, slice_get, refl, sym, ap, ◌∙◌, ◌<◌, ◌⊎◌, inl, inr, arith, eq-eqb, ne_eqb, find, eqb-true}
+use Rattle.vt_spec.proofs.Common.{and_true_left, and_true_right, keys_of, list_all, lookup}
+use Rattle.std.specs.List.{IsDistinct}
 use Rattle.vt_spec.specs.Machine.Mounts as meant
 use Rattle.vt_location.specs.declared.numbers.MountId.{MountId}
 use Rattle.vt_location.specs.declared.numbers.NamespaceId.{NamespaceId}
@@ -15,7 +13,6 @@ use Rattle.vt_mount.specs.MountsValue.{MountEntry, changed, entries_of, entry_nu
 use Rattle.vt_mount.proofs.IndexLemmas.{same_mount_id}
 use Rattle.vt_mount.proofs.OrderLemmas.{change_kept, found, found-in_order, in_order-changed, in_order-last, in_order-removed, is_above, length-in_order, tied, without_kept}
 use Rattle.vt_location.proofs.NumberLemmas.{counted_test, counted_less}
-use Rattle.vt_spec.proofs.Truths.{and_true_left, and_true_right}
 pub use Rattle.vt_location.proofs.NumberLemmas.{counted_test as same_count}
 
 abbrev pub entries : List (MountId × Mounted) → List MountEntry
@@ -43,7 +40,7 @@ abbrev pub mount_under : MountId → Mounted → meant.Mount ℕ
 mount_under number kept = mount_of (mount_kept number kept)
 
 pub found-mount : (number : MountId) (kept : List (MountId × Mounted))
-    → seek (λ mount. nat_eq (counted number.count) mount.number) (mounts_in (entries kept))
+    → find (λ mount. nat_eq (counted number.count) mount.number) (mounts_in (entries kept))
     ≡ option_map (mount_under number) (found number kept)
 found-mount number [] = refl
 found-mount number (one ∷ kept) =
@@ -74,7 +71,7 @@ found-entry number (one ∷ kept) =
     by false is = refl
 
 pub kept-mount : (number : MountId) (es : List (MountId × Mounted))
-    → seek (λ mount. nat_eq (counted number.count) mount.number) (mounts_in (entries_of es))
+    → find (λ mount. nat_eq (counted number.count) mount.number) (mounts_in (entries_of es))
     ≡ option_map (mount_under number) (lookup (same_id number) es)
 kept-mount number es = found-mount number (in_order es)
     ∙ ap (option_map (mount_under number)) (found-in_order number es)
@@ -88,9 +85,9 @@ kept-entry number es = found-entry number (in_order es)
 -- the same, of what contracts see
 pub mount-found : (id : MountId) (es : List (MountId × Mounted)) (now : List MountEntry) (r : Option Mounted)
     → entries_of es ≡ now → lookup (same_id id) es ≡ r → option_map (mount_under id) r
-    ≡ seek (λ mount. nat_eq (counted id.count) mount.number) (mounts_in now)
+    ≡ find (λ mount. nat_eq (counted id.count) mount.number) (mounts_in now)
 mount-found id es now r view is = ap (option_map (mount_under id)) (sym is) ∙ sym (kept-mount id es)
-    ∙ ap (λ now. seek (λ mount. nat_eq (counted id.count) mount.number) (mounts_in now)) view
+    ∙ ap (λ now. find (λ mount. nat_eq (counted id.count) mount.number) (mounts_in now)) view
 
 pub entry-found : (id : MountId) (es : List (MountId × Mounted)) (now : List MountEntry) (r : Option Mounted)
     → entries_of es ≡ now

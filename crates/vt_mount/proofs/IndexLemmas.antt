@@ -1,10 +1,6 @@
 -- The lists of mounts, where one is put behind all others, changed or taken out.
-use Rattle.std.proofs.Common.{◌≡◌, Bool, true, false, cond, ◌&&◌, T, List, [], ◌∷◌, ◌++◌, map, filter, nat_lt, not, None, Some, refl, sym, ap, ◌∙◌, eq-eqb}
-use Rattle.std.specs.Ordering.{eq_by_cmp, is_eq, is_lt}
-use Rattle.std.specs.declared.cmp.Ordering.{Ordering}
-use Rattle.std.specs.declared.cmp.Ordering.TheVariants.{Less, Equal, Greater}
-use Rattle.std.specs.FinMap.Entries.{below_all}
-use Rattle.std.proofs.lemmas.Bool.{eqb-true}
+use Rattle.std.proofs.Common.{◌≡◌, Bool, true, false, cond, ◌&&◌, T, List, [], ◌∷◌, ◌++◌, map, filter, nat_lt, not, None, Some, refl, sym, ap, ◌∙◌, eq-eqb, is_eq, is_lt, Ordering, Less, Equal, Greater, eqb-true}
+use Rattle.vt_spec.proofs.Common.{T_and_left, T_and_right, and_true_left, and_true_right, below_all, eq_by_cmp}
 use Rattle.vt_location.specs.declared.mounts.Mount.{Mount}
 use Rattle.vt_location.specs.declared.numbers.MountId.{MountId}
 use Rattle.vt_mount.specs.declared.mounted.Mounted.{Mounted}
@@ -14,7 +10,6 @@ use Rattle.vt_mount.specs.Rising.{comes_last, same_id}
 use Rattle.vt_mount.specs.MountsValue.{id_cmp, mount_kept}
 use Rattle.vt_mount.proofs.ListLemmas.{others}
 use Rattle.vt_mount.proofs.OrderLemmas.{change_kept, found, is_above, rises, tied, without_kept}
-use Rattle.vt_spec.proofs.Truths.{T_and_left, T_and_right, and_true_left, and_true_right}
 
 pub same_mount_id : (a b : MountId) → same_id a b ≡ true → a ≡ b
 same_mount_id a b is = ap (λ n. record { count = n }) (eqb-true a.count b.count is)

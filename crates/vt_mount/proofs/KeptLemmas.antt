@@ -1,8 +1,6 @@
 -- The lists stay right where a mount is attached, detached or taken out.
-use Rattle.std.proofs.Common.{◌≡◌, ℕ, Bool, true, false, cond, ◌&&◌, T, List, [], ◌∷◌, ◌++◌, map, not, nat_lt, None, Some, Result, Ok, Err, OnErr, OnOk, refl, sym, ap, ◌∙◌, true≢false, arith, eq-eqb, ne_eqb}
-use Rattle.std.specs.Prelude.{IsOk, is_err}
-use Rattle.std.specs.List.{list_all}
-use Rattle.std.proofs.lemmas.Bool.{ltb-true}
+use Rattle.std.proofs.Common.{◌≡◌, ℕ, Bool, true, false, cond, ◌&&◌, T, List, [], ◌∷◌, ◌++◌, map, not, nat_lt, None, Some, Result, Ok, Err, OnErr, OnOk, refl, sym, ap, ◌∙◌, true≢false, arith, eq-eqb, ne_eqb, IsOk, is_err, ltb-true}
+use Rattle.vt_spec.proofs.Common.{and_true_left, and_true_right, list_all}
 use Rattle.vt_location.specs.declared.locations.Location.{Location}
 use Rattle.vt_location.specs.declared.locations.NodeRef.{NodeRef}
 use Rattle.vt_location.specs.declared.mounts.Mount.{Mount}
@@ -20,7 +18,6 @@ use Rattle.vt_mount.specs.Rising.{comes_last}
 use Rattle.vt_mount.proofs.RisingLemmas.{put_in_place-last, taken-last}
 use Rattle.vt_mount.proofs.IndexLemmas.{last-above, numbers-last, numbers-left, numbers-without, others-taken}
 use Rattle.vt_mount.proofs.OrderLemmas.{change_kept, found, is_above, rises, without_kept}
-use Rattle.vt_spec.proofs.Truths.{and_true_left, and_true_right}
 
 -- what is kept of a mount that is detached
 abbrev pub detached_kept : Mounted → Mounted

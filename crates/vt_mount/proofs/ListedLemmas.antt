@@ -1,12 +1,8 @@
 -- What is listed once the list under one key changed.
-use Rattle.std.proofs.Common.{◌≡◌, ◌<◌, ℕ, zero, suc, Bool, true, false, cond, List, [], ◌∷◌, get_or, length, nat_eq, Option, None, Some, option_map, refl, sym, ap, ◌∙◌, arith}
-use Rattle.std.proofs.lemmas.Bool.{eqb-true}
-use Rattle.std.specs.Cmp.{IsEquivalence}
-use Rattle.std.specs.List.{position, slice_get}
-use Rattle.std.specs.Map.{keys_of, lookup}
+use Rattle.std.proofs.Common.{◌≡◌, ◌<◌, ℕ, zero, suc, Bool, true, false, cond, List, [], ◌∷◌, get_or, length, nat_eq, Option, None, Some, option_map, refl, sym, ap, ◌∙◌, arith, eqb-true, position, slice_get, IfSome, if◌then◌else◌, unwrap_or}
+use Rattle.vt_spec.proofs.Common.{IsEquivalence, keys_of, lookup}
 use Rattle.indexmap.specs.IndexMap.{set_value_at}
 use Rattle.std.proofs.lemmas.List.Quantifiers.{position-Some}
-use Rattle.std.specs.Prelude.{IfSome, if◌then◌else◌, unwrap_or}
 use Rattle.vt_location.specs.declared.numbers.MountId.{MountId}
 use Rattle.vt_mount.specs.declared.ascending.Ascending.{Ascending}
 use Rattle.vt_mount.specs.Rising.{held}

@@ -1,11 +1,6 @@
 -- The lists stay right where a mount moves.
-use Rattle.std.proofs.Common.{◌≡◌, ℕ, Bool, true, false, cond, ◌&&◌, T, List, [], ◌∷◌, map, not, nat_lt, ◌%◌, ◌==◌, eq-eqb, Option, None, Some, refl, sym, ap, subst, ◌∙◌, arith, le-ltb}
-use Rattle.std.specs.Cmp.{nat_cmp_is}
-use Rattle.std.specs.Ordering.{eq_by_cmp, is_lt, nat_cmp}
-use Rattle.std.specs.declared.cmp.Ordering.TheVariants.{Equal, Greater}
-use Rattle.std.specs.FinMap.Entries.{below_all}
-use Rattle.std.specs.List.{list_all}
-use Rattle.std.proofs.lemmas.Bool.{ltb-true, ltb-false, eqb-true}
+use Rattle.std.proofs.Common.{◌≡◌, ℕ, Bool, true, false, cond, ◌&&◌, T, List, [], ◌∷◌, map, not, nat_lt, ◌%◌, ◌==◌, eq-eqb, Option, None, Some, refl, sym, ap, subst, ◌∙◌, arith, le-ltb, is_lt, nat_cmp, Equal, Greater, ltb-true, ltb-false, eqb-true}
+use Rattle.vt_spec.proofs.Common.{T_and_left, T_and_right, and_true_left, and_true_right, below_all, eq_by_cmp, list_all, nat_cmp_is}
 use Rattle.vt_location.specs.declared.locations.Location.{Location}
 use Rattle.vt_location.specs.declared.locations.NodeRef.{NodeRef}
 use Rattle.vt_location.specs.declared.mounts.Mount.{Mount}
@@ -23,7 +18,6 @@ use Rattle.vt_mount.proofs.EntryLemmas.{entries}
 use Rattle.vt_mount.proofs.ListLemmas.{others}
 use Rattle.vt_mount.proofs.IndexLemmas.{absent-others, below-none, cons-numbers, numbers-changed, numbers-left, others-taken, passes, turned, same_mount_id}
 use Rattle.vt_mount.proofs.OrderLemmas.{change_kept, found, rises, rises-in_order, tied}
-use Rattle.vt_spec.proofs.Truths.{T_and_left, T_and_right, and_true_left, and_true_right}
 use Rattle.vt_location.proofs.NumberLemmas.{counted_less}
 
 -- what is kept of a mount with another mount point

@@ -1,11 +1,6 @@
 -- What is noted of a mount that moves.
-use Rattle.std.proofs.Common.{◌≡◌, Bool, true, false, cond, ◌&&◌, List, [], ◌∷◌, ◌++◌, map, Option, None, Some, option_map, sym, ap, ◌∙◌}
-use Rattle.std.proofs.lemmas.List.{append-nil, map-append}
-use Rattle.std.proofs.lemmas.List.Folds.{list_all-append}
-use Rattle.std.specs.Prelude.{option_to_list, ℕ}
-use Rattle.std.specs.List.{list_all}
-use Rattle.std.specs.Ordering.{eq_by_cmp}
-use Rattle.std.specs.Map.{lookup}
+use Rattle.std.proofs.Common.{◌≡◌, Bool, true, false, cond, ◌&&◌, List, [], ◌∷◌, ◌++◌, map, Option, None, Some, option_map, sym, ap, ◌∙◌, append-nil, option_to_list, ℕ}
+use Rattle.vt_spec.proofs.Common.{Location as Place, and_true_left, and_true_right, eq_by_cmp, list_all, list_all-append, lookup, map-append}
 use Rattle.vt_location.specs.declared.locations.Location.{Location}
 use Rattle.vt_location.specs.declared.numbers.MountId.{MountId}
 use Rattle.vt_mount.specs.declared.mounted.Mounted.{Mounted}
@@ -15,10 +10,8 @@ use Rattle.vt_mount.specs.Indexed.{is_kept_small}
 use Rattle.vt_mount.specs.Listed.{same_id}
 use Rattle.vt_mount.specs.Moving.{is_small_point, is_small, move_of, moves_by}
 use Rattle.vt_mount.specs.MountsValue.{MountEntry, entries_of, entry_of, id_cmp, in_order}
-use Rattle.vt_spec.specs.Machine.Mounts.{Location as Place}
 use Rattle.vt_mount.proofs.EntryLemmas.{kept-entry}
 use Rattle.vt_mount.proofs.OrderLemmas.{found, found-in_order}
-use Rattle.vt_spec.proofs.Truths.{and_true_left, and_true_right}
 
 abbrev pub entry_move : NewPoint → MountEntry → ℕ × Option (Place ℕ) × Location
 entry_move point entry = (entry.mount.number, entry.mount.mount_point, point.place)

@@ -1,9 +1,8 @@
 -- Mounts that are kept under numbers, in their order, in whatever order they are kept.
 use Rattle.std.proofs.Common.{◌≡◌, ℕ, Bool, cond, T, List, [], ◌∷◌, ◌++◌, map, filter, length, not, nat_lt, true, Option, None, Some, option_map, refl, sym, ap, subst, ◌∙◌}
-use Rattle.std.specs.Ordering.{eq_by_cmp}
-use Rattle.std.specs.FinMap.Entries.{find, is_sorted, put}
-use Rattle.std.specs.List.{IsDistinct, list_all}
-use Rattle.std.specs.Map.{keys_of, lookup}
+use Rattle.vt_spec.proofs.Common.{eq_by_cmp, is_sorted, keys_of, list_all, lookup, put}
+use Rattle.std.specs.FinMap.Entries.{find}
+use Rattle.std.specs.List.{IsDistinct}
 use Rattle.vt_mount.specs.declared.mounted.Mounted.{Mounted}
 use Rattle.vt_location.specs.InOrder.{in_order_by}
 use Rattle.vt_location.specs.declared.numbers.MountId.{MountId}

@@ -1,6 +1,6 @@
 -- Two mounts that get other mount points, one after the other, change places as in pivot_root(2).
 use Rattle.std.proofs.Common.{◌≡◌, ℕ, Bool, true, false, cond, List, [], ◌∷◌, map, nat_eq, Option, Some, eq-eqb, eqb-true, refl, sym, ap, ◌∙◌}
-use Rattle.vt_spec.specs.Machine.Mounts.{Location, Mount}
+use Rattle.vt_spec.proofs.Common.{Location, Mount}
 use Rattle.vt_mount.specs.Moving.{pivoted_entry}
 use Rattle.vt_mount.specs.MountsValue.{MountEntry, changed}
 

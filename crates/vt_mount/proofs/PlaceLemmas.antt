@@ -1,11 +1,7 @@
 -- What stands where, by the lists and by the definitions.
-use Rattle.std.proofs.Common.{◌≡◌, ℕ, Bool, true, false, cond, ◌&&◌, ◌||◌, List, [], ◌∷◌, map, filter, not, nat_eq, length, Option, None, Some, option_map, refl, sym, ap, ◌∙◌, arith, eq-eqb, ne_eqb}
-use Rattle.std.specs.Prelude.{find as seek, slice_get, unwrap_or}
-use Rattle.std.specs.List.{list_all, list_any}
-use Rattle.std.proofs.lemmas.Bool.{eqb-true, eqb-false}
-use Rattle.vt_spec.specs.Lists.{holds_of}
+use Rattle.std.proofs.Common.{◌≡◌, ℕ, Bool, true, false, cond, ◌&&◌, ◌||◌, List, [], ◌∷◌, map, filter, not, nat_eq, length, Option, None, Some, option_map, refl, sym, ap, ◌∙◌, arith, eq-eqb, ne_eqb, find, slice_get, unwrap_or, eqb-true}
+use Rattle.vt_spec.proofs.Common.{and_true_left, and_true_right, eqb-false, holds_of, list_all, list_any, stands_at, stands_on}
 use Rattle.vt_spec.specs.Machine.Mounts as meant
-use Rattle.vt_spec.specs.Machine.Mounts.{stands_at, stands_on}
 use Rattle.vt_location.specs.declared.locations.Location.{Location}
 use Rattle.vt_location.specs.declared.locations.NodeRef.{NodeRef}
 use Rattle.vt_location.specs.declared.mounts.Mount.{Mount}
@@ -23,7 +19,6 @@ use Rattle.vt_mount.proofs.EntryLemmas.{entries, mount_under}
 use Rattle.vt_mount.proofs.IndexLemmas.{cons-numbers}
 use Rattle.vt_location.proofs.NodeLemmas.{nodes_test}
 use Rattle.vt_location.proofs.NumberLemmas.{counted_test}
-use Rattle.vt_spec.proofs.Truths.{and_true_left, and_true_right}
 
 abbrev pub counts : List MountId → List ℕ
 counts ids = map (λ id. counted id.count) ids
@@ -52,12 +47,12 @@ module _ (test : Mount → Bool) (seen : meant.Mount ℕ → Bool)
 
 -- the first that passes, and whether one does
 module _ {X : Type 0} (p : X → Bool) (f : X → ℕ) where
-  pub found-first : (xs : List X) → option_map f (seek p xs) ≡ slice_get (map f (filter p xs)) 0
+  pub found-first : (xs : List X) → option_map f (find p xs) ≡ slice_get (map f (filter p xs)) 0
   found-first [] = refl
   found-first (x ∷ xs) = by (p x) (found-first xs)
     where
-      by : (b : Bool) → option_map f (seek p xs) ≡ slice_get (map f (filter p xs)) 0
-          → option_map f (cond b (Some x) (seek p xs)) ≡ slice_get (map f (cond b (x ∷ filter p xs) (filter p xs))) 0
+      by : (b : Bool) → option_map f (find p xs) ≡ slice_get (map f (filter p xs)) 0
+          → option_map f (cond b (Some x) (find p xs)) ≡ slice_get (map f (cond b (x ∷ filter p xs) (filter p xs))) 0
       by true rest = refl
       by false rest = rest
 

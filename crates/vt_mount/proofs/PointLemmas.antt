@@ -1,15 +1,7 @@
 -- A mount is found by its own number.
-use Rattle.std.proofs.Common.{◌≡◌, ℕ, suc, zero, Bool, true, false, cond, ◌&&◌, ◌||◌, T, List, [], ◌∷◌, filter, nat_eq, Option, None, Some, option_map, refl, sym, ap, ◌∙◌, eq-eqb, ne_eqb, true≢false}
-use Rattle.std.specs.declared.cmp.Ordering.{Ordering}
-use Rattle.std.specs.declared.cmp.Ordering.TheVariants.{Less, Equal, Greater}
-use Rattle.std.specs.Prelude.{find as seek}
-use Rattle.std.specs.Ordering.{eq_by_cmp, is_eq, is_lt}
-use Rattle.std.specs.FinMap.Entries.{below_all}
-use Rattle.std.specs.List.{list_any}
-use Rattle.vt_spec.specs.Lists.{chain, holds_of, last_or}
+use Rattle.std.proofs.Common.{◌≡◌, ℕ, suc, zero, Bool, true, false, cond, ◌&&◌, ◌||◌, T, List, [], ◌∷◌, filter, nat_eq, Option, None, Some, option_map, refl, sym, ap, ◌∙◌, eq-eqb, ne_eqb, true≢false, Ordering, Less, Equal, Greater, find, is_eq, is_lt}
+use Rattle.vt_spec.proofs.Common.{T_and_left, T_and_right, below_all, chain, child_at, eq_by_cmp, holds_of, last_or, list_any, lookup, stands_at}
 use Rattle.vt_spec.specs.Machine.Mounts as meant
-use Rattle.vt_spec.specs.Machine.Mounts.{child_at, stands_at}
-use Rattle.std.specs.Map.{lookup}
 use Rattle.vt_location.specs.declared.numbers.MountId.{MountId}
 use Rattle.vt_location.specs.Numbers.{counted}
 use Rattle.vt_mount.specs.declared.mounted.Mounted.{Mounted}
@@ -18,7 +10,6 @@ use Rattle.vt_mount.specs.MountsValue.{MountEntry, entries_of, id_cmp, in_order,
 use Rattle.vt_mount.proofs.EntryLemmas.{entries, found-mount, mount_under}
 use Rattle.vt_mount.proofs.OrderLemmas.{found, found-in_order, rises, rises-in_order, tied}
 use Rattle.vt_mount.proofs.PlaceLemmas.{counts, numbers}
-use Rattle.vt_spec.proofs.Truths.{T_and_left, T_and_right}
 
 -- each one of a part is found in the whole by its number
 abbrev pub Owns : List (MountId × Mounted) → List (MountId × Mounted) → Type 0
@@ -55,7 +46,7 @@ owns-all (one ∷ kept) rising = (
 
 module _ (whole : List (MountId × Mounted)) where
   abbrev pub under : ℕ → Option (meant.Mount ℕ)
-  under number = seek (λ mount. nat_eq number mount.number) (mounts_in (entries whole))
+  under number = find (λ mount. nat_eq number mount.number) (mounts_in (entries whole))
 
   own : (one : MountId × Mounted) → found one.0 whole ≡ Some one.1
       → under (counted one.0.count) ≡ Some (mount_under one.0 one.1)
@@ -63,12 +54,12 @@ module _ (whole : List (MountId × Mounted)) where
 
   -- a mount that passes a test, found by its number
   pub found-own : (p : meant.Mount ℕ → Bool) (m : meant.Mount ℕ) (part : List (MountId × Mounted)) → Owns whole part
-      → seek p (mounts_in (entries part)) ≡ Some m → under m.number ≡ Some m
+      → find p (mounts_in (entries part)) ≡ Some m → under m.number ≡ Some m
   found-own p m [] owns is = absurd cc
   found-own p m (one ∷ part) owns is = by (p (mount_under one.0 one.1)) is (found-own p m part owns.1)
     where
-      by : (b : Bool) → cond b (Some (mount_under one.0 one.1)) (seek p (mounts_in (entries part))) ≡ Some m
-          → (seek p (mounts_in (entries part)) ≡ Some m → under m.number ≡ Some m) → under m.number ≡ Some m
+      by : (b : Bool) → cond b (Some (mount_under one.0 one.1)) (find p (mounts_in (entries part))) ≡ Some m
+          → (find p (mounts_in (entries part)) ≡ Some m → under m.number ≡ Some m) → under m.number ≡ Some m
       by true is rest =
           let here : mount_under one.0 one.1 ≡ m = cc in
           (λ i. under (sym here i).number) ∙ own one owns.0 ∙ ap Some here
@@ -99,10 +90,10 @@ any-counts q (id ∷ ids) = ap (λ b. q (counted id.count) || b) (any-counts q i
 -- what stands on an inode, and is of some kind
 pub any-over : (over p : meant.Mount ℕ → Bool) (es : List (MountId × Mounted)) (now : List MountEntry)
     (ids : List MountId) → entries_of es ≡ now → counts ids ≡ numbers (filter over (mounts_in (entries_of es)))
-    → list_any (λ id. holds_of p (seek (λ mount. nat_eq (counted id.count) mount.number) (mounts_in now))) ids
+    → list_any (λ id. holds_of p (find (λ mount. nat_eq (counted id.count) mount.number) (mounts_in now))) ids
     ≡ list_any (λ mount. over mount && p mount) (mounts_in now)
 any-over over p es now ids view is =
-    ap (λ now. list_any (λ id. holds_of p (seek (λ mount. nat_eq (counted id.count) mount.number) (mounts_in now))) ids)
+    ap (λ now. list_any (λ id. holds_of p (find (λ mount. nat_eq (counted id.count) mount.number) (mounts_in now))) ids)
     (sym view) ∙ any-counts (λ number. holds_of p (under (in_order es) number)) ids
     ∙ ap (list_any (λ number. holds_of p (under (in_order es) number))) is
     ∙ any-own (in_order es) over p (in_order es) (owns-all (in_order es) (rises-in_order es))
@@ -110,13 +101,13 @@ any-over over p es now ids view is =
 
 -- the mount that passes a test, from its number
 found-child : (p : meant.Mount ℕ → Bool) (kept : List (MountId × Mounted)) (child : MountId) → Owns kept kept
-    → Some (counted child.count) ≡ option_map (λ mount. mount.number) (seek p (mounts_in (entries kept)))
-    → option_map (mount_under child) (found child kept) ≡ seek p (mounts_in (entries kept))
-found-child p kept child owns is = by (seek p (mounts_in (entries kept))) refl is
+    → Some (counted child.count) ≡ option_map (λ mount. mount.number) (find p (mounts_in (entries kept)))
+    → option_map (mount_under child) (found child kept) ≡ find p (mounts_in (entries kept))
+found-child p kept child owns is = by (find p (mounts_in (entries kept))) refl is
   where
-    by : (r : Option (meant.Mount ℕ)) → seek p (mounts_in (entries kept)) ≡ r
+    by : (r : Option (meant.Mount ℕ)) → find p (mounts_in (entries kept)) ≡ r
         → Some (counted child.count) ≡ option_map (λ mount. mount.number) r
-        → option_map (mount_under child) (found child kept) ≡ seek p (mounts_in (entries kept))
+        → option_map (mount_under child) (found child kept) ≡ find p (mounts_in (entries kept))
     by None there is = absurd cc
     by (Some m) there is =
         let number : counted child.count ≡ m.number = cc in

@@ -1,6 +1,6 @@
 -- Room that is reserved for mounts that come and move.
 use Rattle.std.proofs.Common.{◌≡◌, ◌<◌, ◌≤◌, ◌+◌, ◌-◌, ℕ, Bool, true, false, cond, ◌&&◌, List, [], ◌∷◌, ◌++◌, map, refl, ap, subst, arith, eq-eqb}
-use Rattle.std.proofs.lemmas.List.{reverse-append}
+use Rattle.vt_spec.proofs.Common.{reverse-append}
 use Rattle.vt_location.proofs.NodeLemmas.{same_node-itself}
 use Rattle.vt_location.specs.declared.locations.Location.{Location}
 use Rattle.vt_location.specs.declared.numbers.MountId.{MountId}

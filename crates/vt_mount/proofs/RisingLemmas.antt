@@ -1,15 +1,11 @@
 -- Mounts in the order of their numbers: what a binary search finds among them, and what an edit there does.
-use Rattle.std.proofs.Common.{◌≡◌, ◌<◌, ◌≤◌, ◌-◌, ℕ, zero, suc, Bool, true, false, cond, ◌&&◌, List, [], ◌∷◌, ◌++◌, Option, Some, filter, get_or, leb, length, nat_eq, nat_lt, not, refl, sym, ap, eq-eqb, subst, ◌∙◌, arith}
-use Rattle.std.specs.List.{AllWithin, insert, remove, slice_get}
+use Rattle.std.proofs.Common.{◌≡◌, ◌<◌, ◌≤◌, ◌-◌, ℕ, zero, suc, Bool, true, false, cond, ◌&&◌, List, [], ◌∷◌, ◌++◌, Option, Some, filter, get_or, leb, length, nat_eq, nat_lt, not, refl, sym, ap, eq-eqb, subst, ◌∙◌, arith, insert, remove, slice_get, ltb-true, ltb-false}
+use Rattle.vt_spec.proofs.Common.{and_true_left, and_true_right, get_or_from_slice_get, holds_of, nat_tests, not-true}
+use Rattle.std.specs.List.{AllWithin}
 use Rattle.std.specs.List.Sorted.{IsNonDecreasingBy, IsPartitionPoint, IsPartitionedBy}
-use Rattle.std.proofs.lemmas.Bool.{ltb-true, ltb-false, not-true}
-use Rattle.std.proofs.lemmas.Bool.Decides.{nat_tests}
-use Rattle.std.proofs.lemmas.Option.{get_or_from_slice_get}
 use Rattle.vt_location.specs.declared.numbers.MountId.{MountId}
 use Rattle.vt_mount.specs.Indexes.{pushed, put_in_place, taken}
 use Rattle.vt_mount.specs.Rising.{comes_last, inserted, none_below, rises, same_id}
-use Rattle.vt_spec.specs.Lists.{holds_of}
-use Rattle.vt_spec.proofs.Truths.{and_true_left, and_true_right}
 
 both : (a b : Bool) → a ≡ true → b ≡ true → (a && b) ≡ true
 both a b left right = (λ i. left i && b) ∙ right

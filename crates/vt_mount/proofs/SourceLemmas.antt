@@ -1,8 +1,6 @@
 -- The groups that types of mounts name are counted.
-use Rattle.std.proofs.Common.{◌≡◌, ap, refl, true, ◌&&◌, ◌%◌, ◌==◌, eq-eqb, List, [], ◌∷◌, map, arith}
-use Rattle.std.specs.Prelude.{option_to_list}
-use Rattle.std.specs.List.{list_all}
-use Rattle.vt_spec.specs.Machine.Mounts.{source_of}
+use Rattle.std.proofs.Common.{◌≡◌, ap, refl, true, ◌&&◌, ◌%◌, ◌==◌, eq-eqb, List, [], ◌∷◌, map, arith, option_to_list}
+use Rattle.vt_spec.proofs.Common.{list_all, source_of}
 use Rattle.vt_location.specs.declared.mounts.Propagation.{Propagation}
 use Rattle.vt_location.specs.declared.mounts.Propagation.TheVariants.{Private, Shared, Slave, Unbindable}
 use Rattle.vt_location.specs.declared.numbers.MountId.{MountId}

@@ -1,9 +1,6 @@
 -- The tree of a mount, walked with a stack.
-use Rattle.std.proofs.Common.{◌≡◌, ℕ, suc, zero, List, [], ◌∷◌, ◌++◌, map, nat_eq, length, refl, sym, ap, ◌∙◌, append_assoc}
-use Rattle.std.specs.Prelude.{flat_map, reverse}
-use Rattle.std.proofs.lemmas.List.{append-nil, map-append, reverse-append}
-use Rattle.vt_spec.proofs.Worlds.{number-mount_in}
-use Rattle.vt_spec.specs.Machine.Mounts.{Mount, children, mount_in, mount_tree, tree_from}
+use Rattle.std.proofs.Common.{◌≡◌, ℕ, suc, zero, List, [], ◌∷◌, ◌++◌, map, nat_eq, length, refl, sym, ap, ◌∙◌, append_assoc, flat_map, reverse, append-nil}
+use Rattle.vt_spec.proofs.Common.{Mount, children, map-append, mount_in, mount_tree, number-mount_in, reverse-append, tree_from}
 use Rattle.vt_location.specs.declared.numbers.MountId.{MountId}
 use Rattle.vt_location.specs.Numbers.{counted}
 use Rattle.vt_mount.specs.declared.trees.Branch.{Branch}

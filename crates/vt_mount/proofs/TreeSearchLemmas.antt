@@ -1,11 +1,6 @@
 -- Whether a mount of a tree passes a test, by the trees of the children.
-use Rattle.std.proofs.Common.{◌≡◌, ℕ, suc, Bool, true, false, List, [], ◌∷◌, nat_eq, refl, sym, ap, ◌∙◌, inl, inr, ◌||◌}
-use Rattle.std.specs.Prelude.{flat_map, unwrap_or}
-use Rattle.std.specs.List.{list_any}
-use Rattle.std.proofs.lemmas.List.Folds.{list_any-append}
-use Rattle.vt_spec.specs.Machine.Mounts.{Mount, children, mount_in, no_mount, stands_on, tree_from}
-use Rattle.vt_spec.proofs.Lists.{Among, among-from_filter}
-use Rattle.vt_spec.proofs.Worlds.{number-mount_in}
+use Rattle.std.proofs.Common.{◌≡◌, ℕ, suc, Bool, true, false, List, [], ◌∷◌, nat_eq, refl, sym, ap, ◌∙◌, inl, inr, ◌||◌, flat_map, unwrap_or}
+use Rattle.vt_spec.proofs.Common.{Among, Mount, among-from_filter, children, list_any, list_any-append, mount_in, no_mount, number-mount_in, stands_on, tree_from}
 use Rattle.vt_location.specs.declared.numbers.MountId.{MountId}
 use Rattle.vt_location.specs.Numbers.{counted}
 use Rattle.vt_mount.specs.MountsValue.{are_ascending}

@@ -1,10 +1,7 @@
 -- What is written to one mount.
-use Rattle.std.proofs.Common.{◌≡◌, ℕ, ◌+◌, ◌-◌, nat_eq, arith, Bool, true, false, cond, List, map, None, Some, option_map, refl, sym, ap, ◌∙◌}
-use Rattle.std.specs.Prelude.{IsSome, is_some, unwrap_or, ◌&&◌, ◌∷◌, []}
-use Rattle.std.specs.List.{list_all}
-use Rattle.std.specs.Map.{lookup}
+use Rattle.std.proofs.Common.{◌≡◌, ℕ, ◌+◌, ◌-◌, nat_eq, arith, Bool, true, false, cond, List, map, None, Some, option_map, refl, sym, ap, ◌∙◌, IsSome, is_some, unwrap_or, ◌&&◌, ◌∷◌, []}
+use Rattle.vt_spec.proofs.Common.{holds_of, list_all, lookup}
 use Rattle.indexmap.specs.IndexMap.{IndexMap, WritesThrough, get_by}
-use Rattle.vt_spec.specs.Lists.{holds_of}
 use Rattle.vt_location.specs.Numbers.{counted}
 use Rattle.vt_location.specs.declared.numbers.MountId.{MountId}
 use Rattle.vt_mount.specs.declared.indexes.Indexes.{Indexes}

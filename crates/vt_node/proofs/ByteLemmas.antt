@@ -1,10 +1,9 @@
 -- Bytes that are written over others from an offset on.
-use Rattle.std.proofs.Common.{◌≡◌, ℕ, zero, suc, ◌+◌, ◌-◌, ◌≤◌, List, [], ◌++◌, length, take, drop, max, replicate, sym, ap, ◌∙◌, arith, append_assoc, length-append, length-drop, drop-drop, ⊎_elim}
-use Rattle.std.proofs.lemmas.List.{append-nil, length-replicate, length-take-le, take-append-le, take-replicate}
-use Rattle.std.proofs.lemmas.Bool.{cases_lt}
-use Rattle.std.proofs.Math.Seq.{take-append-add, take-append_seam}
+use Rattle.std.proofs.Common.{◌≡◌, ℕ, zero, suc, ◌+◌, ◌-◌, ◌≤◌, List, [], ◌++◌, length, take, drop, max, replicate, sym, ap, ◌∙◌, arith, append_assoc, length-append, length-drop, drop-drop, ⊎_elim, append-nil, length-take-le}
+use Rattle.vt_spec.proofs.Common.{cases_lt, overwritten, padded, take-append-le, take-append_seam}
+use Rattle.std.proofs.lemmas.List.{length-replicate, take-replicate}
+use Rattle.std.proofs.Math.Seq.{take-append-add}
 use Rattle.std.proofs.Math.ListN.{drop_of_length-le}
-use Rattle.vt_spec.specs.Machine.Descriptors.{overwritten, padded}
 
 length-padded : (n : ℕ) (old : List ℕ) → length (padded n old) ≡ max (length old) n
 length-padded n old = omega (

@@ -1,14 +1,8 @@
 -- The names of the entries that an index map keeps, in another order than that of the entries that contracts see.
-use Rattle.std.proofs.Common.{◌≡◌, ◌∙◌, ◌∷◌, [], List, None, Option, Ordering, Some, ap, cond, is_some, map, true≢false, ℕ}
-use Rattle.std.specs.declared.cmp.Ordering.TheVariants.{Less, Equal, Greater}
+use Rattle.std.proofs.Common.{◌≡◌, ◌∙◌, ◌∷◌, [], List, None, Option, Ordering, Some, ap, cond, is_some, map, true≢false, ℕ, Less, Equal, Greater, IsPermutation, is_eq}
+use Rattle.vt_spec.proofs.Common.{Entries, IsPermutation-cons, IsPermutation-middle, IsPermutation-refl, IsPermutation-trans, by_order, entry_named, keys_of, name_cmp, with_entry}
 use Rattle.std.specs.declared.vec.Vec.{Vec}
-use Rattle.std.specs.FinMap.Entries.{by_order}
 use Rattle.std.specs.List.{IsDistinct}
-use Rattle.std.specs.List.Sorted.{IsPermutation}
-use Rattle.std.specs.Map.{keys_of}
-use Rattle.std.specs.Ordering.{is_eq}
-use Rattle.std.proofs.lemmas.List.Sorted.{IsPermutation-cons, IsPermutation-middle, IsPermutation-refl, IsPermutation-trans}
-use Rattle.vt_spec.specs.Tree.{Entries, entry_named, name_cmp, with_entry}
 use Rattle.vt_node.specs.Listed.{listed}
 use Rattle.vt_node.proofs.ListedLemmas.{find-listed, key_eq}
 use Rattle.vt_node.proofs.RankLemmas.{absent}

@@ -1,17 +1,11 @@
 -- The entries that an index map keeps in some order, and the entries that contracts see, in the order of their names.
-use Rattle.std.proofs.Common.{◌≡◌, ◌≢◌, ℕ, Bool, true, false, cond, not, T, List, [], ◌∷◌, nat_eq, Option, None, Some, refl, sym, ap, ◌∙◌}
-use Rattle.std.specs.declared.cmp.Ordering.TheVariants.{Less, Equal, Greater}
+use Rattle.std.proofs.Common.{◌≡◌, ◌≢◌, ℕ, Bool, true, false, cond, not, T, List, [], ◌∷◌, nat_eq, Option, None, Some, refl, sym, ap, ◌∙◌, Less, Equal, Greater, bytes_eq}
+use Rattle.vt_spec.proofs.Common.{Entries, by_order, eq_by_cmp, find-put, find-where_key, is_sorted, is_sorted-put, is_sorted-where_key, lookup, name_cmp, nat_list_eq_equiv, pointwise, same_entries, same_name-Equal, texts_ties, with_entry, without_entry}
 use Rattle.std.specs.declared.vec.Vec.{Vec}
-use Rattle.std.specs.Ordering.{eq_by_cmp}
-use Rattle.std.specs.Cmp.Lexicographic.{pointwise, texts_ties}
-use Rattle.std.proofs.lemmas.Cmp.{nat_list_cmp_total, nat_list_eq_equiv}
-use Rattle.std.specs.Map.{lookup, KeepsOthers}
-use Rattle.std.specs.FinMap.Entries.{by_order, find, is_sorted, same_entries, find-put, find-where_key, is_sorted-put, is_sorted-where_key}
-use Rattle.std.specs.Str.{bytes_eq}
-use Rattle.vt_spec.specs.Tree.{Entries, name_cmp, with_entry}
-use Rattle.vt_spec.specs.Language.Changes.{without_entry}
+use Rattle.std.proofs.lemmas.Cmp.{nat_list_cmp_total}
+use Rattle.std.specs.Map.{KeepsOthers}
+use Rattle.std.specs.FinMap.Entries.{find}
 use Rattle.vt_node.specs.Listed.{listed}
-use Rattle.vt_spec.proofs.NodeChanges.{same_name-Equal}
 use Rattle.vt_spec.proofs.Truths.{Equal_from_is_eq, cond-not}
 
 -- an entry more is an entry

@@ -1,21 +1,10 @@
 -- The name that leads to a number, among entries as they are kept.
-use Rattle.std.proofs.Common.{◌≡◌, ℕ, zero, suc, nat_eq, nat_lt, length, ◌<◌, ◌≤◌, ltb-false, ltb-true, arith, eq-eqb, eqb-true, Bool, true, false, cond, List, [], ◌∷◌, Option, None, Some, is_some, option_map, refl, sym, ap, subst, ◌∙◌, true≢false}
-use Rattle.std.specs.Prelude.{find, position, slice_get}
+use Rattle.std.proofs.Common.{◌≡◌, ℕ, zero, suc, nat_eq, nat_lt, length, ◌<◌, ◌≤◌, ltb-false, ltb-true, arith, eq-eqb, eqb-true, Bool, true, false, cond, List, [], ◌∷◌, Option, None, Some, is_some, option_map, refl, sym, ap, subst, ◌∙◌, true≢false, find, position, slice_get, Less, Equal, Greater, is_eq}
+use Rattle.vt_spec.proofs.Common.{Entries, and_true_left, and_true_right, below_all, by_order, entry_named, entry_named-below, eq_by_cmp, found_passes, is_sorted, name_cmp, nat_list_cmp_total, same_Some, tied_itself, values_of, with_entry}
 use Rattle.std.specs.List.{position_or_len}
 use Rattle.std.proofs.lemmas.List.Folds.{find_at}
-use Rattle.std.specs.Cmp.{tied_itself}
-use Rattle.std.specs.declared.cmp.Ordering.TheVariants.{Less, Equal, Greater}
 use Rattle.std.specs.declared.vec.Vec.{Vec}
-use Rattle.std.specs.FinMap.Entries.{below_all, by_order, is_sorted}
-use Rattle.std.specs.Map.{values_of}
-use Rattle.std.specs.Ordering.{eq_by_cmp, is_eq}
-use Rattle.std.specs.Cmp.Lexicographic.{nat_list_cmp_total}
-use Rattle.vt_spec.specs.Tree.{Entries, entry_named, name_cmp, with_entry}
 use Rattle.vt_node.specs.Listed.{HasOneName, listed}
-use Rattle.std.proofs.lemmas.Option.{same_Some}
-use Rattle.vt_spec.proofs.Found.{found_passes}
-use Rattle.vt_spec.proofs.NodeChanges.{entry_named-below}
-use Rattle.vt_spec.proofs.Truths.{and_true_left, and_true_right}
 use Rattle.vt_spec.proofs.Nodes.{same_name}
 
 abbrev pub leads : ℕ → List ℕ × ℕ → Bool

@@ -1,27 +1,17 @@
 -- Ranks of names, among entries as they are kept and among those that contracts see.
-use Rattle.std.proofs.Common.{◌≡◌, ◌+◌, ◌≤◌, ℕ, zero, suc, Bool, true, false, cond, ◌&&◌, List, [], ◌∷◌, nat_eq, eqb-true, eq-eqb, Option, None, Some, is_some, option_map, length, get_or, take, drop, ◌<◌, refl, sym, ap, subst, ◌∙◌, true≢false, arith}
-use Rattle.std.specs.Prelude.{filter, find, zip}
-use Rattle.std.specs.declared.cmp.Ordering.{Ordering}
-use Rattle.std.specs.declared.cmp.Ordering.TheVariants.{Less, Equal, Greater}
+use Rattle.std.proofs.Common.{◌≡◌, ◌+◌, ◌≤◌, ℕ, zero, suc, Bool, true, false, cond, ◌&&◌, List, [], ◌∷◌, nat_eq, eqb-true, eq-eqb, Option, None, Some, is_some, option_map, length, get_or, take, drop, ◌<◌, refl, sym, ap, subst, ◌∙◌, true≢false, arith, filter, find, zip, Ordering, Less, Equal, Greater, is_eq, is_lt, nat_cmp, take_all}
+use Rattle.vt_spec.proofs.Common.{AllByRecursion, Entries, and_true_left, and_true_right, below_all, by_order, drop_more, entry_named, entry_named-below, eq_by_cmp, found_passes, is_sorted, keys_of, length-map, lookup, name_cmp, nat_list_cmp_total, passes, same_Some, tied_itself, values_of, with_entry}
 use Rattle.std.specs.declared.vec.Vec.{Vec}
-use Rattle.std.specs.Cmp.{tied_itself}
-use Rattle.std.specs.Cmp.Lexicographic.{lists_agrees, nat_list_cmp_total, slice_partial_cmp}
-use Rattle.std.specs.FinMap.Entries.{below_all, by_order, is_sorted}
-use Rattle.std.specs.List.{AllByRecursion, IsDistinct}
-use Rattle.std.specs.Map.{keys_of, lookup, values_of}
-use Rattle.std.specs.Ordering.{eq_by_cmp, is_eq, is_lt, is_some_and, nat_cmp, ordering_reverse}
-use Rattle.vt_spec.specs.Tree.{Entries, entry_named, name_cmp, with_entry}
+use Rattle.std.specs.Cmp.Lexicographic.{lists_agrees, slice_partial_cmp}
+use Rattle.std.specs.List.{IsDistinct}
+use Rattle.std.specs.Ordering.{is_some_and, ordering_reverse}
 use Rattle.vt_node.specs.Listed.{listed}
 use Rattle.vt_node.specs.Ranks.{has_rank, name_ranked, rank_among}
 use Rattle.vt_node.proofs.ListedLemmas.{find-listed, is_name, is_sorted-listed, key_eq}
-use Rattle.std.proofs.lemmas.List.{drop_more, get_or-map, length-map, take_all}
+use Rattle.std.proofs.lemmas.List.{get_or-map}
 use Rattle.std.proofs.lemmas.List.Filters.{length-filter_more}
 use Rattle.std.proofs.Math.ListN.{drop_of_length-le}
-use Rattle.std.proofs.lemmas.Option.{same_Some}
-use Rattle.vt_spec.proofs.Found.{found_passes}
-use Rattle.vt_spec.proofs.NodeChanges.{entry_named-below}
-use Rattle.vt_spec.proofs.Nodes.{passes, same_name}
-use Rattle.vt_spec.proofs.Truths.{and_true_left, and_true_right}
+use Rattle.vt_spec.proofs.Nodes.{same_name}
 
 one_more : {X : Type 0} (b : Bool) (x : X) (xs : List X) → length (cond b (x ∷ xs) xs) ≡ length xs + cond b 1 0
 one_more true x xs = omega arith

@@ -1,22 +1,16 @@
 -- The names of a map's keys, sorted, are the names of its entries.
-use Rattle.std.proofs.Common.{◌≡◌, ℕ, ◌+◌, Bool, true, false, cond, ◌&&◌, ◌||◌, T, List, [], ◌∷◌, map, get_or, nat_eq, Option, None, Some, is_some, Ordering, refl, sym, ap, subst, ◌∙◌, true≢false, arith}
-use Rattle.std.specs.declared.cmp.Ordering.TheVariants.{Less, Equal, Greater}
+use Rattle.std.proofs.Common.{◌≡◌, ℕ, ◌+◌, Bool, true, false, cond, ◌&&◌, ◌||◌, T, List, [], ◌∷◌, map, get_or, nat_eq, Option, None, Some, is_some, Ordering, refl, sym, ap, subst, ◌∙◌, true≢false, arith, Less, Equal, Greater, is_lt, is_eq, nat_cmp, IsPermutation, IsSorted}
+use Rattle.vt_spec.proofs.Common.{AllByRecursion, Entries, IsPermutation-map, IsTotalOrder, T_and, below_all, eq_by_cmp, is_some-find, is_sorted, keys_of, list_any, list_any-IsPermutation, lookup, name_cmp, nat_list_eq_equiv, pointwise, same_entries, same_name-Equal, sorted_head, sorted_tail, texts_ties}
 use Rattle.std.specs.declared.vec.Vec.{Vec}
-use Rattle.std.specs.Ordering.{is_lt, is_eq, eq_by_cmp, ordering_reverse, nat_cmp}
-use Rattle.std.specs.Cmp.{IsTotalOrder}
-use Rattle.std.specs.Cmp.Lexicographic.{slice_cmp, pointwise, texts_ties}
-use Rattle.std.proofs.lemmas.Cmp.{nat_list_cmp_total, nat_list_eq_equiv}
-use Rattle.std.specs.List.{AllByRecursion, IsDistinct, list_any}
-use Rattle.std.specs.List.Sorted.{IsPermutation, IsSorted, IsStrictlySortedBy}
-use Rattle.std.specs.Map.{keys_of, lookup}
-use Rattle.std.specs.FinMap.Entries.{below_all, find, is_some-find, is_sorted, same_entries}
-use Rattle.std.proofs.lemmas.List.Sorted.{IsPermutation-map, list_any-IsPermutation}
-use Rattle.std.proofs.lemmas.Map.Keys.{IsDistinct-IsPermutation, apart_from_distinct, sorted_from_all_adjacent, sorted_head, sorted_tail}
-use Rattle.vt_spec.specs.Tree.{Entries, name_cmp}
+use Rattle.std.specs.Ordering.{ordering_reverse}
+use Rattle.std.specs.Cmp.Lexicographic.{slice_cmp}
+use Rattle.std.proofs.lemmas.Cmp.{nat_list_cmp_total}
+use Rattle.std.specs.List.{IsDistinct}
+use Rattle.std.specs.List.Sorted.{IsStrictlySortedBy}
+use Rattle.std.specs.FinMap.Entries.{find}
+use Rattle.std.proofs.lemmas.Map.Keys.{IsDistinct-IsPermutation, apart_from_distinct, sorted_from_all_adjacent}
 use Rattle.vt_node.specs.Listed.{listed}
 use Rattle.vt_node.proofs.ListedLemmas.{find-listed, is_name, is_sorted-listed, key_eq}
-use Rattle.vt_spec.proofs.NodeChanges.{same_name-Equal}
-use Rattle.vt_spec.proofs.Truths.{T_and}
 
 -- what is neither greater nor equal is less
 is_less : (r s : Ordering) → r ≡ ordering_reverse s → is_lt s ≡ false → is_eq r ≡ false → r ≡ Less

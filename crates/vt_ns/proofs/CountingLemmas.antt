@@ -1,21 +1,13 @@
 -- Room for further uses, and the counts of tasks beside namespaces.
 use Rattle.std.proofs.Common.{◌≡◌, ◌≤◌, refl, sym, ap, subst, ◌∙◌, ℕ, ◌+◌, Bool, true, false, cond, nat_eq, List, [], ◌∷◌, find, map, Some, None, option_map, unwrap_or, arith}
+use Rattle.vt_spec.proofs.Common.{Inodes, keys_of, lookup, set_value, uses_in}
 use Rattle.std.specs.List.{IsDistinct}
-use Rattle.std.specs.Map.{keys_of, lookup, set_value}
 use Rattle.vt_laws_mounts.specs.Counts.Using.{pinned_if}
-use Rattle.vt_fs.specs.FilesystemsValue.{Filesystems, inodes_at, inodes_seen, no_entry, shown, shown_entry}
-use Rattle.vt_laws_mounts.specs.LettingGo.OneByOne.{Inode}
+use Rattle.vt_ns.proofs.Common.{Filesystems, HasRoom, Inode, MountEntry, StoreValue, changed, counted, entries_of, entry_numbered, inodes_at, inodes_seen, kept, no_entry, number_of, pinned_in, shown, shown_entry, uses_of, with_location, writers_of}
 use Rattle.vt_location.specs.declared.locations.Location.{Location}
-use Rattle.vt_location.specs.Locations.{number_of}
-use Rattle.vt_location.specs.Numbers.{counted}
-use Rattle.vt_mount.specs.MountsValue.{MountEntry, changed, entry_numbered, held, uses_of, writers_of}
-use Rattle.vt_spec.specs.Inodes.{Inodes, uses_in}
-use Rattle.vt_store.specs.StoreValue.{StoreValue}
+use Rattle.vt_mount.specs.MountsValue.{held}
 use Rattle.vt_world.specs.declared.namespaces.Namespace.{Namespace}
-use Rattle.vt_mounting.specs.Detach.Forking.{HasRoom, more_tasks, with_task_more}
-use Rattle.vt_mounting.specs.Detach.Stored.{kept}
-use Rattle.vt_mounting.specs.Detach.Uses.{pinned_in, with_location}
-use Rattle.vt_world.specs.WorldValue.{entries_of}
+use Rattle.vt_mounting.specs.Detach.Forking.{more_tasks, with_task_more}
 use Rattle.vt_mounting.proofs.detach.NamespaceEntries.{Entries, entries_written, is_id, none_written, same_namespace}
 use Rattle.vt_mounting.proofs.attach.RoomLemmas.{pinned_if_more}
 

@@ -1,16 +1,9 @@
 -- Layers of an overlay that is to be mounted, where no live overlay has an upper layer: EBUSY of mount(2).
-use Rattle.std.proofs.Common.{◌≡◌, ◌&&◌, ◌++◌, All, ap, filter, nat_eq, refl, sym, ◌∙◌, ℕ, Bool, true, false, List, [], ◌∷◌, Option, Some, None}
-use Rattle.std.specs.List.{list_any}
-use Rattle.std.specs.Prelude.{flat_map}
-use Rattle.std.proofs.lemmas.List.Elements.{All-head, All-tail}
-use Rattle.vt_spec.specs.Machine.Locked.{in_use, lies_or_counts_under, of_overlay, overlay_or, overlaps_one_of, upper_and_work}
-use Rattle.vt_spec.specs.Machine.Looks.{Looks}
-use Rattle.vt_spec.specs.Machine.Mounts.{Location}
-use Rattle.vt_spec.specs.Machine.Rules.Mounting.{overlay_at}
-use Rattle.vt_spec.specs.Machine.World.{Filesystem, Layer, Overlay, Task, World, filesystem_numbered, is_overlay}
+use Rattle.std.proofs.Common.{◌≡◌, ◌&&◌, ◌++◌, All, ap, filter, nat_eq, refl, sym, ◌∙◌, ℕ, Bool, true, false, List, [], ◌∷◌, Option, Some, None, flat_map}
+use Rattle.vt_spec.proofs.Common.{All-head, All-tail, Filesystem, Layer, Location, Looks, Overlay, Task, World, filesystem_numbered, in_use, is_overlay, lies_or_counts_under, list_any, of_overlay, overlaps_one_of, overlay_at, overlay_or, upper_and_work}
 use Rattle.vt_layers.specs.LayersValue.{lowers_alone}
 use Rattle.vt_ns.proofs.WithoutUppers.{WritesToNone, all_write_to_none}
-use Rattle.vt_world.specs.WorldValue.{WorldValue, world_of}
+use Rattle.vt_ns.proofs.Common.{WorldValue, world_of}
 
 -- nothing overlaps one of no layers
 none_false : (b : Bool) → (b && false) ≡ false

@@ -1,3 +1,4 @@
+mod Common
 pub mod LayersInUse
 pub mod MountLooks
 pub mod Overfilling

@@ -1,21 +1,11 @@
 -- What the rules of mount calls look at, by what is counted beside the mounts.
 use Rattle.std.proofs.Common.{◌≡◌, refl, sym, ap, ◌∙◌, inr, ℕ, zero, suc, ◌+◌, nat_eq, nat_lt, eqb-true, Bool, true, false, cond, ◌||◌, ◌&&◌, List, [], ◌∷◌, map, Option, Some, None, option_map, unwrap_or, arith}
-use Rattle.std.proofs.Math.Bool.{and-false}
-use Rattle.std.specs.List.{list_any}
-use Rattle.std.proofs.lemmas.Bool.{and_parts}
-use Rattle.std.proofs.lemmas.Bool.Decides.{nat_tests}
-use Rattle.vt_spec.specs.Lists.{is_among}
+use Rattle.vt_spec.proofs.Common.{Among, Descriptor, Task, all_locations, among-flat_map, among-map, among_from_all, among_from_list_all, and-false, and_parts, is_among, is_located, is_located_well, is_there, list_any, locations_of, mount_at, nat_tests, none_among, none_from_among}
 use Rattle.vt_spec.specs.Machine.Detach.{is_written_through}
 use Rattle.vt_spec.specs.Machine.Mounts as meant
-use Rattle.vt_spec.specs.Machine.Settled.{is_located}
-use Rattle.vt_spec.specs.Machine.World.{Descriptor, Task, all_locations, locations_of, mount_at}
-use Rattle.vt_spec.specs.Machine.Invariants.{is_located_well, is_there}
-use Rattle.vt_spec.proofs.Lists.{Among, among-flat_map, among-map, among_from_all, among_from_list_all, none_among, none_from_among}
-use Rattle.vt_laws_mounts.specs.LettingGo.Counts.{mount_uses, times}
+use Rattle.vt_ns.proofs.Common.{CountsItsUses, IsHeld, MountEntry, WorldValue, entry_numbered, mount_uses, mounts_in, times, uses_of, world_of, writers_of, writes_of}
 use Rattle.vt_laws_mounts.proofs.letting_go.sweeps.UsesCounted.{located_while_counted}
-use Rattle.vt_mount.specs.MountsValue.{MountEntry, entry_numbered, mounts_in, uses_of, writers_of}
-use Rattle.vt_world.specs.Held.{CountsItsUses, IsHeld, writes_of, writes_on}
-use Rattle.vt_world.specs.WorldValue.{WorldValue, world_of}
+use Rattle.vt_world.specs.Held.{writes_on}
 use Rattle.vt_mounting.proofs.detach.LostUses.{entry_found_at}
 use Rattle.vt_laws_mounts.proofs.letting_go.Lists.{any_counted}
 

@@ -1,34 +1,18 @@
 -- Whether a namespace has too many mounts once a tree is attached: ENOSPC of mount(2).
-use Rattle.std.proofs.Common.{◌≡◌, refl, sym, ap, subst, ◌∙◌, ⊎_elim, ◌+◌, ◌-◌, ◌*◌, ℕ, nat_eq, Bool, true, false, true≢false, List, [], ◌∷◌, map, filter, find, length, take, Option, Some, None, is_some, option_map, unwrap_or, arith}
-use Rattle.std.proofs.lemmas.List.{length-map, take_all as all_taken}
-use Rattle.std.specs.Prelude.{Contains, drop}
-use Rattle.vt_spec.specs.Language.Calls.{MountFlags}
-use Rattle.vt_spec.specs.Lists.{evens, odds, rest_of}
-use Rattle.vt_spec.specs.Machine.Attach.{Copies, attached_by, bind_tree, copies_from, has_too_many, parts_of, receivers_of, takes_part}
-use Rattle.vt_spec.specs.Machine.Invariants.{NamespaceInvariants}
-use Rattle.vt_spec.specs.Machine.Mounts.{Location, Mount, mount_tree, no_mount}
-use Rattle.vt_spec.specs.Machine.NewMounts.{new_mount, overlay_filesystem, plain_filesystem, with_new_filesystem}
-use Rattle.vt_spec.specs.Machine.Permits.Permit.{ToBind, ToMountOverlay, ToMountPlain, ToMove}
-use Rattle.vt_spec.specs.Machine.World.{Overlay, World, mount_at, mount_numbered}
-use Rattle.vt_spec.proofs.Lists.{Among, all_from_among, contains_from_among}
+use Rattle.std.proofs.Common.{◌≡◌, refl, sym, ap, subst, ◌∙◌, ⊎_elim, ◌+◌, ◌-◌, ◌*◌, ℕ, nat_eq, Bool, true, false, true≢false, List, [], ◌∷◌, map, filter, find, length, take, Option, Some, None, is_some, option_map, unwrap_or, arith, take_all, Contains, drop}
+use Rattle.vt_spec.proofs.Common.{Among, Copies, Location, Mount, MountFlags, NamespaceInvariants, Overlay, ToBind, ToMountOverlay, ToMountPlain, ToMove, World, all_from_among, attached_by, bind_tree, contains_from_among, copies_from, evens, has_too_many, length-map, mount_at, mount_numbered, mount_tree, new_mount, no_mount, odds, overlay_filesystem, parts_of, plain_filesystem, receivers_of, rest_of, takes_part, with_new_filesystem}
 use Rattle.vt_location.specs.declared.mounts.Mount.{Mount as Kept}
 use Rattle.vt_location.specs.declared.numbers.MountId.{MountId}
 use Rattle.vt_location.specs.declared.numbers.NamespaceId.{NamespaceId}
-use Rattle.vt_location.specs.MountValue.{mount_of}
-use Rattle.vt_location.specs.Numbers.{counted}
-use Rattle.vt_mount.specs.MountsValue.{mounts_in}
+use Rattle.vt_ns.proofs.Common.{IsHeld, WorldValue, among-from_filter, counted, counts_from, mount_of, mounts_in, world_of}
 use Rattle.vt_laws_mounts.proofs.mounts.MountsFound.{found_in}
 use Rattle.vt_laws_mounts.proofs.mounts.Standing.{trees_have_each_once}
 use Rattle.vt_laws_worlds.proofs.permits.taken.PartsKept.{receivers_there, same_parts}
 use Rattle.vt_propagate.specs.Filling.{GrowsBy, MovesFrom, mount_count}
 use Rattle.vt_propagate.proofs.Counting.{absent_counted, added_counted, moved_all}
-use Rattle.vt_laws_mounts.proofs.letting_go.Lists.{among-from_filter}
-use Rattle.vt_laws_trees.specs.Runs.Handed.{counts_from}
 use Rattle.vt_laws_worlds.proofs.worlds.FewMounts.{shrinks_few}
 use Rattle.vt_mounting.proofs.detach.Leaving.{none_among}
-use Rattle.vt_world.specs.Held.{IsHeld}
 use Rattle.vt_mounting.specs.Detach.Looking.{overfills_of}
-use Rattle.vt_world.specs.WorldValue.{WorldValue, world_of}
 use Rattle.vt_mounting.proofs.detach.TreesInNamespaces.{alone_in_tree, in_tree}
 
 -- A place on a mount that is not there is in no namespace, and nothing is received there.
@@ -236,7 +220,7 @@ rest_kept kept mounts is = ap rest_of (sym is) ∙ by kept
   where
     by : (kept : List Kept) → rest_of (map mount_of kept) ≡ map mount_of (take (length kept - 1) (drop 1 kept))
     by [] = refl
-    by (first ∷ rest) = ap (map mount_of) (sym (all_taken (length (first ∷ rest) - 1) rest (omega arith)))
+    by (first ∷ rest) = ap (map mount_of) (sym (take_all (length (first ∷ rest) - 1) rest (omega arith)))
 
 -- a tree has as many mounts as its list has numbers
 pub tree_sized : (ids : List MountId) (mounts : List (Mount ℕ))

@@ -1,34 +1,16 @@
 -- Mounts that get types, and leave their groups.
-use Rattle.std.proofs.Common.{None, ◌≡◌, ◌<◌, refl, sym, ap, subst, ◌∙◌, ℕ, ◌+◌, Bool, true, false, ◌||◌, nat_eq, List, [], ◌∷◌, ◌++◌, map, get_or, length, take, arith, Result, Ok, Err}
-use Rattle.std.specs.Prelude.{IfOk, OnOk, if◌then◌else◌}
-use Rattle.std.specs.List.{list_any}
-use Rattle.std.proofs.lemmas.Bool.{or_parts}
-use Rattle.std.proofs.lemmas.List.{map-append, take_more}
-use Rattle.std.specs.declared.alloc.AllocError.{AllocError}
-use Rattle.vt_spec.specs.Language.Calls.{TypeWord}
-use Rattle.vt_spec.specs.Language.Calls.TypeWord.{ToShared, ToSlave}
-use Rattle.vt_spec.specs.Lists.{is_among}
-use Rattle.vt_spec.specs.Machine.Mounts.{Mount, Propagation, is_unbindable, source_of}
-use Rattle.vt_spec.specs.Machine.Mounts.Propagation.{Unbindable}
-use Rattle.vt_spec.specs.Machine.Types.{retyped as policy_retyped, retyped_mount, type_after}
-use Rattle.vt_spec.specs.Machine.World.{World}
-use Rattle.vt_group.specs.Grouping.{Grouping, propagation_in}
+use Rattle.std.proofs.Common.{None, ◌≡◌, ◌<◌, refl, sym, ap, subst, ◌∙◌, ℕ, ◌+◌, Bool, true, false, ◌||◌, nat_eq, List, [], ◌∷◌, ◌++◌, map, get_or, length, take, arith, Result, Ok, Err, IfOk, OnOk, if◌then◌else◌}
+use Rattle.vt_spec.proofs.Common.{AllocError, Mount, Propagation, ToShared, ToSlave, TypeWord, Unbindable, World, is_among, is_unbindable, list_any, map-append, map_alike, map_twice, nat_eq-swapped, or_parts, retyped as policy_retyped, retyped_mount, source_of, take_more, type_after}
+use Rattle.vt_ns.proofs.Common.{Grouping, IsSeen, MountEntry, all_from_among, among-from_map, changed, counted, counts_from, has_ordered, mounts_in, numbers_of, retyped}
+use Rattle.vt_group.specs.Grouping.{propagation_in}
 use Rattle.vt_group.specs.Together.{Retypes, Shares}
 use Rattle.vt_group.proofs.Together.{is_among-snoc, named_numbers}
-use Rattle.vt_group.proofs.Others.{has_ordered}
-use Rattle.vt_laws_mounts.proofs.letting_go.Lists.{all_from_among, among-from_map}
 use Rattle.vt_location.specs.declared.numbers.MountId.{MountId}
-use Rattle.vt_location.specs.Numbers.{counted}
-use Rattle.vt_mount.specs.MountsValue.{MountEntry, changed, mounts_in}
-use Rattle.vt_retype.specs.Retyping.{FollowsTypes, FollowsTypesLeft, HaveNoSource, retyped, shared_by, typed_entry, with_kind}
-use Rattle.vt_propagate.specs.Seen.{IsSeen}
+use Rattle.vt_retype.specs.Retyping.{FollowsTypes, FollowsTypesLeft, HaveNoSource, shared_by, typed_entry, with_kind}
 use Rattle.vt_propagate.proofs.Seeing.{are_typed, retyping_is_seen, sharing_is_seen, slaves_are_seen}
-use Rattle.vt_laws_trees.specs.Runs.Handed.{counts_from}
 use Rattle.vt_mounting.proofs.attach.CopiesAscend.{place_first, place_in, place_later}
 use Rattle.vt_ns.specs.Retyped.{IsRetyped, counted_after, set_if, with_counts}
-use Rattle.vt_spec.proofs.Lists.{map_alike, map_twice}
-use Rattle.vt_spec.proofs.Truths.{nat_eq-swapped}
-use Rattle.vt_laws_mounts.specs.Mounts.Attaching.{numbers_of, OneNumberAMount}
+use Rattle.vt_laws_mounts.specs.Mounts.Attaching.{OneNumberAMount}
 use Rattle.vt_laws_mounts.specs.Mounts.Receivers.{AllGroupsLive}
 
 -- One after the other

@@ -1,12 +1,11 @@
 -- No overlay of the code's world has an upper layer, nor a work directory.
 use Rattle.std.proofs.Common.{All, List, [], false, is_some, refl, ◌∷◌, ◌≡◌, ℕ}
-use Rattle.std.proofs.lemmas.List.Elements.{All-cons, All-nil}
-use Rattle.vt_spec.specs.Machine.Locked.{of_overlay, upper_and_work}
-use Rattle.vt_spec.specs.Machine.World.{Filesystem}
-use Rattle.vt_fs.specs.FilesystemsValue.{FilesystemEntry, Filesystems, filesystem_seen, filesystems_seen}
+use Rattle.vt_spec.proofs.Common.{All-cons, All-nil, Filesystem, of_overlay, upper_and_work}
+use Rattle.vt_ns.proofs.Common.{FilesystemEntry, Filesystems, WorldValue, filesystem_seen, overlay_seen, overlays_seen, world_of}
+use Rattle.vt_fs.specs.FilesystemsValue.{filesystems_seen}
 use Rattle.vt_laws_mounts.specs.Counts.BesideOverlays.{OverlaysHaveNoUpper}
 use Rattle.vt_mounting.proofs.detach.NodesFound.{woven_all}
-use Rattle.vt_world.specs.WorldValue.{OverlayEntry, WorldValue, overlay_seen, overlays_seen, world_of}
+use Rattle.vt_world.specs.WorldValue.{OverlayEntry}
 
 module _ (P : Filesystem ℕ → Type 0) where
   plain_all : ((entry : FilesystemEntry) → P (filesystem_seen entry)) → (all : Filesystems)

@@ -1,8 +1,7 @@
 -- The code's world is one that propagation sees.
 use Rattle.std.proofs.Common.{sym}
 use Rattle.vt_propagate.specs.Going.{CountsUses}
-use Rattle.vt_world.specs.Held.{IsHeld}
-use Rattle.vt_world.specs.WorldValue.{WorldValue, world_of}
+use Rattle.vt_ns.proofs.Common.{IsHeld, WorldValue, world_of}
 use Rattle.vt_ns.proofs.MountLooks.{uses_tested}
 
 -- code counts the uses of each mount

@@ -1,15 +1,6 @@
 -- A directory that was born below is at one path of its layer, if at all.
-use Rattle.std.proofs.Common.{◌≡◌, ◌≢◌, ◌∙◌, ◌<◌, ◌≤◌, ◌∷◌, ◌++◌, [], arith, ap, Bool, eq-eqb, eqb-true, false, length, List, nat_eq, None, Option, option_map, refl, Some, subst, sym, true, true≢false, ℕ, slice_get}
-use Rattle.std.proofs.lemmas.Option.{same_Some, slice_get_within}
-use Rattle.std.specs.Prelude.{if◌then◌else◌, is_some, unwrap_or}
-use Rattle.vt_spec.proofs.Options.{none_is_some}
-use Rattle.vt_spec.proofs.Trees.{found}
-use Rattle.vt_spec.specs.Inodes.{node_in}
-use Rattle.vt_spec.specs.Lists.{holds_of, then_some, without_last}
-use Rattle.vt_spec.specs.Machine.Layers.{Shown, node_at_path, shown}
-use Rattle.vt_spec.specs.Machine.Merging.{is_root_path}
-use Rattle.vt_spec.specs.Tree.{Node, Tree, is_directory_node, parent_in}
-use Rattle.vt_spec.specs.TreeInvariant.{IsDirectory, entry_at, led}
+use Rattle.std.proofs.Common.{◌≡◌, ◌≢◌, ◌∙◌, ◌<◌, ◌≤◌, ◌∷◌, ◌++◌, [], arith, ap, Bool, eq-eqb, eqb-true, false, length, List, nat_eq, None, Option, option_map, refl, Some, subst, sym, true, true≢false, ℕ, slice_get, if◌then◌else◌, is_some, unwrap_or}
+use Rattle.vt_spec.proofs.Common.{IsDirectory, Node, Shown, Tree, entry_at, found, holds_of, is_directory_node, is_root_path, led, node_at_path, node_in, none_is_some, parent_in, same_Some, shown, slice_get_within, then_some, without_last}
 use Rattle.vt_laws_trees.proofs.layers.layers.ShownDirectories.{last_of, led_is_there}
 use Rattle.vt_laws_trees.proofs.layers.layers.ShownNames.{last_name}
 use Rattle.vt_laws_trees.proofs.layers.layers.ShownPaths.{not_empty, one_path}

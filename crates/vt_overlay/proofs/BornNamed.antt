@@ -1,19 +1,6 @@
 -- A node that was born below is at one path: the way to the directory in which it was born, and the name of its rank.
-use Rattle.std.proofs.Common.{◌≡◌, ◌≢◌, ◌∙◌, ◌∷◌, ◌++◌, [], ap, Bool, eqb-true, false, length, List, nat_eq, None, Option, option_and_then, refl, Some, subst, sym, true, true≢false, ℕ, slice_get}
-use Rattle.std.proofs.lemmas.Option.{same_Some}
-use Rattle.std.specs.Cmp.{tied_itself}
-use Rattle.std.specs.Cmp.Lexicographic.{nat_list_cmp_total}
-use Rattle.std.specs.Ordering.{is_eq, is_lt}
-use Rattle.std.specs.declared.cmp.Ordering.{Ordering}
-use Rattle.std.specs.declared.cmp.Ordering.TheVariants.{Less, Equal, Greater}
-use Rattle.std.specs.Prelude.{filter, find, if◌then◌else◌, unwrap_or}
-use Rattle.vt_spec.proofs.Found.{found_passes}
-use Rattle.vt_spec.proofs.Options.{none_is_some}
-use Rattle.vt_spec.proofs.Truths.{and_true_left, and_true_right}
-use Rattle.vt_spec.specs.Lists.{last_or, then_some, without_last}
-use Rattle.vt_spec.specs.Machine.Layers.{Shown, shown}
-use Rattle.vt_spec.specs.Tree.{Node, Tree, entries_in, entries_of, entry_named, is_directory_node, name_cmp}
-use Rattle.vt_spec.specs.TreeInvariant.{IsDirectory, IsTree, entry_at, led}
+use Rattle.std.proofs.Common.{◌≡◌, ◌≢◌, ◌∙◌, ◌∷◌, ◌++◌, [], ap, Bool, eqb-true, false, length, List, nat_eq, None, Option, option_and_then, refl, Some, subst, sym, true, true≢false, ℕ, slice_get, is_eq, is_lt, Ordering, Less, Equal, Greater, filter, find, if◌then◌else◌, unwrap_or}
+use Rattle.vt_spec.proofs.Common.{IsDirectory, IsTree, Node, Shown, Tree, and_true_left, and_true_right, entries_in, entries_of, entry_at, entry_named, found_passes, is_directory_node, last_or, led, name_cmp, nat_list_cmp_total, none_is_some, same_Some, shown, then_some, tied_itself, without_last}
 use Rattle.vt_laws_trees.proofs.layers.layers.ShownNames.{last_name}
 use Rattle.vt_laws_trees.proofs.layers.layers.ShownPaths.{last_of_longer, one_path, root_of_longer}
 use Rattle.vt_laws_trees.proofs.layers.layers.UpperLine.{has_entries}

@@ -1,16 +1,7 @@
 -- A directory that has a way: its entries and its parent in the tree.
-use Rattle.std.proofs.Common.{◌≡◌, ◌∙◌, ◌∷◌, ◌++◌, ◌||◌, [], ap, Bool, cond, false, List, None, Option, option_map, refl, Some, subst, sym, true, true≢false, ℕ}
-use Rattle.std.proofs.lemmas.Option.{same_Some}
-use Rattle.std.specs.List.{cons_option, filter_map, list_any}
-use Rattle.std.specs.Prelude.{if◌then◌else◌, is_some, nat_eq, unwrap_or}
+use Rattle.std.proofs.Common.{◌≡◌, ◌∙◌, ◌∷◌, ◌++◌, ◌||◌, [], ap, Bool, cond, false, List, None, Option, option_map, refl, Some, subst, sym, true, true≢false, ℕ, filter_map, if◌then◌else◌, is_some, nat_eq, unwrap_or}
+use Rattle.vt_spec.proofs.Common.{Content, Directory, Entries, Node, OpenLayer, Regular, Shown, Symlink, Whiteout, cons_option, entries_in, entry_named, is_directory_node, layer_node, list_any, names_shown, node_shown, none_is_some, parent_in, same_Some, shown, then_some, when, without_last}
 use Rattle.vt_spec.proofs.Nodes.{same_name}
-use Rattle.vt_spec.proofs.Options.{none_is_some}
-use Rattle.vt_spec.specs.Lists.{then_some, when, without_last}
-use Rattle.vt_spec.specs.Machine.Invariants.{node_shown}
-use Rattle.vt_spec.specs.Machine.Layers.{OpenLayer, Shown, names_shown, shown}
-use Rattle.vt_spec.specs.Machine.Merging.{layer_node}
-use Rattle.vt_spec.specs.Tree.{Content, Entries, Node, entries_in, entry_named, is_directory_node, parent_in}
-use Rattle.vt_spec.specs.Tree.Content.{Directory, Regular, Symlink, Whiteout}
 use Rattle.vt_laws_trees.proofs.layers.layers.ShownAtPath.{computed}
 use Rattle.vt_laws_trees.proofs.layers.layers.ShownDirectories.{last_of}
 use Rattle.vt_laws_trees.proofs.layers.layers.ShownNames.{is_name, name_found, names_are_those_shown}

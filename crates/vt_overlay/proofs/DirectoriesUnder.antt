@@ -1,20 +1,6 @@
 -- A directory of an overlay is at one path, and going up by parents takes its names off, from the last on.
-use Rattle.std.proofs.Common.{◌≡◌, ◌≢◌, ◌∙◌, ◌<◌, ◌≤◌, ◌+◌, ◌++◌, ◌∷◌, ◌||◌, [], arith, ap, Bool, eq-eqb, eqb-true, false, get_or, length, length-append, List, map, nat_eq, None, not, Option, option_map, refl, Some, subst, suc, sym, true, true≢false, zero, ℕ, slice_get}
-use Rattle.std.proofs.lemmas.List.{append-nil}
-use Rattle.std.proofs.lemmas.Option.{same_Some, slice_get-map, slice_get_within}
-use Rattle.std.proofs.lemmas.List.Elements.{filter_map-append}
-use Rattle.std.specs.List.{Contains, cons_option, filter_map, flat_map}
-use Rattle.std.specs.Prelude.{if◌then◌else◌, is_some, unwrap_or}
-use Rattle.vt_spec.proofs.NodeChanges.{entry_to}
-use Rattle.vt_spec.proofs.Options.{none_is_some}
-use Rattle.vt_spec.specs.FileTree.{has_entry_to, is_directory_under, is_removed, named_parent, targets_in}
-use Rattle.vt_spec.specs.Lists.{chain, is_among, is_empty_list, then_some, when, without_last}
-use Rattle.vt_spec.specs.Machine.Invariants.{node_shown}
-use Rattle.vt_spec.specs.Machine.Layers.{OpenLayer, Shown, names_shown, node_at_path, paths_from, shown}
-use Rattle.vt_spec.specs.Machine.Merging.{is_root_path}
-use Rattle.vt_spec.specs.Tree.{Content, Entries, Node, Tree, entries_in, is_directory_node, names_in, parent_in}
-use Rattle.vt_spec.specs.Tree.Content.{Directory, Regular, Symlink, Whiteout}
-use Rattle.vt_spec.specs.TreeInvariant.{IsDirectory, led}
+use Rattle.std.proofs.Common.{◌≡◌, ◌≢◌, ◌∙◌, ◌<◌, ◌≤◌, ◌+◌, ◌++◌, ◌∷◌, ◌||◌, [], arith, ap, Bool, eq-eqb, eqb-true, false, get_or, length, length-append, List, map, nat_eq, None, not, Option, option_map, refl, Some, subst, suc, sym, true, true≢false, zero, ℕ, slice_get, append-nil, Contains, filter_map, flat_map, if◌then◌else◌, is_some, unwrap_or}
+use Rattle.vt_spec.proofs.Common.{Content, Directory, Entries, IsDirectory, Node, OpenLayer, Regular, Shown, Symlink, Tree, Whiteout, chain, cons_option, entries_in, entry_to, filter_map-append, has_entry_to, is_among, is_directory_node, is_directory_under, is_empty_list, is_removed, is_root_path, led, named_parent, names_in, names_shown, node_at_path, node_shown, none_is_some, parent_in, paths_from, same_Some, shown, slice_get-map, slice_get_within, targets_in, then_some, when, without_last}
 use Rattle.vt_laws_trees.proofs.layers.layers.ShownDirectories.{AreOpen, append_assoc, last_of, longer_is_not_empty, shown_in_directory}
 use Rattle.vt_laws_trees.proofs.layers.layers.ShownAtPath.{computed}
 use Rattle.vt_laws_trees.proofs.layers.layers.ShownNames.{names_are_those_shown}

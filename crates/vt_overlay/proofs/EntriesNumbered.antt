@@ -1,14 +1,7 @@
 -- The node of the entry that decides under a name: its number, and its real object.
-use Rattle.std.proofs.Common.{◌≡◌, ◌≢◌, ◌∙◌, ◌∷◌, ◌++◌, ◌<◌, ◌≤◌, [], arith, ap, false, length, length-append, List, None, option_map, Option, Some, subst, sym, true, ℕ}
-use Rattle.std.proofs.lemmas.Option.{same_Some, slice_get_within}
-use Rattle.std.specs.Prelude.{if◌then◌else◌, is_some, not}
-use Rattle.vt_spec.proofs.Trees.{led-append}
+use Rattle.std.proofs.Common.{◌≡◌, ◌≢◌, ◌∙◌, ◌∷◌, ◌++◌, ◌<◌, ◌≤◌, [], arith, ap, false, length, length-append, List, None, option_map, Option, Some, subst, sym, true, ℕ, if◌then◌else◌, is_some, not}
+use Rattle.vt_spec.proofs.Common.{Node, at_path, entries_in, entry_at, is_directory_node, is_kind_in, led-append, same_Some, shown, slice_get_within, when}
 use Rattle.vt_spec.specs.declared.attributes.Kind.TheVariants.{White}
-use Rattle.vt_spec.specs.FileTree.{is_kind_in}
-use Rattle.vt_spec.specs.Lists.{when}
-use Rattle.vt_spec.specs.Machine.Layers.{at_path, shown}
-use Rattle.vt_spec.specs.Tree.{Node, entries_in, is_directory_node}
-use Rattle.vt_spec.specs.TreeInvariant.{entry_at}
 use Rattle.vt_laws_trees.proofs.layers.layers.ShownDirectories.{led_is_there}
 use Rattle.vt_laws_trees.proofs.layers.layers.ShownPaths.{last_of_longer}
 use Rattle.vt_laws_trees.proofs.layers.layers.UpperShown.{without_last_of_longer}

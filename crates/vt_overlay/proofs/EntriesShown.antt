@@ -1,17 +1,8 @@
 -- What layers show under a name of a directory: the highest layer that has the directory decides where it has the name.
-use Rattle.std.proofs.Common.{◌≡◌, ◌≢◌, ◌∙◌, ◌∷◌, ◌++◌, ◌+◌, ◌<◌, ◌||◌, [], arith, ap, Bool, false, List, None, option_and_then, option_map, Option, refl, Some, subst, suc, sym, true, true≢false, zero, ℕ, map, length}
-use Rattle.std.proofs.lemmas.Option.{same_Some, slice_get-map, slice_get_within}
-use Rattle.std.specs.Prelude.{IfSome, IsSome, if◌then◌else◌, nat_eq, not, slice_get}
-use Rattle.vt_spec.proofs.Options.{none_is_some}
-use Rattle.vt_spec.proofs.Trees.{led-append}
+use Rattle.std.proofs.Common.{◌≡◌, ◌≢◌, ◌∙◌, ◌∷◌, ◌++◌, ◌+◌, ◌<◌, ◌||◌, [], arith, ap, Bool, false, List, None, option_and_then, option_map, Option, refl, Some, subst, suc, sym, true, true≢false, zero, ℕ, map, length, IfSome, IsSome, if◌then◌else◌, nat_eq, not, slice_get}
+use Rattle.vt_spec.proofs.Common.{IsDirectory, Node, OpenLayer, Shown, at_path, cuts, entries_in, entry_at, entry_named, hides, is_directory_node, is_kind_in, led-append, node_led, node_shown, none_is_some, same_Some, shown, shown_from, shown_over, slice_get-map, slice_get_within, then_some, view_of, when}
 use Rattle.vt_spec.specs.declared.attributes.Kind.TheVariants.{White}
-use Rattle.vt_spec.specs.FileTree.{is_kind_in}
-use Rattle.vt_spec.specs.Lists.{then_some, when}
-use Rattle.vt_spec.specs.Machine.Invariants.{node_shown}
-use Rattle.vt_spec.specs.Machine.Layers.{OpenLayer, Shown, at_path, shown, view_of}
-use Rattle.vt_spec.specs.Machine.Views.{cuts, hides, node_led, shown_from, shown_over, visible}
-use Rattle.vt_spec.specs.Tree.{Node, entries_in, entry_named, is_directory_node}
-use Rattle.vt_spec.specs.TreeInvariant.{IsDirectory, entry_at}
+use Rattle.vt_spec.specs.Machine.Views.{visible}
 use Rattle.vt_laws_trees.proofs.layers.layers.ShownDirectories.{shown_in_directory}
 use Rattle.vt_laws_trees.proofs.layers.layers.ShownNames.{last_name}
 use Rattle.vt_laws_trees.proofs.layers.layers.ShownPaths.{one_path}

@@ -1,13 +1,6 @@
 -- The names of a directory are those that the layers show at its path.
-use Rattle.std.proofs.Common.{◌≡◌, ◌∙◌, ◌∷◌, ◌++◌, [], ap, Bool, false, filter, List, map, nat_eq, None, Option, option_map, refl, Some, sym, true, true≢false, ℕ}
-use Rattle.std.proofs.lemmas.Option.{same_Some}
-use Rattle.std.specs.List.{cons_option, filter_map}
-use Rattle.std.specs.Prelude.{if◌then◌else◌, is_some}
-use Rattle.vt_spec.proofs.Options.{none_is_some}
-use Rattle.vt_spec.specs.Machine.Invariants.{node_shown}
-use Rattle.vt_spec.specs.Machine.Layers.{names_shown, shown}
-use Rattle.vt_spec.specs.Tree.{Content, Entries, Node, is_directory_node, names_in}
-use Rattle.vt_spec.specs.Tree.Content.{Directory, Regular, Symlink, Whiteout}
+use Rattle.std.proofs.Common.{◌≡◌, ◌∙◌, ◌∷◌, ◌++◌, [], ap, Bool, false, filter, List, map, nat_eq, None, Option, option_map, refl, Some, sym, true, true≢false, ℕ, filter_map, if◌then◌else◌, is_some}
+use Rattle.vt_spec.proofs.Common.{Content, Directory, Entries, Node, Regular, Symlink, Whiteout, cons_option, is_directory_node, names_in, names_shown, node_shown, none_is_some, same_Some, shown}
 use Rattle.vt_laws_trees.specs.Overlays.MergedTrees.{entries_shown, layers_shown, node_as, number_shown, parent_shown}
 use Rattle.vt_laws_trees.specs.Overlays.TreesSeen.{node_by}
 use Rattle.vt_fs.specs.FilesystemsValue.{Filesystems}

@@ -1,11 +1,6 @@
 -- The node that is shown at a path: its number, and where it was born.
-use Rattle.std.proofs.Common.{◌≡◌, ◌≢◌, ◌∙◌, ◌∷◌, ◌+◌, [], arith, ap, length, List, None, option_map, Some, subst, suc, sym, zero, ℕ, slice_get}
-use Rattle.std.proofs.lemmas.Option.{same_Some}
-use Rattle.std.specs.Prelude.{if◌then◌else◌, unwrap_or}
-use Rattle.vt_spec.proofs.Options.{none_is_some}
-use Rattle.vt_spec.specs.Lists.{last_or, then_some, without_last}
-use Rattle.vt_spec.specs.Machine.Layers.{at_path, shown}
-use Rattle.vt_spec.specs.Tree.{Tree, entries_in, is_directory_node}
+use Rattle.std.proofs.Common.{◌≡◌, ◌≢◌, ◌∙◌, ◌∷◌, ◌+◌, [], arith, ap, length, List, None, option_map, Some, subst, suc, sym, zero, ℕ, slice_get, if◌then◌else◌, unwrap_or}
+use Rattle.vt_spec.proofs.Common.{Tree, at_path, entries_in, is_directory_node, last_or, none_is_some, same_Some, shown, then_some, without_last}
 use Rattle.vt_location.specs.declared.births.Birth.{Birth}
 use Rattle.vt_location.specs.declared.births.Birth.TheVariants.{Below, Here}
 use Rattle.vt_location.specs.Locations.{number_of}

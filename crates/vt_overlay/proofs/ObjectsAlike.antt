@@ -1,15 +1,6 @@
 -- A node has what its real object has, but for names, parent and mark.
-use Rattle.std.proofs.Common.{◌≡◌, ◌∙◌, ◌∷◌, [], ap, List, map, None, Option, refl, Some, sym, ℕ, slice_get}
-use Rattle.std.proofs.lemmas.Option.{same_Some, slice_get-map}
-use Rattle.std.specs.Prelude.{nat_eq, option_map}
-use Rattle.vt_spec.proofs.Options.{none_is_some}
-use Rattle.vt_spec.specs.Lists.{then_some}
-use Rattle.vt_spec.specs.Machine.Invariants.{node_shown}
-use Rattle.vt_spec.specs.Machine.Layers.{OpenLayer, Shown, shown}
-use Rattle.vt_spec.specs.Machine.Merging.{layer_node}
-use Rattle.vt_spec.specs.Machine.Renaming.{renamed_content, renamed_entry}
-use Rattle.vt_spec.specs.Tree.{Content, Entries, Node}
-use Rattle.vt_spec.specs.Tree.Content.{Directory, Regular, Symlink, Whiteout}
+use Rattle.std.proofs.Common.{◌≡◌, ◌∙◌, ◌∷◌, [], ap, List, map, None, Option, refl, Some, sym, ℕ, slice_get, nat_eq, option_map}
+use Rattle.vt_spec.proofs.Common.{Content, Directory, Entries, Node, OpenLayer, Regular, Shown, Symlink, Whiteout, layer_node, node_shown, none_is_some, renamed_content, renamed_entry, same_Some, shown, slice_get-map, then_some}
 use Rattle.vt_laws_trees.specs.Overlays.MergedTrees.{entries_shown, node_as, parent_shown}
 use Rattle.vt_laws_trees.specs.Overlays.TreesSeen.{node_by}
 use Rattle.vt_location.proofs.NumberLemmas.{exchanged_back}

@@ -1,10 +1,6 @@
 -- The real object of a node that is shown is in the slot that the node names, in the layer of its birth.
-use Rattle.std.proofs.Common.{◌≡◌, ◌∙◌, ◌<◌, ◌≤◌, ap, Bool, eq-eqb, eqb-true, false, length, List, nat_eq, None, option_map, Option, refl, Some, subst, sym, true, true≢false, ℕ}
-use Rattle.std.proofs.lemmas.Option.{same_Some}
-use Rattle.std.specs.Prelude.{IfSome, IsSome, slice_get}
-use Rattle.vt_spec.proofs.Options.{none_is_some}
-use Rattle.vt_spec.specs.Lists.{then_some}
-use Rattle.vt_spec.specs.Machine.Layers.{Shown, shown}
+use Rattle.std.proofs.Common.{◌≡◌, ◌∙◌, ◌<◌, ◌≤◌, ap, Bool, eq-eqb, eqb-true, false, length, List, nat_eq, None, option_map, Option, refl, Some, subst, sym, true, true≢false, ℕ, IfSome, IsSome, slice_get}
+use Rattle.vt_spec.proofs.Common.{Shown, none_is_some, same_Some, shown, then_some}
 use Rattle.vt_location.specs.Locations.{inode_of}
 use Rattle.vt_location.specs.Numbers.{exchanged}
 use Rattle.vt_fs.specs.FilesystemsValue.{Filesystems}

@@ -1,16 +1,6 @@
 -- The names that lead from one directory of an overlay down to another are those that its way has more.
-use Rattle.std.proofs.Common.{◌≡◌, ◌∙◌, ◌≤◌, ◌++◌, ◌∷◌, [], arith, ap, Bool, cond, eq-eqb, eqb-true, false, length, length-append, List, map, nat_eq, None, not, Option, refl, reverse, Some, suc, sym, true, true≢false, zero, ℕ}
-use Rattle.std.proofs.lemmas.List.{append-nil, reverse-append, reverse-reverse}
-use Rattle.std.proofs.lemmas.List.Sums.{take_while-cons}
-use Rattle.std.proofs.lemmas.Option.{same_Some}
-use Rattle.std.specs.List.{cons_option, find}
-use Rattle.std.specs.Ordering.{eq_by_cmp}
-use Rattle.std.specs.Prelude.{is_some, option_map, unwrap_or}
-use Rattle.vt_spec.proofs.Options.{none_is_some}
-use Rattle.vt_spec.specs.FileTree.{FileTree, is_directory_under, name_in, named_parent, own_name, path_down}
-use Rattle.vt_spec.specs.Lists.{before_first, chain, last_or, when}
-use Rattle.vt_spec.specs.Machine.Layers.{names_shown}
-use Rattle.vt_spec.specs.Tree.{Entries, Tree, entries_in, entry_named, name_cmp}
+use Rattle.std.proofs.Common.{◌≡◌, ◌∙◌, ◌≤◌, ◌++◌, ◌∷◌, [], arith, ap, Bool, cond, eq-eqb, eqb-true, false, length, length-append, List, map, nat_eq, None, not, Option, refl, reverse, Some, suc, sym, true, true≢false, zero, ℕ, append-nil, find, is_some, option_map, unwrap_or}
+use Rattle.vt_spec.proofs.Common.{Entries, FileTree, Tree, before_first, chain, cons_option, entries_in, entry_named, eq_by_cmp, is_directory_under, last_or, name_cmp, name_in, named_parent, names_shown, none_is_some, own_name, path_down, reverse-append, reverse-reverse, same_Some, take_while-cons, when}
 use Rattle.vt_laws_trees.proofs.layers.layers.ShownDirectories.{append_assoc, last_of}
 use Rattle.vt_laws_trees.proofs.layers.layers.ShownPaths.{last_of_longer, length_longer, not_empty}
 use Rattle.vt_laws_trees.specs.Overlays.MergedTrees.{layers_shown}

@@ -1,10 +1,6 @@
 -- Ranks by slots are ranks by the numbers of inodes.
-use Rattle.std.proofs.Common.{◌≡◌, ◌∙◌, ◌∷◌, ◌&&◌, [], ap, Bool, eq-eqb, eqb-true, false, length, List, map, nat_eq, option_map, refl, Some, suc, sym, true, ℕ}
-use Rattle.std.specs.Ordering.{is_lt}
-use Rattle.std.specs.Prelude.{filter, find, if◌then◌else◌}
-use Rattle.vt_spec.specs.Machine.Renaming.{renamed_entry}
-use Rattle.vt_spec.specs.Tree.{Content, Entries, Node, entries_in, entries_of, name_cmp}
-use Rattle.vt_spec.specs.Tree.Content.{Directory, Regular, Symlink, Whiteout}
+use Rattle.std.proofs.Common.{◌≡◌, ◌∙◌, ◌∷◌, ◌&&◌, [], ap, Bool, eq-eqb, eqb-true, false, length, List, map, nat_eq, option_map, refl, Some, suc, sym, true, ℕ, is_lt, filter, find, if◌then◌else◌}
+use Rattle.vt_spec.proofs.Common.{Content, Directory, Entries, Node, Regular, Symlink, Whiteout, entries_in, entries_of, name_cmp, renamed_entry}
 use Rattle.vt_location.proofs.NumberLemmas.{exchanged_back}
 use Rattle.vt_location.specs.Numbers.{exchanged}
 use Rattle.vt_fs.specs.FilesystemsValue.{node_seen}

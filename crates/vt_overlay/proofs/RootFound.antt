@@ -1,14 +1,6 @@
 -- The root of an overlay is at the path without names.
-use Rattle.std.proofs.Common.{◌≡◌, ◌≢◌, ◌∙◌, ◌<◌, ◌≤◌, ◌∷◌, [], arith, ap, Bool, false, length, List, None, Option, refl, Some, sym, true, true≢false, ℕ, slice_get}
-use Rattle.std.proofs.lemmas.Option.{same_Some, slice_get_within}
-use Rattle.std.specs.Prelude.{IfSome, if◌then◌else◌, not, unwrap_or}
-use Rattle.vt_spec.proofs.NodeChanges.{directory_no_whiteout}
-use Rattle.vt_spec.proofs.Options.{none_is_some}
-use Rattle.vt_spec.specs.Lists.{then_some, when, without_last}
-use Rattle.vt_spec.specs.Machine.Layers.{Shown, shown}
-use Rattle.vt_spec.specs.Machine.Merging.{is_root_path}
-use Rattle.vt_spec.specs.Tree.{Tree}
-use Rattle.vt_spec.specs.TreeInvariant.{IsDirectory, led}
+use Rattle.std.proofs.Common.{◌≡◌, ◌≢◌, ◌∙◌, ◌<◌, ◌≤◌, ◌∷◌, [], arith, ap, Bool, false, length, List, None, Option, refl, Some, sym, true, true≢false, ℕ, slice_get, IfSome, if◌then◌else◌, not, unwrap_or}
+use Rattle.vt_spec.proofs.Common.{IsDirectory, Shown, Tree, directory_no_whiteout, is_root_path, led, none_is_some, same_Some, shown, slice_get_within, then_some, when, without_last}
 use Rattle.vt_laws_trees.proofs.layers.layers.ShownPaths.{one_path}
 use Rattle.vt_location.proofs.NumberLemmas.{exchanged_back, exchanged_number, exchanged_slot}
 use Rattle.vt_location.specs.Locations.{inode_of, number_of}

@@ -1,17 +1,6 @@
 -- What is found by a number is what is shown at the one path where it is.
-use Rattle.std.proofs.Common.{◌≡◌, ◌≢◌, ◌⊎◌, ◌∙◌, ◌≤◌, ◌∷◌, [], arith, ap, Bool, eq-eqb, false, inl, inr, length, List, map, nat_eq, None, option_map, Option, refl, Some, subst, suc, sym, true, true≢false, zero, ℕ, slice_get}
-use Rattle.std.proofs.lemmas.Option.{same_Some, slice_get-map}
-use Rattle.std.specs.List.{find}
-use Rattle.std.specs.Prelude.{if◌then◌else◌, is_some, unwrap_or}
-use Rattle.vt_spec.proofs.Found.{found_passes}
-use Rattle.vt_spec.proofs.Options.{none_is_some}
-use Rattle.vt_spec.specs.Lists.{holds_of, then_some}
-use Rattle.vt_spec.specs.Machine.Invariants.{node_shown, real_shown}
-use Rattle.vt_spec.specs.Machine.Layers.{OpenLayer, Shown, at_path, node_at_path, paths_from, shown}
-use Rattle.vt_spec.specs.Machine.Merging.{layer_node, merged_at, real_object}
-use Rattle.vt_spec.specs.Machine.World.{Filesystem, Real, World, open_layer}
-use Rattle.vt_spec.specs.Machine.World.Real.{Lower}
-use Rattle.vt_spec.specs.Tree.{is_directory_node}
+use Rattle.std.proofs.Common.{◌≡◌, ◌≢◌, ◌⊎◌, ◌∙◌, ◌≤◌, ◌∷◌, [], arith, ap, Bool, eq-eqb, false, inl, inr, length, List, map, nat_eq, None, option_map, Option, refl, Some, subst, suc, sym, true, true≢false, zero, ℕ, slice_get, find, if◌then◌else◌, is_some, unwrap_or}
+use Rattle.vt_spec.proofs.Common.{Filesystem, Lower, OpenLayer, Real, Shown, World, at_path, found_passes, holds_of, is_directory_node, layer_node, merged_at, node_at_path, node_shown, none_is_some, open_layer, paths_from, real_object, real_shown, same_Some, shown, slice_get-map, then_some}
 use Rattle.vt_laws_trees.proofs.layers.layers.ShownAtPath.{computed}
 use Rattle.vt_laws_trees.proofs.layers.layers.ShownDirectories.{AreOpen}
 use Rattle.vt_laws_trees.proofs.layers.layers.ShownObjects.{Among, paths_complete}

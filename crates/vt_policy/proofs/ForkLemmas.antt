@@ -1,14 +1,8 @@
 -- A child with the caller's credentials is refused by no rule on credentials.
-use Rattle.std.proofs.Common.{◌≡◌, ℕ, Bool, false, [], not, ◌&&◌, ◌||◌, ◌==◌, Ok, None, length, nat_le, eq-eqb, refl, ap, ◌∙◌}
-use Rattle.std.proofs.lemmas.Slice.Eq.{bytes_eq-Decides}
+use Rattle.std.proofs.Common.{◌≡◌, ℕ, Bool, false, [], not, ◌&&◌, ◌||◌, ◌==◌, Ok, None, length, nat_le, eq-eqb, refl, ap, ◌∙◌, bytes_eq}
+use Rattle.vt_spec.proofs.Common.{Task, ToFork, bytes_eq-Decides, deepest_name, fork_permit, lacks, most_forks}
 use Rattle.std.specs.Int.Bits.{and_self, bit_and}
-use Rattle.std.specs.Str.{bytes_eq}
 use Rattle.vt_spec.specs.declared.errors.Rule.TheVariants.{K1, S6}
-use Rattle.vt_spec.specs.Language.Limits.{deepest_name, most_forks}
-use Rattle.vt_spec.specs.Machine.Judge.{fork_permit}
-use Rattle.vt_spec.specs.Machine.Permits.Permit.{ToFork}
-use Rattle.vt_spec.specs.Machine.Rules.Conditions.{lacks}
-use Rattle.vt_spec.specs.Machine.World.{Task}
 use Rattle.vt_rules.proofs.Rows.{skipped}
 
 differs : (a : ℕ) (lacking : Bool) → (not (a == a) && lacking) ≡ false

@@ -1,19 +1,8 @@
 -- Mount calls that have passed their walks are left to their tables of rules.
 use Rattle.std.proofs.Common.{◌≡◌, ℕ, Bool, true, false, List, [], ◌∷◌, Result, Ok, Err, nat_eq, ap, ◌∙◌}
+use Rattle.vt_spec.proofs.Common.{Here, Location, Looks, MountFlags, Permit, Rules, Task, ToBind, ToMountPlain, ToMove, ToPivot, and_then, bind_permit, bind_rules, cap_sys_admin, destination_walk, directory_walk, is_elsewhere, is_no_root, lacks, mount_plain_permit, move_permit, move_rules, new_mount_rules, pivot_permit, pivot_rules, source_walk, unless, walk_end}
 use Rattle.vt_spec.specs.declared.errors.Deny.{Deny}
 use Rattle.vt_spec.specs.declared.errors.Rule.TheVariants.{K1, M2, M7}
-use Rattle.vt_spec.specs.Errors.{Rules, and_then, unless}
-use Rattle.vt_spec.specs.Language.Calls.{MountFlags}
-use Rattle.vt_spec.specs.Machine.Judge.{bind_permit, mount_plain_permit, move_permit, pivot_permit}
-use Rattle.vt_spec.specs.Machine.Looks.{Looks}
-use Rattle.vt_spec.specs.Machine.Mounts.{Location}
-use Rattle.vt_spec.specs.Machine.Permits.{Permit}
-use Rattle.vt_spec.specs.Machine.Permits.Permit.{ToBind, ToMountPlain, ToMove, ToPivot}
-use Rattle.vt_spec.specs.Machine.Rules.Conditions.{is_elsewhere, is_no_root, lacks}
-use Rattle.vt_spec.specs.Machine.Rules.Mounting.{bind_rules, destination_walk, move_rules, new_mount_rules, pivot_rules, source_walk}
-use Rattle.vt_spec.specs.Machine.Walking.{Here, directory_walk, walk_end}
-use Rattle.vt_spec.specs.Machine.World.{Task}
-use Rattle.vt_spec.specs.Rights.{cap_sys_admin}
 use Rattle.vt_policy.specs.Ends.{root_walk}
 use Rattle.vt_rules.proofs.Rows.{skipped}
 

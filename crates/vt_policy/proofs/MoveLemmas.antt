@@ -1,23 +1,13 @@
 -- A move of a mount that has passed its walks: the rules before the receivers are asked for, and those after.
 use Rattle.std.proofs.Common.{◌≡◌, ℕ, Bool, false, List, [], ◌∷◌, Ok, Err, is_some, nat_eq, not, ◌∙◌}
+use Rattle.vt_spec.proofs.Common.{Location, Looks, Permit, Rules, Task, ToMove, cap_sys_admin, destination_walk, lacks, move_permit, source_walk, unless, unless-let_through, walk_end}
 use Rattle.vt_spec.specs.declared.errors.Deny.{Deny}
 use Rattle.vt_spec.specs.declared.errors.Rule.TheVariants.{M10, M9}
-use Rattle.vt_spec.specs.Errors.{Rules, unless}
-use Rattle.vt_spec.specs.Machine.Judge.{move_permit}
-use Rattle.vt_spec.specs.Machine.Looks.{Looks, mount_at}
-use Rattle.vt_spec.specs.Machine.Mounts.{Location}
-use Rattle.vt_spec.specs.Machine.Permits.{Permit}
-use Rattle.vt_spec.specs.Machine.Permits.Permit.{ToMove}
-use Rattle.vt_spec.specs.Machine.Rules.Conditions.{lacks}
-use Rattle.vt_spec.specs.Machine.Rules.Mounting.{destination_walk, source_walk}
-use Rattle.vt_spec.specs.Machine.Walking.{walk_end}
-use Rattle.vt_spec.specs.Machine.World.{Task}
-use Rattle.vt_spec.specs.Rights.{cap_sys_admin}
+use Rattle.vt_spec.specs.Machine.Looks.{mount_at}
 use Rattle.vt_rules.specs.Tables.{move_table}
 use Rattle.vt_policy.proofs.MountLemmas.{Reaches, move_asked}
 use Rattle.vt_rules.proofs.Refusals.{unless-stopped}
 use Rattle.vt_rules.proofs.Rows.{one_by_one}
-use Rattle.vt_spec.proofs.Refusals.{unless-let_through}
 
 -- the rules after the receivers are asked for
 abbrev pub last_rows : Looks ℕ → Location ℕ → Bool → Rules

@@ -1,19 +1,12 @@
 -- Calls that have passed their walks are left to their tables of rules.
 use Rattle.std.proofs.Common.{◌≡◌, ℕ, Bool, false, List, [], Result, Ok, Option, Some, None, is_some, option_map, nat_eq, refl, ap, ◌∙◌}
+use Rattle.vt_spec.proofs.Common.{Here, Judgement, Looks, Named, Node, Place, Task, ToChange, ToRemoveDirectory, and_then, hard_link_permit, hard_link_rules, is_directory_there, is_no_word, is_one_object, is_special, linking, make_permit, make_rules, name_of, new_leaf_walk, object_there, old_leaf_walk, old_walk, old_word_rules, removing, rename_new_walk, rename_permit, renamed_permit, rmdir_permit, rmdir_rules, symlink_walk, unless, unlink_permit, unlink_rules, unnumbered, walk_end}
 use Rattle.vt_spec.specs.declared.errors.Deny.{Deny}
 use Rattle.vt_spec.specs.declared.errors.Rule.TheVariants.{E1, E2, E4, E5, P1}
-use Rattle.vt_spec.specs.Errors.{and_then, unless}
-use Rattle.vt_spec.specs.Machine.Judge.{Judgement, hard_link_permit, made_permit, make_permit, rename_permit, renamed_permit, rmdir_permit, unlink_permit, unnumbered}
-use Rattle.vt_spec.specs.Machine.Looks.{Looks, is_directory_at}
+use Rattle.vt_spec.specs.Machine.Judge.{made_permit}
+use Rattle.vt_spec.specs.Machine.Looks.{is_directory_at}
 use Rattle.vt_spec.specs.Machine.Mounts as meant
-use Rattle.vt_spec.specs.Machine.Rows.{linking}
-use Rattle.vt_spec.specs.Machine.Permits.Permit.{ToChange, ToRemoveDirectory}
-use Rattle.vt_spec.specs.Machine.Rules.Making.{hard_link_rules, make_rules}
-use Rattle.vt_spec.specs.Machine.Rules.Removing.{is_one_object, object_there, old_word_rules, removing, rename_new_walk, rmdir_rules, unlink_rules}
-use Rattle.vt_spec.specs.Machine.Walking.{Here, Place, is_directory_there, is_dot, is_dot_dot, is_no_word, is_special, name_of, new_leaf_walk, old_leaf_walk, old_walk, symlink_walk, walk_end}
-use Rattle.vt_spec.specs.Machine.Walking.LastWord.{Named}
-use Rattle.vt_spec.specs.Machine.World.{Task}
-use Rattle.vt_spec.specs.Tree.{Node}
+use Rattle.vt_spec.specs.Machine.Walking.{is_dot, is_dot_dot}
 use Rattle.vt_location.specs.declared.locations.Location.{Location}
 use Rattle.vt_location.specs.Locations.{location_of}
 use Rattle.vt_rules.proofs.Rows.{skipped}

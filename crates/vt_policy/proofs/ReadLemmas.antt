@@ -1,19 +1,10 @@
 -- The rules of a read, by the real object of the file.
-use Rattle.std.proofs.Common.{Bool, None, Ok, Some, [], ap, false, not, refl, sym, true, ℕ, ◌∙◌, ◌∷◌, ◌≡◌}
-use Rattle.std.specs.Prelude.{Option, Result}
+use Rattle.std.proofs.Common.{Bool, None, Ok, Some, [], ap, false, not, refl, sym, true, ℕ, ◌∙◌, ◌∷◌, ◌≡◌, Option, Result}
+use Rattle.vt_spec.proofs.Common.{Credentials, Location, Looks, Node, Rules, Task, allows, is_directory, is_directory_node, is_kind, is_kind_in, node_allows, read_right, read_rules, unless}
 use Rattle.vt_spec.specs.declared.attributes.Kind.TheVariants.{White}
 use Rattle.vt_spec.specs.declared.errors.Deny.{Deny}
 use Rattle.vt_spec.specs.declared.errors.Rule.TheVariants.{B1, C1, E2, E9}
-use Rattle.vt_spec.specs.Errors.{Rules, unless}
-use Rattle.vt_spec.specs.FileTree.{is_kind, is_kind_in}
-use Rattle.vt_spec.specs.Machine.Looks.{Looks}
-use Rattle.vt_spec.specs.Machine.Mounts.{Location}
-use Rattle.vt_spec.specs.Machine.Rightful.{node_allows}
 use Rattle.vt_spec.specs.Machine.Rules.Conditions.{mounter_may_not}
-use Rattle.vt_spec.specs.Machine.Rules.Looking.{read_rules}
-use Rattle.vt_spec.specs.Machine.World.{Task}
-use Rattle.vt_spec.specs.Rights.{Credentials, allows, is_directory, read_right}
-use Rattle.vt_spec.specs.Tree.{Node, is_directory_node}
 use Rattle.vt_looks.specs.Looking.{Front, front}
 
 -- a test of what an inode and its real object have in common, which what is not there does not pass

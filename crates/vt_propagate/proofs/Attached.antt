@@ -1,13 +1,6 @@
 -- An attachment is what its plans say.
-use Rattle.std.proofs.Common.{◌≡◌, ℕ, false, List, [], ◌∷◌, ◌++◌, map, nat_eq, refl, sym, ap, ◌∙◌, arith, drop, length, take, ◌+◌, ◌*◌}
-use Rattle.std.proofs.lemmas.List.{append_assoc, length-append, length-map}
-use Rattle.std.proofs.Math.Seq.{drop-append_seam, take-append_seam}
-use Rattle.std.specs.Prelude.{None, Option, flat_map, if◌then◌else◌, option_map}
-use Rattle.vt_spec.specs.Lists.{first_of_list, folded, holds_of, rest_of}
-use Rattle.vt_spec.specs.Machine.Attach.{added_mounts, copies_at, masters_with, parts_of, pushed_up, with_moved_mounts}
-use Rattle.vt_spec.specs.Machine.Mounts.{Location, Mount, with_mount}
-use Rattle.vt_spec.specs.Machine.World.{World, mount_at}
-use Rattle.vt_spec.proofs.Lists.{contains_from_among, map_alike}
+use Rattle.std.proofs.Common.{◌≡◌, ℕ, false, List, [], ◌∷◌, ◌++◌, map, nat_eq, refl, sym, ap, ◌∙◌, arith, drop, length, take, ◌+◌, ◌*◌, append_assoc, length-append, None, Option, flat_map, if◌then◌else◌, option_map}
+use Rattle.vt_spec.proofs.Common.{Location, Mount, World, added_mounts, contains_from_among, copies_at, drop-append_seam, first_of_list, folded, holds_of, length-map, map_alike, masters_with, mount_at, parts_of, pushed_up, rest_of, take-append_seam, with_mount, with_moved_mounts}
 use Rattle.vt_location.specs.Locations.{location_of}
 use Rattle.vt_location.specs.MountValue.{mount_of}
 use Rattle.vt_location.specs.Numbers.{counted}

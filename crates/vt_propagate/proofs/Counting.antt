@@ -1,18 +1,8 @@
 -- How many mounts namespaces have once a tree is attached.
-use Rattle.std.proofs.Common.{◌≡◌, ℕ, Bool, true, false, cond, ◌+◌, ◌-◌, ◌*◌, ◌≤◌, ◌||◌, List, [], ◌∷◌, map, filter, length, nat_eq, nat_lt, Option, None, Some, option_map, suc, refl, sym, ap, ◌∙◌, arith, true≢false, inl, ⊎_elim, subst}
-use Rattle.std.specs.Prelude.{Contains, option_to_list, unwrap_or}
-use Rattle.std.specs.List.{list_all, list_any}
-use Rattle.std.proofs.lemmas.Bool.{and_parts, eqb-true, ltb-false, ltb-true}
-use Rattle.std.proofs.lemmas.Bool.Decides.{nat_tests}
+use Rattle.std.proofs.Common.{◌≡◌, ℕ, Bool, true, false, cond, ◌+◌, ◌-◌, ◌*◌, ◌≤◌, ◌||◌, List, [], ◌∷◌, map, filter, length, nat_eq, nat_lt, Option, None, Some, option_map, suc, refl, sym, ap, ◌∙◌, arith, true≢false, inl, ⊎_elim, subst, Contains, option_to_list, unwrap_or, eqb-true, ltb-false, ltb-true}
+use Rattle.vt_spec.proofs.Common.{Among, Copies, Location, Mount, Namespace, NamespaceInvariants, World, among-from_filter, among-from_map, among_from_all, among_from_contains, among_from_list_all, among_numbers, and_parts, any_among, any_from_among, attached_by, has_too_many, holds_of, is_listed, list_all, list_any, most_mounts, mount_at, nat_tests, no_mount, none_among, parts_of, receivers_of, same_truth, takes_part}
 use Rattle.std.proofs.lemmas.List.Sums.{count_by-le-length, length-filter}
 use Rattle.std.proofs.Math.Nat.{mul-le-mul_right}
-use Rattle.vt_spec.specs.Language.Limits.{most_mounts}
-use Rattle.vt_spec.specs.Lists.{holds_of}
-use Rattle.vt_spec.specs.Machine.Attach.{Copies, attached_by, has_too_many, parts_of, receivers_of, takes_part}
-use Rattle.vt_spec.specs.Machine.Mounts.{Location, Mount, no_mount}
-use Rattle.vt_spec.specs.Machine.World.{Namespace, World, mount_at}
-use Rattle.vt_spec.specs.Machine.Invariants.{NamespaceInvariants, is_listed}
-use Rattle.vt_spec.proofs.Lists.{Among, among-from_filter, among-from_map, among_from_all, among_from_contains, among_from_list_all, among_numbers, any_among, any_from_among, none_among}
 use Rattle.vt_laws_mounts.proofs.Counting.{count-inside, moved_fewer}
 pub use Rattle.vt_laws_mounts.proofs.Counting.{absent_counted, added_counted, moved_all}
 use Rattle.vt_location.specs.declared.mounts.Mount.{Mount as Kept}
@@ -24,7 +14,6 @@ use Rattle.vt_mount.proofs.EntryLemmas.{same_count}
 use Rattle.vt_propagate.specs.Filling.{GrowsBy, MovesFrom, is_overfilled, leaving, parts_in}
 use Rattle.vt_propagate.specs.declared.filling.Load.{Load}
 use Rattle.vt_propagate.proofs.Found.{numbered}
-use Rattle.vt_spec.proofs.Truths.{same_truth}
 use Rattle.vt_laws_mounts.proofs.letting_go.Lists.{found_in}
 use Rattle.vt_laws_mounts.specs.Mounts.Attaching.{OneNumberAMount}
 use Rattle.vt_mount.specs.Indexes.{same_namespace, is_in as is_part_in}

@@ -1,10 +1,6 @@
 -- Mounts that are found by their numbers.
-use Rattle.std.proofs.Common.{◌≡◌, ℕ, Bool, true, false, cond, List, [], ◌∷◌, filter, nat_eq, nat_lt, Option, None, Some, refl, sym, ap, ◌∙◌, arith, inl, inr, ⊎_elim, eq-eqb, ne_eqb}
-use Rattle.std.specs.Prelude.{find as seek}
-use Rattle.std.specs.List.{cons_option, list_all}
-use Rattle.std.proofs.lemmas.Bool.{and_parts, ltb-true}
-use Rattle.vt_spec.specs.Machine.Mounts.{Mount}
-use Rattle.vt_spec.proofs.Lists.{Among, among_from_list_all}
+use Rattle.std.proofs.Common.{◌≡◌, ℕ, Bool, true, false, cond, List, [], ◌∷◌, filter, nat_eq, nat_lt, Option, None, Some, refl, sym, ap, ◌∙◌, arith, inl, inr, ⊎_elim, eq-eqb, ne_eqb, find, ltb-true}
+use Rattle.vt_spec.proofs.Common.{Among, Mount, among_from_list_all, and_parts, cons_option, list_all}
 use Rattle.vt_location.specs.declared.numbers.MountId.{MountId}
 use Rattle.vt_location.specs.Numbers.{counted}
 use Rattle.vt_mount.specs.MountsValue.{are_ascending}
@@ -14,7 +10,7 @@ use Rattle.vt_laws_mounts.specs.Mounts.Attaching.{numbers_of}
 
 -- the first mount with a number
 abbrev pub numbered : List (Mount ℕ) → ℕ → Option (Mount ℕ)
-numbered mounts number = seek (λ mount. nat_eq number mount.number) mounts
+numbered mounts number = find (λ mount. nat_eq number mount.number) mounts
 
 -- those of the mounts with these numbers that pass
 module _ (test : Mount ℕ → Bool) (all : List (Mount ℕ)) where

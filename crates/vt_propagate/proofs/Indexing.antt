@@ -1,10 +1,6 @@
 -- Where a mount stands in a list, by its number or by its group.
-use Rattle.std.proofs.Common.{◌≡◌, ℕ, Bool, true, false, cond, ◌||◌, suc, List, [], ◌∷◌, map, nat_eq, Option, Some, refl, sym, ap, ◌∙◌, eq-eqb, ne_eqb}
-use Rattle.std.specs.List.{list_any}
-use Rattle.std.proofs.lemmas.Bool.{eqb-false, eqb-true}
-use Rattle.std.specs.Prelude.{find as seek}
-use Rattle.vt_spec.specs.Lists.{chain}
-use Rattle.vt_spec.proofs.Lists.{chain_goes_on}
+use Rattle.std.proofs.Common.{◌≡◌, ℕ, Bool, true, false, cond, ◌||◌, suc, List, [], ◌∷◌, map, nat_eq, Option, Some, refl, sym, ap, ◌∙◌, eq-eqb, ne_eqb, eqb-true, find}
+use Rattle.vt_spec.proofs.Common.{chain, chain_goes_on, eqb-false, list_any}
 use Rattle.vt_location.specs.Numbers.{counted}
 use Rattle.vt_mount.proofs.EntryLemmas.{same_count}
 
@@ -27,7 +23,7 @@ module _ {A B : Type 0} (f : A → B) (test : A → Bool) (seen : B → Bool) (a
 
 -- one step up a chain, past one that does not pass
 pub find_up : (test : ℕ → Bool) (next : ℕ → Option ℕ) (here above n k : ℕ) → n ≡ suc k → test here ≡ false
-    → next here ≡ Some above → seek test (chain k next above) ≡ seek test (chain n next here)
-find_up test next here above n k e fails is = sym (ap (λ m. seek test (chain m next here)) e
-    ∙ ap (seek test) (chain_goes_on next k here above is)
-    ∙ ap (λ b. cond b (Some here) (seek test (chain k next above))) fails)
+    → next here ≡ Some above → find test (chain k next above) ≡ find test (chain n next here)
+find_up test next here above n k e fails is = sym (ap (λ m. find test (chain m next here)) e
+    ∙ ap (find test) (chain_goes_on next k here above is)
+    ∙ ap (λ b. cond b (Some here) (find test (chain k next above))) fails)

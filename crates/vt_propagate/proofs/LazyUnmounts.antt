@@ -1,17 +1,6 @@
 -- A lazy unmount, whose events detach mounts in turn, leaves the world from which all of them are detached at once.
-use Rattle.std.proofs.Common.{◌≡◌, refl, sym, ap, subst, ◌∙◌, ℕ, nat_eq, Bool, true, false, true≢false, ◌||◌, List, [], ◌∷◌, ◌++◌, Option, None, Some, option_map, is_some, ⊎_elim}
-use Rattle.std.proofs.lemmas.List.Folds.{list_any-append}
-use Rattle.std.proofs.lemmas.Option.{same_Some}
-use Rattle.std.specs.Prelude.{Contains, flat_map, if◌then◌else◌, length}
-use Rattle.vt_spec.specs.Lists.{folded, is_among}
-use Rattle.vt_spec.specs.Machine.Detach.{after_going, going, going_at, has_child, is_going, lazily_unmounted, mount_point_left, mount_point_of_parent, taken_away, unmounted, unmounted_if_there}
-use Rattle.vt_spec.specs.Machine.Invariants.{MountInvariants, Stands}
-use Rattle.vt_spec.specs.Machine.Invariants.Stands.{at_root, on_parent}
-use Rattle.vt_spec.specs.Machine.Mounts.{Location, Mount, mount_tree}
-use Rattle.vt_spec.specs.Machine.Receives.{regrouped}
-use Rattle.vt_spec.specs.Machine.Settled.{settled, without_dead_groups}
-use Rattle.vt_spec.specs.Machine.World.{World, mount_numbered, with_mounts}
-use Rattle.vt_spec.proofs.Lists.{all_from_among, among_cases, among_numbers, contains_from_among, head_among, map_same}
+use Rattle.std.proofs.Common.{◌≡◌, refl, sym, ap, subst, ◌∙◌, ℕ, nat_eq, Bool, true, false, true≢false, ◌||◌, List, [], ◌∷◌, ◌++◌, Option, None, Some, option_map, is_some, ⊎_elim, Contains, flat_map, if◌then◌else◌, length}
+use Rattle.vt_spec.proofs.Common.{Location, Mount, MountInvariants, Stands, World, after_going, all_from_among, among_cases, among_numbers, at_root, contains_from_among, folded, going, going_at, has_child, head_among, is_among, is_going, lazily_unmounted, list_any-append, map_same, mount_numbered, mount_point_left, mount_point_of_parent, mount_tree, on_parent, regrouped, same_Some, settled, taken_away, unmounted, unmounted_if_there, with_mounts, without_dead_groups}
 use Rattle.vt_group.specs.Grouping.{Grouping, are_rising, peers_of}
 use Rattle.vt_group.proofs.Together.{regrouped_living}
 use Rattle.vt_laws_mounts.specs.LettingGo.Several.{KeepsMounts}

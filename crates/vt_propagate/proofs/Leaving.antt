@@ -1,25 +1,13 @@
 -- Which mounts an unmount detaches, by their numbers.
-use Rattle.std.proofs.Common.{◌≡◌, ℕ, Bool, true, false, cond, ◌||◌, List, [], ◌∷◌, filter, length, nat_eq, nat_lt, Option, None, Some, option_map, is_some, refl, sym, ap, ◌∙◌, arith, true≢false, eq-eqb, ◌+◌, ◌*◌}
-use Rattle.std.proofs.lemmas.List.{length-map}
-use Rattle.std.specs.Prelude.{find as seek, filter_map, if◌then◌else◌, unwrap_or}
-use Rattle.std.specs.List.{cons_option, list_any}
-use Rattle.std.proofs.lemmas.Bool.{and_parts, eqb-true}
-use Rattle.std.proofs.lemmas.Option.{same_Some}
-use Rattle.vt_spec.specs.Lists.{holds_of, is_among, then_some, when}
-use Rattle.vt_spec.specs.Machine.Attach.{receivers_of}
-use Rattle.vt_spec.specs.Machine.Detach.{covers_root, going, going_at, going_from, goes_at, is_busy, is_used, only_cover}
-use Rattle.vt_spec.specs.Machine.Mounts.{Location, Mount, child_at, children, group_of, is_shared, no_mount, root_of, same_location, stands_at, stands_on}
-use Rattle.vt_spec.specs.Machine.Receives.{receivers}
-use Rattle.vt_spec.specs.Machine.Settled.{is_located}
-use Rattle.vt_spec.specs.Machine.World.{World, all_locations, mount_at, mount_numbered}
-use Rattle.vt_spec.proofs.Lists.{any_among, any_from_among, filter_here, filter_skip}
+use Rattle.std.proofs.Common.{◌≡◌, ℕ, Bool, true, false, cond, ◌||◌, List, [], ◌∷◌, filter, length, nat_eq, nat_lt, Option, None, Some, option_map, is_some, refl, sym, ap, ◌∙◌, arith, true≢false, eq-eqb, ◌+◌, ◌*◌, find, filter_map, if◌then◌else◌, unwrap_or, eqb-true}
+use Rattle.vt_spec.proofs.Common.{Location, Mount, World, all_locations, and_parts, any_among, any_from_among, child_at, children, cons_option, filter_here, filter_skip, goes_at, going, going_at, going_from, group_of, holds_of, is_among, is_busy, is_located, is_shared, is_used, length-map, list_any, mount_at, mount_numbered, no_mount, only_cover, receivers, receivers_of, root_of, same_Some, same_location, same_truth, stands_at, stands_on, then_some, when}
+use Rattle.vt_spec.specs.Machine.Detach.{covers_root}
 use Rattle.vt_group.specs.Grouping.{Grouping}
 use Rattle.vt_location.specs.declared.numbers.MountId.{MountId}
 use Rattle.vt_mount.specs.MountsValue.{MountEntry, are_ascending, mounts_in, uses_of}
 use Rattle.vt_propagate.specs.Going.{CountsUses, free_at, free_on, group_at, is_free, shared_point}
 use Rattle.vt_propagate.specs.Seen.{IsSeen}
 use Rattle.vt_propagate.proofs.Found.{counts, numbered, numbered_among}
-use Rattle.vt_spec.proofs.Truths.{same_truth}
 use Rattle.vt_laws_mounts.proofs.letting_go.Lists.{found_in}
 use Rattle.vt_laws_mounts.specs.Mounts.Attaching.{numbers_of}
 
@@ -28,16 +16,16 @@ use Rattle.vt_laws_mounts.specs.Mounts.Attaching.{numbers_of}
 module _ {A : Type 0} where
   -- the first that passes is the first of those that pass a weaker test
   pub find-filter : (q p : A → Bool) → ((x : A) → q x ≡ true → p x ≡ true) → (xs : List A)
-      → seek q xs ≡ seek q (filter p xs)
+      → find q xs ≡ find q (filter p xs)
   find-filter q p weaker [] = refl
   find-filter q p weaker (y ∷ ys) = by (p y) refl (q y) refl (find-filter q p weaker ys)
     where
-      by : (a : Bool) → p y ≡ a → (b : Bool) → q y ≡ b → seek q ys ≡ seek q (filter p ys)
-          → seek q (y ∷ ys) ≡ seek q (filter p (y ∷ ys))
-      by true e b is rest = ap (cond (q y) (Some y)) rest ∙ sym (ap (seek q) (filter_here p y ys e))
+      by : (a : Bool) → p y ≡ a → (b : Bool) → q y ≡ b → find q ys ≡ find q (filter p ys)
+          → find q (y ∷ ys) ≡ find q (filter p (y ∷ ys))
+      by true e b is rest = ap (cond (q y) (Some y)) rest ∙ sym (ap (find q) (filter_here p y ys e))
       by false e true is rest = absurd (true≢false (sym (weaker y is) ∙ e))
-      by false e false is rest = ap (λ t. cond t (Some y) (seek q ys)) is ∙ rest
-          ∙ sym (ap (seek q) (filter_skip p y ys e))
+      by false e false is rest = ap (λ t. cond t (Some y) (find q ys)) is ∙ rest
+          ∙ sym (ap (find q) (filter_skip p y ys e))
 
 -- options that are seen as one are both there or both not
 pub is_some-same : {A B : Type 0} (f : A → ℕ) (g : B → ℕ) (a : Option A) (b : Option B)
@@ -92,7 +80,7 @@ module _ (mounts : List (Mount ℕ)) (number : ℕ) (mount : Mount ℕ) (found :
       covers false kid = refl
 
       by : (kids : List (Mount ℕ)) → length kids ≡ 1
-          → is_some (seek (stands_at nat_eq (root_of mount)) kids) ≡ only_cover nat_eq mount kids
+          → is_some (find (stands_at nat_eq (root_of mount)) kids) ≡ only_cover nat_eq mount kids
       by [] e = absurd (omega (arith, e))
       by (kid ∷ []) e = covers (covers_root nat_eq mount kid) kid
       by (kid ∷ other ∷ kids) e = absurd (omega (arith, e))

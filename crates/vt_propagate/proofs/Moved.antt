@@ -1,12 +1,7 @@
 -- A tree of mounts moves: what its plans say of the world then.
-use Rattle.std.proofs.Common.{◌≡◌, ℕ, Bool, true, false, ◌&&◌, List, [], ◌∷◌, ◌⊎◌, inl, inr, ⊎_elim, map, nat_eq, Option, None, Some, is_some, refl, sym, ap, subst, true≢false, ◌∙◌, eq-eqb}
-use Rattle.std.specs.Prelude.{Contains, if◌then◌else◌, option_map, unwrap_or}
-use Rattle.vt_spec.specs.Lists.{first_of_list, folded, holds_of, or_else, rest_of}
-use Rattle.vt_spec.specs.Machine.Attach.{Copies, Twig, copies_at, copy_at, copy_number, is_top, parts_of, mount_point_on_copy, pushed_onto, pushed_up, twig_of}
+use Rattle.std.proofs.Common.{◌≡◌, ℕ, Bool, true, false, ◌&&◌, List, [], ◌∷◌, ◌⊎◌, inl, inr, ⊎_elim, map, nat_eq, Option, None, Some, is_some, refl, sym, ap, subst, true≢false, ◌∙◌, eq-eqb, Contains, if◌then◌else◌, option_map, unwrap_or}
+use Rattle.vt_spec.proofs.Common.{Among, Copies, Location, Mount, Twig, World, among-from_map, among-map, among_from_all, contains_from_among, copies_at, copy_at, copy_number, first_of_list, folded, group_of, holds_of, is_top, mount_at, mount_point_on_copy, nat_eq-swapped, number-mount_in, or_else, parts_of, pushed_onto, pushed_up, replaced_if_same, rest_of, same_location, stands_at, twig_of, with_mount}
 use Rattle.vt_spec.specs.Machine.Attach as meant
-use Rattle.vt_spec.specs.Machine.Mounts.{Location, Mount, group_of, replaced_if_same, same_location, stands_at, with_mount}
-use Rattle.vt_spec.specs.Machine.World.{World, mount_at}
-use Rattle.vt_spec.proofs.Lists.{Among, among-from_map, among-map, among_from_all, contains_from_among}
 use Rattle.vt_location.specs.declared.mounts.Mount.{Mount as Kept}
 use Rattle.vt_location.specs.Locations.{location_of}
 use Rattle.vt_location.specs.MountValue.{mount_of}
@@ -18,8 +13,6 @@ use Rattle.vt_propagate.specs.Falling.{moved_by}
 use Rattle.vt_propagate.specs.Planned.{graft_in, numbers_at}
 use Rattle.vt_propagate.specs.Pushing.{KeepsLeaver, PushesBy, leaver}
 use Rattle.vt_propagate.proofs.Pushed.{receivers_apart}
-use Rattle.vt_spec.proofs.Truths.{nat_eq-swapped}
-use Rattle.vt_spec.proofs.Worlds.{number-mount_in}
 use Rattle.vt_laws_mounts.proofs.letting_go.Lists.{find_none}
 
 -- each mount is one of the new ones, or it was there and has the number of none of them

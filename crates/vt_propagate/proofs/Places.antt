@@ -1,12 +1,7 @@
 -- Where the first that passes stands in a list, and what notes it.
-use Rattle.std.proofs.Common.{◌≡◌, ℕ, Bool, true, false, cond, List, [], ◌∷◌, ◌++◌, ◌+◌, ◌<◌, ◌||◌, map, nat_eq, Option, None, Some, refl, sym, ap, ◌∙◌, arith, get_or, length, take, eq-eqb, ne_eqb, is_some, true≢false}
-use Rattle.std.specs.Prelude.{if◌then◌else◌, unwrap_or}
-use Rattle.std.specs.List.{list_any, position_from}
-use Rattle.std.proofs.lemmas.Option.{same_Some}
-use Rattle.std.proofs.lemmas.Bool.{eqb-false, eqb-true}
-use Rattle.std.proofs.lemmas.List.{length-map, length-take-le, map-append, take_more}
-use Rattle.vt_spec.specs.Lists.{or_else, index_from}
-use Rattle.vt_spec.specs.Machine.Mounts.{Mount}
+use Rattle.std.proofs.Common.{◌≡◌, ℕ, Bool, true, false, cond, List, [], ◌∷◌, ◌++◌, ◌+◌, ◌<◌, ◌||◌, map, nat_eq, Option, None, Some, refl, sym, ap, ◌∙◌, arith, get_or, length, take, eq-eqb, ne_eqb, is_some, true≢false, if◌then◌else◌, unwrap_or, eqb-true, length-take-le}
+use Rattle.vt_spec.proofs.Common.{Mount, eqb-false, index_from, length-map, list_any, map-append, or_else, same_Some, take_more}
+use Rattle.std.specs.List.{position_from}
 use Rattle.vt_location.specs.declared.mounts.Mount.{Mount as Kept}
 use Rattle.vt_location.specs.MountValue.{mount_of}
 

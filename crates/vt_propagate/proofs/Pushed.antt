@@ -1,18 +1,6 @@
 -- Which mounts move onto copied trees, by a list of their new mount points.
-use Rattle.std.proofs.Common.{◌≡◌, ℕ, Bool, true, false, cond, List, [], ◌∷◌, ◌++◌, ◌&&◌, map, nat_eq, not, Option, None, Some, option_map, is_some, refl, sym, ap, ◌∙◌, arith, inl, inr, ⊎_elim, eq-eqb, ne_eqb, true≢false, length, take, drop, get_or, suc, zero, ◌+◌, ◌*◌, ◌<◌, filter}
-use Rattle.std.proofs.lemmas.Bool.{and_parts, and_from, eqb-false, eqb-true, not-true, or_parts}
-use Rattle.std.proofs.lemmas.List.{append_assoc, drop_more, length-drop, length-map}
-use Rattle.std.proofs.Math.Seq.{drop-append_seam, take-append_seam}
-use Rattle.std.proofs.lemmas.Option.{same_Some}
-use Rattle.std.specs.Prelude.{find as seek, flat_map, if◌then◌else◌}
-use Rattle.std.specs.List.{cons_option, list_any}
-use Rattle.std.specs.Map.{lookup}
-use Rattle.vt_spec.specs.Lists.{any_pair, holds_of, or_else, same_option, then_some}
-use Rattle.vt_spec.specs.Machine.Attach.{copies_at, parts_of, pushed_onto, receivers_of, takes_part, top_of_copies}
-use Rattle.vt_spec.specs.Machine.Invariants.{share_a_mount_point}
-use Rattle.vt_spec.specs.Machine.Mounts.{Location, Mount, child_at, same_location, stands_at}
-use Rattle.vt_spec.specs.Machine.World.{World, mount_at}
-use Rattle.vt_spec.proofs.Lists.{Among, among-from_filter, among_from_contains, any_from_among}
+use Rattle.std.proofs.Common.{◌≡◌, ℕ, Bool, true, false, cond, List, [], ◌∷◌, ◌++◌, ◌&&◌, map, nat_eq, not, Option, None, Some, option_map, is_some, refl, sym, ap, ◌∙◌, arith, inl, inr, ⊎_elim, eq-eqb, ne_eqb, true≢false, length, take, drop, get_or, suc, zero, ◌+◌, ◌*◌, ◌<◌, filter, eqb-true, append_assoc, length-drop, find, flat_map, if◌then◌else◌}
+use Rattle.vt_spec.proofs.Common.{Among, Location, Mount, World, among-from_filter, among_from_contains, and_from, and_parts, any_from_among, any_pair, child_at, cons_option, copies_at, drop-append_seam, drop_more, eqb-false, holds_of, length-map, list_any, lookup, mount_at, not-true, number-mount_in, or_else, or_parts, parts_of, pushed_onto, receivers_of, same_Some, same_location, same_option, share_a_mount_point, stands_at, take-append_seam, takes_part, then_some, top_of_copies}
 use Rattle.vt_location.specs.declared.mounts.Mount.{Mount as Kept}
 use Rattle.vt_location.specs.Locations.{location_of}
 use Rattle.vt_location.specs.MountValue.{mount_of}
@@ -24,7 +12,6 @@ use Rattle.vt_propagate.specs.Falling.{moved_by}
 use Rattle.vt_propagate.specs.Planned.{graft_in, numbers_at, planned_copies}
 use Rattle.vt_propagate.specs.Pushing.{OneChild, PushesBy, leaver, pushed_at, pushes_from, stander}
 use Rattle.vt_propagate.proofs.Found.{numbered, numbered_among}
-use Rattle.vt_spec.proofs.Worlds.{number-mount_in}
 use Rattle.vt_laws_mounts.proofs.letting_go.Lists.{found_in}
 
 -- one more part
@@ -77,15 +64,15 @@ rest_more parts i less size all later so_far one =
 -- Mounts at a place
 
 found_some : {A : Type 0} (p : A → Bool) (list : List A) (a : A) → Among a list → p a ≡ true → (first : A)
-    × (seek p list ≡ Some first)
+    × (find p list ≡ Some first)
 found_some p [] a m e = absurd m
 found_some p (b ∷ list) a m e = by (p b) refl (found_some p list a)
   where
-    by : (t : Bool) → p b ≡ t → (Among a list → p a ≡ true → (first : _) × (seek p list ≡ Some first))
-        → (first : _) × (seek p (b ∷ list) ≡ Some first)
-    by true is later = (b, ap (λ t. cond t (Some b) (seek p list)) is)
+    by : (t : Bool) → p b ≡ t → (Among a list → p a ≡ true → (first : _) × (find p list ≡ Some first))
+        → (first : _) × (find p (b ∷ list) ≡ Some first)
+    by true is later = (b, ap (λ t. cond t (Some b) (find p list)) is)
     by false is later = ⊎_elim (λ same. absurd (true≢false (sym e ∙ ap p same ∙ is)))
-        (λ l. let t = later l e in (t.0, ap (λ t. cond t (Some b) (seek p list)) is ∙ t.1)) m
+        (λ l. let t = later l e in (t.0, ap (λ t. cond t (Some b) (find p list)) is ∙ t.1)) m
 
 module _ (world : World ℕ) (one_child : OneChild world) (up : are_ascending world.mounts ≡ true) where
   -- two mounts at one place are one
@@ -187,7 +174,7 @@ module _ (world : World ℕ) (one_child : OneChild world) (up : are_ascending wo
 
     points_at : (parts : List (Mount ℕ)) → ((part : Mount ℕ) → Among part parts → nat_eq part.number place.mount
         ≡ false) → lookup (nat_eq mount.number) (pushes_from world.mounts left place size parts (flat_map copies parts))
-        ≡ option_map top_at (seek (λ part. stands_at nat_eq (at_part part) mount) parts)
+        ≡ option_map top_at (find (λ part. stands_at nat_eq (at_part part) mount) parts)
     points_at [] apart = refl
     points_at (part ∷ parts) apart =
         (λ i. lookup (nat_eq mount.number) (cons_option (pushed_at world.mounts left place part.number (front part
@@ -203,22 +190,22 @@ module _ (world : World ℕ) (one_child : OneChild world) (up : are_ascending wo
 
         by : (b : Bool) → stands_at nat_eq (at_part part) mount ≡ b
             → lookup (nat_eq mount.number) (pushes_from world.mounts left place size parts (flat_map copies parts))
-            ≡ option_map top_at (seek (λ part. stands_at nat_eq (at_part part) mount) parts)
+            ≡ option_map top_at (find (λ part. stands_at nat_eq (at_part part) mount) parts)
             → lookup (nat_eq mount.number) (cons_option (option_map (λ n. (n, top_at part))
             (stander world.mounts left (at_part part)))
             (pushes_from world.mounts left place size parts (flat_map copies parts)))
-            ≡ option_map top_at (cond (stands_at nat_eq (at_part part) mount) (Some part) (seek
+            ≡ option_map top_at (cond (stands_at nat_eq (at_part part) mount) (Some part) (find
             (λ part. stands_at nat_eq (at_part part) mount) parts))
         by true is later = ap (λ o. lookup (nat_eq mount.number) (cons_option (option_map (λ n. (n, top_at part)) o)
             (pushes_from world.mounts left place size parts (flat_map copies parts))))
             (standing part (sym as_before ∙ is)) ∙ ap (λ b. cond b (Some (top_at part)) (lookup (nat_eq mount.number)
             (pushes_from world.mounts left place size parts (flat_map copies parts))))
             (eq-eqb mount.number before.number number)
-            ∙ ap (λ b. option_map top_at (cond b (Some part) (seek (λ part. stands_at nat_eq
+            ∙ ap (λ b. option_map top_at (cond b (Some part) (find (λ part. stands_at nat_eq
             (at_part part) mount) parts))) (sym is)
         by false is later = skipped part (sym as_before ∙ is) (pushes_from world.mounts left place size parts
             (flat_map copies parts)) ∙ later
-            ∙ ap (λ b. option_map top_at (cond b (Some part) (seek (λ part. stands_at nat_eq
+            ∙ ap (λ b. option_map top_at (cond b (Some part) (find (λ part. stands_at nat_eq
             (at_part part) mount) parts))) (sym is)
 
 eqb-turned : (a b : ℕ) → nat_eq b a ≡ false → nat_eq a b ≡ false
@@ -244,7 +231,7 @@ pub all_pushed : (world : World ℕ) → OneChild world → are_ascending world.
     → PushesBy world graft counts (pushes_from world.mounts (leaver graft) (location_of graft.place)
     (length graft.tree.now) (parts_of nat_eq world (location_of graft.place)) (planned_copies world graft counts))
 all_pushed world one_child up graft counts before mount there stays number point =
-    onto (seek (λ part. stands_at nat_eq (record { mount = part.number; node = place.node }) mount) receivers) (found_at
+    onto (find (λ part. stands_at nat_eq (record { mount = part.number; node = place.node }) mount) receivers) (found_at
     ∙ points_at world one_child up (leaver graft) place size copies sized before mount
     (among_from_contains world.mounts before there) stays number point receivers apart)
   where

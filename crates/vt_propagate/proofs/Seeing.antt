@@ -1,17 +1,6 @@
 -- Mounts and groups that change together, and the world that they are.
-use Rattle.std.proofs.Common.{◌≡◌, ℕ, Bool, true, false, List, [], ◌∷◌, map, nat_eq, refl, ap, subst, sym, true≢false, ◌∙◌}
-use Rattle.std.specs.Prelude.{All, Contains, if◌then◌else◌}
-use Rattle.std.specs.List.{list_any}
-use Rattle.vt_spec.specs.Language.Calls.{TypeWord}
-use Rattle.vt_spec.specs.Language.Calls.TypeWord.{ToShared, ToSlave}
-use Rattle.vt_spec.specs.Lists.{is_among}
-use Rattle.vt_spec.specs.Machine.Detach.{is_going, taken_away}
-use Rattle.vt_spec.specs.Machine.Mounts.{Mount, Propagation, detached, is_unbindable}
-use Rattle.vt_spec.specs.Machine.Mounts.Propagation.{Private, Shared, Slave, Unbindable}
-use Rattle.vt_spec.specs.Machine.Receives.{regrouped}
-use Rattle.vt_spec.specs.Machine.Types.{retyped, retyped_mount, type_after, with_new_groups}
-use Rattle.vt_spec.specs.Machine.World.{World, with_mounts}
-use Rattle.vt_spec.proofs.Lists.{Among, all_from_among, among-from_map, among-map, among_from_all, among_from_contains, map_alike, map_twice}
+use Rattle.std.proofs.Common.{◌≡◌, ℕ, Bool, true, false, List, [], ◌∷◌, map, nat_eq, refl, ap, subst, sym, true≢false, ◌∙◌, All, Contains, if◌then◌else◌}
+use Rattle.vt_spec.proofs.Common.{Among, Mount, Private, Propagation, Shared, Slave, ToShared, ToSlave, TypeWord, Unbindable, World, all_from_among, among-from_map, among-map, among_from_all, among_from_contains, detached, is_among, is_going, is_unbindable, list_any, map_alike, map_twice, regrouped, retyped, retyped_mount, taken_away, type_after, with_mounts, with_new_groups}
 use Rattle.vt_group.specs.Grouping.{Grouping, Has, LacksGroup, propagation_in}
 use Rattle.vt_group.specs.Laws.{shown, typed_by}
 use Rattle.vt_group.proofs.Sharing.{sharing_lives, sharing_regroups}

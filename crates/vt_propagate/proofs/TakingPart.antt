@@ -1,9 +1,6 @@
 -- The parts of an attachment, by the numbers of receivers.
-use Rattle.std.proofs.Common.{◌≡◌, ℕ, Bool, true, ◌&&◌, List, ◌∷◌, filter, nat_eq, Some, is_some, not, sym, ap, ◌∙◌}
-use Rattle.std.specs.Prelude.{unwrap_or}
-use Rattle.vt_spec.specs.Machine.Attach.{parts_of, receivers_of, takes_part}
-use Rattle.vt_spec.specs.Machine.Mounts.{Location, Mount, no_mount}
-use Rattle.vt_spec.specs.Machine.World.{World, mount_at}
+use Rattle.std.proofs.Common.{◌≡◌, ℕ, Bool, true, ◌&&◌, List, ◌∷◌, filter, nat_eq, Some, is_some, not, sym, ap, ◌∙◌, unwrap_or}
+use Rattle.vt_spec.proofs.Common.{Location, Mount, World, mount_at, no_mount, parts_of, receivers_of, takes_part}
 use Rattle.vt_group.specs.Grouping.{Grouping}
 use Rattle.vt_location.specs.declared.numbers.MountId.{MountId}
 use Rattle.vt_mount.specs.MountsValue.{MountEntry, are_ascending, mounts_in}

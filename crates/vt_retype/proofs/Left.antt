@@ -1,11 +1,6 @@
 -- Mounts that leave their groups, or become slaves of them, one after another.
-use Rattle.std.proofs.Common.{◌≡◌, ℕ, Bool, true, false, true≢false, ◌||◌, List, [], ◌∷◌, ◌++◌, map, nat_eq, Option, None, Some, is_some, refl, ap, subst, sym, ◌∙◌, ⊎_elim, ◌<◌, arith, get_or, length, suc, zero}
-use Rattle.std.proofs.lemmas.Bool.{eqb-true}
-use Rattle.std.specs.Prelude.{if◌then◌else◌}
-use Rattle.vt_spec.specs.Lists.{is_among}
-use Rattle.vt_spec.specs.Machine.Mounts.{Propagation, is_unbindable, source_of}
-use Rattle.vt_spec.specs.Machine.Mounts.Propagation.{Private, Shared, Slave, Unbindable}
-use Rattle.vt_spec.proofs.Lists.{Among, all_from_among, among-from_map, among_from_all, head_among, map_same, tail_among, map_alike, map_twice}
+use Rattle.std.proofs.Common.{◌≡◌, ℕ, Bool, true, false, true≢false, ◌||◌, List, [], ◌∷◌, ◌++◌, map, nat_eq, Option, None, Some, is_some, refl, ap, subst, sym, ◌∙◌, ⊎_elim, ◌<◌, arith, get_or, length, suc, zero, eqb-true, if◌then◌else◌}
+use Rattle.vt_spec.proofs.Common.{Among, Private, Propagation, Shared, Slave, Unbindable, all_from_among, among-from_map, among_from_all, head_among, is_among, is_unbindable, map_alike, map_same, map_twice, nat_eq-swapped, source_of, tail_among}
 use Rattle.vt_group.specs.Grouping.{Grouping, propagation_in}
 use Rattle.vt_group.specs.Laws.{typed_by}
 use Rattle.vt_group.specs.Leaving.{lone_group, type_once_ended, type_once_left, type_once_slave}
@@ -17,7 +12,6 @@ use Rattle.vt_mount.specs.MountsValue.{MountEntry, changed}
 use Rattle.vt_retype.specs.Leaving.{HaveSources, OnlyTypesChange, once_left}
 use Rattle.vt_retype.specs.Retyping.{AreTyped, AreTypedBut, HaveNoSource, typed_entry, with_kind}
 use Rattle.vt_retype.proofs.TypesHanded.{bindable_once_ended, sourceless_once_ended}
-use Rattle.vt_spec.proofs.Truths.{nat_eq-swapped}
 
 -- what a mount of this type has where the groups tell another
 abbrev told_of : Propagation ℕ → Propagation ℕ → Propagation ℕ

@@ -1,11 +1,6 @@
 -- Mounts that get types one after another.
-use Rattle.std.proofs.Common.{◌≡◌, ℕ, Bool, true, false, ◌||◌, List, [], ◌∷◌, ◌++◌, ◌+◌, ◌<◌, get_or, length, map, nat_eq, refl, ap, sym, take, ◌∙◌}
-use Rattle.std.proofs.lemmas.List.{map-append, take_more}
-use Rattle.std.specs.Prelude.{if◌then◌else◌}
-use Rattle.std.proofs.lemmas.Bool.{eqb-true}
-use Rattle.vt_spec.specs.Lists.{folded, is_among}
-use Rattle.vt_spec.specs.Machine.Mounts.{Propagation}
-use Rattle.vt_spec.proofs.Lists.{among_from_all, map_same}
+use Rattle.std.proofs.Common.{◌≡◌, ℕ, Bool, true, false, ◌||◌, List, [], ◌∷◌, ◌++◌, ◌+◌, ◌<◌, get_or, length, map, nat_eq, refl, ap, sym, take, ◌∙◌, if◌then◌else◌, eqb-true}
+use Rattle.vt_spec.proofs.Common.{Propagation, among_from_all, folded, is_among, map-append, map_same, nat_eq-swapped, take_more}
 use Rattle.vt_group.specs.Grouping.{Grouping, propagation_in}
 use Rattle.vt_group.proofs.Together.{is_among-snoc}
 use Rattle.vt_group.proofs.Adding.{folded_more}
@@ -16,7 +11,6 @@ use Rattle.vt_location.specs.declared.numbers.GroupId.{GroupId}
 use Rattle.vt_location.specs.declared.numbers.MountId.{MountId}
 use Rattle.vt_mount.specs.MountsValue.{MountEntry, changed}
 use Rattle.vt_retype.specs.Retyping.{AreTypedBut, shared_by, typed_entry, with_kind, with_type_in}
-use Rattle.vt_spec.proofs.Truths.{nat_eq-swapped}
 
 module _ (groups : Grouping) (numbers : List ℕ) (number : ℕ) where
   abbrev told : MountEntry → MountEntry

@@ -1,19 +1,11 @@
 -- The types of mounts where a group ends and its slaves get its master, one after another.
-use Rattle.std.proofs.Common.{◌≡◌, ℕ, Bool, true, false, true≢false, ◌||◌, List, [], ◌∷◌, map, nat_eq, nat_lt, Option, None, Some, is_some, refl, ap, sym, ◌∙◌, cond, arith}
-use Rattle.std.proofs.lemmas.Bool.{and_parts, eqb-true, ltb-true}
-use Rattle.std.proofs.lemmas.Option.{same_Some}
-use Rattle.std.specs.List.{list_all}
-use Rattle.std.specs.Prelude.{find, if◌then◌else◌}
-use Rattle.vt_spec.specs.Lists.{is_among}
-use Rattle.vt_spec.specs.Machine.Mounts.{Mount, Propagation, is_unbindable, source_of}
-use Rattle.vt_spec.specs.Machine.Mounts.Propagation.{Private, Shared, Slave, Unbindable}
-use Rattle.vt_spec.proofs.Lists.{Among, among_from_all, map_same, map_alike, map_twice}
+use Rattle.std.proofs.Common.{◌≡◌, ℕ, Bool, true, false, true≢false, ◌||◌, List, [], ◌∷◌, map, nat_eq, nat_lt, Option, None, Some, is_some, refl, ap, sym, ◌∙◌, cond, arith, eqb-true, ltb-true, find, if◌then◌else◌}
+use Rattle.vt_spec.proofs.Common.{Among, Mount, Private, Propagation, Shared, Slave, Unbindable, among_from_all, and_parts, is_among, is_unbindable, list_all, map_alike, map_same, map_twice, nat_eq-swapped, same_Some, source_of}
 use Rattle.vt_group.specs.Grouping.{Grouping, master_in, propagation_in}
 use Rattle.vt_group.specs.Leaving.{lone_group, slave_or_private, type_after_end, type_once_ended}
 use Rattle.vt_mount.specs.MountsValue.{MountEntry, are_ascending, changed, mounts_in}
 use Rattle.vt_retype.specs.Leaving.{HaveSources, OnlyTypesChange, after_end, after_end_of, once_left}
 use Rattle.vt_retype.specs.Retyping.{retyped, typed_entry, with_kind}
-use Rattle.vt_spec.proofs.Truths.{nat_eq-swapped}
 
 -- One type
 

@@ -1,10 +1,6 @@
 -- What is lent for an inode grants what the inode grants.
-use Rattle.std.proofs.Common.{◌≡◌, ℕ, None, Some, refl, ap}
-use Rattle.std.specs.Prelude.{Option}
-use Rattle.std.proofs.lemmas.Option.{same_Some}
-use Rattle.vt_spec.specs.Machine.Rightful.{node_allows}
-use Rattle.vt_spec.specs.Rights.{Credentials, allows}
-use Rattle.vt_spec.specs.Tree.{Node}
+use Rattle.std.proofs.Common.{◌≡◌, ℕ, None, Some, refl, ap, Option}
+use Rattle.vt_spec.proofs.Common.{Credentials, Node, allows, node_allows, same_Some}
 use Rattle.vt_looks.specs.Looking.{front, front_of}
 
 pub allows-alike : (who : Credentials) (wanted : ℕ) (one other : Option (Node ℕ)) → front one ≡ front other

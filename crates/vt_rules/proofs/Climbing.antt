@@ -1,7 +1,6 @@
 -- Going up from a place, step by step: the places of a chain that pass a test.
 use Rattle.std.proofs.Common.{◌≡◌, ℕ, zero, suc, Bool, true, false, ◌||◌, [], ◌∷◌, Option, None, Some, refl, ap, ◌∙◌}
-use Rattle.std.specs.List.{list_any}
-use Rattle.vt_spec.specs.Lists.{chain, rest_of}
+use Rattle.vt_spec.proofs.Common.{chain, list_any, rest_of}
 
 module _ {A : Type 0} (next : A → Option A) (test : A → Bool) where
   -- the first place, and those above it

@@ -1,13 +1,8 @@
 -- What code answers of a judgement: a refusal, a permit, or want of memory.
 use Rattle.std.proofs.Common.{◌≡◌, subst, ℕ, Bool, true, false, List, [], ◌∷◌, Result, Ok, Err, inl, inr, ◌∙◌}
+use Rattle.vt_spec.proofs.Common.{Call, Judgement, MoveMount, Permit, Task, denial, unless}
 use Rattle.vt_spec.specs.declared.errors.Deny.{Deny}
 use Rattle.vt_spec.specs.declared.errors.Rule.TheVariants.{M10, M9, S5}
-use Rattle.vt_spec.specs.Errors.{denial, unless}
-use Rattle.vt_spec.specs.Language.Calls.{Call}
-use Rattle.vt_spec.specs.Language.Calls.Call.{MoveMount}
-use Rattle.vt_spec.specs.Machine.Judge.{Judgement}
-use Rattle.vt_spec.specs.Machine.Permits.{Permit}
-use Rattle.vt_spec.specs.Machine.World.{Task}
 use Rattle.vt_permits.specs.Memory.{IsAfterReceivers, Judges, JudgesAlike, JudgesByReceivers}
 use Rattle.vt_permits.specs.declared.grant.Grant.{Grant}
 

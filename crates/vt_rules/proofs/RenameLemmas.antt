@@ -1,17 +1,11 @@
 -- The rules of a rename are four tables: what has the new name, where the names are, the caller's rights, and what the
 -- layers and the mounter of an overlay ask.
 use Rattle.std.proofs.Common.{◌≡◌, ◌++◌, ℕ, Result, Ok, Err, nat_eq, ◌∙◌}
+use Rattle.vt_spec.proofs.Common.{Location, Looks, Place, Rules, Task, rename_rules, unless, unless-let_through}
 use Rattle.vt_spec.specs.declared.errors.Deny.{Deny}
-use Rattle.vt_spec.specs.Errors.{Rules, unless}
-use Rattle.vt_spec.specs.Machine.Looks.{Looks}
-use Rattle.vt_spec.specs.Machine.Mounts.{Location}
-use Rattle.vt_spec.specs.Machine.Rules.Removing.{rename_rules}
-use Rattle.vt_spec.specs.Machine.Walking.{Place}
-use Rattle.vt_spec.specs.Machine.World.{Task}
 use Rattle.vt_rules.specs.Tables.{kind_rules, layer_rules, right_rules, way_rules}
 use Rattle.vt_rules.proofs.Refusals.{unless-stopped}
 use Rattle.vt_rules.proofs.Rows.{one_by_one}
-use Rattle.vt_spec.proofs.Refusals.{unless-let_through}
 
 -- no rule of a table fails
 abbrev pub Passes : Rules → Type 0

@@ -1,8 +1,8 @@
 -- Rows of tables of rules, one after another.
 use Rattle.std.proofs.Common.{◌≡◌, Bool, true, false, [], ◌∷◌, ◌++◌, Result, Err, refl}
+use Rattle.vt_spec.proofs.Common.{Rules, denial, unless}
 use Rattle.vt_spec.specs.declared.errors.Deny.{Deny}
 use Rattle.vt_spec.specs.declared.errors.Rule.{Rule}
-use Rattle.vt_spec.specs.Errors.{Rules, denial, unless}
 
 -- a row whose rule does not fail
 pub skipped : {A : Type 0} (fails : Bool) (rule : Rule) (rows : Rules) (answer : Result A Deny)

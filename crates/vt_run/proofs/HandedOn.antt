@@ -1,8 +1,7 @@
 -- What a buffer holds back is handed on to the writer behind it.
-use Rattle.std.proofs.Common.{◌≡◌, ℕ, true≢false, List, [], Option, None, Some, Result, Ok, Err, IfOk, ap, sym, subst, ◌∙◌, append-nil}
-use Rattle.std.specs.Prelude.{MatchResult, is_ok}
+use Rattle.std.proofs.Common.{◌≡◌, ℕ, true≢false, List, [], Option, None, Some, Result, Ok, Err, IfOk, ap, sym, subst, ◌∙◌, append-nil, MatchResult, is_ok}
+use Rattle.vt_spec.proofs.Common.{Version}
 use Rattle.std.specs.Io.KnownBytes.{Keeps, append_known}
-use Rattle.vt_spec.specs.Language.Script.{Version}
 use Rattle.vt_run.specs.Answered.{AnswersKnown}
 
 -- a value is known as before its error was mapped

@@ -1,25 +1,9 @@
 -- One line is answered by its step.
-use Rattle.std.proofs.Common.{◌≡◌, ◌⊎◌, ℕ, ◌≤◌, ◌<◌, Bool, true, false, List, [], length, Option, Some, None, Result, Ok, Err, refl, sym, ap, ◌∙◌, subst, nat_eq, nat_lt, inl, inr, arith, IfErr, IfOk, IsSomeAnd}
-use Rattle.std.proofs.lemmas.Bool.Decides.{nat_tests}
-use Rattle.std.proofs.lemmas.List.{take_all}
+use Rattle.std.proofs.Common.{◌≡◌, ◌⊎◌, ℕ, ◌≤◌, ◌<◌, Bool, true, false, List, [], length, Option, Some, None, Result, Ok, Err, refl, sym, ap, ◌∙◌, subst, nat_eq, nat_lt, inl, inr, arith, IfErr, IfOk, IsSomeAnd, take_all}
+use Rattle.vt_spec.proofs.Common.{Answered, Asking, Call, Calling, Chmod, Chown, Close, Directive, Drop, Exec, Exit, Fresh, Lstat, Opaque, Remount, Request, SameWorlds, SetType, Silent, Stat, TaskName, ToPrivate, ToShared, ToSlave, ToUnbindable, Umask, Version, World, denial, denied, directed, is_silent, line_step, line_step_by, longest_line, nat_tests, policy, reply_line, request_of, requested, step_text, step_world}
 use Rattle.vt_spec.specs.declared.errors.Deny.{Deny}
 use Rattle.vt_spec.specs.declared.errors.Rule.TheVariants.{S1, S5}
-use Rattle.vt_spec.specs.Errors.{denial}
-use Rattle.vt_spec.specs.Language.Calls.{Call, Directive, TaskName}
-use Rattle.vt_spec.specs.Language.Calls.Call.{Chmod, Chown, Close, Drop, Exec, Exit, Lstat, Opaque, Remount, SetType, Stat, Umask}
-use Rattle.vt_spec.specs.Language.Calls.TypeWord.{ToPrivate, ToShared, ToSlave, ToUnbindable}
-use Rattle.vt_spec.specs.Language.Printed.{reply_line}
-use Rattle.vt_spec.specs.Language.Script.{Request, Version, is_silent, overlays, request_of}
-use Rattle.vt_spec.specs.Language.Limits.{longest_line}
-use Rattle.vt_spec.specs.Language.Script.Request.{Asking, Calling}
-use Rattle.vt_spec.specs.Lists.{Fresh}
-use Rattle.vt_spec.specs.Machine.Outcomes.{denied}
-use Rattle.vt_spec.specs.Machine.Policy.{policy}
-use Rattle.vt_spec.specs.Machine.Run.{line_step, line_step_by, requested, step_text, step_world}
-use Rattle.vt_spec.specs.Machine.Run.Step.{Silent, Answered}
-use Rattle.vt_spec.specs.Machine.SameWorlds.{SameWorlds}
-use Rattle.vt_spec.specs.Machine.Sealed.{directed}
-use Rattle.vt_spec.specs.Machine.World.{World}
+use Rattle.vt_spec.specs.Language.Script.{overlays}
 use Rattle.vt_laws_rules.specs.Numbers.{Allotment}
 use Rattle.vt_laws_rules.proofs.rules.OwnRules.{denial_changes_nothing}
 use Rattle.vt_laws_rules.proofs.denials.Unchanged.{directive_changes_nothing}

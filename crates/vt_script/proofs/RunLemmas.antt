@@ -1,11 +1,7 @@
 -- Moments of a run, one after another.
-use Rattle.std.proofs.Common.{◌≡◌, ◌≢◌, ◌<◌, ◌-◌, ℕ, suc, ◌+◌, ◌==◌, arith, drop, get_or, length, length-take, map, take, Bool, true, false, List, [], ◌∷◌, ◌++◌, Some, None, refl, sym, ap, ◌∙◌, subst, append_assoc, nat_eq}
-use Rattle.std.proofs.lemmas.Bool.Decides.{nat_tests}
-use Rattle.std.proofs.lemmas.List.{append-nil, drop_more, get_or-take, take-append-drop, take_rest}
-use Rattle.vt_spec.specs.Language.Script.{Version, lines_of, overlays, with_line_byte}
-use Rattle.vt_spec.specs.Machine.Run.{handed, later, line_step, numbers_for, step_text, step_world, text_from}
-use Rattle.vt_spec.specs.Machine.SameWorlds.{SameWorlds}
-use Rattle.vt_spec.specs.Machine.World.{World}
+use Rattle.std.proofs.Common.{◌≡◌, ◌≢◌, ◌<◌, ◌-◌, ℕ, suc, ◌+◌, ◌==◌, arith, drop, get_or, length, length-take, map, take, Bool, true, false, List, [], ◌∷◌, ◌++◌, Some, None, refl, sym, ap, ◌∙◌, subst, append_assoc, nat_eq, append-nil, get_or-take, take-append-drop}
+use Rattle.vt_spec.proofs.Common.{SameWorlds, Version, World, drop_more, handed, later, line_step, lines_of, nat_tests, numbers_for, step_text, step_world, take_rest, text_from}
+use Rattle.vt_spec.specs.Language.Script.{overlays, with_line_byte}
 use Rattle.vt_laws_rules.specs.Numbers.{Allotment}
 use Rattle.vt_laws_trees.specs.Runs.Handed.{may_be_given}
 use Rattle.vt_laws_trees.specs.Runs.Runs.{ServesInHand, TellsAlike}

@@ -1,13 +1,10 @@
 -- How the steps of a session follow one another.
-use Rattle.std.proofs.Common.{◌≡◌, ◌≢◌, ℕ, ◌+◌, true, false, List, [], ◌∷◌, ◌++◌, length, take, Option, Some, None, Result, Ok, Err, refl, sym, ap, ◌∙◌, subst, append_assoc, arith, length-append, length-take, ◌≤◌}
-use Rattle.std.proofs.lemmas.List.{append-nil}
+use Rattle.std.proofs.Common.{◌≡◌, ◌≢◌, ℕ, ◌+◌, true, false, List, [], ◌∷◌, ◌++◌, length, take, Option, Some, None, Result, Ok, Err, refl, sym, ap, ◌∙◌, subst, append_assoc, arith, length-append, length-take, ◌≤◌, append-nil}
+use Rattle.vt_spec.proofs.Common.{SameWorlds, World, lines_of, step_text, step_world}
 use Rattle.vt_io.specs.declared.output.Sink.{Ghosts}
 use Rattle.vt_io.specs.LineBuffer.{Holds}
 use Rattle.vt_io.proofs.Printing.{Wrote-nothing, Wrote-append, WroteFront-append}
-use Rattle.vt_spec.specs.Language.Script.{lines_of, overlays}
-use Rattle.vt_spec.specs.Machine.Run.{step_text, step_world}
-use Rattle.vt_spec.specs.Machine.SameWorlds.{SameWorlds}
-use Rattle.vt_spec.specs.Machine.World.{World}
+use Rattle.vt_spec.specs.Language.Script.{overlays}
 use Rattle.vt_laws_rules.specs.Numbers.{Allotment}
 use Rattle.vt_laws_trees.specs.Runs.Handed.{may_be_given}
 use Rattle.vt_laws_trees.specs.Runs.Runs.{TellsAlike}

@@ -1,14 +1,13 @@
 -- What a run has told, from its opening on.
-use Rattle.std.proofs.Common.{◌≡◌, ℕ, ◌+◌, ◌-◌, ◌≤◌, Bool, List, ◌++◌, length, map, false, take, drop, sym, ap, ◌∙◌, append_assoc, subst, Result, Ok, Err, arith}
+use Rattle.std.proofs.Common.{◌≡◌, ℕ, ◌+◌, ◌-◌, ◌≤◌, Bool, List, ◌++◌, length, map, false, take, drop, sym, ap, ◌∙◌, append_assoc, subst, Result, Ok, Err, arith, take-append-drop, OnOk, IsErrOf}
+use Rattle.vt_spec.proofs.Common.{Version, first_world, lines_of, text_from}
 use Rattle.std.proofs.Math.Seq.{take-append-add}
-use Rattle.std.proofs.lemmas.List.{take-append-drop}
 use Rattle.std.specs.Io.{StartsWith}
-use Rattle.vt_spec.specs.Language.Script.{Version, lines_of, overlays}
-use Rattle.vt_spec.specs.Machine.Run.{first_world, script_text_as, text_from}
+use Rattle.vt_spec.specs.Language.Script.{overlays}
+use Rattle.vt_spec.specs.Machine.Run.{script_text_as}
 use Rattle.vt_laws_trees.specs.Runs.Handed.{may_be_given}
 use Rattle.vt_laws_trees.specs.Runs.Runs.{TellsAlike}
 use Rattle.vt_laws_worlds.proofs.one_text.runs.RunsTold.{every_program_has_one_text}
-use Rattle.std.specs.Prelude.{OnOk, IsErrOf}
 use Rattle.vt_io.specs.declared.output.Sink.{Ghosts}
 use Rattle.vt_io.specs.Sink.{WroteFront}
 use Rattle.vt_io.proofs.Printing.{Wrote-append, WroteFront-append}

@@ -1,6 +1,6 @@
 -- Descriptors in the order of their numbers.
 use Rattle.std.proofs.Common.{Bool, List, [], arith, cond, false, le-leb, leb-true, nat_le, refl, true, ℕ, ◌+◌, ◌==◌, ◌∷◌, ◌≡◌, ◌≤◌}
-use Rattle.std.proofs.lemmas.Bool.{and_from as both, and_parts}
+use Rattle.std.proofs.lemmas.Bool.{and_from, and_parts}
 use Rattle.std.specs.List.{filter}
 use Rattle.vt_spec.specs.Machine.Invariants.{are_ascending_from}
 use Rattle.vt_spec.specs.Machine.Descriptors.{free_from}
@@ -13,7 +13,7 @@ ascending_lower lower least [] le h = refl
 ascending_lower lower least (descriptor ∷ list) le h =
     let above = leb-true least descriptor.number
     ((and_parts (nat_le least descriptor.number) (are_ascending_from (descriptor.number + 1) list) h).0) in
-    both (nat_le lower descriptor.number) (are_ascending_from (descriptor.number + 1) list)
+    and_from (nat_le lower descriptor.number) (are_ascending_from (descriptor.number + 1) list)
     (le-leb lower descriptor.number (omega (arith, above, le)))
     ((and_parts (nat_le least descriptor.number) (are_ascending_from (descriptor.number + 1) list) h).1)
 
@@ -30,7 +30,7 @@ ascending-filter stays least (descriptor ∷ list) h = by (stays descriptor)
 
     by : (b : Bool) → are_ascending_from (descriptor.number + 1) (filter stays list) ≡ true
         → are_ascending_from least (cond b (descriptor ∷ filter stays list) (filter stays list)) ≡ true
-    by true rest = both (nat_le least descriptor.number)
+    by true rest = and_from (nat_le least descriptor.number)
         (are_ascending_from (descriptor.number + 1) (filter stays list)) low rest
     by false rest =
         let above = leb-true least descriptor.number low in

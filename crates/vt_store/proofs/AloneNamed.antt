@@ -1,20 +1,11 @@
 -- One directory alone has a name for a file.
-use Rattle.std.proofs.Common.{Bool, List, None, Option, Some, ap, eqb-true, false, is_some, nat_eq, option_map, refl, sym, true, true≢false, ⊎_elim, ℕ, ◌<◌, ◌≤◌, ◌&&◌, ◌||◌, ◌∙◌, ◌∷◌, ◌≡◌, []}
-use Rattle.std.proofs.lemmas.Bool.{cases_lt}
-use Rattle.std.proofs.lemmas.Option.{same_Some}
-use Rattle.std.specs.List.{list_any}
-use Rattle.std.specs.Prelude.{unwrap_or}
+use Rattle.std.proofs.Common.{Bool, List, None, Option, Some, ap, eqb-true, false, is_some, nat_eq, option_map, refl, sym, true, true≢false, ⊎_elim, ℕ, ◌<◌, ◌≤◌, ◌&&◌, ◌||◌, ◌∙◌, ◌∷◌, ◌≡◌, [], unwrap_or}
+use Rattle.vt_spec.proofs.Common.{Inode, Node, cases_lt, entries_in, entries_of, found_passes, has_entry_to, is_among, list_any, node_in, none_is_some, renamed_inode, same_Some, targets_in}
 use Rattle.vt_fs.specs.FilesystemsValue.{FilesystemEntry, Filesystems, entry_at, entry_of, files_at, files_seen, no_entry, node_seen}
 use Rattle.vt_fs.proofs.Numbers.{numbers_listed}
 use Rattle.vt_location.proofs.NumberLemmas.{exchanged_back, exchanged_slot}
 use Rattle.vt_location.specs.Numbers.{exchanged, inode_number}
 use Rattle.vt_overlay.proofs.RanksSeen.{ranked_seen}
-use Rattle.vt_spec.proofs.Found.{found_passes}
-use Rattle.vt_spec.proofs.Options.{none_is_some}
-use Rattle.vt_spec.specs.FileTree.{has_entry_to, targets_in}
-use Rattle.vt_spec.specs.Inodes.{Inode, node_in, renamed_inode}
-use Rattle.vt_spec.specs.Lists.{is_among}
-use Rattle.vt_spec.specs.Tree.{Node, entries_in, entries_of}
 use Rattle.vt_store.proofs.Ranked.{some_ranked}
 use Rattle.vt_store.specs.Locks.{directory_lies_in_overlay, names_in_layer}
 use Rattle.vt_store.specs.OverlaysValue.{OverlayEntry}

@@ -1,12 +1,9 @@
 -- What lies in a layer by a name: the names are looked through once, and the layers for each.
-use Rattle.std.proofs.Common.{Bool, List, [], ap, false, refl, sym, true, ◌&&◌, ◌||◌, ◌∙◌, ◌∷◌, ◌≡◌}
-use Rattle.std.specs.List.{list_any}
+use Rattle.std.proofs.Common.{Bool, List, [], ap, false, refl, sym, true, ◌&&◌, ◌||◌, ◌∙◌, ◌∷◌, ◌≡◌, nat_eq, ℕ}
+use Rattle.vt_spec.proofs.Common.{has_entry_to, is_directory_under, is_file_under, is_under, list_any, or_false_left, or_false_right}
 use Rattle.vt_fs.specs.FilesystemsValue.{Filesystems, files_at}
 use Rattle.vt_location.specs.Locations.{inode_of}
 use Rattle.vt_overlay.specs.declared.merge.layers.LayerRef.{LayerRef}
-use Rattle.vt_spec.proofs.Truths.{or_false_left, or_false_right}
-use Rattle.vt_spec.specs.FileTree.{has_entry_to, is_directory_under, is_file_under, is_under}
-use Rattle.std.specs.Prelude.{nat_eq, ℕ}
 use Rattle.vt_store.specs.LayerTests.{stands_in}
 use Rattle.vt_store.specs.Locks.{directory_lies_in, directory_lies_in_overlay, lies_in, lies_in_overlay, names_in_layer, overlay_stands_in}
 use Rattle.vt_store.specs.OverlaysValue.{OverlayEntry}

@@ -1,13 +1,6 @@
 -- The overlays as the map keeps them, and as contracts see them.
-use Rattle.std.proofs.Common.{◌≡◌, ◌<◌, refl, sym, ap, subst, ◌∙◌, ℕ, Bool, true, false, cond, ◌&&◌, nat_eq, nat_lt, List, [], ◌∷◌, ◌++◌, map, filter, not, slice_get, eq-eqb, Option, Some, None, option_map, is_some}
-use Rattle.std.specs.Prelude.{IfSome, IsSome, length}
-use Rattle.std.specs.List.{list_all}
-use Rattle.std.specs.FinMap.Entries.{by_order, put}
-use Rattle.std.specs.Map.{lookup}
-use Rattle.std.specs.declared.cmp.Ordering.{Ordering}
-use Rattle.std.specs.declared.cmp.Ordering.TheVariants.{Less, Equal, Greater}
-use Rattle.std.proofs.lemmas.Bool.{eqb-true}
-use Rattle.std.proofs.lemmas.List.{nil_from_length}
+use Rattle.std.proofs.Common.{◌≡◌, ◌<◌, refl, sym, ap, subst, ◌∙◌, ℕ, Bool, true, false, cond, ◌&&◌, nat_eq, nat_lt, List, [], ◌∷◌, ◌++◌, map, filter, not, slice_get, eq-eqb, Option, Some, None, option_map, is_some, IfSome, IsSome, length, Ordering, Less, Equal, Greater, eqb-true}
+use Rattle.vt_spec.proofs.Common.{by_order, list_all, lookup, nil_from_length, put}
 use Rattle.indexmap.specs.IndexMap.{IndexMap, WritesThrough, get_by}
 use Rattle.vt_location.specs.declared.numbers.FilesystemId.{FilesystemId}
 use Rattle.vt_location.specs.InOrder.{cmp_by, in_order_by}

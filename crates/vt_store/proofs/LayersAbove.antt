@@ -1,10 +1,6 @@
 -- Going up from a directory, until a test passes.
-use Rattle.std.proofs.Common.{Bool, None, Option, Some, ap, arith, false, nat_eq, suc, true, zero, ℕ, ◌-◌, ◌<◌, ◌||◌, ◌∙◌, ◌∷◌, ◌≡◌, []}
-use Rattle.std.specs.List.{list_any}
-use Rattle.std.specs.Prelude.{if◌then◌else◌}
-use Rattle.vt_spec.specs.Inodes.{Inodes, node_in, parent_above}
-use Rattle.vt_spec.specs.Lists.{chain}
-use Rattle.vt_spec.specs.Tree.{parent_in}
+use Rattle.std.proofs.Common.{Bool, None, Option, Some, ap, arith, false, nat_eq, suc, true, zero, ℕ, ◌-◌, ◌<◌, ◌||◌, ◌∙◌, ◌∷◌, ◌≡◌, [], if◌then◌else◌}
+use Rattle.vt_spec.proofs.Common.{Inodes, chain, list_any, node_in, parent_above, parent_in}
 
 module _ (inodes : Inodes ℕ) (test : ℕ → Bool) (here : ℕ) where
   abbrev up : ℕ → Option ℕ

@@ -1,10 +1,6 @@
 -- Layers as they are counted.
-use Rattle.std.proofs.Common.{◌≡◌, ◌≤◌, ◌<◌, ◌+◌, ◌-◌, ◌∙◌, ◌∷◌, ◌↔◌, [], arith, ap, Bool, cond, eq-eqb, eqb-true, false, filter, find, get_or, IsErr, length, List, map, nat_eq, ne_eqb, None, not, OnOk, option_map, Option, refl, Some, subst, sym, take, true, unwrap_or, ℕ}
-use Rattle.std.specs.Prelude.{Err, Ok, Result}
-use Rattle.std.proofs.lemmas.List.{length-take-le, take_more}
-use Rattle.vt_spec.proofs.Lists.{folded-snoc}
-use Rattle.vt_spec.specs.Inodes.{Inode, Inodes, pinned, unpinned, used_once_more, uses_in}
-use Rattle.vt_spec.specs.Lists.{folded}
+use Rattle.std.proofs.Common.{◌≡◌, ◌≤◌, ◌<◌, ◌+◌, ◌-◌, ◌∙◌, ◌∷◌, ◌↔◌, [], arith, ap, Bool, cond, eq-eqb, eqb-true, false, filter, find, get_or, IsErr, length, List, map, nat_eq, ne_eqb, None, not, OnOk, option_map, Option, refl, Some, subst, sym, take, true, unwrap_or, ℕ, Err, Ok, Result, length-take-le}
+use Rattle.vt_spec.proofs.Common.{Inode, Inodes, folded, folded-snoc, pinned, take_more, unpinned, used_once_more, uses_in}
 use Rattle.vt_fs.specs.Trees.Slots.{most_uses}
 use Rattle.vt_location.specs.declared.locations.NodeRef.{NodeRef}
 use Rattle.vt_location.specs.Locations.{inode_of, number_of}

@@ -1,19 +1,12 @@
 -- The layers of all overlays, as overlays come, change and go.
-use Rattle.std.proofs.Common.{Option, ◌≡◌, ◌<◌, ◌^◌, arith, is_some, lt-ltb, ne_eqb, refl, sym, ap, ◌∙◌, ℕ, Bool, true, false, cond, not, ◌||◌, nat_eq, List, [], ◌∷◌, ◌++◌, append-nil, append_assoc, None, Some, option_map, T, subst}
-use Rattle.std.specs.List.{AllByRecursion, list_all, list_any}
-use Rattle.std.specs.Map.{keys_of, lookup}
-use Rattle.std.specs.Prelude.{IsPermutation, count_by, min, nat_lt}
-use Rattle.std.proofs.lemmas.Bool.{eqb-true, ltb-true}
+use Rattle.std.proofs.Common.{Option, ◌≡◌, ◌<◌, ◌^◌, arith, is_some, lt-ltb, ne_eqb, refl, sym, ap, ◌∙◌, ℕ, Bool, true, false, cond, not, ◌||◌, nat_eq, List, [], ◌∷◌, ◌++◌, append-nil, append_assoc, None, Some, option_map, T, subst, IsPermutation, count_by, min, nat_lt, eqb-true, ltb-true}
+use Rattle.vt_spec.proofs.Common.{AllByRecursion, IsPermutation-append_left, IsPermutation-append_right, IsPermutation-refl, IsPermutation-trans, T_and_left, T_and_right, keys_of, list_all, list_any, list_any-append, lookup, none_is_some, same_Some, sum_by-IsPermutation}
 use Rattle.std.proofs.lemmas.List.Concat.{flat_map-append}
-use Rattle.std.proofs.lemmas.List.Folds.{list_any-append}
-use Rattle.std.proofs.lemmas.List.Sorted.{All-permutation, IsPermutation-append_comm, IsPermutation-append_left, IsPermutation-append_right, IsPermutation-refl, IsPermutation-trans, sum_by-IsPermutation}
-use Rattle.std.proofs.lemmas.Option.{same_Some}
+use Rattle.std.proofs.lemmas.List.Sorted.{All-permutation, IsPermutation-append_comm}
 use Rattle.indexmap.specs.IndexMap.{IndexMap, WritesThrough, get_by}
 use Rattle.vt_location.proofs.OrderLemmas.{apart-below, rises, rises-in_order, same_by}
 use Rattle.vt_location.specs.declared.numbers.FilesystemId.{FilesystemId}
 use Rattle.vt_overlay.specs.declared.merge.layers.LayerRef.{LayerRef}
-use Rattle.vt_spec.proofs.Options.{none_is_some}
-use Rattle.vt_spec.proofs.Truths.{T_and_left, T_and_right}
 use Rattle.vt_store.proofs.KeptOverlays.{added, count_of, entry_kept-entries, entry_kept-kept, in_order, is_key, key_eq, of_count, own_added, own_removed, own_written, removed, writes}
 use Rattle.vt_store.proofs.OverlaysGo.{absent_removed}
 use Rattle.vt_store.specs.LayerTests.{stands_at, stands_in}

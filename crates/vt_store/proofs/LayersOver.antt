@@ -1,9 +1,6 @@
 -- A directory lies in a layer where it is the layer's directory, or one above it is.
-use Rattle.std.proofs.Common.{Bool, List, None, Some, [], ap, eq-eqb, eqb-true, false, nat_eq, option_map, refl, sym, true, ℕ, ◌&&◌, ◌<◌, ◌^◌, ◌||◌, ◌∙◌, ◌∷◌, ◌≡◌}
-use Rattle.std.proofs.Math.Bool.{or-false}
-use Rattle.std.proofs.lemmas.List.Elements.{All-head, All-tail}
-use Rattle.std.specs.List.{list_any}
-use Rattle.std.specs.Prelude.{All, nat_lt, unwrap_or}
+use Rattle.std.proofs.Common.{Bool, List, None, Some, [], ap, eq-eqb, eqb-true, false, nat_eq, option_map, refl, sym, true, ℕ, ◌&&◌, ◌<◌, ◌^◌, ◌||◌, ◌∙◌, ◌∷◌, ◌≡◌, All, nat_lt, unwrap_or}
+use Rattle.vt_spec.proofs.Common.{All-head, All-tail, is_among, is_directory_under, list_any, or-false, same_truth}
 use Rattle.vt_fs.proofs.Numbers.{numbers_counted}
 use Rattle.vt_fs.proofs.Parents.{under_by_names}
 use Rattle.vt_fs.proofs.Standing.{under_there}
@@ -15,10 +12,7 @@ use Rattle.vt_location.specs.Numbers.{inode_number}
 use Rattle.vt_location.specs.declared.locations.InodeRef.{InodeRef}
 use Rattle.vt_location.specs.declared.numbers.FilesystemId.{FilesystemId}
 use Rattle.vt_overlay.specs.declared.merge.layers.LayerRef.{LayerRef}
-use Rattle.vt_spec.proofs.Truths.{same_truth}
-use Rattle.vt_spec.specs.FileTree.{is_directory_under}
 use Rattle.vt_spec.specs.Inodes.{ancestors}
-use Rattle.vt_spec.specs.Lists.{is_among}
 use Rattle.vt_store.proofs.AnyNamed.{any-and, any-swapped}
 use Rattle.vt_store.proofs.LayersKept.{any_layers}
 use Rattle.vt_store.proofs.LayersTallied.{any_counted}

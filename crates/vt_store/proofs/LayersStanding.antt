@@ -1,21 +1,6 @@
 -- Overlays that stand on layers.
-use Rattle.std.proofs.Common.{◌≡◌, ◌<◌, ◌∙◌, ◌∷◌, ◌&&◌, [], arith, ap, Bool, eqb-true, false, find, length, List, map, nat_eq, None, not, Option, refl, Some, subst, suc, sym, true, true≢false, unwrap_or, zero, ℕ}
-use Rattle.std.specs.Prelude.{All, is_some, nat_le, slice_get}
-use Rattle.std.specs.List.{list_all}
-use Rattle.std.proofs.lemmas.Bool.{and_parts, leb-true}
-use Rattle.std.proofs.lemmas.List.Elements.{All-head, All-tail}
-use Rattle.std.proofs.lemmas.Option.{same_Some}
-use Rattle.vt_spec.proofs.Found.{found_among, found_passes}
-use Rattle.vt_spec.proofs.Lists.{Among, all_from_among, among_from_all, among_from_list_all}
-use Rattle.vt_spec.proofs.Options.{none_is_some}
-use Rattle.vt_spec.specs.Inodes.{Inode, node_in}
-use Rattle.vt_spec.specs.Lists.{is_empty_list}
-use Rattle.vt_spec.specs.Language.Limits.{most_lowers}
-use Rattle.vt_spec.specs.Machine.Invariants.{IsWorld, has_fit_layers, is_plain_layer}
-use Rattle.vt_spec.specs.Machine.Locked.{of_overlay}
-use Rattle.vt_spec.specs.Machine.World.{Filesystem, Layer, World, filesystem_numbered, is_overlay, layers_of, no_filesystem}
-use Rattle.vt_spec.specs.Tree.{Tree, is_directory_node}
-use Rattle.vt_spec.specs.TreeInvariant.{IsDirectory, IsTree}
+use Rattle.std.proofs.Common.{◌≡◌, ◌<◌, ◌∙◌, ◌∷◌, ◌&&◌, [], arith, ap, Bool, eqb-true, false, find, length, List, map, nat_eq, None, not, Option, refl, Some, subst, suc, sym, true, true≢false, unwrap_or, zero, ℕ, All, is_some, nat_le, slice_get, leb-true}
+use Rattle.vt_spec.proofs.Common.{All-head, All-tail, Among, Filesystem, Inode, IsDirectory, IsTree, IsWorld, Layer, Tree, World, all_from_among, among_from_all, among_from_list_all, and_parts, filesystem_numbered, found_among, found_passes, has_fit_layers, is_directory_node, is_empty_list, is_overlay, is_plain_layer, layers_of, list_all, most_lowers, no_filesystem, node_in, none_is_some, of_overlay, same_Some}
 use Rattle.vt_location.specs.Locations.{inode_of}
 use Rattle.vt_location.specs.Numbers.{counted, is_inode_of}
 use Rattle.vt_fs.specs.FilesystemsValue.{FilesystemEntry, Filesystems, entry_of, inodes_at, inodes_seen, no_entry}

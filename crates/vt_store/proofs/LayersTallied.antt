@@ -1,9 +1,7 @@
 -- Layers that are counted one by one.
-use Rattle.std.proofs.Common.{Bool, List, [], ap, arith, cond, false, refl, true, ℕ, ◌+◌, ◌++◌, ◌-◌, ◌||◌, ◌∙◌, ◌∷◌, ◌≡◌, ◌≤◌}
-use Rattle.std.proofs.lemmas.Bool.Decides.{nat_tests}
-use Rattle.std.proofs.lemmas.List.Sums.{sum_by-append, sum_by-cons}
-use Rattle.std.specs.List.{list_any}
-use Rattle.std.specs.Prelude.{count_by, nat_lt}
+use Rattle.std.proofs.Common.{Bool, List, [], ap, arith, cond, false, refl, true, ℕ, ◌+◌, ◌++◌, ◌-◌, ◌||◌, ◌∙◌, ◌∷◌, ◌≡◌, ◌≤◌, count_by, nat_lt}
+use Rattle.vt_spec.proofs.Common.{list_any, nat_tests, sum_by-cons}
+use Rattle.std.proofs.lemmas.List.Sums.{sum_by-append}
 use Rattle.vt_store.specs.LayersAt.{HasRoomForLayers}
 use Rattle.vt_store.specs.declared.layer_counts.LayerCounts.{LayerCounts}
 

@@ -1,11 +1,6 @@
 -- An inode of a plain tree as the tree keeps it, and as the definitions see it.
-use Rattle.std.proofs.Common.{◌≡◌, ◌∙◌, ◌∷◌, [], ap, Bool, cond, false, List, map, None, option_copied, option_map, Option, refl, Some, sym, true, true≢false, ℕ}
-use Rattle.std.specs.Ordering.{eq_by_cmp}
-use Rattle.std.specs.Prelude.{IfSome}
-use Rattle.vt_spec.specs.Lists.{is_empty_list}
-use Rattle.vt_spec.specs.Machine.Renaming.{renamed_content, renamed_entry}
-use Rattle.vt_spec.specs.Tree.{Content, Entries, Node, entries_in, entries_of, entry_named, is_directory_node, name_cmp, parent_in}
-use Rattle.vt_spec.specs.Tree.Content.{Directory, Regular, Symlink, Whiteout}
+use Rattle.std.proofs.Common.{◌≡◌, ◌∙◌, ◌∷◌, [], ap, Bool, cond, false, List, map, None, option_copied, option_map, Option, refl, Some, sym, true, true≢false, ℕ, IfSome}
+use Rattle.vt_spec.proofs.Common.{Content, Directory, Entries, Node, Regular, Symlink, Whiteout, entries_in, entries_of, entry_named, eq_by_cmp, is_directory_node, is_empty_list, name_cmp, parent_in, renamed_content, renamed_entry}
 use Rattle.vt_location.specs.Locations.{number_of}
 use Rattle.vt_location.specs.Numbers.{exchanged}
 use Rattle.vt_fs.specs.FilesystemsValue.{node_seen}

@@ -1,20 +1,11 @@
 -- What lies in a layer, by the slots of its tree.
-use Rattle.std.proofs.Common.{List, None, Option, Some, ap, eqb-true, false, is_some, map, nat_eq, option_map, refl, sym, true, true≢false, ℕ, ◌<◌, ◌∙◌, ◌≡◌}
-use Rattle.std.proofs.lemmas.Option.{same_Some}
-use Rattle.std.specs.Prelude.{slice_index_or, unwrap_or}
+use Rattle.std.proofs.Common.{List, None, Option, Some, ap, eqb-true, false, is_some, map, nat_eq, option_map, refl, sym, true, true≢false, ℕ, ◌<◌, ◌∙◌, ◌≡◌, slice_index_or, unwrap_or}
+use Rattle.vt_spec.proofs.Common.{Content, Directory, Inode, Node, Regular, Symlink, Tree, Whiteout, entries_in, entries_of, found_passes, has_entry_to, is_among, is_directory, is_directory_node, kind_of, none_is_some, same_Some}
 use Rattle.vt_fs.specs.FilesystemsValue.{FilesystemEntry, Filesystems, entry_of, files_at, files_seen, filled_from, no_entry, node_seen}
 use Rattle.vt_location.proofs.NumberLemmas.{exchanged_slot}
 use Rattle.vt_location.specs.Numbers.{exchanged, inode_number}
 use Rattle.vt_node.specs.Ranks.{name_ranked}
 use Rattle.vt_overlay.proofs.RanksSeen.{ranked_seen}
-use Rattle.vt_spec.proofs.Found.{found_passes}
-use Rattle.vt_spec.proofs.Options.{none_is_some}
-use Rattle.vt_spec.specs.FileTree.{has_entry_to}
-use Rattle.vt_spec.specs.Inodes.{Inode}
-use Rattle.vt_spec.specs.Lists.{is_among}
-use Rattle.vt_spec.specs.Rights.{is_directory}
-use Rattle.vt_spec.specs.Tree.{Content, Node, Tree, entries_in, entries_of, is_directory_node, kind_of}
-use Rattle.vt_spec.specs.Tree.Content.{Directory, Regular, Symlink, Whiteout}
 use Rattle.vt_store.proofs.Ranked.{some_ranked}
 use Rattle.vt_store.proofs.Scanned.{Slots}
 use Rattle.vt_fs.specs.Trees.TreeValue.{TreeValue}

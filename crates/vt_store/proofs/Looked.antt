@@ -1,12 +1,6 @@
 -- What is found in a filesystem of a store, through an overlay or in a plain tree.
-use Rattle.std.proofs.Common.{◌≡◌, ◌∙◌, ◌<◌, ◌≤◌, ap, Bool, false, length, None, option_map, Option, refl, Some, subst, sym, true, true≢false, ℕ}
-use Rattle.std.specs.Prelude.{IfSome, IsSome}
-use Rattle.std.proofs.lemmas.Option.{same_Some}
-use Rattle.vt_spec.proofs.Lists.{among_from_all}
-use Rattle.vt_spec.proofs.Options.{none_is_some}
-use Rattle.vt_spec.specs.FileTree.{FileTree}
-use Rattle.vt_spec.specs.Lists.{when}
-use Rattle.vt_spec.specs.Tree.{Node, is_directory_node, parent_in}
+use Rattle.std.proofs.Common.{◌≡◌, ◌∙◌, ◌<◌, ◌≤◌, ap, Bool, false, length, None, option_map, Option, refl, Some, subst, sym, true, true≢false, ℕ, IfSome, IsSome}
+use Rattle.vt_spec.proofs.Common.{FileTree, Node, among_from_all, is_directory_node, none_is_some, parent_in, same_Some, when}
 use Rattle.vt_location.specs.declared.locations.NodeRef.{NodeRef}
 use Rattle.vt_location.specs.Locations.{number_of}
 use Rattle.vt_fs.specs.FilesystemsValue.{Filesystems, files_at, node_seen}

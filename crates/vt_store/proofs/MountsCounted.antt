@@ -1,8 +1,6 @@
 -- How many mounts show an overlay, or a plain filesystem.
-use Rattle.std.proofs.Common.{◌≡◌, ◌∙◌, ◌∷◌, [], ap, Bool, cond, false, get_or, length, nat_eq, None, Option, refl, Some, true, unwrap_or, ℕ}
-use Rattle.std.specs.Prelude.{All}
-use Rattle.std.proofs.lemmas.List.Elements.{All-cons, All-head, All-tail}
-use Rattle.vt_spec.specs.FileTree.{FileTree}
+use Rattle.std.proofs.Common.{◌≡◌, ◌∙◌, ◌∷◌, [], ap, Bool, cond, false, get_or, length, nat_eq, None, Option, refl, Some, true, unwrap_or, ℕ, All}
+use Rattle.vt_spec.proofs.Common.{All-cons, All-head, All-tail, FileTree}
 use Rattle.vt_fs.specs.FilesystemsValue.{FilesystemEntry, Filesystems, entry_of, files_at, files_seen, filesystem_seen, filesystems_seen, no_entry, with_changed}
 use Rattle.vt_overlay.specs.declared.merge.layers.LayerRef.{LayerRef}
 use Rattle.vt_store.specs.Counts.{with_mounts_by}

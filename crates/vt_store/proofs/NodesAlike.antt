@@ -1,11 +1,6 @@
 -- A node and what is lent for it, of a plain tree or of an overlay.
 use Rattle.std.proofs.Common.{◌≡◌, ◌∙◌, ap, None, option_map, Option, refl, slice_get, Some, sym, ℕ}
-use Rattle.std.proofs.lemmas.Option.{slice_get-map}
-use Rattle.vt_spec.specs.Lists.{then_some}
-use Rattle.vt_spec.specs.Machine.Layers.{OpenLayer, Shown}
-use Rattle.vt_spec.specs.Machine.Merging.{layer_node}
-use Rattle.vt_spec.specs.Tree.{Content, Node}
-use Rattle.vt_spec.specs.Tree.Content.{Directory, Regular, Symlink, Whiteout}
+use Rattle.vt_spec.proofs.Common.{Content, Directory, Node, OpenLayer, Regular, Shown, Symlink, Whiteout, layer_node, slice_get-map, then_some}
 use Rattle.vt_fs.specs.FilesystemsValue.{Filesystems, files_at, node_seen}
 use Rattle.vt_overlay.specs.Merge.LayerValue.{layer_of, layers_of}
 use Rattle.vt_overlay.specs.declared.merge.layers.LayerRef.{LayerRef}

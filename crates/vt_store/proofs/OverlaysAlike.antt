@@ -1,14 +1,6 @@
 -- What an overlay shows depends on its layers alone.
-use Rattle.std.proofs.Common.{◌≡◌, ◌∙◌, ◌+◌, ◌++◌, ◌∷◌, [], ap, false, List, nat_eq, None, option_map, Option, refl, Some, sym, unwrap_or, ℕ}
-use Rattle.std.specs.Prelude.{All, filter_map, find, if◌then◌else◌, slice_get}
-use Rattle.std.proofs.lemmas.List.Elements.{All-head, All-tail}
-use Rattle.vt_spec.specs.FileTree.{FileTree}
-use Rattle.vt_spec.specs.Lists.{holds_of, last_or, then_some, without_last}
-use Rattle.vt_spec.specs.Machine.Layers.{OpenLayer, at_path, names_shown, node_at_path, paths_from, shown}
-use Rattle.vt_spec.specs.Machine.Merging.{is_root_path, layer_node, merged_at, real_object}
-use Rattle.vt_spec.specs.Machine.World.{Real}
-use Rattle.vt_spec.specs.Machine.World.Real.{Lower, Upper}
-use Rattle.vt_spec.specs.Tree.{Node, entries_in, is_directory_node}
+use Rattle.std.proofs.Common.{◌≡◌, ◌∙◌, ◌+◌, ◌++◌, ◌∷◌, [], ap, false, List, nat_eq, None, option_map, Option, refl, Some, sym, unwrap_or, ℕ, All, filter_map, find, if◌then◌else◌, slice_get}
+use Rattle.vt_spec.proofs.Common.{All-head, All-tail, FileTree, Lower, Node, OpenLayer, Real, Upper, at_path, entries_in, holds_of, is_directory_node, is_root_path, last_or, layer_node, merged_at, names_shown, node_at_path, paths_from, real_object, shown, then_some, without_last}
 use Rattle.vt_laws_trees.specs.Overlays.MergedTrees.{layers_shown, node_as}
 use Rattle.vt_laws_trees.specs.Overlays.TreesSeen.{node_by, real_by}
 use Rattle.vt_node.specs.Ranks.{rank_among}

@@ -1,8 +1,6 @@
 -- A store with one overlay less.
-use Rattle.std.proofs.Common.{◌≡◌, ◌∷◌, [], ap, Bool, cond, false, get_or, nat_eq, None, not, option_map, refl, Some, subst, sym, true, ℕ}
-use Rattle.std.specs.Prelude.{All}
-use Rattle.std.proofs.lemmas.List.Elements.{All-filter}
-use Rattle.vt_spec.proofs.Options.{none_is_some}
+use Rattle.std.proofs.Common.{◌≡◌, ◌∷◌, [], ap, Bool, cond, false, get_or, nat_eq, None, not, option_map, refl, Some, subst, sym, true, ℕ, All}
+use Rattle.vt_spec.proofs.Common.{All-filter, none_is_some}
 use Rattle.vt_store.specs.Laws.{IsSameTree}
 use Rattle.vt_store.specs.OverlaysValue.{OverlayEntry, Overlays, entry_kept, overlay_of, without_overlay}
 use Rattle.vt_store.specs.StoreValue.{StandOnLayers, StandsOnLayers, StoreValue}

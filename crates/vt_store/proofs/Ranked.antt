@@ -1,19 +1,8 @@
 -- What a directory leads to has a first name: one of rank 0.
-use Rattle.std.proofs.Common.{Bool, List, None, Option, Some, [], ap, arith, cond, eq-eqb, false, is_some, length, map, nat_eq, option_map, refl, suc, sym, true, true≢false, zero, ⊎_elim, ℕ, ◌&&◌, ◌+◌, ◌||◌, ◌∙◌, ◌∷◌, ◌≡◌, ◌≤◌}
-use Rattle.std.specs.Cmp.{tied_itself}
-use Rattle.std.specs.Cmp.Lexicographic.{nat_list_cmp_total}
-use Rattle.std.specs.Ordering.{is_lt}
-use Rattle.std.specs.declared.cmp.Ordering.{Ordering}
-use Rattle.std.specs.declared.cmp.Ordering.TheVariants.{Equal, Greater, Less}
-use Rattle.std.specs.Prelude.{filter, find}
+use Rattle.std.proofs.Common.{Bool, List, None, Option, Some, [], ap, arith, cond, eq-eqb, false, is_some, length, map, nat_eq, option_map, refl, suc, sym, true, true≢false, zero, ⊎_elim, ℕ, ◌&&◌, ◌+◌, ◌||◌, ◌∙◌, ◌∷◌, ◌≡◌, ◌≤◌, is_lt, Ordering, Equal, Greater, Less, filter, find}
+use Rattle.vt_spec.proofs.Common.{Among, Entries, and_true_left, and_true_right, found_among, found_passes, is_among, name_cmp, nat_list_cmp_total, none_is_some, tied_itself}
 use Rattle.vt_node.proofs.RankLemmas.{before}
 use Rattle.vt_node.specs.Ranks.{has_rank, name_ranked, rank_among}
-use Rattle.vt_spec.proofs.Found.{found_among, found_passes}
-use Rattle.vt_spec.proofs.Lists.{Among}
-use Rattle.vt_spec.proofs.Options.{none_is_some}
-use Rattle.vt_spec.proofs.Truths.{and_true_left, and_true_right}
-use Rattle.vt_spec.specs.Lists.{is_among}
-use Rattle.vt_spec.specs.Tree.{Entries, name_cmp}
 
 some_found : {A : Type 0} (p : A → Bool) (xs : List A) (x : A) → Among x xs → p x ≡ true → is_some (find p xs) ≡ true
 some_found p [] x m e = absurd m

@@ -1,10 +1,7 @@
 -- The slots of a tree, looked through from the first one on.
-use Rattle.std.proofs.Common.{Bool, List, None, Option, Some, [], ap, arith, cond, drop, false, is_some, ltb-false, ltb-true, map, nat_lt, refl, suc, sym, true, true≢false, zero, ℕ, ◌+◌, ◌<◌, ◌||◌, ◌∙◌, ◌∷◌, ◌≡◌, ◌≤◌}
-use Rattle.std.proofs.lemmas.List.Sums.{sum_by-cons}
-use Rattle.std.specs.List.{list_any}
-use Rattle.std.specs.Prelude.{count_by, slice_index_or}
+use Rattle.std.proofs.Common.{Bool, List, None, Option, Some, [], ap, arith, cond, drop, false, is_some, ltb-false, ltb-true, map, nat_lt, refl, suc, sym, true, true≢false, zero, ℕ, ◌+◌, ◌<◌, ◌||◌, ◌∙◌, ◌∷◌, ◌≡◌, ◌≤◌, count_by, slice_index_or}
+use Rattle.vt_spec.proofs.Common.{Inode, list_any, sum_by-cons}
 use Rattle.vt_fs.specs.FilesystemsValue.{filled_from}
-use Rattle.vt_spec.specs.Inodes.{Inode}
 
 abbrev pub Slots : Type 0
 Slots = List (Option (Inode ℕ))

@@ -1,12 +1,6 @@
 -- Plain filesystems and overlays, found by their numbers.
-use Rattle.std.proofs.Common.{◌≡◌, ◌∙◌, ◌∷◌, ◌⊎◌, [], arith, ap, Bool, Bor, cond, eqb-true, false, List, ltb-true, inl, inr, nat_eq, nat_lt, None, option_map, Option, refl, Some, sym, true, ℕ}
-use Rattle.std.specs.List.{find}
-use Rattle.std.specs.Prelude.{is_some, option_copied, unwrap_or}
-use Rattle.std.proofs.lemmas.Option.{same_Some}
-use Rattle.vt_spec.proofs.Found.{found_among}
-use Rattle.vt_spec.proofs.Lists.{Among}
-use Rattle.vt_spec.proofs.Options.{none_is_some}
-use Rattle.vt_spec.specs.Machine.World.{Filesystem, no_filesystem}
+use Rattle.std.proofs.Common.{◌≡◌, ◌∙◌, ◌∷◌, ◌⊎◌, [], arith, ap, Bool, Bor, cond, eqb-true, false, List, ltb-true, inl, inr, nat_eq, nat_lt, None, option_map, Option, refl, Some, sym, true, ℕ, find, is_some, option_copied, unwrap_or}
+use Rattle.vt_spec.proofs.Common.{Among, Filesystem, found_among, no_filesystem, none_is_some, same_Some}
 use Rattle.vt_location.proofs.NumberLemmas.{counted_test}
 use Rattle.vt_location.specs.Numbers.{counted}
 use Rattle.vt_fs.proofs.Numbers.{found_by_number}

@@ -1,8 +1,6 @@
 -- An overlay whose number is above all others comes after them.
-use Rattle.std.proofs.Common.{◌≡◌, ◌++◌, ◌∙◌, ◌∷◌, [], ap, arith, Bool, cond, false, List, ltb-true, nat_lt, refl, true, ℕ}
-use Rattle.std.specs.List.{list_all}
-use Rattle.std.proofs.lemmas.Bool.{and_parts, le-ltb, lt-ltb}
-use Rattle.vt_spec.specs.Machine.World.{Filesystem}
+use Rattle.std.proofs.Common.{◌≡◌, ◌++◌, ◌∙◌, ◌∷◌, [], ap, arith, Bool, cond, false, List, ltb-true, nat_lt, refl, true, ℕ, le-ltb, lt-ltb}
+use Rattle.vt_spec.proofs.Common.{Filesystem, and_parts, list_all}
 use Rattle.vt_location.specs.Numbers.{counted}
 use Rattle.vt_fs.specs.FilesystemsValue.{FilesystemEntry, Filesystems, filesystem_seen, filesystems_seen}
 use Rattle.vt_store.specs.Laws.{NewOverlaysAreLast}

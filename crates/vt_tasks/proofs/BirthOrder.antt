@@ -1,23 +1,15 @@
 -- What is kept by hash under names, in the order of births: in what other order it may be kept, and what changes, goes
 -- and comes.
-use Rattle.std.proofs.Common.{◌≡◌, ◌<◌, ℕ, zero, suc, Bool, true, false, cond, not, ◌&&◌, ◌||◌, List, [], ◌∷◌, ◌++◌, length, map, nat_eq, nat_lt, ne_eqb, ◌+◌, arith, position, slice_get, Option, None, Some, get_or, refl, sym, ap, subst, ◌∙◌, IsPermutation}
-use Rattle.std.specs.List.{AllByRecursion, IsDistinct, list_all, list_any}
-use Rattle.std.specs.Cmp.{IsEquivalence, nat_cmp_is, nat_eq_equiv}
-use Rattle.std.specs.FinMap.{nat_cmp-IsAntisymmetric}
-use Rattle.std.specs.FinMap.Entries.{by_order, find, put, same_entries}
-use Rattle.std.specs.Map.{IsKeyTest, keys_of, lookup, lookup_key, remove_entry, set_value}
-use Rattle.std.specs.Ordering.{is_eq}
-use Rattle.std.specs.declared.cmp.Ordering.{Ordering}
-use Rattle.std.specs.declared.cmp.Ordering.TheVariants.{Less, Equal, Greater}
-use Rattle.std.proofs.lemmas.Bool.{and_from, lt-ltb, ltb-true}
-use Rattle.std.proofs.lemmas.List.Sorted.{IsPermutation-cons, IsPermutation-map, IsPermutation-middle, IsPermutation-refl, IsPermutation-swap_remove, IsPermutation-sym, IsPermutation-to_front, IsPermutation-trans, list_any-IsPermutation}
-use Rattle.std.proofs.lemmas.Map.Keys.{IsDistinct-head, IsDistinct-tail}
-use Rattle.std.proofs.lemmas.Option.{slice_get-get_or}
+use Rattle.std.proofs.Common.{◌≡◌, ◌<◌, ℕ, zero, suc, Bool, true, false, cond, not, ◌&&◌, ◌||◌, List, [], ◌∷◌, ◌++◌, length, map, nat_eq, nat_lt, ne_eqb, ◌+◌, arith, position, slice_get, Option, None, Some, get_or, refl, sym, ap, subst, ◌∙◌, IsPermutation, is_eq, Ordering, Less, Equal, Greater, lt-ltb, ltb-true}
+use Rattle.vt_spec.proofs.Common.{AllByRecursion, IsDistinct-head, IsDistinct-tail, IsEquivalence, IsPermutation-cons, IsPermutation-map, IsPermutation-middle, IsPermutation-refl, IsPermutation-sym, IsPermutation-trans, and_from, and_true_left, and_true_right, by_order, keys_of, list_all, list_any, list_any-IsPermutation, lookup, nat_cmp-IsAntisymmetric, nat_cmp_is, nat_eq_equiv, put, remove_entry, same_entries, set_value, slice_get-get_or}
+use Rattle.std.specs.List.{IsDistinct}
+use Rattle.std.specs.FinMap.Entries.{find}
+use Rattle.std.specs.Map.{IsKeyTest, lookup_key}
+use Rattle.std.proofs.lemmas.List.Sorted.{IsPermutation-swap_remove, IsPermutation-to_front}
 use Rattle.indexmap.specs.IndexMap.{swap_remove_entry}
 use Rattle.indexmap.proofs.MapLemmas.{Found-position, distinct_permutation, lookup_permutation, swap_remove_entry-found, swap_remove_entry-missing}
 use Rattle.vt_location.specs.InOrder.{cmp_by, in_order_by}
 use Rattle.vt_location.proofs.OrderLemmas.{cmp_total, found-in_order, rises-in_order, same_by}
-use Rattle.vt_spec.proofs.Truths.{and_true_left, and_true_right}
 
 abbrev own : ℕ → ℕ
 own birth = birth

@@ -1,17 +1,7 @@
 -- Names are given once, and no two tasks have one name.
-use Rattle.std.proofs.Common.{◌≡◌, ◌≢◌, ℕ, ◌+◌, ◌≤◌, ◌<◌, Bool, true, false, cond, ◌&&◌, List, [], ◌∷◌, ◌++◌, filter, not, nat_eq, Option, Some, None, refl, sym, ap, ◌∙◌, true≢false, arith, eq-eqb, ne_eqb}
-use Rattle.std.specs.Prelude.{nat_le}
-use Rattle.std.specs.List.{list_all, list_any}
-use Rattle.std.specs.Cmp.Lexicographic.{pointwise}
-use Rattle.std.proofs.lemmas.Bool.{eqb-true, leb-true, le-leb, or_parts, and_from, or_from}
-use Rattle.vt_spec.proofs.Lists.{pair-filter, pair-map, all-filter}
-use Rattle.vt_spec.specs.Language.Calls.{TaskName, same_name}
-use Rattle.vt_spec.specs.Machine.Tasks.{child_name, child_of}
-use Rattle.vt_spec.specs.Machine.World.{Task, replaced_if_called}
-use Rattle.vt_spec.specs.Rights.{Credentials}
+use Rattle.std.proofs.Common.{◌≡◌, ◌≢◌, ℕ, ◌+◌, ◌≤◌, ◌<◌, Bool, true, false, cond, ◌&&◌, List, [], ◌∷◌, ◌++◌, filter, not, nat_eq, Option, Some, None, refl, sym, ap, ◌∙◌, true≢false, arith, eq-eqb, ne_eqb, nat_le, eqb-true, leb-true, le-leb}
+use Rattle.vt_spec.proofs.Common.{Credentials, Task, TaskName, all-filter, and_from, and_true_left, and_true_right, child_name, child_of, list_all, list_any, name-replaced_if_called, or_from, or_parts, pair-filter, pair-map, pointwise, replaced_if_called, same_name, same_name-swapped, same_name_itself, same_task_name}
 use Rattle.vt_tasks.specs.TasksValue.{AreNamedApart, Tasks, are_given_once, called, forked_once, has_given, is_of_forks, names_of, replaced, with_child_behind, without_called}
-use Rattle.vt_spec.proofs.Truths.{and_true_left, and_true_right}
-use Rattle.vt_spec.proofs.Worlds.{name-replaced_if_called, same_name_itself, same_task_name, same_name-swapped}
 pub use Rattle.vt_spec.proofs.Worlds.{same_task_name as same_names}
 
 names_differ : (a b : TaskName) → same_name a b ≡ false → a ≢ b

@@ -1,20 +1,12 @@
 -- Tasks as the map keeps them, in whatever order, and as contracts see them, in the order in which they were forked.
 use Rattle.std.proofs.Common.{◌≡◌, ℕ, ◌+◌, ◌≤◌, true, false, List, [], ◌∷◌, ◌++◌, ◌&&◌, map, nat_eq, nat_lt, Option, Some, None, option_map, refl, sym, ap, ◌∙◌, subst}
+use Rattle.vt_spec.proofs.Common.{AllByRecursion, Credentials, IsEquivalence, Location, Task, TaskName, child_name, child_of, keys_of, list_all, list_any, lookup, nat_list_eq_equiv, or_parts, pointwise, same_name, set_value}
 use Rattle.std.specs.declared.vec.Vec.{Vec}
-use Rattle.std.specs.Cmp.{IsEquivalence}
-use Rattle.std.specs.List.{AllByRecursion, IsDistinct, list_all, list_any}
-use Rattle.std.specs.Cmp.Lexicographic.{pointwise}
-use Rattle.std.proofs.lemmas.Bool.{or_parts}
-use Rattle.std.specs.Map.{IsKeyTest, keys_of, lookup, set_value}
-use Rattle.std.proofs.lemmas.Cmp.{nat_list_eq_equiv}
+use Rattle.std.specs.List.{IsDistinct}
+use Rattle.std.specs.Map.{IsKeyTest}
 use Rattle.indexmap.specs.IndexMap.{IndexMap, IsUnique, WritesThrough, get_by, insert_entry, swap_remove_entry}
 use Rattle.indexmap.proofs.CallerLemmas.{insert_entry-new}
 use Rattle.vt_location.specs.InOrder.{in_order_by}
-use Rattle.vt_spec.specs.Language.Calls.{TaskName, same_name}
-use Rattle.vt_spec.specs.Machine.Tasks.{child_name, child_of}
-use Rattle.vt_spec.specs.Machine.Mounts.{Location}
-use Rattle.vt_spec.specs.Machine.World.{Task}
-use Rattle.vt_spec.specs.Rights.{Credentials}
 use Rattle.vt_tasks.specs.declared.task.Task.{Task as Held}
 use Rattle.vt_tasks.specs.TaskValue.{task_of}
 use Rattle.vt_tasks.specs.TasksValue.{AreKept, AreKeyed, AreNamedApart, are_given_once, births_of, born_in_order, called, changed_called, first_task_at, forked, has_files_in_order, in_order, tasks_of, without_called}

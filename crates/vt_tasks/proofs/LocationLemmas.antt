@@ -1,21 +1,12 @@
 -- How often tasks use locations and namespaces, where one of them changes.
-use Rattle.std.proofs.Common.{◌≡◌, ◌<◌, ℕ, ◌+◌, ◌||◌, Bool, true, false, cond, List, [], ◌∷◌, ◌++◌, filter, map, nat_eq, not, Some, refl, ap, ◌∙◌, arith, ne_eqb}
-use Rattle.std.specs.Prelude.{find, nat_lt}
-use Rattle.std.specs.List.{list_any}
-use Rattle.std.proofs.lemmas.Bool.{eqb-true, leb-true, or_parts}
+use Rattle.std.proofs.Common.{◌≡◌, ◌<◌, ℕ, ◌+◌, ◌||◌, Bool, true, false, cond, List, [], ◌∷◌, ◌++◌, filter, map, nat_eq, not, Some, refl, ap, ◌∙◌, arith, ne_eqb, find, nat_lt, eqb-true, leb-true}
+use Rattle.vt_spec.proofs.Common.{Descriptor, Location, Task, TaskName, and_true_left, and_true_right, are_ascending_from, child_of, free_number, inserted, list_any, locations_of, one_more_is_some, opens_for_reading, opens_for_writing, or_parts, same_name, same_task_name, with_descriptor, without_descriptor}
 use Rattle.std.proofs.lemmas.List.Concat.{flat_map-cons}
-use Rattle.vt_spec.specs.Language.Calls.{TaskName, opens_for_reading, opens_for_writing, same_name}
-use Rattle.vt_spec.specs.Machine.Mounts.{Location}
-use Rattle.vt_spec.specs.Machine.Descriptors.{free_number, inserted, with_descriptor, without_descriptor}
-use Rattle.vt_spec.specs.Machine.Tasks.{child_of}
-use Rattle.vt_spec.specs.Machine.World.{Descriptor, Task, locations_of}
-use Rattle.vt_spec.specs.Machine.Invariants.{are_ascending_from}
 use Rattle.vt_tasks.proofs.GivenOnce.{name-of-called}
 use Rattle.vt_tasks.proofs.TasksLemmas.{put}
 use Rattle.vt_tasks.specs.Counts.{ClosedUses, DirectoryUses, EnteredUses, ExitedTasks, ExitedUses, ForkedTasks, ForkedUses, HasTasksWhileCounted, MovedUses, OpenedUses, ReplacedTasks, ReplacedUses, RootUses, locations_in, one_if, tasks_in, times, uses}
 use Rattle.vt_tasks.specs.TasksValue.{AreNamedApart, Tasks, called, forked_once, replaced, without_called}
-use Rattle.vt_spec.proofs.Truths.{and_true_left, and_true_right, as_many_with_none, one_more_is_some}
-use Rattle.vt_spec.proofs.Worlds.{same_task_name}
+use Rattle.vt_spec.proofs.Truths.{as_many_with_none}
 
 -- Where no task has a name, none is replaced,
 pub put-nobody : (name : TaskName) (new : Task ℕ) (tasks : Tasks)

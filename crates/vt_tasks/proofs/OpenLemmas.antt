@@ -1,20 +1,13 @@
 -- Open files in the order of their numbers.
-use Rattle.std.proofs.Common.{◌≡◌, ◌≢◌, ℕ, ◌+◌, ◌≤◌, ◌<◌, Bool, true, false, cond, List, [], ◌∷◌, ◌++◌, map, filter, length, not, nat_eq, nat_lt, Some, None, option_map, refl, sym, ap, ◌∙◌, true≢false, arith, lt-ltb, le-ltb, eq-eqb, ne_eqb}
-use Rattle.std.specs.Prelude.{find, nat_le, insert, remove, slice_get, suc, zero, if◌then◌else◌, ◌-◌}
-use Rattle.std.specs.Option.{option_map_or}
+use Rattle.std.proofs.Common.{◌≡◌, ◌≢◌, ℕ, ◌+◌, ◌≤◌, ◌<◌, Bool, true, false, cond, List, [], ◌∷◌, ◌++◌, map, filter, length, not, nat_eq, nat_lt, Some, None, option_map, refl, sym, ap, ◌∙◌, true≢false, arith, lt-ltb, le-ltb, eq-eqb, ne_eqb, find, nat_le, insert, remove, slice_get, suc, zero, if◌then◌else◌, ◌-◌, eqb-true, leb-true, le-leb}
+use Rattle.vt_spec.proofs.Common.{Descriptor, and_from, and_true_left, and_true_right, eqb-false, free_from, inserted, keys_of, lookup, opens_for_writing, option_map_or, remove_entry, values_of}
 use Rattle.indexmap.specs.IndexMap.{IndexMap, get, index_before, insert_entry, insert_index, move_index}
 use Rattle.indexmap.proofs.CallerLemmas.{insert_entry-new}
 use Rattle.indexmap.proofs.MapLemmas.{absent_from_lookup, or_len-absent}
-use Rattle.std.proofs.lemmas.Bool.{eqb-true, eqb-false, leb-true, le-leb, and_from}
-use Rattle.std.specs.Map.{keys_of, lookup, remove_entry, values_of}
-use Rattle.vt_spec.specs.Language.Calls.{opens_for_writing}
-use Rattle.vt_spec.specs.Machine.Descriptors.{free_from, inserted}
-use Rattle.vt_spec.specs.Machine.World.{Descriptor}
 use Rattle.vt_tasks.specs.declared.descriptors.OpenFile.{OpenFile}
 use Rattle.vt_location.specs.Locations.{location_of}
 use Rattle.vt_request.specs.Requests.{access_of}
 use Rattle.vt_tasks.specs.Open.{are_ascending, descriptor_of, numbered}
-use Rattle.vt_spec.proofs.Truths.{and_true_left, and_true_right}
 
 abbrev pub opened : List (ℕ × OpenFile) → List (Descriptor ℕ)
 opened es = map descriptor_of es

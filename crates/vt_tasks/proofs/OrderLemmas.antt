@@ -1,12 +1,6 @@
 -- Descriptors stay in the order of their numbers.
-use Rattle.std.proofs.Common.{◌≡◌, ◌≢◌, ◌≤◌, ℕ, ◌+◌, Bool, true, false, cond, List, [], ◌∷◌, nat_eq, nat_lt, refl, sym, ap, ◌∙◌, true≢false, arith, lt-ltb, le-ltb}
-use Rattle.std.specs.Prelude.{nat_le}
-use Rattle.std.proofs.lemmas.Bool.{eqb-true, eqb-false, leb-true, le-leb, and_from}
-use Rattle.vt_spec.specs.Machine.Descriptors.{free_from, inserted}
-use Rattle.vt_spec.specs.Machine.World.{Descriptor}
-use Rattle.vt_spec.specs.Machine.Invariants.{are_ascending_from}
-use Rattle.vt_spec.proofs.Descriptors.{free_above}
-use Rattle.vt_spec.proofs.Truths.{and_true_left, and_true_right}
+use Rattle.std.proofs.Common.{◌≡◌, ◌≢◌, ◌≤◌, ℕ, ◌+◌, Bool, true, false, cond, List, [], ◌∷◌, nat_eq, nat_lt, refl, sym, ap, ◌∙◌, true≢false, arith, lt-ltb, le-ltb, nat_le, eqb-true, leb-true, le-leb}
+use Rattle.vt_spec.proofs.Common.{Descriptor, and_from, and_true_left, and_true_right, are_ascending_from, eqb-false, free_above, free_from, inserted}
 
 least_of_rising : (least : ℕ) (d : Descriptor ℕ) (ds : List (Descriptor ℕ)) → are_ascending_from least (d ∷ ds) ≡ true
     → least ≤ d.number

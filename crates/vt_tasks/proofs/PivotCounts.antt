@@ -1,12 +1,9 @@
 -- How often tasks use locations and namespaces, where a pivot moves them.
 use Rattle.std.proofs.Common.{◌≡◌, ℕ, ◌+◌, Bool, true, false, cond, [], ◌∷◌, if◌then◌else◌, map, nat_eq, refl, sym, ap, ◌∙◌, arith}
-use Rattle.vt_spec.specs.Machine.Mounts.{Location, Mount, root_of, same_location}
-use Rattle.vt_spec.specs.Machine.Namespaces.{pivoted_location, pivoted_task}
-use Rattle.vt_spec.specs.Machine.World.{Task}
+use Rattle.vt_spec.proofs.Common.{Location, Mount, Task, pivoted_location, pivoted_task, root_of, same_location, same_location_is}
 use Rattle.vt_tasks.proofs.LocationLemmas.{files, total, uses-total, weight}
 use Rattle.vt_tasks.specs.Counts.{PivotedTasks, PivotedUses, all_places_at, one_if, places_at}
 use Rattle.vt_tasks.specs.TasksValue.{Tasks}
-use Rattle.vt_spec.proofs.Worlds.{same_location_is}
 
 -- so many, where a test passes
 abbrev if_so : Bool → ℕ → ℕ

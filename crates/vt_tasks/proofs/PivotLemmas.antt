@@ -1,15 +1,9 @@
 -- Each task changes, one after another.
-use Rattle.std.proofs.Common.{◌≡◌, ◌&&◌, ℕ, ◌+◌, Bool, true, false, cond, List, [], ◌∷◌, length, map, nat_eq, Some, refl, sym, ap, subst, ◌∙◌, add-one}
-use Rattle.std.specs.Prelude.{nat_lt, slice_get, suc, zero}
-use Rattle.std.specs.List.{IsDistinct, list_all}
-use Rattle.std.specs.Map.{keys_of, values_of}
+use Rattle.std.proofs.Common.{◌≡◌, ◌&&◌, ℕ, ◌+◌, Bool, true, false, cond, List, [], ◌∷◌, length, map, nat_eq, Some, refl, sym, ap, subst, ◌∙◌, add-one, nat_lt, slice_get, suc, zero}
+use Rattle.vt_spec.proofs.Common.{Mount, Task, keys_of, list_all, pair-map, pivoted_location, pivoted_task, same_name, values_of}
+use Rattle.std.specs.List.{IsDistinct}
 use Rattle.indexmap.specs.IndexMap.{set_value_at}
 use Rattle.std.specs.declared.vec.Vec.{Vec}
-use Rattle.vt_spec.proofs.Lists.{pair-map}
-use Rattle.vt_spec.specs.Language.Calls.{same_name}
-use Rattle.vt_spec.specs.Machine.Mounts.{Mount}
-use Rattle.vt_spec.specs.Machine.Namespaces.{pivoted_location, pivoted_task}
-use Rattle.vt_spec.specs.Machine.World.{Task}
 use Rattle.vt_tasks.specs.declared.task.Task.{Task as Held}
 use Rattle.vt_tasks.specs.TaskValue.{task_of}
 use Rattle.vt_tasks.proofs.BirthOrder.{ordered-same}

@@ -1,19 +1,15 @@
 -- How many roots and working directories of tasks are at a location, in whatever order the tasks are kept.
-use Rattle.std.proofs.Common.{◌≡◌, ◌<◌, ◌≤◌, ℕ, ◌+◌, Bool, true, false, cond, List, [], ◌∷◌, get_or, length, map, nat_eq, refl, sym, ap, take, ◌∙◌, arith}
+use Rattle.std.proofs.Common.{◌≡◌, ◌<◌, ◌≤◌, ℕ, ◌+◌, Bool, true, false, cond, List, [], ◌∷◌, get_or, length, map, nat_eq, refl, sym, ap, take, ◌∙◌, arith, sum_by}
+use Rattle.vt_spec.proofs.Common.{Location, Task, nat_eq_turned, same_location, sum_by-IsPermutation, sum_by-cons}
 use Rattle.std.specs.Int.{from_bool}
-use Rattle.std.specs.Prelude.{sum_by}
 use Rattle.std.specs.List.{IsDistinct}
 use Rattle.std.specs.declared.vec.Vec.{Vec}
-use Rattle.std.proofs.lemmas.List.Sorted.{sum_by-IsPermutation}
-use Rattle.std.proofs.lemmas.List.Sums.{sum_by-cons, sum_by_more}
+use Rattle.std.proofs.lemmas.List.Sums.{sum_by_more}
 use Rattle.vt_location.specs.declared.locations.Location.{Location as At}
 use Rattle.vt_location.specs.declared.numbers.NamespaceId.{NamespaceId}
 use Rattle.vt_location.specs.Locations.{location_of}
 use Rattle.vt_location.specs.Numbers.{counted}
 use Rattle.vt_location.proofs.NumberLemmas.{counted_test}
-use Rattle.vt_spec.proofs.Truths.{nat_eq_turned}
-use Rattle.vt_spec.specs.Machine.Mounts.{Location, same_location}
-use Rattle.vt_spec.specs.Machine.World.{Task}
 use Rattle.vt_tasks.specs.Counts.{all_places_at, one_if, places_at}
 use Rattle.vt_tasks.specs.declared.task.Task.{Task as Held}
 use Rattle.vt_tasks.specs.TaskValue.{task_of}

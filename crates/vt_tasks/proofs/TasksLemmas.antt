@@ -1,19 +1,8 @@
 -- Tasks as the map keeps them, each under its name, and as contracts see them.
-use Rattle.std.proofs.Common.{Bor, MutBor, Result, Ok, Err, IfOk, IfErr, OnOk, OnErr, if◌then◌else◌, ◌≡◌, ℕ, ◌+◌, ◌≤◌, Bool, true, false, cond, List, [], ◌∷◌, ◌++◌, not, map, nat_eq, Option, Some, None, option_map, refl, sym, ap, ◌∙◌, true≢false, subst}
-use Rattle.std.specs.Prelude.{IsSomeAnd, is_some, option_copied}
-use Rattle.std.specs.Option.{option_copied_mut}
+use Rattle.std.proofs.Common.{Bor, MutBor, Result, Ok, Err, IfOk, IfErr, OnOk, OnErr, if◌then◌else◌, ◌≡◌, ℕ, ◌+◌, ◌≤◌, Bool, true, false, cond, List, [], ◌∷◌, ◌++◌, not, map, nat_eq, Option, Some, None, option_map, refl, sym, ap, ◌∙◌, true≢false, subst, IsSomeAnd, is_some, option_copied}
+use Rattle.vt_spec.proofs.Common.{AllByRecursion, Credentials, Descriptor, IsDistinct-head, IsDistinct-tail, Task, TaskName, all-filter, are_ascending_from, child_name, child_of, free_from, inserted, keys_of, list_all, lookup, nat_list_eq_equiv, option_copied_mut, pointwise, remove_entry, replaced_if_called, same_name, same_task_name, set_value}
 use Rattle.std.specs.declared.vec.Vec.{Vec}
-use Rattle.std.specs.Cmp.Lexicographic.{pointwise}
-use Rattle.std.proofs.lemmas.Cmp.{nat_list_eq_equiv}
-use Rattle.std.specs.List.{AllByRecursion, IsDistinct, list_all}
-use Rattle.std.proofs.lemmas.Map.Keys.{IsDistinct-head, IsDistinct-tail}
-use Rattle.std.specs.Map.{keys_of, lookup, remove_entry, set_value}
-use Rattle.vt_spec.specs.Language.Calls.{TaskName, same_name}
-use Rattle.vt_spec.specs.Machine.Descriptors.{free_from, inserted}
-use Rattle.vt_spec.specs.Machine.Tasks.{child_name, child_of}
-use Rattle.vt_spec.specs.Machine.World.{Descriptor, Task, replaced_if_called}
-use Rattle.vt_spec.specs.Machine.Invariants.{are_ascending_from}
-use Rattle.vt_spec.specs.Rights.{Credentials}
+use Rattle.std.specs.List.{IsDistinct}
 use Rattle.vt_tasks.proofs.GivenOnce.{all-behind, all-called, all-replaced, apart-forked, apart-replaced, apart-without, given-changed, given-forked, given-without, name-of-called, other-child}
 use Rattle.vt_tasks.proofs.OrderLemmas.{rising-inserted}
 use Rattle.vt_tasks.specs.declared.descriptors.OpenFile.{OpenFile}
@@ -21,8 +10,6 @@ use Rattle.vt_tasks.specs.declared.task.Task.{Task as Held}
 use Rattle.vt_tasks.specs.Open.{numbered}
 use Rattle.vt_tasks.specs.TaskValue.{task_of}
 use Rattle.vt_tasks.specs.TasksValue.{AreFit, AreKeyed, AreNamedApart, Tasks, are_given_once, called, changed_by, changed_called, forked, forked_by, forked_once, has_files_in_order, replaced, tasks_of, with_child_behind, without_called}
-use Rattle.vt_spec.proofs.Lists.{all-filter}
-use Rattle.vt_spec.proofs.Worlds.{same_task_name}
 
 -- the tasks with this one in the place of the one of a name
 abbrev pub put_if : TaskName → Task ℕ → Task ℕ → Task ℕ

@@ -1,13 +1,8 @@
 -- When a text is too long to be walked.
-use Rattle.std.proofs.Common.{◌≡◌, ◌≢◌, ◌≤◌, ◌<◌, ◌+◌, ◌||◌, ℕ, Bool, true, false, not, List, [], ◌∷◌, ◌++◌, length, filter, get_or, take, drop, inl, inr, refl, sym, ap, ◌∙◌, subst, ⊎_elim, arith, length-take, take-append-drop, get_or-take}
-use Rattle.std.specs.Prelude.{nat_lt}
-use Rattle.std.specs.List.{list_any, All}
-use Rattle.std.proofs.lemmas.Bool.{le-ltb, lt-ltb, ltb-true, ne_eqb, or_cases}
-use Rattle.std.proofs.lemmas.List.Elements.{All-weaker, All-head, All-tail, All-from_get_or}
-use Rattle.std.proofs.lemmas.List.{drop_more, length-append}
-use Rattle.std.proofs.lemmas.List.Folds.{Any-from_list_any, list_any_none, list_any-append}
-use Rattle.vt_spec.specs.PathText.{words, parts, with_byte, is_empty}
-use Rattle.vt_spec.specs.Language.Limits.{longest_path, longest_name}
+use Rattle.std.proofs.Common.{◌≡◌, ◌≢◌, ◌≤◌, ◌<◌, ◌+◌, ◌||◌, ℕ, Bool, true, false, not, List, [], ◌∷◌, ◌++◌, length, filter, get_or, take, drop, inl, inr, refl, sym, ap, ◌∙◌, subst, ⊎_elim, arith, length-take, take-append-drop, get_or-take, nat_lt, All, le-ltb, lt-ltb, ltb-true, ne_eqb, length-append}
+use Rattle.vt_spec.proofs.Common.{All-head, All-tail, All-weaker, drop_more, is_empty, list_any, list_any-append, longest_name, longest_path, or_cases, parts, with_byte, words}
+use Rattle.std.proofs.lemmas.List.Elements.{All-from_get_or}
+use Rattle.std.proofs.lemmas.List.Folds.{Any-from_list_any, list_any_none}
 use Rattle.vt_text.proofs.PathWords.{words_between_within, words_between-append, parts_some}
 use Rattle.vt_text.specs.Walkable.{IsTooLong, IsWalkable}
 

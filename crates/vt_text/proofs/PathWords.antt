@@ -1,11 +1,8 @@
 -- What the words between separators are, read from the left and from the right. Those of a path are `words_between 47`.
-use Rattle.std.proofs.Common.{◌≡◌, ◌≢◌, ℕ, ◌+◌, ◌-◌, ◌<◌, ◌≤◌, Bool, true, false, not, suc, zero, ◌==◌, List, [], ◌∷◌, ◌++◌, length, filter, get_or, take, drop, refl, sym, ap, ◌∙◌, subst, ⊎_elim, arith, length-drop, length-take, take-append-drop, get_or-take, get_or-drop}
-use Rattle.std.specs.List.{All}
-use Rattle.std.proofs.lemmas.Bool.{eq-eqb, ne_eqb, cases_lt}
-use Rattle.std.proofs.lemmas.List.{append-nil, drop_more, take_more, take_all, drop_all}
-use Rattle.std.proofs.lemmas.List.Elements.{All-nil, All-cons, All-head, All-tail, All-weaker, All-filter, All-from_get_or, filter-append}
-use Rattle.vt_spec.specs.Lists.{is_empty_list}
-use Rattle.vt_spec.specs.PathText.{with_byte, parts, is_empty, words_between, ends_in_slash}
+use Rattle.std.proofs.Common.{◌≡◌, ◌≢◌, ℕ, ◌+◌, ◌-◌, ◌<◌, ◌≤◌, Bool, true, false, not, suc, zero, ◌==◌, List, [], ◌∷◌, ◌++◌, length, filter, get_or, take, drop, refl, sym, ap, ◌∙◌, subst, ⊎_elim, arith, length-drop, length-take, take-append-drop, get_or-take, get_or-drop, All, eq-eqb, ne_eqb, append-nil, take_all}
+use Rattle.vt_spec.proofs.Common.{All-cons, All-filter, All-head, All-nil, All-tail, All-weaker, cases_lt, drop_all, drop_more, ends_in_slash, filter-append, is_empty, is_empty_list, parts, take_more, with_byte}
+use Rattle.std.proofs.lemmas.List.Elements.{All-from_get_or}
+use Rattle.vt_spec.specs.PathText.{words_between}
 
 with_byte_some : (b : Bool) (byte : ℕ) (ps : List (List ℕ)) → with_byte b byte ps ≢ []
 with_byte_some true byte ps e = cc

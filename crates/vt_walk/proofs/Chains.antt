@@ -1,6 +1,6 @@
 -- The end of a chain of steps.
 use Rattle.std.proofs.Common.{◌≡◌, ◌<◌, ◌+◌, ◌-◌, ℕ, zero, suc, Option, None, Some, ◌∷◌, [], refl, sym, ap, ◌∙◌, arith}
-use Rattle.vt_spec.specs.Lists.{chain, last_or}
+use Rattle.vt_spec.proofs.Common.{chain, last_or}
 
 module _ {A : Type 0} (next : A → Option A) where
   -- a chain begins with its start

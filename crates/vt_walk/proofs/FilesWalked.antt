@@ -1,21 +1,17 @@
 -- The turns of a file walk, each the walk of a path or of a final link's text.
 use Rattle.std.proofs.Common.{nat_eq, true, not, is_some, ◌&&◌, [], ◌∷◌, refl, ◌≡◌, ℕ, suc, ◌+◌, ◌-◌, ◌<◌, ◌≤◌, Bool, false, List, None, Some, Result, Ok, Err, sym, ap, ◌∙◌, arith, reverse, ◌||◌}
+use Rattle.vt_spec.proofs.Common.{Here, LastWord, Looks, Place, Task, and_then, denial, ends_in_slash, file_walk, final_word, follow_rules, rest_of, stopped_by, symlink_of, symlink_there, then_walk, unless, unless-refused, walk_end, walk_start, walk_unless, words}
 use Rattle.vt_spec.specs.Machine.Walking
-use Rattle.vt_spec.specs.Machine.Walking.{file_walk, new_name_rules, stopped_by, then_walk, walk_end, walk_unless, Here, LastWord, Place, final_word, follow_rules, symlink_of, symlink_there, walk_start}
+use Rattle.vt_spec.specs.Machine.Walking.{new_name_rules}
 use Rattle.vt_walk.specs.PlainWalks.{entered, file_or_symlink, file_walked, prefix_walked, placed, symlink_start}
 use Rattle.vt_spec.specs.declared.errors.Deny.{Deny}
 use Rattle.vt_spec.specs.declared.errors.Rule.TheVariants.{W7, W8}
-use Rattle.vt_spec.specs.Errors.{and_then, denial, unless}
-use Rattle.vt_spec.specs.Lists.{rest_of}
-use Rattle.vt_spec.specs.PathText.{ends_in_slash, words}
-use Rattle.vt_spec.specs.Machine.World.{Task}
-use Rattle.vt_spec.specs.Machine.Looks.{Looks}
 use Rattle.vt_walk.proofs.RefusalLemmas.{unless-answer}
 use Rattle.vt_walk.proofs.Trails.{file-plain, place-checked}
 use Rattle.vt_walk.proofs.WalksOfPaths.{prefix_walked-split, parsed-walkable, walked_from}
 use Rattle.vt_text.specs.Walkable.{IsWalkable}
 use Rattle.vt_walk.specs.WalkValue.{place_end}
-use Rattle.vt_spec.proofs.Refusals.{unless-passed, unless-refused}
+use Rattle.vt_spec.proofs.Refusals.{unless-passed}
 
 module _ (looks : Looks ℕ) (task : Task ℕ) where
   -- what is done at a place: a link there is followed

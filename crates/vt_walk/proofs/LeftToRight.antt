@@ -1,14 +1,8 @@
 -- A walk from left to right is the walk by recursion on the front of its words.
-use Rattle.std.proofs.Common.{◌≡◌, ℕ, List, None, Some, [], ◌∷◌, ◌++◌, reverse, Result, Ok, Err, sym, ap, ◌∙◌, append_assoc}
-use Rattle.std.proofs.lemmas.List.{append-nil, reverse-append}
-use Rattle.vt_spec.specs.Machine.Walking.{Here, LastWord, last_word}
+use Rattle.std.proofs.Common.{◌≡◌, ℕ, List, None, Some, [], ◌∷◌, ◌++◌, reverse, Result, Ok, Err, sym, ap, ◌∙◌, append_assoc, append-nil}
+use Rattle.vt_spec.proofs.Common.{Here, LastWord, Location, Looks, Task, and_then, last_word, reverse-append, symlink_text}
 use Rattle.vt_walk.specs.PlainWalks.{Follow, if_symlink, standing, word_led, word_walked, words_walked}
 use Rattle.vt_spec.specs.declared.errors.Deny.{Deny}
-use Rattle.vt_spec.specs.Errors.{and_then}
-use Rattle.vt_spec.specs.FileTree.{symlink_text}
-use Rattle.vt_spec.specs.Machine.Mounts.{Location}
-use Rattle.vt_spec.specs.Machine.World.{Task}
-use Rattle.vt_spec.specs.Machine.Looks.{Looks}
 use Rattle.vt_walk.proofs.RefusalLemmas.{and_then-ok, and_then-and_then}
 
 -- a word walked, and then the link that it may lead to

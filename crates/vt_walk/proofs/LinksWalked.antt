@@ -1,18 +1,13 @@
 -- A link followed, or refused.
-use Rattle.std.proofs.Common.{nat_eq, Bool, true, false, ◌≡◌, ◌≢◌, ◌+◌, ◌-◌, ◌<◌, ℕ, zero, suc, List, ◌∷◌, reverse, Result, Ok, Err, refl, sym, ap, ◌∙◌, arith}
-use Rattle.std.specs.Prelude.{◌==◌}
-use Rattle.vt_spec.specs.Machine.Walking.{Here, follow_rules, slash_rules}
+use Rattle.std.proofs.Common.{nat_eq, Bool, true, false, ◌≡◌, ◌≢◌, ◌+◌, ◌-◌, ◌<◌, ℕ, zero, suc, List, ◌∷◌, reverse, Result, Ok, Err, refl, sym, ap, ◌∙◌, arith, ◌==◌}
+use Rattle.vt_spec.proofs.Common.{Here, Location, Looks, Rules, Task, and_then, follow_rules, slash_rules, unless, unless-refused, words}
 use Rattle.vt_walk.specs.PlainWalks.{symlink_start, symlink_walked, words_walked}
 use Rattle.vt_spec.specs.declared.errors.Deny.{Deny}
 use Rattle.vt_spec.specs.declared.errors.Rule.TheVariants.{W7, W9}
-use Rattle.vt_spec.specs.Errors.{Rules, and_then, unless}
-use Rattle.vt_spec.specs.PathText.{words}
-use Rattle.vt_spec.specs.Machine.Mounts.{Location}
-use Rattle.vt_spec.specs.Machine.World.{Task}
-use Rattle.vt_spec.specs.Machine.Looks.{Looks, mount_at}
+use Rattle.vt_spec.specs.Machine.Looks.{mount_at}
 use Rattle.vt_walk.proofs.RefusalLemmas.{and_then-and_then, unless-and_then, unless-answer}
 use Rattle.vt_walk.specs.PendingTexts.{links_within}
-use Rattle.vt_spec.proofs.Refusals.{unless-passed, unless-refused}
+use Rattle.vt_spec.proofs.Refusals.{unless-passed}
 
 -- a link that may be followed is one of those that are left
 some-left : (nosymfollow : Bool) (left : ℕ) (rows : Rules) (start next : Here ℕ)

@@ -1,20 +1,12 @@
 -- Mounts of one count, and the text of a symlink by what is lent for it.
-use Rattle.std.proofs.Common.{◌≡◌, ℕ, false, None, Some, nat_eq, not, refl, sym, ap, ◌∙◌}
-use Rattle.std.proofs.lemmas.Bool.{eqb-true, not-false}
-use Rattle.std.specs.Prelude.{Option}
-use Rattle.vt_spec.specs.Machine.Looks.{Looks}
+use Rattle.std.proofs.Common.{◌≡◌, ℕ, false, None, Some, nat_eq, not, refl, sym, ap, ◌∙◌, eqb-true, Option}
+use Rattle.vt_spec.proofs.Common.{Location, Looks, Node, is_kind, not-false, same_Some, symlink_text, when}
 use Rattle.vt_location.specs.declared.locations.Location.{Location as CodeLocation}
 use Rattle.vt_location.specs.Locations.{location_of}
 use Rattle.vt_walk.specs.WalkValue.{IsLent, IsNodeAt}
-use Rattle.vt_spec.specs.Machine.Mounts.{Location}
-use Rattle.vt_spec.specs.FileTree.{symlink_text}
-use Rattle.vt_spec.specs.Tree.{Node}
 use Rattle.vt_location.specs.declared.numbers.MountId.{MountId}
 use Rattle.vt_looks.specs.Looking.{front, front_of}
-use Rattle.vt_spec.specs.FileTree.{is_kind}
-use Rattle.vt_spec.specs.Lists.{when}
 use Rattle.vt_spec.specs.declared.attributes.Kind.TheVariants.{Symlink as SymlinkKind}
-use Rattle.std.proofs.lemmas.Option.{same_Some}
 
 -- mounts of one count are one
 pub same-mount : (a b : MountId) → not (nat_eq a.count b.count) ≡ false → a ≡ b

@@ -1,20 +1,13 @@
 -- A walk with texts pending: its top is walked as far as a link, whose text then stands above what is left.
 use Rattle.std.proofs.Common.{nat_eq, ◌≡◌, ◌≢◌, ℕ, ◌-◌, ◌<◌, List, [], ◌∷◌, ◌++◌, Option, Result, Ok, Err, refl, sym, ap, ◌∙◌, arith, length, reverse}
-use Rattle.std.proofs.lemmas.List.{length-reverse, reverse-append}
-use Rattle.vt_spec.specs.Machine.Walking.{Here, follow_rules, slash_rules}
+use Rattle.vt_spec.proofs.Common.{Here, Location, Looks, Task, and_then, follow_rules, length-reverse, reverse-append, slash_rules, unless, unless-let_through, words}
 use Rattle.vt_walk.specs.PlainWalks.{Follow, symlink_start, symlink_walked, words_walked}
 use Rattle.vt_spec.specs.declared.errors.Deny.{Deny}
-use Rattle.vt_spec.specs.Errors.{and_then, unless}
-use Rattle.vt_spec.specs.PathText.{words}
-use Rattle.vt_spec.specs.Machine.Mounts.{Location}
-use Rattle.vt_spec.specs.Machine.World.{Task}
-use Rattle.vt_spec.specs.Machine.Looks.{Looks}
 use Rattle.vt_walk.proofs.LinksWalked.{begun-walked, follow-refused}
 use Rattle.vt_walk.proofs.RefusalLemmas.{and_then-and_then, and_then-ok, unless-stopped}
 use Rattle.vt_walk.specs.declared.steps.LinkMet.{LinkMet}
 use Rattle.vt_walk.specs.declared.steps.Pending.{Pending}
 use Rattle.vt_walk.specs.PendingTexts.{link_passed, links_within, texts_walked}
-use Rattle.vt_spec.proofs.Refusals.{unless-let_through}
 
 reverse-push : {X : Type 0} (texts others : List X) (top : X) → texts ≡ others ++ top ∷ []
     → reverse texts ≡ top ∷ reverse others

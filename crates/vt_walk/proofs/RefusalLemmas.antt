@@ -1,8 +1,7 @@
 -- Rules that refuse, and answers that go on.
 use Rattle.std.proofs.Common.{◌≡◌, true, false, [], ◌∷◌, Result, Ok, Err, refl, sym}
+use Rattle.vt_spec.proofs.Common.{Rules, and_then, unless, unless-refused}
 use Rattle.vt_spec.specs.declared.errors.Deny.{Deny}
-use Rattle.vt_spec.specs.Errors.{Rules, unless, and_then}
-use Rattle.vt_spec.proofs.Refusals.{unless-refused}
 
 pub and_then-ok : {A : Type 0} (r : Result A Deny) → and_then r (λ a. Ok a) ≡ r
 and_then-ok (Ok a) = refl

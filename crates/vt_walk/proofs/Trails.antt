@@ -1,15 +1,8 @@
 -- The walks of the definitions, without what they meet on the way, are the plain ones.
 use Rattle.std.proofs.Common.{◌≡◌, ℕ, zero, suc, nat_eq, List, [], ◌∷◌, Bool, true, false, Option, None, Some, Result, Ok, Err, refl, sym, ap, ◌∙◌, reverse, ◌||◌}
+use Rattle.vt_spec.proofs.Common.{Dot, DotDot, Here, LastWord, Location, Looks, Named, NoWord, Place, Rules, Stop, Task, and_then, ends_in_slash, final_word, follow_rules, last_word, object_named, search_rules, slash_rules, stepped, stopped_by, symlink_of, symlink_text, symlink_there, then_walk, unless, walk_end, walk_unless, words}
 use Rattle.vt_spec.specs.declared.errors.Deny.{Deny}
-use Rattle.vt_spec.specs.Errors.{Rules, and_then, unless}
-use Rattle.vt_spec.specs.FileTree.{symlink_text}
-use Rattle.vt_spec.specs.Machine.Looks.{Looks}
-use Rattle.vt_spec.specs.Machine.Mounts.{Location}
 use Rattle.vt_spec.specs.Machine.Walking
-use Rattle.vt_spec.specs.Machine.Walking.{Here, LastWord, Place, Stop, final_word, follow_rules, last_word, object_named, search_rules, slash_rules, stepped, stopped_by, symlink_of, symlink_there, then_walk, walk_end, walk_unless}
-use Rattle.vt_spec.specs.Machine.Walking.LastWord.{Dot, DotDot, Named, NoWord}
-use Rattle.vt_spec.specs.Machine.World.{Task}
-use Rattle.vt_spec.specs.PathText.{ends_in_slash, words}
 use Rattle.vt_walk.proofs.RefusalLemmas.{unless-and_then}
 use Rattle.vt_walk.specs.PlainWalks.{Follow, file_or_symlink, file_walked, followed, prefix_walked, if_symlink, last_walked, placed, standing, symlink_start, symlink_walked, word_walked, words_walked}
 use Rattle.vt_walk.specs.WalkValue.{location_end, place_end, without_steps}

@@ -1,9 +1,7 @@
 -- What callers make of where walks end.
 use Rattle.std.proofs.Common.{◌≡◌, ℕ, Result, Ok, Err, refl, ap, ◌∙◌}
+use Rattle.vt_spec.proofs.Common.{Here, Location, Place, Stop, and_then, then_walk, walk_end}
 use Rattle.vt_spec.specs.declared.errors.Deny.{Deny}
-use Rattle.vt_spec.specs.Errors.{and_then}
-use Rattle.vt_spec.specs.Machine.Mounts.{Location}
-use Rattle.vt_spec.specs.Machine.Walking.{Here, Place, Stop, then_walk, walk_end}
 use Rattle.vt_location.specs.declared.locations.Location.{Location as CodeLocation}
 use Rattle.vt_location.specs.Locations.{location_of}
 use Rattle.vt_looks.specs.declared.places.Place.{Place as CodePlace}

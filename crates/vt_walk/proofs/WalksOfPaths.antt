@@ -1,26 +1,17 @@
 -- What each walk is, once its path is parsed and its words are walked.
-use Rattle.std.proofs.Common.{◌≡◌, ℕ, nat_eq, Bool, true, false, List, [], ◌∷◌, Option, Result, Ok, Err, refl, sym, ap, ◌∙◌, length, reverse, ◌||◌}
-use Rattle.std.specs.Prelude.{nat_lt, not}
-use Rattle.std.specs.List.{list_any}
+use Rattle.std.proofs.Common.{◌≡◌, ℕ, nat_eq, Bool, true, false, List, [], ◌∷◌, Option, Result, Ok, Err, refl, sym, ap, ◌∙◌, length, reverse, ◌||◌, nat_lt, not}
+use Rattle.vt_spec.proofs.Common.{Dot, DotDot, Here, LastWord, Location, Looks, Named, NoWord, Place, Task, and_then, denial, directory_walk, ends_in_slash, final_word, is_empty, is_no_word, list_any, longest_name, longest_path, object_named, object_walk, parsed_path, place_walk, rest_of, search_rules, slash_rules, stopped_by, symlink_walk, symlink_walk_by, then_walk, unless, unless-let_through, walk_end, walk_start, words}
 use Rattle.vt_spec.specs.declared.errors.Deny.{Deny}
 use Rattle.vt_spec.specs.declared.errors.Rule.TheVariants.{W3}
-use Rattle.vt_spec.specs.Errors.{and_then, denial, unless}
-use Rattle.vt_spec.specs.Lists.{rest_of}
-use Rattle.vt_spec.specs.Machine.Looks.{Looks, is_directory_at}
-use Rattle.vt_spec.specs.Machine.Mounts.{Location}
+use Rattle.vt_spec.specs.Machine.Looks.{is_directory_at}
 use Rattle.vt_spec.specs.Machine.Walking
-use Rattle.vt_spec.specs.Machine.Walking.{Here, LastWord, Place, directory_walk, final_word, is_no_word, object_named, object_walk, path_walked, place_walk, search_rules, slash_rules, stopped_by, symlink_walk, symlink_walk_by, then_walk, walk_end, walk_start}
-use Rattle.vt_spec.specs.Machine.Walking.LastWord.{Dot, DotDot, Named, NoWord}
-use Rattle.vt_spec.specs.Machine.World.{Task}
-use Rattle.vt_spec.specs.PathText.{ends_in_slash, is_empty, parsed_path, words}
-use Rattle.vt_spec.specs.Language.Limits.{longest_name, longest_path}
+use Rattle.vt_spec.specs.Machine.Walking.{path_walked}
 use Rattle.vt_text.proofs.Limits.{IsTooLong-from_test, not_walkable}
 use Rattle.vt_text.specs.Walkable.{IsWalkable}
 use Rattle.vt_walk.proofs.RefusalLemmas.{unless-stopped}
 use Rattle.vt_walk.proofs.Trails.{all-plain, front-plain, last-of-plain, location-checked, location-plain, placed-of-plain}
 use Rattle.vt_walk.specs.PlainWalks.{followed, prefix_walked, last_walked, placed, words_walked}
 use Rattle.vt_walk.specs.WalkValue.{location_end, place_end}
-use Rattle.vt_spec.proofs.Refusals.{unless-let_through}
 
 is_empty-false : (text : List ℕ) → (text ≡ [] → ⊥) → is_empty text ≡ false
 is_empty-false [] some = absurd (some refl)

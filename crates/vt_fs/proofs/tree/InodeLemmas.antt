@@ -1,14 +1,8 @@
 -- Changes of slots, as changes of the inodes.
-use Rattle.std.proofs.Common.{◌≡◌, ℕ, ◌+◌, ◌-◌, true, false, cond, List, [], Option, Some, None, nat_eq, if◌then◌else◌, refl, sym, ap, ◌∙◌, is_none, is_some, ⊎_elim, zero, suc, ◌<◌, ◌||◌, ◌∷◌, length, true≢false, arith}
-use Rattle.std.proofs.lemmas.Bool.{cases_lt}
-use Rattle.std.proofs.lemmas.Bool.Decides.{eqb_tells}
-use Rattle.std.proofs.lemmas.List.{get_or-set_same, get_or-set_other, get_or_past}
-use Rattle.std.specs.Prelude.{slice_index_or, slice_set}
+use Rattle.std.proofs.Common.{◌≡◌, ℕ, ◌+◌, ◌-◌, true, false, cond, List, [], Option, Some, None, nat_eq, if◌then◌else◌, refl, sym, ap, ◌∙◌, is_none, is_some, ⊎_elim, zero, suc, ◌<◌, ◌||◌, ◌∷◌, length, true≢false, arith, get_or-set_same, get_or-set_other, slice_index_or, slice_set}
+use Rattle.vt_spec.proofs.Common.{Inode, Inodes, Node, bytes_in, bytes_of, cases_lt, chain, count_after, eqb_tells, get_or_past, inode_with_node, is_among, new_directory, node_in, node_with_bytes, node_with_entry, one_directory, overwritten, parent_above, parent_in, pinned, unpinned, used_once_less, used_once_more, uses_in, with_bytes, with_changed}
 use Rattle.vt_spec.specs.declared.attributes.Attr.{Attr}
-use Rattle.vt_spec.specs.Machine.Descriptors.{overwritten}
-use Rattle.vt_spec.specs.Inodes.{Inode, Inodes, count_after, inode_with_node, node_in, one_directory, parent_above, pinned, unpinned, used_once_less, used_once_more, uses_in, with_changed, with_new}
-use Rattle.vt_spec.specs.Tree.{Node, bytes_in, bytes_of, new_directory, node_with_bytes, node_with_entry, parent_in, with_bytes}
-use Rattle.vt_spec.specs.Lists.{chain, is_among}
+use Rattle.vt_spec.specs.Inodes.{with_new}
 use Rattle.vt_fs.proofs.tree.SlotLemmas.{slots_len-with_node_at}
 use Rattle.vt_fs.specs.Trees.Slots.{Slots, goes, node_at, with_node_at, inodes_in, put_at, slot_at, slots_len}
 

@@ -1,18 +1,7 @@
 -- A new entry before the old one goes, or after: the tree is the same.
-use Rattle.std.proofs.Common.{◌≡◌, ◌≢◌, ℕ, Bool, true, false, cond, not, List, Option, Some, None, nat_eq, eq-eqb, eqb-true, ne_eqb, refl, sym, ap, subst, ◌∙◌, ⊎_elim, true≢false, is_some}
-use Rattle.std.proofs.lemmas.Bool.Decides.{eqb_tells}
-use Rattle.std.proofs.lemmas.Float.{T_from_true}
-use Rattle.std.specs.Str.{bytes_eq}
-use Rattle.std.specs.Cmp.Lexicographic.{bytes_decides, nat_list_cmp_total}
-use Rattle.std.specs.FinMap.Entries.{is_sorted, is_sorted-put, is_sorted-where_key, same_entries}
-use Rattle.std.specs.Ordering.{eq_by_cmp, is_eq}
-use Rattle.vt_spec.specs.Language.Changes.{node_with_parent, node_without_entry, without_entry}
-use Rattle.vt_spec.specs.Fits.{MayReplace}
-use Rattle.vt_spec.specs.Inodes.{Inode, Inodes, inode_with_node, node_in, tree_of, with_changed}
-use Rattle.vt_spec.specs.TreeInvariant.{entry_at}
-use Rattle.vt_spec.specs.Tree.{Content, Entries, Node, Tree, entries_in, entries_of, entry_named, name_cmp, node_with_entry, with_entries, with_entry}
-use Rattle.vt_spec.specs.Tree.Content.{Directory, Regular, Symlink, Whiteout}
-use Rattle.vt_spec.proofs.Nodes.{entry_named-with_entry, same_name, entry_named-without_entry}
+use Rattle.std.proofs.Common.{◌≡◌, ◌≢◌, ℕ, Bool, true, false, cond, not, List, Option, Some, None, nat_eq, eq-eqb, eqb-true, ne_eqb, refl, sym, ap, subst, ◌∙◌, ⊎_elim, true≢false, is_some, bytes_eq, is_eq}
+use Rattle.vt_spec.proofs.Common.{Content, Directory, Entries, Inode, Inodes, MayReplace, Node, Regular, Symlink, T_from_true, Tree, Whiteout, bytes_decides, entries_in, entries_of, entry_at, entry_named, entry_named-with_entry, entry_named-without_entry, eq_by_cmp, eqb_tells, inode_with_node, is_sorted, is_sorted-put, is_sorted-where_key, name_cmp, nat_list_cmp_total, node_in, node_with_entry, node_with_parent, node_without_entry, same_entries, tree_of, with_changed, with_entries, with_entry, without_entry}
+use Rattle.vt_spec.proofs.Nodes.{same_name}
 
 module _ (old new : List ℕ) (object : ℕ) (differ : old ≢ new) where
   other_name : (q : List ℕ) → q ≡ new → bytes_eq q old ≡ false

@@ -1,22 +1,7 @@
 -- How many names lead to an object, once a directory has changed.
-use Rattle.std.proofs.Common.{◌≡◌, ◌≢◌, refl, sym, ap, subst, ◌∙◌, ⊎_elim, ℕ, zero, suc, ◌+◌, ◌-◌, ◌≤◌, ◌<◌, nat_eq, Bool, true, false, true≢false, cond, not, ◌&&◌, ◌||◌, List, [], ◌∷◌, map, Option, Some, None, arith}
-use Rattle.std.proofs.lemmas.Bool.{and_parts, cases_lt}
-use Rattle.std.proofs.lemmas.Bool.Decides.{eqb_tells}
-use Rattle.std.specs.Cmp.Lexicographic.{nat_list_cmp_total, texts_ties, bytes_decides}
-use Rattle.std.specs.FinMap.Entries.{below_all, by_order, is_sorted}
-use Rattle.std.specs.Prelude.{find, is_some, option_map}
-use Rattle.std.specs.Ordering.{eq_by_cmp, is_eq, is_lt}
-use Rattle.std.specs.Str.{bytes_eq}
-use Rattle.std.specs.declared.cmp.Ordering.{Ordering}
-use Rattle.std.specs.declared.cmp.Ordering.TheVariants.{Less, Equal, Greater}
+use Rattle.std.proofs.Common.{◌≡◌, ◌≢◌, refl, sym, ap, subst, ◌∙◌, ⊎_elim, ℕ, zero, suc, ◌+◌, ◌-◌, ◌≤◌, ◌<◌, nat_eq, Bool, true, false, true≢false, cond, not, ◌&&◌, ◌||◌, List, [], ◌∷◌, map, Option, Some, None, arith, find, is_some, option_map, is_eq, is_lt, bytes_eq, Ordering, Less, Equal, Greater}
+use Rattle.vt_spec.proofs.Common.{Content, Directory, Entries, Node, Regular, Symlink, Tree, Whiteout, and_parts, below_all, by_order, bytes_decides, cases_lt, entries-node_without_entry, entries_in, entries_of, entry_named, entry_named-below, entry_named-with_entry, eq_by_cmp, eqb_tells, is_among, is_sorted, name_cmp, nat_list_cmp_total, node_with_entry, node_without_entry, targets_in, texts_ties, with_entries, with_entry, without_entry}
 use Rattle.vt_node.specs.Ranks.{has_rank, rank_among}
-use Rattle.vt_spec.specs.Language.Changes.{node_without_entry, without_entry}
-use Rattle.vt_spec.specs.FileTree.{targets_in}
-use Rattle.vt_spec.specs.Lists.{is_among}
-use Rattle.vt_spec.specs.Tree.{Content, Entries, Node, Tree, entries_in, entries_of, entry_named, name_cmp, node_with_entry, with_entries, with_entry}
-use Rattle.vt_spec.specs.Tree.Content.{Directory, Regular, Symlink, Whiteout}
-use Rattle.vt_spec.proofs.Nodes.{entry_named-with_entry}
-use Rattle.vt_spec.proofs.NodeChanges.{entries-node_without_entry, entry_named-below}
 use Rattle.vt_fs.specs.Trees.Names.{NamesAtMost, how_often, names_at, names_below}
 
 abbrev pub targets : Entries ℕ → List ℕ

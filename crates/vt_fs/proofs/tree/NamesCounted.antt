@@ -1,8 +1,7 @@
 -- The counts of names, as they are kept.
-use Rattle.std.proofs.Common.{List, [], ap, arith, cond, length, map, refl, slice_index_or, slice_set, suc, sym, zero, ⊎_elim, ℕ, ◌++◌, ◌-◌, ◌<◌, ◌∙◌, ◌∷◌, ◌≡◌, ◌≤◌}
-use Rattle.std.proofs.lemmas.Bool.{cases_lt}
-use Rattle.std.proofs.lemmas.Bool.Decides.{eqb_tells}
-use Rattle.std.proofs.lemmas.List.{get_or-map, get_or-set_other, get_or-set_same, get_or_append_left, get_or-append_right, get_or_past, length-map, map-append, map-set}
+use Rattle.std.proofs.Common.{List, [], ap, arith, cond, length, map, refl, slice_index_or, slice_set, suc, sym, zero, ⊎_elim, ℕ, ◌++◌, ◌-◌, ◌<◌, ◌∙◌, ◌∷◌, ◌≡◌, ◌≤◌, get_or-set_other, get_or-set_same}
+use Rattle.vt_spec.proofs.Common.{cases_lt, eqb_tells, get_or_past, length-map, map-append}
+use Rattle.std.proofs.lemmas.List.{get_or-map, get_or_append_left, get_or-append_right, map-set}
 use Rattle.vt_fs.specs.Trees.Names.{count_of}
 use Rattle.vt_fs.specs.Trees.Slots.{put_at}
 use Rattle.vt_fs.specs.declared.tree.names.Named.{Named}

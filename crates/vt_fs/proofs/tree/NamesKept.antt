@@ -1,14 +1,7 @@
 -- Counts of names, once a tree has changed.
-use Rattle.std.proofs.Common.{◌≡◌, ◌≢◌, refl, sym, ap, subst, ◌⊎◌, inl, inr, ℕ, zero, suc, ◌+◌, ◌-◌, ◌≤◌, nat_eq, nat_le, eq-eqb, ne_eqb, eqb-true, Bool, true, false, cond, List, [], Option, Some, None, arith}
-use Rattle.std.specs.FinMap.Entries.{is_sorted}
-use Rattle.std.specs.Prelude.{Err, Ok, OnErr, OnOk, Result}
-use Rattle.vt_spec.specs.FileTree.{targets_in}
-use Rattle.vt_spec.specs.Inodes.{Inode, Inodes, inode_with_node, node_in, pinned, tree_of, unpinned, used_once_less, used_once_more, with_changed, with_inode, without_replaced}
-use Rattle.vt_spec.specs.Language.Changes.{node_with_parent, node_without_entry}
-use Rattle.vt_spec.specs.Rights.{is_directory}
-use Rattle.vt_spec.specs.Tree.Content.{Directory, Regular, Symlink, Whiteout}
-use Rattle.vt_spec.specs.Tree.{Content, Node, Tree, kind_of, new_directory, entries_in, entries_of, entry_named, name_cmp, node_with_entry}
-use Rattle.vt_spec.proofs.NodeChanges.{entries-node_with_parent}
+use Rattle.std.proofs.Common.{◌≡◌, ◌≢◌, refl, sym, ap, subst, ◌⊎◌, inl, inr, ℕ, zero, suc, ◌+◌, ◌-◌, ◌≤◌, nat_eq, nat_le, eq-eqb, ne_eqb, eqb-true, Bool, true, false, cond, List, [], Option, Some, None, arith, Err, Ok, OnErr, OnOk, Result}
+use Rattle.vt_spec.proofs.Common.{Content, Directory, Inode, Inodes, Node, Regular, Symlink, Tree, Whiteout, entries-node_with_parent, entries_in, entries_of, entry_named, inode_with_node, is_directory, is_sorted, kind_of, name_cmp, new_directory, node_in, node_with_entry, node_with_parent, node_without_entry, pinned, targets_in, tree_of, unpinned, used_once_less, used_once_more, with_changed}
+use Rattle.vt_spec.specs.Inodes.{with_inode, without_replaced}
 use Rattle.vt_fs.proofs.tree.NameCounts.{most_changed, most_weaker, named_in_node, one_if, one_if_some, put_in_node, taken_from_node, targets}
 use Rattle.vt_fs.specs.Trees.Names.{NamesAtMost, how_often, names_at, names_below}
 use Rattle.vt_fs.specs.Trees.Slots.{Slots, inodes_in, put_at}

@@ -1,9 +1,7 @@
 -- Changes of one slot, as changes of the function from numbers to slots.
 use Rattle.std.proofs.Common.{◌≡◌, ℕ, ◌+◌, ◌≤◌, List, [], ◌∷◌, Option, Some, None, cond, zero, suc, fold, is_some, nat_eq, if◌then◌else◌, slice_index_or, slice_set, refl, ap, arith}
-use Rattle.std.proofs.lemmas.Bool.Decides.{nat_tests}
+use Rattle.vt_spec.proofs.Common.{Inode, Node, inode_with_node, nat_tests, used_once_less, uses_in}
 use Rattle.slab.specs.Slab.{Slab, get, Updates}
-use Rattle.vt_spec.specs.Inodes.{Inode, inode_with_node, uses_in, used_once_less}
-use Rattle.vt_spec.specs.Tree.{Node}
 use Rattle.vt_fs.specs.Trees.Slots.{Slots, put_at, slots_len, with_node_at}
 
 -- a slab that changes at one key is its function with another value there

@@ -1,17 +1,13 @@
 -- A group ends, by the maps that keep the groups.
-use Rattle.std.proofs.Common.{◌≡◌, ℕ, Bool, true, false, cond, List, map, nat_eq, Option, None, Some, is_some, option_map, refl, sym, ap, ◌∙◌, true≢false}
+use Rattle.std.proofs.Common.{◌≡◌, ℕ, Bool, true, false, cond, List, map, nat_eq, Option, None, Some, is_some, option_map, refl, sym, ap, ◌∙◌, true≢false, nat_cmp, filter_map, if◌then◌else◌}
+use Rattle.vt_spec.proofs.Common.{keys_of, lookup, nat_eq-swapped, then_some}
 use Rattle.std.specs.BTreeMap.{is_at}
 use Rattle.std.specs.List.Sorted.{IsStrictlySortedBy}
-use Rattle.std.specs.Map.{keys_of, lookup}
-use Rattle.std.specs.Ordering.{nat_cmp}
-use Rattle.std.specs.Prelude.{filter_map, if◌then◌else◌}
-use Rattle.vt_spec.specs.Lists.{then_some}
 use Rattle.vt_location.specs.Numbers.{counted}
 use Rattle.vt_group.proofs.CountLemmas.{at_count, lookup-numbered, numbered}
 use Rattle.vt_group.proofs.EndedTypes.{changed_entry, lookup-changed, rising_numbers, rising-changed}
 use Rattle.vt_group.proofs.Listing.{found_count}
 use Rattle.vt_group.proofs.Showing.{same_entries}
-use Rattle.vt_spec.proofs.Truths.{nat_eq-swapped}
 use Rattle.vt_location.proofs.NumberLemmas.{counted_test}
 
 module _ {V W : Type 0} (see : V → W) (change : ℕ → W → Option W) (old new : List (ℕ × V))

@@ -1,15 +1,10 @@
 -- The groups that are found from one downwards.
-use Rattle.std.proofs.Common.{◌≡◌, ℕ, Bool, true, false, ◌+◌, ◌-◌, ◌<◌, ◌≤◌, ◌⊎◌, ◌||◌, List, [], ◌∷◌, ◌++◌, get_or, length, map, nat_eq, zero, suc, Option, None, Some, is_some, option_map, refl, sym, ap, subst, take, ◌∙◌, append-nil, arith, eq-eqb, inl, inr, true≢false, ⊎_elim}
-use Rattle.std.proofs.lemmas.Bool.{eqb-true, or_cases}
-use Rattle.std.proofs.lemmas.List.{take-append-le, take_more}
+use Rattle.std.proofs.Common.{◌≡◌, ℕ, Bool, true, false, ◌+◌, ◌-◌, ◌<◌, ◌≤◌, ◌⊎◌, ◌||◌, List, [], ◌∷◌, ◌++◌, get_or, length, map, nat_eq, zero, suc, Option, None, Some, is_some, option_map, refl, sym, ap, subst, take, ◌∙◌, append-nil, arith, eq-eqb, inl, inr, true≢false, ⊎_elim, eqb-true, if◌then◌else◌}
+use Rattle.vt_spec.proofs.Common.{AllByRecursion, chain_goes_on, holds_of, is_among, list_any, nat_eq-swapped, nat_eq_equiv, or-false, or-true, or_cases, take-append-le, take_more}
 use Rattle.std.proofs.lemmas.Map.Steps.{length-le_from_keys}
-use Rattle.std.specs.Cmp.{nat_eq_equiv}
-use Rattle.std.specs.List.{AllByRecursion, IsDistinct, list_any}
+use Rattle.std.specs.List.{IsDistinct}
 use Rattle.std.specs.Option.{option_eq}
-use Rattle.std.specs.Prelude.{if◌then◌else◌}
 use Rattle.indexmap.specs.IndexSet.{insert_key}
-use Rattle.vt_spec.proofs.Lists.{chain_goes_on}
-use Rattle.vt_spec.specs.Lists.{holds_of, is_among}
 use Rattle.vt_location.specs.declared.numbers.GroupId.{GroupId}
 use Rattle.vt_location.specs.Numbers.{counted, group_number}
 use Rattle.vt_group.specs.Grouping.{Grouping, master_in}
@@ -17,8 +12,6 @@ use Rattle.vt_group.specs.Receiving.{IsLonger, Reaches, is_in}
 use Rattle.vt_group.specs.Sets.{same_group}
 use Rattle.vt_group.proofs.Listing.{counted_same}
 use Rattle.vt_group.proofs.SetsLemmas.{same_id}
-use Rattle.vt_spec.proofs.Truths.{nat_eq-swapped}
-use Rattle.std.proofs.Math.Bool.{or-false, or-true}
 use Rattle.vt_location.proofs.NumberLemmas.{counted_test}
 
 -- groups in lists

@@ -1,8 +1,7 @@
 -- What is listed once mounts and groups came, or did not.
-use Rattle.std.proofs.Common.{◌≡◌, Some, true, map, subst, sym}
+use Rattle.std.proofs.Common.{◌≡◌, Some, true, map, subst, sym, nat_cmp}
+use Rattle.vt_spec.proofs.Common.{keys_of}
 use Rattle.std.specs.List.Sorted.{IsStrictlySortedBy}
-use Rattle.std.specs.Map.{keys_of}
-use Rattle.std.specs.Ordering.{nat_cmp}
 use Rattle.vt_location.specs.declared.mounts.Propagation.{Propagation}
 use Rattle.vt_location.specs.declared.numbers.GroupId.{GroupId}
 use Rattle.vt_location.specs.declared.numbers.MountId.{MountId}

@@ -1,14 +1,6 @@
 -- The types of mounts once one has left its group or become a slave of it.
-use Rattle.std.proofs.Common.{◌≡◌, ℕ, Bool, true, false, cond, ◌||◌, List, [], ◌∷◌, nat_eq, nat_lt, Option, None, Some, refl, sym, ap, ◌∙◌, arith, lt-ltb}
-use Rattle.std.proofs.lemmas.Bool.{and_from, and_parts, eqb-true, ltb-true}
-use Rattle.std.specs.BTreeMap.{insert_entry}
-use Rattle.std.specs.List.{list_all, list_any}
-use Rattle.std.specs.Map.{lookup, remove_entry}
-use Rattle.std.specs.Ordering.{match_ordering, nat_cmp}
-use Rattle.std.specs.declared.cmp.Ordering.TheVariants.{Less, Equal, Greater}
-use Rattle.std.specs.Prelude.{if◌then◌else◌, unwrap_or}
-use Rattle.vt_spec.specs.Machine.Mounts.{Propagation, group_of}
-use Rattle.vt_spec.specs.Machine.Mounts.Propagation.{Private, Shared, Slave}
+use Rattle.std.proofs.Common.{◌≡◌, ℕ, Bool, true, false, cond, ◌||◌, List, [], ◌∷◌, nat_eq, nat_lt, Option, None, Some, refl, sym, ap, ◌∙◌, arith, lt-ltb, eqb-true, ltb-true, nat_cmp, Less, Equal, Greater, if◌then◌else◌, unwrap_or}
+use Rattle.vt_spec.proofs.Common.{Private, Propagation, Shared, Slave, and_from, and_parts, group_of, insert_entry, list_all, list_any, lookup, match_ordering, remove_entry}
 use Rattle.vt_group.specs.Grouping.{Grouping, are_rising, propagation_in}
 use Rattle.vt_group.specs.Leaving.{if_lone, lone_group, lost_group, type_once_ended, type_once_left, type_once_retyped, type_once_slave}
 use Rattle.vt_group.specs.Steps.{is_member, with_peer}

@@ -1,13 +1,6 @@
 -- Whether a group has members, told by the types that are kept.
-use Rattle.std.proofs.Common.{◌≡◌, ℕ, Bool, true, false, cond, ◌||◌, List, [], ◌∷◌, map, nat_eq, Option, None, Some, is_some, refl, sym, ap, ◌∙◌, true≢false}
-use Rattle.std.proofs.lemmas.Bool.{eqb-true}
-use Rattle.std.proofs.lemmas.Option.{same_Some}
-use Rattle.std.specs.List.{list_any}
-use Rattle.std.specs.Map.{lookup, remove_entry}
-use Rattle.std.specs.Prelude.{if◌then◌else◌, unwrap_or}
-use Rattle.vt_spec.specs.Lists.{holds_of}
-use Rattle.vt_spec.specs.Machine.Mounts.{Propagation as Type_of_mount, group_of}
-use Rattle.vt_spec.specs.Machine.Mounts.Propagation.{Private as MeansPrivate}
+use Rattle.std.proofs.Common.{◌≡◌, ℕ, Bool, true, false, cond, ◌||◌, List, [], ◌∷◌, map, nat_eq, Option, None, Some, is_some, refl, sym, ap, ◌∙◌, true≢false, eqb-true, if◌then◌else◌, unwrap_or}
+use Rattle.vt_spec.proofs.Common.{Private as MeansPrivate, Propagation as Type_of_mount, group_of, holds_of, list_any, lookup, remove_entry, same_Some}
 use Rattle.vt_location.specs.declared.mounts.Propagation.{Propagation}
 use Rattle.vt_location.specs.declared.mounts.Propagation.TheVariants.{Private, Shared, Slave, Unbindable}
 use Rattle.vt_location.specs.declared.numbers.GroupId.{GroupId}

@@ -1,17 +1,8 @@
 -- The mounts that receive from a group, in order of attachment.
-use Rattle.std.proofs.Common.{◌≡◌, ℕ, Bool, true, false, cond, List, [], ◌∷◌, ◌||◌, map, nat_eq, nat_lt, Some, option_map, refl, sym, ap, ◌∙◌, true≢false, arith, eq-eqb, lt-ltb, ne_eqb}
-use Rattle.std.proofs.lemmas.Bool.{and_from, and_parts, eqb-true, ltb-true, ltb-false}
-use Rattle.std.proofs.lemmas.Map.Keys.{sorted_head, sorted_tail}
+use Rattle.std.proofs.Common.{◌≡◌, ℕ, Bool, true, false, cond, List, [], ◌∷◌, ◌||◌, map, nat_eq, nat_lt, Some, option_map, refl, sym, ap, ◌∙◌, true≢false, arith, eq-eqb, lt-ltb, ne_eqb, eqb-true, ltb-true, ltb-false, nat_cmp, Less, unwrap_or}
+use Rattle.vt_spec.proofs.Common.{AllByRecursion, Private as MeansPrivate, and_from, and_parts, holds_of, keys_of, list_all, list_any, lookup, sorted_head, sorted_tail, source_of}
 use Rattle.std.specs.BTreeMap.{is_at}
-use Rattle.std.specs.List.{AllByRecursion, list_all, list_any}
 use Rattle.std.specs.List.Sorted.{IsStrictlySortedBy}
-use Rattle.std.specs.Map.{keys_of, lookup}
-use Rattle.std.specs.Ordering.{nat_cmp}
-use Rattle.std.specs.declared.cmp.Ordering.TheVariants.{Less}
-use Rattle.std.specs.Prelude.{unwrap_or}
-use Rattle.vt_spec.specs.Lists.{holds_of}
-use Rattle.vt_spec.specs.Machine.Mounts.{source_of}
-use Rattle.vt_spec.specs.Machine.Mounts.Propagation.{Private as MeansPrivate}
 use Rattle.vt_location.specs.declared.mounts.Propagation.{Propagation}
 use Rattle.vt_location.specs.declared.numbers.MountId.{MountId}
 use Rattle.vt_location.specs.MountValue.{propagation_of}

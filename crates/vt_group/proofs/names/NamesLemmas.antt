@@ -1,19 +1,13 @@
 -- The names of groups, once some of them changed.
-use Rattle.std.proofs.Common.{◌≡◌, ℕ, Bool, true, false, cond, ◌+◌, ◌<◌, ◌≤◌, List, [], ◌∷◌, ◌++◌, length, zero, suc, Option, None, Some, get_or, refl, sym, ap, ◌∙◌, arith, true≢false, slice_get, drop, take, sum_by, swap_remove, ◌||◌, Result, Ok, Err, is_ok, IsOk, length-append, ◌==◌}
-use Rattle.std.proofs.lemmas.List.Folds.{list_any-append}
-use Rattle.std.proofs.lemmas.List.Sums.{sum_by-cons, sum_by-swap_remove}
-use Rattle.std.proofs.lemmas.Bool.{eqb-true}
-use Rattle.std.proofs.lemmas.Option.{same_Some}
-use Rattle.std.specs.List.{list_any, position}
-use Rattle.std.specs.Map.{keys_of, lookup, set_value, values_of}
-use Rattle.std.specs.Prelude.{if◌then◌else◌, unwrap_or}
+use Rattle.std.proofs.Common.{◌≡◌, ℕ, Bool, true, false, cond, ◌+◌, ◌<◌, ◌≤◌, List, [], ◌∷◌, ◌++◌, length, zero, suc, Option, None, Some, get_or, refl, sym, ap, ◌∙◌, arith, true≢false, slice_get, drop, take, sum_by, swap_remove, ◌||◌, Result, Ok, Err, is_ok, IsOk, length-append, ◌==◌, eqb-true, position, if◌then◌else◌, unwrap_or}
+use Rattle.vt_spec.proofs.Common.{keys_of, list_any, list_any-append, lookup, or-true, same_Some, set_value, sum_by-cons, values_of}
+use Rattle.std.proofs.lemmas.List.Sums.{sum_by-swap_remove}
 use Rattle.indexmap.specs.IndexMap.{insert_entry, swap_remove_entry}
 use Rattle.indexmap.proofs.MapLemmas.{Found-position, Missing-position, swap_remove_entry-found, swap_remove_entry-missing}
 use Rattle.vt_location.specs.declared.numbers.GroupId.{GroupId}
 use Rattle.vt_group.specs.Names.{Named, count_names, names_of}
 use Rattle.vt_group.specs.Sets.{same_group}
 use Rattle.vt_group.proofs.SetsLemmas.{same_id}
-use Rattle.std.proofs.Math.Bool.{or-true}
 
 -- how many names there are
 

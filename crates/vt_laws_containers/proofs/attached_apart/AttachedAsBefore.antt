@@ -1,16 +1,6 @@
 -- Where copies come at a mount of a sealed set and at its receivers, others are as they were.
 use Rattle.std.proofs.Common.{arith, ◌≡◌, refl, sym, ap, subst, ◌∙◌, inr, ⊎_elim, ℕ, nat_eq, true, false, List, ◌++◌, append_assoc, Option, Some, map}
-use Rattle.std.proofs.lemmas.Grind.{common_steps}
-use Rattle.std.specs.List.{list_any}
-use Rattle.vt_spec.specs.Language.Calls.{TaskName}
-use Rattle.vt_spec.specs.Lists.{Fresh, folded, is_among}
-use Rattle.vt_spec.specs.Machine.Attach.{Copies, attached_by, masters_with}
-use Rattle.vt_spec.specs.Machine.Invariants.{IsWorld}
-use Rattle.vt_spec.specs.Machine.Mounts.{Location, Mount, source_of}
-use Rattle.vt_spec.specs.Machine.Run.{Serves}
-use Rattle.vt_spec.specs.Machine.Sealed.{is_own_mount, members, sealed, used_filesystems}
-use Rattle.vt_spec.specs.Machine.World.{Filesystem, World, mount_at}
-use Rattle.vt_spec.proofs.Lists.{Among, among-filter}
+use Rattle.vt_spec.proofs.Common.{Among, Copies, Filesystem, Fresh, IsWorld, Location, Mount, Serves, TaskName, World, among-filter, attached_by, common_steps, folded, is_among, is_own_mount, list_any, masters_with, members, mount_at, sealed, source_of, used_filesystems}
 use Rattle.vt_laws_trees.specs.Layers.Layers.ChangesUpper.{IsNewBy}
 use Rattle.vt_laws_sealed.proofs.part.part.PartOfPart.{is_own}
 use Rattle.vt_laws_members.proofs.attached.CopiesAlike.{base, copies, made, parts, push}

@@ -1,20 +1,7 @@
 -- No mount(2) with MS_BIND by a task of a sealed set gives others a foothold.
-use Rattle.std.proofs.Common.{arith, ◌≡◌, refl, sym, ap, subst, ◌∙◌, inl, ℕ, nat_eq, Bool, true, false, List, [], Option, Some, None, Ok, Err}
-use Rattle.std.proofs.lemmas.Grind.{common_steps}
-use Rattle.std.specs.Prelude.{IfOk, is_ok}
+use Rattle.std.proofs.Common.{arith, ◌≡◌, refl, sym, ap, subst, ◌∙◌, inl, ℕ, nat_eq, Bool, true, false, List, [], Option, Some, None, Ok, Err, IfOk, is_ok}
+use Rattle.vt_spec.proofs.Common.{Among, Bind, Copies, Fresh, IsWorld, Judgement, Location, Mount, Serves, Task, TaskName, ToBind, World, among-filter, attach, bind_tree, bound_at, common_steps, copies_from, judge_in, members, mount_at, sealed, source_of, task_called, used_directly}
 use Rattle.vt_laws_sealed.proofs.part.part.MountsOver.{numbered}
-use Rattle.vt_spec.specs.Language.Calls.{TaskName}
-use Rattle.vt_spec.specs.Language.Calls.Call.{Bind}
-use Rattle.vt_spec.specs.Lists.{Fresh}
-use Rattle.vt_spec.specs.Machine.Attach.{Copies, attach, bind_tree, bound_at, copies_from}
-use Rattle.vt_spec.specs.Machine.Invariants.{IsWorld}
-use Rattle.vt_spec.specs.Machine.Judge.{Judgement, judge_in}
-use Rattle.vt_spec.specs.Machine.Mounts.{Location, Mount, source_of}
-use Rattle.vt_spec.specs.Machine.Permits.Permit.{ToBind}
-use Rattle.vt_spec.specs.Machine.Run.{Serves}
-use Rattle.vt_spec.specs.Machine.Sealed.{members, sealed, used_directly}
-use Rattle.vt_spec.specs.Machine.World.{Task, World, mount_at, task_called}
-use Rattle.vt_spec.proofs.Lists.{Among, among-filter}
 use Rattle.vt_laws_sealed.proofs.part.part.PartOfPart.{is_own}
 use Rattle.vt_laws_members.specs.Judging.{is_theirs}
 use Rattle.vt_laws_members.proofs.judging.Grounds.{theirs_from}

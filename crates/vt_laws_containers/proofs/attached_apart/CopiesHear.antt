@@ -1,18 +1,7 @@
 -- The groups of copies, and those that they form with their masters: groups of what is copied, and new ones.
-use Rattle.std.proofs.Common.{arith, ◌≡◌, sym, ap, subst, ◌∙◌, ℕ, nat_eq, Bool, true, false, cond, List, Option, Some, None, find, not}
-use Rattle.std.proofs.lemmas.Grind.{common_steps}
-use Rattle.std.specs.Prelude.{option_map}
-use Rattle.std.specs.List.{filter_map}
-use Rattle.std.proofs.lemmas.Option.{same_Some}
+use Rattle.std.proofs.Common.{arith, ◌≡◌, sym, ap, subst, ◌∙◌, ℕ, nat_eq, Bool, true, false, cond, List, Option, Some, None, find, not, option_map, filter_map}
+use Rattle.vt_spec.proofs.Common.{Among, Copies, Graft, Location, Mount, Propagation, Twig, World, all_groups_made, among-from_filter_map, among-from_flat_map, among-from_map, common_steps, copy_at, copy_type, graft_of, group_made, group_of, groups_up, has_members, image, is_destination, is_member_of, master_after, mount_at, nearest_image, none_is_some, parts_of, same_Some, source_of, then_some, twig_master, twig_of, type_at, when}
 use Rattle.vt_laws_mounts.proofs.GroupsUp.{source_from_group}
-use Rattle.vt_spec.specs.Lists.{then_some, when}
-use Rattle.vt_spec.specs.Machine.Attach.{Copies, Graft, Twig, all_groups_made, copy_at, copy_type, graft_of, group_made, image, is_destination, nearest_image, parts_of, twig_master, twig_of, type_at}
-use Rattle.vt_spec.specs.Machine.Mounts.{Location, Mount, Propagation, group_of, source_of}
-use Rattle.vt_spec.specs.Machine.Receives.{groups_up, has_members, is_member_of}
-use Rattle.vt_spec.specs.Machine.Types.{master_after}
-use Rattle.vt_spec.specs.Machine.World.{World, mount_at}
-use Rattle.vt_spec.proofs.Lists.{Among, among-from_filter_map, among-from_flat_map, among-from_map}
-use Rattle.vt_spec.proofs.Options.{none_is_some}
 
 -- a group with its master
 abbrev pub AreOf : (ℕ → Type 0) → ℕ × Option ℕ → Type 0

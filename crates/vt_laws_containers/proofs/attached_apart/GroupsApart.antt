@@ -1,22 +1,7 @@
 -- Where mounts of a sealed set come, in groups that the set hears or in new ones, mounts share no events with others.
 use Rattle.std.proofs.Common.{arith, ◌≡◌, refl, sym, ap, ◌∙◌, ◌⊎◌, inl, inr, ⊎_elim, ℕ, nat_eq, true, List, [], ◌∷◌, ◌++◌, Option, Some, map, not, eqb-true}
-use Rattle.std.proofs.lemmas.Grind.{common_steps}
-use Rattle.std.specs.List.{list_all}
-use Rattle.std.proofs.lemmas.Bool.{false_from_ne_true, or_cases}
-use Rattle.std.proofs.lemmas.Option.{same_Some}
+use Rattle.vt_spec.proofs.Common.{Among, Filesystem, Fresh, HasLivingGroups, IsWorld, Mount, Private, Propagation, Serves, Shared, Slave, TaskName, Unbindable, World, among-from_filter, among_from_all, any_among, common_steps, false_from_ne_true, folded, group_of, holds_of, is_member_of, is_own_mount, is_own_namespace, list_all, list_all_from_among, master_of, masters_with, none_is_some, or_cases, other_mounts, own_mounts, receives_events_of, same_Some, sealed, share_events, shares_no_events, source_of}
 use Rattle.vt_laws_containers.proofs.types_apart.GroupsApart.{in_group}
-use Rattle.vt_spec.specs.Language.Calls.{TaskName}
-use Rattle.vt_spec.specs.Lists.{Fresh, folded, holds_of}
-use Rattle.vt_spec.specs.Machine.Attach.{masters_with}
-use Rattle.vt_spec.specs.Machine.Invariants.{HasLivingGroups, IsWorld}
-use Rattle.vt_spec.specs.Machine.Mounts.{Mount, Propagation, group_of, source_of}
-use Rattle.vt_spec.specs.Machine.Mounts.Propagation.{Private, Shared, Slave, Unbindable}
-use Rattle.vt_spec.specs.Machine.Receives.{is_member_of}
-use Rattle.vt_spec.specs.Machine.Run.{Serves}
-use Rattle.vt_spec.specs.Machine.Sealed.{is_own_mount, is_own_namespace, master_of, other_mounts, own_mounts, receives_events_of, sealed, share_events, shares_no_events}
-use Rattle.vt_spec.specs.Machine.World.{Filesystem, World}
-use Rattle.vt_spec.proofs.Lists.{Among, among-from_filter, among_from_all, any_among, list_all_from_among}
-use Rattle.vt_spec.proofs.Options.{none_is_some}
 use Rattle.vt_laws_trees.specs.Layers.Layers.ChangesUpper.{IsNewBy}
 use Rattle.vt_laws_sealed.proofs.part.groups.EventsApart.{above_lives, members_of}
 use Rattle.vt_laws_sealed.proofs.part.groups.ReceiversAlike.{Living, member_group}

@@ -1,15 +1,6 @@
 -- Where mounts of a sealed set change, and others come that are theirs, others are as they were.
-use Rattle.std.proofs.Common.{arith, ◌≡◌, refl, sym, ap, subst, ◌∙◌, ◌⊎◌, inl, inr, ⊎_elim, ℕ, nat_eq, Bool, true, false, cond, true≢false, List, [], ◌∷◌, ◌++◌, Option, Some, None, filter, find, map, not, ◌||◌, eq-eqb}
-use Rattle.std.proofs.lemmas.Grind.{common_steps}
-use Rattle.std.specs.Prelude.{unwrap_or}
-use Rattle.vt_spec.specs.Language.Calls.{TaskName}
-use Rattle.vt_spec.specs.Lists.{holds_of, is_among}
-use Rattle.vt_spec.specs.Machine.Invariants.{IsWorld}
-use Rattle.vt_spec.specs.Machine.Locked.{of_overlay}
-use Rattle.vt_spec.specs.Machine.Mounts.{Location, Mount, mount_in, no_mount}
-use Rattle.vt_spec.specs.Machine.Sealed.{change_layers, is_member_task, is_own_mount, is_own_namespace, locations, members, other_mounts, outsiders, own_mounts, sealed, shares_no_events, used_directly, used_filesystems}
-use Rattle.vt_spec.specs.Machine.World.{Filesystem, Layer, Task, World, all_locations, layers_of, locations_of, mount_at}
-use Rattle.vt_spec.proofs.Lists.{Among, among-append, among-append_left, among-append_right, among-filter, among-flat_map, among-from_filter, among-from_flat_map, among-from_map, among-map, among_from_list_all, any_from_among, list_all_from_among}
+use Rattle.std.proofs.Common.{arith, ◌≡◌, refl, sym, ap, subst, ◌∙◌, ◌⊎◌, inl, inr, ⊎_elim, ℕ, nat_eq, Bool, true, false, cond, true≢false, List, [], ◌∷◌, ◌++◌, Option, Some, None, filter, find, map, not, ◌||◌, eq-eqb, unwrap_or}
+use Rattle.vt_spec.proofs.Common.{Among, Filesystem, IsWorld, Layer, Location, Mount, Task, TaskName, World, all_locations, among-append, among-append_left, among-append_right, among-filter, among-flat_map, among-from_filter, among-from_flat_map, among-from_map, among-map, among_from_list_all, any_from_among, change_layers, common_steps, holds_of, is_among, is_member_task, is_own_mount, is_own_namespace, layers_of, list_all_from_among, locations, locations_of, members, mount_at, mount_in, no_mount, of_overlay, other_mounts, outsiders, own_mounts, sealed, shares_no_events, used_directly, used_filesystems}
 use Rattle.vt_laws_sealed.specs.Part.Seals.{IsApart}
 use Rattle.vt_laws_sealed.proofs.part.part.PartOfPart.{used_directly_used}
 use Rattle.vt_laws_sealed.proofs.part.seals.ByPart.{apart_if_sealed}

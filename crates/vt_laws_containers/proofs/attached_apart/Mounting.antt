@@ -1,22 +1,6 @@
 -- No mount(2) of a new plain filesystem by a task of a sealed set gives others a foothold.
-use Rattle.std.proofs.Common.{◌≡◌, refl, sym, ap, ◌∙◌, ⊎_elim, ℕ, nat_eq, true, List, [], ◌∷◌, Option, Some, None, Ok, Err, ◌&&◌, eq-eqb}
-use Rattle.std.specs.Prelude.{IfOk, is_ok}
-use Rattle.std.proofs.lemmas.Bool.{or_left}
-use Rattle.vt_spec.specs.Language.Calls.{MountFlags, TaskName}
-use Rattle.vt_spec.specs.Language.Calls.Call.{MountPlain}
-use Rattle.vt_spec.specs.Lists.{Fresh, evens, is_among, odds}
-use Rattle.vt_spec.specs.Machine.Invariants.{IsWorld}
-use Rattle.vt_spec.specs.Machine.Judge.{Judgement, judge_in}
-use Rattle.vt_spec.specs.Machine.Locked.{of_overlay}
-use Rattle.vt_spec.specs.Machine.Mounts.{Location, Mount, source_of}
-use Rattle.vt_spec.specs.Machine.NewMounts.{mounted, plain_filesystem}
-use Rattle.vt_spec.specs.Machine.Permits.Permit.{ToMountPlain}
-use Rattle.vt_spec.specs.Machine.Run.{Serves}
-use Rattle.vt_spec.specs.Machine.Sealed.{members, sealed, used_directly}
-use Rattle.vt_spec.specs.Machine.Settled.{named_in}
-use Rattle.vt_spec.specs.Machine.World.{Filesystem, Layer, Task, World, layers_of, mount_at, task_called}
-use Rattle.vt_spec.proofs.Lists.{Among}
-use Rattle.vt_spec.proofs.Options.{none_is_some}
+use Rattle.std.proofs.Common.{◌≡◌, refl, sym, ap, ◌∙◌, ⊎_elim, ℕ, nat_eq, true, List, [], ◌∷◌, Option, Some, None, Ok, Err, ◌&&◌, eq-eqb, IfOk, is_ok}
+use Rattle.vt_spec.proofs.Common.{Among, Filesystem, Fresh, IsWorld, Judgement, Layer, Location, Mount, MountFlags, MountPlain, Serves, Task, TaskName, ToMountPlain, World, evens, is_among, judge_in, layers_of, members, mount_at, mounted, named_in, none_is_some, odds, of_overlay, or_left, plain_filesystem, sealed, source_of, task_called, used_directly}
 use Rattle.vt_laws_mounts.specs.LettingGo.Keeping.{has_only_named}
 use Rattle.vt_laws_sealed.proofs.part.part.PartOfPart.{is_own}
 use Rattle.vt_laws_members.specs.Judging.{is_theirs}

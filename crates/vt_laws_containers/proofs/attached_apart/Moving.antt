@@ -1,18 +1,6 @@
 -- No mount(2) with MS_MOVE by a task of a sealed set gives others a foothold.
-use Rattle.std.proofs.Common.{◌≡◌, refl, sym, ap, subst, ◌∙◌, inr, ⊎_elim, ℕ, nat_eq, true, List, [], ◌++◌, Option, Some, None, Ok, Err, map}
-use Rattle.std.specs.Prelude.{IfOk, is_ok}
-use Rattle.vt_spec.specs.Language.Calls.{TaskName}
-use Rattle.vt_spec.specs.Language.Calls.Call.{MoveMount}
-use Rattle.vt_spec.specs.Lists.{Fresh, folded}
-use Rattle.vt_spec.specs.Machine.Attach.{Copies, attach, copies_from, masters_with, moved_to, moved_tree}
-use Rattle.vt_spec.specs.Machine.Invariants.{IsWorld}
-use Rattle.vt_spec.specs.Machine.Judge.{Judgement, judge_in}
-use Rattle.vt_spec.specs.Machine.Mounts.{Location, Mount, source_of}
-use Rattle.vt_spec.specs.Machine.Permits.Permit.{ToMove}
-use Rattle.vt_spec.specs.Machine.Run.{Serves}
-use Rattle.vt_spec.specs.Machine.Sealed.{is_own_mount, members, sealed}
-use Rattle.vt_spec.specs.Machine.World.{Task, World, mount_at, task_called}
-use Rattle.vt_spec.proofs.Lists.{Among, among-filter}
+use Rattle.std.proofs.Common.{◌≡◌, refl, sym, ap, subst, ◌∙◌, inr, ⊎_elim, ℕ, nat_eq, true, List, [], ◌++◌, Option, Some, None, Ok, Err, map, IfOk, is_ok}
+use Rattle.vt_spec.proofs.Common.{Among, Copies, Fresh, IsWorld, Judgement, Location, Mount, MoveMount, Serves, Task, TaskName, ToMove, World, among-filter, attach, copies_from, folded, is_own_mount, judge_in, masters_with, members, mount_at, moved_to, moved_tree, sealed, source_of, task_called}
 use Rattle.vt_laws_members.proofs.judging.Grounds.{theirs_from}
 use Rattle.vt_laws_members.proofs.changes.looks.Told.{member_called, ran}
 use Rattle.vt_laws_members.proofs.changes.tasks.Denied.{run_by}

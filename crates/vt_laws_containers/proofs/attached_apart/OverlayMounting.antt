@@ -1,19 +1,6 @@
 -- No mount(2) of a new overlay by a task of a sealed set gives others a foothold.
-use Rattle.std.proofs.Common.{◌≡◌, refl, ap, ◌∙◌, ℕ, nat_eq, Option, Some, None, Ok, Err}
-use Rattle.std.specs.Prelude.{is_ok}
-use Rattle.vt_spec.specs.Language.Calls.Call.{MountOverlay}
-use Rattle.vt_spec.specs.Lists.{evens}
-use Rattle.vt_spec.specs.Machine.Apply.{overfills}
-use Rattle.vt_spec.specs.Machine.Judge.{Judgement, judge_in}
-use Rattle.vt_spec.specs.Machine.Looks.{looks_of}
-use Rattle.vt_spec.specs.Machine.NewMounts.{overlay_filesystem}
-use Rattle.vt_spec.specs.Machine.Permits.{Permit}
-use Rattle.vt_spec.specs.Machine.Permits.Permit.{ToMountOverlay}
-use Rattle.vt_spec.specs.Machine.Rules.Mounting.{overlay_at}
-use Rattle.vt_spec.specs.Machine.Sealed.{members}
-use Rattle.vt_spec.specs.Machine.World.{Overlay, Task, task_called}
-use Rattle.vt_spec.proofs.FreshNumbers.{evens-distinct, served-distinct}
-use Rattle.vt_spec.proofs.Lists.{Among}
+use Rattle.std.proofs.Common.{◌≡◌, refl, ap, ◌∙◌, ℕ, nat_eq, Option, Some, None, Ok, Err, is_ok}
+use Rattle.vt_spec.proofs.Common.{Among, Judgement, MountOverlay, Overlay, Permit, Task, ToMountOverlay, evens, evens-distinct, judge_in, looks_of, members, overfills, overlay_at, overlay_filesystem, served-distinct, task_called}
 use Rattle.vt_laws_rules.proofs.given.Inversion.{calls_are_granted}
 use Rattle.vt_laws_worlds.proofs.overlays_let_go.mounting.NewOverlays.{new_overlays_are_named}
 use Rattle.vt_laws_members.proofs.changes.looks.Told.{member_called, ran}

@@ -1,21 +1,7 @@
 -- A world in which others are as they were beside a set: they have the footholds that they had.
-use Rattle.std.proofs.Common.{arith, ◌≡◌, refl, sym, ap, subst, ◌∙◌, ◌⊎◌, inl, inr, ⊎_elim, ℕ, nat_eq, Bool, true, false, true≢false, List, [], ◌++◌, Option, Some, None, find, flat_map, not, ◌&&◌, ◌||◌, eqb-true}
-use Rattle.std.proofs.lemmas.Grind.{common_steps}
-use Rattle.std.specs.Prelude.{option_map, unwrap_or}
-use Rattle.std.specs.List.{list_all, list_any}
-use Rattle.std.proofs.lemmas.Bool.{and_from, and_parts, false_from_ne_true, or_left, or_right}
+use Rattle.std.proofs.Common.{arith, ◌≡◌, refl, sym, ap, subst, ◌∙◌, ◌⊎◌, inl, inr, ⊎_elim, ℕ, nat_eq, Bool, true, false, true≢false, List, [], ◌++◌, Option, Some, None, find, flat_map, not, ◌&&◌, ◌||◌, eqb-true, option_map, unwrap_or}
+use Rattle.vt_spec.proofs.Common.{Among, Filesystem, IsWorld, Layer, Location, Mount, Overlay, Task, TaskName, World, among-append, among-append_right, among-filter, among-flat_map, among-from_filter, among-from_flat_map, among_from_contains, among_from_list_all, and_from, and_parts, any_among, change_layers, common_steps, directory_is_there, false_from_ne_true, filesystem_numbered, found_among, found_passes, has_layer_on, holds_all_tasks, holds_of, is_among, is_among_numbers, is_member_task, is_overlay, is_own_namespace, layers_of, list_all, list_all_from_among, list_any, locations, locations_of, mount_at, no_filesystem, no_outsider_on, no_outsider_on_mounts, or_left, or_right, other_mounts, outsiders, overlay_or, overlays, same_truth, shares_no_events, used_alone, used_directly, used_filesystems}
 use Rattle.vt_laws_later_calls.proofs.last_use.OverlaysUnmounted.{any_alike}
-use Rattle.vt_spec.specs.Language.Calls.{TaskName}
-use Rattle.vt_spec.specs.Lists.{holds_of, is_among}
-use Rattle.vt_spec.specs.Machine.Invariants.{IsWorld}
-use Rattle.vt_spec.specs.Machine.Locked.{overlay_or, overlays}
-use Rattle.vt_spec.specs.Machine.Mounts.{Location, Mount}
-use Rattle.vt_spec.specs.Machine.Sealed.{change_layers, holds_all_tasks, is_member_task, is_own_namespace, locations, no_outsider_on, no_outsider_on_mounts, other_mounts, outsiders, shares_no_events, used_alone, used_directly, used_filesystems}
-use Rattle.vt_spec.specs.Machine.Settled.{has_layer_on}
-use Rattle.vt_spec.specs.Machine.World.{Filesystem, Layer, Overlay, Task, World, filesystem_numbered, is_overlay, layers_of, locations_of, mount_at, no_filesystem}
-use Rattle.vt_spec.proofs.Found.{found_among, found_passes}
-use Rattle.vt_spec.proofs.Lists.{Among, among-append, among-append_right, among-filter, among-flat_map, among-from_filter, among-from_flat_map, among_from_contains, among_from_list_all, any_among, is_among_numbers, list_all_from_among}
-use Rattle.vt_spec.proofs.Truths.{same_truth}
 use Rattle.vt_laws_mounts.proofs.letting_go.sweeps.OfWorlds.{found_filesystem}
 use Rattle.vt_laws_sealed.proofs.part.Kept.{among-each_once, among-from_each_once}
 use Rattle.vt_laws_sealed.proofs.part.part.PartOfPart.{used_directly_used}
@@ -23,7 +9,6 @@ use Rattle.vt_laws_sealed.proofs.part.seals.ByPart.{layer_directory}
 use Rattle.vt_laws_containers.specs.Footholds.{LeavesOthersOut}
 use Rattle.vt_laws_containers.proofs.scripts.UsedThere.{IsThere, located_is_there, mounted_is_there, there_with_inode}
 use Rattle.vt_laws_members.proofs.changes.letting_go.Ready.{layered_overlay}
-use Rattle.vt_spec.proofs.Nodes.{directory_is_there}
 
 -- the layers of a filesystem, if it is an overlay
 abbrev pub without_real : Overlay ℕ → Overlay ℕ

@@ -1,19 +1,6 @@
 -- After the sweep, and with change numbers raised, others are as they were before these.
-use Rattle.std.proofs.lemmas.Grind.{common_steps}
-use Rattle.std.proofs.Common.{◌≡◌, refl, sym, ap, subst, ◌∙◌, inl, inr, ⊎_elim, ℕ, nat_eq, Bool, true, false, cond, true≢false, List, [], ◌∷◌, ◌++◌, filter, find, flat_map, map, not, arith}
-use Rattle.std.specs.Prelude.{unwrap_or}
-use Rattle.std.specs.List.{list_all, list_any}
-use Rattle.std.proofs.lemmas.Bool.{not-true, or_right}
-use Rattle.vt_spec.specs.Language.Calls.{TaskName, same_name}
-use Rattle.vt_spec.specs.Lists.{holds_of, is_among}
-use Rattle.vt_spec.specs.Machine.Filesystems.{raised, raised_if_changed}
-use Rattle.vt_spec.specs.Machine.Mounts.{Location, Mount, no_mount}
-use Rattle.vt_spec.specs.Machine.Policy.{numbers_raised, raised_task}
-use Rattle.vt_spec.specs.Machine.Sealed.{is_member_task, is_own_namespace, locations, members, other_mounts, outsiders, own_mounts, share_events, used_directly}
-use Rattle.vt_spec.specs.Machine.Settled.{mount_lives, only_used, settled}
-use Rattle.vt_spec.specs.Machine.World.{Filesystem, Task, World, all_locations, locations_of, mount_at}
-use Rattle.vt_spec.proofs.Lists.{Among, among-append, among-append_left, among-append_right, among-flat_map, among-from_filter, among-from_flat_map, among-from_map, among-map, any_from_among}
-use Rattle.vt_spec.proofs.Worlds.{number-only_used, same_task_name}
+use Rattle.std.proofs.Common.{◌≡◌, refl, sym, ap, subst, ◌∙◌, inl, inr, ⊎_elim, ℕ, nat_eq, Bool, true, false, cond, true≢false, List, [], ◌∷◌, ◌++◌, filter, find, flat_map, map, not, arith, unwrap_or}
+use Rattle.vt_spec.proofs.Common.{Among, Filesystem, Location, Mount, Task, TaskName, World, all_locations, among-append, among-append_left, among-append_right, among-flat_map, among-from_filter, among-from_flat_map, among-from_map, among-map, any_from_among, common_steps, holds_of, is_among, is_member_task, is_own_namespace, list_all, list_any, locations, locations_of, members, mount_at, mount_lives, no_mount, not-true, number-only_used, numbers_raised, only_used, or_right, other_mounts, outsiders, own_mounts, raised, raised_if_changed, raised_task, same_name, same_task_name, settled, share_events, used_directly}
 use Rattle.vt_laws_mounts.proofs.letting_go.Lists.{filter-map, filter_less}
 use Rattle.vt_laws_sealed.proofs.outsiders.OthersSwept.{others_swept}
 use Rattle.vt_laws_sealed.proofs.outsiders.Staying.{OthersStayOut}

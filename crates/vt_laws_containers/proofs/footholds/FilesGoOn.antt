@@ -1,15 +1,6 @@
 -- A change of a filesystem leaves each filesystem its number and its layers.
-use Rattle.std.proofs.Common.{◌≡◌, refl, sym, ap, subst, ◌∙◌, ℕ, nat_eq, Bool, true, false, cond, List, [], ◌∷◌, Option, Some, None, map, eqb-true}
-use Rattle.std.specs.Prelude.{option_map}
-use Rattle.vt_spec.specs.Language.Changes.{Change, changed}
-use Rattle.vt_spec.specs.Language.Changes.Change.{CopyUp}
-use Rattle.vt_spec.specs.Lists.{Fresh, any_pair}
-use Rattle.vt_spec.specs.Machine.Descriptors.{pwritten, with_copy}
-use Rattle.vt_spec.specs.Machine.CopyUp.{merge_changed}
-use Rattle.vt_spec.specs.Machine.Filesystems.{filesystem_changed, merge_of, overlay_changed, stack_of, with_change, with_files}
-use Rattle.vt_spec.specs.Machine.Mounts.{Location}
-use Rattle.vt_spec.specs.Machine.World.{Filesystem, Layer, Overlay, World, filesystem_at, filesystem_numbered, mount_at, replaced_if_numbered}
-use Rattle.vt_spec.proofs.Lists.{Among, among-from_map}
+use Rattle.std.proofs.Common.{◌≡◌, refl, sym, ap, subst, ◌∙◌, ℕ, nat_eq, Bool, true, false, cond, List, [], ◌∷◌, Option, Some, None, map, eqb-true, option_map}
+use Rattle.vt_spec.proofs.Common.{Among, Change, CopyUp, Filesystem, Fresh, Layer, Location, Overlay, World, among-from_map, any_pair, changed, filesystem_at, filesystem_changed, filesystem_numbered, merge_changed, merge_of, mount_at, overlay_changed, pwritten, replaced_if_numbered, stack_of, with_change, with_copy, with_files}
 use Rattle.vt_laws_trees.proofs.layers.layers.LowersWorld.{number_of_filesystem}
 use Rattle.vt_laws_mounts.proofs.letting_go.sweeps.OfWorlds.{found_filesystem}
 use Rattle.vt_laws_containers.proofs.footholds.AsBefore.{layered_as, without_real}

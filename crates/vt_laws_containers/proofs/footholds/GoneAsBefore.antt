@@ -1,17 +1,6 @@
 -- Mounts of a set that go, and files that change, leave others as they were.
-use Rattle.std.proofs.lemmas.Grind.{common_steps}
-use Rattle.std.proofs.Common.{◌≡◌, refl, sym, subst, ℕ, nat_eq, Bool, true, false, cond, true≢false, List, [], ◌∷◌, Some, None, filter, find, length, eq-eqb, eqb-true, arith}
-use Rattle.std.specs.Prelude.{option_map}
-use Rattle.std.specs.List.{list_any}
-use Rattle.std.proofs.lemmas.Bool.{false_from_ne_true}
-use Rattle.vt_spec.specs.Language.Calls.{Call, TaskName}
-use Rattle.vt_spec.specs.Lists.{Fresh, chain, holds_of, is_among, last_or}
-use Rattle.vt_spec.specs.Machine.Detach.{after_going, is_going, mount_point_of_parent, taken_away}
-use Rattle.vt_spec.specs.Machine.Mounts.{Location, Mount, detached}
-use Rattle.vt_spec.specs.Machine.Run.{Serves}
-use Rattle.vt_spec.specs.Machine.Sealed.{is_own_namespace}
-use Rattle.vt_spec.specs.Machine.World.{Task, World, mount_numbered, task_called}
-use Rattle.vt_spec.proofs.Lists.{Among, among-from_filter, any_among, any_from_among, is_among_numbers, among_numbers, map_alike}
+use Rattle.std.proofs.Common.{◌≡◌, refl, sym, subst, ℕ, nat_eq, Bool, true, false, cond, true≢false, List, [], ◌∷◌, Some, None, filter, find, length, eq-eqb, eqb-true, arith, option_map}
+use Rattle.vt_spec.proofs.Common.{Among, Call, Fresh, Location, Mount, Serves, Task, TaskName, World, after_going, among-from_filter, among_numbers, any_among, any_from_among, chain, common_steps, detached, false_from_ne_true, holds_of, is_among, is_among_numbers, is_going, is_own_namespace, last_or, list_any, map_alike, mount_numbered, mount_point_of_parent, taken_away, task_called}
 use Rattle.vt_laws_mounts.proofs.mounts.MountsReplaced.{found_itself}
 use Rattle.vt_laws_trees.specs.Trees.Limits.{names_few_groups}
 use Rattle.vt_laws_members.specs.Changes.Changes.{IsCallOfTheirs}

@@ -1,24 +1,11 @@
 -- Others beside a sealed set, as a set of their own in the world without its tasks: they have their namespaces and
 -- mounts for themselves, too.
-use Rattle.std.proofs.lemmas.Grind.{common_steps}
 use Rattle.std.proofs.Common.{◌≡◌, refl, sym, ap, subst, ◌∙◌, ◌⊎◌, inl, inr, ⊎_elim, ℕ, nat_eq, Bool, true, false, true≢false, List, [], ◌∷◌, Option, Some, None, filter, map, not, ◌||◌, eq-eqb, eqb-true, arith}
-use Rattle.std.specs.List.{list_all, list_any}
-use Rattle.std.proofs.lemmas.Bool.{false_from_ne_true, not-true}
-use Rattle.vt_spec.specs.Language.Calls.{TaskName, same_name}
-use Rattle.vt_spec.specs.Lists.{holds_of}
-use Rattle.vt_spec.specs.Machine.Invariants.{MountInvariants, Stands, is_listed}
-use Rattle.vt_spec.specs.Machine.Invariants.Stands.{at_root, on_parent}
-use Rattle.vt_spec.specs.Machine.Mounts.{Location, Mount, group_of}
-use Rattle.vt_spec.specs.Machine.Namespaces.{has_tasks}
-use Rattle.vt_spec.specs.Machine.Sealed.{is_at, is_member_task, is_own_mount, is_own_namespace, locations, members, other_mounts, outsiders, own_mounts, roots_and_directories, share_events}
-use Rattle.vt_spec.specs.Machine.World.{Namespace, Task, World, locations_of, mount_at, mount_numbered}
-use Rattle.vt_spec.proofs.Lists.{Among, all_from_among, among-filter, among-flat_map, among-from_filter, among-from_flat_map, among-from_map, among-map, among_from_all, among_from_list_all, any_among, any_from_among, list_all_from_among}
-use Rattle.vt_spec.proofs.Worlds.{same_name_itself}
+use Rattle.vt_spec.proofs.Common.{Among, Location, Mount, MountInvariants, Namespace, Stands, Task, TaskName, World, all_from_among, among-filter, among-flat_map, among-from_filter, among-from_flat_map, among-from_map, among-map, among_from_all, among_from_list_all, any_among, any_from_among, at_root, common_steps, false_from_ne_true, filter_alike, filter_all, group_of, has_tasks, holds_of, is_at, is_listed, is_member_task, is_own_mount, is_own_namespace, list_all, list_all_from_among, list_any, locations, locations_of, members, mount_at, mount_numbered, not-true, on_parent, other_mounts, outsiders, own_mounts, roots_and_directories, same_name, same_name_itself, share_events}
 use Rattle.vt_laws_mounts.proofs.mounts.MountsReplaced.{found_itself}
 use Rattle.vt_laws_sealed.specs.Part.Seals.{IsApart}
 use Rattle.vt_laws_sealed.proofs.outsiders.OtherMounts.{namespace_outside, standing_apart_of}
 use Rattle.vt_laws_sealed.proofs.outsiders.StandingApart.{StandsApart}
-use Rattle.vt_spec.proofs.Found.{filter_all, filter_alike}
 
 -- Filters
 

@@ -1,29 +1,6 @@
 -- Removals, renames and lazy unmounts of theirs give others no foothold: all mounts that go are theirs.
-use Rattle.std.proofs.Common.{◌≡◌, refl, sym, ap, subst, ◌∙◌, ⊎_elim, ℕ, nat_eq, eq-eqb, true, false, true≢false, List, [], Option, Some, None, Ok}
-use Rattle.std.specs.Prelude.{is_some}
-use Rattle.vt_spec.specs.Language.Calls.{Call, TaskName}
-use Rattle.vt_spec.specs.Language.Changes.{Change}
-use Rattle.vt_spec.specs.Language.Changes.Change.{Move, Remove}
-use Rattle.vt_spec.specs.Lists.{Fresh, any_pair, folded, holds_of}
-use Rattle.vt_spec.specs.Machine.Apply.{apply, overfills}
-use Rattle.vt_spec.specs.Machine.Detach.{is_going, lazily_unmounted, mounts_on, points_of, taken_away, unmounted_if_there, without_mounts_on}
-use Rattle.vt_spec.specs.Machine.Filesystems.{with_change}
-use Rattle.vt_spec.specs.Machine.Invariants.{IsWorld, MountInvariants}
-use Rattle.vt_spec.specs.Machine.Judge.{judge_in}
-use Rattle.vt_spec.specs.Machine.Locked.{is_locked_at}
-use Rattle.vt_spec.specs.Machine.Looks.{looks_of}
-use Rattle.vt_spec.specs.Machine.Mounts.{Location, Mount}
-use Rattle.vt_spec.specs.Machine.Permits.{Permit}
-use Rattle.vt_spec.specs.Machine.Permits.Permit.{ToRemoveDirectory, ToRename, ToUnmountLazily}
-use Rattle.vt_spec.specs.Machine.Policy.{numbers_raised}
-use Rattle.vt_spec.specs.Machine.Rules.Conditions.{is_mount_point_in}
-use Rattle.vt_spec.specs.Machine.Run.{Serves}
-use Rattle.vt_spec.specs.Machine.Sealed.{is_own_namespace, members, part_of, used_alone}
-use Rattle.vt_spec.specs.Machine.Settled.{settled}
-use Rattle.vt_spec.specs.Machine.World.{Filesystem, Overlay, Task, World, filesystem_at, filesystem_numbered, is_overlay, mount_at, mount_numbered, task_called}
-use Rattle.vt_spec.proofs.Lists.{Among}
-use Rattle.vt_spec.proofs.Options.{none_is_some}
-use Rattle.vt_spec.proofs.Worlds.{found_or_none}
+use Rattle.std.proofs.Common.{◌≡◌, refl, sym, ap, subst, ◌∙◌, ⊎_elim, ℕ, nat_eq, eq-eqb, true, false, true≢false, List, [], Option, Some, None, Ok, is_some}
+use Rattle.vt_spec.proofs.Common.{Among, Call, Change, Filesystem, Fresh, IsWorld, Location, Mount, MountInvariants, Move, Overlay, Permit, Remove, Serves, Task, TaskName, ToRemoveDirectory, ToRename, ToUnmountLazily, World, any_pair, apply, filesystem_at, filesystem_numbered, folded, found_or_none, holds_of, is_going, is_locked_at, is_mount_point_in, is_overlay, is_own_namespace, judge_in, lazily_unmounted, looks_of, members, mount_at, mount_numbered, mounts_on, none_is_some, numbers_raised, overfills, part_of, points_of, settled, taken_away, task_called, unmounted_if_there, used_alone, with_change, without_mounts_on}
 use Rattle.vt_laws_rules.proofs.given.GivenPermits.{permits_are_for_their_calls}
 use Rattle.vt_laws_rules.proofs.given.Inversion.{calls_are_granted}
 use Rattle.vt_laws_trees.specs.Trees.Calls.{mounts_overlay}

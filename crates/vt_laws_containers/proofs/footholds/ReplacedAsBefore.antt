@@ -1,25 +1,6 @@
 -- Where mounts of a sealed set get other flags or mount points, others are as they were.
-use Rattle.std.proofs.lemmas.Grind.{common_steps}
 use Rattle.std.proofs.Common.{◌≡◌, refl, sym, ap, subst, ◌∙◌, ◌⊎◌, inl, inr, ⊎_elim, ℕ, nat_eq, Bool, true, false, cond, true≢false, List, [], ◌∷◌, Option, Some, None, Ok, filter, map, not, eq-eqb, eqb-true, arith}
-use Rattle.std.specs.List.{list_all, list_any}
-use Rattle.std.proofs.lemmas.Bool.{not-true}
-use Rattle.std.proofs.lemmas.Option.{same_Some}
-use Rattle.vt_spec.specs.Language.Calls.{Call, MountFlags, TaskName, same_name}
-use Rattle.vt_spec.specs.Language.Calls.Call.{PivotRoot}
-use Rattle.vt_spec.specs.Lists.{Fresh, holds_of, is_among}
-use Rattle.vt_spec.specs.Machine.Apply.{apply}
-use Rattle.vt_spec.specs.Machine.Invariants.{IsWorld}
-use Rattle.vt_spec.specs.Machine.Judge.{judge_in}
-use Rattle.vt_spec.specs.Machine.Mounts.{Location, Mount, Propagation, mount_in, no_mount, replaced_if_same, root_of, same_location}
-use Rattle.vt_spec.specs.Machine.Namespaces.{pivoted_location, pivoted_mount, pivoted_task}
-use Rattle.vt_spec.specs.Machine.Permits.{Permit}
-use Rattle.vt_spec.specs.Machine.Permits.Permit.{ToPivot, ToSetFlags}
-use Rattle.vt_spec.specs.Machine.Run.{Serves}
-use Rattle.vt_spec.specs.Machine.Sealed.{is_member_task, is_own_namespace, locations, members, other_mounts, outsiders, own_mounts, sealed, share_events, used_directly}
-use Rattle.vt_spec.specs.Machine.World.{Task, World, locations_of, mount_at, mount_numbered, task_called, with_mounts}
-use Rattle.vt_spec.proofs.Lists.{Among, among-append, among-append_left, among-append_right, among-flat_map, among-from_filter, among-from_flat_map, among-from_map, among-map, any_from_among, map_alike}
-use Rattle.vt_spec.proofs.Worlds.{found_or_none, number-mount_in}
-use Rattle.vt_spec.proofs.Options.{none_is_some}
+use Rattle.vt_spec.proofs.Common.{Among, Call, Fresh, IsWorld, Location, Mount, MountFlags, Permit, PivotRoot, Propagation, Serves, Task, TaskName, ToPivot, ToSetFlags, World, among-append, among-append_left, among-append_right, among-flat_map, among-from_filter, among-from_flat_map, among-from_map, among-map, any_from_among, apply, common_steps, found_or_none, holds_of, is_among, is_member_task, is_own_namespace, judge_in, list_all, list_any, locations, locations_of, map_alike, members, mount_at, mount_in, mount_numbered, no_mount, none_is_some, not-true, number-mount_in, other_mounts, outsiders, own_mounts, pivoted_location, pivoted_mount, pivoted_task, replaced_if_same, root_of, same_Some, same_location, same_name, sealed, share_events, task_called, used_directly, with_mounts}
 use Rattle.vt_laws_mounts.proofs.letting_go.Lists.{filter-map}
 use Rattle.vt_laws_mounts.proofs.mounts.MountsReplaced.{found_itself}
 use Rattle.vt_laws_rules.proofs.given.GivenPermits.{permits_are_for_their_calls}

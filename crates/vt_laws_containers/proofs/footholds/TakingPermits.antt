@@ -1,28 +1,6 @@
 -- Permits that take mounts of a sealed set away leave others as they were: umount(2), _exit(2), setns(2).
-use Rattle.std.proofs.lemmas.Grind.{common_steps}
-use Rattle.std.proofs.Common.{◌≡◌, refl, sym, ap, subst, ◌∙◌, ◌⊎◌, inl, inr, ⊎_elim, ℕ, nat_eq, Bool, true, false, true≢false, List, [], ◌∷◌, Option, Some, None, Ok, filter, map, not, is_some, ◌&&◌, ◌||◌, eq-eqb, eqb-true, arith}
-use Rattle.std.specs.Prelude.{IfOk, option_to_list}
-use Rattle.std.specs.List.{list_all, list_any}
-use Rattle.std.proofs.lemmas.Bool.{and_from, and_parts, false_from_ne_true, not-false, not-true}
-use Rattle.vt_spec.specs.Language.Calls.{Call, TaskName, same_name}
-use Rattle.vt_spec.specs.Language.Calls.Call.{Exit, Setns}
-use Rattle.vt_spec.specs.Lists.{Fresh, holds_of}
-use Rattle.vt_spec.specs.Machine.Apply.{apply}
-use Rattle.vt_spec.specs.Machine.Detach.{going, is_going, taken_away}
-use Rattle.vt_spec.specs.Machine.Invariants.{IsWorld, is_listed}
-use Rattle.vt_spec.specs.Machine.Judge.{judge_in}
-use Rattle.vt_spec.specs.Machine.Mounts.{Location, Mount}
-use Rattle.vt_spec.specs.Machine.Namespaces.{has_tasks, is_in_ended, namespaces_ended}
-use Rattle.vt_spec.specs.Machine.Permits.{Permit}
-use Rattle.vt_spec.specs.Machine.Permits.Permit.{ToEnterNamespace, ToExit, ToUnmount}
-use Rattle.vt_spec.specs.Machine.Policy.{numbers_raised, raised_task}
-use Rattle.vt_spec.specs.Machine.Run.{Serves}
-use Rattle.vt_spec.specs.Machine.Sealed.{is_member_task, is_own_namespace, locations, members, outsiders}
-use Rattle.vt_spec.specs.Machine.Settled.{is_located, mount_lives, settled}
-use Rattle.vt_spec.specs.Machine.World.{Namespace, Task, World, locations_of, mount_numbered, replaced_if_called, task_called, without_task}
-use Rattle.vt_spec.proofs.Lists.{Among, among-filter, among-flat_map, among-from_filter, among-from_flat_map, among-from_map, among_from_list_all, among_numbers, any_among, any_from_among}
-use Rattle.vt_spec.proofs.Options.{none_is_some}
-use Rattle.vt_spec.proofs.Worlds.{found_or_none}
+use Rattle.std.proofs.Common.{◌≡◌, refl, sym, ap, subst, ◌∙◌, ◌⊎◌, inl, inr, ⊎_elim, ℕ, nat_eq, Bool, true, false, true≢false, List, [], ◌∷◌, Option, Some, None, Ok, filter, map, not, is_some, ◌&&◌, ◌||◌, eq-eqb, eqb-true, arith, IfOk, option_to_list}
+use Rattle.vt_spec.proofs.Common.{Among, Call, Exit, Fresh, IsWorld, Location, Mount, Namespace, Permit, Serves, Setns, Task, TaskName, ToEnterNamespace, ToExit, ToUnmount, World, among-filter, among-flat_map, among-from_filter, among-from_flat_map, among-from_map, among_from_list_all, among_numbers, and_from, and_parts, any_among, any_from_among, apply, common_steps, false_from_ne_true, found_or_none, going, has_tasks, holds_of, is_going, is_in_ended, is_listed, is_located, is_member_task, is_own_namespace, judge_in, list_all, list_any, locations, locations_of, members, mount_lives, mount_numbered, namespaces_ended, none_is_some, not-false, not-true, numbers_raised, outsiders, raised_task, replaced_if_called, same_name, settled, taken_away, task_called, without_task}
 use Rattle.vt_laws_mounts.proofs.letting_go.Lists.{filter_less}
 use Rattle.vt_laws_mounts.proofs.mounts.MountsReplaced.{found_itself}
 use Rattle.vt_laws_rules.proofs.given.GivenPermits.{permits_are_for_their_calls}

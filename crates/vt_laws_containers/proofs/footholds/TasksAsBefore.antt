@@ -1,20 +1,6 @@
 -- Where tasks of a set and filesystems change, and mounts do not, others are as they were.
-use Rattle.std.proofs.lemmas.Grind.{common_steps}
 use Rattle.std.proofs.Common.{◌≡◌, refl, sym, ap, subst, ◌∙◌, ◌⊎◌, inl, inr, ⊎_elim, ℕ, nat_eq, Bool, true, false, cond, true≢false, List, [], ◌∷◌, ◌++◌, Some, filter, map, not, ◌+◌, ◌||◌, arith}
-use Rattle.std.specs.List.{list_all, list_any}
-use Rattle.std.proofs.lemmas.Bool.{false_from_ne_true, not-true}
-use Rattle.vt_spec.specs.Language.Calls.{Call, TaskName, same_name}
-use Rattle.vt_spec.specs.Lists.{holds_of, is_among}
-use Rattle.vt_spec.specs.Machine.Invariants.{IsWorld}
-use Rattle.vt_spec.specs.Machine.Mounts.{Location, Mount}
-use Rattle.vt_spec.specs.Machine.Sealed.{is_member_task, locations, members, outsiders, own_mounts, sealed, share_events, used_directly}
-use Rattle.vt_spec.specs.Machine.Tasks.{child_name, child_of}
-use Rattle.vt_spec.specs.Machine.World.{Filesystem, Task, World, locations_of, mount_at, replaced_if_called, task_called}
-use Rattle.vt_spec.specs.Rights.{Credentials}
-use Rattle.vt_spec.proofs.Found.{found_among}
-use Rattle.vt_spec.proofs.Lists.{Among, among-append, among-append_left, among-append_right, among-flat_map, among-from_filter, among-from_flat_map, among-from_map, among-map, any_among, any_from_among, contains_from_among}
-use Rattle.vt_spec.proofs.Truths.{same_truth}
-use Rattle.vt_spec.proofs.Worlds.{name-replaced_if_called, same_name_itself, same_task_name}
+use Rattle.vt_spec.proofs.Common.{Among, Call, Credentials, Filesystem, IsWorld, Location, Mount, Task, TaskName, World, among-append, among-append_left, among-append_right, among-flat_map, among-from_filter, among-from_flat_map, among-from_map, among-map, any_among, any_from_among, child_name, child_of, common_steps, contains_from_among, false_from_ne_true, found_among, holds_of, is_among, is_member_task, list_all, list_any, locations, locations_of, members, mount_at, name-replaced_if_called, not-true, outsiders, own_mounts, replaced_if_called, same_name, same_name_itself, same_task_name, same_truth, sealed, share_events, task_called, used_directly}
 use Rattle.vt_laws_mounts.proofs.letting_go.Lists.{filter-map}
 use Rattle.vt_laws_sealed.specs.Part.Seals.{IsApart}
 use Rattle.vt_laws_sealed.proofs.part.seals.ByPart.{apart_if_sealed}

@@ -1,23 +1,7 @@
 -- Permits to look, to change tasks, and to change files leave others as they were.
-use Rattle.std.proofs.lemmas.Grind.{common_steps}
-use Rattle.std.proofs.Common.{◌≡◌, refl, sym, ap, subst, ◌∙◌, inl, inr, ⊎_elim, ℕ, nat_eq, Bool, true, false, true≢false, List, Some, Ok, filter, map, not, arith}
-use Rattle.std.specs.Prelude.{IfOk, ◌==◌}
+use Rattle.std.proofs.Common.{◌≡◌, refl, sym, ap, subst, ◌∙◌, inl, inr, ⊎_elim, ℕ, nat_eq, Bool, true, false, true≢false, List, Some, Ok, filter, map, not, arith, IfOk, ◌==◌}
+use Rattle.vt_spec.proofs.Common.{Access, Allowed, Among, Call, Descriptor, Filesystem, Fresh, Location, Make, Permit, Serves, Task, TaskName, ToChange, ToClose, ToExit, ToFork, ToList, ToListMounts, ToMake, ToOpen, ToOpenNew, ToRead, ToReadPart, ToSetCredentials, ToSetDirectory, ToSetRoot, ToSetUmask, ToStat, ToWritePart, World, among-from_filter, among-from_map, among-map, apply, common_steps, evens, is_copied_up, judge_in, members, odds, only_looks, replaced_if_called, settled, task_called, with_descriptor, without_descriptor}
 use Rattle.vt_laws_sealed.proofs.outsiders.Opening.{inserted_at}
-use Rattle.vt_spec.specs.Language.Calls.{Access, Call, TaskName}
-use Rattle.vt_spec.specs.Lists.{Fresh, evens, odds}
-use Rattle.vt_spec.specs.Machine.Apply.{apply}
-use Rattle.vt_spec.specs.Machine.Descriptors.{is_copied_up, with_descriptor, without_descriptor}
-use Rattle.vt_spec.specs.Machine.Judge.{judge_in}
-use Rattle.vt_spec.specs.Machine.Mounts.{Location}
-use Rattle.vt_spec.specs.Machine.Permits.{Permit}
-use Rattle.vt_spec.specs.Machine.Permits.Permit.{Allowed, ToChange, ToClose, ToExit, ToFork, ToList, ToListMounts, ToMake, ToOpen, ToOpenNew, ToRead, ToReadPart, ToSetCredentials, ToSetDirectory, ToSetRoot, ToSetUmask, ToStat, ToWritePart}
-use Rattle.vt_spec.specs.Machine.Policy.{only_looks}
-use Rattle.vt_spec.specs.Machine.Run.{Serves}
-use Rattle.vt_spec.specs.Machine.Sealed.{members}
-use Rattle.vt_spec.specs.Machine.Settled.{settled}
-use Rattle.vt_spec.specs.Machine.World.{Descriptor, Filesystem, Task, World, replaced_if_called, task_called}
-use Rattle.vt_spec.specs.Language.Changes.Change.{Make}
-use Rattle.vt_spec.proofs.Lists.{Among, among-from_filter, among-from_map, among-map}
 use Rattle.vt_laws_rules.proofs.given.GivenPermits.{permits_are_for_their_calls}
 use Rattle.vt_laws_trees.specs.Trees.Limits.{names_few_groups}
 use Rattle.vt_laws_members.specs.Judging.{is_theirs}

@@ -1,11 +1,6 @@
 -- Turns of outsiders change no turn of theirs.
 use Rattle.std.proofs.Common.{arith, ◌≡◌, ap, ◌∙◌, ℕ, nat_eq, List, Option, Some}
-use Rattle.std.proofs.lemmas.Grind.{common_steps}
-use Rattle.vt_spec.specs.Language.Calls.{TaskName}
-use Rattle.vt_spec.specs.Language.Script.Who.{Someone}
-use Rattle.vt_spec.specs.Lists.{Fresh, first_of_list}
-use Rattle.vt_spec.specs.Machine.Run.{Serves}
-use Rattle.vt_spec.specs.Machine.Turns.{Queued, Sched, Turned, queue_of, turn}
+use Rattle.vt_spec.proofs.Common.{Fresh, Queued, Sched, Serves, Someone, TaskName, Turned, common_steps, first_of_list, queue_of, turn}
 use Rattle.vt_laws_turns.specs.Commits.{left_by}
 use Rattle.vt_laws_turns.specs.Holds.Held.{HoldsWhatIsSeen}
 use Rattle.vt_laws_turns.proofs.holds.Holding.{schedules_hold_what_is_seen}

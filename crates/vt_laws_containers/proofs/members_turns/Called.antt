@@ -1,11 +1,6 @@
 -- The set that a turn of theirs leaves has names of tasks alone.
 use Rattle.std.proofs.Common.{◌≡◌, refl, ap, ◌∙◌, ⊎_elim, ℕ, nat_eq, false, true, true≢false, List, [], ◌∷◌, Option, Some, None}
-use Rattle.vt_spec.specs.Language.Calls.{TaskName}
-use Rattle.vt_spec.specs.Language.Script.Who.{Someone}
-use Rattle.vt_spec.specs.Lists.{Fresh, first_of_list}
-use Rattle.vt_spec.specs.Machine.Turns.{Item, Queued, Reply, Sched, Turned, queue_of, turn}
-use Rattle.vt_spec.specs.Machine.Turns.Item.{Asks, Calls, Refused}
-use Rattle.vt_spec.specs.Machine.World.{World}
+use Rattle.vt_spec.proofs.Common.{Asks, Calls, Fresh, Item, Queued, Refused, Reply, Sched, Someone, TaskName, Turned, World, first_of_list, queue_of, turn}
 use Rattle.vt_laws_sealed.specs.Outsiders.{are_all_called}
 use Rattle.vt_laws_containers.proofs.scripts.Called.{members_stay_called}
 use Rattle.vt_laws_turns.specs.Commits.{run_item}

@@ -1,18 +1,9 @@
 -- Each turn of a task of a sealed set is one of the part of the set.
 use Rattle.std.proofs.Common.{arith, ◌≡◌, refl, sym, ap, subst, ◌∙◌, ⊎_elim, ℕ, nat_eq, Bool, true, true≢false, not, List, [], ◌∷◌, Option, Some, None, filter, is_some}
-use Rattle.std.proofs.lemmas.Grind.{common_steps}
+use Rattle.vt_spec.proofs.Common.{Asks, Call, Calls, Fresh, IsWorld, Item, Progress, Queue, Queued, Refused, Sched, Someone, TaskName, Turned, World, common_steps, denied, first_of_list, is_among, part_of, policy, queue_of, queue_turn, same_name, turn, without_progress}
 use Rattle.vt_laws_worlds.proofs.overlays_stay.weaving.WovenLists.{filters_swapped}
 use Rattle.vt_spec.specs.declared.errors.Deny.{Deny}
-use Rattle.vt_spec.specs.Language.Calls.{Call, TaskName, same_name}
-use Rattle.vt_spec.specs.Language.Script.Who.{Someone}
-use Rattle.vt_spec.specs.Lists.{Fresh, first_of_list, is_among}
-use Rattle.vt_spec.specs.Machine.Invariants.{IsWorld}
-use Rattle.vt_spec.specs.Machine.Outcomes.{denied}
-use Rattle.vt_spec.specs.Machine.Policy.{policy}
-use Rattle.vt_spec.specs.Machine.Sealed.{part_of}
-use Rattle.vt_spec.specs.Machine.Turns.{Item, Progress, Queue, Queued, Sched, Turned, queue_of, queue_turn, replied, turn, without_progress}
-use Rattle.vt_spec.specs.Machine.Turns.Item.{Asks, Calls, Refused}
-use Rattle.vt_spec.specs.Machine.World.{World}
+use Rattle.vt_spec.specs.Machine.Turns.{replied}
 use Rattle.vt_laws_sealed.proofs.part.Kept.{filter_again}
 use Rattle.vt_laws_members.specs.Changes.Changes.{grown}
 use Rattle.vt_laws_members.proofs.changes.part.PartAgain.{part_of_the_part}

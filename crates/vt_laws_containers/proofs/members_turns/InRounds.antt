@@ -1,11 +1,6 @@
 -- Turns of theirs reply as they do without the turns of others.
 use Rattle.std.proofs.Common.{arith, ◌≡◌, refl, sym, ap, subst, ◌∙◌, ℕ, nat_eq, true, List, [], ◌∷◌, Option, map}
-use Rattle.std.proofs.lemmas.Grind.{common_steps}
-use Rattle.vt_spec.specs.Language.Calls.{TaskName, same_name}
-use Rattle.vt_spec.specs.Language.Script.Who.{Someone}
-use Rattle.vt_spec.specs.Lists.{first_of_list, is_among}
-use Rattle.vt_spec.specs.Machine.Sealed.{part_of}
-use Rattle.vt_spec.specs.Machine.Turns.{Reply, Sched, queue_of, same_who}
+use Rattle.vt_spec.proofs.Common.{Reply, Sched, Someone, TaskName, common_steps, first_of_list, is_among, part_of, queue_of, same_name, same_who}
 use Rattle.vt_laws_turns.specs.Commits.{left_by}
 use Rattle.vt_laws_turns.specs.Holds.Held.{HoldsWhatIsSeen}
 use Rattle.vt_laws_turns.proofs.holds.Holding.{schedules_hold_what_is_seen, turns_hold_what_is_seen}

@@ -1,19 +1,7 @@
 -- A turn looks at no queue but its own.
-use Rattle.std.proofs.Common.{arith, ◌≡◌, refl, ap, subst, ◌∙◌, inl, inr, sym, true≢false, ℕ, nat_eq, Bool, true, false, cond, List, [], ◌∷◌, ◌+◌, Option, Some, None, Ok, Err, Result, find}
-use Rattle.std.proofs.lemmas.Grind.{common_steps}
-use Rattle.std.specs.Prelude.{Contains, nat_le, slice_get}
+use Rattle.std.proofs.Common.{arith, ◌≡◌, refl, ap, subst, ◌∙◌, inl, inr, sym, true≢false, ℕ, nat_eq, Bool, true, false, cond, List, [], ◌∷◌, ◌+◌, Option, Some, None, Ok, Err, Result, find, Contains, nat_le, slice_get}
+use Rattle.vt_spec.proofs.Common.{Asks, Call, Calls, Fresh, Item, Progress, Queue, Queued, Refused, Reply, Route, Sched, Someone, Task, TaskName, Turned, Who, World, among_from_contains, call_turn, call_turn_of, common_steps, contains_from_among, entry_rules, first_progress, first_turn, first_turn_by, further, is_among, is_failing, is_overtaken, item_turn, later_turn, looks_of, most_restarts, next_word, queue_of, queue_turn, rest_of, restarted, routes, same_name, same_who, task_called, turn, turn_under_way, unless, word_walked_by, words_of}
 use Rattle.vt_spec.specs.declared.errors.Deny.{Deny}
-use Rattle.vt_spec.specs.Errors.{unless}
-use Rattle.vt_spec.specs.Language.Calls.{Call, TaskName, same_name}
-use Rattle.vt_spec.specs.Language.Limits.{most_restarts}
-use Rattle.vt_spec.specs.Language.Script.{Who}
-use Rattle.vt_spec.specs.Language.Script.Who.{Someone}
-use Rattle.vt_spec.specs.Lists.{Fresh, is_among, rest_of}
-use Rattle.vt_spec.specs.Machine.Looks.{looks_of}
-use Rattle.vt_spec.specs.Machine.Turns.{Item, Progress, Queue, Queued, Reply, Route, Sched, Turned, call_turn, call_turn_of, entry_rules, first_progress, first_turn, first_turn_by, further, is_failing, is_overtaken, item_turn, later_turn, next_word, queue_of, queue_turn, restarted, routes, same_who, turn, turn_under_way, word_walked_by, words_of}
-use Rattle.vt_spec.specs.Machine.Turns.Item.{Asks, Calls, Refused}
-use Rattle.vt_spec.specs.Machine.World.{Task, World, task_called}
-use Rattle.vt_spec.proofs.Lists.{among_from_contains, contains_from_among}
 use Rattle.vt_laws_turns.specs.Commits.{Turn, left_by}
 use Rattle.vt_laws_turns.proofs.played.Fronts.{same_whos, shorter}
 use Rattle.vt_laws_turns.proofs.played.Turning.{GoesOn, Turns, turn_is}

@@ -1,14 +1,7 @@
 -- The numbers that a line is handed are not in use, and after its call the world has no number of a later line.
-use Rattle.std.proofs.lemmas.Grind.{common_steps}
 use Rattle.std.proofs.Common.{◌≡◌, sym, ap, ◌∙◌, ℕ, zero, suc, nat_eq, Bool, false, true≢false, List, Some, ◌+◌, ◌≤◌, ◌||◌, eq-eqb, eqb-true, ne_eqb, arith}
-use Rattle.std.proofs.lemmas.Bool.{false_from_ne_true, or_left, or_right}
+use Rattle.vt_spec.proofs.Common.{Call, Grammar, Serves, TaskName, World, common_steps, false_from_ne_true, is_among, line_step, numbers_for, numbers_in_use, or_left, or_right, policy, step_world}
 use Rattle.vt_laws_turns.proofs.holds.Scripts.{row_of}
-use Rattle.vt_spec.specs.Language.Calls.{Call, TaskName}
-use Rattle.vt_spec.specs.Lists.{is_among}
-use Rattle.vt_spec.specs.Machine.Policy.{policy}
-use Rattle.vt_spec.specs.Language.Script.{Grammar}
-use Rattle.vt_spec.specs.Machine.Run.{Serves, line_step, numbers_for, numbers_in_use, step_world}
-use Rattle.vt_spec.specs.Machine.World.{World}
 use Rattle.vt_laws_rules.specs.Numbers.{IsSuppliedFrom, KeepsTo, LeavesOutTwo}
 use Rattle.vt_laws_rules.proofs.numbers.Rows.{col, col-spread, row, spread_for}
 use Rattle.vt_laws_rules.proofs.numbers.Supports.{calls_keep_to_numbers, lines_keep_to_numbers, used_numbers_are_named}

@@ -1,12 +1,7 @@
 -- After the lines of a script, the world has all invariants, and no number of a later line.
-use Rattle.std.proofs.Common.{refl, subst, ℕ, nat_eq, List, [], ◌∷◌, Some, length, ◌+◌, ◌≤◌, ◌*◌, ◌/◌, arith}
-use Rattle.std.specs.Prelude.{nat_lt}
-use Rattle.std.proofs.lemmas.Bool.{le-ltb}
-use Rattle.vt_spec.specs.Language.Limits.{longest_line}
-use Rattle.vt_spec.specs.Language.Script.{Grammar, is_silent}
-use Rattle.vt_spec.specs.Machine.Invariants.{IsWorld}
-use Rattle.vt_spec.specs.Machine.Run.{first_world, line_step, numbers_for, step_world, world_from}
-use Rattle.vt_spec.specs.Machine.World.{World}
+use Rattle.std.proofs.Common.{refl, subst, ℕ, nat_eq, List, [], ◌∷◌, Some, length, ◌+◌, ◌≤◌, ◌*◌, ◌/◌, arith, nat_lt, le-ltb}
+use Rattle.vt_spec.proofs.Common.{Grammar, IsWorld, World, first_world, is_silent, line_step, longest_line, numbers_for, step_world}
+use Rattle.vt_spec.specs.Machine.Run.{world_from}
 use Rattle.vt_laws_rules.proofs.numbers.Supports.{opening_keeps_to_four}
 use Rattle.vt_laws_rules.specs.Numbers.{first_four}
 use Rattle.vt_laws_worlds.proofs.opening.OpeningWorld.{opening_is_a_world}

@@ -1,23 +1,7 @@
 -- Where mounts of a sealed set change their types, they are in groups that the set heard or in new ones, and others
 -- keep theirs: so mounts share no events with others.
 use Rattle.std.proofs.Common.{arith, ◌≡◌, refl, sym, ap, subst, ◌∙◌, ◌⊎◌, inl, inr, ⊎_elim, ℕ, nat_eq, Bool, true, false, cond, true≢false, List, [], ◌∷◌, Option, Some, None, length, map, not, eq-eqb, eqb-true}
-use Rattle.std.proofs.lemmas.Grind.{common_steps}
-use Rattle.std.specs.List.{list_all}
-use Rattle.std.proofs.lemmas.Bool.{false_from_ne_true, not-true, or_cases}
-use Rattle.std.proofs.lemmas.Option.{same_Some}
-use Rattle.vt_spec.specs.Language.Calls.{TaskName, TypeWord}
-use Rattle.vt_spec.specs.Lists.{Fresh, holds_of}
-use Rattle.vt_spec.specs.Machine.Invariants.{IsWorld}
-use Rattle.vt_spec.specs.Machine.Mounts.{Mount, Propagation, group_of, index_of, numbers_by, source_of}
-use Rattle.vt_spec.specs.Machine.Mounts.Propagation.{Private, Shared, Slave, Unbindable}
-use Rattle.vt_spec.specs.Machine.Receives.{groups_up, has_members, heir, inherited, is_member_of, slave_of_heir}
-use Rattle.vt_spec.specs.Machine.Run.{Serves}
-use Rattle.vt_spec.specs.Machine.Sealed.{is_own_mount, is_own_namespace, master_of, other_mounts, own_mounts, receives_events_of, sealed, share_events, shares_no_events}
-use Rattle.vt_spec.specs.Machine.Types.{master_after, type_after, with_master, with_new_groups}
-use Rattle.vt_spec.specs.Machine.World.{World}
-use Rattle.vt_spec.proofs.Found.{find-chain_start, found_among}
-use Rattle.vt_spec.proofs.Lists.{Among, among-from_filter, among-from_map, among-map, any_among, any_from_among, is_among_numbers, list_all_from_among, map_same}
-use Rattle.vt_spec.proofs.Options.{none_is_some}
+use Rattle.vt_spec.proofs.Common.{Among, Fresh, IsWorld, Mount, Private, Propagation, Serves, Shared, Slave, TaskName, TypeWord, Unbindable, World, among-from_filter, among-from_map, among-map, any_among, any_from_among, common_steps, false_from_ne_true, find-chain_start, found_among, group_of, groups_up, has_members, heir, holds_of, index_of, inherited, is_among_numbers, is_member_of, is_own_mount, is_own_namespace, list_all, list_all_from_among, map_same, master_after, master_of, none_is_some, not-true, numbers_by, or_cases, other_mounts, own_mounts, receives_events_of, same_Some, sealed, share_events, shares_no_events, slave_of_heir, source_of, type_after, with_master, with_new_groups}
 use Rattle.vt_laws_trees.specs.Layers.Layers.ChangesUpper.{IsNewBy}
 use Rattle.vt_laws_mounts.specs.LettingGo.Detaching.{with_changed}
 use Rattle.vt_laws_mounts.proofs.letting_go.Lists.{filter-map}

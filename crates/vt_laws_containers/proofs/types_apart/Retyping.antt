@@ -1,21 +1,6 @@
 -- No mount(2) of a task of a sealed set that changes propagation types gives others a foothold.
-use Rattle.std.proofs.Common.{◌≡◌, refl, sym, ap, subst, ◌∙◌, ℕ, nat_eq, Bool, true, false, List, Option, Some, None, Ok, Err, not}
-use Rattle.std.specs.Prelude.{IfOk, is_ok}
-use Rattle.vt_spec.specs.Errors.{unless}
-use Rattle.vt_spec.specs.Language.Calls.{TaskName, TypeWord}
-use Rattle.vt_spec.specs.Language.Calls.Call.{SetType}
-use Rattle.vt_spec.specs.Lists.{Fresh, holds_of}
-use Rattle.vt_spec.specs.Machine.Invariants.{IsWorld}
-use Rattle.vt_spec.specs.Machine.Judge.{Judgement, judge_in, type_permit}
-use Rattle.vt_spec.specs.Machine.Mounts.{Location}
-use Rattle.vt_spec.specs.Machine.Permits.{Permit}
-use Rattle.vt_spec.specs.Machine.Permits.Permit.{ToSetType}
-use Rattle.vt_spec.specs.Machine.Rules.Mounting.{admin_rules, type_rules}
-use Rattle.vt_spec.specs.Machine.Run.{Serves}
-use Rattle.vt_spec.specs.Machine.Sealed.{members, sealed}
-use Rattle.vt_spec.specs.Machine.Walking.{directory_walk}
-use Rattle.vt_spec.specs.Machine.World.{Task, World, mount_at, task_called}
-use Rattle.vt_spec.proofs.Lists.{Among}
+use Rattle.std.proofs.Common.{◌≡◌, refl, sym, ap, subst, ◌∙◌, ℕ, nat_eq, Bool, true, false, List, Option, Some, None, Ok, Err, not, IfOk, is_ok}
+use Rattle.vt_spec.proofs.Common.{Among, Fresh, IsWorld, Judgement, Location, Permit, Serves, SetType, Task, TaskName, ToSetType, TypeWord, World, admin_rules, directory_walk, holds_of, judge_in, members, mount_at, sealed, task_called, type_permit, type_rules, unless}
 use Rattle.vt_laws_mounts.proofs.letting_go.sweeps.OfWorlds.{all_in_use}
 use Rattle.vt_laws_sealed.proofs.part.part.PartOfPart.{is_own}
 use Rattle.vt_laws_members.specs.Judging.{is_theirs}

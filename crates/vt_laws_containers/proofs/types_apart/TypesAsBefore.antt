@@ -1,14 +1,6 @@
 -- Where mounts of a sealed set change their types, others are as they were.
 use Rattle.std.proofs.Common.{arith, ◌≡◌, refl, ap, subst, ◌∙◌, inl, ℕ, nat_eq, Bool, true, List, [], ◌∷◌, ◌++◌, map, not}
-use Rattle.std.proofs.lemmas.Grind.{common_steps}
-use Rattle.vt_spec.specs.Language.Calls.{TaskName, TypeWord}
-use Rattle.vt_spec.specs.Lists.{Fresh}
-use Rattle.vt_spec.specs.Machine.Invariants.{IsWorld}
-use Rattle.vt_spec.specs.Machine.Mounts.{Location, Mount, Propagation, mount_in}
-use Rattle.vt_spec.specs.Machine.Run.{Serves}
-use Rattle.vt_spec.specs.Machine.Sealed.{is_own_mount, locations, members, outsiders, own_mounts, sealed, used_directly}
-use Rattle.vt_spec.specs.Machine.World.{World, mount_at}
-use Rattle.vt_spec.proofs.Lists.{Among, among_from_list_all, list_all_from_among, map_alike, map_twice}
+use Rattle.vt_spec.proofs.Common.{Among, Fresh, IsWorld, Location, Mount, Propagation, Serves, TaskName, TypeWord, World, among_from_list_all, common_steps, is_own_mount, list_all_from_among, locations, map_alike, map_twice, members, mount_at, mount_in, outsiders, own_mounts, sealed, used_directly}
 use Rattle.vt_laws_mounts.proofs.letting_go.Lists.{filter-map}
 use Rattle.vt_laws_sealed.proofs.part.seals.ByPart.{apart_if_sealed}
 use Rattle.vt_laws_containers.proofs.footholds.AsBefore.{OthersAsBefore}

@@ -1,22 +1,7 @@
 -- After an unshare(2) of a task of a sealed set others are as they were.
 use Rattle.std.proofs.Common.{arith, ◌≡◌, refl, sym, ap, subst, ◌∙◌, ◌⊎◌, inl, inr, ⊎_elim, ℕ, nat_eq, Bool, true, false, cond, true≢false, List, [], ◌∷◌, ◌++◌, Option, Some, None, filter, map, not, ◌||◌, eq-eqb, eqb-true}
-use Rattle.std.proofs.lemmas.Grind.{common_steps}
-use Rattle.std.specs.List.{list_all, list_any}
-use Rattle.std.proofs.lemmas.Bool.{false_from_ne_true, not-true}
+use Rattle.vt_spec.proofs.Common.{Among, Fresh, Location, Mount, MountInvariants, Private, Serves, Task, TaskName, Unshare, World, all_locations, among-append, among-append_left, among-append_right, among-filter, among-flat_map, among-from_filter, among-from_flat_map, among-from_map, among-map, among_from_list_all, any_among, any_from_among, common_steps, detached, false_from_ne_true, group_of, holds_of, is_among, is_listed, is_member_of, is_member_task, is_own_mount, is_own_namespace, list_all, list_all_from_among, list_any, locations, locations_of, master_of, members, mount_at, mount_numbered, mounts_of, name-replaced_if_called, namespaces_ended, not-true, other_mounts, outsiders, own_mounts, replaced_if_called, same_name, same_name_itself, same_task_name, share_events, shares_no_events, task_called, unshared, used_directly}
 use Rattle.vt_laws_members.proofs.namespaces.Unsharing.{places_moved}
-use Rattle.vt_spec.specs.Language.Calls.{TaskName, same_name}
-use Rattle.vt_spec.specs.Language.Calls.Call.{Unshare}
-use Rattle.vt_spec.specs.Lists.{Fresh, holds_of, is_among}
-use Rattle.vt_spec.specs.Machine.Invariants.{MountInvariants, is_listed}
-use Rattle.vt_spec.specs.Machine.Mounts.{Location, Mount, detached, group_of}
-use Rattle.vt_spec.specs.Machine.Mounts.Propagation.{Private}
-use Rattle.vt_spec.specs.Machine.Namespaces.{namespaces_ended, unshared}
-use Rattle.vt_spec.specs.Machine.Receives.{is_member_of}
-use Rattle.vt_spec.specs.Machine.Run.{Serves}
-use Rattle.vt_spec.specs.Machine.Sealed.{is_member_task, is_own_mount, is_own_namespace, locations, master_of, members, other_mounts, outsiders, own_mounts, share_events, shares_no_events, used_directly}
-use Rattle.vt_spec.specs.Machine.World.{Task, World, all_locations, locations_of, mount_at, mount_numbered, mounts_of, replaced_if_called, task_called}
-use Rattle.vt_spec.proofs.Lists.{Among, among-append, among-append_left, among-append_right, among-filter, among-flat_map, among-from_filter, among-from_flat_map, among-from_map, among-map, among_from_list_all, any_among, any_from_among, list_all_from_among}
-use Rattle.vt_spec.proofs.Worlds.{name-replaced_if_called, same_name_itself, same_task_name}
 use Rattle.vt_laws_mounts.proofs.letting_go.Lists.{filter-map}
 use Rattle.vt_laws_mounts.proofs.ends.Ending.{ended_namespaces_keep_mounts}
 use Rattle.vt_laws_mounts.proofs.mounts.MountsReplaced.{found_itself}

@@ -1,19 +1,6 @@
 -- No unshare(2) by a task of a sealed set gives others a foothold.
-use Rattle.std.proofs.Common.{◌≡◌, refl, sym, ap, ◌∙◌, ℕ, nat_eq, Bool, true, false, List, Option, Some, None, Ok, Err, filter, not, eqb-true}
-use Rattle.std.specs.Prelude.{IfOk, is_ok}
-use Rattle.std.specs.List.{list_any}
-use Rattle.std.proofs.lemmas.Bool.{not-true}
-use Rattle.vt_spec.specs.Language.Calls.{TaskName, same_name}
-use Rattle.vt_spec.specs.Language.Calls.Call.{Unshare}
-use Rattle.vt_spec.specs.Lists.{Fresh}
-use Rattle.vt_spec.specs.Machine.Judge.{Judgement, judge_in, unshare_permit}
-use Rattle.vt_spec.specs.Machine.Namespaces.{namespaces_ended, unshared}
-use Rattle.vt_spec.specs.Machine.Permits.{Permit}
-use Rattle.vt_spec.specs.Machine.Permits.Permit.{ToUnshare}
-use Rattle.vt_spec.specs.Machine.Rules.Mounting.{admin_rules}
-use Rattle.vt_spec.specs.Machine.Run.{Serves}
-use Rattle.vt_spec.specs.Machine.World.{Task, World, task_called}
-use Rattle.vt_spec.proofs.Lists.{among-filter, among-from_filter, any_among, none_among}
+use Rattle.std.proofs.Common.{◌≡◌, refl, sym, ap, ◌∙◌, ℕ, nat_eq, Bool, true, false, List, Option, Some, None, Ok, Err, filter, not, eqb-true, IfOk, is_ok}
+use Rattle.vt_spec.proofs.Common.{Fresh, Judgement, Permit, Serves, Task, TaskName, ToUnshare, Unshare, World, admin_rules, among-filter, among-from_filter, any_among, judge_in, list_any, namespaces_ended, none_among, not-true, same_name, task_called, unshare_permit, unshared}
 use Rattle.vt_laws_members.specs.Changes.Changes.{IsCallOfTheirs}
 use Rattle.vt_laws_members.proofs.changes.looks.Granted.{of_rules}
 use Rattle.vt_laws_members.proofs.changes.looks.Told.{ran}

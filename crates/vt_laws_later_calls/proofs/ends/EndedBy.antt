@@ -1,30 +1,7 @@
 -- An inode that is there is there after a call that takes no use away, unless it is a whiteout of an upper layer.
 use Rattle.std.proofs.Common.{arith, ◌≡◌, refl, sym, ap, subst, ◌∙◌, ◌⊎◌, inl, inr, ⊎_elim, true≢false, ℕ, nat_eq, eq-eqb, Bool, true, false, cond, List, [], ◌∷◌, ◌++◌, find, Option, Some, None, Ok, is_some, unwrap_or}
-use Rattle.std.proofs.lemmas.Grind.{common_steps}
-use Rattle.std.specs.Prelude.{⊤}
-use Rattle.std.specs.List.{list_any}
+use Rattle.vt_spec.proofs.Common.{Call, Change, CopyUp, FileTree, Filesystem, Fresh, IsWorld, Layer, Location, Overlay, Permit, Serves, SetType, Task, ToChange, TypeWord, World, all_from_among, apply, call_outcome, common_steps, filesystem_at, filesystem_numbered, holds_of, is_kind_in, judge_in, list_any, looks_of, no_filesystem, none_from_not_some, none_is_some, overlay_or, settled, task_called, when, with_change, ⊤}
 use Rattle.vt_spec.specs.declared.attributes.Kind.TheVariants.{White}
-use Rattle.vt_spec.specs.FileTree.{FileTree, is_kind_in}
-use Rattle.vt_spec.specs.Language.Calls.{Call, TypeWord}
-use Rattle.vt_spec.specs.Language.Calls.Call.{SetType}
-use Rattle.vt_spec.specs.Language.Changes.{Change}
-use Rattle.vt_spec.specs.Language.Changes.Change.{CopyUp}
-use Rattle.vt_spec.specs.Lists.{Fresh, holds_of, when}
-use Rattle.vt_spec.specs.Machine.Apply.{apply}
-use Rattle.vt_spec.specs.Machine.Filesystems.{with_change}
-use Rattle.vt_spec.specs.Machine.Invariants.{IsWorld}
-use Rattle.vt_spec.specs.Machine.Judge.{judge_in}
-use Rattle.vt_spec.specs.Machine.Locked.{overlay_or}
-use Rattle.vt_spec.specs.Machine.Looks.{looks_of}
-use Rattle.vt_spec.specs.Machine.Mounts.{Location}
-use Rattle.vt_spec.specs.Machine.Permits.{Permit}
-use Rattle.vt_spec.specs.Machine.Permits.Permit.{ToChange}
-use Rattle.vt_spec.specs.Machine.Policy.{call_outcome}
-use Rattle.vt_spec.specs.Machine.Run.{Serves}
-use Rattle.vt_spec.specs.Machine.Settled.{settled}
-use Rattle.vt_spec.specs.Machine.World.{Filesystem, Layer, Overlay, Task, World, filesystem_at, filesystem_numbered, no_filesystem, task_called}
-use Rattle.vt_spec.proofs.Lists.{all_from_among}
-use Rattle.vt_spec.proofs.Options.{none_from_not_some, none_is_some}
 use Rattle.vt_laws_trees.specs.Layers.Layers.Untouched.{changes_no_mount}
 use Rattle.vt_laws_rules.specs.Given.{IsFor}
 use Rattle.vt_laws_rules.proofs.given.GivenPermits.{permits_are_for_their_calls}

@@ -1,10 +1,7 @@
 -- After a call that takes no use away the sweep is to look at what a new name replaced; after one that sets types it
 -- takes at the most masters of groups.
-use Rattle.std.proofs.Common.{arith, ◌≡◌, refl, sym, ap, subst, ◌∙◌, inl, inr, ◌⊎◌, ⊎_elim, true≢false, ℕ, nat_eq, Bool, true, false, not, ◌&&◌, List, [], ◌∷◌, Option, Some, None, is_some, map, Ok, Err}
-use Rattle.std.proofs.lemmas.Grind.{common_steps}
-use Rattle.std.proofs.lemmas.Bool.{and_parts}
-use Rattle.std.proofs.Math.Bool.{and-false}
-use Rattle.std.specs.Prelude.{Contains}
+use Rattle.std.proofs.Common.{arith, ◌≡◌, refl, sym, ap, subst, ◌∙◌, inl, inr, ◌⊎◌, ⊎_elim, true≢false, ℕ, nat_eq, Bool, true, false, not, ◌&&◌, List, [], ◌∷◌, Option, Some, None, is_some, map, Ok, Err, Contains}
+use Rattle.vt_spec.proofs.Common.{Access, AddName, Call, Change, Chdir, Chroot, Close, CopyUp, Exit, FileTree, Filesystem, Fresh, IsWorld, Judgement, Layer, Lazy, Location, Make, MountFlags, MountOverlay, Move, MoveMount, Node, Outcome, Overlay, OverlayWords, Permit, PivotRoot, Remove, Rename, Rmdir, Serves, SetAttr, SetBytes, SetMark, SetType, Setns, Task, ToBind, ToChange, ToClose, ToEnterNamespace, ToExit, ToFork, ToMake, ToMountOverlay, ToMountPlain, ToMove, ToOpen, ToOpenNew, ToPivot, ToRemoveDirectory, ToRename, ToSetCredentials, ToSetDirectory, ToSetFlags, ToSetRoot, ToSetType, ToSetUmask, ToUnmount, ToUnmountLazily, ToUnshare, ToWritePart, Umount, Unlink, Unshare, World, after, among_from_contains, and-false, and_parts, apply, bytes_in, call_outcome, changed, common_steps, contains_from_among, evens, file_is_there, files_at, filesystem_at, filesystem_changed, is_among, is_copied_up, is_overlay, is_there, judge_in, lies_only_in_lowers, looks_of, mount_at, node_at, opened, opens_for_writing, overlay_changed, overlay_or, overwritten, settled, task_called, when, with_change, with_copy, with_descriptor, with_task}
 use Rattle.vt_laws_rules.proofs.given.GivenPermits.{permits_are_for_their_calls}
 use Rattle.vt_laws_rules.proofs.judged.CallsJudged.{call_is_judged_then_applied}
 use Rattle.vt_laws_rules.specs.Given.{IsFor}
@@ -35,30 +32,6 @@ use Rattle.vt_laws_worlds.proofs.overlay_permits.asked.Unlocked.{permits_spare_w
 use Rattle.vt_laws_worlds.proofs.overlay_permits.changed.ChangedOverlays.{permits_can_change}
 use Rattle.vt_laws_worlds.specs.OverlayPermits.Asked.{change_asked}
 use Rattle.vt_laws_worlds.specs.OverlayPermits.Changed.{numbers_left}
-use Rattle.vt_spec.proofs.Lists.{among_from_contains, contains_from_among}
-use Rattle.vt_spec.proofs.NodeChanges.{file_is_there}
-use Rattle.vt_spec.specs.FileTree.{FileTree}
-use Rattle.vt_spec.specs.Language.Calls.{Access, Call, MountFlags, OverlayWords, opens_for_writing}
-use Rattle.vt_spec.specs.Language.Calls.Call.{Chdir, Chroot, Close, Exit, Lazy, MountOverlay, MoveMount, PivotRoot, Rename, Rmdir, SetType, Setns, Umount, Unlink, Unshare}
-use Rattle.vt_spec.specs.Language.Changes.{Change, changed}
-use Rattle.vt_spec.specs.Language.Changes.Change.{AddName, CopyUp, Make, Move, Remove, SetAttr, SetBytes, SetMark}
-use Rattle.vt_spec.specs.Lists.{Fresh, evens, is_among, when}
-use Rattle.vt_spec.specs.Machine.Apply.{apply}
-use Rattle.vt_spec.specs.Machine.Filesystems.{filesystem_changed, lies_only_in_lowers, overlay_changed, with_change}
-use Rattle.vt_spec.specs.Machine.Invariants.{IsWorld, is_there}
-use Rattle.vt_spec.specs.Machine.Judge.{Judgement, judge_in}
-use Rattle.vt_spec.specs.Machine.Locked.{overlay_or}
-use Rattle.vt_spec.specs.Machine.Looks.{looks_of}
-use Rattle.vt_spec.specs.Machine.Mounts.{Location}
-use Rattle.vt_spec.specs.Machine.Descriptors.{is_copied_up, opened, overwritten, with_copy, with_descriptor}
-use Rattle.vt_spec.specs.Machine.Outcomes.{Outcome, after}
-use Rattle.vt_spec.specs.Machine.Permits.{Permit}
-use Rattle.vt_spec.specs.Machine.Permits.Permit.{ToBind, ToChange, ToClose, ToEnterNamespace, ToExit, ToFork, ToMake, ToMountOverlay, ToMountPlain, ToMove, ToOpen, ToOpenNew, ToPivot, ToRemoveDirectory, ToRename, ToSetCredentials, ToSetDirectory, ToSetFlags, ToSetRoot, ToSetType, ToSetUmask, ToUnmount, ToUnmountLazily, ToUnshare, ToWritePart}
-use Rattle.vt_spec.specs.Machine.Policy.{call_outcome}
-use Rattle.vt_spec.specs.Machine.Run.{Serves}
-use Rattle.vt_spec.specs.Machine.Settled.{settled}
-use Rattle.vt_spec.specs.Machine.World.{Filesystem, Layer, Overlay, Task, World, files_at, filesystem_at, is_overlay, mount_at, node_at, task_called, with_task}
-use Rattle.vt_spec.specs.Tree.{Node, bytes_in}
 use Rattle.vt_laws_trees.proofs.trees.ChangesKeepTrees.{changes_keep_numbers, changes_keep_trees}
 use Rattle.vt_laws_trees.proofs.trees.TreesOfWorlds.{numbered_all}
 use Rattle.vt_laws_trees.specs.Trees.{IsProper}

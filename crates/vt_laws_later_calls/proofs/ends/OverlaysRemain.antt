@@ -1,17 +1,6 @@
 -- A change that takes no name away takes no inode away, in an overlay and in its upper layer too.
 use Rattle.std.proofs.Common.{arith, ◌≡◌, refl, sym, ap, ◌∙◌, ⊎_elim, true≢false, ℕ, ◌+◌, nat_eq, Bool, true, false, List, [], ◌∷◌, Option, Some, None, is_some}
-use Rattle.std.proofs.lemmas.Grind.{common_steps}
-use Rattle.std.proofs.lemmas.Bool.Decides.{eqb_tells}
-use Rattle.vt_spec.specs.FileTree.{FileTree}
-use Rattle.vt_spec.specs.Language.Changes.{Change, changed, content_with_parent, node_with_attr, node_with_mark, with_inode, with_name}
-use Rattle.vt_spec.specs.Language.Changes.Change.{AddName, CopyUp, Make, Move, Remove, SetAttr, SetBytes, SetMark}
-use Rattle.vt_spec.specs.Lists.{Fresh, evens, odds}
-use Rattle.vt_spec.specs.Machine.CopyUp.{Merge, Stack, changed_both, copied_each, copied_up, copy_named, copy_of, hides_directory, line_to, merge_changed, upper_of, with_mark}
-use Rattle.vt_spec.specs.Machine.Filesystems.{filesystem_changed, overlay_changed, stack_of, with_change, with_files}
-use Rattle.vt_spec.specs.Machine.Invariants.{IsWorld}
-use Rattle.vt_spec.specs.Machine.Mounts.{Location}
-use Rattle.vt_spec.specs.Machine.World.{Filesystem, Layer, Overlay, World, filesystem_at, filesystem_numbered, mount_at, with_filesystem}
-use Rattle.vt_spec.specs.Tree.{Node, node_with_bytes}
+use Rattle.vt_spec.proofs.Common.{AddName, Change, CopyUp, FileTree, Filesystem, Fresh, IsWorld, Layer, Location, Make, Merge, Move, Node, Overlay, Remove, SetAttr, SetBytes, SetMark, Stack, World, changed, changed_both, common_steps, content_with_parent, copied_each, copied_up, copy_named, copy_of, eqb_tells, evens, filesystem_at, filesystem_changed, filesystem_numbered, hides_directory, line_to, merge_changed, mount_at, node_with_attr, node_with_bytes, node_with_mark, odds, overlay_changed, stack_of, upper_of, with_change, with_files, with_filesystem, with_inode, with_mark, with_name}
 use Rattle.vt_laws_trees.proofs.calls.inodes.InodesRemain.{RemainsIn, at_node, changed_remains, made_remains, named_remains}
 use Rattle.vt_laws_trees.proofs.layers.layers.LowersWorld.{filesystem_elsewhere, filesystem_there, number_of_filesystem}
 use Rattle.vt_laws_trees.proofs.layers.layers.UpperWorld.{upper_elsewhere}

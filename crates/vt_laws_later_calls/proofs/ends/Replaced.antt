@@ -1,22 +1,7 @@
 -- What the upper layer has at a name that is free in the overlay is a whiteout.
-use Rattle.std.proofs.Common.{arith, ◌≡◌, refl, sym, ap, ◌∙◌, ℕ, nat_eq, Bool, true, false, List, [], ◌∷◌, ◌++◌, Option, Some, None, Ok, Err}
-use Rattle.std.proofs.lemmas.Grind.{common_steps}
-use Rattle.std.specs.Prelude.{option_and_then}
-use Rattle.std.proofs.lemmas.Option.{same_Some}
+use Rattle.std.proofs.Common.{arith, ◌≡◌, refl, sym, ap, ◌∙◌, ℕ, nat_eq, Bool, true, false, List, [], ◌∷◌, ◌++◌, Option, Some, None, Ok, Err, option_and_then}
+use Rattle.vt_spec.proofs.Common.{Among, Change, IsWorld, Judgement, Layer, Location, Merge, Overlay, Permit, Stack, World, among_from_contains, common_steps, entry_at, filesystem_at, filesystem_numbered, is_kind_in, judge_in, led, merge_of, mount_at, none_is_some, number_at_path, same_Some, stack_of, then_some, upper_object}
 use Rattle.vt_spec.specs.declared.attributes.Kind.TheVariants.{White}
-use Rattle.vt_spec.specs.FileTree.{is_kind_in}
-use Rattle.vt_spec.specs.Language.Changes.{Change}
-use Rattle.vt_spec.specs.Lists.{then_some}
-use Rattle.vt_spec.specs.Machine.CopyUp.{Merge, Stack}
-use Rattle.vt_spec.specs.Machine.Filesystems.{merge_of, stack_of}
-use Rattle.vt_spec.specs.Machine.Invariants.{IsWorld, number_at_path}
-use Rattle.vt_spec.specs.Machine.Judge.{Judgement, judge_in}
-use Rattle.vt_spec.specs.Machine.Mounts.{Location}
-use Rattle.vt_spec.specs.Machine.Permits.{Permit}
-use Rattle.vt_spec.specs.Machine.World.{Layer, Overlay, World, filesystem_at, filesystem_numbered, mount_at, upper_object}
-use Rattle.vt_spec.specs.TreeInvariant.{entry_at, led}
-use Rattle.vt_spec.proofs.Lists.{Among, among_from_contains}
-use Rattle.vt_spec.proofs.Options.{none_is_some}
 use Rattle.vt_laws_trees.specs.Trees.{IsFree, IsProper}
 use Rattle.vt_laws_trees.proofs.layers.layers.ShownNames.{last_name}
 use Rattle.vt_laws_trees.proofs.layers.layers.UpperFit.{upper_is}

@@ -1,12 +1,6 @@
 -- Without overlays no whiteout is replaced, so nothing goes.
 use Rattle.std.proofs.Common.{arith, ◌≡◌, ap, inr, ℕ, nat_eq, false, []}
-use Rattle.std.proofs.lemmas.Grind.{common_steps}
-use Rattle.std.specs.List.{list_any}
-use Rattle.vt_spec.specs.Language.Calls.{Call}
-use Rattle.vt_spec.specs.Lists.{Fresh, holds_of}
-use Rattle.vt_spec.specs.Machine.Locked.{overlay_or}
-use Rattle.vt_spec.specs.Machine.World.{Filesystem, Layer, Overlay, Task, World, is_overlay}
-use Rattle.vt_spec.proofs.Options.{none_from_not_some}
+use Rattle.vt_spec.proofs.Common.{Call, Filesystem, Fresh, Layer, Overlay, Task, World, common_steps, holds_of, is_overlay, list_any, none_from_not_some, overlay_or}
 use Rattle.vt_laws_mounts.specs.LettingGo.InUse.{has_upper_in}
 use Rattle.vt_laws_mounts.proofs.letting_go.Lists.{among_from_all, none_passes}
 use Rattle.vt_laws_worlds.proofs.Plain.{plain_numbered}

@@ -1,19 +1,6 @@
 -- A task that ends takes its namespace with it, and a descriptor that is closed its inode.
-use Rattle.std.proofs.Common.{◌≡◌, refl, sym, ap, subst, append_assoc, ◌∙◌, ⊎_elim, ℕ, nat_eq, eq-eqb, Bool, true, false, cond, ◌+◌, ◌||◌, List, [], ◌∷◌, ◌++◌, flat_map, map, arith}
-use Rattle.std.specs.Prelude.{Contains, nat_le, nat_lt, ◌==◌}
-use Rattle.std.proofs.lemmas.Bool.{and_parts}
-use Rattle.std.proofs.lemmas.Bool.Decides.{nat_tests}
-use Rattle.std.proofs.lemmas.Grind.{flat_map-append}
-use Rattle.std.proofs.lemmas.List.{map-append}
-use Rattle.vt_spec.specs.Language.Calls.{same_name}
-use Rattle.vt_spec.specs.Lists.{any_pair}
-use Rattle.vt_spec.specs.Machine.Invariants.{IsWorld, are_ascending_from, is_within_limits}
-use Rattle.vt_spec.specs.Machine.Mounts.{Location}
-use Rattle.vt_spec.specs.Machine.Namespaces.{namespaces_ended}
-use Rattle.vt_spec.specs.Machine.Descriptors.{without_descriptor}
-use Rattle.vt_spec.specs.Machine.World.{Descriptor, Task, World, all_locations, locations_of, replaced_if_called, with_task}
-use Rattle.vt_spec.proofs.Lists.{among_from_contains}
-use Rattle.vt_spec.proofs.Worlds.{same_name_itself, same_name-swapped}
+use Rattle.std.proofs.Common.{◌≡◌, refl, sym, ap, subst, append_assoc, ◌∙◌, ⊎_elim, ℕ, nat_eq, eq-eqb, Bool, true, false, cond, ◌+◌, ◌||◌, List, [], ◌∷◌, ◌++◌, flat_map, map, arith, Contains, nat_le, nat_lt, ◌==◌}
+use Rattle.vt_spec.proofs.Common.{Descriptor, IsWorld, Location, Task, World, all_locations, among_from_contains, and_parts, any_pair, are_ascending_from, flat_map-append, is_within_limits, locations_of, map-append, namespaces_ended, nat_eq-swapped, nat_tests, replaced_if_called, same_name, same_name-swapped, same_name_itself, with_task, without_descriptor}
 use Rattle.vt_laws_mounts.specs.LettingGo.Ends.{without_namespace}
 use Rattle.vt_laws_mounts.specs.LettingGo.Leaving.{with_tasks}
 use Rattle.vt_laws_mounts.proofs.letting_go.Lists.{Among, none_passes, passes}
@@ -23,7 +10,6 @@ use Rattle.vt_laws_later_calls.proofs.last_use.LastLocations.{location_takes_its
 use Rattle.vt_laws_later_calls.proofs.last_use.LocationsLeft.{location_takes_its_inode}
 use Rattle.vt_laws_later_calls.proofs.last_use.Namespaces.{namespace_ends_with_its_last_task}
 use Rattle.vt_laws_later_calls.proofs.last_use.OneLess.{IsSplit, split_around}
-use Rattle.vt_spec.proofs.Truths.{nat_eq-swapped}
 
 -- tasks have the same name
 abbrev called_alike : Task ℕ → Task ℕ → Bool

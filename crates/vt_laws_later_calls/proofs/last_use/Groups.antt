@@ -1,17 +1,6 @@
 -- A group ends with its last member.
-use Rattle.std.proofs.Common.{arith, ◌≡◌, refl, sym, ap, subst, ◌∙◌, ◌⊎◌, inl, inr, ⊎_elim, ℕ, nat_eq, eqb-true, eq-eqb, Bool, true, false, true≢false, cond, not, ◌||◌, ◌&&◌, List, [], ◌∷◌, ◌++◌, Option, Some, None, is_some, option_to_list}
-use Rattle.std.proofs.lemmas.Grind.{common_steps}
-use Rattle.std.specs.Prelude.{nat_lt}
-use Rattle.std.specs.List.{list_all, list_any}
-use Rattle.vt_spec.specs.Lists.{holds_of, then_some}
-use Rattle.vt_spec.specs.Machine.Invariants.{HasLivingGroups, Lives, MountInvariants}
-use Rattle.vt_spec.specs.Machine.Invariants.Lives.{has_master, has_no_master}
-use Rattle.vt_spec.specs.Machine.Mounts.{Mount, Propagation, group_of, source_of}
-use Rattle.vt_spec.specs.Machine.Mounts.Propagation.{Private, Shared, Slave, Unbindable}
-use Rattle.vt_spec.specs.Machine.Receives.{has_members, is_lost_group, is_member_of, lost_a_group, regrouped, regrouped_by}
-use Rattle.vt_spec.specs.Machine.Settled.{without_dead_groups}
-use Rattle.vt_spec.specs.Machine.World.{World, with_mounts}
-use Rattle.vt_spec.proofs.Truths.{or_false_left}
+use Rattle.std.proofs.Common.{arith, ◌≡◌, refl, sym, ap, subst, ◌∙◌, ◌⊎◌, inl, inr, ⊎_elim, ℕ, nat_eq, eqb-true, eq-eqb, Bool, true, false, true≢false, cond, not, ◌||◌, ◌&&◌, List, [], ◌∷◌, ◌++◌, Option, Some, None, is_some, option_to_list, nat_lt}
+use Rattle.vt_spec.proofs.Common.{HasLivingGroups, Lives, Mount, MountInvariants, Private, Propagation, Shared, Slave, Unbindable, World, common_steps, group_of, has_master, has_members, has_no_master, holds_of, is_lost_group, is_member_of, list_all, list_any, lost_a_group, or_false_left, regrouped, regrouped_by, source_of, then_some, with_mounts, without_dead_groups}
 use Rattle.vt_laws_mounts.proofs.GroupsKept.{member_shared}
 use Rattle.vt_laws_mounts.proofs.GroupsUp.{Up, live_members}
 use Rattle.vt_laws_mounts.proofs.GroupsUp.Up.{here}

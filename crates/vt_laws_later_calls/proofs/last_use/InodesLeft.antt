@@ -1,14 +1,6 @@
 -- An inode goes with its last use.
-use Rattle.std.proofs.lemmas.Grind.{common_steps}
-use Rattle.std.proofs.Common.{◌≡◌, refl, sym, ap, subst, ◌∙◌, ℕ, nat_eq, eqb-true, eq-eqb, Bool, true, false, true≢false, cond, not, ◌||◌, ◌&&◌, ◌+◌, [], ◌∷◌, ◌++◌, find, map, Option, Some, None, is_some, option_map, unwrap_or, arith}
-use Rattle.std.specs.Prelude.{nat_lt}
-use Rattle.std.specs.List.{list_all}
-use Rattle.std.proofs.Math.Bool.{and-false, and-true}
-use Rattle.std.proofs.lemmas.Bool.{and_parts}
-use Rattle.vt_spec.specs.Lists.{any_pair}
-use Rattle.vt_spec.specs.Machine.Locked.{of_overlay, overlay_or}
-use Rattle.vt_spec.specs.Machine.Settled.{without_dead_in, without_dead_inodes}
-use Rattle.vt_spec.specs.Machine.World.{Filesystem, Overlay, World, filesystem_numbered, is_overlay, no_filesystem}
+use Rattle.std.proofs.Common.{◌≡◌, refl, sym, ap, subst, ◌∙◌, ℕ, nat_eq, eqb-true, eq-eqb, Bool, true, false, true≢false, cond, not, ◌||◌, ◌&&◌, ◌+◌, [], ◌∷◌, ◌++◌, find, map, Option, Some, None, is_some, option_map, unwrap_or, arith, nat_lt}
+use Rattle.vt_spec.proofs.Common.{Filesystem, Overlay, World, and-false, and-true, and_parts, any_pair, common_steps, filesystem_numbered, is_overlay, list_all, map_alike, no_filesystem, of_overlay, overlay_or, without_dead_in, without_dead_inodes}
 use Rattle.vt_laws_mounts.specs.LettingGo.Counts.{inode_uses}
 use Rattle.vt_laws_mounts.specs.LettingGo.InUse.{HasTrees, InodesInUse, UppersArePlain, is_inode_used}
 use Rattle.vt_laws_mounts.specs.LettingGo.OneByOne.{Inode, InodesInUseBut, is_used_or_among, let_go_inode, without_inode_at}
@@ -22,7 +14,6 @@ use Rattle.vt_laws_mounts.proofs.letting_go.sweeps.WithOverlays.{all_inodes_go_o
 use Rattle.vt_laws_mounts.specs.Counts.Using.{is_inode}
 use Rattle.vt_laws_later_calls.specs.LastUse.{ExchangeOfOneLosesOneUse, InodeBesideOverlaysGoesWithItsLastUse, InodeGoesWithItsLastUse, InodeOfOverlayGoesWithItsLastUse, LosesOneUse, without_inode_of_any, without_merged_inode}
 use Rattle.vt_laws_later_calls.proofs.last_use.OneLess.{some_left}
-use Rattle.vt_spec.proofs.Lists.{map_alike}
 
 pub exchange_of_one_loses_one_use : ExchangeOfOneLosesOneUse
 exchange_of_one_loses_one_use world after inode exchange = record {

@@ -1,16 +1,6 @@
 -- The whole sweep, where the last location on a mount is left, and its filesystem goes.
-use Rattle.std.proofs.lemmas.Grind.{common_steps}
-use Rattle.std.proofs.Common.{◌≡◌, refl, sym, ap, subst, ◌∙◌, inl, inr, ⊎_elim, ℕ, nat_eq, eqb-true, eq-eqb, Bool, true, false, true≢false, cond, not, ◌||◌, ◌&&◌, ◌+◌, List, [], ◌∷◌, ◌++◌, filter, find, map, Some, is_some, unwrap_or, arith}
-use Rattle.std.specs.Prelude.{nat_lt}
-use Rattle.std.specs.List.{list_all}
-use Rattle.std.proofs.lemmas.Bool.{or_parts}
-use Rattle.vt_spec.specs.Lists.{is_among}
-use Rattle.vt_spec.specs.Machine.Invariants.{IsWorld, is_nowhere_or_attached}
-use Rattle.vt_spec.specs.Machine.Mounts.{Location, Mount, mount_in}
-use Rattle.vt_spec.specs.Machine.Receives.{is_member_of}
-use Rattle.vt_spec.specs.Machine.Settled.{settled, without_dead_filesystems, without_dead_groups, without_dead_in, without_dead_inodes, without_dead_mounts}
-use Rattle.vt_spec.specs.Machine.World.{Filesystem, Task, World, all_locations, filesystem_numbered, is_overlay, mount_at, no_filesystem}
-use Rattle.vt_spec.proofs.Found.{filter_alike}
+use Rattle.std.proofs.Common.{◌≡◌, refl, sym, ap, subst, ◌∙◌, inl, inr, ⊎_elim, ℕ, nat_eq, eqb-true, eq-eqb, Bool, true, false, true≢false, cond, not, ◌||◌, ◌&&◌, ◌+◌, List, [], ◌∷◌, ◌++◌, filter, find, map, Some, is_some, unwrap_or, arith, nat_lt}
+use Rattle.vt_spec.proofs.Common.{Filesystem, IsWorld, Location, Mount, Task, World, all_locations, common_steps, filesystem_numbered, filter_alike, is_among, is_member_of, is_nowhere_or_attached, is_overlay, list_all, mount_at, mount_in, nat_eq-swapped, no_filesystem, or_parts, settled, without_dead_filesystems, without_dead_groups, without_dead_in, without_dead_inodes, without_dead_mounts}
 use Rattle.vt_laws_mounts.specs.LettingGo.Counts.{inode_uses, mount_uses, mounts_showing}
 use Rattle.vt_laws_mounts.specs.LettingGo.InUse.{AllInUse, GroupsInUse, InodesInUse, is_inode_used}
 use Rattle.vt_laws_mounts.specs.LettingGo.Keeping.{LocationsStand}
@@ -29,7 +19,6 @@ use Rattle.vt_laws_mounts.proofs.counts.using.Places.{exchanges_follow, location
 use Rattle.vt_laws_later_calls.specs.LastUse.{LocationTakesItsFilesystem}
 use Rattle.vt_laws_later_calls.proofs.last_use.OneLess.{IsSplit, split_around}
 use Rattle.vt_laws_later_calls.proofs.last_use.MountsAndFilesystems.{filesystem_goes_with_its_last_use, located_still, mount_goes_with_its_last_use}
-use Rattle.vt_spec.proofs.Truths.{nat_eq-swapped}
 
 -- what is found of the filesystems without another one
 found_beside : (filesystems : List (Filesystem ℕ)) (k gone : ℕ) → nat_eq k gone ≡ false

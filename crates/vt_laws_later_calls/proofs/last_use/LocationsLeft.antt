@@ -1,8 +1,6 @@
 -- The whole sweep, where one location is left.
-use Rattle.std.proofs.Common.{◌≡◌, refl, ap, ◌∙◌, ℕ, nat_eq, Bool, true, false, cond, [], ◌∷◌}
-use Rattle.std.specs.Prelude.{nat_lt}
-use Rattle.vt_spec.specs.Machine.Settled.{without_dead_filesystems, without_dead_groups, without_dead_inodes}
-use Rattle.vt_spec.specs.Machine.World.{World, filesystem_at}
+use Rattle.std.proofs.Common.{◌≡◌, refl, ap, ◌∙◌, ℕ, nat_eq, Bool, true, false, cond, [], ◌∷◌, nat_lt}
+use Rattle.vt_spec.proofs.Common.{World, filesystem_at, without_dead_filesystems, without_dead_groups, without_dead_inodes}
 use Rattle.vt_laws_mounts.specs.LettingGo.Counts.{inode_uses}
 use Rattle.vt_laws_mounts.specs.LettingGo.InUse.{AllInUse}
 use Rattle.vt_laws_mounts.specs.LettingGo.Leaving.{with_tasks}

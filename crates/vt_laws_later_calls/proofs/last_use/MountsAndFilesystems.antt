@@ -1,12 +1,6 @@
 -- A mount goes with its last location, and a filesystem with its last mount.
-use Rattle.std.proofs.Common.{arith, ◌≡◌, refl, sym, ap, ◌∙◌, ℕ, nat_eq, eq-eqb, false, cond, ◌||◌, List, [], ◌∷◌, ◌++◌, is_some}
-use Rattle.std.proofs.lemmas.Grind.{common_steps}
-use Rattle.std.specs.Prelude.{nat_lt}
-use Rattle.std.specs.List.{list_any}
-use Rattle.std.proofs.Math.Bool.{or-false}
-use Rattle.vt_spec.specs.Machine.Mounts.{Location, Mount}
-use Rattle.vt_spec.specs.Machine.Settled.{filesystem_lives, is_located, is_mounted, without_dead_filesystems}
-use Rattle.vt_spec.specs.Machine.World.{Filesystem, Task, World, all_locations, is_overlay, mount_at}
+use Rattle.std.proofs.Common.{arith, ◌≡◌, refl, sym, ap, ◌∙◌, ℕ, nat_eq, eq-eqb, false, cond, ◌||◌, List, [], ◌∷◌, ◌++◌, is_some, nat_lt}
+use Rattle.vt_spec.proofs.Common.{Filesystem, Location, Mount, Task, World, all_locations, common_steps, filesystem_lives, is_located, is_mounted, is_overlay, list_any, mount_at, or-false, without_dead_filesystems}
 use Rattle.vt_laws_mounts.specs.LettingGo.Counts.{mount_uses, mounts_showing, times}
 use Rattle.vt_laws_mounts.specs.LettingGo.InUse.{FilesystemsInUse, MountsInUse}
 use Rattle.vt_laws_mounts.specs.LettingGo.Leaving.{with_tasks}

@@ -1,12 +1,6 @@
 -- A namespace ends with its last task.
-use Rattle.std.proofs.Common.{arith, ◌≡◌, refl, sym, ap, ◌∙◌, ℕ, nat_eq, eqb-true, eq-eqb, Bool, true, false, cond, ◌||◌, List, ◌∷◌, ◌++◌}
-use Rattle.std.proofs.lemmas.Grind.{common_steps}
-use Rattle.std.specs.Prelude.{nat_lt}
-use Rattle.std.specs.List.{list_any}
-use Rattle.vt_spec.specs.Machine.Invariants.{MountInvariants, NamespaceInvariants}
-use Rattle.vt_spec.specs.Machine.Namespaces.{has_tasks, namespaces_ended}
-use Rattle.vt_spec.specs.Machine.Receives.{regrouped_by}
-use Rattle.vt_spec.specs.Machine.World.{Namespace, Task, World}
+use Rattle.std.proofs.Common.{arith, ◌≡◌, refl, sym, ap, ◌∙◌, ℕ, nat_eq, eqb-true, eq-eqb, Bool, true, false, cond, ◌||◌, List, ◌∷◌, ◌++◌, nat_lt}
+use Rattle.vt_spec.proofs.Common.{MountInvariants, Namespace, NamespaceInvariants, Task, World, common_steps, has_tasks, list_any, namespaces_ended, nat_eq-swapped, regrouped_by}
 use Rattle.vt_laws_mounts.specs.LettingGo.Counts.{times}
 use Rattle.vt_laws_mounts.specs.LettingGo.Ends.{without_namespace}
 use Rattle.vt_laws_mounts.specs.LettingGo.Leaving.{with_tasks}
@@ -15,7 +9,6 @@ use Rattle.vt_laws_mounts.proofs.letting_go.ends.NamespacesEnd.{no_namespace_end
 use Rattle.vt_laws_later_calls.specs.LastUse.{NamespaceEndsWithItsLastTask, task_count}
 use Rattle.vt_laws_later_calls.proofs.last_use.Groups.{none_lost}
 use Rattle.vt_laws_later_calls.proofs.last_use.OneLess.{some_without_another, some_without_it}
-use Rattle.vt_spec.proofs.Truths.{nat_eq-swapped}
 
 module _ (world : World ℕ) (front back : List (Task ℕ)) (task : Task ℕ) (mounts : MountInvariants nat_eq world)
     (namespaces : NamespaceInvariants nat_eq world) (before : world.tasks ≡ front ++ (task ∷ back)) where

@@ -1,15 +1,8 @@
 -- One less in a list: whether some of it pass a test, and how many did.
-use Rattle.std.proofs.lemmas.Grind.{common_steps}
-use Rattle.std.proofs.Common.{◌≡◌, sym, ap, ◌∙◌, ⊎_elim, ℕ, Bool, true, false, cond, not, ◌+◌, ◌++◌, ◌||◌, List, [], ◌∷◌, filter, map, arith}
-use Rattle.std.specs.Prelude.{nat_lt}
-use Rattle.std.specs.List.{list_any}
-use Rattle.std.proofs.lemmas.Bool.{or_parts}
-use Rattle.std.proofs.lemmas.Bool.Decides.{nat_tests}
-use Rattle.std.proofs.lemmas.List.Folds.{list_any-append}
-use Rattle.vt_spec.specs.Lists.{any_pair}
+use Rattle.std.proofs.Common.{◌≡◌, sym, ap, ◌∙◌, ⊎_elim, ℕ, Bool, true, false, cond, not, ◌+◌, ◌++◌, ◌||◌, List, [], ◌∷◌, filter, map, arith, nat_lt}
+use Rattle.vt_spec.proofs.Common.{any_pair, common_steps, list_any, list_any-append, nat_tests, or_parts, same_truth}
 use Rattle.vt_laws_mounts.specs.LettingGo.Counts.{times}
 use Rattle.vt_laws_mounts.proofs.letting_go.Lists.{times_around, Among, fails, filter_all, filter_here, filter_skip, map_same, any_counted}
-use Rattle.vt_spec.proofs.Truths.{same_truth}
 
 -- where one of them goes, some are left just where there was more than one
 pub some_left : (before after : ℕ) → before ≡ after + 1 → nat_lt 0 after ≡ nat_lt 1 before

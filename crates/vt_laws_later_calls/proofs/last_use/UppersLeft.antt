@@ -1,15 +1,6 @@
 -- The upper inode of an inode of an overlay goes with it, where that was its last use.
-use Rattle.std.proofs.lemmas.Grind.{common_steps}
-use Rattle.std.proofs.Common.{◌≡◌, refl, sym, ap, ◌∙◌, ⊎_elim, ℕ, nat_eq, eqb-true, eq-eqb, Bool, true, false, true≢false, cond, not, ◌&&◌, ◌+◌, List, [], ◌∷◌, ◌++◌, find, flat_map, map, Option, Some, None, is_some, option_map, option_to_list, unwrap_or, arith}
-use Rattle.std.specs.Prelude.{All, nat_lt}
-use Rattle.std.specs.List.{list_any}
-use Rattle.std.proofs.Math.Bool.{and-false, and-true}
-use Rattle.std.proofs.lemmas.Bool.{or_parts}
-use Rattle.std.proofs.lemmas.List.{append-nil}
-use Rattle.vt_spec.specs.Lists.{any_pair, holds_of}
-use Rattle.vt_spec.specs.Machine.Locked.{overlay_or}
-use Rattle.vt_spec.specs.Machine.World.{Filesystem, Layer, Overlay, World, filesystem_numbered, is_overlay, no_filesystem, upper_object}
-use Rattle.vt_spec.specs.Machine.World.Real.{Upper}
+use Rattle.std.proofs.Common.{◌≡◌, refl, sym, ap, ◌∙◌, ⊎_elim, ℕ, nat_eq, eqb-true, eq-eqb, Bool, true, false, true≢false, cond, not, ◌&&◌, ◌+◌, List, [], ◌∷◌, ◌++◌, find, flat_map, map, Option, Some, None, is_some, option_map, option_to_list, unwrap_or, arith, All, nat_lt, append-nil}
+use Rattle.vt_spec.proofs.Common.{Filesystem, Layer, Overlay, Upper, World, and-false, and-true, any_pair, common_steps, filesystem_numbered, holds_of, is_overlay, list_any, map_alike, nat_eq-swapped, no_filesystem, or_parts, overlay_or, upper_object}
 use Rattle.vt_laws_mounts.specs.LettingGo.Counts.{inode_uses, times}
 use Rattle.vt_laws_mounts.specs.LettingGo.InUse.{AllInUse, UppersArePlain, has_upper_in, is_inode_used}
 use Rattle.vt_laws_mounts.specs.LettingGo.OneByOne.{Inode, without_inode, without_inode_at, without_inode_in}
@@ -20,8 +11,6 @@ use Rattle.vt_laws_mounts.proofs.letting_go.sweeps.UsesCounted.{used_while_count
 use Rattle.vt_laws_later_calls.specs.LastUse.{InodeOverLowersGoesAlone, LosesOneUse, UpperInodeGoesWithItsLastUse, without_inode_of_any, without_merged_inode}
 use Rattle.vt_laws_later_calls.proofs.last_use.InodesLeft.{found_after, its_kind, of_overlay_left}
 use Rattle.vt_laws_later_calls.proofs.last_use.OneLess.{IsSplit, some_left, split_around}
-use Rattle.vt_spec.proofs.Lists.{map_alike}
-use Rattle.vt_spec.proofs.Truths.{nat_eq-swapped}
 
 -- no other has the number of the first
 others_differ : (first : Filesystem ℕ) (rest : List (Filesystem ℕ))

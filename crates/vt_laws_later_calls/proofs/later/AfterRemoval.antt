@@ -1,35 +1,9 @@
 -- The world that a granted rmdir leaves: the task's own mounts are seen as they were, the directory has lost its name,
 -- and walks that do not go up from it lead where they led.
-use Rattle.std.proofs.Common.{arith, ◌≡◌, ◌≢◌, refl, sym, ap, subst, ◌∙◌, inl, inr, ◌⊎◌, ⊎_elim, ℕ, nat_eq, eqb-true, Bool, true, false, ◌||◌, List, filter, Some, None, Ok, is_some, find}
-use Rattle.std.proofs.lemmas.Grind.{common_steps}
-use Rattle.std.specs.Prelude.{unwrap_or}
-use Rattle.std.proofs.lemmas.Bool.{and_parts}
+use Rattle.std.proofs.Common.{arith, ◌≡◌, ◌≢◌, refl, sym, ap, subst, ◌∙◌, inl, inr, ◌⊎◌, ⊎_elim, ℕ, nat_eq, eqb-true, Bool, true, false, ◌||◌, List, filter, Some, None, Ok, is_some, find, unwrap_or}
+use Rattle.vt_spec.proofs.Common.{Answer, Call, Change, Credentials, FileTree, Filesystem, Fresh, IsWorld, Location, Mount, Remove, Serves, Task, TaskName, ToRemoveDirectory, Tree, World, and_parts, apply, changed, common_steps, denial, directory_used, entries_in, entry_at, entry_named, files_at, filesystem_numbered, filesystems-taken_away, is_directory_node, is_going, is_located, is_mount_point_in, looks_of, mount_at, mount_lives, mount_numbered, mounts_on, no_filesystem, node_allows, node_at, parent_in, policy, raised_task, same_name, symlink_text, task_called, tasks-taken_away, with_change, without_mounts_on}
 use Rattle.vt_spec.specs.declared.errors.Deny.{Deny}
 use Rattle.vt_spec.specs.declared.errors.Rule.TheVariants.{W6}
-use Rattle.vt_spec.specs.Errors.{denial}
-use Rattle.vt_spec.specs.FileTree.{FileTree, symlink_text}
-use Rattle.vt_spec.specs.Language.Answers.{Answer}
-use Rattle.vt_spec.specs.Language.Calls.{Call, TaskName, same_name}
-use Rattle.vt_spec.specs.Language.Changes.{Change, changed}
-use Rattle.vt_spec.specs.Language.Changes.Change.{Remove}
-use Rattle.vt_spec.specs.Lists.{Fresh}
-use Rattle.vt_spec.specs.Machine.Apply.{apply}
-use Rattle.vt_spec.specs.Machine.Detach.{is_going, mounts_on, without_mounts_on}
-use Rattle.vt_spec.specs.Machine.Filesystems.{with_change}
-use Rattle.vt_spec.specs.Machine.Invariants.{IsWorld}
-use Rattle.vt_spec.specs.Machine.Looks.{looks_of}
-use Rattle.vt_spec.specs.Machine.Mounts.{Location, Mount}
-use Rattle.vt_spec.specs.Machine.Permits.Permit.{ToRemoveDirectory}
-use Rattle.vt_spec.specs.Machine.Policy.{policy, raised_task}
-use Rattle.vt_spec.specs.Machine.Rightful.{node_allows}
-use Rattle.vt_spec.specs.Machine.Rules.Conditions.{is_mount_point_in}
-use Rattle.vt_spec.specs.Machine.Run.{Serves}
-use Rattle.vt_spec.specs.Machine.Settled.{is_located, mount_lives}
-use Rattle.vt_spec.specs.Machine.World.{Filesystem, Task, World, files_at, filesystem_numbered, mount_at, mount_numbered, no_filesystem, node_at, task_called}
-use Rattle.vt_spec.specs.Rights.{Credentials}
-use Rattle.vt_spec.specs.Tree.{Tree, entries_in, entry_named, is_directory_node, parent_in}
-use Rattle.vt_spec.specs.TreeInvariant.{entry_at}
-use Rattle.vt_spec.proofs.Nodes.{directory_used}
 use Rattle.vt_laws_mounts.specs.LettingGo.Unmounting.{numbers_of_trees}
 use Rattle.vt_laws_mounts.proofs.mounts.Standing.{standing_is_computed}
 use Rattle.vt_laws_mounts.proofs.ends.Unmounting.{kept_by_number}
@@ -56,7 +30,6 @@ use Rattle.vt_laws_later_calls.proofs.later.WaysLeft.{MountsSeen, ObjectsStay}
 use Rattle.vt_laws_later_calls.proofs.later.WaysMounts.{own_mount, top_same, topmost_same}
 use Rattle.vt_laws_later_calls.proofs.later.WaysRemoved.{removed_entry, removed_kind, removed_link, removed_name, removed_parent, removed_rights}
 use Rattle.vt_laws_later_calls.proofs.WaysStay.{mount_root, node_in, tree_in}
-use Rattle.vt_spec.proofs.Worlds.{filesystems-taken_away, tasks-taken_away}
 
 module _ (world : World ℕ) (fresh : Fresh ℕ) (name : TaskName) (call : Call) (answer : Answer)
     (is : IsWorld nat_eq world) (plain : IsPlain world) (serves : Serves nat_eq world fresh)

@@ -1,33 +1,6 @@
 -- The world that a granted rename leaves: the object has its new name and what it had, and no mount stands on it.
-use Rattle.std.proofs.Common.{arith, ◌≡◌, ◌≢◌, refl, sym, ap, subst, ◌∙◌, true≢false, ℕ, nat_eq, eq-eqb, ne_eqb, Bool, true, false, cond, ◌&&◌, ◌||◌, List, [], length, filter, find, Option, Some, None, is_some}
-use Rattle.std.proofs.lemmas.Grind.{common_steps}
-use Rattle.std.specs.List.{list_any}
-use Rattle.std.specs.Prelude.{option_map, unwrap_or}
-use Rattle.std.proofs.lemmas.Bool.{and_from}
-use Rattle.std.specs.Cmp.Lexicographic.{bytes_decides}
-use Rattle.std.specs.Str.{bytes_eq}
-use Rattle.vt_spec.specs.FileTree.{FileTree}
-use Rattle.vt_spec.specs.Language.Answers.{Answer}
-use Rattle.vt_spec.specs.Language.Calls.{Call, TaskName}
-use Rattle.vt_spec.specs.Language.Changes.{Change, changed}
-use Rattle.vt_spec.specs.Language.Changes.Change.{Move}
-use Rattle.vt_spec.specs.Lists.{Fresh, is_among}
-use Rattle.vt_spec.specs.Machine.Apply.{apply}
-use Rattle.vt_spec.specs.Machine.Detach.{is_point, mounts_on, points_of, without_replaced}
-use Rattle.vt_spec.specs.Machine.Filesystems.{with_change}
-use Rattle.vt_spec.specs.Machine.Invariants.{IsWorld, is_nowhere_or_attached}
-use Rattle.vt_spec.specs.Machine.Looks.{looks_of}
-use Rattle.vt_spec.specs.Machine.Mounts.{Location, Mount, child_at, root_of, stands_at, topmost}
-use Rattle.vt_spec.specs.Machine.Permits.Permit.{ToRename}
-use Rattle.vt_spec.specs.Machine.Policy.{policy}
-use Rattle.vt_spec.specs.Machine.Rules.Conditions.{is_mount_point_anywhere}
-use Rattle.vt_spec.specs.Machine.Run.{Serves}
-use Rattle.vt_spec.specs.Machine.Settled.{mount_lives}
-use Rattle.vt_spec.specs.Machine.World.{Filesystem, World, files_at, filesystem_at, filesystem_numbered, mount_at, mount_numbered, no_filesystem}
-use Rattle.vt_spec.specs.Tree.{entries_in, entry_named, is_directory_node}
-use Rattle.vt_spec.specs.TreeInvariant.{entry_at}
-use Rattle.vt_spec.proofs.Lists.{Among, among-filter, among-from_filter, among_from_list_all, any_from_among}
-use Rattle.vt_spec.proofs.Nodes.{directory_used}
+use Rattle.std.proofs.Common.{arith, ◌≡◌, ◌≢◌, refl, sym, ap, subst, ◌∙◌, true≢false, ℕ, nat_eq, eq-eqb, ne_eqb, Bool, true, false, cond, ◌&&◌, ◌||◌, List, [], length, filter, find, Option, Some, None, is_some, option_map, unwrap_or, bytes_eq}
+use Rattle.vt_spec.proofs.Common.{Among, Answer, Call, Change, FileTree, Filesystem, Fresh, IsWorld, Location, Mount, Move, Serves, TaskName, ToRename, World, among-filter, among-from_filter, among_from_list_all, and_from, any_from_among, apply, bytes_decides, changed, child_at, common_steps, directory_from_entry, directory_used, entries_in, entry_at, entry_named, files_at, filesystem_at, filesystem_numbered, filesystems-without_replaced, is_among, is_directory_node, is_mount_point_anywhere, is_nowhere_or_attached, is_point, list_any, looks_of, mount_at, mount_lives, mount_numbered, mounts_on, no_filesystem, number-mount_in, points_of, policy, root_of, shown-without_replaced, stands_at, topmost, with_change, without_replaced}
 use Rattle.vt_laws_mounts.proofs.letting_go.leaving.PlacesLeft.{nowhere_parts}
 use Rattle.vt_laws_trees.specs.Layers.Layers.Untouched.{IsKept}
 use Rattle.vt_laws_trees.proofs.layers.layers.LowersKept.{kept_both, kept_same, others_stay}
@@ -57,8 +30,6 @@ use Rattle.vt_laws_later_calls.proofs.Granted.{IsPermitted}
 use Rattle.vt_laws_later_calls.proofs.OpenedNew.{given_of}
 use Rattle.vt_laws_later_calls.proofs.later.WaysMounts.{placed_before, stops}
 use Rattle.vt_laws_later_calls.proofs.WaysStay.{node_in, tree_in}
-use Rattle.vt_spec.proofs.NodeChanges.{directory_from_entry}
-use Rattle.vt_spec.proofs.Worlds.{filesystems-without_replaced, number-mount_in, shown-without_replaced}
 
 -- Mounts that stand on an object, as its filesystem shows it
 module _ (world : World ℕ) (is : IsWorld nat_eq world) (object : Location ℕ)

@@ -1,40 +1,10 @@
 -- A name that open made exists.
 use Rattle.std.proofs.Common.{arith, ◌≡◌, refl, sym, ap, subst, ◌∙◌, inl, inr, ◌⊎◌, ℕ, nat_eq, nat_le, length, eqb-true, true, false, List, [], ◌∷◌, Option, Some, None, is_some, option_map, Result, Ok, Err, find, reverse}
-use Rattle.std.proofs.lemmas.Grind.{common_steps}
-use Rattle.std.proofs.lemmas.Option.{same_Some}
+use Rattle.vt_spec.proofs.Common.{Access, Answer, Call, Change, Credentials, Exclusive, FileTree, Fresh, IsWorld, Judgement, Location, Looks, Make, Named, Node, NoneFails, OpenFile, Opened, Place, Rules, Serves, Stop, Task, TaskName, World, after, and_then, answer-finished_by, apply, changed, common_steps, contains_from_among, denial, directory_used, ends_in_slash, entries_in, entry_location, entry_named, execute_right, files_at, filesystem_numbered, final_word, found_among, is_directory_at, is_directory_node, is_special, last_word, looks_of, most_descriptors, mount_at, name_of, new_file, new_walk, node_allows, node_at, odds, open_new_permit, open_permit, passed, place_walk, placed, policy, raised_task, same_Some, same_name, search_rules, settled, steps_at, stopped_by, task_called, then_walk, unless, walk_start, walk_unless, with_descriptor, with_new_inode, with_task, words, words_walked}
 use Rattle.vt_spec.specs.declared.errors.Deny.{Deny}
 use Rattle.vt_spec.specs.declared.errors.Rule.TheVariants.{E1, W4}
-use Rattle.vt_spec.specs.Errors.{NoneFails, Rules, and_then, denial, unless}
-use Rattle.vt_spec.specs.FileTree.{FileTree}
-use Rattle.vt_spec.specs.Language.Answers.Answer.{Opened}
-use Rattle.vt_spec.specs.Language.Calls.{Access, Call, TaskName, same_name}
-use Rattle.vt_spec.specs.Language.Calls.Call.{OpenFile}
-use Rattle.vt_spec.specs.Language.Calls.Creation.{Exclusive}
-use Rattle.vt_spec.specs.Language.Changes.{Change, changed}
-use Rattle.vt_spec.specs.Language.Changes.Change.{Make}
-use Rattle.vt_spec.specs.Language.Limits.{most_descriptors}
-use Rattle.vt_spec.specs.Lists.{Fresh, odds}
-use Rattle.vt_spec.specs.Machine.Apply.{apply, with_new_inode}
-use Rattle.vt_spec.specs.Machine.Judge.{open_new_permit, Judgement, open_permit}
-use Rattle.vt_spec.specs.Machine.Looks.{Looks, looks_of}
 use Rattle.vt_spec.specs.Machine.Looks as Look
-use Rattle.vt_spec.specs.Machine.Mounts.{Location}
-use Rattle.vt_spec.specs.Machine.Descriptors.{with_descriptor}
-use Rattle.vt_spec.specs.Machine.Rows.{new_file}
-use Rattle.vt_spec.specs.Machine.Outcomes.{after}
-use Rattle.vt_spec.specs.Machine.Policy.{policy, raised_task}
-use Rattle.vt_spec.specs.Machine.Rightful.{node_allows}
-use Rattle.vt_spec.specs.Machine.Run.{Serves}
-use Rattle.vt_spec.specs.Machine.Settled.{settled}
-use Rattle.vt_spec.specs.Machine.Walking.{Place, Stop, entry_location, final_word, followed, prefix_walked, is_special, last_word, name_of, new_name_rules, new_walk, place_walk, placed, search_rules, steps_at, stopped_by, then_walk, walk_start, walk_unless, words_walked}
-use Rattle.vt_spec.specs.Machine.Walking.LastWord.{Named}
-use Rattle.vt_spec.specs.Machine.World.{Task, World, files_at, filesystem_numbered, is_directory_at, mount_at, node_at, task_called, with_task}
-use Rattle.vt_spec.specs.Machine.Invariants.{IsWorld}
-use Rattle.vt_spec.specs.PathText.{ends_in_slash, words}
-use Rattle.vt_spec.specs.Rights.{Credentials, execute_right}
-use Rattle.vt_spec.specs.Tree.{Node, entries_in, entry_named, is_directory_node}
-use Rattle.vt_spec.proofs.Lists.{contains_from_among}
-use Rattle.vt_spec.proofs.Nodes.{directory_used}
+use Rattle.vt_spec.specs.Machine.Walking.{followed, prefix_walked, new_name_rules}
 use Rattle.vt_laws_trees.specs.Calls.Inodes.{change_of}
 use Rattle.vt_laws_mounts.specs.LettingGo.InUse.{IsListedTree}
 use Rattle.vt_laws_mounts.proofs.letting_go.leaving.FilesChanged.{opened_new_keeps_all}
@@ -59,14 +29,10 @@ use Rattle.vt_laws_later_calls.proofs.Opened.{called_replaced}
 use Rattle.vt_laws_later_calls.proofs.OpenedNew.{given_of, exclusive_parts}
 use Rattle.vt_laws_later_calls.proofs.Readers.{MayLook, all_stands, named_last, own_name, raised_credentials, raised_stands}
 use Rattle.vt_laws_later_calls.proofs.Stays.{called_own, still_called}
-use Rattle.vt_spec.proofs.Refusals.{passed}
 use Rattle.vt_laws_later_calls.proofs.Ways.{LeadsToo, Stops, at, search_too}
 use Rattle.vt_laws_later_calls.proofs.WaysChanges.{RightsStay, TreeStays, made_entry, rights_made, ways_made}
 use Rattle.vt_laws_later_calls.proofs.WaysPlaces.{NamedPlace, front_too, named_place, through}
 use Rattle.vt_laws_later_calls.proofs.WaysStay.{Known, StandsAs, WorldStays, node_here, node_in, tree_in, world_leads}
-use Rattle.vt_spec.proofs.Found.{found_among}
-use Rattle.vt_spec.proofs.Worlds.{answer-finished_by}
-use Rattle.vt_spec.specs.Language.Answers.{Answer}
 
 -- A world in which one filesystem shows another tree
 module _ (world later : World ℕ) (shown : ℕ) (files : FileTree ℕ) (mounts : later.mounts ≡ world.mounts)

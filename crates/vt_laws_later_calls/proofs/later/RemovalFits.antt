@@ -1,30 +1,8 @@
 -- After a granted rmdir ways up stay, but from the directory that was removed: there is W8, or no walk comes there.
-use Rattle.std.proofs.Common.{arith, ◌≡◌, ◌≢◌, refl, sym, ap, subst, ◌∙◌, inl, inr, ◌⊎◌, ⊎_elim, true≢false, ℕ, nat_eq, eqb-true, eq-eqb, Bool, true, false, not, ◌&&◌, ◌||◌, List, [], length, Some, None, is_some}
-use Rattle.std.proofs.lemmas.Grind.{common_steps}
-use Rattle.std.specs.List.{list_any}
-use Rattle.std.specs.Prelude.{option_map}
-use Rattle.std.proofs.lemmas.Bool.{and_from, and_parts, not-false, or_parts, or_right}
-use Rattle.std.proofs.lemmas.Option.{same_Some}
+use Rattle.std.proofs.Common.{arith, ◌≡◌, ◌≢◌, refl, sym, ap, subst, ◌∙◌, inl, inr, ◌⊎◌, ⊎_elim, true≢false, ℕ, nat_eq, eqb-true, eq-eqb, Bool, true, false, not, ◌&&◌, ◌||◌, List, [], length, Some, None, is_some, option_map}
+use Rattle.vt_spec.proofs.Common.{Among, Answer, Call, FileTree, Fresh, IsWorld, Location, Mount, Serves, Task, TaskName, ToRemoveDirectory, Tree, World, among-filter, among_from_list_all, and_from, and_parts, any_from_among, child_at, common_steps, denial, directory_from_entry, directory_used, entries_in, entry_at, entry_named, files_at, filesystem_at, filesystem_numbered, holds_of, hop, is_directory_node, is_directory_under, is_lost, is_point, is_removed, list_any, mount_at, mount_numbered, mounts_on, node_at, none_is_not, not-false, of_overlay, or_false_left, or_parts, or_right, parent_in, parent_location, points_of, reached_named, root_of, same_Some, same_location, topmost, upper_points}
 use Rattle.vt_spec.specs.declared.errors.Deny.{Deny}
 use Rattle.vt_spec.specs.declared.errors.Rule.TheVariants.{W8}
-use Rattle.vt_spec.specs.Errors.{denial}
-use Rattle.vt_spec.specs.FileTree.{FileTree, is_directory_under, is_removed}
-use Rattle.vt_spec.specs.Language.Answers.{Answer}
-use Rattle.vt_spec.specs.Language.Calls.{Call, TaskName}
-use Rattle.vt_spec.specs.Lists.{Fresh, holds_of}
-use Rattle.vt_spec.specs.Machine.Detach.{is_point, mounts_on, points_of, upper_points}
-use Rattle.vt_spec.specs.Machine.Invariants.{IsWorld}
-use Rattle.vt_spec.specs.Machine.Locked.{of_overlay}
-use Rattle.vt_spec.specs.Machine.Mounts.{Location, Mount, child_at, root_of, same_location, topmost}
-use Rattle.vt_spec.specs.Machine.Permits.Permit.{ToRemoveDirectory}
-use Rattle.vt_spec.specs.Machine.Run.{Serves}
-use Rattle.vt_spec.proofs.Walk.{hop, is_lost, parent_location}
-use Rattle.vt_spec.specs.Machine.World.{Task, World, files_at, filesystem_at, filesystem_numbered, mount_at, mount_numbered, node_at}
-use Rattle.vt_spec.specs.Tree.{Tree, entries_in, entry_named, is_directory_node, parent_in}
-use Rattle.vt_spec.specs.TreeInvariant.{entry_at}
-use Rattle.vt_spec.proofs.Lists.{Among, among-filter, among_from_list_all, any_from_among}
-use Rattle.vt_spec.proofs.Nodes.{directory_used, none_is_not}
-use Rattle.vt_spec.proofs.Trees.{reached_named}
 use Rattle.vt_laws_mounts.proofs.letting_go.leaving.PlacesLeft.{nowhere_parts}
 use Rattle.vt_laws_mounts.proofs.mounts.MountsFound.{found_in, placed_among}
 use Rattle.vt_laws_mounts.proofs.mounts.MountsReplaced.{found_itself}
@@ -44,8 +22,6 @@ use Rattle.vt_laws_later_calls.proofs.later.WaysMounts.{SeenAlike, hop_known, ho
 use Rattle.vt_laws_later_calls.proofs.later.WaysRemoved.{nothing_in_it, removed_alone, removed_name}
 use Rattle.vt_laws_later_calls.proofs.WaysStay.{mount_root, node_in, tree_in}
 use Rattle.vt_laws_later_calls.proofs.WaysTrees.{DirectoryNamesStay, KeepsAbove, present_later, under_later}
-use Rattle.vt_spec.proofs.NodeChanges.{directory_from_entry}
-use Rattle.vt_spec.proofs.Truths.{or_false_left}
 
 module _ (world : World ℕ) (fresh : Fresh ℕ) (name : TaskName) (call : Call) (answer : Answer)
     (is : IsWorld nat_eq world) (plain : IsPlain world) (serves : Serves nat_eq world fresh)

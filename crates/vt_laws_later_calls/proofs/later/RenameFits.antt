@@ -1,38 +1,10 @@
 -- After a granted rename of a directory to a free name walks that begin outside of it lead where they led.
-use Rattle.std.proofs.Common.{arith, ◌≡◌, ◌≢◌, refl, sym, ap, ◌∙◌, inl, inr, ◌⊎◌, true≢false, ℕ, nat_eq, eqb-true, eq-eqb, Bool, true, false, cond, List, [], ◌∷◌, ◌++◌, length, find, Option, Some, None, is_some}
-use Rattle.std.proofs.lemmas.Grind.{common_steps}
-use Rattle.std.specs.List.{list_all}
-use Rattle.std.specs.Prelude.{option_map, option_to_list}
-use Rattle.std.proofs.lemmas.Bool.{and_from, and_parts}
-use Rattle.std.proofs.lemmas.Option.{same_Some}
+use Rattle.std.proofs.Common.{arith, ◌≡◌, ◌≢◌, refl, sym, ap, ◌∙◌, inl, inr, ◌⊎◌, true≢false, ℕ, nat_eq, eqb-true, eq-eqb, Bool, true, false, cond, List, [], ◌∷◌, ◌++◌, length, find, Option, Some, None, is_some, option_map, option_to_list}
+use Rattle.vt_spec.proofs.Common.{Among, Answer, Call, Change, Credentials, FileTree, Fresh, IsReached, IsWorld, Location, Move, Node, Serves, Task, TaskName, ToRename, Tree, World, allows, among_from_list_all, and_from, and_parts, apply, attr_in, bytes_in, changed, changed_node, child_at, common_steps, contains_from_among, denial, directory_from_entry, directory_used, entries_in, entry_at, entry_named, files_at, filesystem_numbered, found, hop, is_directory_node, is_directory_under, is_kind, is_mount_point_anywhere, is_nowhere_or_attached, led, led-append, list_all, looks_of, mount_at, node_allows, node_at, node_with_entry, node_with_parent, node_without_entry, none_is_not, parent-node_with_entry, parent-node_without_entry, parent_in, raised_task, root_of, same_Some, same_name, symlink_text, task_called, topmost, when, with_change, with_name, without_name, without_parent}
 use Rattle.vt_spec.specs.declared.attributes.Kind.TheVariants.{Symlink}
 use Rattle.vt_spec.specs.declared.errors.Deny.{Deny}
 use Rattle.vt_spec.specs.declared.errors.Rule.TheVariants.{W6}
-use Rattle.vt_spec.specs.Errors.{denial}
-use Rattle.vt_spec.specs.FileTree.{FileTree, attr_in, is_directory_under, is_kind, kind_in, symlink_text}
-use Rattle.vt_spec.specs.Language.Answers.{Answer}
-use Rattle.vt_spec.specs.Language.Calls.{Call, TaskName, same_name}
-use Rattle.vt_spec.specs.Language.Changes.{Change, changed, changed_node, node_with_parent, node_without_entry, with_name, without_name, without_parent}
-use Rattle.vt_spec.specs.Language.Changes.Change.{Move}
-use Rattle.vt_spec.specs.Lists.{Fresh, when}
-use Rattle.vt_spec.specs.Machine.Apply.{apply}
-use Rattle.vt_spec.specs.Machine.Filesystems.{with_change}
-use Rattle.vt_spec.specs.Machine.Invariants.{IsWorld, is_nowhere_or_attached}
-use Rattle.vt_spec.specs.Machine.Looks.{looks_of}
-use Rattle.vt_spec.specs.Machine.Mounts.{Location, child_at, root_of, topmost}
-use Rattle.vt_spec.specs.Machine.Permits.Permit.{ToRename}
-use Rattle.vt_spec.specs.Machine.Policy.{raised_task}
-use Rattle.vt_spec.specs.Machine.Rightful.{node_allows}
-use Rattle.vt_spec.specs.Machine.Rules.Conditions.{is_mount_point_anywhere}
-use Rattle.vt_spec.specs.Machine.Run.{Serves}
-use Rattle.vt_spec.proofs.Walk.{hop}
-use Rattle.vt_spec.specs.Machine.World.{Task, World, files_at, filesystem_numbered, mount_at, node_at, task_called}
-use Rattle.vt_spec.specs.Rights.{Credentials, allows}
-use Rattle.vt_spec.specs.Tree.{Node, Tree, bytes_in, entries_in, entry_named, is_directory_node, node_with_entry, parent_in}
-use Rattle.vt_spec.specs.TreeInvariant.{IsReached, entry_at, led}
-use Rattle.vt_spec.proofs.Lists.{Among, among_from_list_all, contains_from_among}
-use Rattle.vt_spec.proofs.Nodes.{directory_used, none_is_not, parent-node_with_entry}
-use Rattle.vt_spec.proofs.Trees.{found, led-append}
+use Rattle.vt_spec.specs.FileTree.{kind_in}
 use Rattle.vt_laws_trees.specs.Calls.Inodes.{change_of}
 use Rattle.vt_laws_trees.proofs.layers.layers.CopyingNames.{moved_part}
 use Rattle.vt_laws_trees.proofs.layers.views.Entries.{is_entry, is_that_entry}
@@ -62,7 +34,6 @@ use Rattle.vt_laws_later_calls.proofs.WaysChanges.{RightsStay}
 use Rattle.vt_laws_later_calls.proofs.later.WaysLeft.{ObjectsStay}
 use Rattle.vt_laws_later_calls.proofs.later.WaysMounts.{hop_place}
 use Rattle.vt_laws_later_calls.proofs.WaysStay.{node_in, tree_in}
-use Rattle.vt_spec.proofs.NodeChanges.{directory_from_entry, parent-node_without_entry}
 
 -- what is of one kind, owner, mode and text
 link_same : (was now : Option (Node ℕ)) → is_some now ≡ is_some was → kind_in now ≡ kind_in was

@@ -1,27 +1,10 @@
 -- After a granted rename of a directory to a free name ways up stay, from wherever a walk that begins outside of it
 -- comes.
 use Rattle.std.proofs.Common.{arith, ◌≡◌, ◌≢◌, refl, sym, ap, subst, ◌∙◌, inl, inr, ◌⊎◌, ⊎_elim, true≢false, ℕ, nat_eq, eqb-true, eq-eqb, Bool, true, false, cond, not, ◌||◌, List, [], ◌∷◌, ◌++◌, length, Option, Some, None, is_some, option_and_then}
-use Rattle.std.proofs.lemmas.Grind.{common_steps}
-use Rattle.std.proofs.lemmas.Bool.{or_parts, not-false}
+use Rattle.vt_spec.proofs.Common.{Answer, Call, FileTree, Fresh, IsReached, IsWorld, Location, Mount, Serves, Task, TaskName, ToRename, Tree, World, chain, common_steps, denial, directory_used, entries_in, entry_at, entry_named, files_at, filesystem_numbered, found, hop, is_directory_node, is_directory_under, is_lost, is_mount_point_anywhere, is_removed, last_or, led, looks_of, mount_at, mount_in, mount_numbered, node_at, none_is_not, not-false, or_parts, parent_in, parent_location, reached_named, same_location, topmost}
 use Rattle.vt_spec.specs.declared.errors.Deny.{Deny}
 use Rattle.vt_spec.specs.declared.errors.Rule.TheVariants.{W8}
-use Rattle.vt_spec.specs.Errors.{denial}
-use Rattle.vt_spec.specs.FileTree.{FileTree, is_directory_under, is_removed}
-use Rattle.vt_spec.specs.Language.Answers.{Answer}
-use Rattle.vt_spec.specs.Language.Calls.{Call, TaskName}
-use Rattle.vt_spec.specs.Lists.{Fresh, chain, last_or}
-use Rattle.vt_spec.specs.Machine.Invariants.{IsWorld}
-use Rattle.vt_spec.specs.Machine.Looks.{looks_of}
-use Rattle.vt_spec.specs.Machine.Mounts.{Location, Mount, mount_in, same_location, topmost}
-use Rattle.vt_spec.specs.Machine.Permits.Permit.{ToRename}
-use Rattle.vt_spec.specs.Machine.Rules.Conditions.{is_mount_point_anywhere}
-use Rattle.vt_spec.specs.Machine.Run.{Serves}
-use Rattle.vt_spec.proofs.Walk.{hop, is_lost, parent_location}
-use Rattle.vt_spec.specs.Machine.World.{Task, World, files_at, filesystem_numbered, mount_at, mount_numbered, node_at}
-use Rattle.vt_spec.specs.Tree.{Tree, entries_in, entry_named, is_directory_node, parent_in}
-use Rattle.vt_spec.specs.TreeInvariant.{IsReached, entry_at, led}
-use Rattle.vt_spec.proofs.Nodes.{directory_used, none_is_not}
-use Rattle.vt_spec.proofs.Trees.{found, last_step, reached_named}
+use Rattle.vt_spec.proofs.Trees.{last_step}
 use Rattle.vt_laws_trees.proofs.layers.views.Moves.{led_parts}
 use Rattle.vt_laws_worlds.proofs.permits.sees.SeesNames.{tree_here}
 use Rattle.vt_laws_trees.specs.Trees.{IsFileTree}

@@ -1,28 +1,15 @@
 -- In a world that a call left, in which a task's own mounts are seen as they were, one object may have lost its name,
 -- and the ways up that it takes stay or are lost, walks lead where they led.
 use Rattle.std.proofs.Common.{◌≡◌, refl, sym, ap, subst, ◌∙◌, inl, inr, ◌⊎◌, ℕ, nat_eq, Bool, true, false, cond, ◌||◌, List, [], ◌∷◌, length, Option, Some, None, is_some, option_map, ok_or, Result, Ok, Err}
+use Rattle.vt_spec.proofs.Common.{Dot, DotDot, IsWorld, LastWord, Location, Mount, Named, NoWord, Task, World, chain, denial, entries_in, entry_at, entry_named, execute_right, hop, is_among, is_directory_at, is_directory_node, is_lost, last_or, looks_of, may, mount_at, mount_numbered, mounter_allows, node_at, parent_in, parent_location, same_location, same_ok, symlink_text, task_called, topmost, unless}
 use Rattle.vt_spec.specs.declared.errors.Deny.{Deny}
 use Rattle.vt_spec.specs.declared.errors.Rule.TheVariants.{W4, W6, W8}
-use Rattle.vt_spec.specs.Errors.{denial, unless}
-use Rattle.vt_spec.specs.FileTree.{symlink_text}
-use Rattle.vt_spec.specs.Lists.{chain, is_among, last_or}
-use Rattle.vt_spec.specs.Machine.Looks.{looks_of, may}
-use Rattle.vt_spec.specs.Machine.Mounts.{Location, Mount, same_location, topmost}
-use Rattle.vt_spec.specs.Machine.Rightful.{mounter_allows}
-use Rattle.vt_spec.specs.Machine.Walking.{LastWord}
-use Rattle.vt_spec.proofs.Walk.{hop, is_lost, parent_location, stepped}
-use Rattle.vt_spec.specs.Machine.Walking.LastWord.{Dot, DotDot, Named, NoWord}
-use Rattle.vt_spec.specs.Machine.World.{Task, World, is_directory_at, mount_at, mount_numbered, node_at, task_called}
-use Rattle.vt_spec.specs.Machine.Invariants.{IsWorld}
-use Rattle.vt_spec.specs.Rights.{execute_right}
-use Rattle.vt_spec.specs.Tree.{entries_in, entry_named, is_directory_node, parent_in}
-use Rattle.vt_spec.specs.TreeInvariant.{entry_at}
+use Rattle.vt_spec.proofs.Walk.{stepped}
 use Rattle.vt_laws_mounts.specs.Mounts.Attaching.{numbers_of}
 use Rattle.vt_laws_worlds.specs.Worlds.Kept.{IsPlain}
 use Rattle.vt_laws_worlds.proofs.Plain.{plain_numbered}
 use Rattle.vt_laws_worlds.proofs.worlds.Reached.{IsFound, IsFoundDirectory, IsOn, directory_found, step_found}
 use Rattle.vt_laws_worlds.proofs.worlds.ReachedWalks.{own_directory_found, root_found}
-use Rattle.vt_spec.proofs.Refusals.{same_ok}
 use Rattle.vt_laws_later_calls.proofs.Ways.{LeadsToo}
 use Rattle.vt_laws_later_calls.proofs.later.WaysMounts.{SeenAlike, top_known}
 use Rattle.vt_laws_later_calls.proofs.WaysStay.{StandsAs, node_in, tree_in}

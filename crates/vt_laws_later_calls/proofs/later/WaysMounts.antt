@@ -1,18 +1,7 @@
 -- Where mounts of other namespaces go, with all that stands on them, steps through a task's own find the mounts that
 -- they found.
-use Rattle.std.proofs.lemmas.Grind.{common_steps}
-use Rattle.std.proofs.Common.{◌≡◌, refl, sym, ap, subst, ◌∙◌, true≢false, ℕ, zero, suc, ◌≤◌, nat_eq, Bool, true, false, cond, List, filter, length, Option, Some, None, is_some, arith}
-use Rattle.std.specs.List.{list_all}
-use Rattle.std.specs.Prelude.{option_map, option_to_list}
-use Rattle.std.proofs.lemmas.Option.{same_Some}
-use Rattle.vt_spec.specs.Lists.{chain, is_among, last_or}
-use Rattle.vt_spec.specs.Machine.Detach.{is_going, taken_away}
-use Rattle.vt_spec.specs.Machine.Invariants.{IsWorld, Stands}
-use Rattle.vt_spec.specs.Machine.Mounts.{Location, Mount, child_at, root_of, same_location, stands_at, topmost}
-use Rattle.vt_spec.proofs.Walk.{hop}
-use Rattle.vt_spec.specs.Machine.World.{Task, World, mount_at, mount_numbered}
-use Rattle.vt_spec.proofs.Lists.{Among, among-filter, among-from_filter, among_from_all, among_from_list_all, chain_ends, chain_goes_on, last_of_chain}
-use Rattle.vt_spec.proofs.Nodes.{none_is_not}
+use Rattle.std.proofs.Common.{◌≡◌, refl, sym, ap, subst, ◌∙◌, true≢false, ℕ, zero, suc, ◌≤◌, nat_eq, Bool, true, false, cond, List, filter, length, Option, Some, None, is_some, arith, option_map, option_to_list}
+use Rattle.vt_spec.proofs.Common.{Among, IsWorld, Location, Mount, Stands, Task, World, among-filter, among-from_filter, among_from_all, among_from_list_all, chain, chain_ends, chain_goes_on, child_at, common_steps, hop, is_among, is_going, last_of_chain, last_or, list_all, mount_at, mount_numbered, none_is_not, number-mount_in, root_of, same_Some, same_location, stands_at, taken_away, topmost}
 use Rattle.vt_laws_mounts.specs.Mounts.Attaching.{numbers_of}
 use Rattle.vt_laws_mounts.specs.Mounts.Invariants.{OneNumberEach}
 use Rattle.vt_laws_mounts.specs.Mounts.Unmounting.{KeepsAllButMountPointAndType}
@@ -28,7 +17,6 @@ use Rattle.vt_laws_mounts.proofs.ends.UnmountingTrees.{AreClosed}
 use Rattle.vt_laws_trees.proofs.trees.TreesEntered.{chain_ends as chain_ends_at}
 use Rattle.vt_laws_mounts.proofs.letting_go.leaving.PlacesLeft.{nowhere_parts}
 use Rattle.vt_laws_worlds.proofs.worlds.Reached.{IsFoundDirectory, IsOn, namespace_below, place_found}
-use Rattle.vt_spec.proofs.Worlds.{number-mount_in}
 
 -- Chains that agree end at one place
 module _ {A : Type 0} where

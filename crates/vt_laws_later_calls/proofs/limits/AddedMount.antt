@@ -1,20 +1,6 @@
 -- What a new mount leaves at a destination that is not shared: one mount more, and the filesystem that it shows.
-use Rattle.std.proofs.Common.{arith, ◌≡◌, refl, ap, subst, ◌∙◌, ℕ, nat_eq, eq-eqb, true, false, List, [], ◌∷◌, ◌++◌, None, Some, filter, flat_map, is_some, map}
-use Rattle.std.proofs.lemmas.Grind.{common_steps}
-use Rattle.std.proofs.lemmas.List.{append-nil}
-use Rattle.std.specs.Prelude.{if◌then◌else◌}
-use Rattle.vt_spec.specs.Language.Calls.{MountFlags}
-use Rattle.vt_spec.specs.Lists.{Fresh, odds}
-use Rattle.vt_spec.specs.Machine.Apply.{apply}
-use Rattle.vt_spec.specs.Machine.Attach.{Copies, Graft, copies_at, copies_from, copy_mount_point, graft_of, pushed_up, receivers_of, takes_part, twig_of, type_at_part}
-use Rattle.vt_spec.specs.Machine.Mounts.{Location, Mount, group_of}
-use Rattle.vt_spec.specs.Machine.Mounts.Propagation.{Private}
-use Rattle.vt_spec.specs.Machine.NewMounts.{new_mount, plain_filesystem, with_new_filesystem}
-use Rattle.vt_spec.specs.Machine.Permits.Permit.{ToMountPlain}
-use Rattle.vt_spec.specs.Machine.World.{Filesystem, Task, World, mount_at, mount_numbered}
-use Rattle.vt_spec.specs.Machine.Run.{Serves}
-use Rattle.vt_spec.proofs.Lists.{among_numbers}
-use Rattle.vt_spec.proofs.Worlds.{number-mount_in}
+use Rattle.std.proofs.Common.{arith, ◌≡◌, refl, ap, subst, ◌∙◌, ℕ, nat_eq, eq-eqb, true, false, List, [], ◌∷◌, ◌++◌, None, Some, filter, flat_map, is_some, map, append-nil, if◌then◌else◌}
+use Rattle.vt_spec.proofs.Common.{Copies, Filesystem, Fresh, Graft, Location, Mount, MountFlags, Private, Serves, Task, ToMountPlain, World, among_numbers, apply, common_steps, copies_at, copies_from, copy_mount_point, graft_of, group_of, mount_at, mount_numbered, new_mount, number-mount_in, odds, plain_filesystem, pushed_up, receivers_of, takes_part, twig_of, type_at_part, with_new_filesystem}
 use Rattle.vt_laws_mounts.specs.Mounts.Attaching.{is_mount, numbers_of}
 use Rattle.vt_laws_mounts.proofs.mounts.MountsNumbered.{is_one_of, number_is_old}
 use Rattle.vt_laws_mounts.proofs.letting_go.leaving.PlacesLeft.{found_is_there}

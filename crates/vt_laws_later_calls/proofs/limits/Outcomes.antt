@@ -1,14 +1,7 @@
 -- How a call ends by its judgement.
 use Rattle.std.proofs.Common.{arith, ◌≡◌, ℕ, nat_eq, Some, Err}
-use Rattle.std.proofs.lemmas.Grind.{common_steps}
+use Rattle.vt_spec.proofs.Common.{Call, Fresh, Judgement, Outcome, Task, TaskName, World, after, apply, common_steps, denied, filesystems_changed_by, finished, judge_in, policy, task_called}
 use Rattle.vt_spec.specs.declared.errors.Deny.{Deny}
-use Rattle.vt_spec.specs.Language.Calls.{Call, TaskName}
-use Rattle.vt_spec.specs.Lists.{Fresh}
-use Rattle.vt_spec.specs.Machine.Apply.{apply}
-use Rattle.vt_spec.specs.Machine.Judge.{Judgement, judge_in}
-use Rattle.vt_spec.specs.Machine.Outcomes.{Outcome, after, denied}
-use Rattle.vt_spec.specs.Machine.Policy.{filesystems_changed_by, finished, policy}
-use Rattle.vt_spec.specs.Machine.World.{Task, World, task_called}
 use Rattle.vt_laws_rules.proofs.judged.CallsJudged.{policy_judges_then_applies}
 
 module _ (world : World ℕ) (fresh : Fresh ℕ) (name : TaskName) (task : Task ℕ) (call : Call)

@@ -1,21 +1,10 @@
 -- Walks of paths of one word, and of two, from the task's root to a destination.
 use Rattle.std.proofs.Common.{arith, ◌≡◌, ap, ◌∙◌, ℕ, nat_eq, true, false, List, [], ◌∷◌, None, Some, Result, Ok, reverse}
-use Rattle.std.proofs.lemmas.Grind.{common_steps}
+use Rattle.vt_spec.proofs.Common.{Here, Location, Named, Stop, Task, World, common_steps, entries_in, entry_named, execute_right, filesystem_at, followed, if_symlink, is_absolute, is_directory_at, is_removed_at, last_word, most_symlinks, node_allows, node_at, passed, path_text, path_walked, symlink_text, then_walk, topmost, walk_unless, words}
 use Rattle.vt_spec.specs.declared.errors.Deny.{Deny}
 use Rattle.vt_spec.specs.declared.errors.Rule.TheVariants.{W8}
-use Rattle.vt_spec.specs.Machine.Mounts.{Location, topmost}
-use Rattle.vt_spec.specs.Machine.Rightful.{node_allows}
 use Rattle.vt_spec.proofs.Tables.{destination_walk, source_walk}
-use Rattle.vt_spec.specs.Machine.Walking.{Here, Stop, if_symlink, last_word, path_text, then_walk, walk_unless}
-use Rattle.vt_spec.proofs.Walk.{directory_walk, followed, path_walked, search_rules, steps_with, stepped, word_walked, words_walked}
-use Rattle.vt_spec.specs.Machine.Walking.LastWord.{Named}
-use Rattle.vt_spec.specs.Machine.World.{Task, World, filesystem_at, is_directory_at, is_removed_at, node_at}
-use Rattle.vt_spec.specs.PathText.{is_absolute, words}
-use Rattle.vt_spec.specs.Language.Limits.{most_symlinks}
-use Rattle.vt_spec.specs.FileTree.{symlink_text}
-use Rattle.vt_spec.specs.Rights.{execute_right}
-use Rattle.vt_spec.specs.Tree.{entries_in, entry_named}
-use Rattle.vt_spec.proofs.Refusals.{passed}
+use Rattle.vt_spec.proofs.Walk.{directory_walk, search_rules, steps_with, stepped, word_walked, words_walked}
 use Rattle.vt_laws_worlds.proofs.worlds.Reached.{directory_no_link}
 
 -- the path has one word, from the root on

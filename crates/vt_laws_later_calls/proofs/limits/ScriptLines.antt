@@ -1,23 +1,8 @@
 -- The text of a script by its lines, where no allocation fails.
-use Rattle.std.proofs.lemmas.Grind.{common_steps}
-use Rattle.std.proofs.Common.{◌≡◌, refl, sym, ap, subst, ◌∙◌, ℕ, zero, suc, nat_eq, nat_lt, ◌+◌, ◌<◌, ◌≤◌, false, List, [], ◌∷◌, ◌++◌, Some, Ok, Err, append_assoc, length, arith}
+use Rattle.std.proofs.Common.{◌≡◌, refl, sym, ap, subst, ◌∙◌, ℕ, zero, suc, nat_eq, nat_lt, ◌+◌, ◌<◌, ◌≤◌, false, List, [], ◌∷◌, ◌++◌, Some, Ok, Err, append_assoc, length, arith, codes, decimal, append-nil}
+use Rattle.vt_spec.proofs.Common.{Answered, Call, Calling, Done, Fresh, Grammar, Outcome, Serves, TaskName, World, common_steps, denial, denied, granted, is_silent, line_step, line_step_by, longest_line, most_mounts, numbers_for, policy, reply_line, request_of, requested, step_world, text_from}
 use Rattle.std.specs.Fmt.{digits}
-use Rattle.std.specs.Prelude.{codes, decimal}
-use Rattle.std.proofs.lemmas.List.{append-nil}
 use Rattle.vt_spec.specs.declared.errors.Rule.TheVariants.{M9}
-use Rattle.vt_spec.specs.Errors.{denial}
-use Rattle.vt_spec.specs.Language.Answers.Answer.{Done}
-use Rattle.vt_spec.specs.Language.Calls.{Call, TaskName}
-use Rattle.vt_spec.specs.Language.Limits.{longest_line, most_mounts}
-use Rattle.vt_spec.specs.Language.Printed.{reply_line}
-use Rattle.vt_spec.specs.Language.Script.{Grammar, is_silent, request_of}
-use Rattle.vt_spec.specs.Language.Script.Request.{Calling}
-use Rattle.vt_spec.specs.Lists.{Fresh}
-use Rattle.vt_spec.specs.Machine.Outcomes.{Outcome, denied, granted}
-use Rattle.vt_spec.specs.Machine.Policy.{policy}
-use Rattle.vt_spec.specs.Machine.Run.{Serves, line_step, line_step_by, numbers_for, requested, step_world, text_from}
-use Rattle.vt_spec.specs.Machine.Run.Step.{Answered}
-use Rattle.vt_spec.specs.Machine.World.{World}
 use Rattle.vt_laws_later_calls.specs.Limits.FullNamespaces.{numbered}
 use Rattle.vt_laws_later_calls.proofs.limits.Supplies.{HasNumbersUntil, line_adds_its_numbers, next_numbers_serve}
 

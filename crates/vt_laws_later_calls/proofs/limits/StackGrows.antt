@@ -1,29 +1,7 @@
 -- A stack of mounts with one mount more.
-use Rattle.std.proofs.lemmas.Grind.{common_steps}
 use Rattle.std.proofs.Common.{◌≡◌, refl, sym, ap, subst, ◌∙◌, inl, true≢false, ℕ, suc, nat_eq, nat_lt, eq-eqb, Bool, true, false, cond, ◌&&◌, ◌<◌, ◌≤◌, List, [], ◌∷◌, ◌++◌, Option, None, Some, Ok, is_some, map, arith}
-use Rattle.std.proofs.lemmas.Bool.Decides.{nat_tests}
-use Rattle.std.proofs.lemmas.List.Folds.{find-append}
+use Rattle.vt_spec.proofs.Common.{Among, Done, Filesystem, Fresh, IsWorld, Mount, MountFlags, MountPlain, Namespace, Serves, Task, TaskName, ToMountPlain, World, among-append_right, child_at, common_steps, denial, denied, entries_in, entry_named, execute_right, filesystem_numbered, find-append, granted, is_directory_at, is_directory_node, is_removed_at, most_mounts, mount_at, mount_numbered, nat_eq_false_turned, nat_tests, new_directory, node_allows, node_at, numbers_raised, policy, raised, raised_if_changed, raised_namespace, raised_task, root_attr, root_of, same_mounts_in, same_name, settled, stands_at, topmost, unless}
 use Rattle.vt_spec.specs.declared.errors.Rule.TheVariants.{M9}
-use Rattle.vt_spec.specs.Errors.{denial, unless}
-use Rattle.vt_spec.specs.Language.Answers.Answer.{Done}
-use Rattle.vt_spec.specs.Language.Calls.{MountFlags, TaskName, same_name}
-use Rattle.vt_spec.specs.Language.Calls.Call.{MountPlain}
-use Rattle.vt_spec.specs.Language.Limits.{most_mounts}
-use Rattle.vt_spec.specs.Lists.{Fresh}
-use Rattle.vt_spec.specs.Machine.Filesystems.{raised_if_changed, raised}
-use Rattle.vt_spec.specs.Machine.Invariants.{IsWorld}
-use Rattle.vt_spec.specs.Machine.Mounts.{Mount, child_at, root_of, stands_at, topmost}
-use Rattle.vt_spec.specs.Machine.Outcomes.{denied, granted}
-use Rattle.vt_spec.specs.Machine.Permits.Permit.{ToMountPlain}
-use Rattle.vt_spec.specs.Machine.Policy.{numbers_raised, policy, raised_namespace, raised_task, same_mounts_in}
-use Rattle.vt_spec.specs.Machine.Rightful.{node_allows}
-use Rattle.vt_spec.specs.Machine.Run.{Serves}
-use Rattle.vt_spec.specs.Machine.Settled.{settled}
-use Rattle.vt_spec.specs.Machine.World.{Filesystem, Namespace, Task, World, filesystem_numbered, is_directory_at, is_removed_at, mount_at, mount_numbered, node_at, root_attr}
-use Rattle.vt_spec.specs.Rights.{execute_right}
-use Rattle.vt_spec.specs.Tree.{entries_in, entry_named, is_directory_node, new_directory}
-use Rattle.vt_spec.proofs.Lists.{Among, among-append_right}
-use Rattle.vt_spec.proofs.Truths.{nat_eq_false_turned}
 use Rattle.vt_laws_mounts.proofs.mounts.MountsFound.{found_in}
 use Rattle.vt_laws_mounts.proofs.mounts.MountsPlaces.{same_location_itself, stands_there}
 use Rattle.vt_laws_mounts.proofs.mounts.MountsReplaced.{found-append, found_itself}

@@ -1,28 +1,8 @@
 -- The topmost mount of a stack, unmounted: the stack is as it was before that mount.
-use Rattle.std.proofs.Common.{◌≡◌, refl, sym, ap, subst, ◌∙◌, ℕ, suc, nat_eq, eq-eqb, Bool, true, false, cond, not, ◌||◌, ◌<◌, List, [], ◌∷◌, Option, Some, Ok, is_some, map}
-use Rattle.std.proofs.lemmas.List.{map-id}
+use Rattle.std.proofs.Common.{◌≡◌, refl, sym, ap, subst, ◌∙◌, ℕ, suc, nat_eq, eq-eqb, Bool, true, false, cond, not, ◌||◌, ◌<◌, List, [], ◌∷◌, Option, Some, Ok, is_some, map, map-id}
+use Rattle.vt_spec.proofs.Common.{Done, Filesystem, Fresh, Here, Judgement, Location, Mount, MountFlags, Namespace, Permit, Serves, Task, TaskName, ToUnmount, Umount, World, all_locations, and_then, granted, holds_of, is_busy, judge_in, locations_of, looks_of, most_mounts, mount_at, mount_numbered, numbers_raised, policy, raised, raised_task, same_name, settled, umount_permit, umount_rules, unless, unmounted, walk_end}
 use Rattle.vt_spec.specs.declared.errors.Rule.TheVariants.{K1, M10, M2, M7, M8}
-use Rattle.vt_spec.specs.Errors.{and_then, unless}
-use Rattle.vt_spec.specs.Language.Answers.Answer.{Done}
-use Rattle.vt_spec.specs.Language.Calls.{MountFlags, TaskName, same_name}
-use Rattle.vt_spec.specs.Language.Calls.Call.{Umount}
-use Rattle.vt_spec.specs.Language.Limits.{most_mounts}
-use Rattle.vt_spec.specs.Lists.{Fresh, holds_of}
-use Rattle.vt_spec.specs.Machine.Detach.{is_busy, unmounted}
-use Rattle.vt_spec.specs.Machine.Filesystems.{raised}
-use Rattle.vt_spec.specs.Machine.Judge.{Judgement, judge_in, umount_permit}
-use Rattle.vt_spec.specs.Machine.Looks.{looks_of}
-use Rattle.vt_spec.specs.Machine.Mounts.{Location, Mount}
-use Rattle.vt_spec.specs.Machine.Outcomes.{granted}
-use Rattle.vt_spec.specs.Machine.Permits.{Permit}
-use Rattle.vt_spec.specs.Machine.Permits.Permit.{ToUnmount}
-use Rattle.vt_spec.specs.Machine.Policy.{numbers_raised, policy, raised_task}
-use Rattle.vt_spec.specs.Machine.Rules.Mounting.{umount_rules}
-use Rattle.vt_spec.specs.Machine.Run.{Serves}
-use Rattle.vt_spec.specs.Machine.Settled.{settled}
-use Rattle.vt_spec.specs.Machine.Walking.{Here, walk_end}
 use Rattle.vt_spec.proofs.Walk.{directory_walk}
-use Rattle.vt_spec.specs.Machine.World.{Filesystem, Namespace, Task, World, all_locations, locations_of, mount_at, mount_numbered}
 use Rattle.vt_laws_mounts.specs.LettingGo.InUse.{AllInUse}
 use Rattle.vt_laws_mounts.proofs.letting_go.Lists.{flat_map-map}
 use Rattle.vt_laws_mounts.proofs.letting_go.sweeps.OfWorlds.{all_in_use}

@@ -1,29 +1,8 @@
 -- Mounts stacked on a place: each new mount comes onto the topmost one, while its namespace has room.
-use Rattle.std.proofs.lemmas.Grind.{common_steps}
 use Rattle.std.proofs.Common.{◌≡◌, refl, ap, ◌∙◌, ℕ, suc, nat_eq, nat_lt, eq-eqb, true, false, not, ◌≤◌, ◌&&◌, List, [], ◌∷◌, ◌++◌, Some, Ok, length, arith}
-use Rattle.std.specs.List.{list_all}
+use Rattle.vt_spec.proofs.Common.{Fresh, Here, IsWorld, Judgement, Location, Mount, MountFlags, MountPlain, Permit, Private, Task, TaskName, ToMountPlain, World, among_from_list_all, and_then, apply, attach_permit, cap_sys_admin, common_steps, found_among, holds_of, is_listed, judge_in, lacks, list_all, looks_of, most_mounts, mount_at, mount_plain_permit, mounts_of, new_mount_rules, overfills, task_called, unless, walk_end, with_mounts}
 use Rattle.vt_spec.specs.declared.errors.Rule.TheVariants.{K1, M2, M9}
-use Rattle.vt_spec.specs.Errors.{and_then, unless}
-use Rattle.vt_spec.specs.Language.Calls.{MountFlags, TaskName}
-use Rattle.vt_spec.specs.Language.Calls.Call.{MountPlain}
-use Rattle.vt_spec.specs.Language.Limits.{most_mounts}
-use Rattle.vt_spec.specs.Lists.{Fresh, holds_of}
-use Rattle.vt_spec.specs.Machine.Apply.{apply, overfills}
-use Rattle.vt_spec.specs.Machine.Invariants.{IsWorld, is_listed}
-use Rattle.vt_spec.specs.Machine.Judge.{Judgement, attach_permit, judge_in, mount_plain_permit}
-use Rattle.vt_spec.specs.Machine.Looks.{looks_of}
-use Rattle.vt_spec.specs.Machine.Mounts.{Location, Mount}
-use Rattle.vt_spec.specs.Machine.Mounts.Propagation.{Private}
-use Rattle.vt_spec.specs.Machine.Permits.{Permit}
-use Rattle.vt_spec.specs.Machine.Permits.Permit.{ToMountPlain}
 use Rattle.vt_spec.proofs.Tables.{destination_walk}
-use Rattle.vt_spec.specs.Machine.Rules.Mounting.{new_mount_rules}
-use Rattle.vt_spec.specs.Machine.Walking.{Here, walk_end}
-use Rattle.vt_spec.specs.Machine.World.{Task, World, mount_at, mounts_of, task_called, with_mounts}
-use Rattle.vt_spec.specs.Rights.{cap_sys_admin}
-use Rattle.vt_spec.specs.Machine.Rules.Conditions.{lacks}
-use Rattle.vt_spec.proofs.Found.{found_among}
-use Rattle.vt_spec.proofs.Lists.{among_from_list_all}
 use Rattle.vt_laws_mounts.proofs.letting_go.ends.NamespacesEnd.{added_mounts_count, added_mounts_count_in_no_other, too_many_is_of_one}
 use Rattle.vt_laws_worlds.specs.Worlds.Kept.{IsPlain}
 use Rattle.vt_laws_later_calls.proofs.limits.AddedMount.{added_mount, mounts-new_mount}

@@ -1,9 +1,6 @@
 -- The numbers that a script hands to its next line are not in use.
 use Rattle.std.proofs.Common.{◌≡◌, sym, ap, subst, ◌∙◌, ℕ, suc, nat_eq, nat_le, ◌≤◌, Bool, true, List, Some, arith}
-use Rattle.std.proofs.lemmas.Bool.Decides.{nat_tests}
-use Rattle.vt_spec.specs.Language.Script.{Grammar}
-use Rattle.vt_spec.specs.Machine.Run.{Serves, first_world, line_step, numbers_for, step_world}
-use Rattle.vt_spec.specs.Machine.World.{World}
+use Rattle.vt_spec.proofs.Common.{Grammar, Serves, World, first_world, line_step, nat_tests, numbers_for, step_world}
 use Rattle.vt_laws_rules.specs.Numbers.{KeepsTo}
 use Rattle.vt_laws_rules.proofs.numbers.Rows.{row, row-spread, row_first, spread_for}
 use Rattle.vt_laws_rules.proofs.numbers.Stages.{stage, stage_keeps}

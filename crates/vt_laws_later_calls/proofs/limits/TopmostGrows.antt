@@ -1,12 +1,6 @@
 -- The topmost mount over a place once one more mount is stacked there.
-use Rattle.std.proofs.lemmas.Grind.{common_steps}
-use Rattle.std.proofs.Common.{◌≡◌, refl, ap, ◌∙◌, ℕ, zero, suc, nat_eq, Bool, true, false, cond, List, [], ◌∷◌, ◌++◌, Option, None, Some, length, option_map, arith}
-use Rattle.std.proofs.lemmas.List.{length-append}
-use Rattle.std.proofs.lemmas.List.Folds.{find-append}
-use Rattle.vt_spec.specs.Lists.{chain, last_or}
-use Rattle.vt_spec.specs.Machine.Mounts.{Location, Mount, child_at, root_of, stands_at, topmost}
-use Rattle.vt_spec.proofs.Lists.{chain_ends, chain_goes_on}
-use Rattle.vt_spec.proofs.Options.{none_is_some}
+use Rattle.std.proofs.Common.{◌≡◌, refl, ap, ◌∙◌, ℕ, zero, suc, nat_eq, Bool, true, false, cond, List, [], ◌∷◌, ◌++◌, Option, None, Some, length, option_map, arith, length-append}
+use Rattle.vt_spec.proofs.Common.{Location, Mount, chain, chain_ends, chain_goes_on, child_at, common_steps, find-append, last_or, none_is_some, root_of, stands_at, topmost}
 
 -- a chain that ended goes on by one step
 module _ {A : Type 0} (step grown : A → Option A) (end next : A)

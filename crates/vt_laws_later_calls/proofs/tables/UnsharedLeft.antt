@@ -1,22 +1,6 @@
 -- What is left of a world after an unshare: the mounts of a namespace that ends have copies, so that nothing else goes.
-use Rattle.std.proofs.Common.{arith, ◌≡◌, refl, sym, ap, subst, ◌∙◌, ◌⊎◌, inl, inr, ⊎_elim, ℕ, nat_eq, eqb-true, eq-eqb, Bool, true, false, cond, not, ◌||◌, ◌&&◌, List, [], ◌∷◌, ◌++◌, filter, map, flat_map, Option, Some, None, is_some, option_map, true≢false}
-use Rattle.std.proofs.lemmas.Grind.{common_steps}
-use Rattle.std.specs.List.{filter_map, list_all, list_any}
-use Rattle.std.specs.Cmp.Lexicographic.{bytes_decides}
-use Rattle.std.proofs.lemmas.Bool.{and_parts, false_from_ne_true, or_cases, or_parts, cases_Bool}
-use Rattle.std.proofs.lemmas.List.Folds.{list_any-append}
-use Rattle.vt_spec.specs.Language.Calls.{same_name}
-use Rattle.vt_spec.specs.Lists.{Fresh, any_pair, evens, holds_of, is_among, odds, then_some}
-use Rattle.vt_spec.specs.Machine.Detach.{after_going, is_going, mount_point_left}
-use Rattle.vt_spec.specs.Machine.Invariants.{HasLivingGroups, IsWorld, Lives, MountInvariants}
-use Rattle.vt_spec.specs.Machine.Invariants.Lives.{has_master, has_no_master}
-use Rattle.vt_spec.specs.Machine.Mounts.{Location, Mount, detached, mount_in, numbers_by, root_of, source_of}
-use Rattle.vt_spec.specs.Machine.Namespaces.{copied_mount, has_tasks, is_copied, is_in_ended, location_on_copy, moved_location, namespaces_ended, unshared, unshared_task}
-use Rattle.vt_spec.specs.Machine.Receives.{has_members, is_lost_group, is_member_of, lost_a_group, regrouped_by}
-use Rattle.vt_spec.specs.Machine.Run.{Serves}
-use Rattle.vt_spec.specs.Machine.Settled.{filesystem_lives, has_layer_on, is_located, is_mounted, layers_in, located_in, mount_lives, named_in, objects_of_overlay, settled, without_dead_groups, without_dead_in, without_dead_inodes, without_dead_mounts}
-use Rattle.vt_spec.specs.Machine.World.{Filesystem, Namespace, Task, World, all_locations, is_overlay, locations_of, mount_at, mount_numbered, mounts_of, replaced_if_called, task_called, with_mounts}
-use Rattle.vt_spec.proofs.Lists.{none_among, pair-filter}
+use Rattle.std.proofs.Common.{arith, ◌≡◌, refl, sym, ap, subst, ◌∙◌, ◌⊎◌, inl, inr, ⊎_elim, ℕ, nat_eq, eqb-true, eq-eqb, Bool, true, false, cond, not, ◌||◌, ◌&&◌, List, [], ◌∷◌, ◌++◌, filter, map, flat_map, Option, Some, None, is_some, option_map, true≢false, filter_map}
+use Rattle.vt_spec.proofs.Common.{Filesystem, Fresh, HasLivingGroups, IsWorld, Lives, Location, Mount, MountInvariants, Namespace, Serves, Task, World, after_going, all_locations, and_parts, any_pair, bytes_decides, cases_Bool, common_steps, copied_mount, detached, evens, false_from_ne_true, filesystem_lives, has_layer_on, has_master, has_members, has_no_master, has_tasks, holds_of, is_among, is_among_left, is_among_right, is_copied, is_going, is_in_ended, is_located, is_lost_group, is_member_of, is_mounted, is_overlay, layers_in, list_all, list_any, list_any-append, located_in, location_on_copy, locations_of, lost_a_group, mount_at, mount_in, mount_lives, mount_numbered, mount_point_left, mounts_of, moved_location, named_in, namespaces_ended, none_among, number-mount_in, numbers_by, objects_of_overlay, odds, or_cases, or_parts, pair-filter, regrouped_by, replaced_if_called, root_of, same_name, same_task_name, settled, source_of, task_called, then_some, unshared, unshared_task, with_mounts, without_dead_groups, without_dead_in, without_dead_inodes, without_dead_mounts}
 use Rattle.vt_laws_mounts.specs.LettingGo.InUse.{FilesystemsInUse, InodesInUse, is_inode_used}
 use Rattle.vt_laws_mounts.specs.LettingGo.Mounting.{ended_mounts}
 use Rattle.vt_laws_mounts.proofs.letting_go.sweeps.InUse.{filesystems_stay, inodes_stay, used_at}
@@ -29,8 +13,6 @@ use Rattle.vt_laws_mounts.proofs.mounts.MountsFound.{found_there, numbers-map}
 use Rattle.vt_laws_mounts.proofs.mounts.MountsReplaced.{found_itself, one_number_by_numbers}
 use Rattle.vt_laws_mounts.proofs.namespaces.Unsharing.{Parent, parent_of, placed_inside, unshare_keeps_mounts}
 use Rattle.vt_laws_worlds.proofs.kept.NamespacesListed.{AreNamespaces, are_namespaces}
-use Rattle.vt_spec.proofs.Found.{is_among_left, is_among_right}
-use Rattle.vt_spec.proofs.Worlds.{number-mount_in, same_task_name}
 use Rattle.vt_laws_mounts.specs.LettingGo.Ends.{is_in}
 use Rattle.vt_laws_trees.proofs.trees.TreesTasks.{called_there}
 

@@ -1,35 +1,10 @@
 -- What the list of mounts tells after an unshare.
 use Rattle.std.proofs.Common.{arith, ◌≡◌, refl, sym, ap, subst, ◌∙◌, inr, ⊎_elim, ℕ, nat_eq, eq-eqb, eqb-true, Bool, true, false, cond, List, [], ◌∷◌, ◌++◌, Option, Some, None, Ok, Err, Result, filter, find, flat_map, is_some, map, option_map, option_to_list, true≢false, unwrap_or}
-use Rattle.std.proofs.lemmas.Grind.{common_steps}
-use Rattle.std.proofs.lemmas.Bool.{false_from_ne_true, cases_Bool}
-use Rattle.std.proofs.lemmas.Option.{same_Some}
-use Rattle.std.specs.Cmp.Lexicographic.{bytes_decides}
+use Rattle.vt_spec.proofs.Common.{Answer, Done, Filesystem, Fresh, IsWorld, ListMounts, Location, Looks, Mount, MountInvariants, MountList, Namespace, Permit, Private, Propagation, Serves, Shared, Slave, Spot, Task, TaskName, ToUnshare, Unbindable, Unshare, World, apply, bytes_decides, cases_Bool, common_steps, denial, each_once, evens, false_from_ne_true, filesystems_changed, filesystems_seen, groups_in_type, groups_seen, groups_shown, is_among_numbers, is_going, is_listed, is_member_of, is_overlay, map_alike, map_same, mount_line, mount_lines, mount_lives, mount_numbered, mount_point_left, mount_point_spot, mounts_of, no_filesystem, number_among, numbers_in_use, numbers_raised, path_down, policy, raised, raised_if_changed, raised_task, replaced_if_called, same_Some, same_name, same_task_name, settled, spot_of, task_called, type_line, used_by_filesystem, used_by_mount, without_dead_groups}
 use Rattle.vt_spec.specs.declared.errors.Deny.{Deny}
 use Rattle.vt_spec.specs.declared.errors.Rule.TheVariants.{S2}
-use Rattle.vt_spec.specs.Errors.{denial}
-use Rattle.vt_spec.specs.Language.Answers.{Answer, Spot}
-use Rattle.vt_spec.specs.Language.Answers.Answer.{Done, MountList}
 use Rattle.vt_spec.specs.Language.Answers.TypeLine.{SharedLine}
-use Rattle.vt_spec.specs.FileTree.{path_down}
-use Rattle.vt_spec.specs.Language.Calls.{TaskName, same_name}
-use Rattle.vt_spec.specs.Language.Calls.Call.{ListMounts, Unshare}
-use Rattle.vt_spec.specs.Lists.{Fresh, each_once, evens}
-use Rattle.vt_spec.specs.Machine.Detach.{is_going, mount_point_left}
-use Rattle.vt_spec.specs.Machine.Filesystems.{raised, raised_if_changed}
-use Rattle.vt_spec.specs.Machine.Apply.{apply, filesystems_changed}
-use Rattle.vt_spec.specs.Machine.Invariants.{IsWorld, MountInvariants, is_listed}
-use Rattle.vt_spec.specs.Machine.Listing.{filesystems_seen, groups_in_type, groups_seen, groups_shown, mount_line, mount_lines, number_among, mount_point_spot, spot_of, type_line}
-use Rattle.vt_spec.specs.Machine.Mounts.{Location, Mount, Propagation}
-use Rattle.vt_spec.specs.Machine.Mounts.Propagation.{Private, Shared, Slave, Unbindable}
-use Rattle.vt_spec.specs.Machine.Permits.{Permit}
-use Rattle.vt_spec.specs.Machine.Permits.Permit.{ToUnshare}
-use Rattle.vt_spec.specs.Machine.Policy.{numbers_raised, policy, raised_task}
-use Rattle.vt_spec.specs.Machine.Receives.{is_member_of}
-use Rattle.vt_spec.specs.Machine.Run.{Serves, numbers_in_use, used_by_filesystem, used_by_mount}
-use Rattle.vt_spec.specs.Machine.Settled.{mount_lives, settled, without_dead_groups}
-use Rattle.vt_spec.specs.Machine.World.{Filesystem, Namespace, Task, World, is_overlay, mount_numbered, mounts_of, no_filesystem, replaced_if_called, task_called}
 use Rattle.vt_laws_mounts.proofs.letting_go.Lists.{Among, among-append_left, among-append_right, among-from_filter, among-map, any_passes, filter_here, filter_skip, flat_map_alike}
-use Rattle.vt_spec.proofs.Lists.{is_among_numbers, map_same, map_alike}
 use Rattle.vt_laws_mounts.proofs.letting_go.mounting.MountingTaken
 use Rattle.vt_laws_mounts.specs.Mounts.Propagation.{UnshareListsOthersTheSame, UnshareListsTheSame}
 use Rattle.vt_laws_mounts.proofs.GroupsKept.{shared_member}
@@ -41,12 +16,10 @@ use Rattle.vt_laws_worlds.proofs.kept.NamespacesListed.{IsListedIn, listed_in, n
 use Rattle.vt_laws_later_calls.specs.Tables.{UnshareGivesANamespace, UnshareThenMounts}
 use Rattle.vt_laws_later_calls.proofs.Granted.{IsPermitted, permitted}
 use Rattle.vt_laws_later_calls.proofs.tables.UnsharedLeft
-use Rattle.vt_spec.proofs.Worlds.{same_task_name}
 use Rattle.vt_laws_mounts.specs.LettingGo.Ends.{is_in}
 use Rattle.vt_laws_trees.proofs.trees.TreesTasks.{called_there}
 use Rattle.vt_laws_rules.specs.Granted.{IsGranted}
 use Rattle.vt_laws_rules.specs.Granted.IsGranted.{unshares}
-use Rattle.vt_spec.specs.Machine.Looks.{Looks}
 
 -- a list that is changed and then shortened, of which those that pass a test stay as they are
 filter_left : {A : Type 0} (p q : A → Bool) (f : A → A) (xs : List A)

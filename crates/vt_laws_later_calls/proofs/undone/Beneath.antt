@@ -1,18 +1,6 @@
 -- An unmount of a mount that was attached, where mounts stood at receivers: the others are as they were before.
-use Rattle.std.proofs.Common.{cond, eq-eqb, zero, ◌&&◌, ◌≡◌, refl, sym, ap, subst, ◌∙◌, true, false, nat_eq, ℕ, List, None, Option, Some, [], filter, flat_map, inl, inr, is_some, map, option_map, true≢false, unwrap_or, ⊎_elim, ◌++◌, ◌∷◌, ◌⊎◌, eqb-true}
-use Rattle.std.specs.Prelude.{Contains}
-use Rattle.std.proofs.lemmas.Bool.{false_from_ne_true, or_parts}
-use Rattle.std.proofs.lemmas.Option.{same_Some}
-use Rattle.std.specs.List.{list_any}
-use Rattle.vt_spec.proofs.Lists.{chain_ends, none_among, pair-filter, among-filter, Among, among-append, among-from_filter, among-from_flat_map, among-from_map, among_from_contains, any_among, any_from_among, contains_from_among}
-use Rattle.vt_spec.specs.Machine.Attach.{copies_from, graft_of, parts_of, pushed_onto, receiver_stood_on, receivers_of, takes_part}
-use Rattle.vt_spec.specs.Machine.Detach.{may_go, only_cover, unmounted, going}
-use Rattle.vt_spec.specs.Lists.{Fresh, any_pair, holds_of, is_among, last_or, rest_of}
-use Rattle.vt_spec.specs.Machine.Invariants.{share_a_mount_point}
-use Rattle.vt_spec.specs.Machine.Mounts.{Location, Mount, Propagation, child_at, detached, group_of, is_shared, root_of, same_location, source_of, stands_at, stands_on, topmost}
-use Rattle.vt_spec.specs.Machine.Mounts.Propagation.{Private, Shared, Slave, Unbindable}
-use Rattle.vt_spec.specs.Machine.Receives.{groups_up, has_members, is_member_of, receivers, receives, lost_a_group}
-use Rattle.vt_spec.specs.Machine.World.{World, mount_at, mount_numbered}
+use Rattle.std.proofs.Common.{cond, eq-eqb, zero, ◌&&◌, ◌≡◌, refl, sym, ap, subst, ◌∙◌, true, false, nat_eq, ℕ, List, None, Option, Some, [], filter, flat_map, inl, inr, is_some, map, option_map, true≢false, unwrap_or, ⊎_elim, ◌++◌, ◌∷◌, ◌⊎◌, eqb-true, Contains}
+use Rattle.vt_spec.proofs.Common.{Among, Fresh, Location, Mount, Private, Propagation, Shared, Slave, Unbindable, World, among-append, among-filter, among-from_filter, among-from_flat_map, among-from_map, among_from_contains, any_among, any_from_among, any_pair, chain_ends, child_at, contains_from_among, copies_from, detached, false_from_ne_true, going, graft_of, group_of, groups_up, has_members, holds_of, is_among, is_member_of, is_shared, last_or, list_any, lost_a_group, may_go, mount_at, mount_numbered, none_among, number-mount_in, only_cover, or_parts, pair-filter, parts_of, pushed_onto, receiver_stood_on, receivers, receivers_of, receives, rest_of, root_of, same_Some, same_location, share_a_mount_point, source_of, stands_at, stands_on, takes_part, topmost, unmounted}
 use Rattle.vt_laws_mounts.specs.Mounts.Attaching.{KeepsAllButMountPoint, OneNumberAMount, is_mount}
 use Rattle.vt_laws_mounts.specs.Mounts.MountPoints.{OneMountAMountPoint}
 use Rattle.vt_laws_mounts.specs.Mounts.Propagation.{Attachment, CanAttach, IsPart, copy_of, number_at, world_after}
@@ -37,7 +25,7 @@ use Rattle.vt_laws_mounts.proofs.propagation.PropagationUp.{heard, hears, lives_
 use Rattle.vt_laws_mounts.proofs.mounts.Receivers.{receives_completely, receives_soundly}
 use Rattle.vt_laws_mounts.proofs.ends.Unmounting.{root_mounts_stay, unmount_keeps_the_order, what_covered_falls, what_goes_is_detached, what_stays_keeps, what_stays_keeps_its_place, what_stays_keeps_its_type, groups_keep_their_masters, middle}
 use Rattle.vt_laws_mounts.proofs.ends.UnmountingGoes.{what_goes_is_named}
-use Rattle.vt_spec.proofs.Worlds.{master-regrouped_by, number-mount_in}
+use Rattle.vt_spec.proofs.Worlds.{master-regrouped_by}
 use Rattle.vt_laws_mounts.proofs.propagation.OneAttached.{one_of, later_number, part_old, hears_group}
 
 -- a mount that does not stand on itself is the topmost one over its root, where it is alone

@@ -1,18 +1,7 @@
 -- Where copies come at a mount of theirs and at its receivers, the worlds that are left have one part.
 use Rattle.std.proofs.Common.{arith, ◌≡◌, refl, sym, ap, ◌∙◌, ⊎_elim, ℕ, nat_eq, Bool, true, false, cond, List, [], ◌++◌, Option, Some, None, append_assoc, filter, map}
-use Rattle.std.proofs.lemmas.Grind.{common_steps}
-use Rattle.std.specs.List.{list_any}
+use Rattle.vt_spec.proofs.Common.{Among, Copies, Filesystem, IsWorld, Location, Mount, Task, TaskName, World, among-filter, among-from_filter, any_among, attached_by, common_steps, folded, is_among, is_member_of, is_own_mount, list_any, master_above, masters_with, members, mount_at, numbers_raised, own_mounts, part_of, part_of_master, sealed, source_of, used_filesystems}
 use Rattle.vt_laws_mounts.proofs.GroupsUp.{source_from_group}
-use Rattle.vt_spec.specs.Language.Calls.{TaskName}
-use Rattle.vt_spec.specs.Lists.{folded, is_among}
-use Rattle.vt_spec.specs.Machine.Attach.{Copies, attached_by, masters_with}
-use Rattle.vt_spec.specs.Machine.Invariants.{IsWorld}
-use Rattle.vt_spec.specs.Machine.Mounts.{Location, Mount, source_of}
-use Rattle.vt_spec.specs.Machine.Policy.{master_above, numbers_raised}
-use Rattle.vt_spec.specs.Machine.Receives.{is_member_of}
-use Rattle.vt_spec.specs.Machine.Sealed.{is_own_mount, members, own_mounts, part_of, part_of_master, sealed, used_filesystems}
-use Rattle.vt_spec.specs.Machine.World.{Filesystem, Task, World, mount_at}
-use Rattle.vt_spec.proofs.Lists.{Among, among-filter, among-from_filter, any_among}
 use Rattle.vt_laws_sealed.proofs.part.groups.ReceiversAlike.{member_group}
 use Rattle.vt_laws_sealed.proofs.part.part.PartOfPart.{is_own, same_members, same_own}
 use Rattle.vt_laws_members.proofs.changes.letting_go.Heard.{heard_by_own, master_same}

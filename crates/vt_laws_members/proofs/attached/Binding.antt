@@ -1,32 +1,7 @@
 -- Each mount(2) with MS_BIND, recursive or not, ends in the part as in the world.
-use Rattle.std.proofs.Common.{arith, ◌≡◌, refl, sym, ap, subst, ◌∙◌, ⊎_elim, ℕ, zero, suc, nat_eq, Bool, true, false, List, [], Option, Some, None, Ok, Err, filter, length, not}
-use Rattle.std.proofs.lemmas.Grind.{common_steps}
-use Rattle.std.specs.Prelude.{IfOk, is_ok}
-use Rattle.std.specs.List.{list_any}
-use Rattle.std.proofs.lemmas.Bool.{or_parts}
+use Rattle.std.proofs.Common.{arith, ◌≡◌, refl, sym, ap, subst, ◌∙◌, ⊎_elim, ℕ, zero, suc, nat_eq, Bool, true, false, List, [], Option, Some, None, Ok, Err, filter, length, not, IfOk, is_ok}
+use Rattle.vt_spec.proofs.Common.{Among, Bind, Copies, Done, Filesystem, Fresh, IsWorld, Judgement, Location, Mount, Permit, Serves, Task, TaskName, ToBind, World, admin_rules, among-filter, among-from_filter, among-from_flat_map, and_then, attach, attach_permit, attached_by, bind_permit, bind_rules, bind_tree, bindable_children, bindable_tree, bound_at, children, common_steps, copies_from, destination_walk, granted, is_among, is_elsewhere, is_own_mount, is_unbindable, judge_in, list_any, members, mount_at, number-mount_in, numbers_raised, or_parts, overfills, part_of, policy, sealed, source_of, source_walk, stands_under, task_called, used_directly, used_filesystems, walk_end}
 use Rattle.vt_laws_sealed.proofs.part.part.MountsOver.{numbered}
-use Rattle.vt_spec.specs.Language.Answers.Answer.{Done}
-use Rattle.vt_spec.specs.Language.Calls.{TaskName}
-use Rattle.vt_spec.specs.Language.Calls.Call.{Bind}
-use Rattle.vt_spec.specs.Lists.{Fresh, is_among}
-use Rattle.vt_spec.specs.Machine.Apply.{overfills}
-use Rattle.vt_spec.specs.Machine.Attach.{Copies, attach, attached_by, bind_tree, bindable_children, bindable_tree, bound_at, copies_from, stands_under}
-use Rattle.vt_spec.specs.Machine.Invariants.{IsWorld}
-use Rattle.vt_spec.specs.Machine.Judge.{Judgement, attach_permit, bind_permit, judge_in}
-use Rattle.vt_spec.specs.Machine.Mounts.{Location, Mount, children, is_unbindable, source_of}
-use Rattle.vt_spec.specs.Machine.Outcomes.{granted}
-use Rattle.vt_spec.specs.Machine.Permits.{Permit}
-use Rattle.vt_spec.specs.Machine.Permits.Permit.{ToBind}
-use Rattle.vt_spec.specs.Machine.Policy.{numbers_raised, policy}
-use Rattle.vt_spec.specs.Machine.Rules.Conditions.{is_elsewhere}
-use Rattle.vt_spec.specs.Machine.Rules.Mounting.{admin_rules, bind_rules, destination_walk, source_walk}
-use Rattle.vt_spec.specs.Machine.Run.{Serves}
-use Rattle.vt_spec.specs.Machine.Sealed.{is_own_mount, members, part_of, sealed, used_directly, used_filesystems}
-use Rattle.vt_spec.specs.Machine.Walking.{walk_end}
-use Rattle.vt_spec.specs.Errors.{and_then}
-use Rattle.vt_spec.specs.Machine.World.{Filesystem, Task, World, mount_at, task_called}
-use Rattle.vt_spec.proofs.Lists.{Among, among-filter, among-from_filter, among-from_flat_map}
-use Rattle.vt_spec.proofs.Worlds.{number-mount_in}
 use Rattle.vt_laws_mounts.proofs.letting_go.mounting.AttachedSwept.{binds_keep_all}
 use Rattle.vt_laws_mounts.proofs.letting_go.sweeps.OfWorlds.{all_in_use, locations_of_worlds_stand, mounts_of_worlds_stand}
 use Rattle.vt_laws_sealed.proofs.part.part.PartOfPart.{is_own}

@@ -1,24 +1,9 @@
 -- Copies that are attached at a mount of theirs, at its receivers and what they push up, are the same in the part.
-use Rattle.std.proofs.Common.{arith, ◌≡◌, refl, sym, ap, subst, ◌∙◌, inl, inr, ⊎_elim, ℕ, nat_eq, Bool, true, false, cond, List, [], ◌∷◌, ◌++◌, Option, Some, None, append-nil, filter, find, flat_map, is_some, map, not, ◌&&◌}
-use Rattle.std.proofs.lemmas.Grind.{common_steps}
-use Rattle.std.specs.Prelude.{option_map}
-use Rattle.std.specs.List.{filter_map, list_any}
+use Rattle.std.proofs.Common.{arith, ◌≡◌, refl, sym, ap, subst, ◌∙◌, inl, inr, ⊎_elim, ℕ, nat_eq, Bool, true, false, cond, List, [], ◌∷◌, ◌++◌, Option, Some, None, append-nil, filter, find, flat_map, is_some, map, not, ◌&&◌, option_map, filter_map}
+use Rattle.vt_spec.proofs.Common.{Among, Copies, Filesystem, Graft, IsWorld, Location, Mount, Private, Propagation, Shared, Slave, Task, TaskName, Twig, Unbindable, World, added_mounts, all_groups_made, among-filter, among-from_filter, attached_at, attached_by, common_steps, copies_at, copy_at, copy_mount_point, copy_number, copy_type, filesystem_numbered, filter_alike, folded, found_among, graft_of, group_made, group_of, has_members, image, is_among, is_destination, is_directory_under, is_member_of, is_own_mount, list_any, map_alike, masters_with, members, mount_at, nearest_image, number-mount_in, part_of, parts_of, pushed_up, receivers_of, rest_of, sealed, slave_of_heir, source_of, takes_part, then_some, twig_master, twig_of, used_filesystems, when, with_moved_mounts}
 use Rattle.vt_laws_members.proofs.detached.lazily.GoingAlike.{receivers_alike, receivers_own}
 use Rattle.vt_laws_mounts.proofs.GroupsUp.{source_from_group}
 use Rattle.vt_laws_sealed.proofs.part.part.MountsOver.{numbered}
-use Rattle.vt_spec.specs.FileTree.{is_directory_under}
-use Rattle.vt_spec.specs.Language.Calls.{TaskName}
-use Rattle.vt_spec.specs.Lists.{folded, is_among, rest_of, then_some, when}
-use Rattle.vt_spec.specs.Machine.Attach.{Copies, Graft, Twig, added_mounts, all_groups_made, attached_at, attached_by, copies_at, copy_at, copy_mount_point, copy_number, copy_type, graft_of, group_made, image, is_destination, masters_with, nearest_image, parts_of, pushed_up, receivers_of, takes_part, twig_master, twig_of, with_moved_mounts}
-use Rattle.vt_spec.specs.Machine.Invariants.{IsWorld}
-use Rattle.vt_spec.specs.Machine.Mounts.{Location, Mount, Propagation, group_of, source_of}
-use Rattle.vt_spec.specs.Machine.Mounts.Propagation.{Private, Shared, Slave, Unbindable}
-use Rattle.vt_spec.specs.Machine.Receives.{has_members, is_member_of, slave_of_heir}
-use Rattle.vt_spec.specs.Machine.Sealed.{is_own_mount, members, part_of, sealed, used_filesystems}
-use Rattle.vt_spec.specs.Machine.World.{Filesystem, Task, World, filesystem_numbered, mount_at}
-use Rattle.vt_spec.proofs.Found.{filter_alike, found_among}
-use Rattle.vt_spec.proofs.Lists.{Among, among-filter, among-from_filter, map_alike}
-use Rattle.vt_spec.proofs.Worlds.{number-mount_in}
 use Rattle.vt_laws_mounts.proofs.letting_go.Lists.{flat_map_alike}
 use Rattle.vt_laws_sealed.proofs.part.Kept.{filter_map_same}
 use Rattle.vt_laws_sealed.proofs.part.groups.ReceiversAlike.{same_up}

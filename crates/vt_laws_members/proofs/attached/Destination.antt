@@ -1,16 +1,6 @@
 -- The part of a sealed set is fit for what is attached to a mount of theirs: mounts and locations stand in it.
-use Rattle.std.proofs.Common.{arith, ◌≡◌, sym, ap, subst, ◌∙◌, ⊎_elim, ℕ, nat_eq, true, List, is_some, map, eq-eqb}
-use Rattle.std.proofs.lemmas.Grind.{common_steps}
-use Rattle.std.specs.Prelude.{IfOk}
-use Rattle.std.proofs.lemmas.Bool.{and_parts}
-use Rattle.vt_spec.specs.Language.Calls.{TaskName}
-use Rattle.vt_spec.specs.Lists.{is_among}
-use Rattle.vt_spec.specs.Machine.Invariants.{IsWorld, is_located_well, is_there}
-use Rattle.vt_spec.specs.Machine.Mounts.{Location, Mount}
-use Rattle.vt_spec.specs.Machine.Rules.Mounting.{destination_walk, source_walk}
-use Rattle.vt_spec.specs.Machine.Sealed.{is_member_task, locations, members, part_of, sealed}
-use Rattle.vt_spec.specs.Machine.World.{Task, World, all_locations, locations_of, mount_at}
-use Rattle.vt_spec.proofs.Lists.{Among, among-filter_map, among-flat_map, among-from_filter, among-from_flat_map, among-from_map, among-map, among_from_list_all, among_numbers, any_from_among, is_among_numbers, list_all_from_among}
+use Rattle.std.proofs.Common.{arith, ◌≡◌, sym, ap, subst, ◌∙◌, ⊎_elim, ℕ, nat_eq, true, List, is_some, map, eq-eqb, IfOk}
+use Rattle.vt_spec.proofs.Common.{Among, IsWorld, Location, Mount, Task, TaskName, World, all_locations, among-filter_map, among-flat_map, among-from_filter, among-from_flat_map, among-from_map, among-map, among_from_list_all, among_numbers, and_parts, any_from_among, common_steps, destination_walk, is_among, is_among_numbers, is_located_well, is_member_task, is_there, list_all_from_among, locations, locations_of, members, mount_at, part_of, sealed, source_walk}
 use Rattle.vt_laws_mounts.specs.LettingGo.Attaching.{is_attached}
 use Rattle.vt_laws_mounts.specs.LettingGo.Keeping.{LocationsStand}
 use Rattle.vt_laws_mounts.specs.LettingGo.Leaving.{MountsStand}

@@ -1,24 +1,8 @@
 -- The part of a world in which mounts of theirs changed, others came after all, and show filesystems of theirs or new
 -- ones.
-use Rattle.std.proofs.Common.{arith, ◌≡◌, refl, sym, ap, subst, ◌∙◌, ◌⊎◌, inl, inr, ⊎_elim, ℕ, nat_eq, Bool, true, false, cond, true≢false, List, [], ◌∷◌, ◌++◌, Option, Some, None, find, flat_map, map, ◌||◌, ◌&&◌, eqb-true}
-use Rattle.std.proofs.lemmas.Grind.{common_steps}
-use Rattle.std.specs.Prelude.{option_map, option_to_list, unwrap_or}
-use Rattle.std.specs.List.{cons_option, filter_map, list_any}
+use Rattle.std.proofs.Common.{arith, ◌≡◌, refl, sym, ap, subst, ◌∙◌, ◌⊎◌, inl, inr, ⊎_elim, ℕ, nat_eq, Bool, true, false, cond, true≢false, List, [], ◌∷◌, ◌++◌, Option, Some, None, find, flat_map, map, ◌||◌, ◌&&◌, eqb-true, option_map, option_to_list, unwrap_or, filter_map}
+use Rattle.vt_spec.proofs.Common.{Among, Filesystem, Layer, Location, Mount, Overlay, Task, TaskName, World, among-append, among-append_left, among-append_right, among-filter, among-flat_map, among-from_filter, among-from_flat_map, among-from_map, among-map, among_numbers, and_parts, any_among, any_from_among, change_layers, common_steps, cons_option, filesystem_numbered, filter_alike, filter_map-append, find-append, is_among, is_among_numbers, is_at, is_own_mount, is_under, layers_of, lies_in_layer, lies_in_own_lower, list_any, locations, members, mount_at, mount_in, no_filesystem, no_mount, none_among, of_overlay, only_among, or_left, own_lowers, own_mounts, part_of, part_of_filesystem, part_of_lower, part_of_master, roots_and_directories, same_truth, seen_by_descriptor, used_directly, used_filesystems, when}
 use Rattle.std.specs.Option.{option_or}
-use Rattle.std.proofs.lemmas.Bool.{and_parts, or_left}
-use Rattle.std.proofs.lemmas.List.Elements.{filter_map-append}
-use Rattle.std.proofs.lemmas.List.Folds.{find-append}
-use Rattle.vt_spec.specs.FileTree.{is_under}
-use Rattle.vt_spec.specs.Language.Calls.{TaskName}
-use Rattle.vt_spec.specs.Lists.{is_among, when}
-use Rattle.vt_spec.specs.Machine.Locked.{lies_in_layer, of_overlay}
-use Rattle.vt_spec.specs.Machine.Mounts.{Location, Mount, mount_in, no_mount}
-use Rattle.vt_spec.specs.Machine.Sealed.{change_layers, is_at, is_own_mount, lies_in_own_lower, locations, members, own_lowers, own_mounts, part_of, part_of_filesystem, part_of_lower, part_of_master, roots_and_directories, seen_by_descriptor, used_directly, used_filesystems}
-use Rattle.vt_spec.specs.Machine.Settled.{only_among}
-use Rattle.vt_spec.specs.Machine.World.{Filesystem, Layer, Overlay, Task, World, filesystem_numbered, layers_of, mount_at, no_filesystem}
-use Rattle.vt_spec.proofs.Found.{filter_alike}
-use Rattle.vt_spec.proofs.Lists.{Among, among-append, among-append_left, among-append_right, among-filter, among-flat_map, among-from_filter, among-from_flat_map, among-from_map, among-map, among_numbers, any_among, any_from_among, is_among_numbers, none_among}
-use Rattle.vt_spec.proofs.Truths.{same_truth}
 use Rattle.vt_laws_mounts.proofs.letting_go.Lists.{find_none}
 use Rattle.vt_laws_sealed.proofs.part.Kept.{among-each_once, among-from_each_once, filter_map_same}
 use Rattle.vt_laws_sealed.proofs.part.part.PartOfPart.{is_own, keep, kept_how, kept_whole, used_directly_used}

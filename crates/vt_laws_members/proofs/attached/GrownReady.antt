@@ -1,19 +1,6 @@
 -- A world that is ready to be swept for a set is ready still, where mounts of theirs change and more come.
 use Rattle.std.proofs.Common.{arith, ◌≡◌, refl, sym, ap, subst, ◌∙◌, ◌⊎◌, inl, inr, ⊎_elim, ℕ, nat_eq, Bool, true, false, true≢false, List, [], ◌++◌, Option, Some, None, filter, is_some, map, ◌&&◌}
-use Rattle.std.proofs.lemmas.Grind.{common_steps}
-use Rattle.std.specs.List.{list_all, list_any}
-use Rattle.std.proofs.lemmas.Bool.{or_left}
-use Rattle.vt_spec.specs.FileTree.{is_under}
-use Rattle.vt_spec.specs.Language.Calls.{TaskName}
-use Rattle.vt_spec.specs.Lists.{is_among}
-use Rattle.vt_spec.specs.Machine.Invariants.{Stands, is_nowhere_or_attached}
-use Rattle.vt_spec.specs.Machine.Mounts.{Location, Mount}
-use Rattle.vt_spec.specs.Machine.Sealed.{is_at, locations, members, own_lowers, part_of, roots_and_directories, used_filesystems}
-use Rattle.vt_spec.specs.Machine.Settled.{is_located, mount_lives, settled}
-use Rattle.vt_spec.specs.Machine.World.{Filesystem, Layer, World, all_locations, mount_at, with_mounts}
-use Rattle.vt_spec.proofs.Found.{filter_all}
-use Rattle.vt_spec.proofs.Lists.{Among, among-append, among-append_left, among-from_map, among-map, among_from_all}
-use Rattle.vt_spec.proofs.Worlds.{found_or_none, number-mount_in}
+use Rattle.vt_spec.proofs.Common.{Among, Filesystem, Layer, Location, Mount, Stands, TaskName, World, all_locations, among-append, among-append_left, among-from_map, among-map, among_from_all, common_steps, filter_all, found_or_none, is_among, is_at, is_located, is_nowhere_or_attached, is_under, list_all, list_any, locations, members, mount_at, mount_lives, number-mount_in, or_left, own_lowers, part_of, roots_and_directories, settled, used_filesystems, with_mounts}
 use Rattle.vt_laws_mounts.proofs.letting_go.Lists.{passes}
 use Rattle.vt_laws_mounts.proofs.letting_go.leaving.PlacesLeft.{placed_is_attached}
 use Rattle.vt_laws_mounts.specs.Mounts.Invariants.{OneNumberEach}

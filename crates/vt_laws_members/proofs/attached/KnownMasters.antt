@@ -1,19 +1,8 @@
 -- The groups and masters of what is attached to mounts of theirs are heard, or new: their masters are the same in the
 -- part.
 use Rattle.std.proofs.Common.{arith, ◌≡◌, ℕ, nat_eq, Bool, true, false, List, Some, None}
-use Rattle.std.proofs.lemmas.Grind.{common_steps}
-use Rattle.std.specs.List.{list_any}
-use Rattle.std.proofs.lemmas.Option.{same_Some}
+use Rattle.vt_spec.proofs.Common.{Among, Copies, Filesystem, IsWorld, Location, Mount, Propagation, TaskName, Twig, World, common_steps, copy_type, group_of, image, is_among, list_any, members, mount_at, none_is_some, part_of, same_Some, sealed, source_of, type_at, used_filesystems}
 use Rattle.vt_laws_mounts.proofs.GroupsUp.{source_from_group}
-use Rattle.vt_spec.specs.Language.Calls.{TaskName}
-use Rattle.vt_spec.specs.Lists.{is_among}
-use Rattle.vt_spec.specs.Machine.Attach.{Copies, Twig, copy_type, image, type_at}
-use Rattle.vt_spec.specs.Machine.Invariants.{IsWorld}
-use Rattle.vt_spec.specs.Machine.Mounts.{Location, Mount, Propagation, group_of, source_of}
-use Rattle.vt_spec.specs.Machine.Sealed.{members, part_of, sealed, used_filesystems}
-use Rattle.vt_spec.specs.Machine.World.{Filesystem, World, mount_at}
-use Rattle.vt_spec.proofs.Lists.{Among}
-use Rattle.vt_spec.proofs.Options.{none_is_some}
 use Rattle.vt_laws_sealed.proofs.part.part.PartOfPart.{is_own}
 use Rattle.vt_laws_members.proofs.attached.CopiesAlike.{base, parts, tree}
 use Rattle.vt_laws_members.proofs.attached.PushedUp.{copy, twig}

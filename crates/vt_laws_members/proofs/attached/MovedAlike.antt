@@ -1,19 +1,7 @@
 -- Where a tree of theirs moves, the worlds that are left have one part after the sweep.
-use Rattle.std.proofs.Common.{◌≡◌, refl, sym, ap, subst, ◌∙◌, inl, ⊎_elim, ℕ, nat_eq, true, cond, List, [], ◌∷◌, ◌++◌, Option, Some, None, filter, map}
-use Rattle.std.specs.List.{list_all}
-use Rattle.std.specs.Prelude.{All}
+use Rattle.std.proofs.Common.{◌≡◌, refl, sym, ap, subst, ◌∙◌, inl, ⊎_elim, ℕ, nat_eq, true, cond, List, [], ◌∷◌, ◌++◌, Option, Some, None, filter, map, All}
+use Rattle.vt_spec.proofs.Common.{Among, HasLivingGroups, IsWorld, Location, Mount, Task, TaskName, World, all_locations, among-filter, among-from_filter, among-from_flat_map, among_from_all, among_from_list_all, filter_all, has_members, is_among, is_member_task, is_nowhere_or_attached, is_own_mount, list_all, master_above, members, mount_lives, numbers_raised, own_lowers, part_of, sealed, settled, source_of, then_some, used_filesystems, with_mounts}
 use Rattle.vt_laws_members.proofs.namespaces.RemadeRaised.{lives_members}
-use Rattle.vt_spec.specs.Language.Calls.{TaskName}
-use Rattle.vt_spec.specs.Lists.{is_among, then_some}
-use Rattle.vt_spec.specs.Machine.Invariants.{HasLivingGroups, IsWorld, is_nowhere_or_attached}
-use Rattle.vt_spec.specs.Machine.Mounts.{Location, Mount, source_of}
-use Rattle.vt_spec.specs.Machine.Policy.{master_above, numbers_raised}
-use Rattle.vt_spec.specs.Machine.Receives.{has_members}
-use Rattle.vt_spec.specs.Machine.Sealed.{is_member_task, is_own_mount, members, own_lowers, part_of, sealed, used_filesystems}
-use Rattle.vt_spec.specs.Machine.Settled.{mount_lives, settled}
-use Rattle.vt_spec.specs.Machine.World.{Task, World, all_locations, with_mounts}
-use Rattle.vt_spec.proofs.Found.{filter_all}
-use Rattle.vt_spec.proofs.Lists.{Among, among-filter, among-from_filter, among-from_flat_map, among_from_all, among_from_list_all}
 use Rattle.vt_laws_mounts.proofs.letting_go.sweeps.OfWorlds.{all_in_use, locations_of_worlds_stand}
 use Rattle.vt_laws_mounts.specs.Mounts.Invariants.{OneNumberEach}
 use Rattle.vt_laws_mounts.specs.Mounts.Standing.{AllStand}

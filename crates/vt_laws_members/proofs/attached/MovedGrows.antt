@@ -1,18 +1,8 @@
 -- A tree of theirs moves, with copies at receivers: it grows the world.
 use Rattle.std.proofs.Common.{arith, ◌≡◌, refl, sym, ap, subst, ◌∙◌, ◌⊎◌, inl, inr, ⊎_elim, ℕ, zero, suc, nat_eq, Bool, true, false, cond, true≢false, List, [], ◌∷◌, ◌++◌, Option, Some, None, append-nil, flat_map, length, map, eq-eqb, eqb-true}
-use Rattle.std.proofs.lemmas.Grind.{common_steps}
-use Rattle.std.specs.List.{list_any}
+use Rattle.vt_spec.proofs.Common.{Among, Copies, Filesystem, IsWorld, Location, Mount, TaskName, World, among-filter, among-from_flat_map, children, common_steps, folded, is_among, is_own_mount, list_any, map_twice, masters_with, members, mount_at, mount_numbered, moved_tree, number-mount_in, part_of, rest_of, sealed, seen_by_descriptor, source_of, tree_from, used_directly, used_filesystems}
 use Rattle.vt_laws_mounts.proofs.letting_go.mounting.Attached.{swapped_all, swapped}
 use Rattle.vt_laws_sealed.proofs.part.part.MountsOver.{numbered}
-use Rattle.vt_spec.specs.Language.Calls.{TaskName}
-use Rattle.vt_spec.specs.Lists.{folded, is_among, rest_of}
-use Rattle.vt_spec.specs.Machine.Attach.{Copies, masters_with, moved_tree}
-use Rattle.vt_spec.specs.Machine.Invariants.{IsWorld}
-use Rattle.vt_spec.specs.Machine.Mounts.{Location, Mount, children, source_of, tree_from}
-use Rattle.vt_spec.specs.Machine.Sealed.{is_own_mount, members, part_of, sealed, seen_by_descriptor, used_directly, used_filesystems}
-use Rattle.vt_spec.specs.Machine.World.{Filesystem, World, mount_at, mount_numbered}
-use Rattle.vt_spec.proofs.Lists.{Among, among-filter, among-from_flat_map, map_twice}
-use Rattle.vt_spec.proofs.Worlds.{number-mount_in}
 use Rattle.vt_laws_sealed.proofs.part.part.PartOfPart.{is_own}
 use Rattle.vt_laws_members.proofs.judging.MountTrees.{children_own, own_theirs}
 use Rattle.vt_laws_members.proofs.judging.SeenInPart.{theirs_directly}

@@ -1,31 +1,6 @@
 -- Each mount(2) with MS_MOVE ends in the part as in the world.
-use Rattle.std.proofs.Common.{arith, ◌≡◌, refl, sym, ap, subst, ◌∙◌, ℕ, nat_eq, Bool, true, false, true≢false, List, [], Option, Some, None, Ok, Err, is_some, not, eqb-true}
-use Rattle.std.proofs.lemmas.Grind.{common_steps}
-use Rattle.std.specs.Prelude.{IfOk, is_ok}
-use Rattle.std.proofs.lemmas.Bool.{or_parts}
-use Rattle.vt_spec.specs.Errors.{and_then}
-use Rattle.vt_spec.specs.Language.Answers.Answer.{Done}
-use Rattle.vt_spec.specs.Language.Calls.{TaskName}
-use Rattle.vt_spec.specs.Language.Calls.Call.{MoveMount}
-use Rattle.vt_spec.specs.Lists.{Fresh, holds_of}
-use Rattle.vt_spec.specs.Machine.Apply.{overfills}
-use Rattle.vt_spec.specs.Machine.Attach.{Copies, attach, attached_by, copies_from, moved_to, moved_tree}
-use Rattle.vt_spec.specs.Machine.Invariants.{IsWorld, MountInvariants}
-use Rattle.vt_spec.specs.Machine.Judge.{Judgement, attach_permit, judge_in, move_permit}
-use Rattle.vt_spec.specs.Machine.Mounts.{Location, Mount, mount_tree}
-use Rattle.vt_spec.specs.Machine.Outcomes.{granted}
-use Rattle.vt_spec.specs.Machine.Permits.{Permit}
-use Rattle.vt_spec.specs.Machine.Permits.Permit.{ToMove}
-use Rattle.vt_spec.specs.Machine.Policy.{numbers_raised, policy}
-use Rattle.vt_spec.specs.Machine.Rules.Conditions.{is_elsewhere}
-use Rattle.vt_spec.specs.Machine.Rules.Mounting.{admin_rules, destination_walk, move_rules, source_walk}
-use Rattle.vt_spec.specs.Machine.Run.{Serves}
-use Rattle.vt_spec.specs.Machine.Sealed.{is_own_mount, members, own_lowers, part_of, sealed, used_filesystems}
-use Rattle.vt_spec.specs.Machine.Settled.{settled}
-use Rattle.vt_spec.specs.Machine.Walking.{walk_end}
-use Rattle.vt_spec.specs.Machine.World.{Task, World, mount_at, task_called}
-use Rattle.vt_spec.proofs.Lists.{Among, among-filter, among-map, is_among_numbers}
-use Rattle.vt_spec.proofs.Worlds.{number-mount_in}
+use Rattle.std.proofs.Common.{arith, ◌≡◌, refl, sym, ap, subst, ◌∙◌, ℕ, nat_eq, Bool, true, false, true≢false, List, [], Option, Some, None, Ok, Err, is_some, not, eqb-true, IfOk, is_ok}
+use Rattle.vt_spec.proofs.Common.{Among, Copies, Done, Fresh, IsWorld, Judgement, Location, Mount, MountInvariants, MoveMount, Permit, Serves, Task, TaskName, ToMove, World, admin_rules, among-filter, among-map, and_then, attach, attach_permit, attached_by, common_steps, copies_from, destination_walk, granted, holds_of, is_among_numbers, is_elsewhere, is_own_mount, judge_in, members, mount_at, mount_tree, move_permit, move_rules, moved_to, moved_tree, number-mount_in, numbers_raised, or_parts, overfills, own_lowers, part_of, policy, sealed, settled, source_walk, task_called, used_filesystems, walk_end}
 use Rattle.vt_laws_mounts.specs.Mounts.Attaching.{is_mount, numbers_of}
 use Rattle.vt_laws_mounts.specs.Mounts.Moving.{CanMove}
 use Rattle.vt_laws_mounts.proofs.GroupsLiving.{all_live, tested_live}

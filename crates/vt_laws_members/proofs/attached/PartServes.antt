@@ -1,14 +1,6 @@
 -- A supply of numbers that a world does not use serves its part.
 use Rattle.std.proofs.Common.{arith, sym, subst, inl, inr, ⊎_elim, ℕ, nat_eq, true≢false, List, [], ◌∷◌, ◌++◌, filter, flat_map, map}
-use Rattle.std.proofs.lemmas.Grind.{common_steps}
-use Rattle.std.proofs.lemmas.Bool.{false_from_ne_true}
-use Rattle.vt_spec.specs.Language.Calls.{TaskName}
-use Rattle.vt_spec.specs.Lists.{Fresh, is_among}
-use Rattle.vt_spec.specs.Machine.Mounts.{Mount}
-use Rattle.vt_spec.specs.Machine.Run.{Serves, numbers_in_use, used_by_filesystem, used_by_mount}
-use Rattle.vt_spec.specs.Machine.Sealed.{is_own_namespace, lies_in_own_lower, members, part_of, part_of_filesystem}
-use Rattle.vt_spec.specs.Machine.World.{Filesystem, Namespace, World}
-use Rattle.vt_spec.proofs.Lists.{Among, among-append, among-append_left, among-append_right, among-flat_map, among-from_filter, among-from_filter_map, among-from_flat_map, among-from_map, among-map, among_numbers, is_among_numbers}
+use Rattle.vt_spec.proofs.Common.{Among, Filesystem, Fresh, Mount, Namespace, Serves, TaskName, World, among-append, among-append_left, among-append_right, among-flat_map, among-from_filter, among-from_filter_map, among-from_flat_map, among-from_map, among-map, among_numbers, common_steps, false_from_ne_true, is_among, is_among_numbers, is_own_namespace, lies_in_own_lower, members, numbers_in_use, part_of, part_of_filesystem, used_by_filesystem, used_by_mount}
 use Rattle.vt_laws_sealed.proofs.part.part.PartOfPart.{keep, kept_how, shown_how}
 
 module _ (world : World ℕ) (names : List TaskName) where

@@ -1,28 +1,6 @@
 -- Each mount(2) of a new plain filesystem ends in the part as in the world.
-use Rattle.std.proofs.Common.{◌≡◌, refl, sym, ap, subst, ◌∙◌, inl, inr, ⊎_elim, ℕ, nat_eq, true, false, List, [], ◌∷◌, Option, Some, None, Ok, Err, ◌||◌, eq-eqb}
-use Rattle.std.specs.Prelude.{IfOk, is_ok}
-use Rattle.std.specs.List.{list_any}
-use Rattle.vt_spec.specs.Language.Answers.Answer.{Done}
-use Rattle.vt_spec.specs.Language.Calls.{MountFlags, TaskName}
-use Rattle.vt_spec.specs.Language.Calls.Call.{MountPlain}
-use Rattle.vt_spec.specs.Lists.{Fresh, is_among, odds}
-use Rattle.vt_spec.specs.Machine.Apply.{overfills}
-use Rattle.vt_spec.specs.Machine.Attach.{Copies, attached_by, copies_from}
-use Rattle.vt_spec.specs.Machine.Invariants.{IsWorld}
-use Rattle.vt_spec.specs.Machine.Locked.{of_overlay}
-use Rattle.vt_spec.specs.Machine.Judge.{Judgement, attach_permit, judge_in, mount_plain_permit}
-use Rattle.vt_spec.specs.Machine.Mounts.{Location, Mount, source_of}
-use Rattle.vt_spec.specs.Machine.NewMounts.{mounted, new_mount, plain_filesystem}
-use Rattle.vt_spec.specs.Machine.Outcomes.{granted}
-use Rattle.vt_spec.specs.Machine.Permits.{Permit}
-use Rattle.vt_spec.specs.Machine.Permits.Permit.{ToMountPlain}
-use Rattle.vt_spec.specs.Machine.Policy.{numbers_raised, policy}
-use Rattle.vt_spec.specs.Machine.Rules.Mounting.{admin_rules, destination_walk, new_mount_rules}
-use Rattle.vt_spec.specs.Machine.Run.{Serves}
-use Rattle.vt_spec.specs.Machine.Sealed.{members, part_of, sealed, used_filesystems}
-use Rattle.vt_spec.specs.Machine.World.{Filesystem, Task, World, layers_of, mount_at, task_called}
-use Rattle.vt_spec.proofs.Lists.{Among}
-use Rattle.vt_spec.proofs.Options.{none_is_some}
+use Rattle.std.proofs.Common.{◌≡◌, refl, sym, ap, subst, ◌∙◌, inl, inr, ⊎_elim, ℕ, nat_eq, true, false, List, [], ◌∷◌, Option, Some, None, Ok, Err, ◌||◌, eq-eqb, IfOk, is_ok}
+use Rattle.vt_spec.proofs.Common.{Among, Copies, Done, Filesystem, Fresh, IsWorld, Judgement, Location, Mount, MountFlags, MountPlain, Permit, Serves, Task, TaskName, ToMountPlain, World, admin_rules, attach_permit, attached_by, copies_from, destination_walk, granted, is_among, judge_in, layers_of, list_any, members, mount_at, mount_plain_permit, mounted, new_mount, new_mount_rules, none_is_some, numbers_raised, odds, of_overlay, overfills, part_of, plain_filesystem, policy, sealed, source_of, task_called, used_filesystems}
 use Rattle.vt_laws_mounts.proofs.letting_go.mounting.AttachedSwept.{new_mounts_of_trees_keep_all}
 use Rattle.vt_laws_mounts.proofs.letting_go.sweeps.OfWorlds.{all_in_use, locations_of_worlds_stand, mounts_of_worlds_stand}
 use Rattle.vt_laws_sealed.proofs.part.part.PartOfPart.{is_own}

@@ -1,16 +1,6 @@
 -- What copies push up at receivers is theirs, and copies grow the world.
 use Rattle.std.proofs.Common.{arith, ◌≡◌, refl, sym, ap, subst, ◌∙◌, ◌⊎◌, inl, inr, ℕ, nat_eq, Bool, true, false, true≢false, List, [], Option, flat_map, map}
-use Rattle.std.proofs.lemmas.Grind.{common_steps}
-use Rattle.std.specs.List.{list_any}
-use Rattle.vt_spec.specs.Language.Calls.{TaskName}
-use Rattle.vt_spec.specs.Lists.{is_among, rest_of}
-use Rattle.vt_spec.specs.Machine.Attach.{Copies, Twig, copy_at, pushed_onto, twig_of}
-use Rattle.vt_spec.specs.Machine.Invariants.{IsWorld}
-use Rattle.vt_spec.specs.Machine.Locked.{of_overlay}
-use Rattle.vt_spec.specs.Machine.Mounts.{Location, Mount, group_of, stands_at}
-use Rattle.vt_spec.specs.Machine.Sealed.{members, sealed, seen_by_descriptor, used_directly, used_filesystems}
-use Rattle.vt_spec.specs.Machine.World.{Filesystem, Layer, Task, World, layers_of, mount_at}
-use Rattle.vt_spec.proofs.Lists.{Among, among-flat_map, among-from_flat_map, among-from_map, among-map}
+use Rattle.vt_spec.proofs.Common.{Among, Copies, Filesystem, IsWorld, Layer, Location, Mount, Task, TaskName, Twig, World, among-flat_map, among-from_flat_map, among-from_map, among-map, common_steps, copy_at, group_of, is_among, layers_of, list_any, members, mount_at, of_overlay, pushed_onto, rest_of, sealed, seen_by_descriptor, stands_at, twig_of, used_directly, used_filesystems}
 use Rattle.vt_laws_mounts.proofs.mounts.MountsPlaces.{stands_there}
 use Rattle.vt_laws_mounts.proofs.letting_go.Lists.{find_none}
 use Rattle.vt_laws_sealed.proofs.part.part.PartOfPart.{is_own}

@@ -1,18 +1,7 @@
 -- Where a set sees the same after a change of mounts, masters and filesystems in the world and in its part, the worlds
 -- that are left have one part, with their change numbers.
 use Rattle.std.proofs.Common.{arith, ◌≡◌, refl, sym, ap, ◌∙◌, ⊎_elim, ℕ, nat_eq, Bool, true, cond, true≢false, List, [], ◌∷◌, Option, Some, None, filter, map, ◌&&◌, eqb-true}
-use Rattle.std.proofs.lemmas.Grind.{common_steps}
-use Rattle.std.specs.List.{list_any}
-use Rattle.std.proofs.lemmas.Bool.{or_left}
-use Rattle.vt_spec.specs.Language.Calls.{TaskName}
-use Rattle.vt_spec.specs.Lists.{holds_of, same_list, same_option, then_some}
-use Rattle.vt_spec.specs.Machine.Filesystems.{raised, raised_if_changed}
-use Rattle.vt_spec.specs.Machine.Invariants.{IsWorld}
-use Rattle.vt_spec.specs.Machine.Mounts.{Mount, same_location, source_of}
-use Rattle.vt_spec.specs.Machine.Policy.{master_above, numbers_raised, raised_namespace, raised_task, same_flags, same_mount, same_mounts_in, same_propagation}
-use Rattle.vt_spec.specs.Machine.Sealed.{is_at, is_member_task, is_own_mount, members, own_mounts, part_of, roots_and_directories, sealed}
-use Rattle.vt_spec.specs.Machine.World.{Filesystem, Namespace, Task, World, locations_of, mounts_of}
-use Rattle.vt_spec.proofs.Lists.{Among, among-filter, among-from_filter, map_alike, map_same}
+use Rattle.vt_spec.proofs.Common.{Among, Filesystem, IsWorld, Mount, Namespace, Task, TaskName, World, among-filter, among-from_filter, common_steps, holds_of, is_at, is_member_task, is_own_mount, list_any, locations_of, map_alike, map_same, master_above, members, mounts_of, numbers_raised, or_left, own_mounts, part_of, raised, raised_if_changed, raised_namespace, raised_task, roots_and_directories, same_flags, same_list, same_location, same_mount, same_mounts_in, same_option, same_propagation, sealed, source_of, then_some}
 use Rattle.vt_laws_mounts.proofs.letting_go.Lists.{filter-map}
 use Rattle.vt_laws_sealed.proofs.part.Kept.{filter_again, filter_both}
 use Rattle.vt_laws_sealed.proofs.part.part.PartOfPart.{is_own, keep, kept_how, kept_whole, same_members}

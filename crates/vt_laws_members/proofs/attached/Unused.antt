@@ -1,22 +1,8 @@
 -- Numbers of a supply are no group of the world, and no filesystem that tasks use.
-use Rattle.std.proofs.Common.{arith, ◌≡◌, refl, sym, ap, subst, ◌∙◌, inl, inr, ⊎_elim, ℕ, nat_eq, Bool, true, false, true≢false, List, [], ◌++◌, Option, Some, None, flat_map, map, eqb-true}
-use Rattle.std.proofs.lemmas.Grind.{common_steps}
-use Rattle.std.specs.Prelude.{option_to_list}
-use Rattle.std.proofs.lemmas.Bool.{and_parts}
+use Rattle.std.proofs.Common.{arith, ◌≡◌, refl, sym, ap, subst, ◌∙◌, inl, inr, ⊎_elim, ℕ, nat_eq, Bool, true, false, true≢false, List, [], ◌++◌, Option, Some, None, flat_map, map, eqb-true, option_to_list}
+use Rattle.vt_spec.proofs.Common.{Among, Filesystem, Fresh, IsWorld, Layer, Location, Mount, Namespace, Overlay, Serves, TaskName, World, among-append, among-append_left, among-append_right, among-flat_map, among-from_filter, among-from_map, among_from_list_all, among_numbers, and_parts, change_layers, common_steps, filesystem_numbered, found_among, found_passes, has_its_root, is_among, is_among_numbers, is_directory_node, is_member_of, is_own_mount, layers_of, locations, members, mount_at, mount_numbered, none_from_among, numbers_in_use, overlay_or, own_mounts, source_of, used_by_filesystem, used_by_mount, used_directly, used_filesystems}
 use Rattle.vt_laws_mounts.proofs.GroupsUp.{source_from_group}
 use Rattle.vt_laws_sealed.proofs.part.part.MountsOver.{numbered}
-use Rattle.vt_spec.specs.Language.Calls.{TaskName}
-use Rattle.vt_spec.specs.Lists.{Fresh, is_among}
-use Rattle.vt_spec.specs.Machine.Invariants.{IsWorld, has_its_root}
-use Rattle.vt_spec.specs.Machine.Locked.{overlay_or}
-use Rattle.vt_spec.specs.Machine.Mounts.{Location, Mount, source_of}
-use Rattle.vt_spec.specs.Machine.Receives.{is_member_of}
-use Rattle.vt_spec.specs.Machine.Run.{Serves, numbers_in_use, used_by_filesystem, used_by_mount}
-use Rattle.vt_spec.specs.Machine.Sealed.{change_layers, is_own_mount, locations, members, own_mounts, used_directly, used_filesystems}
-use Rattle.vt_spec.specs.Machine.World.{Filesystem, Layer, Namespace, Overlay, World, filesystem_numbered, layers_of, mount_at, mount_numbered}
-use Rattle.vt_spec.specs.Tree.{is_directory_node}
-use Rattle.vt_spec.proofs.Found.{found_among, found_passes}
-use Rattle.vt_spec.proofs.Lists.{Among, among-append, among-append_left, among-append_right, among-flat_map, among-from_filter, among-from_map, among_from_list_all, among_numbers, is_among_numbers, none_from_among}
 use Rattle.vt_laws_mounts.proofs.letting_go.sweeps.OfWorlds.{all_in_use}
 use Rattle.vt_laws_sealed.proofs.part.groups.ReceiversAlike.{member_group}
 use Rattle.vt_laws_sealed.proofs.part.seals.ByPart.{layer_directory}

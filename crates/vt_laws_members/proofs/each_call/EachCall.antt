@@ -1,16 +1,6 @@
 -- Every call of theirs ends in the part as in the world.
 use Rattle.std.proofs.Common.{◌≡◌, refl, ℕ, nat_eq, false, List, Option, Some, Ok}
-use Rattle.std.specs.Prelude.{⊤}
-use Rattle.vt_spec.specs.Language.Calls.{Call, ForkWords, TaskName}
-use Rattle.vt_spec.specs.Language.Calls.Call.{Bind, Chdir, Chmod, Chown, Chroot, Close, Drop, Exec, Exit, Fork, Lazy, LinkTo, ListMounts, Ls, Lstat, MakeWhiteout, Mkdir, MountOverlay, MountPlain, MoveMount, Opaque, OpenFile, PivotRoot, Pread, Pwrite, Read, Readlink, Remount, Rename, Rmdir, SetType, Setns, Stat, SymlinkAt, Umask, Umount, Unlink, Unshare, Write}
-use Rattle.vt_spec.specs.Lists.{Fresh}
-use Rattle.vt_spec.specs.Machine.Apply.{overfills}
-use Rattle.vt_spec.specs.Machine.Judge.{judge_in}
-use Rattle.vt_spec.specs.Machine.Looks.{looks_of}
-use Rattle.vt_spec.specs.Machine.Permits.{Permit}
-use Rattle.vt_spec.specs.Machine.Permits.Permit.{Allowed, ToFork, ToRemoveDirectory, ToRename}
-use Rattle.vt_spec.specs.Machine.Policy.{only_looks}
-use Rattle.vt_spec.specs.Machine.World.{Task, World, filesystem_at, is_overlay, task_called}
+use Rattle.vt_spec.proofs.Common.{Allowed, Bind, Call, Chdir, Chmod, Chown, Chroot, Close, Drop, Exec, Exit, Fork, ForkWords, Fresh, Lazy, LinkTo, ListMounts, Ls, Lstat, MakeWhiteout, Mkdir, MountOverlay, MountPlain, MoveMount, Opaque, OpenFile, Permit, PivotRoot, Pread, Pwrite, Read, Readlink, Remount, Rename, Rmdir, SetType, Setns, Stat, SymlinkAt, Task, TaskName, ToFork, ToRemoveDirectory, ToRename, Umask, Umount, Unlink, Unshare, World, Write, filesystem_at, is_overlay, judge_in, looks_of, only_looks, overfills, task_called, ⊤}
 use Rattle.vt_laws_rules.specs.Granted.{IsGranted}
 use Rattle.vt_laws_rules.specs.Granted.IsGranted.{writes_part}
 use Rattle.vt_laws_rules.proofs.given.Inversion.{calls_are_granted}

@@ -1,31 +1,7 @@
 -- Calls of members are judged in their part as in the world.
-use Rattle.std.proofs.Common.{arith, ◌≡◌, refl, sym, ap, subst, ◌∙◌, inr, ℕ, nat_eq, Bool, true, false, cond, true≢false, List, [], ◌∷◌, filter, find, Option, Some, None, Ok, not, length, ◌&&◌, ◌||◌, ◌+◌}
-use Rattle.std.proofs.lemmas.Grind.{common_steps}
-use Rattle.std.specs.Prelude.{nat_lt, ok_or, option_to_list}
+use Rattle.std.proofs.Common.{arith, ◌≡◌, refl, sym, ap, subst, ◌∙◌, inr, ℕ, nat_eq, Bool, true, false, cond, true≢false, List, [], ◌∷◌, filter, find, Option, Some, None, Ok, not, length, ◌&&◌, ◌||◌, ◌+◌, nat_lt, ok_or, option_to_list}
+use Rattle.vt_spec.proofs.Common.{Among, Bind, Call, Chdir, Chmod, Chown, Chroot, Close, Descriptor, Drop, Exec, Exit, Filesystem, Fork, IsWorld, Judgement, Lazy, LinkTo, ListMounts, Location, Looks, Ls, Lstat, MakeWhiteout, Mkdir, Mount, MountOverlay, MountPlain, MoveMount, Opaque, OpenFile, Permit, PivotRoot, Pread, Pwrite, Read, Readlink, Remount, Rename, Rmdir, SetType, Setns, Stat, SymlinkAt, Task, TaskName, ToWritePart, Umask, Umount, Unlink, Unshare, World, Write, among-append_left, among-append_right, among-flat_map, among-map, among_from_contains, and_then, common_steps, contains_from_among, denial, descriptor_numbered, found_among, holds_of, is_among, is_busy, is_elsewhere, is_empty, is_locked_at, is_member_task, is_removed, judge, largest_file, live_layers, live_upper_and_work, locations, locations_of, looks_of, members, mount_at, mount_tree, number-mount_in, of_overlay, overlaps_one_of, overlay_rules, part_of, pwrite_permit, pwrite_rules, same_name, same_task_name, sealed, setns_permit, unless, upper_and_work, used_filesystems}
 use Rattle.vt_spec.specs.declared.errors.Rule.TheVariants.{E6, L1, S4}
-use Rattle.vt_spec.specs.Errors.{and_then, denial, unless}
-use Rattle.vt_spec.specs.FileTree.{is_removed}
-use Rattle.vt_spec.specs.Language.Calls.{Call, TaskName, same_name}
-use Rattle.vt_spec.specs.Language.Calls.Call.{Bind, Chdir, Chmod, Chown, Chroot, Close, Drop, Exec, Exit, Fork, Lazy, LinkTo, ListMounts, Ls, Lstat, MakeWhiteout, Mkdir, MountOverlay, MountPlain, MoveMount, Opaque, OpenFile, PivotRoot, Pread, Pwrite, Read, Readlink, Remount, Rename, Rmdir, SetType, Setns, Stat, SymlinkAt, Umask, Umount, Unlink, Unshare, Write}
-use Rattle.vt_spec.specs.Language.Limits.{largest_file}
-use Rattle.vt_spec.specs.Lists.{holds_of, is_among}
-use Rattle.vt_spec.specs.Machine.Detach.{is_busy}
-use Rattle.vt_spec.specs.Machine.Filesystems.{overlay_rules}
-use Rattle.vt_spec.specs.Machine.Invariants.{IsWorld}
-use Rattle.vt_spec.specs.Machine.Judge.{Judgement, judge, pwrite_permit, setns_permit}
-use Rattle.vt_spec.specs.Machine.Locked.{is_locked_at, live_layers, live_upper_and_work, of_overlay, overlaps_one_of, upper_and_work}
-use Rattle.vt_spec.specs.Machine.Looks.{Looks, looks_of}
-use Rattle.vt_spec.specs.Machine.Mounts.{Location, Mount, mount_tree}
-use Rattle.vt_spec.specs.Machine.Permits.{Permit}
-use Rattle.vt_spec.specs.Machine.Permits.Permit.{ToWritePart}
-use Rattle.vt_spec.specs.Machine.Rules.Conditions.{is_elsewhere}
-use Rattle.vt_spec.specs.Machine.Rules.Descriptors.{descriptor_numbered, pwrite_rules}
-use Rattle.vt_spec.specs.Machine.Sealed.{is_member_task, locations, members, part_of, sealed, used_filesystems}
-use Rattle.vt_spec.specs.Machine.World.{Descriptor, Filesystem, Task, World, locations_of, mount_at}
-use Rattle.vt_spec.specs.PathText.{is_empty}
-use Rattle.vt_spec.proofs.Found.{found_among}
-use Rattle.vt_spec.proofs.Lists.{Among, among-append_left, among-append_right, among-flat_map, among-map, among_from_contains, contains_from_among}
-use Rattle.vt_spec.proofs.Worlds.{number-mount_in, same_task_name}
 use Rattle.vt_laws_sealed.proofs.part.part.PartOfPart.{is_own, located}
 use Rattle.vt_laws_sealed.proofs.part.walks.WalksAgree.{Alike, each_from}
 use Rattle.vt_laws_members.specs.Judging.{MembersAreJudgedAlike, is_theirs}

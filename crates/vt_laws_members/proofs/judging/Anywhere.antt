@@ -1,24 +1,7 @@
 -- Mounts of other namespaces stand on nothing that members reach but what is locked.
-use Rattle.std.proofs.lemmas.Grind.{common_steps}
-use Rattle.std.proofs.Common.{◌≡◌, refl, sym, ap, subst, ◌∙◌, inl, ⊎_elim, ℕ, nat_eq, Bool, true, false, true≢false, not, List, [], ◌++◌, Option, Some, None, is_some, ◌&&◌, eq-eqb, eqb-true, arith}
-use Rattle.std.specs.Prelude.{option_map, option_to_list}
-use Rattle.std.specs.List.{list_any}
-use Rattle.std.proofs.lemmas.Bool.{and_from, and_parts, not-true, or_cases, or_left}
+use Rattle.std.proofs.Common.{◌≡◌, refl, sym, ap, subst, ◌∙◌, inl, ⊎_elim, ℕ, nat_eq, Bool, true, false, true≢false, not, List, [], ◌++◌, Option, Some, None, is_some, ◌&&◌, eq-eqb, eqb-true, arith, option_map, option_to_list}
+use Rattle.vt_spec.proofs.Common.{Among, Filesystem, IsWorld, Layer, Location, Mount, Overlay, Stands, TaskName, World, among-append_left, among-filter, among-flat_map, among_from_all, among_from_list_all, among_numbers, and_from, and_parts, any_among, any_from_among, common_steps, directory_used, filesystem_at, filesystem_numbered, found_or_none, holds_of, is_among, is_directory_at, is_directory_node, is_locked, is_locked_at, is_overlay, is_own_namespace, is_point, is_under, layers_of, lies_in_layer, lies_or_counts_under, list_any, live_lowers, live_upper_and_work, locations, members, mount_at, mounts_on, no_outsider_on, none_among, none_is_some, not-true, of_overlay, or_cases, or_left, other_mounts, outsiders, overlaps_one_of, overlay_or, overlays, part_of, points_of, sealed, then_some, upper_and_work, upper_object, upper_points, used_alone, used_filesystems, wholly_locked}
 use Rattle.vt_laws_sealed.proofs.part.part.MountsOver.{numbered}
-use Rattle.vt_spec.specs.FileTree.{is_under}
-use Rattle.vt_spec.specs.Language.Calls.{TaskName}
-use Rattle.vt_spec.specs.Lists.{holds_of, is_among, then_some}
-use Rattle.vt_spec.specs.Machine.Detach.{is_point, mounts_on, points_of, upper_points}
-use Rattle.vt_spec.specs.Machine.Invariants.{IsWorld, Stands, live_lowers}
-use Rattle.vt_spec.specs.Machine.Locked.{is_locked, is_locked_at, lies_in_layer, lies_or_counts_under, live_upper_and_work, of_overlay, overlaps_one_of, overlay_or, overlays, upper_and_work}
-use Rattle.vt_spec.specs.Machine.Mounts.{Location, Mount}
-use Rattle.vt_spec.specs.Machine.Sealed.{is_own_namespace, locations, members, no_outsider_on, other_mounts, outsiders, part_of, sealed, used_alone, used_filesystems, wholly_locked}
-use Rattle.vt_spec.specs.Machine.World.{Filesystem, Layer, Overlay, World, filesystem_at, filesystem_numbered, is_directory_at, is_overlay, layers_of, mount_at, upper_object}
-use Rattle.vt_spec.specs.Tree.{is_directory_node}
-use Rattle.vt_spec.proofs.Lists.{Among, among-append_left, among-filter, among-flat_map, among_from_all, among_from_list_all, among_numbers, any_among, any_from_among, none_among}
-use Rattle.vt_spec.proofs.Nodes.{directory_used}
-use Rattle.vt_spec.proofs.Options.{none_is_some}
-use Rattle.vt_spec.proofs.Worlds.{found_or_none}
 use Rattle.vt_laws_trees.proofs.layers.layers.LowersWorld.{number_of_filesystem}
 use Rattle.vt_laws_trees.proofs.layers.locked.Apart.{under_itself}
 use Rattle.vt_laws_sealed.proofs.part.locks.LockedTrees.{all_locked}

@@ -1,15 +1,7 @@
 -- Whether a mount of theirs is busy is the same in the part.
 use Rattle.std.proofs.Common.{◌≡◌, refl, sym, ap, ◌∙◌, ⊎_elim, ℕ, nat_eq, Bool, true, false, true≢false, not, List, ◌||◌}
-use Rattle.std.proofs.lemmas.Bool.{not-true}
-use Rattle.vt_spec.specs.Language.Calls.{TaskName}
-use Rattle.vt_spec.specs.Lists.{is_among}
-use Rattle.vt_spec.specs.Machine.Detach.{going, has_child, is_busy, is_used}
-use Rattle.vt_spec.specs.Machine.Invariants.{IsWorld}
-use Rattle.vt_spec.specs.Machine.Mounts.{Location, Mount, stands_on}
-use Rattle.vt_spec.specs.Machine.Sealed.{is_member_task, is_on_own_mount, locations, members, outsiders, part_of, sealed, shares_no_events}
-use Rattle.vt_spec.specs.Machine.World.{Task, World, all_locations, locations_of, mount_at, mount_numbered}
-use Rattle.vt_spec.proofs.Lists.{Among, among-filter, among-filter_map, among-flat_map, among-from_filter, among-from_filter_map, among-from_flat_map, among_from_list_all, among_numbers, any_among, any_from_among}
-use Rattle.vt_spec.proofs.Truths.{same_truth}
+use Rattle.vt_spec.proofs.Common.{Among, IsWorld, Location, Mount, Task, TaskName, World, all_locations, among-filter, among-filter_map, among-flat_map, among-from_filter, among-from_filter_map, among-from_flat_map, among_from_list_all, among_numbers, any_among, any_from_among, going, has_child, is_among, is_busy, is_member_task, is_used, locations, locations_of, members, mount_at, mount_numbered, not-true, outsiders, part_of, same_truth, sealed, shares_no_events, stands_on}
+use Rattle.vt_spec.specs.Machine.Sealed.{is_on_own_mount}
 use Rattle.vt_laws_sealed.proofs.part.part.MountsOver.{numbered}
 use Rattle.vt_laws_sealed.proofs.part.part.PartOfPart.{is_own, keep, kept_how}
 use Rattle.vt_laws_sealed.proofs.part.seals.ByPart.{apart_if_sealed}

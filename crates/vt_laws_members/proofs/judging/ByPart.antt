@@ -1,25 +1,8 @@
 -- Calls of theirs are judged by the part alone, with the limit of mounts.
 use Rattle.std.proofs.Common.{arith, ◌≡◌, refl, sym, ap, subst, ◌∙◌, ℕ, nat_eq, Bool, true, false, not, List, [], ◌∷◌, Option, Some, None, Ok, ◌&&◌, ◌||◌, is_some}
-use Rattle.std.proofs.lemmas.Grind.{common_steps}
-use Rattle.std.specs.List.{list_any}
-use Rattle.std.proofs.lemmas.Bool.{or_parts}
+use Rattle.vt_spec.proofs.Common.{Among, Call, Fresh, Here, IsWorld, Judgement, LayerLocations, Location, Looks, Mount, MountFlags, OverlayWords, Permit, Rules, Task, TaskName, ToBind, ToMountOverlay, ToMountPlain, ToMove, World, admin_rules, among_from_contains, and_then, attach_permit, bind_permit, bind_rules, common_steps, destination_walk, has_shared_parent, is_among, is_elsewhere, is_no_root, is_shared, is_unbindable, judge, layer_rules, layers_walked, list_any, looks_of, members, mount_numbered, mount_overlay_permit, mount_plain_permit, move_permit, move_rules, new_mount_rules, or_parts, overfills, overlay_at, overlay_permit_by, part_of, sealed, source_walk, unless, used_filesystems, walk_end}
 use Rattle.vt_spec.specs.declared.errors.Rule.TheVariants.{M2, M3, M4, M5, M6, M7, M9, M10}
-use Rattle.vt_spec.specs.Errors.{Rules, and_then, unless}
-use Rattle.vt_spec.specs.Language.Calls.{Call, MountFlags, OverlayWords, TaskName}
-use Rattle.vt_spec.specs.Lists.{Fresh, is_among}
-use Rattle.vt_spec.specs.Machine.Apply.{overfills}
-use Rattle.vt_spec.specs.Machine.Invariants.{IsWorld}
-use Rattle.vt_spec.specs.Machine.Judge.{Judgement, attach_permit, bind_permit, judge, mount_overlay_permit, mount_plain_permit, move_permit, overlay_permit_by}
-use Rattle.vt_spec.specs.Machine.Looks.{Looks, looks_of, mount_at}
-use Rattle.vt_spec.specs.Machine.Mounts.{Location, Mount, is_shared, is_unbindable}
-use Rattle.vt_spec.specs.Machine.Permits.{Permit}
-use Rattle.vt_spec.specs.Machine.Permits.Permit.{ToBind, ToMountOverlay, ToMountPlain, ToMove}
-use Rattle.vt_spec.specs.Machine.Rules.Conditions.{is_elsewhere, is_no_root}
-use Rattle.vt_spec.specs.Machine.Rules.Mounting.{LayerLocations, admin_rules, bind_rules, destination_walk, has_shared_parent, layer_rules, layers_walked, move_rules, new_mount_rules, overlay_at, source_walk}
-use Rattle.vt_spec.specs.Machine.Sealed.{members, part_of, sealed, used_filesystems}
-use Rattle.vt_spec.specs.Machine.Walking.{Here, walk_end}
-use Rattle.vt_spec.specs.Machine.World.{Task, World, mount_numbered}
-use Rattle.vt_spec.proofs.Lists.{Among, among_from_contains}
+use Rattle.vt_spec.specs.Machine.Looks.{mount_at}
 use Rattle.vt_laws_sealed.proofs.part.part.PartOfPart.{is_own}
 use Rattle.vt_laws_sealed.proofs.part.walks.WalksAgree.{Agree}
 use Rattle.vt_laws_members.specs.Judging.{MembersAreJudgedByTheirPart, is_theirs}

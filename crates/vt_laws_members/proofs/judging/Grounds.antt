@@ -1,21 +1,6 @@
 -- Where members get: their part has these mounts as they are, and no step leads to another one.
-use Rattle.std.proofs.lemmas.Grind.{common_steps}
-use Rattle.std.proofs.Common.{◌≡◌, refl, sym, ap, subst, ◌∙◌, ◌⊎◌, inl, inr, ⊎_elim, ℕ, zero, suc, nat_eq, Bool, true, false, cond, true≢false, List, [], ◌∷◌, Option, Some, None, map, find, length, ◌≤◌, arith, eqb-true}
-use Rattle.std.specs.Prelude.{option_map, unwrap_or}
-use Rattle.std.specs.List.{cons_option, filter_map}
-use Rattle.std.proofs.lemmas.List.{length-map}
-use Rattle.std.proofs.lemmas.Bool.{and_from, and_parts, or_cases, or_left, or_right}
-use Rattle.std.proofs.lemmas.Option.{same_Some}
-use Rattle.vt_spec.specs.Language.Calls.{TaskName}
-use Rattle.vt_spec.specs.Lists.{chain}
-use Rattle.vt_spec.specs.Machine.Invariants.{MountInvariants, Stands}
-use Rattle.vt_spec.specs.Machine.Mounts.{Location, Mount, child_at, mounts_over, no_mount, root_of, stands_at}
-use Rattle.vt_spec.specs.Machine.Sealed.{is_at, members, part_of, roots_and_directories}
-use Rattle.vt_spec.specs.Machine.World.{Task, World, mount_numbered}
-use Rattle.vt_spec.proofs.Found.{found_among, found_passes}
-use Rattle.vt_spec.proofs.Lists.{Among, among-filter_map, among-map, among_from_all, any_among, any_from_among, chain_ends, chain_goes_on}
-use Rattle.vt_spec.proofs.Options.{none_is_some}
-use Rattle.vt_spec.proofs.Worlds.{found_or_none, number-mount_in}
+use Rattle.std.proofs.Common.{◌≡◌, refl, sym, ap, subst, ◌∙◌, ◌⊎◌, inl, inr, ⊎_elim, ℕ, zero, suc, nat_eq, Bool, true, false, cond, true≢false, List, [], ◌∷◌, Option, Some, None, map, find, length, ◌≤◌, arith, eqb-true, option_map, unwrap_or, filter_map}
+use Rattle.vt_spec.proofs.Common.{Among, Location, Mount, MountInvariants, Stands, Task, TaskName, World, among-filter_map, among-map, among_from_all, and_from, and_parts, any_among, any_from_among, chain, chain_ends, chain_goes_on, child_at, common_steps, cons_option, found_among, found_or_none, found_passes, is_at, length-map, members, mount_numbered, mounts_over, no_mount, none_is_some, number-mount_in, or_cases, or_left, or_right, part_of, root_of, roots_and_directories, same_Some, stands_at}
 use Rattle.vt_laws_mounts.proofs.mounts.MountsPlaces.{stands_there}
 use Rattle.vt_laws_mounts.proofs.mounts.Standing.{rank, rank_bounded, rank_child}
 use Rattle.vt_laws_mounts.proofs.letting_go.Chains.{Way, chains_alike}

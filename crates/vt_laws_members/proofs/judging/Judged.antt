@@ -1,17 +1,8 @@
 -- Calls that look, and calls on tasks and open files, are judged alike: by walks that agree, and tables of rules of what
 -- is reached.
 use Rattle.std.proofs.Common.{◌≡◌, refl, ap, ℕ, nat_eq, Bool, true, List, [], ◌∷◌, Ok}
+use Rattle.vt_spec.proofs.Common.{Allowed, Looks, Task, ToList, ToRead, ToSetDirectory, ToSetRoot, ToStat, cap_sys_chroot, chdir_permit, chroot_permit, directory_walk, enter_rules, exec_permit, exec_rules, lacks, list_permit, list_rules, lstat_permit, object_walk, read_permit, read_rules, readlink_permit, readlink_rules, stat_permit, symlink_walk, unless}
 use Rattle.vt_spec.specs.declared.errors.Rule.TheVariants.{K1}
-use Rattle.vt_spec.specs.Errors.{unless}
-use Rattle.vt_spec.specs.Machine.Judge.{chdir_permit, chroot_permit, exec_permit, list_permit, lstat_permit, read_permit, readlink_permit, stat_permit}
-use Rattle.vt_spec.specs.Machine.Looks.{Looks}
-use Rattle.vt_spec.specs.Machine.Permits.Permit.{Allowed, ToList, ToRead, ToSetDirectory, ToSetRoot, ToStat}
-use Rattle.vt_spec.specs.Machine.Rules.Conditions.{lacks}
-use Rattle.vt_spec.specs.Machine.Rules.Looking.{exec_rules, list_rules, read_rules, readlink_rules}
-use Rattle.vt_spec.specs.Machine.Rules.Tasks.{enter_rules}
-use Rattle.vt_spec.specs.Machine.Walking.{directory_walk, object_walk, symlink_walk}
-use Rattle.vt_spec.specs.Machine.World.{Task}
-use Rattle.vt_spec.specs.Rights.{cap_sys_chroot}
 use Rattle.vt_laws_sealed.proofs.part.walks.WalksAgree.{Alike}
 use Rattle.vt_laws_members.proofs.judging.Masks.{RulesSeeAlike, by_mask}
 use Rattle.vt_laws_members.proofs.judging.WalksLead.{HereAt, directory_agrees, judged_alike, object_agrees, symlink_agrees}

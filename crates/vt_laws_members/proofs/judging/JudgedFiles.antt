@@ -1,29 +1,9 @@
 -- Calls that make, change, remove and rename files are judged alike.
-use Rattle.std.proofs.lemmas.Grind.{common_steps}
-use Rattle.std.proofs.Common.{◌≡◌, refl, ap, ℕ, nat_eq, Bool, true, List, [], ◌∷◌, Option, Some, None, Ok, arith}
-use Rattle.std.specs.Prelude.{unwrap_or}
+use Rattle.std.proofs.Common.{◌≡◌, refl, ap, ℕ, nat_eq, Bool, true, List, [], ◌∷◌, Option, Some, None, Ok, arith, unwrap_or}
+use Rattle.vt_spec.proofs.Common.{Access, Creation, Exclusive, Judgement, Location, Looks, NoCreation, Node, OrCreate, Place, SetMark, Symlink, Task, ToChange, Whiteout, admin_rules, and_then, attr_at, attr_permit, attr_with_mode, attr_with_owner, chmod_permit, chown_permit, common_steps, create_file_permit, descriptor_rules, directory_mode, directory_walk, exact_attr, exclusive_word_rules, file_walk, file_word_rules, hard_link_permit, hard_link_rules, is_read_only, is_special, linking, make_permit, may_chown, mkdir_permit, new_attr, new_directory, new_leaf_walk, new_walk, object_there, object_walk, old_leaf_walk, opaque_permit, opaque_rules, open_by_permit, open_file_permit, open_permit, opened_or_created_permit, owns, removing, symlink_mode, symlink_permit, symlink_text_rules, symlink_walk, unless, unlink_permit, unlink_rules, walk_end, whiteout_permit, whiteout_rules, write_permit, written_permit}
 use Rattle.vt_spec.specs.declared.errors.Rule.TheVariants.{E1, E2}
-use Rattle.vt_spec.specs.Errors.{and_then, unless}
-use Rattle.vt_spec.specs.Language.Calls.{Access, Creation}
-use Rattle.vt_spec.specs.Language.Calls.Creation.{Exclusive, NoCreation, OrCreate}
-use Rattle.vt_spec.specs.Language.Changes.Change.{SetMark}
-use Rattle.vt_spec.specs.Machine.Attributes.{attr_with_mode, attr_with_owner, may_chown}
-use Rattle.vt_spec.specs.Machine.Judge.{Judgement, attr_permit, chmod_permit, chown_permit, create_file_permit, hard_link_permit, made_permit, make_permit, mkdir_permit, opaque_permit, open_by_permit, open_file_permit, open_permit, opened_or_created_permit, symlink_permit, unlink_permit, whiteout_permit, write_permit, written_permit}
-use Rattle.vt_spec.specs.Machine.Looks.{Looks}
-use Rattle.vt_spec.specs.Machine.Mounts.{Location}
-use Rattle.vt_spec.specs.Machine.Permits.Permit.{ToChange}
-use Rattle.vt_spec.specs.Machine.Rows.{directory_mode, exact_attr, linking, new_attr, symlink_mode}
-use Rattle.vt_spec.specs.Machine.Rules.Attributes.{attr_at, opaque_rules}
-use Rattle.vt_spec.specs.Machine.Rules.Conditions.{is_read_only}
-use Rattle.vt_spec.specs.Machine.Rules.Descriptors.{copy_rules, descriptor_rules, exclusive_word_rules, is_copied_up}
-use Rattle.vt_spec.specs.Machine.Rules.Making.{file_word_rules, hard_link_rules, symlink_text_rules, whiteout_rules}
-use Rattle.vt_spec.specs.Machine.Rules.Mounting.{admin_rules}
-use Rattle.vt_spec.specs.Machine.Rules.Removing.{object_there, removing, unlink_rules}
-use Rattle.vt_spec.specs.Machine.Walking.{Place, directory_walk, file_walk, is_special, new_leaf_walk, new_walk, object_walk, old_leaf_walk, symlink_walk, walk_end}
-use Rattle.vt_spec.specs.Machine.World.{Task}
-use Rattle.vt_spec.specs.Rights.{owns}
-use Rattle.vt_spec.specs.Tree.{Node, new_directory}
-use Rattle.vt_spec.specs.Tree.Content.{Symlink, Whiteout}
+use Rattle.vt_spec.specs.Machine.Judge.{made_permit}
+use Rattle.vt_spec.specs.Machine.Rules.Descriptors.{copy_rules, is_copied_up}
 use Rattle.vt_laws_members.proofs.judging.Judged.{JudgesAlike, Stands}
 use Rattle.vt_laws_members.proofs.judging.Masks.{by_mask, masked}
 use Rattle.vt_laws_members.proofs.judging.WalksLead.{FoundAt, PlaceAt, directory_agrees, file_agrees, judged_alike, new_agrees, new_leaf_agrees, object_agrees, old_leaf_agrees, symlink_agrees}

@@ -1,16 +1,8 @@
 -- Mount calls that ask for the mounts of what is reached alone are judged alike.
 use Rattle.std.proofs.Common.{◌≡◌, refl, ap, ℕ, nat_eq, Bool, true, List, Ok}
-use Rattle.vt_spec.specs.Errors.{and_then, unless}
-use Rattle.vt_spec.specs.Language.Calls.{MountFlags, TypeWord}
-use Rattle.vt_spec.specs.Machine.Judge.{Judgement, attach_permit, bind_permit, lazy_permit, mount_plain_permit, type_permit}
-use Rattle.vt_spec.specs.Machine.Looks.{Looks, mount_at}
-use Rattle.vt_spec.specs.Machine.Mounts.{Location}
-use Rattle.vt_spec.specs.Machine.Permits.{Permit}
-use Rattle.vt_spec.specs.Machine.Permits.Permit.{ToBind, ToMountPlain, ToSetType, ToUnmountLazily}
-use Rattle.vt_spec.specs.Machine.Rules.Conditions.{is_elsewhere, is_no_root}
-use Rattle.vt_spec.specs.Machine.Rules.Mounting.{admin_rules, bind_rules, destination_walk, lazy_rules, new_mount_rules, source_walk, type_rules}
-use Rattle.vt_spec.specs.Machine.Walking.{Here, directory_walk, walk_end}
-use Rattle.vt_spec.specs.Machine.World.{Task}
+use Rattle.vt_spec.proofs.Common.{Here, Judgement, Location, Looks, MountFlags, Permit, Task, ToBind, ToMountPlain, ToSetType, ToUnmountLazily, TypeWord, admin_rules, and_then, attach_permit, bind_permit, bind_rules, destination_walk, directory_walk, is_elsewhere, is_no_root, lazy_permit, mount_plain_permit, new_mount_rules, source_walk, type_permit, type_rules, unless, walk_end}
+use Rattle.vt_spec.specs.Machine.Looks.{mount_at}
+use Rattle.vt_spec.specs.Machine.Rules.Mounting.{lazy_rules}
 use Rattle.vt_laws_members.proofs.judging.Judged.{JudgesAlike, Stands}
 use Rattle.vt_laws_members.proofs.judging.Masks.{by_mask, masked}
 use Rattle.vt_laws_members.proofs.judging.WalksLead.{destination_agrees, directory_agrees, judged_alike, source_agrees}

@@ -1,17 +1,8 @@
 -- Unmounts and moves of mounts are judged alike.
 use Rattle.std.proofs.Common.{◌≡◌, refl, ap, ◌∙◌, ℕ, nat_eq, Bool, true, false, not, List, [], ◌∷◌, Ok, is_some, ◌||◌, ◌&&◌}
-use Rattle.std.specs.List.{list_any}
+use Rattle.vt_spec.proofs.Common.{Here, Judgement, Location, Looks, Mount, Permit, Task, ToMove, ToUnmount, admin_rules, and_then, destination_walk, directory_walk, has_shared_parent, is_elsewhere, is_no_root, is_shared, is_unbindable, list_any, move_permit, source_walk, umount_permit, unless, walk_end}
 use Rattle.vt_spec.specs.declared.errors.Rule.TheVariants.{M2, M4, M5, M6, M7, M8, M9, M10}
-use Rattle.vt_spec.specs.Errors.{and_then, unless}
-use Rattle.vt_spec.specs.Machine.Judge.{Judgement, move_permit, umount_permit}
-use Rattle.vt_spec.specs.Machine.Looks.{Looks, mount_at}
-use Rattle.vt_spec.specs.Machine.Mounts.{Location, Mount, is_shared, is_unbindable}
-use Rattle.vt_spec.specs.Machine.Permits.{Permit}
-use Rattle.vt_spec.specs.Machine.Permits.Permit.{ToMove, ToUnmount}
-use Rattle.vt_spec.specs.Machine.Rules.Conditions.{is_elsewhere, is_no_root}
-use Rattle.vt_spec.specs.Machine.Rules.Mounting.{admin_rules, destination_walk, has_shared_parent, source_walk}
-use Rattle.vt_spec.specs.Machine.Walking.{Here, directory_walk, walk_end}
-use Rattle.vt_spec.specs.Machine.World.{Task}
+use Rattle.vt_spec.specs.Machine.Looks.{mount_at}
 use Rattle.vt_laws_members.proofs.judging.Judged.{JudgesAlike, Stands}
 use Rattle.vt_laws_members.proofs.judging.JudgedPivots.{ParentsAlike}
 use Rattle.vt_laws_members.proofs.judging.Masks.{by_mask, masked}

@@ -1,25 +1,10 @@
 -- Mounts of overlays are judged alike.
-use Rattle.std.proofs.Common.{arith, ◌≡◌, refl, sym, ap, subst, ◌∙◌, inl, inr, ⊎_elim, ℕ, nat_eq, Bool, true, not, List, [], ◌∷◌, ◌++◌, Option, Some, None, Ok, Err, Result, length, is_some, ◌||◌, ◌&&◌}
-use Rattle.std.proofs.lemmas.Grind.{common_steps}
-use Rattle.std.specs.Prelude.{nat_lt, option_map, option_to_list}
-use Rattle.std.specs.List.{list_any}
+use Rattle.std.proofs.Common.{arith, ◌≡◌, refl, sym, ap, subst, ◌∙◌, inl, inr, ⊎_elim, ℕ, nat_eq, Bool, true, not, List, [], ◌∷◌, ◌++◌, Option, Some, None, Ok, Err, Result, length, is_some, ◌||◌, ◌&&◌, nat_lt, option_map, option_to_list}
+use Rattle.vt_spec.proofs.Common.{Among, Here, Judgement, Layer, LayerLocations, Location, Looks, Mount, MountFlags, Overlay, OverlayWords, Permit, Stop, Task, ToMountOverlay, admin_rules, among-append, among-append_left, among-append_right, among-from_map, and_then, any_pair, attach_permit, common_steps, destination_walk, each_walked, has_single_lower, is_elsewhere, is_empty_list, is_overlay_at, is_read_only, layer_at, layer_locations, layer_rules, layers_walked, list_any, map_alike, most_lowers, mount_overlay_permit, new_mount_rules, one_under_another, overlay_at, overlay_permit_by, source_walk, unless, upper_and_work, walk_end, walked_if_given, work_walked}
 use Rattle.vt_spec.specs.declared.errors.Deny.{Deny}
 use Rattle.vt_spec.specs.declared.errors.Rule.TheVariants.{O2, O3, O5}
-use Rattle.vt_spec.specs.Errors.{and_then, unless}
-use Rattle.vt_spec.specs.Language.Calls.{MountFlags, OverlayWords}
-use Rattle.vt_spec.specs.Language.Limits.{most_lowers}
-use Rattle.vt_spec.specs.Lists.{any_pair, is_empty_list}
-use Rattle.vt_spec.specs.Machine.Judge.{Judgement, attach_permit, mount_overlay_permit, overlay_permit_by}
-use Rattle.vt_spec.specs.Machine.Locked.{upper_and_work}
-use Rattle.vt_spec.specs.Machine.Looks.{Looks, mount_at}
-use Rattle.vt_spec.specs.Machine.Mounts.{Location, Mount}
-use Rattle.vt_spec.specs.Machine.Permits.{Permit}
-use Rattle.vt_spec.specs.Machine.Permits.Permit.{ToMountOverlay}
-use Rattle.vt_spec.specs.Machine.Rules.Conditions.{is_elsewhere, is_overlay_at, is_read_only}
-use Rattle.vt_spec.specs.Machine.Rules.Mounting.{LayerLocations, admin_rules, destination_walk, each_walked, has_single_lower, layer_at, layer_locations, layer_rules, layers_walked, lie_apart, new_mount_rules, one_under_another, overlay_at, source_walk, upper_and_work_locations, walked_if_given, work_walked}
-use Rattle.vt_spec.specs.Machine.Walking.{Here, Stop, walk_end}
-use Rattle.vt_spec.specs.Machine.World.{Layer, Overlay, Task}
-use Rattle.vt_spec.proofs.Lists.{Among, among-append, among-append_left, among-append_right, among-from_map, map_alike}
+use Rattle.vt_spec.specs.Machine.Looks.{mount_at}
+use Rattle.vt_spec.specs.Machine.Rules.Mounting.{lie_apart, upper_and_work_locations}
 use Rattle.vt_laws_sealed.proofs.part.walks.WalksAgree.{Agree, Each}
 use Rattle.vt_laws_members.proofs.judging.Judged.{JudgesAlike, Stands}
 use Rattle.vt_laws_members.proofs.judging.Masks.{by_mask, masked}

@@ -1,17 +1,8 @@
 -- A change of a mount's flags, and of the root mount, are judged alike.
 use Rattle.std.proofs.Common.{◌≡◌, refl, ap, ◌∙◌, ℕ, nat_eq, Bool, true, false, not, List, [], ◌∷◌, Ok, ◌||◌, ◌&&◌}
-use Rattle.std.specs.List.{list_any}
+use Rattle.vt_spec.proofs.Common.{Here, Judgement, Location, Looks, MountFlags, Task, ToPivot, ToSetFlags, admin_rules, and_then, destination_walk, directory_walk, has_shared_parent, is_elsewhere, is_no_root, is_on_descendant, is_shared, lies_under_location, list_any, pivot_permit, remount_permit, source_walk, unless, walk_end}
 use Rattle.vt_spec.specs.declared.errors.Rule.TheVariants.{M2, M7, M8, M11, M12}
-use Rattle.vt_spec.specs.Errors.{and_then, unless}
-use Rattle.vt_spec.specs.Language.Calls.{MountFlags}
-use Rattle.vt_spec.specs.Machine.Judge.{Judgement, pivot_permit, remount_permit}
-use Rattle.vt_spec.specs.Machine.Looks.{Looks, mount_at}
-use Rattle.vt_spec.specs.Machine.Mounts.{Location, is_shared}
-use Rattle.vt_spec.specs.Machine.Permits.Permit.{ToPivot, ToSetFlags}
-use Rattle.vt_spec.specs.Machine.Rules.Conditions.{is_elsewhere, is_no_root}
-use Rattle.vt_spec.specs.Machine.Rules.Mounting.{admin_rules, destination_walk, has_shared_parent, is_on_descendant, lies_under_location, source_walk}
-use Rattle.vt_spec.specs.Machine.Walking.{Here, directory_walk, walk_end}
-use Rattle.vt_spec.specs.Machine.World.{Task}
+use Rattle.vt_spec.specs.Machine.Looks.{mount_at}
 use Rattle.vt_laws_members.proofs.judging.Judged.{JudgesAlike, Stands}
 use Rattle.vt_laws_members.proofs.judging.Masks.{by_mask, masked}
 use Rattle.vt_laws_members.proofs.judging.WalksLead.{destination_agrees, directory_agrees, judged_alike, source_agrees}

@@ -1,23 +1,13 @@
 -- rmdir(2) and rename(2) are judged alike.
-use Rattle.std.proofs.Common.{◌≡◌, refl, sym, ap, ◌∙◌, inl, inr, ℕ, nat_eq, Bool, true, false, ◌||◌, ◌&&◌, not, List, [], ◌∷◌, ◌++◌, Option, Some, None, Ok}
-use Rattle.std.specs.Prelude.{option_to_list}
-use Rattle.std.specs.List.{list_any}
+use Rattle.std.proofs.Common.{◌≡◌, refl, sym, ap, ◌∙◌, inl, inr, ℕ, nat_eq, Bool, true, false, ◌||◌, ◌&&◌, not, List, [], ◌∷◌, ◌++◌, Option, Some, None, Ok, option_to_list}
+use Rattle.vt_spec.proofs.Common.{Allowed, Judgement, Location, Looks, Place, Rules, Task, ToRemoveDirectory, ToRename, and_then, any_from_among, has_no_upper, holds_of, is_directory_there, is_mount_point_anywhere, is_mount_point_in, is_one_object, is_read_only, list_any, may_not, moving, name_of, object_there, old_leaf_walk, old_walk, old_word_rules, removing, rename_new_walk, rename_permit, renamed_permit, rmdir_permit, rmdir_word_rules, same_object_rules, unless, walk_end, write_right}
 use Rattle.vt_spec.specs.declared.errors.Rule.{Rule}
 use Rattle.vt_spec.specs.declared.errors.Rule.TheVariants.{B1, C1, C3, E2, E3, E4, E5, F1, F2, L1, O1, P1, P2}
-use Rattle.vt_spec.specs.Errors.{Rules, and_then, unless}
-use Rattle.vt_spec.specs.Lists.{holds_of}
-use Rattle.vt_spec.specs.Machine.Judge.{Judgement, rename_permit, renamed_permit, rmdir_permit}
-use Rattle.vt_spec.specs.Machine.Looks.{Looks, is_directory_at, mount_at}
-use Rattle.vt_spec.specs.Machine.Mounts.{Location}
-use Rattle.vt_spec.specs.Machine.Permits.Permit.{Allowed, ToRemoveDirectory, ToRename}
-use Rattle.vt_spec.specs.Machine.Rules.Conditions.{has_no_upper, is_kept, is_mount_point_anywhere, is_mount_point_in, is_read_only, may_not, mounter_may_not}
-use Rattle.vt_spec.specs.Machine.Rules.Removing.{changes_parent, is_nonempty, is_one_object, is_stuck, moving, object_there, old_word_rules, removing, rename_new_walk, rmdir_word_rules, same_filesystem, same_object_rules}
-use Rattle.vt_spec.specs.Machine.Walking.{Place, is_directory_there, name_of, old_leaf_walk, old_walk, walk_end}
-use Rattle.vt_spec.specs.Machine.World.{Task}
-use Rattle.vt_spec.specs.Rights.{write_right}
+use Rattle.vt_spec.specs.Machine.Looks.{is_directory_at, mount_at}
+use Rattle.vt_spec.specs.Machine.Rules.Conditions.{is_kept, mounter_may_not}
+use Rattle.vt_spec.specs.Machine.Rules.Removing.{changes_parent, is_nonempty, is_stuck, same_filesystem}
 use Rattle.vt_laws_members.proofs.judging.Judged.{JudgesAlike}
 use Rattle.vt_laws_members.proofs.judging.JudgedFiles.{IsFound, IsPlaced, there_own}
-use Rattle.vt_spec.proofs.Lists.{any_from_among}
 use Rattle.vt_laws_members.proofs.judging.Masks.{by_both, by_mask, masked}
 use Rattle.vt_laws_members.proofs.judging.WalksLead.{judged_alike, old_agrees, old_leaf_agrees, rename_new_agrees, same_directory_there}
 

@@ -1,23 +1,6 @@
 -- What is locked in the world is locked in the part, and the other way round.
-use Rattle.std.proofs.lemmas.Grind.{common_steps}
-use Rattle.std.proofs.Common.{◌≡◌, refl, sym, ap, subst, ◌∙◌, ⊎_elim, ℕ, nat_eq, true, cond, true≢false, List, [], Option, Some, None, find, is_some, ◌||◌, ◌&&◌, eq-eqb, eqb-true, arith}
-use Rattle.std.specs.Prelude.{unwrap_or}
-use Rattle.std.specs.List.{list_any}
-use Rattle.std.proofs.lemmas.Bool.{and_from, and_parts, or_cases, or_left, or_right}
-use Rattle.vt_spec.specs.FileTree.{FileTree, is_under}
-use Rattle.vt_spec.specs.Language.Calls.{TaskName}
-use Rattle.vt_spec.specs.Lists.{holds_of, is_among, when}
-use Rattle.vt_spec.specs.Machine.Invariants.{IsWorld, ListsNumbers, is_there}
-use Rattle.vt_spec.specs.Machine.Locked.{counts_in_layer, is_locked, is_object_of, is_real_upper, lies_in_layer, lies_or_counts_under, live_layers, of_overlay, overlays}
-use Rattle.vt_spec.specs.Machine.Sealed.{all_named, is_lower_root, own_lowers, part_of, part_of_filesystem, part_of_lower, sealed, used_alone, used_filesystems, wholly_locked}
-use Rattle.vt_spec.specs.Machine.Settled.{has_layer_on, named_in}
-use Rattle.vt_spec.specs.Machine.World.{Filesystem, Layer, Overlay, World, filesystem_numbered, is_overlay, layers_of, no_filesystem}
-use Rattle.vt_spec.specs.Tree.{is_directory_node}
-use Rattle.vt_spec.specs.TreeInvariant.{IsTree}
-use Rattle.vt_spec.proofs.Found.{found_among}
-use Rattle.vt_spec.proofs.Lists.{Among, among-append_left, among-append_right, among-filter, among-filter_map, among-flat_map, among-from_filter, among-from_filter_map, among-from_flat_map, among_from_all, among_from_contains, among_from_list_all, among_numbers, any_among, any_from_among, contains_from_among}
-use Rattle.vt_spec.proofs.Truths.{same_truth}
-use Rattle.vt_spec.proofs.Worlds.{upper_real}
+use Rattle.std.proofs.Common.{◌≡◌, refl, sym, ap, subst, ◌∙◌, ⊎_elim, ℕ, nat_eq, true, cond, true≢false, List, [], Option, Some, None, find, is_some, ◌||◌, ◌&&◌, eq-eqb, eqb-true, arith, unwrap_or}
+use Rattle.vt_spec.proofs.Common.{Among, FileTree, Filesystem, IsTree, IsWorld, Layer, ListsNumbers, Overlay, TaskName, World, all_named, among-append_left, among-append_right, among-filter, among-filter_map, among-flat_map, among-from_filter, among-from_filter_map, among-from_flat_map, among_from_all, among_from_contains, among_from_list_all, among_numbers, and_from, and_parts, any_among, any_from_among, common_steps, contains_from_among, counts_in_layer, filesystem_numbered, found_among, has_layer_on, holds_of, is_among, is_directory_node, is_locked, is_lower_root, is_object_of, is_overlay, is_real_upper, is_there, is_under, layers_of, lies_in_layer, lies_or_counts_under, list_any, live_layers, named_in, no_filesystem, of_overlay, or_cases, or_left, or_right, overlays, own_lowers, part_of, part_of_filesystem, part_of_lower, same_truth, sealed, upper_real, used_alone, used_filesystems, when, wholly_locked}
 use Rattle.vt_laws_trees.proofs.layers.layers.ShownDirectories.{led_is_there}
 use Rattle.vt_laws_mounts.proofs.letting_go.sweeps.OfWorlds.{found_filesystem}
 use Rattle.vt_laws_trees.proofs.overlays.whole.ApartPaths.{under_led}

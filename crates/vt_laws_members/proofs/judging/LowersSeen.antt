@@ -1,25 +1,7 @@
 -- What lower layers of overlays that members reach have at a path is in the part.
-use Rattle.std.proofs.lemmas.Grind.{common_steps}
-use Rattle.std.proofs.Common.{◌≡◌, refl, sym, ap, subst, ◌∙◌, inl, inr, ⊎_elim, ℕ, nat_eq, Bool, true, false, cond, not, List, [], ◌∷◌, ◌++◌, filter, find, flat_map, map, Option, Some, None, ◌||◌, ◌&&◌, eq-eqb, eqb-true, arith}
-use Rattle.std.specs.Prelude.{option_to_list, unwrap_or}
-use Rattle.std.specs.List.{cons_option, filter_map, list_any}
-use Rattle.std.proofs.lemmas.Bool.{and_from}
-use Rattle.vt_spec.specs.FileTree.{FileTree, is_under, path_down}
-use Rattle.vt_spec.specs.Language.Calls.{TaskName}
-use Rattle.vt_spec.specs.Lists.{is_among, prefixes, when}
-use Rattle.vt_spec.specs.Machine.Filesystems.{has_lower_directory_at}
-use Rattle.vt_spec.specs.Machine.Invariants.{IsWorld, ListsNumbers}
-use Rattle.vt_spec.specs.Machine.Layers.{has_lower_directory, view_of}
-use Rattle.vt_spec.specs.Machine.Locked.{lies_in_layer, of_overlay, overlay_or}
-use Rattle.vt_spec.specs.Machine.Mounts.{Location}
-use Rattle.vt_spec.specs.Machine.Sealed.{change_layers, lies_in_own_lower, own_lowers, part_of, part_of_filesystem, part_of_lower, used_directly, used_filesystems}
-use Rattle.vt_spec.specs.Machine.Views.{cuts, hides, lowers_have_directory, node_led}
-use Rattle.vt_spec.specs.Machine.World.{Filesystem, Layer, Overlay, World, filesystem_at, filesystem_numbered, layers_of, mount_at, no_filesystem, open_layer}
-use Rattle.vt_spec.specs.Tree.{Node, entries_in, entry_named, is_directory_node}
-use Rattle.vt_spec.specs.TreeInvariant.{IsTree, led}
-use Rattle.vt_spec.proofs.Found.{found_among}
-use Rattle.vt_spec.proofs.Lists.{Among, among-append_left, among-append_right, among-filter, among-flat_map, among-map, among_from_all, among_numbers, any_from_among, is_among_numbers}
-use Rattle.vt_spec.proofs.Options.{none_is_some}
+use Rattle.std.proofs.Common.{◌≡◌, refl, sym, ap, subst, ◌∙◌, inl, inr, ⊎_elim, ℕ, nat_eq, Bool, true, false, cond, not, List, [], ◌∷◌, ◌++◌, filter, find, flat_map, map, Option, Some, None, ◌||◌, ◌&&◌, eq-eqb, eqb-true, arith, option_to_list, unwrap_or, filter_map}
+use Rattle.vt_spec.proofs.Common.{Among, FileTree, Filesystem, IsTree, IsWorld, Layer, ListsNumbers, Location, Node, Overlay, TaskName, World, among-append_left, among-append_right, among-filter, among-flat_map, among-map, among_from_all, among_numbers, and_from, any_from_among, change_layers, common_steps, cons_option, cuts, entries_in, entry_named, filesystem_at, filesystem_numbered, found_among, has_lower_directory, has_lower_directory_at, hides, is_among, is_among_numbers, is_directory_node, is_under, layers_of, led, lies_in_layer, lies_in_own_lower, list_any, mount_at, no_filesystem, node_led, none_is_some, of_overlay, open_layer, overlay_or, own_lowers, part_of, part_of_filesystem, part_of_lower, path_down, prefixes, used_directly, used_filesystems, view_of, when}
+use Rattle.vt_spec.specs.Machine.Views.{lowers_have_directory}
 use Rattle.vt_laws_trees.proofs.layers.layers.ShownDirectories.{led_is_there}
 use Rattle.vt_laws_trees.proofs.layers.views.Stay.{led_where}
 use Rattle.vt_laws_mounts.proofs.letting_go.sweeps.OfWorlds.{found_filesystem}

@@ -1,10 +1,7 @@
 -- What two worlds show alike at some mounts is the same where the rest is covered. So a table of rules that asks for
 -- what is there alone is the same in both.
-use Rattle.std.proofs.lemmas.Grind.{common_steps}
 use Rattle.std.proofs.Common.{◌≡◌, refl, sym, ap, ◌∙◌, ℕ, Bool, true, false, cond, [], None, arith}
-use Rattle.vt_spec.specs.Language.Changes.{Change}
-use Rattle.vt_spec.specs.Machine.Looks.{Looks}
-use Rattle.vt_spec.specs.Machine.Mounts.{Location, no_mount}
+use Rattle.vt_spec.proofs.Common.{Change, Location, Looks, common_steps, no_mount}
 
 same_if : {A : Type 0} (b : Bool) (x y d : A) → (b ≡ true → x ≡ y) → cond b x d ≡ cond b y d
 same_if true x y d same = same refl

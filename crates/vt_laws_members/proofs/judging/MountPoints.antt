@@ -1,22 +1,7 @@
 -- Which mounts are on what members reach is the same in the part.
-use Rattle.std.proofs.lemmas.Grind.{common_steps}
 use Rattle.std.proofs.Common.{◌≡◌, refl, sym, ap, subst, ◌∙◌, inl, inr, ⊎_elim, ℕ, nat_eq, Bool, true, false, true≢false, ◌⊎◌, cond, List, [], ◌∷◌, Option, Some, None, ◌||◌, ◌&&◌, eqb-true, arith}
-use Rattle.std.specs.List.{list_any}
+use Rattle.vt_spec.proofs.Common.{Among, Filesystem, IsWorld, Location, Mount, Overlay, Task, TaskName, World, among-filter, among-filter_map, among-from_filter, among-from_filter_map, among-from_flat_map, any_among, any_from_among, common_steps, holds_of, is_at, is_point, list_any, locations, looks_of, members, mount_at, mount_numbered, mounts_on, none_is_some, of_overlay, or_left, or_right, part_of, points_of, roots_and_directories, same_Some, same_truth, seen_by_descriptor, upper_points, when}
 use Rattle.vt_laws_sealed.proofs.part.part.MountsOver.{numbered}
-use Rattle.vt_spec.specs.Language.Calls.{TaskName}
-use Rattle.vt_spec.specs.Lists.{holds_of, when}
-use Rattle.vt_spec.specs.Machine.Detach.{is_point, mounts_on, points_of, upper_points}
-use Rattle.vt_spec.specs.Machine.Invariants.{IsWorld}
-use Rattle.vt_spec.specs.Machine.Locked.{of_overlay}
-use Rattle.vt_spec.specs.Machine.Looks.{looks_of}
-use Rattle.vt_spec.specs.Machine.Mounts.{Location, Mount}
-use Rattle.vt_spec.specs.Machine.Sealed.{is_at, locations, members, part_of, roots_and_directories, seen_by_descriptor}
-use Rattle.vt_spec.specs.Machine.World.{Filesystem, Overlay, Task, World, mount_at, mount_numbered}
-use Rattle.std.proofs.lemmas.Bool.{or_left, or_right}
-use Rattle.std.proofs.lemmas.Option.{same_Some}
-use Rattle.vt_spec.proofs.Lists.{Among, among-filter, among-filter_map, among-from_filter, among-from_filter_map, among-from_flat_map, any_among, any_from_among}
-use Rattle.vt_spec.proofs.Options.{none_is_some}
-use Rattle.vt_spec.proofs.Truths.{same_truth}
 use Rattle.vt_laws_sealed.proofs.part.part.PartOfPart.{is_own, keep, kept_how, kept_whole}
 use Rattle.vt_laws_members.specs.Judging.{is_theirs}
 use Rattle.vt_laws_members.proofs.judging.Grounds.{IsTheirs, parent_theirs, same_mount, theirs_from}

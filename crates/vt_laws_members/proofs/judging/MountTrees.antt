@@ -1,20 +1,7 @@
 -- Children of mounts of theirs, and trees of mounts, are the same in the part.
-use Rattle.std.proofs.lemmas.Grind.{common_steps}
-use Rattle.std.proofs.Common.{◌≡◌, refl, sym, ap, subst, ◌∙◌, inl, ⊎_elim, ℕ, zero, suc, nat_eq, Bool, true, false, true≢false, List, [], ◌∷◌, Option, Some, None, filter, flat_map, length, not, ◌⊎◌, ◌+◌, ◌≤◌, arith, eqb-true}
-use Rattle.std.specs.List.{cons_option, filter_map, list_any}
-use Rattle.std.proofs.lemmas.Bool.{or_from, or_left, or_parts}
+use Rattle.std.proofs.Common.{◌≡◌, refl, sym, ap, subst, ◌∙◌, inl, ⊎_elim, ℕ, zero, suc, nat_eq, Bool, true, false, true≢false, List, [], ◌∷◌, Option, Some, None, filter, flat_map, length, not, ◌⊎◌, ◌+◌, ◌≤◌, arith, eqb-true, filter_map}
+use Rattle.vt_spec.proofs.Common.{Among, Filesystem, IsWorld, Location, Mount, Stands, Task, TaskName, World, all_from_among, among-from_filter, among-from_filter_map, among_from_all, any_pair, at_root, bind_tree, bindable_children, bindable_tree, bound, children, common_steps, cons_option, holds_of, is_at, is_directory_under, is_unbindable, list_any, locations, members, mount_tree, none_among, none_from_among, none_is_some, on_parent, or_from, or_left, or_parts, part_of, roots_and_directories, seen_by_descriptor, stands_on, stands_under, tree_from}
 use Rattle.vt_laws_sealed.proofs.part.part.MountsOver.{nowhere_stands}
-use Rattle.vt_spec.specs.Language.Calls.{TaskName}
-use Rattle.vt_spec.specs.Lists.{any_pair, holds_of}
-use Rattle.vt_spec.specs.FileTree.{is_directory_under}
-use Rattle.vt_spec.specs.Machine.Attach.{bind_tree, bindable_children, bindable_tree, bound, stands_under}
-use Rattle.vt_spec.specs.Machine.Invariants.{IsWorld, Stands}
-use Rattle.vt_spec.specs.Machine.Invariants.Stands.{at_root, on_parent}
-use Rattle.vt_spec.specs.Machine.Mounts.{Location, Mount, children, is_unbindable, mount_tree, stands_on, tree_from}
-use Rattle.vt_spec.specs.Machine.Sealed.{is_at, locations, members, part_of, roots_and_directories, seen_by_descriptor}
-use Rattle.vt_spec.specs.Machine.World.{Filesystem, Task, World}
-use Rattle.vt_spec.proofs.Lists.{Among, all_from_among, among-from_filter, among-from_filter_map, among_from_all, none_among, none_from_among}
-use Rattle.vt_spec.proofs.Options.{none_is_some}
 use Rattle.vt_laws_mounts.proofs.letting_go.Lists.{flat_map_alike}
 use Rattle.vt_laws_mounts.specs.Mounts.Invariants.{OneNumberEach}
 use Rattle.vt_laws_mounts.specs.Mounts.Standing.{AllStand}

@@ -1,27 +1,8 @@
 -- Whether an attachment at a mount of theirs leaves a namespace with too many mounts is the same in the part (M9).
-use Rattle.std.proofs.lemmas.Grind.{common_steps}
 use Rattle.std.proofs.Common.{◌≡◌, refl, sym, ap, subst, ◌∙◌, ⊎_elim, ℕ, nat_eq, nat_lt, Bool, true, false, true≢false, not, List, [], ◌∷◌, filter, is_some, length, ◌&&◌, ◌+◌, ◌*◌, ◌≤◌, arith}
-use Rattle.std.proofs.lemmas.List.Folds.{find-append}
-use Rattle.std.specs.List.{list_any}
-use Rattle.std.proofs.lemmas.Bool.{false_from_ne_true}
+use Rattle.vt_spec.proofs.Common.{Among, Copies, Filesystem, Fresh, IsWorld, Location, Mount, MountFlags, Namespace, Overlay, Task, TaskName, ToBind, ToMountOverlay, ToMountPlain, ToMove, World, among-filter_map, among-from_filter, among_from_list_all, attach, attached_by, bind_tree, common_steps, copies_from, evens, false_from_ne_true, filesystem_numbered, filter_alike, find-append, has_too_many, is_among, is_directory_node, is_directory_under, is_own_namespace, list_any, members, most_mounts, mount_at, mount_numbered, mount_tree, new_mount, number-mount_in, odds, overfills, overlay_filesystem, part_of, parts_of, plain_filesystem, receivers_of, sealed, takes_part, tree_among, used_filesystems, with_new_filesystem}
 use Rattle.vt_laws_members.proofs.detached.lazily.GoingAlike.{receivers_alike, receivers_own}
 use Rattle.vt_laws_sealed.proofs.part.part.MountsOver.{numbered}
-use Rattle.vt_spec.specs.FileTree.{is_directory_under}
-use Rattle.vt_spec.specs.Language.Calls.{MountFlags, TaskName}
-use Rattle.vt_spec.specs.Language.Limits.{most_mounts}
-use Rattle.vt_spec.specs.Lists.{Fresh, evens, is_among, odds}
-use Rattle.vt_spec.specs.Machine.Apply.{overfills}
-use Rattle.vt_spec.specs.Machine.Attach.{Copies, attach, attached_by, bind_tree, copies_from, has_too_many, parts_of, receivers_of, takes_part}
-use Rattle.vt_spec.specs.Machine.Invariants.{IsWorld}
-use Rattle.vt_spec.specs.Machine.Mounts.{Location, Mount, mount_tree}
-use Rattle.vt_spec.specs.Machine.NewMounts.{new_mount, overlay_filesystem, plain_filesystem, with_new_filesystem}
-use Rattle.vt_spec.specs.Machine.Permits.Permit.{ToBind, ToMountOverlay, ToMountPlain, ToMove}
-use Rattle.vt_spec.specs.Machine.Sealed.{is_own_namespace, members, part_of, sealed, used_filesystems}
-use Rattle.vt_spec.specs.Machine.World.{Filesystem, Namespace, Overlay, Task, World, filesystem_numbered, mount_at, mount_numbered}
-use Rattle.vt_spec.specs.Tree.{is_directory_node}
-use Rattle.vt_spec.proofs.Found.{filter_alike}
-use Rattle.vt_spec.proofs.Lists.{Among, among-filter_map, among-from_filter, among_from_list_all}
-use Rattle.vt_spec.proofs.Worlds.{number-mount_in, tree_among}
 use Rattle.vt_laws_mounts.specs.Mounts.Ending.{count_in, is_in}
 use Rattle.vt_laws_mounts.proofs.Counting.{added_counted, moved_all}
 use Rattle.vt_laws_mounts.proofs.mounts.Standing.{trees_have_each_once}

@@ -1,18 +1,6 @@
 -- Layers of a new overlay overlap others in the part as in the world: overlayfs, "sharing and copying layers".
-use Rattle.std.proofs.Common.{arith, ◌≡◌, refl, sym, ap, subst, ◌∙◌, inl, ⊎_elim, ℕ, nat_eq, true, List, [], Some, ◌&&◌, eqb-true}
-use Rattle.std.proofs.lemmas.Grind.{common_steps}
-use Rattle.std.specs.Prelude.{option_to_list}
-use Rattle.std.specs.List.{list_any}
-use Rattle.std.proofs.lemmas.Bool.{or_cases, or_left}
-use Rattle.vt_spec.specs.FileTree.{is_under}
-use Rattle.vt_spec.specs.Language.Calls.{TaskName}
-use Rattle.vt_spec.specs.Lists.{is_among}
-use Rattle.vt_spec.specs.Machine.Invariants.{IsWorld}
-use Rattle.vt_spec.specs.Machine.Locked.{counts_in_layer, lies_in_layer, lies_or_counts_under, live_layers, live_upper_and_work, of_overlay, overlaps_one_of, overlays, upper_and_work}
-use Rattle.vt_spec.specs.Machine.Sealed.{part_of, sealed, used_alone, used_filesystems, wholly_locked}
-use Rattle.vt_spec.specs.Machine.World.{Filesystem, Layer, Overlay, World, filesystem_numbered, is_overlay, layers_of}
-use Rattle.vt_spec.proofs.Lists.{Among, among-append_left, among-flat_map, among-from_filter, among-from_flat_map, among_numbers, any_among, any_from_among}
-use Rattle.vt_spec.proofs.Truths.{same_truth}
+use Rattle.std.proofs.Common.{arith, ◌≡◌, refl, sym, ap, subst, ◌∙◌, inl, ⊎_elim, ℕ, nat_eq, true, List, [], Some, ◌&&◌, eqb-true, option_to_list}
+use Rattle.vt_spec.proofs.Common.{Among, Filesystem, IsWorld, Layer, Overlay, TaskName, World, among-append_left, among-flat_map, among-from_filter, among-from_flat_map, among_numbers, any_among, any_from_among, common_steps, counts_in_layer, filesystem_numbered, is_among, is_overlay, is_under, layers_of, lies_in_layer, lies_or_counts_under, list_any, live_layers, live_upper_and_work, of_overlay, or_cases, or_left, overlaps_one_of, overlays, part_of, same_truth, sealed, upper_and_work, used_alone, used_filesystems, wholly_locked}
 use Rattle.vt_laws_sealed.proofs.part.part.PartOfPart.{found}
 use Rattle.vt_laws_sealed.proofs.part.seals.ByPart.{used_are_free}
 use Rattle.vt_laws_members.proofs.judging.Anywhere.{not_whole}

@@ -1,18 +1,7 @@
 -- What is below a mount of theirs, and which files are open through it, is the same in the part.
-use Rattle.std.proofs.lemmas.Grind.{common_steps}
 use Rattle.std.proofs.Common.{◌≡◌, refl, sym, ap, ◌∙◌, inr, ℕ, nat_eq, Bool, true, false, true≢false, not, List, [], ◌∷◌, filter, length, Option, Some, None, ◌&&◌, eqb-true, arith}
-use Rattle.std.specs.List.{list_any}
-use Rattle.std.proofs.lemmas.Bool.{and_parts, false_from_ne_true, not-true}
-use Rattle.vt_spec.specs.Language.Calls.{TaskName}
-use Rattle.vt_spec.specs.Lists.{chain, holds_of, rest_of}
-use Rattle.vt_spec.specs.Machine.Invariants.{IsWorld}
-use Rattle.vt_spec.specs.Machine.Looks.{Looks, looks_of}
-use Rattle.vt_spec.specs.Machine.Mounts.{Location, Mount, is_shared}
-use Rattle.vt_spec.specs.Machine.Rules.Conditions.{is_elsewhere}
-use Rattle.vt_spec.specs.Machine.Rules.Mounting.{has_shared_parent, lies_under_location}
-use Rattle.vt_spec.specs.Machine.Sealed.{is_member_task, is_on_own_mount, locations, members, outsiders, part_of, sealed}
-use Rattle.vt_spec.specs.Machine.World.{Descriptor, Task, World, locations_of, mount_at, mount_numbered}
-use Rattle.vt_spec.proofs.Lists.{Among, among-filter, among-flat_map, among-map, among_from_list_all, any_among}
+use Rattle.vt_spec.proofs.Common.{Among, Descriptor, IsWorld, Location, Looks, Mount, Task, TaskName, World, among-filter, among-flat_map, among-map, among_from_list_all, and_parts, any_among, chain, common_steps, false_from_ne_true, has_shared_parent, holds_of, is_elsewhere, is_member_task, is_shared, lies_under_location, list_any, locations, locations_of, looks_of, members, mount_at, mount_numbered, not-true, outsiders, part_of, rest_of, sealed}
+use Rattle.vt_spec.specs.Machine.Sealed.{is_on_own_mount}
 use Rattle.vt_laws_sealed.proofs.part.part.PartOfPart.{is_own}
 use Rattle.vt_laws_sealed.proofs.part.seals.ByPart.{apart_if_sealed}
 use Rattle.vt_laws_members.specs.Judging.{is_theirs}

@@ -1,23 +1,10 @@
 -- Every walk of a path leads alike, where two worlds show alike what it meets.
-use Rattle.std.proofs.lemmas.Grind.{common_steps}
-use Rattle.std.proofs.Common.{◌≡◌, refl, ap, subst, ◌∙◌, ℕ, zero, suc, ◌+◌, ◌-◌, ◌++◌, nat_eq, Bool, true, false, cond, not, List, [], ◌∷◌, Option, Some, None, is_some, Ok, Err, Result, reverse, ◌||◌, ◌&&◌, arith}
-use Rattle.std.specs.Prelude.{IfOk, flat_map, length, nat_lt, option_map, option_to_list, unwrap_or, ◌==◌}
-use Rattle.std.specs.List.{list_any}
-use Rattle.std.proofs.lemmas.Option.{same_Some}
+use Rattle.std.proofs.Common.{◌≡◌, refl, ap, subst, ◌∙◌, ℕ, zero, suc, ◌+◌, ◌-◌, ◌++◌, nat_eq, Bool, true, false, cond, not, List, [], ◌∷◌, Option, Some, None, is_some, Ok, Err, Result, reverse, ◌||◌, ◌&&◌, arith, IfOk, flat_map, length, nat_lt, option_map, option_to_list, unwrap_or, ◌==◌}
+use Rattle.vt_spec.proofs.Common.{Dot, DotDot, Here, LastWord, Location, Looks, Mount, Named, NoWord, Place, Rules, Stop, Task, all_met, also_met, and_then, at_topmost, common_steps, destination_walk, directory_walk, ends_in_slash, entered, entered_mounts, entry_location, file_walk, filesystems_of, final_word, follow_rules, is_absolute, is_directory_node, is_directory_there, is_special, list_any, longest_name, met_at, most_symlinks, new_leaf_walk, new_walk, none_is_some, object_named, object_walk, old_leaf_walk, old_walk, path_text, place_walk, placed, rename_new_walk, same_Some, search_rules, slash_rules, source_walk, start_of, stepped, steps_at, stopped_by, symlink_of, symlink_start, symlink_there, symlink_walk, symlink_walk_by, then_walk, unless, walk_end, walk_start, walk_unless, words, words_walked}
 use Rattle.vt_spec.specs.declared.errors.Deny.{Deny}
 use Rattle.vt_spec.specs.declared.errors.Rule.TheVariants.{W2, W3, W6, W7, W8, W9}
-use Rattle.vt_spec.specs.Errors.{Rules, and_then, unless}
-use Rattle.vt_spec.specs.Language.Limits.{longest_name, most_symlinks}
-use Rattle.vt_spec.specs.Machine.Looks.{Looks, is_directory_at, topmost}
-use Rattle.vt_spec.specs.Machine.Mounts.{Location, Mount}
-use Rattle.vt_spec.specs.Machine.Rules.Mounting.{at_topmost, destination_walk, source_walk}
-use Rattle.vt_spec.specs.Machine.Rules.Removing.{rename_new_walk}
-use Rattle.vt_spec.specs.Machine.Walking.{Here, LastWord, Place, Stop, all_met, also_met, directory_walk, entered, entered_mounts, entry_location, file_or_symlink, file_walk, file_walked, filesystems_of, final_word, follow_rules, followed, is_directory_there, is_special, last_walked, met_at, new_leaf_walk, new_name_rules, new_walk, object_named, object_walk, old_leaf_walk, old_walk, path_text, path_walked, place_walk, placed, prefix_walked, search_rules, slash_rules, start_of, stepped, steps_at, stopped_by, symlink_of, symlink_start, symlink_there, symlink_walk, symlink_walk_by, then_walk, walk_end, walk_start, walk_unless, words_walked}
-use Rattle.vt_spec.specs.Machine.Walking.LastWord.{Dot, DotDot, Named, NoWord}
-use Rattle.vt_spec.specs.Machine.World.{Task}
-use Rattle.vt_spec.specs.PathText.{ends_in_slash, is_absolute, words}
-use Rattle.vt_spec.specs.Tree.{is_directory_node}
-use Rattle.vt_spec.proofs.Options.{none_is_some}
+use Rattle.vt_spec.specs.Machine.Looks.{is_directory_at, topmost}
+use Rattle.vt_spec.specs.Machine.Walking.{file_or_symlink, file_walked, followed, last_walked, new_name_rules, path_walked, prefix_walked}
 use Rattle.vt_laws_sealed.proofs.part.walks.WalksAgree.{Agree, Alike, FollowsAgree, both_each, none_each, one_each, own_topmost, same_entry, same_filesystems, same_met, same_search, same_topmost, stepped_agrees, texts_agree, then_agree, unless_agree, word_agrees, words_agree}
 
 pub ok_any : {A E : Type 0} (r : Result A E) → IfOk r (λ a. Unit {0})

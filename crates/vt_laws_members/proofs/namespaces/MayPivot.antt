@@ -1,20 +1,8 @@
 -- What a granted pivot_root(2) has passed, in any world whose mounts have their invariants.
-use Rattle.std.proofs.Common.{arith, ◌≡◌, ℕ, nat_eq, Bool, true, false, true≢false, List, [], ◌∷◌, None, Ok, Err, Result, not, eqb-true}
-use Rattle.std.proofs.lemmas.Grind.{common_steps}
-use Rattle.std.specs.Prelude.{⊤, IfOk}
-use Rattle.std.proofs.lemmas.Bool.{not-false, or_parts}
+use Rattle.std.proofs.Common.{arith, ◌≡◌, ℕ, nat_eq, Bool, true, false, true≢false, List, [], ◌∷◌, None, Ok, Err, Result, not, eqb-true, IfOk}
+use Rattle.vt_spec.proofs.Common.{Here, Location, Looks, MountInvariants, Permit, Stop, Task, ToPivot, World, admin_rules, at_topmost, child_at, common_steps, destination_walk, is_elsewhere, is_no_root, is_on_descendant, lies_under_location, looks_of, mount_at, mount_numbered, not-false, or_parts, pivot_permit, pivot_rules, source_walk, then_walk, unless, walk_unless, ⊤}
 use Rattle.vt_spec.specs.declared.errors.Rule.TheVariants.{W8}
-use Rattle.vt_spec.specs.Errors.{unless}
-use Rattle.vt_spec.specs.Machine.Invariants.{MountInvariants}
-use Rattle.vt_spec.specs.Machine.Judge.{pivot_permit}
-use Rattle.vt_spec.specs.Machine.Looks.{Looks, looks_of, topmost}
-use Rattle.vt_spec.specs.Machine.Mounts.{Location, child_at}
-use Rattle.vt_spec.specs.Machine.Permits.{Permit}
-use Rattle.vt_spec.specs.Machine.Permits.Permit.{ToPivot}
-use Rattle.vt_spec.specs.Machine.Rules.Conditions.{is_elsewhere, is_no_root}
-use Rattle.vt_spec.specs.Machine.Rules.Mounting.{admin_rules, at_topmost, destination_walk, is_on_descendant, lies_under_location, pivot_rules, source_walk}
-use Rattle.vt_spec.specs.Machine.Walking.{Here, Stop, then_walk, walk_unless}
-use Rattle.vt_spec.specs.Machine.World.{Task, World, mount_at, mount_numbered}
+use Rattle.vt_spec.specs.Machine.Looks.{topmost}
 use Rattle.vt_laws_mounts.specs.Mounts.Namespaces.{CanPivot, IsIn}
 use Rattle.vt_laws_mounts.proofs.namespaces.Pivoting.{numbered_mounts_can_pivot}
 use Rattle.vt_laws_mounts.proofs.namespaces.Topmost.{topmost_is_free}

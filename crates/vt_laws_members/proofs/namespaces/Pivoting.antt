@@ -1,27 +1,6 @@
 -- Each pivot_root(2) ends in the part as in the world.
-use Rattle.std.proofs.Common.{arith, ◌≡◌, refl, sym, ap, subst, ◌∙◌, ◌⊎◌, inl, inr, ⊎_elim, ℕ, nat_eq, Bool, true, false, cond, true≢false, List, [], ◌∷◌, Option, Some, None, Ok, Err, filter, map, not, eq-eqb, eqb-true}
-use Rattle.std.proofs.lemmas.Grind.{common_steps}
-use Rattle.std.specs.Prelude.{IfOk, is_ok}
-use Rattle.std.proofs.lemmas.Bool.{false_from_ne_true}
-use Rattle.std.proofs.lemmas.List.{append-nil}
-use Rattle.vt_spec.specs.Language.Answers.Answer.{Done}
-use Rattle.vt_spec.specs.Language.Calls.{TaskName, same_name}
-use Rattle.vt_spec.specs.Language.Calls.Call.{PivotRoot}
-use Rattle.vt_spec.specs.Lists.{Fresh, holds_of, is_among}
-use Rattle.vt_spec.specs.Machine.Invariants.{MountInvariants}
-use Rattle.vt_spec.specs.Machine.Judge.{Judgement, judge_in}
-use Rattle.vt_spec.specs.Machine.Mounts.{Location, Mount, root_of}
-use Rattle.vt_spec.specs.Machine.Mounts.Propagation.{Private}
-use Rattle.vt_spec.specs.Machine.Namespaces.{pivoted, pivoted_location, pivoted_mount, pivoted_task}
-use Rattle.vt_spec.specs.Machine.Outcomes.{granted}
-use Rattle.vt_spec.specs.Machine.Permits.Permit.{ToPivot}
-use Rattle.vt_spec.specs.Machine.Policy.{numbers_raised, policy}
-use Rattle.vt_spec.specs.Machine.Sealed.{is_member_task, is_own_namespace, locations, members, outsiders, part_of, roots_and_directories, seen_by_descriptor}
-use Rattle.vt_spec.specs.Machine.Settled.{settled}
-use Rattle.vt_spec.specs.Machine.World.{Descriptor, Namespace, Task, World, locations_of, mount_at, mount_numbered, task_called}
-use Rattle.vt_spec.proofs.Found.{filter_all}
-use Rattle.vt_spec.proofs.Lists.{Among, among-flat_map, among-from_filter, among-from_flat_map, among-from_map, any_from_among}
-use Rattle.vt_spec.proofs.Worlds.{number-mount_in}
+use Rattle.std.proofs.Common.{arith, ◌≡◌, refl, sym, ap, subst, ◌∙◌, ◌⊎◌, inl, inr, ⊎_elim, ℕ, nat_eq, Bool, true, false, cond, true≢false, List, [], ◌∷◌, Option, Some, None, Ok, Err, filter, map, not, eq-eqb, eqb-true, IfOk, is_ok, append-nil}
+use Rattle.vt_spec.proofs.Common.{Among, Descriptor, Done, Fresh, Judgement, Location, Mount, MountInvariants, Namespace, PivotRoot, Private, Task, TaskName, ToPivot, World, among-flat_map, among-from_filter, among-from_flat_map, among-from_map, any_from_among, common_steps, false_from_ne_true, filter_all, granted, holds_of, is_among, is_member_task, is_own_namespace, judge_in, locations, locations_of, members, mount_at, mount_numbered, number-mount_in, numbers_raised, outsiders, part_of, pivoted, pivoted_location, pivoted_mount, pivoted_task, policy, root_of, roots_and_directories, same_name, seen_by_descriptor, settled, task_called}
 use Rattle.vt_laws_mounts.proofs.letting_go.Lists.{any-map, filter-map}
 use Rattle.vt_laws_mounts.specs.Mounts.Namespaces.{CanPivot}
 use Rattle.vt_laws_mounts.proofs.namespaces.Pivoting.{is_new, is_root, moved_namespace, moved_other, new_among, pivot_keeps_mounts}

@@ -1,11 +1,6 @@
 -- So is the part, where the same is done in it.
 use Rattle.std.proofs.Common.{◌≡◌, sym, ap, subst, ◌∙◌, ◌⊎◌, inl, inr, ⊎_elim, ℕ, nat_eq, true, List, Option, Some, None, filter, map}
-use Rattle.vt_spec.specs.Language.Calls.{TaskName}
-use Rattle.vt_spec.specs.Machine.Mounts.{Location, Mount}
-use Rattle.vt_spec.specs.Machine.Sealed.{is_at, is_member_task, locations, members, own_lowers, part_of, roots_and_directories, used_filesystems}
-use Rattle.vt_spec.specs.Machine.Settled.{mount_lives, without_dead_mounts}
-use Rattle.vt_spec.specs.Machine.World.{Task, World, locations_of}
-use Rattle.vt_spec.proofs.Lists.{Among, among-append, among-append_left, among-append_right, among-filter, among-filter_map, among-flat_map, among-from_filter, among-from_filter_map, among-from_flat_map, among-from_map, among-map, pair-filter}
+use Rattle.vt_spec.proofs.Common.{Among, Location, Mount, Task, TaskName, World, among-append, among-append_left, among-append_right, among-filter, among-filter_map, among-flat_map, among-from_filter, among-from_filter_map, among-from_flat_map, among-from_map, among-map, is_at, is_member_task, locations, locations_of, members, mount_lives, own_lowers, pair-filter, part_of, roots_and_directories, used_filesystems, without_dead_mounts}
 use Rattle.vt_laws_sealed.proofs.part.part.Observed.{lowers_same, used_same}
 use Rattle.vt_laws_sealed.proofs.part.part.PartOfPart.{is_own, keep, kept_how}
 use Rattle.vt_laws_members.proofs.judging.MountPoints.{part_mount}

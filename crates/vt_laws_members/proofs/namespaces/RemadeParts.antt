@@ -1,12 +1,6 @@
 -- Where mounts of theirs change, and the rest is swept and raised, the part is what is left of the part.
 use Rattle.std.proofs.Common.{◌≡◌, refl, sym, ap, ◌∙◌, ℕ, nat_eq, Bool, List, [], filter, map}
-use Rattle.vt_spec.specs.Language.Calls.{TaskName}
-use Rattle.vt_spec.specs.Machine.Filesystems.{raised, raised_if_changed}
-use Rattle.vt_spec.specs.Machine.Policy.{numbers_raised, raised_namespace, raised_task}
-use Rattle.vt_spec.specs.Machine.Sealed.{is_member_task, is_own_namespace, own_lowers, part_of, used_filesystems}
-use Rattle.vt_spec.specs.Machine.Settled.{settled}
-use Rattle.vt_spec.specs.Machine.World.{Namespace, Task, World}
-use Rattle.vt_spec.proofs.Lists.{map_same}
+use Rattle.vt_spec.proofs.Common.{Namespace, Task, TaskName, World, is_member_task, is_own_namespace, map_same, numbers_raised, own_lowers, part_of, raised, raised_if_changed, raised_namespace, raised_task, settled, used_filesystems}
 use Rattle.vt_laws_members.proofs.changes.tasks.Retasked.{retasked}
 use Rattle.vt_laws_members.proofs.changes.letting_go.Ends.{raised_members, raised_sees}
 use Rattle.vt_laws_members.proofs.changes.letting_go.LessSeen.{one_part}

@@ -1,22 +1,7 @@
 -- Where mounts of theirs change and new ones come, the change numbers of namespaces are raised alike.
 use Rattle.std.proofs.Common.{arith, ◌≡◌, refl, sym, ap, subst, ◌∙◌, ⊎_elim, ℕ, nat_eq, Bool, true, cond, true≢false, List, ◌++◌, Option, Some, None, filter, is_some, map, not, ◌&&◌, ◌||◌, eqb-true}
-use Rattle.std.proofs.lemmas.Grind.{common_steps}
-use Rattle.std.proofs.lemmas.Bool.{and_parts, or_left}
-use Rattle.std.proofs.lemmas.List.Elements.{filter-append}
+use Rattle.vt_spec.proofs.Common.{Among, HasLivingGroups, Lives, Mount, MountInvariants, Namespace, Task, TaskName, World, among-filter, among-from_filter, among_from_all, among_from_list_all, and_parts, any_among, any_from_among, common_steps, filter-append, has_master, has_members, has_no_master, holds_of, is_located, is_member_of, is_member_task, is_nowhere_or_attached, is_own_mount, is_private, map_alike, master_above, members, mount_lives, mounts_of, none_is_some, or_left, part_of, raised, raised_namespace, same_flags, same_list, same_location, same_mount, same_mounts_in, same_option, same_propagation, settled, source_of, then_some}
 use Rattle.vt_laws_mounts.proofs.GroupsUp.{source_from_group}
-use Rattle.vt_spec.specs.Language.Calls.{TaskName}
-use Rattle.vt_spec.specs.Lists.{holds_of, same_list, same_option, then_some}
-use Rattle.vt_spec.specs.Machine.Filesystems.{raised}
-use Rattle.vt_spec.specs.Machine.Invariants.{HasLivingGroups, Lives, MountInvariants, is_nowhere_or_attached, is_private}
-use Rattle.vt_spec.specs.Machine.Invariants.Lives.{has_master, has_no_master}
-use Rattle.vt_spec.specs.Machine.Mounts.{Mount, same_location, source_of}
-use Rattle.vt_spec.specs.Machine.Policy.{master_above, raised_namespace, same_flags, same_mount, same_mounts_in, same_propagation}
-use Rattle.vt_spec.specs.Machine.Receives.{has_members, is_member_of}
-use Rattle.vt_spec.specs.Machine.Sealed.{is_member_task, is_own_mount, members, part_of}
-use Rattle.vt_spec.specs.Machine.Settled.{is_located, mount_lives, settled}
-use Rattle.vt_spec.specs.Machine.World.{Namespace, Task, World, mounts_of}
-use Rattle.vt_spec.proofs.Lists.{Among, among-filter, among-from_filter, among_from_all, among_from_list_all, any_among, any_from_among, map_alike}
-use Rattle.vt_spec.proofs.Options.{none_is_some}
 use Rattle.vt_laws_mounts.proofs.letting_go.Lists.{filter-map}
 use Rattle.vt_laws_sealed.proofs.part.Kept.{filter_both}
 use Rattle.vt_laws_sealed.proofs.part.groups.ReceiversAlike.{member_group}

@@ -1,17 +1,6 @@
 -- Where mounts of theirs change and new ones come, the world is ready to be swept.
 use Rattle.std.proofs.Common.{arith, ◌≡◌, refl, sym, ap, subst, ◌∙◌, ◌⊎◌, inl, inr, ⊎_elim, ℕ, nat_eq, Bool, true, false, true≢false, List, Option, Some, None, filter, is_some, map, not, ◌||◌, eq-eqb, eqb-true}
-use Rattle.std.proofs.lemmas.Grind.{common_steps}
-use Rattle.std.specs.List.{list_all, list_any}
-use Rattle.std.proofs.lemmas.Bool.{and_parts, not-true, or_cases, or_left, or_right}
-use Rattle.vt_spec.specs.Language.Calls.{TaskName}
-use Rattle.vt_spec.specs.Lists.{holds_of}
-use Rattle.vt_spec.specs.Machine.Invariants.{MountInvariants}
-use Rattle.vt_spec.specs.Machine.Locked.{overlays}
-use Rattle.vt_spec.specs.Machine.Mounts.{Location, Mount}
-use Rattle.vt_spec.specs.Machine.Sealed.{is_at, is_member_task, locations, members, no_outsider_on, other_mounts, outsiders, own_lowers, roots_and_directories, used_alone, used_filesystems, wholly_locked}
-use Rattle.vt_spec.specs.Machine.Settled.{has_layer_on, is_located, mount_lives, without_dead_mounts}
-use Rattle.vt_spec.specs.Machine.World.{Filesystem, Task, World, all_locations, is_overlay, locations_of, mount_at, mount_numbered}
-use Rattle.vt_spec.proofs.Lists.{Among, among-append, among-append_right, among-filter, among-flat_map, among-from_filter, among-from_flat_map, among-from_map, among_from_list_all, among_numbers, any_among, any_from_among, none_among, pair-filter}
+use Rattle.vt_spec.proofs.Common.{Among, Filesystem, Location, Mount, MountInvariants, Task, TaskName, World, all_locations, among-append, among-append_right, among-filter, among-flat_map, among-from_filter, among-from_flat_map, among-from_map, among_from_list_all, among_numbers, and_parts, any_among, any_from_among, common_steps, has_layer_on, holds_of, is_at, is_located, is_member_task, is_overlay, list_all, list_any, locations, locations_of, members, mount_at, mount_lives, mount_numbered, no_outsider_on, none_among, not-true, or_cases, or_left, or_right, other_mounts, outsiders, overlays, own_lowers, pair-filter, roots_and_directories, used_alone, used_filesystems, wholly_locked, without_dead_mounts}
 use Rattle.vt_laws_mounts.specs.Mounts.Invariants.{OneNumberEach}
 use Rattle.vt_laws_mounts.proofs.mounts.MountsReplaced.{found_itself}
 use Rattle.vt_laws_sealed.proofs.part.part.Observed.{lowers_same, used_same}

@@ -1,23 +1,6 @@
 -- A world after an unshare(2), whether the namespace that the caller leaves ends or not.
-use Rattle.std.proofs.Common.{arith, ◌≡◌, refl, sym, ap, subst, ◌∙◌, ◌⊎◌, inl, ⊎_elim, ℕ, zero, suc, nat_eq, Bool, true, false, cond, true≢false, List, [], ◌∷◌, ◌++◌, Option, Some, None, filter, flat_map, map, not, ◌||◌, ◌&&◌, eq-eqb, eqb-true}
-use Rattle.std.proofs.lemmas.Grind.{common_steps}
-use Rattle.std.specs.Prelude.{option_map, option_to_list}
-use Rattle.std.specs.List.{list_all, list_any}
-use Rattle.std.proofs.lemmas.Bool.{and_parts, false_from_ne_true, or_left, or_right}
-use Rattle.std.proofs.lemmas.List.{map-append}
-use Rattle.std.proofs.lemmas.List.Elements.{filter-append}
-use Rattle.vt_spec.specs.Language.Calls.{same_name}
-use Rattle.vt_spec.specs.Lists.{Fresh, chain, evens, holds_of, last_or, odds, then_some}
-use Rattle.vt_spec.specs.Machine.Detach.{after_going, is_going, mount_point_left, mount_point_of_parent}
-use Rattle.vt_spec.specs.Machine.Invariants.{HasLivingGroups, Lives, MountInvariants, is_listed}
-use Rattle.vt_spec.specs.Machine.Invariants.Lives.{has_master, has_no_master}
-use Rattle.vt_spec.specs.Machine.Mounts.{Location, Mount, detached, numbers_by, source_of}
-use Rattle.vt_spec.specs.Machine.Namespaces.{copied_mount, has_tasks, namespaces_ended, unshared, unshared_task}
-use Rattle.vt_spec.specs.Machine.Receives.{has_members, is_lost_group, is_member_of, lost_a_group}
-use Rattle.vt_spec.specs.Machine.Run.{Serves, numbers_in_use, used_by_filesystem, used_by_mount}
-use Rattle.vt_spec.specs.Machine.World.{Namespace, Task, World, mount_at, mounts_of, replaced_if_called}
-use Rattle.vt_spec.proofs.Found.{filter_all}
-use Rattle.vt_spec.proofs.Lists.{Among, among-append, among-append_left, among-append_right, among-filter, among-from_map, among-map, among_from_all, among_from_list_all, among_numbers, any_among, any_from_among, chain_ends, is_among_numbers, list_all_from_among, map_alike, map_same, none_from_among}
+use Rattle.std.proofs.Common.{arith, ◌≡◌, refl, sym, ap, subst, ◌∙◌, ◌⊎◌, inl, ⊎_elim, ℕ, zero, suc, nat_eq, Bool, true, false, cond, true≢false, List, [], ◌∷◌, ◌++◌, Option, Some, None, filter, flat_map, map, not, ◌||◌, ◌&&◌, eq-eqb, eqb-true, option_map, option_to_list}
+use Rattle.vt_spec.proofs.Common.{Among, Fresh, HasLivingGroups, Lives, Location, Mount, MountInvariants, Namespace, Serves, Task, World, after_going, among-append, among-append_left, among-append_right, among-filter, among-from_map, among-map, among_from_all, among_from_list_all, among_numbers, and_parts, any_among, any_from_among, chain, chain_ends, common_steps, copied_mount, detached, evens, false_from_ne_true, filter-append, filter_all, has_master, has_members, has_no_master, has_tasks, holds_of, is_among_numbers, is_going, is_listed, is_lost_group, is_member_of, last_or, list_all, list_all_from_among, list_any, lost_a_group, map-append, map_alike, map_same, mount_at, mount_point_left, mount_point_of_parent, mounts_of, namespaces_ended, none_from_among, numbers_by, numbers_in_use, odds, or_left, or_right, replaced_if_called, same_name, source_of, then_some, unshared, unshared_task, used_by_filesystem, used_by_mount}
 use Rattle.vt_laws_mounts.specs.LettingGo.Ends.{MountsAreListed}
 use Rattle.vt_laws_mounts.proofs.namespaces.Unsharing.{unshare_keeps_mounts}
 use Rattle.vt_laws_later_calls.proofs.last_use.Groups.{none_lost}

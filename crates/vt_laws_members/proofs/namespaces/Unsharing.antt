@@ -1,29 +1,6 @@
 -- Each unshare(2) ends in the part as in the world.
-use Rattle.std.proofs.Common.{arith, ◌≡◌, refl, sym, ap, subst, ◌∙◌, ◌⊎◌, inl, inr, ⊎_elim, ℕ, nat_eq, Bool, true, false, cond, true≢false, List, [], ◌∷◌, Option, Some, None, Ok, Err, filter, map, not, ◌&&◌, ◌+◌, ◌*◌, eq-eqb, eqb-true}
-use Rattle.std.proofs.lemmas.Grind.{common_steps}
-use Rattle.std.specs.Prelude.{IfOk, is_ok}
-use Rattle.std.specs.List.{list_any}
-use Rattle.std.proofs.lemmas.Bool.{false_from_ne_true, not-true}
-use Rattle.vt_spec.specs.Language.Answers.Answer.{Done}
-use Rattle.vt_spec.specs.Language.Calls.{Call, TaskName, same_name}
-use Rattle.vt_spec.specs.Language.Calls.Call.{Exit, Unshare}
-use Rattle.vt_spec.specs.Lists.{Fresh, is_among, odds}
-use Rattle.vt_spec.specs.Machine.Invariants.{MountInvariants, is_listed}
-use Rattle.vt_spec.specs.Machine.Judge.{Judgement, judge_in, unshare_permit}
-use Rattle.vt_spec.specs.Machine.Mounts.{Location, Mount, detached, index_of, numbers_by}
-use Rattle.vt_spec.specs.Machine.Mounts.Propagation.{Private}
-use Rattle.vt_spec.specs.Machine.Namespaces.{has_tasks, is_copied, location_on_copy, moved_location, namespaces_ended, unshared}
-use Rattle.vt_spec.specs.Machine.Outcomes.{granted}
-use Rattle.vt_spec.specs.Machine.Permits.{Permit}
-use Rattle.vt_spec.specs.Machine.Permits.Permit.{ToUnshare}
-use Rattle.vt_spec.specs.Machine.Policy.{numbers_raised, policy}
-use Rattle.vt_spec.specs.Machine.Rules.Mounting.{admin_rules}
-use Rattle.vt_spec.specs.Machine.Run.{Serves}
-use Rattle.vt_spec.specs.Machine.Sealed.{is_member_task, is_own_mount, is_own_namespace, locations, members, outsiders, part_of, roots_and_directories, seen_by_descriptor}
-use Rattle.vt_spec.specs.Machine.Settled.{settled}
-use Rattle.vt_spec.specs.Machine.World.{Namespace, Task, World, locations_of, mounts_of, replaced_if_called, task_called}
-use Rattle.vt_spec.proofs.Lists.{Among, among-filter, among-flat_map, among-from_filter, among-from_flat_map, among-from_map, among-map, among_from_list_all, any_among, any_from_among, list_all_from_among, none_among}
-use Rattle.vt_spec.proofs.Worlds.{name-replaced_if_called, same_name_itself, same_task_name}
+use Rattle.std.proofs.Common.{arith, ◌≡◌, refl, sym, ap, subst, ◌∙◌, ◌⊎◌, inl, inr, ⊎_elim, ℕ, nat_eq, Bool, true, false, cond, true≢false, List, [], ◌∷◌, Option, Some, None, Ok, Err, filter, map, not, ◌&&◌, ◌+◌, ◌*◌, eq-eqb, eqb-true, IfOk, is_ok}
+use Rattle.vt_spec.proofs.Common.{Among, Call, Done, Exit, Fresh, Judgement, Location, Mount, MountInvariants, Namespace, Permit, Private, Serves, Task, TaskName, ToUnshare, Unshare, World, admin_rules, among-filter, among-flat_map, among-from_filter, among-from_flat_map, among-from_map, among-map, among_from_list_all, any_among, any_from_among, common_steps, detached, false_from_ne_true, granted, has_tasks, index_of, is_among, is_copied, is_listed, is_member_task, is_own_mount, is_own_namespace, judge_in, list_all_from_among, list_any, location_on_copy, locations, locations_of, members, mounts_of, moved_location, name-replaced_if_called, namespaces_ended, none_among, not-true, numbers_by, numbers_raised, odds, outsiders, part_of, policy, replaced_if_called, roots_and_directories, same_name, same_name_itself, same_task_name, seen_by_descriptor, settled, task_called, unshare_permit, unshared}
 use Rattle.vt_laws_mounts.proofs.letting_go.Lists.{filter-map}
 use Rattle.vt_laws_mounts.proofs.ends.Ending.{ended_namespaces_keep_mounts}
 use Rattle.vt_laws_mounts.proofs.namespaces.Unsharing.{unshare_keeps_mounts}

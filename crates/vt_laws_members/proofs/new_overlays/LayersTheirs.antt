@@ -1,22 +1,7 @@
 -- The layers of an overlay that a task of a sealed set mounts lie in filesystems that the set uses.
-use Rattle.std.proofs.Common.{◌≡◌, refl, sym, subst, inl, ⊎_elim, ℕ, nat_eq, true, List, [], ◌∷◌, ◌++◌, Option, Some, None, Ok, Err, Result}
-use Rattle.std.specs.Prelude.{IfOk, option_map, option_to_list}
+use Rattle.std.proofs.Common.{◌≡◌, refl, sym, subst, inl, ⊎_elim, ℕ, nat_eq, true, List, [], ◌∷◌, ◌++◌, Option, Some, None, Ok, Err, Result, IfOk, option_map, option_to_list}
+use Rattle.vt_spec.proofs.Common.{Among, Fresh, Here, IsWorld, Layer, LayerLocations, Location, MountFlags, MountOverlay, Overlay, OverlayWords, Permit, Stop, Task, TaskName, ToMountOverlay, World, among-append, among-append_left, among-append_right, among-from_map, and_then, each_walked, is_among, layer_at, layer_locations, layers_of, layers_walked, looks_of, members, mount_at, overfills, overlay_at, sealed, shown_layers, source_walk, used_directly, used_filesystems, walk_end, walked_if_given, work_walked}
 use Rattle.vt_spec.specs.declared.errors.Deny.{Deny}
-use Rattle.vt_spec.specs.Errors.{and_then}
-use Rattle.vt_spec.specs.Language.Calls.{MountFlags, OverlayWords, TaskName}
-use Rattle.vt_spec.specs.Language.Calls.Call.{MountOverlay}
-use Rattle.vt_spec.specs.Lists.{Fresh, is_among}
-use Rattle.vt_spec.specs.Machine.Apply.{overfills}
-use Rattle.vt_spec.specs.Machine.Invariants.{IsWorld}
-use Rattle.vt_spec.specs.Machine.Looks.{looks_of}
-use Rattle.vt_spec.specs.Machine.Mounts.{Location}
-use Rattle.vt_spec.specs.Machine.Permits.{Permit}
-use Rattle.vt_spec.specs.Machine.Permits.Permit.{ToMountOverlay}
-use Rattle.vt_spec.specs.Machine.Rules.Mounting.{LayerLocations, each_walked, layer_at, layer_locations, layers_walked, overlay_at, source_walk, walked_if_given, work_walked}
-use Rattle.vt_spec.specs.Machine.Sealed.{members, sealed, used_directly, used_filesystems}
-use Rattle.vt_spec.specs.Machine.Walking.{Here, Stop, walk_end}
-use Rattle.vt_spec.specs.Machine.World.{Layer, Overlay, Task, World, layers_of, mount_at, shown_layers}
-use Rattle.vt_spec.proofs.Lists.{Among, among-append, among-append_left, among-append_right, among-from_map}
 use Rattle.vt_laws_rules.specs.Granted.{IsGranted}
 use Rattle.vt_laws_rules.specs.Granted.IsGranted.{mounts_overlayfs}
 use Rattle.vt_laws_trees.specs.Layers.Layers.Mounted.{AreLayers}

@@ -1,24 +1,7 @@
 -- The overlay that is made of layers which a sealed set uses is the same in the part of the set.
-use Rattle.std.proofs.Common.{◌≡◌, ◌≤◌, refl, sym, ap, subst, ◌∙◌, inl, inr, true≢false, arith, ℕ, zero, suc, ◌+◌, nat_eq, true, List, [], ◌∷◌, ◌++◌, flat_map, length, map, not, Bool, Option, Some, None, is_some, option_and_then, slice_get}
-use Rattle.std.proofs.lemmas.Grind.{common_steps}
-use Rattle.std.specs.List.{filter_map, find, sum}
-use Rattle.std.specs.Prelude.{option_map}
-use Rattle.std.proofs.lemmas.Bool.{and_parts}
-use Rattle.std.proofs.lemmas.List.Sums.{sum_by-cons}
-use Rattle.std.proofs.lemmas.Option.{same_Some, slice_get-map}
-use Rattle.vt_spec.specs.FileTree.{FileTree}
-use Rattle.vt_spec.specs.Language.Calls.{TaskName}
-use Rattle.vt_spec.specs.Lists.{Fresh, evens, is_among, odds}
-use Rattle.vt_spec.specs.Machine.Invariants.{IsWorld, ListsNumbers, is_plain_layer}
-use Rattle.vt_spec.specs.Machine.Layers.{OpenLayer, Shown, names_shown, paths_from, shown}
-use Rattle.vt_spec.specs.Machine.Merging.{merged_at, merged_inodes, merged_objects}
-use Rattle.vt_spec.specs.Machine.NewMounts.{inode_count, overlay_filesystem, overlay_of_inodes}
-use Rattle.vt_spec.specs.Machine.Sealed.{part_of, used_filesystems}
-use Rattle.vt_spec.specs.Machine.World.{Filesystem, Layer, Overlay, World, filesystem_numbered, is_overlay, open_layer, shown_layers}
-use Rattle.vt_spec.specs.Tree.{is_directory_node}
-use Rattle.vt_spec.specs.TreeInvariant.{IsTree, entry_at, led}
-use Rattle.vt_spec.proofs.Lists.{Among, among_from_list_all, contains_from_among, map_alike}
-use Rattle.vt_spec.proofs.Options.{none_is_some}
+use Rattle.std.proofs.Common.{◌≡◌, ◌≤◌, refl, sym, ap, subst, ◌∙◌, inl, inr, true≢false, arith, ℕ, zero, suc, ◌+◌, nat_eq, true, List, [], ◌∷◌, ◌++◌, flat_map, length, map, not, Bool, Option, Some, None, is_some, option_and_then, slice_get, filter_map, find, sum, option_map}
+use Rattle.vt_spec.proofs.Common.{Among, FileTree, Filesystem, Fresh, IsTree, IsWorld, Layer, ListsNumbers, OpenLayer, Overlay, Shown, TaskName, World, among_from_list_all, and_parts, common_steps, contains_from_among, entry_at, evens, filesystem_numbered, inode_count, is_among, is_directory_node, is_overlay, is_plain_layer, led, map_alike, merged_at, merged_inodes, merged_objects, names_shown, none_is_some, odds, open_layer, overlay_filesystem, part_of, paths_from, same_Some, shown, shown_layers, slice_get-map, sum_by-cons, used_filesystems}
+use Rattle.vt_spec.specs.Machine.NewMounts.{overlay_of_inodes}
 use Rattle.vt_laws_mounts.proofs.letting_go.Lists.{flat_map_alike}
 use Rattle.vt_laws_trees.specs.Layers.Layers.Mounted.{AreLayers}
 use Rattle.vt_laws_trees.proofs.layers.layers.ShownAtPath.{computed}

@@ -1,15 +1,7 @@
 -- Groups whose members have changed: what mounts and groups inherit, and what the sweep leaves of them.
 use Rattle.std.proofs.Common.{arith, ◌≡◌, refl, sym, ap, ◌∙◌, ℕ, nat_eq, Bool, true, false, cond, Option, None, map}
-use Rattle.std.proofs.lemmas.Grind.{common_steps}
-use Rattle.std.specs.List.{list_any}
-use Rattle.std.proofs.lemmas.Bool.{not-false, or_parts}
+use Rattle.vt_spec.proofs.Common.{Mount, Propagation, World, any_among, common_steps, find-chain_start, has_members, heir, inherited, inheriting, list_any, lost_a_group, map_twice, none_among, not-false, or_parts, regrouped, regrouped_by, settled}
 use Rattle.vt_laws_mounts.proofs.GroupsUp.{source_from_group}
-use Rattle.vt_spec.specs.Machine.Mounts.{Mount, Propagation}
-use Rattle.vt_spec.specs.Machine.Receives.{has_members, heir, inherited, inheriting, lost_a_group, regrouped, regrouped_by}
-use Rattle.vt_spec.specs.Machine.Settled.{settled}
-use Rattle.vt_spec.specs.Machine.World.{World}
-use Rattle.vt_spec.proofs.Found.{find-chain_start}
-use Rattle.vt_spec.proofs.Lists.{any_among, map_twice, none_among}
 use Rattle.vt_laws_mounts.proofs.Groups.{members-inherited, mounts-regrouped}
 use Rattle.vt_laws_mounts.specs.LettingGo.Detaching.{with_changed}
 use Rattle.vt_laws_mounts.specs.LettingGo.InUse.{AllInUse}

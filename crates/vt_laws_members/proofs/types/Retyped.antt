@@ -1,28 +1,9 @@
 -- Where mounts of a sealed set change their types, types and masters are left in the part as in the world.
-use Rattle.std.proofs.Common.{arith, ◌≡◌, refl, sym, ap, subst, ◌∙◌, ◌⊎◌, inl, inr, ⊎_elim, ℕ, zero, suc, nat_eq, Bool, true, false, cond, true≢false, List, [], ◌∷◌, Option, Some, None, find, length, eq-eqb, eqb-true}
-use Rattle.std.proofs.lemmas.Grind.{common_steps}
-use Rattle.std.specs.Prelude.{option_to_list}
-use Rattle.std.specs.List.{list_any}
-use Rattle.std.proofs.lemmas.Bool.{and_parts, false_from_ne_true}
-use Rattle.std.proofs.lemmas.List.{length-map}
-use Rattle.std.proofs.lemmas.Option.{same_Some}
+use Rattle.std.proofs.Common.{arith, ◌≡◌, refl, sym, ap, subst, ◌∙◌, ◌⊎◌, inl, inr, ⊎_elim, ℕ, zero, suc, nat_eq, Bool, true, false, cond, true≢false, List, [], ◌∷◌, Option, Some, None, find, length, eq-eqb, eqb-true, option_to_list}
+use Rattle.vt_spec.proofs.Common.{Among, Fresh, IsWorld, Mount, Private, Propagation, Serves, Shared, Slave, Task, TaskName, TypeWord, Unbindable, World, among-filter, among-from_filter, among-from_filter_map, among-from_map, among-map, among_from_list_all, and_parts, any_among, any_from_among, chain, chain_ends, chain_goes_on, common_steps, false_from_ne_true, found_among, found_passes, group_of, groups_up, has_members, heir, holds_of, index_of, inherited, is_among_numbers, is_member_of, is_own_mount, is_private, length-map, list_any, master_after, members, mount_numbered, none_is_some, numbers_by, numbers_in_use, own_mounts, part_of, retyped_mount, same_Some, same_truth, sealed, shares_no_events, slave_of_heir, source_of, type_after, with_master, with_new_groups}
 use Rattle.vt_laws_members.proofs.changes.letting_go.Regrouped.{find_alike}
 use Rattle.vt_laws_mounts.proofs.GroupsUp.{source_from_group}
 use Rattle.vt_laws_sealed.proofs.part.part.MountsOver.{numbered}
-use Rattle.vt_spec.specs.Language.Calls.{TaskName, TypeWord}
-use Rattle.vt_spec.specs.Lists.{Fresh, chain, holds_of}
-use Rattle.vt_spec.specs.Machine.Invariants.{IsWorld, is_private}
-use Rattle.vt_spec.specs.Machine.Mounts.{Mount, Propagation, group_of, index_of, numbers_by, source_of}
-use Rattle.vt_spec.specs.Machine.Mounts.Propagation.{Private, Shared, Slave, Unbindable}
-use Rattle.vt_spec.specs.Machine.Receives.{groups_up, has_members, heir, inherited, is_member_of, slave_of_heir}
-use Rattle.vt_spec.specs.Machine.Run.{Serves, numbers_in_use}
-use Rattle.vt_spec.specs.Machine.Sealed.{is_own_mount, members, own_mounts, part_of, sealed, shares_no_events}
-use Rattle.vt_spec.specs.Machine.Types.{master_after, retyped_mount, type_after, with_master, with_new_groups}
-use Rattle.vt_spec.specs.Machine.World.{Task, World, mount_numbered}
-use Rattle.vt_spec.proofs.Found.{found_among, found_passes}
-use Rattle.vt_spec.proofs.Lists.{Among, among-filter, among-from_filter, among-from_filter_map, among-from_map, among-map, among_from_list_all, any_among, any_from_among, chain_ends, chain_goes_on, is_among_numbers}
-use Rattle.vt_spec.proofs.Options.{none_is_some}
-use Rattle.vt_spec.proofs.Truths.{same_truth}
 use Rattle.vt_laws_mounts.proofs.mounts.MountsNumbered.{mount_uses}
 use Rattle.vt_laws_mounts.proofs.letting_go.sweeps.OfWorlds.{all_in_use}
 use Rattle.vt_laws_sealed.proofs.part.groups.EventsApart.{none_hears, sides}

@@ -1,28 +1,6 @@
 -- Each mount(2) that changes a propagation type ends in the part as in the world.
-use Rattle.std.proofs.Common.{◌≡◌, refl, sym, ap, subst, ◌∙◌, ⊎_elim, ℕ, zero, suc, nat_eq, Bool, true, false, List, [], ◌∷◌, Option, Some, None, Ok, Err, map, not}
-use Rattle.std.specs.Prelude.{IfOk, is_ok}
-use Rattle.vt_spec.specs.Errors.{unless}
-use Rattle.vt_spec.specs.Language.Answers.Answer.{Done}
-use Rattle.vt_spec.specs.Language.Calls.{TaskName, TypeWord}
-use Rattle.vt_spec.specs.Language.Calls.Call.{SetType}
-use Rattle.vt_spec.specs.Lists.{Fresh, holds_of}
-use Rattle.vt_spec.specs.Machine.Invariants.{IsWorld}
-use Rattle.vt_spec.specs.Machine.Judge.{Judgement, judge_in, type_permit}
-use Rattle.vt_spec.specs.Machine.Mounts.{Location, Mount, Propagation, children, mount_tree, numbers_by, tree_from}
-use Rattle.vt_spec.specs.Machine.Outcomes.{granted}
-use Rattle.vt_spec.specs.Machine.Permits.{Permit}
-use Rattle.vt_spec.specs.Machine.Permits.Permit.{ToSetType}
-use Rattle.vt_spec.specs.Machine.Policy.{numbers_raised, policy}
-use Rattle.vt_spec.specs.Machine.Receives.{regrouped}
-use Rattle.vt_spec.specs.Machine.Rules.Mounting.{admin_rules, type_rules}
-use Rattle.vt_spec.specs.Machine.Run.{Serves}
-use Rattle.vt_spec.specs.Machine.Sealed.{is_own_mount, members, own_mounts, part_of, sealed}
-use Rattle.vt_spec.specs.Machine.Settled.{settled}
-use Rattle.vt_spec.specs.Machine.Types.{named_mounts, retyped}
-use Rattle.vt_spec.specs.Machine.Walking.{directory_walk}
-use Rattle.vt_spec.specs.Machine.World.{Task, World, mount_at, mount_numbered, task_called}
-use Rattle.vt_spec.proofs.Lists.{Among, among-filter, among-from_filter, among-from_flat_map}
-use Rattle.vt_spec.proofs.Worlds.{number-mount_in}
+use Rattle.std.proofs.Common.{◌≡◌, refl, sym, ap, subst, ◌∙◌, ⊎_elim, ℕ, zero, suc, nat_eq, Bool, true, false, List, [], ◌∷◌, Option, Some, None, Ok, Err, map, not, IfOk, is_ok}
+use Rattle.vt_spec.proofs.Common.{Among, Done, Fresh, IsWorld, Judgement, Location, Mount, Permit, Propagation, Serves, SetType, Task, TaskName, ToSetType, TypeWord, World, admin_rules, among-filter, among-from_filter, among-from_flat_map, children, directory_walk, granted, holds_of, is_own_mount, judge_in, members, mount_at, mount_numbered, mount_tree, named_mounts, number-mount_in, numbers_by, numbers_raised, own_mounts, part_of, policy, regrouped, retyped, sealed, settled, task_called, tree_from, type_permit, type_rules, unless}
 use Rattle.vt_laws_mounts.specs.LettingGo.Detaching.{with_changed}
 use Rattle.vt_laws_mounts.specs.LettingGo.InUse.{AllInUse}
 use Rattle.vt_laws_mounts.proofs.letting_go.sweeps.OfWorlds.{all_in_use}

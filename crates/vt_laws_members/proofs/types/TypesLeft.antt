@@ -1,18 +1,7 @@
 -- Where mounts of theirs have other types, and their groups other masters: the world that a call leaves, and its part.
-use Rattle.std.proofs.Common.{arith, ◌≡◌, refl, sym, ap, subst, ◌∙◌, ◌⊎◌, inl, ⊎_elim, ℕ, nat_eq, Bool, true, false, cond, List, [], ◌∷◌, ◌++◌, Option, Some, None, filter, map, ◌||◌}
-use Rattle.std.proofs.lemmas.Grind.{common_steps}
-use Rattle.std.specs.List.{filter_map, list_any}
-use Rattle.std.proofs.lemmas.Bool.{or_cases, or_parts}
+use Rattle.std.proofs.Common.{arith, ◌≡◌, refl, sym, ap, subst, ◌∙◌, ◌⊎◌, inl, ⊎_elim, ℕ, nat_eq, Bool, true, false, cond, List, [], ◌∷◌, ◌++◌, Option, Some, None, filter, map, ◌||◌, filter_map}
+use Rattle.vt_spec.proofs.Common.{Among, IsWorld, Location, Mount, Propagation, Task, TaskName, World, among-filter, among-from_filter, among-from_map, any_among, common_steps, is_at, is_member_of, is_own_mount, list_any, locations, map_alike, map_twice, master_above, members, mount_in, numbers_raised, or_cases, or_parts, own_mounts, part_of, roots_and_directories, sealed, seen_by_descriptor, source_of, then_some, used_directly, when}
 use Rattle.vt_laws_mounts.proofs.GroupsUp.{source_from_group}
-use Rattle.vt_spec.specs.Language.Calls.{TaskName}
-use Rattle.vt_spec.specs.Lists.{then_some, when}
-use Rattle.vt_spec.specs.Machine.Invariants.{IsWorld}
-use Rattle.vt_spec.specs.Machine.Mounts.{Location, Mount, Propagation, mount_in, source_of}
-use Rattle.vt_spec.specs.Machine.Policy.{master_above, numbers_raised}
-use Rattle.vt_spec.specs.Machine.Receives.{is_member_of}
-use Rattle.vt_spec.specs.Machine.Sealed.{is_at, is_own_mount, locations, members, own_mounts, part_of, roots_and_directories, sealed, seen_by_descriptor, used_directly}
-use Rattle.vt_spec.specs.Machine.World.{Task, World}
-use Rattle.vt_spec.proofs.Lists.{Among, among-filter, among-from_filter, among-from_map, any_among, map_alike, map_twice}
 use Rattle.vt_laws_mounts.specs.LettingGo.Detaching.{with_changed}
 use Rattle.vt_laws_mounts.proofs.letting_go.Lists.{filter-map}
 use Rattle.vt_laws_sealed.proofs.part.Kept.{filter_again, filter_map_map, filter_map_same}

@@ -1,14 +1,6 @@
 -- Groups live on where a tree of mounts is attached: those that were there, and the images of those that take part.
-use Rattle.std.proofs.Common.{arith, ◌≡◌, refl, sym, ap, subst, ◌∙◌, true, false, nat_eq, ℕ, Bool, List, None, Option, Some, find, inl, is_some, length, option_map, true≢false, unwrap_or, ⊎_elim, ◌⊎◌}
-use Rattle.std.proofs.lemmas.Grind.{common_steps}
-use Rattle.std.proofs.lemmas.Option.{same_Some}
-use Rattle.std.specs.Prelude.{if◌then◌else◌}
-use Rattle.vt_spec.proofs.Lists.{Among, any_among, any_from_among}
-use Rattle.vt_spec.specs.Machine.Attach.{Copies, Graft, Twig, attached_by, copy_type, graft_of, image, is_destination, nearest_image, parts_of, twig_of, type_at, type_at_part, type_on_shared}
-use Rattle.vt_spec.specs.Machine.Mounts.{Location, Mount, Propagation, group_of, source_of}
-use Rattle.vt_spec.specs.Machine.Mounts.Propagation.{Private, Shared, Slave, Unbindable}
-use Rattle.vt_spec.specs.Machine.Receives.{groups_up, has_members, is_member_of, slave_of_heir}
-use Rattle.vt_spec.specs.Machine.World.{World, mount_at}
+use Rattle.std.proofs.Common.{arith, ◌≡◌, refl, sym, ap, subst, ◌∙◌, true, false, nat_eq, ℕ, Bool, List, None, Option, Some, find, inl, is_some, length, option_map, true≢false, unwrap_or, ⊎_elim, ◌⊎◌, if◌then◌else◌}
+use Rattle.vt_spec.proofs.Common.{Among, Copies, Graft, Location, Mount, Private, Propagation, Shared, Slave, Twig, Unbindable, World, any_among, any_from_among, attached_by, common_steps, copy_type, found_or_none, graft_of, group_of, groups_up, has_master, has_members, has_no_master, image, is_destination, is_member_of, mount_at, nearest_image, parts_of, same_Some, slave_of_heir, source_of, twig_of, type_at, type_at_part, type_on_shared}
 use Rattle.vt_laws_mounts.specs.Mounts.Attaching.{OneNumberAMount}
 use Rattle.vt_laws_mounts.specs.Mounts.Copies.{ServeAsImages}
 use Rattle.vt_laws_mounts.specs.Mounts.Receivers.{GroupsLive}
@@ -16,9 +8,7 @@ use Rattle.vt_laws_mounts.proofs.attached.AttachedMasters.{at_destination, is_el
 use Rattle.vt_laws_mounts.proofs.attached.Attaching.{taker_there}
 use Rattle.vt_laws_mounts.proofs.GroupsKept.{found_passes, member_shared, shared_member}
 use Rattle.vt_laws_mounts.proofs.GroupsUp.{LivesIn, Up, groups_live_by, lives_in, way_up}
-use Rattle.vt_spec.specs.Machine.Invariants.Lives.{has_master, has_no_master}
 use Rattle.vt_laws_mounts.proofs.GroupsUp.Up.{above, here}
-use Rattle.vt_spec.proofs.Worlds.{found_or_none}
 
 module _ (world : World ℕ) (new : Copies ℕ) (place : Location ℕ) (moves : Bool) (mounts : List (Mount ℕ)) where
   -- the type of the copy of a mount at a part

@@ -1,11 +1,6 @@
 -- Groups live on through a bind, a new mount and a move.
 use Rattle.std.proofs.Common.{arith, ◌≡◌, sym, ap, subst, ◌∙◌, refl, true, false, nat_eq, ℕ, Bool, Some, [], is_some, length, true≢false, ⊎_elim, ◌∷◌}
-use Rattle.std.proofs.lemmas.Grind.{common_steps}
-use Rattle.vt_spec.proofs.Lists.{Among}
-use Rattle.vt_spec.specs.Machine.Attach.{bind_tree, moved_tree, parts_of}
-use Rattle.vt_spec.specs.Machine.Mounts.{Location, Mount, source_of}
-use Rattle.vt_spec.specs.Machine.NewMounts.{new_mount, with_new_filesystem}
-use Rattle.vt_spec.specs.Machine.World.{World, mount_at}
+use Rattle.vt_spec.proofs.Common.{Among, Location, Mount, World, bind_tree, common_steps, found_or_none, mount_at, moved_tree, new_mount, parts_of, source_of, tree_among, with_new_filesystem}
 use Rattle.vt_laws_mounts.specs.Mounts.Attached.{BindsKeepGroups, MovesKeepGroups, NewMountsKeepGroups}
 use Rattle.vt_laws_mounts.specs.Mounts.Receivers.{GroupsLive}
 use Rattle.vt_laws_mounts.proofs.attached.AttachedGroups.{groups_live_after}
@@ -16,7 +11,6 @@ use Rattle.vt_laws_mounts.proofs.mounts.MountsAttached.{supplied}
 use Rattle.vt_laws_mounts.proofs.mounts.MountsFound.{found_there}
 use Rattle.vt_laws_mounts.proofs.mounts.MountsNumbered.{supplies_serve_as_images}
 use Rattle.vt_laws_mounts.proofs.mounts.Standing.{binds_take_each_once, trees_have_each_once}
-use Rattle.vt_spec.proofs.Worlds.{found_or_none, tree_among}
 
 bind_sourced : (world : World ℕ) (source : Location ℕ) (recursive : Bool) → GroupsLive world → (origin : Mount ℕ)
     → Among origin (bind_tree nat_eq world source recursive)

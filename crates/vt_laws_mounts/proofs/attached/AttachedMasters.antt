@@ -1,24 +1,12 @@
 -- The groups that are new where a tree of mounts is attached, and their masters.
-use Rattle.std.proofs.Common.{arith, ◌≡◌, refl, sym, ap, ◌∙◌, true, false, nat_eq, ℕ, Bool, List, None, Option, Some, [], eq-eqb, inl, inr, not, true≢false, ⊎_elim, ◌∷◌, ◌⊎◌, filter_map, option_map}
-use Rattle.std.proofs.lemmas.Grind.{common_steps}
-use Rattle.std.proofs.lemmas.Bool.Decides.{eqb_tells}
-use Rattle.std.specs.Prelude.{if◌then◌else◌, unwrap_or}
-use Rattle.vt_spec.proofs.Lists.{Among, among-filter_map, among-flat_map, among-from_filter, among-from_filter_map, among-from_flat_map, among-from_map, among-map, any_from_among}
-use Rattle.vt_spec.specs.Machine.Attach.{Copies, Graft, Twig, all_groups_made, attached_by, graft_of, group_made, image, is_destination, masters_with, nearest_image, parts_of, receivers_of, takes_part, twig_master, twig_of, type_on_shared}
-use Rattle.vt_spec.specs.Lists.{folded, holds_of, then_some, when}
-use Rattle.vt_spec.specs.Machine.Mounts.{Location, Mount, Propagation, group_of, is_shared, mount_in}
-use Rattle.vt_spec.specs.Machine.Mounts.Propagation.{Shared}
-use Rattle.vt_spec.specs.Machine.Receives.{has_members, is_member_of}
-use Rattle.vt_spec.specs.Machine.Types.{master_after}
-use Rattle.vt_spec.specs.Machine.World.{World, mount_at}
+use Rattle.std.proofs.Common.{arith, ◌≡◌, refl, sym, ap, ◌∙◌, true, false, nat_eq, ℕ, Bool, List, None, Option, Some, [], eq-eqb, inl, inr, not, true≢false, ⊎_elim, ◌∷◌, ◌⊎◌, filter_map, option_map, if◌then◌else◌, unwrap_or}
+use Rattle.vt_spec.proofs.Common.{Among, Copies, Graft, Location, Mount, Propagation, Shared, Twig, World, all_groups_made, among-filter_map, among-flat_map, among-from_filter, among-from_filter_map, among-from_flat_map, among-from_map, among-map, any_from_among, attached_by, common_steps, eqb_tells, folded, graft_of, group_made, group_of, has_members, holds_of, image, is_destination, is_member_of, is_shared, master_after, masters_with, mount_at, mount_in, nat_eq_false_turned, nearest_image, number-mount_in, parts_of, receivers_of, takes_part, then_some, twig_master, twig_of, type_on_shared, when}
 use Rattle.vt_laws_mounts.specs.Mounts.Attaching.{OneNumberAMount}
 use Rattle.vt_laws_mounts.specs.Mounts.Copies.{ServeAsImages}
 use Rattle.vt_laws_mounts.proofs.GroupsKept.{member_shared}
 use Rattle.vt_laws_mounts.proofs.GroupsRetyped.{unused_members}
 use Rattle.vt_laws_mounts.proofs.mounts.MountsNumbered.{is_one_of, taker_elsewhere}
 use Rattle.vt_laws_mounts.proofs.mounts.MountsReplaced.{found_itself}
-use Rattle.vt_spec.proofs.Truths.{nat_eq_false_turned}
-use Rattle.vt_spec.proofs.Worlds.{number-mount_in}
 
 -- the master of a group after groups were made: as it was, or one of those that were made for it
 abbrev IsMade : List (ℕ × Option ℕ) → ℕ → Option ℕ → Type 0

@@ -1,19 +1,10 @@
 -- A mount outside every namespace stays nowhere where a tree of mounts is attached in one.
 use Rattle.std.proofs.Common.{arith, ◌≡◌, refl, sym, ap, ◌∙◌, true, false, nat_eq, ℕ, Bool, List, None, Option, Some, [], flat_map, is_some, map, not, true≢false, ⊎_elim, ◌&&◌, ◌++◌, ◌∷◌, ◌||◌}
-use Rattle.std.proofs.lemmas.Grind.{common_steps}
-use Rattle.std.proofs.lemmas.Bool.{and_parts}
-use Rattle.vt_spec.proofs.Lists.{Among, among-append, among-from_filter, among-from_flat_map, among-from_map, among_from_list_all, list_all_from_among}
-use Rattle.vt_spec.specs.Machine.Attach.{Copies, added_mounts, attached_by, bind_tree, copies_at, copy_at, moved_tree, pushed_onto, receiver_stood_on, with_moved_mounts}
-use Rattle.vt_spec.specs.Lists.{holds_of, rest_of}
-use Rattle.vt_spec.specs.Machine.Mounts.{Location, Mount, same_location, stands_at}
-use Rattle.vt_spec.specs.Machine.NewMounts.{new_mount, with_new_filesystem}
-use Rattle.vt_spec.specs.Machine.World.{World, mount_at}
-use Rattle.vt_spec.specs.Machine.Invariants.{is_nowhere_or_attached, is_private}
+use Rattle.vt_spec.proofs.Common.{Among, Copies, Location, Mount, World, added_mounts, among-append, among-folded_mounts, among-from_filter, among-from_flat_map, among-from_map, among_from_list_all, and_parts, attached_by, bind_tree, common_steps, copies_at, copy_at, holds_of, is_nowhere_or_attached, is_private, list_all_from_among, mount_at, moved_tree, new_mount, pushed_onto, receiver_stood_on, rest_of, same_location, stands_at, with_moved_mounts, with_new_filesystem}
 use Rattle.vt_laws_mounts.specs.Mounts.Attached.{BindsKeepNowhere, MovesKeepNowhere, NewMountsKeepNowhere}
 use Rattle.vt_laws_mounts.specs.Mounts.Invariants.{NowhereOrAttached}
 use Rattle.vt_laws_mounts.proofs.mounts.MountsAttached.{arriving, graft, moved_ones, parts, push, supplied}
 use Rattle.vt_laws_mounts.proofs.mounts.MountsFound.{found_in}
-use Rattle.vt_spec.proofs.Worlds.{among-folded_mounts}
 
 module _ (world : World ℕ) (new : Copies ℕ) (place : Location ℕ) (moves : Bool) (mounts : List (Mount ℕ))
     (nowhere : NowhereOrAttached world) (attached : is_some (mount_at nat_eq world place).namespace ≡ true) where

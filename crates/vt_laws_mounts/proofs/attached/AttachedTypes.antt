@@ -1,21 +1,13 @@
 -- The types of mounts where a tree of mounts is attached: each mount that was there keeps its type, or moves and takes
 -- that of the tree, and each mount of the tree has a copy at each part.
 use Rattle.std.proofs.Common.{arith, ◌≡◌, refl, sym, ap, subst, ◌∙◌, true, false, nat_eq, ℕ, Bool, List, None, Option, Some, [], eq-eqb, eqb-true, flat_map, inl, inr, map, ⊎_elim, ◌++◌, ◌∷◌, ◌⊎◌}
-use Rattle.std.proofs.lemmas.Grind.{common_steps}
-use Rattle.vt_spec.proofs.Lists.{Among, among-append, among-append_left, among-append_right, among-flat_map, among-from_flat_map, among-from_map, among-map, among_numbers, any_among, any_from_among}
-use Rattle.vt_spec.specs.Machine.Attach.{Copies, Graft, Twig, added_mounts, attached_by, copies_at, copy_at, copy_number, graft_of, parts_of, pushed_up, twig_of, type_at, type_at_part, type_on_shared, with_moved_mounts}
-use Rattle.vt_spec.specs.Lists.{folded, is_among, rest_of}
-use Rattle.vt_spec.specs.Machine.Mounts.{Location, Mount, Propagation, group_of, mount_in, replaced_if_same, with_mount}
-use Rattle.vt_spec.specs.Machine.Mounts.Propagation.{Shared}
-use Rattle.vt_spec.specs.Machine.Receives.{is_member_of}
-use Rattle.vt_spec.specs.Machine.World.{World, mount_at}
+use Rattle.vt_spec.proofs.Common.{Among, Copies, Graft, Location, Mount, Propagation, Shared, Twig, World, added_mounts, among-append, among-append_left, among-append_right, among-flat_map, among-folded_mounts, among-from_flat_map, among-from_map, among-map, among_numbers, any_among, any_from_among, attached_by, common_steps, copies_at, copy_at, copy_number, folded, graft_of, group_of, is_among, is_member_of, mount_at, mount_in, number-mount_in, parts_of, pushed_up, replaced_if_same, rest_of, twig_of, type_at, type_at_part, type_on_shared, with_mount, with_moved_mounts}
 use Rattle.vt_laws_mounts.specs.Mounts.Attaching.{OneNumberAMount, numbers_of}
 use Rattle.vt_laws_mounts.proofs.attached.AttachedGroups.{HasCopies, IsOldOrCopy, MembersStay, kind_at}
 use Rattle.vt_laws_mounts.proofs.GroupsKept.{member_shared, shared_member}
 use Rattle.vt_laws_mounts.proofs.mounts.MountsAttached.{keeps_number, push_keeps}
 use Rattle.vt_laws_mounts.proofs.mounts.MountsNumbered.{is_one_of}
 use Rattle.vt_laws_mounts.proofs.mounts.MountsReplaced.{found_itself, numbers-with_mount, replaced_elsewhere, replaced_there}
-use Rattle.vt_spec.proofs.Worlds.{among-folded_mounts, number-mount_in}
 
 -- Mounts that are put in the place of others
 module _ (new : Mount ℕ) where

@@ -1,16 +1,6 @@
 -- A tree of mounts that is attached stands where it is attached, and what it pushes up stands on it.
-use Rattle.std.proofs.Common.{arith, ◌≡◌, refl, sym, ap, subst, ◌∙◌, true, false, nat_eq, ℕ, Bool, List, None, Option, Some, [], eq-eqb, flat_map, inl, inr, length, map, option_map, suc, true≢false, zero, ⊎_elim, ◌++◌, ◌∷◌, ◌||◌}
-use Rattle.std.proofs.lemmas.Grind.{common_steps}
-use Rattle.std.specs.List.{list_any}
-use Rattle.std.specs.Prelude.{if◌then◌else◌, unwrap_or}
-use Rattle.std.proofs.lemmas.Option.{same_Some}
-use Rattle.vt_spec.proofs.Lists.{Among, all_from_among, among-append, chain_ends, chain_goes_on, last_of_chain, among-append_left, among-append_right, among-flat_map, among-from_filter, among-from_flat_map, among-from_map, among-map, among_from_all, among_from_list_all}
-use Rattle.vt_spec.specs.Machine.Attach.{Copies, Graft, Twig, attached_by, copies_at, copy_at, copy_number, graft_of, is_top, parts_of, mount_point_on_copy, pushed_onto, pushed_up, receiver_stood_on, top_of_copies, twig_of}
-use Rattle.vt_spec.specs.Lists.{chain, first_of_list, holds_of, last_or, rest_of}
-use Rattle.vt_spec.specs.Machine.Mounts.{Location, Mount, child_at, group_of, mount_in, root_of, same_location, stands_at}
-use Rattle.vt_spec.specs.Machine.World.{World, mount_at, mount_numbered}
-use Rattle.vt_spec.specs.Machine.Invariants.{Stands}
-use Rattle.vt_spec.specs.Machine.Invariants.Stands.{at_root, on_parent}
+use Rattle.std.proofs.Common.{arith, ◌≡◌, refl, sym, ap, subst, ◌∙◌, true, false, nat_eq, ℕ, Bool, List, None, Option, Some, [], eq-eqb, flat_map, inl, inr, length, map, option_map, suc, true≢false, zero, ⊎_elim, ◌++◌, ◌∷◌, ◌||◌, if◌then◌else◌, unwrap_or}
+use Rattle.vt_spec.proofs.Common.{Among, Copies, Graft, Location, Mount, Stands, Twig, World, all_from_among, among-append, among-append_left, among-append_right, among-flat_map, among-from_filter, among-from_flat_map, among-from_map, among-map, among_from_all, among_from_list_all, at_root, attached_by, chain, chain_ends, chain_goes_on, child_at, common_steps, copies_at, copy_at, copy_number, first_of_list, found_or_none, graft_of, group_of, holds_of, is_top, last_of_chain, last_or, list_any, mount_at, mount_in, mount_numbered, mount_point_on_copy, number-mount_in, on_parent, parts_of, pushed_onto, pushed_up, receiver_stood_on, rest_of, root_of, same_Some, same_location, stands_at, top_of_copies, twig_of}
 use Rattle.vt_laws_mounts.specs.Mounts.Attaching.{OneNumberAMount, is_mount}
 use Rattle.vt_laws_mounts.specs.Mounts.Invariants.{NowhereOrAttached}
 use Rattle.vt_laws_mounts.specs.Mounts.Copies.{ServeAsCopies}
@@ -20,7 +10,6 @@ use Rattle.vt_laws_mounts.proofs.mounts.MountsFound.{found_in, found_there, plac
 use Rattle.vt_laws_mounts.proofs.mounts.MountsNumbered.{copies_keep_numbers, is_one_of, same_origin}
 use Rattle.vt_laws_mounts.proofs.mounts.MountsPlaces.{stands_there}
 use Rattle.vt_laws_mounts.proofs.mounts.MountsReplaced.{found_itself}
-use Rattle.vt_spec.proofs.Worlds.{number-mount_in, found_or_none}
 
 -- A list of mounts is a tree: its first is the top, and each other one stands on one of them
 pub data Hangs (mounts : List (Mount ℕ)) : ℕ → Type 0 where

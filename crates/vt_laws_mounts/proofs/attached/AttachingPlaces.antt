@@ -1,19 +1,6 @@
 -- A tree of mounts that is attached leaves at most one mount at a place.
-use Rattle.std.proofs.lemmas.Grind.{common_steps}
-use Rattle.std.proofs.Common.{◌≡◌, refl, sym, ap, subst, ◌∙◌, true, false, nat_eq, ℕ, Bool, List, None, Option, Some, [], append_assoc, arith, eq-eqb, eqb-true, flat_map, inl, inr, is_some, length, map, option_map, suc, true≢false, zero, ⊎_elim, ◌&&◌, ◌++◌, ◌<◌, ◌∷◌, ◌⊎◌}
-use Rattle.std.specs.List.{list_any}
-use Rattle.std.specs.Prelude.{if◌then◌else◌, unwrap_or}
-use Rattle.std.proofs.lemmas.Bool.{false_from_ne_true, or_from}
-use Rattle.std.proofs.lemmas.List.{length-map}
-use Rattle.std.proofs.lemmas.Option.{same_Some}
-use Rattle.vt_spec.proofs.Lists.{Among, among-append_left, among-append_right, among-flat_map, among-from_flat_map, among-from_map, among-map, among_from_all, chain_ends, chain_goes_on, is_among_numbers, last_of_chain, none_from_among, pair-map}
-use Rattle.vt_spec.specs.Machine.Attach.{Copies, Graft, Twig, attached_by, copies_at, copy_at, graft_of, is_top, parts_of, mount_point_on_copy, pushed_onto, pushed_up, receiver_stood_on, top_of_copies, twig_of}
-use Rattle.vt_spec.specs.Lists.{any_pair, chain, first_of_list, holds_of, last_or, rest_of, same_option}
-use Rattle.vt_spec.specs.Machine.Mounts.{Location, Mount, child_at, group_of, mount_in, root_of, same_location, stands_at}
-use Rattle.vt_spec.specs.Machine.Run.{numbers_in_use}
-use Rattle.vt_spec.specs.Machine.World.{World, mount_at, mount_numbered}
-use Rattle.vt_spec.specs.Machine.Invariants.{Stands, share_a_mount_point}
-use Rattle.vt_spec.specs.Machine.Invariants.Stands.{at_root, on_parent}
+use Rattle.std.proofs.Common.{◌≡◌, refl, sym, ap, subst, ◌∙◌, true, false, nat_eq, ℕ, Bool, List, None, Option, Some, [], append_assoc, arith, eq-eqb, eqb-true, flat_map, inl, inr, is_some, length, map, option_map, suc, true≢false, zero, ⊎_elim, ◌&&◌, ◌++◌, ◌<◌, ◌∷◌, ◌⊎◌, if◌then◌else◌, unwrap_or}
+use Rattle.vt_spec.proofs.Common.{Among, Copies, Graft, Location, Mount, Stands, Twig, World, among-append_left, among-append_right, among-flat_map, among-from_flat_map, among-from_map, among-map, among_from_all, any_pair, at_root, attached_by, chain, chain_ends, chain_goes_on, child_at, common_steps, copies_at, copy_at, false_from_ne_true, first_of_list, graft_of, group_of, holds_of, is_among_numbers, is_top, last_of_chain, last_or, length-map, list_any, mount_at, mount_in, mount_numbered, mount_point_on_copy, nat_eq_false_turned, none_from_among, number-mount_in, numbers_in_use, on_parent, or_from, pair-map, parts_of, pushed_onto, pushed_up, receiver_stood_on, rest_of, root_of, same_Some, same_location, same_location_is, same_option, share_a_mount_point, stands_at, top_of_copies, twig_of}
 use Rattle.vt_laws_mounts.specs.Mounts.Attaching.{OneNumberAMount, is_mount, numbers_of}
 use Rattle.vt_laws_mounts.specs.Mounts.Invariants.{NowhereOrAttached}
 use Rattle.vt_laws_mounts.specs.Mounts.Copies.{ServeAsCopies}
@@ -26,8 +13,6 @@ use Rattle.vt_laws_mounts.proofs.mounts.MountsNumbered.{copies_keep_numbers, is_
 use Rattle.vt_laws_mounts.proofs.mounts.MountsPlaces.{one_place_of_two, one_stander, stands_at_its_place, stands_there}
 use Rattle.vt_laws_mounts.proofs.mounts.MountsReplaced.{found_itself}
 use Rattle.vt_laws_mounts.proofs.mounts.Standing.{fewer_numbers, rank, rank_child}
-use Rattle.vt_spec.proofs.Truths.{nat_eq_false_turned}
-use Rattle.vt_spec.proofs.Worlds.{number-mount_in, same_location_is}
 
 abbrev pub test : Mount ℕ → Mount ℕ → Bool
 test a b = share_a_mount_point nat_eq a b

@@ -1,13 +1,6 @@
 -- Binds, new mounts and moves: each mount goes on standing, with a number of its own.
 use Rattle.std.proofs.Common.{arith, ◌≡◌, refl, sym, ap, subst, ◌∙◌, true, false, nat_eq, ℕ, Bool, List, [], eq-eqb, eqb-true, filter, flat_map, inl, inr, length, suc, true≢false, zero, ⊎_elim, ◌∷◌, ◌⊎◌}
-use Rattle.std.proofs.lemmas.Grind.{common_steps}
-use Rattle.vt_spec.proofs.Lists.{Among, all_from_among, among-flat_map, among-from_filter, among-from_flat_map, among_from_all}
-use Rattle.vt_spec.specs.Machine.Attach.{bind_tree, bindable_children, bindable_tree, bound, moved_tree, parts_of, stands_under}
-use Rattle.vt_spec.specs.Machine.Mounts.{Location, Mount, children, stands_on}
-use Rattle.vt_spec.specs.Machine.NewMounts.{new_mount, with_new_filesystem}
-use Rattle.vt_spec.specs.Machine.World.{Filesystem, World}
-use Rattle.vt_spec.specs.Machine.Invariants.{Stands}
-use Rattle.vt_spec.specs.Machine.Invariants.Stands.{at_root, on_parent}
+use Rattle.vt_spec.proofs.Common.{Among, Filesystem, Location, Mount, Stands, World, all_from_among, among-flat_map, among-from_filter, among-from_flat_map, among_from_all, at_root, bind_tree, bindable_children, bindable_tree, bound, children, common_steps, moved_tree, new_mount, number-mount_in, on_parent, parts_of, stands_on, stands_under, with_new_filesystem}
 use Rattle.vt_laws_mounts.specs.Mounts.Standing.{AllStand, BindsKeepNumbers, BindsKeepMountPoints, BindsKeepStanding, MovesKeepNumbers, NewMountsKeepNumbers, NewMountsKeepMountPoints, NewMountsKeepStanding}
 use Rattle.vt_laws_mounts.proofs.attached.Attaching.{Hangs, all_stand_after}
 use Rattle.vt_laws_mounts.proofs.attached.Attaching.Hangs.{from_parent, from_top}
@@ -15,7 +8,6 @@ use Rattle.vt_laws_mounts.proofs.attached.AttachingPlaces.{places_after, two_of}
 use Rattle.vt_laws_mounts.proofs.mounts.MountsAttached.{supplied}
 use Rattle.vt_laws_mounts.proofs.mounts.MountsNumbered.{attach_keeps_numbers, supplies_serve_as_copies}
 use Rattle.vt_laws_mounts.proofs.mounts.Standing.{bindable_child, binds_take_each_once, trees_have_each_once}
-use Rattle.vt_spec.proofs.Worlds.{number-mount_in}
 
 -- What a bind takes hangs together
 module _ (world : World ℕ) (whole : List (Mount ℕ)) where

@@ -1,16 +1,6 @@
 -- Worlds that differ in change numbers and in the order of numbers have the same counts.
-use Rattle.std.proofs.lemmas.Grind.{common_steps}
-use Rattle.std.proofs.Common.{◌≡◌, refl, sym, ap, ◌∙◌, ℕ, ◌+◌, nat_eq, List, [], ◌∷◌, ◌++◌, filter, map, find, flat_map, Option, unwrap_or, arith}
-use Rattle.std.specs.Prelude.{filter_map, option_to_list, sum_by}
-use Rattle.std.proofs.lemmas.List.Sorted.{length_permutation, sum_by-IsPermutation}
-use Rattle.std.proofs.lemmas.List.Sums.{sum_by-cons}
-use Rattle.vt_spec.specs.FileTree.{targets_in}
-use Rattle.vt_spec.specs.Machine.Mounts.{root_of}
-use Rattle.vt_spec.specs.Machine.SameWorlds.{SameFilesystem, SameFilesystems, SameWorlds}
-use Rattle.vt_spec.specs.Machine.Locked.{of_overlay}
-use Rattle.vt_spec.specs.Machine.Settled.{layers_in, located_in, objects_of_overlay}
-use Rattle.vt_spec.specs.Machine.World.{Filesystem, Task, World, all_locations, filesystem_numbered, layers_of, locations_of, no_filesystem}
-use Rattle.vt_spec.specs.Tree.{Node}
+use Rattle.std.proofs.Common.{◌≡◌, refl, sym, ap, ◌∙◌, ℕ, ◌+◌, nat_eq, List, [], ◌∷◌, ◌++◌, filter, map, find, flat_map, Option, unwrap_or, arith, filter_map, option_to_list, sum_by}
+use Rattle.vt_spec.proofs.Common.{Filesystem, Node, SameFilesystem, SameFilesystems, SameWorlds, Task, World, all_locations, common_steps, filesystem_numbered, layers_in, layers_of, length_permutation, located_in, locations_of, no_filesystem, objects_of_overlay, of_overlay, root_of, sum_by-IsPermutation, sum_by-cons, targets_in}
 use Rattle.vt_laws_mounts.proofs.letting_go.Lists.{flat_map-map}
 use Rattle.vt_laws_mounts.proofs.counts.counting.Entries.{named_by, one_if}
 use Rattle.vt_laws_mounts.proofs.counts.counting.Times.{times_append, times_in}

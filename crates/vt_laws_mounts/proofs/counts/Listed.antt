@@ -1,11 +1,6 @@
 -- Numbers in lists: how often each stands there.
-use Rattle.std.proofs.lemmas.Grind.{common_steps}
-use Rattle.std.proofs.Common.{◌≡◌, refl, sym, ap, subst, ◌∙◌, ⊎_elim, ℕ, ◌+◌, ◌≤◌, nat_eq, eq-eqb, Bool, true, false, cond, ◌||◌, List, [], ◌∷◌, arith}
-use Rattle.std.specs.List.Sorted.{IsPermutation}
-use Rattle.std.proofs.lemmas.Bool.{or_parts}
-use Rattle.std.proofs.lemmas.Bool.Decides.{eqb_tells}
-use Rattle.std.proofs.lemmas.List.Sorted.{IsPermutation-cons, IsPermutation-middle, IsPermutation-refl, IsPermutation-sym, IsPermutation-trans}
-use Rattle.vt_spec.specs.Lists.{any_pair, is_among}
+use Rattle.std.proofs.Common.{◌≡◌, refl, sym, ap, subst, ◌∙◌, ⊎_elim, ℕ, ◌+◌, ◌≤◌, nat_eq, eq-eqb, Bool, true, false, cond, ◌||◌, List, [], ◌∷◌, arith, IsPermutation}
+use Rattle.vt_spec.proofs.Common.{IsPermutation-cons, IsPermutation-middle, IsPermutation-refl, IsPermutation-sym, IsPermutation-trans, any_pair, common_steps, eqb_tells, is_among, or_parts}
 use Rattle.vt_laws_mounts.proofs.counts.counting.Entries.{one_if}
 use Rattle.vt_laws_mounts.proofs.counts.counting.Times.{among_times, removed, times_among, times_in, times_removed}
 use Rattle.vt_laws_mounts.specs.Counts.Numbers.{SameNumbersArePermuted}

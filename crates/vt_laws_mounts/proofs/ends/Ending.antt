@@ -1,13 +1,6 @@
 -- What takes mounts away keeps the invariants of mounts.
 use Rattle.std.proofs.Common.{arith, ◌≡◌, sym, ap, ◌∙◌, false, nat_eq, ℕ, List, None, Some, eq-eqb, flat_map, is_some, map, true≢false, ⊎_elim}
-use Rattle.std.proofs.lemmas.Grind.{common_steps}
-use Rattle.vt_spec.proofs.Lists.{Among, all_from_among, among_from_all, none_among}
-use Rattle.vt_spec.specs.Machine.Detach.{going, has_child, mounts_on, taken_away}
-use Rattle.vt_spec.specs.Lists.{holds_of}
-use Rattle.vt_spec.specs.Machine.Mounts.{Location, Mount, mount_tree, stands_on}
-use Rattle.vt_spec.specs.Machine.Namespaces.{namespaces_ended}
-use Rattle.vt_spec.specs.Machine.World.{World, mount_numbered}
-use Rattle.vt_spec.specs.Machine.Invariants.{MountInvariants}
+use Rattle.vt_spec.proofs.Common.{Among, Location, Mount, MountInvariants, World, all_from_among, among_from_all, common_steps, going, has_child, holds_of, mount_numbered, mount_tree, mounts_on, namespaces_ended, none_among, number-mount_in, stands_alike, stands_on, taken_away}
 use Rattle.vt_laws_mounts.specs.Mounts.Invariants.{AreApart, OneMountEachMountPoint}
 use Rattle.vt_laws_mounts.specs.Mounts.Ending.{EndedNamespacesKeepMounts, PointsKeepMounts, ReplacedKeepsMounts, TreesKeepMounts, UnmountKeepsMounts}
 use Rattle.vt_laws_mounts.specs.Mounts.Standing.{AllStand}
@@ -21,7 +14,6 @@ use Rattle.vt_laws_mounts.proofs.mounts.Standing.{standing_is_computed}
 use Rattle.vt_laws_mounts.proofs.ends.UnmountingNamespaces.{ended_closed, in_ended}
 use Rattle.vt_laws_mounts.proofs.ends.UnmountingPlaces.{goes_or_may, unmount_leaves_one_mount_a_place}
 use Rattle.vt_laws_mounts.proofs.ends.UnmountingTrees.{AreClosed, closed_keeps_apart, trees_closed}
-use Rattle.vt_spec.proofs.Worlds.{number-mount_in, stands_alike}
 
 -- nothing stands on a mount without children
 pub none_stands : (world : World ℕ) (one : ℕ) → has_child nat_eq world one ≡ false → (x : Mount ℕ) (place : Location ℕ)

@@ -1,16 +1,6 @@
 -- What namespaces have left of their mounts where some are taken away.
-use Rattle.std.proofs.lemmas.Grind.{common_steps}
-use Rattle.std.proofs.Common.{◌≡◌, refl, sym, ap, subst, ◌∙◌, true, false, nat_eq, ℕ, Bool, List, None, Option, Some, [], arith, filter, flat_map, inl, inr, is_some, length, map, not, option_map, zero, suc, true≢false, ⊎_elim, ◌&&◌, ◌∷◌, ◌≤◌, ◌⊎◌}
-use Rattle.std.proofs.lemmas.Bool.{le-leb}
-use Rattle.std.specs.List.{list_any}
-use Rattle.vt_spec.proofs.Lists.{Among, all_from_among, among-from_filter, among-from_flat_map, among-from_map, among_from_contains, among_from_list_all, among_numbers, any_among, contains_from_among, filter_here, filter_skip, list_all_from_among}
-use Rattle.vt_spec.specs.Machine.Detach.{after_going, going, is_going, is_point, mounts_on, mount_point_left, points_of, taken_away}
-use Rattle.vt_spec.specs.Lists.{holds_of}
-use Rattle.vt_spec.specs.Machine.Mounts.{Location, Mount, children, mount_in, mount_tree, stands_on, tree_from}
-use Rattle.vt_spec.specs.Machine.Namespaces.{has_tasks, is_in_ended}
-use Rattle.vt_spec.specs.Machine.Receives.{inheriting}
-use Rattle.vt_spec.specs.Machine.World.{Namespace, World, mount_at, mount_numbered}
-use Rattle.vt_spec.specs.Machine.Invariants.{is_root_mount}
+use Rattle.std.proofs.Common.{◌≡◌, refl, sym, ap, subst, ◌∙◌, true, false, nat_eq, ℕ, Bool, List, None, Option, Some, [], arith, filter, flat_map, inl, inr, is_some, length, map, not, option_map, zero, suc, true≢false, ⊎_elim, ◌&&◌, ◌∷◌, ◌≤◌, ◌⊎◌, le-leb}
+use Rattle.vt_spec.proofs.Common.{Among, Location, Mount, Namespace, World, after_going, all_from_among, among-from_filter, among-from_flat_map, among-from_map, among_from_contains, among_from_list_all, among_numbers, and-false, any_among, children, common_steps, contains_from_among, filter_here, filter_skip, going, has_tasks, holds_of, inheriting, is_going, is_in_ended, is_point, is_root_mount, list_all_from_among, list_any, mount_at, mount_in, mount_numbered, mount_point_left, mount_tree, mounts_on, number-mount_in, points_of, stands_on, taken_away, tree_from}
 use Rattle.vt_laws_mounts.specs.Mounts.Invariants.{OneNumberEach}
 use Rattle.vt_laws_mounts.specs.Mounts.Ending.{ByEndedNamespaces, ByPoints, ByReplaced, ByTrees, ByUnmount, EndedNamespacesKeepRootMounts, HasNoMoreMounts, IsOutOrStays, PointsKeepRootMounts, ReplacedKeepsRootMounts, TakesNoMountsIn, TreesKeepRootMounts, UnmountKeepsRootMounts, root_mounts_in, is_in}
 use Rattle.vt_laws_mounts.proofs.Groups.{mounts-regrouped}
@@ -18,8 +8,7 @@ use Rattle.vt_laws_mounts.proofs.mounts.MountsReplaced.{found_itself}
 use Rattle.vt_laws_mounts.proofs.ends.Unmounting.{going_is_detached, middle, staying_is_placed}
 use Rattle.vt_laws_mounts.proofs.ends.UnmountingNamespaces.{in_ended}
 use Rattle.vt_laws_mounts.proofs.ends.UnmountingPlaces.{goes_or_may}
-use Rattle.std.proofs.Math.Bool.{and-false}
-use Rattle.vt_spec.proofs.Worlds.{number-after_going, number-mount_in}
+use Rattle.vt_spec.proofs.Worlds.{number-after_going}
 
 -- Lists that are filtered
 module _ {A : Type 0} where

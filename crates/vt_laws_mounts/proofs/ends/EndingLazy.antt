@@ -1,14 +1,6 @@
 -- A lazy unmount keeps the invariants of mounts: as the event of a mount comes, nothing stands on it any more.
-use Rattle.std.proofs.lemmas.Grind.{common_steps}
-use Rattle.std.proofs.Common.{◌≡◌, refl, sym, ap, subst, ◌∙◌, true, false, nat_eq, ℕ, Bool, List, None, Option, Some, [], arith, eqb-true, inl, inr, is_some, suc, true≢false, ⊎_elim, ◌∷◌, ◌<◌, ◌≤◌, ◌⊎◌}
-use Rattle.std.proofs.lemmas.Bool.{false_from_ne_true}
-use Rattle.std.specs.Prelude.{if◌then◌else◌}
-use Rattle.vt_spec.proofs.Lists.{Among, among-from_map, among_cases, among_from_list_all, among_numbers, none_from_among}
-use Rattle.vt_spec.specs.Machine.Detach.{depth_of, going, has_child, taken_away, unmounted, unmounted_if_there}
-use Rattle.vt_spec.specs.Lists.{folded, holds_of, is_among}
-use Rattle.vt_spec.specs.Machine.Mounts.{Location, Mount, stands_on}
-use Rattle.vt_spec.specs.Machine.World.{World, mount_numbered}
-use Rattle.vt_spec.specs.Machine.Invariants.{MountInvariants}
+use Rattle.std.proofs.Common.{◌≡◌, refl, sym, ap, subst, ◌∙◌, true, false, nat_eq, ℕ, Bool, List, None, Option, Some, [], arith, eqb-true, inl, inr, is_some, suc, true≢false, ⊎_elim, ◌∷◌, ◌<◌, ◌≤◌, ◌⊎◌, if◌then◌else◌}
+use Rattle.vt_spec.proofs.Common.{Among, Location, Mount, MountInvariants, World, among-from_map, among_cases, among_from_list_all, among_numbers, common_steps, depth_of, false_from_ne_true, folded, found_or_none, going, has_child, holds_of, is_among, mount_numbered, none_from_among, stands_on, taken_away, unmounted, unmounted_if_there}
 use Rattle.vt_laws_mounts.specs.Mounts.Attaching.{numbers_of}
 use Rattle.vt_laws_mounts.specs.Mounts.Invariants.{NowhereOrAttached}
 use Rattle.vt_laws_mounts.specs.Mounts.Ending.{LazyUnmountKeepsMounts}
@@ -21,7 +13,6 @@ use Rattle.vt_laws_mounts.proofs.ends.Unmounting.{detached_by_number, root_stays
 use Rattle.vt_laws_mounts.proofs.ends.UnmountingEnds.{the_mount_itself_goes}
 use Rattle.vt_laws_mounts.proofs.ends.UnmountingPlaces.{Falls, stood}
 use Rattle.vt_laws_mounts.proofs.ends.UnmountingPlaces.Falls.{direct, down}
-use Rattle.vt_spec.proofs.Worlds.{found_or_none}
 
 -- a mount outside every namespace has no place
 no_place_outside : (world : World ℕ) → NowhereOrAttached world → (number : ℕ)

@@ -1,13 +1,6 @@
 -- What namespaces have left of their mounts after a lazy unmount.
-use Rattle.std.proofs.lemmas.Grind.{common_steps}
-use Rattle.std.proofs.Common.{◌≡◌, refl, sym, ap, ◌∙◌, true, false, nat_eq, ℕ, Bool, List, None, [], arith, inl, inr, is_some, length, true≢false, ⊎_elim, ◌∷◌, ◌⊎◌, ◌≤◌}
-use Rattle.std.proofs.lemmas.Bool.{le-leb, leb-true}
-use Rattle.std.specs.Prelude.{if◌then◌else◌}
-use Rattle.vt_spec.proofs.Lists.{Among, all_from_among, among_from_all, among_from_contains}
-use Rattle.vt_spec.specs.Machine.Detach.{going, taken_away, unmounted, unmounted_if_there}
-use Rattle.vt_spec.specs.Lists.{folded}
-use Rattle.vt_spec.specs.Machine.Mounts.{Mount}
-use Rattle.vt_spec.specs.Machine.World.{World, mount_numbered, mounts_of}
+use Rattle.std.proofs.Common.{◌≡◌, refl, sym, ap, ◌∙◌, true, false, nat_eq, ℕ, Bool, List, None, [], arith, inl, inr, is_some, length, true≢false, ⊎_elim, ◌∷◌, ◌⊎◌, ◌≤◌, le-leb, leb-true, if◌then◌else◌}
+use Rattle.vt_spec.proofs.Common.{Among, Mount, World, all_from_among, among_from_all, among_from_contains, common_steps, folded, going, mount_numbered, mounts_of, number-mount_in, taken_away, unmounted, unmounted_if_there}
 use Rattle.vt_laws_mounts.specs.Mounts.Invariants.{OneNumberEach}
 use Rattle.vt_laws_mounts.specs.Mounts.Ending.{ByLazyUnmount, HasNoMoreMounts, IsOutOrStays, KeepsRootMounts, LazyUnmountKeepsRootMounts, TakesNoMountsIn, root_mounts_in}
 use Rattle.vt_laws_mounts.proofs.ends.EndingCounts.{stays_in, tree_placed, unmount_has_no_more, unmount_keeps_roots, unmount_takes_none_in}
@@ -15,7 +8,6 @@ use Rattle.vt_laws_mounts.proofs.ends.EndingOrder.{from_tree, taken_in_turn}
 use Rattle.vt_laws_mounts.proofs.mounts.MountsKept.{unmount_keeps_numbers}
 use Rattle.vt_laws_mounts.proofs.mounts.MountsReplaced.{found_itself}
 use Rattle.vt_laws_mounts.proofs.ends.Unmounting.{detached_by_number, kept_by_number, staying_is_placed, taken}
-use Rattle.vt_spec.proofs.Worlds.{number-mount_in}
 
 -- Each event changes nothing, or is an unmount
 event_by : (Relation : World ℕ → World ℕ → Type 0) (world : World ℕ) (mount : Mount ℕ) → Relation world world

@@ -1,13 +1,6 @@
 -- The mounts of a lazy unmount: each of the tree, the deepest first.
-use Rattle.std.proofs.lemmas.Grind.{common_steps}
-use Rattle.std.proofs.Common.{◌≡◌, refl, sym, ap, subst, ◌∙◌, true, nat_eq, ℕ, List, [], arith, flat_map, inl, inr, length, map, zero, suc, ⊎_elim, ◌∷◌, ◌≤◌, ◌⊎◌}
-use Rattle.std.proofs.lemmas.Bool.{ltb-false, ltb-true}
-use Rattle.std.specs.Prelude.{⊤}
-use Rattle.vt_spec.proofs.Lists.{Among, among-from_flat_map, among-from_map, among-map, among-flat_map, among_numbers, is_among_numbers}
-use Rattle.vt_spec.specs.Machine.Detach.{deepest_first, depth_of, insert_deepest, is_going}
-use Rattle.vt_spec.specs.Lists.{folded, is_among}
-use Rattle.vt_spec.specs.Machine.Mounts.{Mount, mount_in, mount_tree, tree_from}
-use Rattle.vt_spec.specs.Machine.World.{World, mount_numbered}
+use Rattle.std.proofs.Common.{◌≡◌, refl, sym, ap, subst, ◌∙◌, true, nat_eq, ℕ, List, [], arith, flat_map, inl, inr, length, map, zero, suc, ⊎_elim, ◌∷◌, ◌≤◌, ◌⊎◌, ltb-false, ltb-true}
+use Rattle.vt_spec.proofs.Common.{Among, Mount, World, among-flat_map, among-from_flat_map, among-from_map, among-map, among_numbers, common_steps, deepest_first, depth_of, folded, insert_deepest, is_among, is_among_numbers, is_going, mount_in, mount_numbered, mount_tree, number-mount_in, tree_among, tree_from, ⊤}
 use Rattle.vt_laws_mounts.specs.Mounts.Attaching.{numbers_of}
 use Rattle.vt_laws_mounts.specs.Mounts.Invariants.{OneNumberEach}
 use Rattle.vt_laws_mounts.specs.Mounts.Standing.{AllStand}
@@ -16,7 +9,6 @@ use Rattle.vt_laws_mounts.proofs.mounts.MountsReplaced.{found_itself}
 use Rattle.vt_laws_mounts.proofs.mounts.Standing.{LiesIn, lies_in_tree, standing_is_computed}
 use Rattle.vt_laws_mounts.proofs.mounts.Standing.LiesIn.{itself, under}
 use Rattle.vt_laws_mounts.proofs.ends.UnmountingTrees.{trees_closed}
-use Rattle.vt_spec.proofs.Worlds.{number-mount_in, tree_among}
 
 module _ (world : World ℕ) where
   -- the list begins with its deepest, and so does what follows

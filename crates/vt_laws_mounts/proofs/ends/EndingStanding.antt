@@ -1,12 +1,6 @@
 -- Mounts keep standing where others are taken away.
 use Rattle.std.proofs.Common.{◌≡◌, refl, sym, ap, subst, ◌∙◌, true, false, nat_eq, ℕ, Bool, List, Some, is_some, true≢false}
-use Rattle.std.proofs.lemmas.Option.{same_Some}
-use Rattle.vt_spec.proofs.Lists.{Among, all_from_among}
-use Rattle.vt_spec.specs.Machine.Detach.{is_going, taken_away}
-use Rattle.vt_spec.specs.Machine.Mounts.{Location, Mount}
-use Rattle.vt_spec.specs.Machine.World.{World, mount_at, mount_numbered}
-use Rattle.vt_spec.specs.Machine.Invariants.{Stands}
-use Rattle.vt_spec.specs.Machine.Invariants.Stands.{at_root, on_parent}
+use Rattle.vt_spec.proofs.Common.{Among, Location, Mount, Stands, World, all_from_among, at_root, is_going, mount_at, mount_numbered, number-mount_in, on_parent, same_Some, taken_away}
 use Rattle.vt_laws_mounts.specs.Mounts.Invariants.{OneNumberEach}
 use Rattle.vt_laws_mounts.specs.Mounts.Standing.{AllStand}
 use Rattle.vt_laws_mounts.specs.Mounts.Unmounting.{FallsTo}
@@ -15,7 +9,6 @@ use Rattle.vt_laws_mounts.proofs.mounts.MountsFound.{placed_among}
 use Rattle.vt_laws_mounts.proofs.mounts.Standing.{stand, standing_is_computed}
 use Rattle.vt_laws_mounts.proofs.ends.Unmounting.{detached_by_number, kept_by_number, place_fallen, root_stays}
 use Rattle.vt_laws_mounts.proofs.ends.UnmountingTrees.{AreClosed}
-use Rattle.vt_spec.proofs.Worlds.{number-mount_in}
 
 module _ (world : World ℕ) (gone : List ℕ) where
   abbrev later : World ℕ

@@ -1,22 +1,12 @@
 -- An unmount takes just the mounts that propagation names.
-use Rattle.std.proofs.Common.{arith, ◌≡◌, refl, sym, ap, ◌∙◌, ℕ, zero, suc, nat_eq, Bool, true, false, true≢false, List, length, map, Option, Some, None, is_some, find}
-use Rattle.std.proofs.lemmas.Grind.{common_steps}
-use Rattle.std.specs.Prelude.{if◌then◌else◌, option_map}
-use Rattle.std.proofs.lemmas.List.{length-map}
-use Rattle.std.proofs.lemmas.Bool.{and_parts, not-true}
-use Rattle.vt_spec.specs.Machine.Detach.{after_going, going, is_going, mount_point_of_parent, mount_point_left, taken_away}
-use Rattle.vt_spec.specs.Lists.{chain, last_or}
-use Rattle.vt_spec.specs.Machine.Mounts.{Location, Mount, Propagation, detached, mount_in, no_mount}
-use Rattle.vt_spec.specs.Machine.Mounts.Propagation.{Private, Shared, Slave, Unbindable}
-use Rattle.vt_spec.specs.Machine.Receives.{groups_up, has_members, inherited, inheriting, slave_of_heir}
-use Rattle.vt_spec.specs.Machine.World.{World, mount_at, mount_numbered, with_mounts}
-use Rattle.vt_spec.specs.Machine.Invariants.{stands_in_its_namespace}
+use Rattle.std.proofs.Common.{arith, ◌≡◌, refl, sym, ap, ◌∙◌, ℕ, zero, suc, nat_eq, Bool, true, false, true≢false, List, length, map, Option, Some, None, is_some, find, if◌then◌else◌, option_map}
+use Rattle.vt_spec.proofs.Common.{Location, Mount, Private, Propagation, Shared, Slave, Unbindable, World, after_going, among_from_list_all, and_parts, chain, chain_ends, chain_goes_on, common_steps, detached, found_or_none, going, groups_up, has_members, inherited, inheriting, is_going, last_of_chain, last_or, length-map, mount_at, mount_in, mount_numbered, mount_point_left, mount_point_of_parent, no_mount, not-true, number-mount_in, slave_of_heir, stands_in_its_namespace, taken_away, with_mounts}
 use Rattle.vt_laws_mounts.specs.Mounts.Unmounting.{FallsTo, GroupsKeepTheirMasters, KeepsAllButMounts, KeepsAllButMountPointAndType, ChainsEnd, RootMountsStay, SlavesAreInherited, UnmountIsOfMounts, UnmountKeepsTheOrder, WhatCoveredFalls, WhatGoesIsDetached, WhatStaysKeeps, WhatStaysKeepsItsMountPoint, WhatStaysKeepsItsType, has_its_master}
 use Rattle.vt_laws_mounts.specs.Mounts.Unmounting.FallsTo.{falls, rests}
 use Rattle.vt_laws_mounts.proofs.Groups.{inherited_kept, master-regrouped, members-regrouped, mounts-regrouped}
-use Rattle.vt_spec.proofs.Lists.{among_from_list_all, chain_ends, chain_goes_on, find_agrees, last_of_chain}
+use Rattle.vt_spec.proofs.Lists.{find_agrees}
 use Rattle.vt_laws_mounts.proofs.mounts.MountsFound.{found-map, numbers-map}
-use Rattle.vt_spec.proofs.Worlds.{number-after_going, number-mount_in, found_or_none}
+use Rattle.vt_spec.proofs.Worlds.{number-after_going}
 pub use Rattle.vt_spec.proofs.Worlds.{number-after_going as number_after}
 
 module _ (world : World ℕ) (gone : List ℕ) where

@@ -1,22 +1,12 @@
 -- Mounts that end with something else, and lazy unmounts.
-use Rattle.std.proofs.Common.{arith, ◌≡◌, refl, sym, ap, subst, ◌∙◌, true, false, Bool, List, None, Some, [], is_some, map, nat_eq, true≢false, ⊎_elim, ◌∷◌, ◌⊎◌, ℕ, inr, inl}
-use Rattle.std.proofs.lemmas.Grind.{common_steps}
-use Rattle.vt_spec.proofs.Lists.{Among, among-filter, among-filter_map, among-map, filter_none, head_among, is_among_numbers}
+use Rattle.std.proofs.Common.{arith, ◌≡◌, refl, sym, ap, subst, ◌∙◌, true, false, Bool, List, None, Some, [], is_some, map, nat_eq, true≢false, ⊎_elim, ◌∷◌, ◌⊎◌, ℕ, inr, inl, filter_map, if◌then◌else◌}
+use Rattle.vt_spec.proofs.Common.{Among, Mount, Private, Propagation, Shared, Slave, Unbindable, World, among-filter, among-filter_map, among-map, child_at, children, common_steps, deepest_first, detached, filter_none, folded, found_or_none, goes_at, going, going_at, going_from, group_of, head_among, is_among, is_among_numbers, is_going, is_shared, list_any, may_go, mount_at, mount_numbered, mount_tree, number-mount_in, only_cover, receivers, receives, source_of, stands_on, taken_away, unmounted, unmounted_if_there}
 use Rattle.vt_laws_mounts.specs.Mounts.Unmounting.{KeepsAllButMounts, KeepsAllButMountPointAndType}
 use Rattle.vt_laws_mounts.specs.Mounts.Ends.{LazyDetachesOrKeeps, LazyIsOfMounts, OthersAreKept, OthersKeepTheirMountPoints, OthersKeepTheirTypes, TakenAreDetached, TheMountItselfGoes}
-use Rattle.vt_spec.specs.Machine.Mounts.Propagation.{Private, Shared, Slave, Unbindable}
-use Rattle.vt_spec.specs.Machine.Mounts.{Propagation, child_at, children, detached, group_of, is_shared, mount_tree, source_of, stands_on, Mount}
-use Rattle.vt_spec.specs.Machine.World.{World, mount_at, mount_numbered}
-use Rattle.vt_spec.specs.Machine.Detach.{deepest_first, goes_at, going, going_at, going_from, is_going, may_go, only_cover, taken_away, unmounted, unmounted_if_there}
 use Rattle.vt_laws_mounts.proofs.ends.Unmounting.{all_but_mounts, detached_by_number, going_is_detached, kept_by_number, place_kept, staying_is_placed, taken, type_kept}
 use Rattle.vt_laws_mounts.proofs.ends.UnmountingGoes.{child_goes_so, receivers_of_shared}
-use Rattle.std.specs.Prelude.{filter_map, if◌then◌else◌}
-use Rattle.vt_spec.specs.Lists.{folded, is_among}
 use Rattle.vt_laws_mounts.proofs.mounts.MountsPlaces.{found_at_its_place}
-use Rattle.vt_spec.specs.Machine.Receives.{receivers, receives}
-use Rattle.std.specs.List.{list_any}
 use Rattle.vt_laws_mounts.proofs.mounts.Receivers.{receives_from_source}
-use Rattle.vt_spec.proofs.Worlds.{number-mount_in, found_or_none}
 
 pub taken_are_detached : TakenAreDetached
 taken_are_detached world gone number e = detached_by_number world gone number e

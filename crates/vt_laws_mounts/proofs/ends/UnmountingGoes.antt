@@ -1,28 +1,13 @@
 -- What goes at an unmount is what propagation names.
-use Rattle.std.proofs.Common.{arith, ◌≡◌, refl, sym, ap, subst, ◌∙◌, inl, ⊎_elim, ℕ, nat_eq, true, true≢false, List, [], ◌∷◌, map, Option, Some, None, Ok}
-use Rattle.std.proofs.lemmas.Grind.{common_steps}
-use Rattle.std.specs.Prelude.{Contains, filter_map, option_map, unwrap_or}
-use Rattle.vt_spec.specs.Machine.Attach.{receivers_of}
-use Rattle.vt_spec.specs.Language.Calls.Call.{Umount}
-use Rattle.vt_spec.specs.Machine.Detach.{going, going_at, going_from, goes_at, is_going, may_go, unmounted}
-use Rattle.vt_spec.specs.Lists.{then_some, when, Fresh}
-use Rattle.vt_spec.specs.Machine.Mounts.{Location, Mount, Propagation, child_at, group_of, is_shared}
-use Rattle.vt_spec.specs.Machine.Mounts.Propagation.{Private, Shared, Slave, Unbindable}
-use Rattle.vt_spec.specs.Language.Answers.Answer.{Done}
-use Rattle.vt_spec.specs.Machine.Receives.{Receives, receivers}
-use Rattle.vt_spec.specs.Machine.Walking.{Here, walk_end, directory_walk}
-use Rattle.vt_spec.specs.Machine.World.{Task, World, mount_at, mount_numbered}
+use Rattle.std.proofs.Common.{arith, ◌≡◌, refl, sym, ap, subst, ◌∙◌, inl, ⊎_elim, ℕ, nat_eq, true, true≢false, List, [], ◌∷◌, map, Option, Some, None, Ok, Contains, filter_map, option_map, unwrap_or}
+use Rattle.vt_spec.proofs.Common.{Among, Done, Fresh, Here, Location, Mount, Permit, Private, Propagation, Receives, Shared, Slave, Task, Umount, Unbindable, World, among-filter_map, among-from_filter_map, among-from_map, among-map, among_from_contains, among_numbers, apply, child_at, common_steps, contains_from_among, directory_walk, goes_at, going, going_at, going_from, group_of, is_among_numbers, is_going, is_shared, looks_of, may_go, mount_at, mount_numbered, overfills, receivers, receivers_of, then_some, unmounted, walk_end, when}
 use Rattle.vt_laws_mounts.specs.Mounts.Receivers.{GroupsLive}
 use Rattle.vt_laws_mounts.specs.Mounts.Unmounting.{Goes, UmountUnmounts, WhatGoesIsNamed}
 use Rattle.vt_laws_mounts.specs.Mounts.Unmounting.Goes.{alone, at_receiver, from_nowhere}
-use Rattle.vt_spec.proofs.Lists.{Among, among-filter_map, among-from_filter_map, among-from_map, among-map, among_from_contains, among_numbers, contains_from_among, is_among_numbers}
 use Rattle.vt_laws_mounts.proofs.mounts.Receivers.{receivers_receive}
 use Rattle.vt_laws_rules.specs.Granted.{IsGranted}
 use Rattle.vt_laws_rules.specs.Granted.IsGranted.{unmounts}
 use Rattle.vt_laws_mounts.proofs.mounts.MountsGranted.{leaves_mounts, one_end}
-use Rattle.vt_spec.specs.Machine.Apply.{apply, overfills}
-use Rattle.vt_spec.specs.Machine.Looks.{looks_of}
-use Rattle.vt_spec.specs.Machine.Permits.{Permit}
 
 -- one number alone
 only_one : (number one : ℕ) → Among number (one ∷ []) → number ≡ one

@@ -1,17 +1,10 @@
 -- A namespace that ends leaves at most one mount at a place in the others.
 use Rattle.std.proofs.Common.{arith, ◌≡◌, refl, sym, ap, ◌∙◌, true, false, zero, suc, nat_eq, ℕ, List, None, Option, Some, eqb-true, filter, is_some, map, not, option_map, true≢false}
-use Rattle.std.proofs.lemmas.Grind.{common_steps}
-use Rattle.vt_spec.specs.Machine.Mounts.{Location, Mount}
-use Rattle.vt_spec.proofs.Lists.{Among, among-filter, among-from_filter, among-from_map, among-map, among_from_list_all, among_numbers, chain_ends, chain_goes_on, is_among_numbers, last_of_chain}
+use Rattle.vt_spec.proofs.Common.{Among, Location, Mount, World, among-filter, among-from_filter, among-from_map, among-map, among_from_list_all, among_numbers, and_parts, chain, chain_ends, chain_goes_on, common_steps, is_among_numbers, is_in_ended, last_of_chain, last_or, last_parent, mount_at, not-true, same_option, stands_in_its_namespace}
 use Rattle.vt_laws_mounts.specs.Mounts.Invariants.{EndedNamespacesLeaveOneMountAMountPoint, OneNumberEach}
 use Rattle.vt_laws_mounts.specs.Mounts.Unmounting.{ChainsEnd}
-use Rattle.vt_spec.specs.Machine.World.{World, mount_at}
-use Rattle.std.proofs.lemmas.Bool.{and_parts, not-true}
-use Rattle.vt_spec.specs.Lists.{chain, last_or, same_option}
 use Rattle.vt_laws_mounts.proofs.ends.UnmountingTrees.{AreClosed, closed_keeps_apart}
 use Rattle.vt_laws_mounts.proofs.mounts.MountsReplaced.{found_itself}
-use Rattle.vt_spec.specs.Machine.Namespaces.{is_in_ended}
-use Rattle.vt_spec.specs.Machine.Invariants.{last_parent, stands_in_its_namespace}
 use Rattle.vt_spec.proofs.Found.{length_from_among}
 
 -- one step more changes no chain that has ended

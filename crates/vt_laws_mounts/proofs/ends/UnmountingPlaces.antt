@@ -1,26 +1,14 @@
 -- An unmount leaves at most one mount at a place.
-use Rattle.std.proofs.Common.{arith, ◌≡◌, refl, sym, ap, subst, ◌∙◌, true, false, zero, suc, Bool, List, None, Option, Some, [], eq-eqb, is_some, length, nat_eq, option_map, true≢false, ⊎_elim, ◌∷◌, ◌⊎◌, ℕ, inl, inr}
-use Rattle.std.proofs.lemmas.Grind.{common_steps}
-use Rattle.vt_spec.proofs.Lists.{Among, among-filter, among-from_filter_map, among-from_map, among_numbers, chain_ends, chain_goes_on, last_of_chain, none_among, pair-map}
+use Rattle.std.proofs.Common.{arith, ◌≡◌, refl, sym, ap, subst, ◌∙◌, true, false, zero, suc, Bool, List, None, Option, Some, [], eq-eqb, is_some, length, nat_eq, option_map, true≢false, ⊎_elim, ◌∷◌, ◌⊎◌, ℕ, inl, inr, filter_map, if◌then◌else◌}
+use Rattle.vt_spec.proofs.Common.{Among, Location, Mount, World, after_going, among-filter, among-from_filter_map, among-from_map, among_numbers, any_pair, chain, chain_ends, chain_goes_on, children, common_steps, false_from_ne_true, goes_at, going, going_at, going_from, holds_of, inheriting, is_going, is_shared, last_of_chain, last_or, may_go, mount_at, mount_in, mount_numbered, mount_point_left, mount_point_of_parent, none_among, number-mount_in, only_cover, pair-map, receivers_of, same_Some, share_a_mount_point, stands_at, stands_on, taken_away}
 use Rattle.vt_laws_mounts.specs.Mounts.Invariants.{AreApart, OneMountEachMountPoint, UnmountLeavesOneMountAMountPoint}
-use Rattle.vt_spec.specs.Machine.Mounts.{Location, children, is_shared, mount_in, stands_at, stands_on, Mount}
-use Rattle.vt_spec.specs.Machine.World.{World, mount_at, mount_numbered}
-use Rattle.vt_spec.specs.Machine.Detach.{after_going, goes_at, going, going_at, going_from, is_going, may_go, only_cover, mount_point_of_parent, mount_point_left, taken_away}
-use Rattle.vt_spec.specs.Lists.{any_pair, chain, holds_of, last_or}
 use Rattle.vt_laws_mounts.proofs.ends.UnmountingGoes.{child_goes}
-use Rattle.std.proofs.lemmas.Bool.{false_from_ne_true}
-use Rattle.std.specs.Prelude.{filter_map, if◌then◌else◌}
 use Rattle.vt_laws_mounts.proofs.mounts.MountsPlaces.{one_place_of_two, one_stander, place_of_both, stands_there}
 use Rattle.vt_laws_mounts.proofs.mounts.MountsReplaced.{found_itself}
 use Rattle.vt_laws_mounts.proofs.mounts.MountsFound.{found_in, placed_among}
 use Rattle.vt_laws_mounts.proofs.ends.Unmounting.{going_is_detached, middle, staying_is_placed}
-use Rattle.vt_spec.specs.Machine.Receives.{inheriting}
 use Rattle.vt_laws_mounts.proofs.Groups.{mounts-regrouped}
-use Rattle.vt_spec.specs.Machine.Attach.{receivers_of}
-use Rattle.std.proofs.lemmas.Option.{same_Some}
-use Rattle.vt_spec.specs.Machine.Invariants.{share_a_mount_point}
 use Rattle.vt_laws_mounts.proofs.mounts.MountsKept.{unmount_keeps_numbers}
-use Rattle.vt_spec.proofs.Worlds.{number-mount_in}
 
 -- a mount's place falls to where mounts that go leave it
 pub data Falls (world : World ℕ) (gone : List ℕ) (mount : Mount ℕ) : Location ℕ → Type 0 where

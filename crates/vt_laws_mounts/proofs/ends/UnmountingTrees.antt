@@ -1,20 +1,12 @@
 -- Mounts that go with all that stands on them leave at most one mount at a place.
-use Rattle.std.proofs.lemmas.Grind.{common_steps}
 use Rattle.std.proofs.Common.{◌≡◌, refl, sym, ap, subst, ◌∙◌, true, zero, suc, nat_eq, ℕ, List, Option, Some, arith, eq-eqb, eqb-true, flat_map, inl, inr, is_some, length, map, option_map, true≢false, ⊎_elim, ◌⊎◌}
-use Rattle.vt_spec.specs.Machine.Mounts.{Location, Mount, children, mount_tree, stands_on, tree_from}
-use Rattle.vt_spec.proofs.Lists.{Among, among-filter, among-flat_map, among-from_filter, among-from_flat_map, among-from_map, among-map, among_from_list_all, among_numbers, chain_goes_on, is_among_numbers, last_of_chain, pair-map}
+use Rattle.vt_spec.proofs.Common.{Among, Location, Mount, World, after_going, among-filter, among-flat_map, among-from_filter, among-from_flat_map, among-from_map, among-map, among_from_list_all, among_numbers, and_parts, any_pair, chain, chain_goes_on, children, common_steps, false_from_ne_true, holds_of, inheriting, is_among_numbers, is_going, last_of_chain, last_or, mount_at, mount_numbered, mount_tree, not-true, pair-map, share_a_mount_point, stands_in_its_namespace, stands_on, taken_away, tree_from}
 use Rattle.vt_laws_mounts.specs.Mounts.Invariants.{AreApart, OneNumberEach, TreesLeaveOneMountAMountPoint}
 use Rattle.vt_laws_mounts.specs.Mounts.Unmounting.{ChainsEnd}
-use Rattle.vt_spec.specs.Machine.World.{World, mount_at, mount_numbered}
-use Rattle.vt_spec.specs.Machine.Detach.{after_going, is_going, taken_away}
-use Rattle.std.proofs.lemmas.Bool.{and_parts, false_from_ne_true, not-true}
-use Rattle.vt_spec.specs.Lists.{any_pair, chain, holds_of, last_or}
 use Rattle.vt_laws_mounts.proofs.mounts.MountsReplaced.{found_itself}
 use Rattle.vt_laws_mounts.proofs.ends.Unmounting.{going_is_detached, left_at_rest, middle, staying_is_placed}
-use Rattle.vt_spec.specs.Machine.Receives.{inheriting}
 use Rattle.vt_laws_mounts.proofs.Groups.{mounts-regrouped}
 use Rattle.vt_laws_mounts.proofs.mounts.MountsPlaces.{one_place_of_two, place_of_both}
-use Rattle.vt_spec.specs.Machine.Invariants.{share_a_mount_point, stands_in_its_namespace}
 use Rattle.vt_laws_mounts.proofs.mounts.MountsKept.{taking_away_keeps_numbers}
 
 -- what stands on a mount that goes, goes

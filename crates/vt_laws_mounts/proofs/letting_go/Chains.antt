@@ -1,13 +1,8 @@
 -- Chains that come to an end: how many steps they have, and that another step that agrees on the way gives the same.
-use Rattle.std.proofs.lemmas.Grind.{common_steps}
 use Rattle.std.proofs.Common.{◌≡◌, refl, sym, ap, subst, ◌∙◌, ⊎_elim, inl, inr, ℕ, zero, suc, nat_eq, eqb-true, false, true≢false, List, [], ◌∷◌, ◌≤◌, length, Option, Some, None, arith}
-use Rattle.std.specs.Cmp.{nat_eq_equiv}
-use Rattle.std.specs.List.{AllByRecursion, IsDistinct}
-use Rattle.std.proofs.lemmas.Bool.{false_from_ne_true}
+use Rattle.vt_spec.proofs.Common.{AllByRecursion, Among, among_numbers, chain, chain_ends, chain_goes_on, common_steps, false_from_ne_true, is_among_numbers, nat_eq_equiv, same_Some}
+use Rattle.std.specs.List.{IsDistinct}
 use Rattle.std.proofs.lemmas.Map.Made.{length-le_from_is_member}
-use Rattle.std.proofs.lemmas.Option.{same_Some}
-use Rattle.vt_spec.specs.Lists.{chain}
-use Rattle.vt_spec.proofs.Lists.{Among, among_numbers, chain_ends, chain_goes_on, is_among_numbers}
 
 differs : (number : ℕ) (others : List ℕ) → ((other : ℕ) → Among other others → nat_eq number other ≡ false)
     → AllByRecursion (λ other. nat_eq number other ≡ false) others

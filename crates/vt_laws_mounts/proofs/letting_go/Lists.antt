@@ -1,12 +1,8 @@
 -- What stands in a list: tests over lists that are shortened or changed.
-use Rattle.std.proofs.lemmas.Grind.{common_steps}
-use Rattle.std.proofs.Common.{◌≡◌, refl, sym, ap, subst, ◌∙◌, inl, inr, ⊎_elim, ℕ, nat_eq, eqb-true, eq-eqb, Bool, true, false, cond, ◌||◌, ◌&&◌, List, [], ◌∷◌, filter, find, map, true≢false, flat_map, ◌++◌, is_some, unwrap_or, None, Option, arith, ◌+◌}
-use Rattle.std.specs.Prelude.{Some, nat_lt}
-use Rattle.std.specs.List.{list_any}
-use Rattle.std.proofs.lemmas.Bool.{or_parts}
-use Rattle.vt_spec.specs.Lists.{any_pair, holds_of, is_among}
+use Rattle.std.proofs.Common.{◌≡◌, refl, sym, ap, subst, ◌∙◌, inl, inr, ⊎_elim, ℕ, nat_eq, eqb-true, eq-eqb, Bool, true, false, cond, ◌||◌, ◌&&◌, List, [], ◌∷◌, filter, find, map, true≢false, flat_map, ◌++◌, is_some, unwrap_or, None, Option, arith, ◌+◌, Some, nat_lt}
+use Rattle.vt_spec.proofs.Common.{any_pair, common_steps, holds_of, is_among, list_any, one_more_is_some, or_parts}
 use Rattle.std.proofs.Math.Nat.{add_assoc}
-use Rattle.vt_spec.proofs.Truths.{as_many_with_none, one_more_is_some}
+use Rattle.vt_spec.proofs.Truths.{as_many_with_none}
 use Rattle.vt_laws_mounts.specs.LettingGo.Counts.{times}
 pub use Rattle.std.proofs.lemmas.Bool.{or_left as or_first, or_right as or_second}
 pub use Rattle.vt_spec.proofs.Lists.{Among, all_from_among, among-append, among-append_left, among-append_right, among-filter, among-filter_map, among-flat_map, among-from_filter, among-from_filter_map, among-from_flat_map, among-from_map, among-map, among_from_all, any_among as one_passes, any_from_among as any_passes, among_from_list_all as passes, filter_here, filter_skip, list_all_from_among as all_pass, map_same, none_among as fails, none_from_among as none_passes}

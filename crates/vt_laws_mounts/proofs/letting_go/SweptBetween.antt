@@ -1,23 +1,13 @@
 -- A change after which the world is swept: a sweep before it as well makes no difference.
-use Rattle.std.proofs.Common.{arith, ◌≡◌, refl, sym, ap, subst, ◌∙◌, ⊎_elim, ℕ, nat_eq, Bool, true, false, cond, not, ◌||◌, ◌&&◌, List, [], ◌∷◌, filter, map, true≢false, flat_map, ◌++◌, Option, Some, None, option_map}
-use Rattle.std.proofs.lemmas.Grind.{common_steps}
-use Rattle.std.specs.Prelude.{All, filter_map}
-use Rattle.std.specs.List.{list_all, list_any}
-use Rattle.std.proofs.lemmas.Bool.{and_parts, not-true, or_cases, cases_Bool}
-use Rattle.vt_spec.specs.Lists.{holds_of, is_among}
-use Rattle.vt_spec.specs.Machine.Locked.{of_overlay, overlay_or}
-use Rattle.vt_spec.specs.Machine.Mounts.{Mount}
-use Rattle.vt_spec.specs.Machine.Receives.{has_members}
-use Rattle.vt_spec.specs.Machine.Settled.{filesystem_lives, has_layer_on, is_mounted, layers_in, located_in, mount_lives, named_in, objects_of_overlay, only_used, only_used_of, settled, used_in, without_dead_filesystems, without_dead_in, without_dead_mounts, without_dead_groups}
-use Rattle.vt_spec.specs.Machine.World.{Filesystem, Namespace, Overlay, Task, World, is_overlay, layers_of, upper_object, with_mounts}
-use Rattle.vt_spec.specs.Machine.Invariants.{ListsNumbers}
+use Rattle.std.proofs.Common.{arith, ◌≡◌, refl, sym, ap, subst, ◌∙◌, ⊎_elim, ℕ, nat_eq, Bool, true, false, cond, not, ◌||◌, ◌&&◌, List, [], ◌∷◌, filter, map, true≢false, flat_map, ◌++◌, Option, Some, None, option_map, All, filter_map}
+use Rattle.vt_spec.proofs.Common.{Filesystem, ListsNumbers, Mount, Namespace, Overlay, Task, World, and_parts, cases_Bool, common_steps, filesystem_lives, has_layer_on, has_members, holds_of, is_among, is_mounted, is_overlay, layers_in, layers_of, list_all, list_any, located_in, map_alike, map_twice, mount_lives, named_in, not-true, objects_of_overlay, of_overlay, only_used, only_used_of, or_cases, overlay_or, settled, upper_object, used_in, with_mounts, without_dead_filesystems, without_dead_groups, without_dead_in, without_dead_mounts}
 use Rattle.vt_laws_mounts.specs.LettingGo.InUse.{HasTrees, IsListedTree, UppersArePlain, has_upper_in, is_inode_used}
 use Rattle.vt_laws_mounts.specs.LettingGo.Overlays.{RealsAreThere}
 use Rattle.vt_laws_mounts.proofs.letting_go.sweeps.InUse.{layers_stay, UnusedAreEmpty, after_first, after_second, first_layers, layers-first, layers-second, layers_on, left_by, named-left, no_objects, no_upper_objects, number-first, number-left, number-second, overlay-left, root-left, second_leaves, unused_are_empty, upper-left}
 use Rattle.vt_laws_mounts.proofs.letting_go.sweeps.Inodes.{numbers_without}
 use Rattle.vt_laws_mounts.proofs.letting_go.Lists.{Among, among-append, among-append_left, among-append_right, among-filter, among-filter_map, among-flat_map, among-from_filter, among-from_filter_map, among-from_flat_map, among-from_map, among-map, among_from_all, among_numbers, any-filter, any-map, any_passes, filter-map, filter_twice, flat_map-map, flat_map-of_map, flat_map_alike, flat_map_none, is_among_numbers, one_passes, or_first, or_second}
 use Rattle.vt_laws_mounts.proofs.letting_go.sweeps.Merged.{HasReals, left_of, reals_without, without_all, without_both}
-use Rattle.vt_spec.proofs.Lists.{map_alike, map_twice, none-filter}
+use Rattle.vt_spec.proofs.Lists.{none-filter}
 
 -- one of two tests that follows from the other
 pub follows : (a b : Bool) → (a ≡ true → b ≡ true) → a ≡ (b && a)

@@ -1,16 +1,8 @@
 -- Names of a tree, and inodes that are used no more.
 use Rattle.std.proofs.Common.{arith, ◌≡◌, ◌≢◌, refl, sym, ap, ◌∙◌, true≢false, ⊎_elim, ℕ, nat_eq, true, false, List, [], map, Option, Some, None, is_some}
-use Rattle.std.proofs.lemmas.Grind.{common_steps}
-use Rattle.vt_spec.specs.Tree.{Node, entries_in, entry_named, is_directory_node}
-use Rattle.vt_spec.specs.TreeInvariant.{HasName}
-use Rattle.vt_spec.specs.FileTree.{FileTree, targets_in}
-use Rattle.vt_spec.specs.Lists.{is_among}
-use Rattle.vt_spec.specs.Machine.Settled.{named_in}
-use Rattle.vt_spec.proofs.Nodes.{none_is_not}
+use Rattle.vt_spec.proofs.Common.{FileTree, HasName, Node, among_targets, cases_Bool, common_steps, entries_in, entry_named, is_among, is_directory_node, named_in, none_is_not, targets_in}
 use Rattle.vt_laws_mounts.specs.LettingGo.InUse.{IsListedTree}
 use Rattle.vt_laws_mounts.proofs.letting_go.Lists.{among-flat_map, among_numbers, is_among_numbers}
-use Rattle.std.proofs.lemmas.Bool.{cases_Bool}
-use Rattle.vt_spec.proofs.Found.{among_targets}
 
 -- what has an entry is there
 there_with_entry : (name : List ℕ) (number : ℕ) (o : Option (Node ℕ)) → entry_named name (entries_in o) ≡ Some number

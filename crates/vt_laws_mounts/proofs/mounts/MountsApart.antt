@@ -1,25 +1,13 @@
 -- Mounts stay apart, by number and by place.
-use Rattle.std.proofs.Common.{arith, ◌≡◌, refl, ap, ◌∙◌, true, false, nat_eq, ℕ, Bool, List, [], eqb-true, is_some, map, ◌&&◌, ◌∷◌, ⊎_elim, ◌++◌}
-use Rattle.std.proofs.lemmas.Grind.{common_steps}
-use Rattle.vt_spec.specs.Machine.Mounts.{Mount, mount_in, mount_tree, replaced_if_same, same_location, with_mount, numbers_by}
-use Rattle.vt_spec.proofs.Lists.{Among, pair-filter, pair-map, among-append, among-from_map, among_from_list_all, list_all_from_among}
+use Rattle.std.proofs.Common.{arith, ◌≡◌, refl, ap, ◌∙◌, true, false, nat_eq, ℕ, Bool, List, [], eqb-true, is_some, map, ◌&&◌, ◌∷◌, ⊎_elim, ◌++◌, if◌then◌else◌}
+use Rattle.vt_spec.proofs.Common.{Among, Mount, World, among-append, among-from_map, among_from_list_all, any_pair, common_steps, copied_mount, deepest_first, evens, folded, inheriting, is_nowhere_or_attached, list_all_from_among, mount_at, mount_in, mount_lives, mount_numbered, mount_tree, mounts_of, named_mounts, number-mount_in, numbers_by, odds, pair-filter, pair-map, replaced_if_same, same_location, same_option, share_a_mount_point, unmounted, unmounted_if_there, with_mount}
 use Rattle.vt_laws_mounts.specs.Mounts.Invariants.{AreApart, KeptByFlags, KeptByInheritance, KeptByLazyUnmount, KeptBySettling, KeptByType, NowhereOrAttached, OneNumberEach, FlagsKeepNowhere, KeptByUnshare}
-use Rattle.vt_spec.specs.Lists.{any_pair, folded, same_option, evens, odds}
 use Rattle.vt_laws_mounts.specs.Mounts.MountPoints.{OneMountAMountPoint}
 use Rattle.vt_laws_mounts.specs.Mounts.Attaching.{OneNumberAMount}
-use Rattle.vt_spec.specs.Machine.World.{World, mount_at, mount_numbered, mounts_of}
 use Rattle.vt_laws_mounts.proofs.mounts.MountsRetyped.{between, groups_by, retype, retype_keeps}
-use Rattle.vt_spec.specs.Machine.Detach.{deepest_first, unmounted, unmounted_if_there}
 use Rattle.vt_laws_mounts.proofs.mounts.MountsKept.{flags_keep_numbers, inheritance_keeps_numbers, settling_keeps_numbers, unmount_keeps_nowhere, unmount_keeps_numbers, types_keep_numbers}
 use Rattle.vt_laws_mounts.proofs.mounts.MountsReplaced.{found_itself, replaced_elsewhere, replaced_there}
-use Rattle.std.specs.Prelude.{if◌then◌else◌}
-use Rattle.vt_spec.specs.Machine.Receives.{inheriting}
-use Rattle.vt_spec.specs.Machine.Settled.{mount_lives}
 use Rattle.vt_laws_mounts.proofs.Groups.{mounts-regrouped}
-use Rattle.vt_spec.specs.Machine.Types.{named_mounts}
-use Rattle.vt_spec.specs.Machine.Invariants.{share_a_mount_point, is_nowhere_or_attached}
-use Rattle.vt_spec.specs.Machine.Namespaces.{copied_mount}
-use Rattle.vt_spec.proofs.Worlds.{number-mount_in}
 
 -- places that stay the same stay apart
 places_same : (f : Mount ℕ → Mount ℕ) (mounts : List (Mount ℕ))

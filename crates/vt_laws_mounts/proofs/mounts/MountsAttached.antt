@@ -1,20 +1,9 @@
 -- What is attached leaves the mounts that were there.
-use Rattle.std.proofs.Common.{arith, ◌≡◌, refl, sym, ap, ◌∙◌, Bool, List, None, Some, [], ℕ, ◌∷◌, nat_eq, append_assoc, cond, eq-eqb, find, flat_map, inl, inr, map, subst, ◌++◌, false, true, length, ◌⊎◌}
-use Rattle.std.proofs.lemmas.Grind.{common_steps}
-use Rattle.std.specs.List.{list_any}
-use Rattle.std.proofs.lemmas.List.{map-append}
-use Rattle.vt_spec.specs.Machine.Attach.{Copies, Graft, added_mounts, attached_by, copies_at, copies_from, copy_number, graft_of, moved_tree, parts_of, pushed_onto, pushed_up, with_moved_mounts}
+use Rattle.std.proofs.Common.{arith, ◌≡◌, refl, sym, ap, ◌∙◌, Bool, List, None, Some, [], ℕ, ◌∷◌, nat_eq, append_assoc, cond, eq-eqb, find, flat_map, inl, inr, map, subst, ◌++◌, false, true, length, ◌⊎◌, if◌then◌else◌}
+use Rattle.vt_spec.proofs.Common.{Among, Copies, Fresh, Graft, Location, Mount, World, added_mounts, among-from_map, among-map, attached_by, common_steps, copies_at, copies_from, copy_number, folded, graft_of, is_among, list_any, map-append, mount_at, mount_in, mount_numbered, moved_tree, nat_eq_false_turned, no_mount, none_among, number-mount_in, or_parts, parts_of, pushed_onto, pushed_up, rest_of, stands_at, tree_among, with_mount, with_moved_mounts}
 use Rattle.vt_laws_mounts.specs.Mounts.Attaching.{KeepsAllButMountPoint, AttachKeepsMounts, AttachLeavesMounts, KeepsWhatItShows, MoveKeepsMounts, MoveLeavesMounts, NewMountsFollow, is_mount, numbers_of, stands_at_a_receiver, MovedMountsShow}
-use Rattle.vt_spec.specs.Machine.Mounts.{Mount, no_mount, stands_at, Location, mount_in, with_mount}
-use Rattle.vt_spec.specs.Machine.World.{World, mount_at, mount_numbered}
-use Rattle.vt_spec.specs.Lists.{folded, rest_of, Fresh, is_among}
-use Rattle.std.specs.Prelude.{if◌then◌else◌}
-use Rattle.std.proofs.lemmas.Bool.{or_parts}
-use Rattle.vt_spec.proofs.Lists.{Among, among-from_map, among-map, none_among}
 use Rattle.vt_laws_mounts.proofs.mounts.MountsReplaced.{found-append, found-with_mount_other, numbers-with_mount, found_itself, related-with_mount}
 use Rattle.vt_laws_mounts.proofs.mounts.MountsFound.{found-map, numbers-map}
-use Rattle.vt_spec.proofs.Truths.{nat_eq_false_turned}
-use Rattle.vt_spec.proofs.Worlds.{number-mount_in, tree_among}
 
 -- a test that no element passes finds none
 none_found : {A : Type 0} (test : A → Bool) (xs : List A) → list_any test xs ≡ false → find test xs ≡ None

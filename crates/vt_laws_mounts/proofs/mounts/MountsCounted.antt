@@ -1,12 +1,6 @@
 -- How many mounts a namespace has, and how many root mounts.
 use Rattle.std.proofs.Common.{arith, ◌≡◌, refl, ap, ◌∙◌, nat_eq, ℕ, Bool, List, [], filter, is_some, length, map, not, ◌∷◌}
-use Rattle.std.proofs.lemmas.Grind.{common_steps}
-use Rattle.std.proofs.lemmas.List.{length-map}
-use Rattle.vt_spec.proofs.Lists.{Among, among-from_filter, filter_here, filter_skip}
-use Rattle.vt_spec.specs.Lists.{holds_of}
-use Rattle.vt_spec.specs.Machine.Mounts.{Mount}
-use Rattle.vt_spec.specs.Machine.World.{World, mounts_of}
-use Rattle.vt_spec.specs.Machine.Invariants.{is_root_mount}
+use Rattle.vt_spec.proofs.Common.{Among, Mount, World, among-from_filter, common_steps, filter_here, filter_skip, holds_of, is_root_mount, length-map, mounts_of}
 use Rattle.vt_laws_mounts.specs.Mounts.Namespaces.{HasAsMany}
 use Rattle.vt_laws_mounts.specs.Mounts.Ending.{is_in}
 

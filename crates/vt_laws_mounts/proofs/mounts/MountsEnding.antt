@@ -1,21 +1,13 @@
 -- The places below places come to an end through changes of types and flags.
 use Rattle.std.proofs.Common.{arith, ◌≡◌, refl, sym, ap, subst, ◌∙◌, zero, suc, nat_eq, ℕ, Option, is_some, length, not, option_map, ◌&&◌}
-use Rattle.std.proofs.lemmas.Grind.{common_steps}
-use Rattle.vt_spec.specs.Machine.Mounts.{Mount, mount_in}
-use Rattle.vt_spec.proofs.Lists.{Among, among-map, among_from_list_all, chain_ends, chain_goes_on, is_among_numbers, last_of_chain, list_all_from_among}
+use Rattle.vt_spec.proofs.Common.{Among, Mount, World, among-map, among_from_list_all, chain, chain_ends, chain_goes_on, common_steps, is_among, is_among_numbers, last_of_chain, last_or, last_parent, length-map, list_all_from_among, mount_at, mount_in, mount_numbered, number-mount_in, same_option, stands_in_its_namespace, with_flags, with_type}
 use Rattle.vt_laws_mounts.specs.Mounts.Invariants.{FlagsKeepChainsEnding, InheritanceKeepsChainsEnding, OneNumberEach, TypeKeepsChainsEnding}
 use Rattle.vt_laws_mounts.specs.Mounts.Unmounting.{ChainsEnd}
-use Rattle.vt_spec.specs.Machine.World.{World, mount_at, mount_numbered, with_flags}
-use Rattle.vt_spec.specs.Lists.{chain, is_among, last_or, same_option}
 use Rattle.vt_laws_mounts.proofs.mounts.MountsFound.{found-map, found_there, numbers-map}
 use Rattle.vt_laws_mounts.proofs.mounts.MountsReplaced.{found_itself, numbers-with_mount, one_number_by_numbers, related-with_mount}
-use Rattle.vt_spec.specs.Machine.Invariants.{last_parent, stands_in_its_namespace}
-use Rattle.std.proofs.lemmas.List.{length-map}
 use Rattle.vt_laws_mounts.proofs.Groups.{mounts-regrouped}
 use Rattle.vt_laws_mounts.specs.Mounts.Attaching.{numbers_of}
 use Rattle.vt_laws_mounts.proofs.mounts.MountsRetyped.{numbers_with_type, type_is_all_that_changes}
-use Rattle.vt_spec.specs.Machine.Types.{with_type}
-use Rattle.vt_spec.proofs.Worlds.{number-mount_in}
 
 -- a mount with the place and the namespace of another
 pub record StandsAlike (before later : Mount ℕ) : Type 0 where

@@ -1,27 +1,11 @@
 -- What a granted call leaves.
 use Rattle.std.proofs.Common.{arith, ◌≡◌, refl, sym, ap, ◌∙◌, ℕ, nat_eq, Bool, true, false, not, ◌||◌, List, [], ◌∷◌, Some, is_ok, ok_or, Ok, Result, flat_map, inl, inr, is_some, map, subst, ◌++◌, ◌⊎◌}
-use Rattle.std.proofs.lemmas.Grind.{common_steps}
+use Rattle.vt_spec.proofs.Common.{Answer, Call, Fresh, Mount, Outcome, Permit, Stop, Task, TaskName, World, after, apply, call_outcome, common_steps, denial, filesystems_changed_by, finished, finished_by, judge_in, list_any, locations_of, looks_of, mount_lives, numbers_raised, only_looks, overfills, policy, raised_task, same_ok, settled, task_called, walk_end}
 use Rattle.vt_spec.specs.declared.errors.Rule.TheVariants.{S2}
-use Rattle.vt_spec.specs.Errors.{denial}
-use Rattle.vt_spec.specs.Language.Calls.{Call, TaskName}
-use Rattle.vt_spec.specs.Lists.{Fresh}
-use Rattle.vt_spec.specs.Machine.Mounts.{Mount}
-use Rattle.vt_spec.specs.Language.Answers.{Answer}
-use Rattle.vt_spec.specs.Machine.Outcomes.{Outcome, after}
-use Rattle.vt_spec.specs.Machine.Judge.{judge_in}
-use Rattle.vt_spec.specs.Machine.Policy.{call_outcome, filesystems_changed_by, finished, finished_by, numbers_raised, only_looks, policy, raised_task}
-use Rattle.vt_spec.specs.Machine.Settled.{mount_lives, settled}
-use Rattle.vt_spec.specs.Machine.World.{Task, World, locations_of, task_called}
 use Rattle.vt_laws_mounts.specs.Mounts.FileCalls.{HasLiving}
 use Rattle.std.proofs.lemmas.List.Elements.{filter_agree}
-use Rattle.std.specs.List.{list_any}
 use Rattle.vt_laws_rules.proofs.given.CallsGranted.{answered_holds}
 use Rattle.vt_laws_rules.specs.Granted.{IsGranted}
-use Rattle.vt_spec.proofs.Refusals.{same_ok}
-use Rattle.vt_spec.specs.Machine.Apply.{apply, overfills}
-use Rattle.vt_spec.specs.Machine.Looks.{looks_of}
-use Rattle.vt_spec.specs.Machine.Permits.{Permit}
-use Rattle.vt_spec.specs.Machine.Walking.{Stop, walk_end}
 
 -- a walk ends at one place
 pub one_end : {A : Type 0} (walk : Result A (Stop ℕ)) (a b : A) → walk ≡ Ok a → walk_end walk ≡ Ok b → a ≡ b

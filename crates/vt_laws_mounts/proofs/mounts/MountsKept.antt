@@ -1,24 +1,13 @@
 -- Conditions of a world that changes of mounts keep.
 use Rattle.std.proofs.Common.{arith, ◌≡◌, refl, ap, ◌∙◌, true, List, filter, map, true≢false, ℕ, nat_eq}
-use Rattle.std.proofs.lemmas.Grind.{common_steps}
-use Rattle.vt_spec.specs.Machine.World.{World, mount_at, mount_numbered, with_flags}
+use Rattle.vt_spec.proofs.Common.{Mount, World, after_going, all-filter, all-map, common_steps, going, inheriting, is_in_ended, is_nowhere_or_attached, list_all, mount_at, mount_lives, mount_numbered, number-pivoted_mount, pair-filter, pivoted, pivoted_mount, regrouped, taken_away, with_flags, with_type}
 use Rattle.vt_laws_mounts.proofs.mounts.MountsReplaced.{one_number_by_numbers, numbers-with_mount}
-use Rattle.std.specs.List.{list_all}
 use Rattle.vt_laws_mounts.specs.Mounts.Invariants.{KeptByEndedNamespaces, KeptByFlags, KeptByInheritance, KeptByPivot, KeptBySettling, KeptByTakingAway, KeptByType, KeptByUnmount, NowhereOrAttached, OneNumberEach}
-use Rattle.vt_spec.specs.Machine.Mounts.{Mount}
-use Rattle.vt_spec.specs.Machine.Detach.{after_going, going, taken_away}
-use Rattle.vt_spec.proofs.Lists.{all-filter, all-map, pair-filter}
-use Rattle.vt_spec.specs.Machine.Receives.{inheriting, regrouped}
-use Rattle.vt_spec.specs.Machine.Namespaces.{is_in_ended, pivoted, pivoted_mount}
-use Rattle.vt_spec.specs.Machine.Invariants.{is_nowhere_or_attached}
 use Rattle.vt_laws_mounts.proofs.ends.Unmounting.{middle, numbers_taken}
-use Rattle.vt_spec.specs.Machine.Settled.{mount_lives}
 use Rattle.vt_laws_mounts.proofs.Groups.{mounts-regrouped}
 use Rattle.vt_laws_mounts.proofs.mounts.MountsFound.{numbers-map}
 use Rattle.vt_laws_mounts.specs.Mounts.Attaching.{numbers_of}
 use Rattle.vt_laws_mounts.proofs.mounts.MountsRetyped.{numbers_with_type}
-use Rattle.vt_spec.specs.Machine.Types.{with_type}
-use Rattle.vt_spec.proofs.Worlds.{number-pivoted_mount}
 
 -- Numbers
 pub numbers_regrouped : (world : World ℕ) → numbers_of (regrouped nat_eq world).mounts ≡ numbers_of world.mounts

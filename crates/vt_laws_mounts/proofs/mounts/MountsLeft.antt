@@ -1,26 +1,11 @@
 -- Calls that are of no mount leave the mounts as they were.
 use Rattle.std.proofs.Common.{arith, ◌≡◌, refl, sym, ℕ, nat_eq, Bool, true, false, true≢false, List, [], ◌∷◌}
-use Rattle.std.proofs.lemmas.Grind.{common_steps}
-use Rattle.vt_spec.specs.Language.Calls.{Call}
-use Rattle.vt_spec.specs.Language.Calls.Call.{Bind, Exit, Lazy, MountOverlay, MountPlain, MoveMount, PivotRoot, Remount, Rename, Rmdir, SetType, Setns, Umount, Unshare}
-use Rattle.vt_spec.specs.Language.Changes.{Change}
-use Rattle.vt_spec.specs.Machine.Filesystems.{with_change}
-use Rattle.vt_spec.specs.Lists.{Fresh, odds, evens}
-use Rattle.vt_spec.specs.Machine.Mounts.{Location}
-use Rattle.vt_spec.specs.Machine.Descriptors.{pwritten, with_copy, is_copied_up, overwritten}
-use Rattle.vt_spec.specs.Machine.Rows.{file_mode, linking, making, new_file}
-use Rattle.vt_spec.specs.Machine.Rules.Removing.{object_there, removing}
-use Rattle.vt_spec.specs.Machine.World.{Task, World, node_at}
-use Rattle.vt_spec.specs.Tree.{bytes_in}
+use Rattle.vt_spec.proofs.Common.{Bind, Call, Change, CopyUp, Exit, Fresh, Lazy, Location, MountOverlay, MountPlain, MoveMount, Permit, PivotRoot, Remount, Rename, Rmdir, SetBytes, SetMark, SetType, Setns, Task, Umount, Unshare, World, apply, bytes_in, common_steps, evens, file_mode, is_copied_up, linking, looks_of, making, new_file, node_at, object_there, odds, overfills, overwritten, pwritten, removing, with_change, with_copy}
 use Rattle.vt_laws_mounts.specs.Mounts.FileCalls.{FileCallsLeaveMounts, is_of_no_mount}
 use Rattle.vt_laws_mounts.proofs.mounts.MountsGranted.{policy_leaves}
-use Rattle.vt_spec.specs.Language.Changes.Change.{CopyUp, SetBytes, SetMark}
 use Rattle.vt_laws_rules.proofs.given.CallsGranted.{call_holds}
 use Rattle.vt_laws_rules.specs.Granted.{IsGranted, directory_made, symlink_made, whiteout_made}
 use Rattle.vt_laws_rules.specs.Granted.IsGranted.{changes_mark, changes_mode, changes_owner, creates, creates_exclusively, makes_directory, makes_hard_link, makes_symlink, makes_whiteout, opens, opens_existing, overwrites_file, unlinks, writes_new_file, writes_part}
-use Rattle.vt_spec.specs.Machine.Apply.{apply, overfills}
-use Rattle.vt_spec.specs.Machine.Looks.{looks_of}
-use Rattle.vt_spec.specs.Machine.Permits.{Permit}
 
 module _ (world : World ℕ) where
   pub mounts-with_change : (fresh : Fresh ℕ) (location : Location ℕ) (change : Change ℕ)

@@ -1,28 +1,13 @@
 -- New mounts have numbers of their own.
-use Rattle.std.proofs.lemmas.Grind.{common_steps}
-use Rattle.std.proofs.Common.{◌≡◌, refl, sym, ap, subst, ◌∙◌, true, false, suc, nat_eq, ℕ, Bool, List, [], arith, eqb-true, flat_map, inl, inr, length, map, option_map, true≢false, unwrap_or, ⊎_elim, ◌&&◌, ◌++◌, ◌+◌, ◌<◌, ◌∷◌, Some, None, Option, eq-eqb, filter, ◌/◌}
-use Rattle.std.specs.List.{list_any}
-use Rattle.vt_spec.specs.Machine.Mounts.{Mount, Location, group_of, numbers_by, index_of}
-use Rattle.vt_spec.proofs.Lists.{Among, among-append, among-append_left, among-flat_map, among-from_filter, among-from_flat_map, among-from_map, any_among, is_among_numbers, none_among, none_from_among, among-map, pair-filter, pair-map}
+use Rattle.std.proofs.Common.{◌≡◌, refl, sym, ap, subst, ◌∙◌, true, false, suc, nat_eq, ℕ, Bool, List, [], arith, eqb-true, flat_map, inl, inr, length, map, option_map, true≢false, unwrap_or, ⊎_elim, ◌&&◌, ◌++◌, ◌+◌, ◌<◌, ◌∷◌, Some, None, Option, eq-eqb, filter, ◌/◌, if◌then◌else◌, slice_get, ◌*◌}
+use Rattle.vt_spec.proofs.Common.{Among, Copies, Fresh, Graft, Location, Mount, Namespace, Serves, Twig, World, among-append, among-append_left, among-flat_map, among-from_filter, among-from_flat_map, among-from_map, among-map, and_parts, any_among, any_pair, attached_by, common_steps, copied_mount, copies_at, copies_from, copy_at, evens, evens-distinct, false_from_ne_true, graft_of, group_of, has_members, holds_of, index_from, index_in_rows, index_of, index_of_group, is_among_numbers, is_destination, is_member_of, list_any, mount_at, mounts_of, nat_eq_false_turned, none_among, none_from_among, not-true, number-mount_in, numbers_by, numbers_in_use, odds, odds-distinct, odds-no_evens, or_from, or_parts, pair-filter, pair-map, parts_of, receivers, receivers_of, receives, same_Some, served-distinct, slice_get_within, takes_part, twig_of, used_by_filesystem, used_by_mount}
 use Rattle.vt_laws_mounts.proofs.GroupsKept.{member_shared}
-use Rattle.vt_spec.specs.Lists.{Fresh, any_pair, evens, holds_of, odds, index_from}
-use Rattle.vt_spec.specs.Machine.Attach.{Copies, Graft, Twig, attached_by, copies_at, copies_from, copy_at, graft_of, index_of_group, is_destination, index_in_rows, parts_of, receivers_of, takes_part, twig_of}
-use Rattle.vt_spec.specs.Machine.Receives.{has_members, is_member_of, receivers, receives}
-use Rattle.vt_spec.specs.Machine.Run.{Serves, numbers_in_use, used_by_filesystem, used_by_mount}
-use Rattle.vt_spec.specs.Machine.World.{World, Namespace, mount_at, mounts_of}
 use Rattle.vt_laws_mounts.proofs.mounts.MountsReplaced.{pair_by_numbers}
-use Rattle.std.proofs.lemmas.Bool.{and_parts, false_from_ne_true, or_from, or_parts, not-true}
 use Rattle.std.proofs.lemmas.Nat.{div-mul-add}
-use Rattle.std.specs.Prelude.{if◌then◌else◌, slice_get, ◌*◌}
 use Rattle.vt_laws_mounts.specs.Mounts.Attaching.{OneNumberAMount, numbers_of}
 use Rattle.vt_laws_mounts.specs.Mounts.Invariants.{AttachKeepsNumbers, UnshareKeepsNumbers}
 use Rattle.vt_laws_mounts.specs.Mounts.Copies.{CopiesKeepNumbers, IsOneOf, ServeAsCopies, ServeAsImages, SuppliesServeAsCopies, SuppliesServeAsImages}
-use Rattle.vt_spec.specs.Machine.Namespaces.{copied_mount}
 use Rattle.vt_laws_mounts.proofs.mounts.MountsAttached.{numbers_attached, others}
-use Rattle.std.proofs.lemmas.Option.{same_Some, slice_get_within}
-use Rattle.vt_spec.proofs.Truths.{nat_eq_false_turned}
-use Rattle.vt_spec.proofs.Worlds.{number-mount_in}
-use Rattle.vt_spec.proofs.FreshNumbers.{evens-distinct, odds-distinct, odds-no_evens, served-distinct}
 
 -- lists that are apart, and apart from one another
 pub pair-append : {A : Type 0} (test : A → A → Bool) (xs ys : List A) → any_pair test xs ≡ false

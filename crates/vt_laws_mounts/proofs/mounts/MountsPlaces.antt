@@ -1,14 +1,7 @@
 -- Where mounts stand.
 use Rattle.std.proofs.Common.{arith, ◌≡◌, refl, sym, ap, ◌∙◌, ℕ, nat_eq, eq-eqb, true, true≢false, ◌&&◌, List, [], ◌∷◌, Some, is_some}
-use Rattle.std.proofs.lemmas.Grind.{common_steps}
-use Rattle.std.proofs.lemmas.Bool.{and_from, or_parts}
-use Rattle.std.proofs.lemmas.Option.{same_Some}
-use Rattle.vt_spec.specs.Lists.{holds_of, same_option}
-use Rattle.vt_spec.specs.Machine.Mounts.{Location, Mount, child_at, same_location, stands_at}
-use Rattle.vt_spec.specs.Machine.Invariants.{share_a_mount_point}
+use Rattle.vt_spec.proofs.Common.{Among, Location, Mount, all_from_among, and_from, child_at, common_steps, holds_of, none_among, or_parts, same_Some, same_location, same_location_is, same_option, share_a_mount_point, stands_at}
 use Rattle.vt_laws_mounts.specs.Mounts.MountPoints.{OneMountAMountPoint, StandsAloneAtItsMountPoint}
-use Rattle.vt_spec.proofs.Lists.{Among, all_from_among, none_among}
-use Rattle.vt_spec.proofs.Worlds.{same_location_is}
 
 pub same_location_itself : (place : Location ℕ) → same_location nat_eq place place ≡ true
 same_location_itself place =

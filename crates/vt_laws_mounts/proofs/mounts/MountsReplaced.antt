@@ -1,16 +1,8 @@
 -- A mount in the place of the one with its number.
-use Rattle.std.proofs.Common.{arith, ◌≡◌, refl, sym, ap, ◌∙◌, List, [], eq-eqb, eqb-true, nat_eq, true≢false, ℕ, ◌++◌, ◌||◌, ◌∷◌, false, true}
-use Rattle.std.proofs.lemmas.Grind.{common_steps}
-use Rattle.vt_spec.specs.Machine.Mounts.{Mount, mount_in, no_mount, replaced_if_same, with_mount}
+use Rattle.std.proofs.Common.{arith, ◌≡◌, refl, sym, ap, ◌∙◌, List, [], eq-eqb, eqb-true, nat_eq, true≢false, ℕ, ◌++◌, ◌||◌, ◌∷◌, false, true, if◌then◌else◌}
+use Rattle.vt_spec.proofs.Common.{Among, Mount, any_pair, common_steps, is_among, list_any, mount_in, nat_eq_false_turned, no_mount, none_among, number-mount_in, or_parts, replaced_if_same, with_mount}
 use Rattle.vt_laws_mounts.proofs.mounts.MountsFound.{found-map, numbers-map}
-use Rattle.std.specs.Prelude.{if◌then◌else◌}
-use Rattle.vt_spec.specs.Lists.{is_among, any_pair}
 use Rattle.vt_laws_mounts.specs.Mounts.Attaching.{numbers_of, OneNumberAMount}
-use Rattle.std.proofs.lemmas.Bool.{or_parts}
-use Rattle.vt_spec.proofs.Lists.{Among, none_among}
-use Rattle.std.specs.List.{list_any}
-use Rattle.vt_spec.proofs.Truths.{nat_eq_false_turned}
-use Rattle.vt_spec.proofs.Worlds.{number-mount_in}
 pub use Rattle.vt_spec.proofs.Worlds.{tree_among}
 
 module _ (new : Mount ℕ) where

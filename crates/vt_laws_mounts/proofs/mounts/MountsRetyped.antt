@@ -1,24 +1,12 @@
 -- A change of flags or of type is of the mounts that it names.
-use Rattle.std.proofs.Common.{arith, ◌≡◌, refl, sym, ap, ◌∙◌, true, false, Bool, ℕ, nat_eq, List, None, [], inl, map, ◌∷◌, ◌||◌}
-use Rattle.std.proofs.lemmas.Grind.{common_steps}
-use Rattle.std.specs.List.{list_any}
-use Rattle.vt_spec.specs.Machine.Mounts.Propagation.{Private, Shared, Slave, Unbindable}
-use Rattle.vt_spec.specs.Language.Calls.TypeWord.{ToSlave}
+use Rattle.std.proofs.Common.{arith, ◌≡◌, refl, sym, ap, ◌∙◌, true, false, Bool, ℕ, nat_eq, List, None, [], inl, map, ◌∷◌, ◌||◌, if◌then◌else◌}
+use Rattle.vt_spec.proofs.Common.{Fresh, Mount, Private, Propagation, Shared, Slave, ToSlave, TypeWord, Unbindable, World, common_steps, has_members, inherited, inheriting, is_among, is_among_numbers, list_any, master_after, mount_at, mount_in, mount_numbered, named_mounts, number-mount_in, numbers_by, retyped, retyped_mount, slave_of_heir, type_after, with_master, with_mount, with_new_groups, with_type}
 use Rattle.vt_laws_mounts.specs.Mounts.Changing.{FlagsAreOfOne, FlagsAreSet, KeepsAllButType, AloneIsPrivate, TypeIsAllThatChanges, TypeIsOfTheNamed, TypeIsTaken, TypesAreOfMounts}
 use Rattle.vt_laws_mounts.specs.Mounts.Unmounting.{KeepsAllButMounts, has_its_master}
-use Rattle.vt_spec.specs.Machine.Mounts.{Mount, Propagation, mount_in, numbers_by, with_mount}
-use Rattle.vt_spec.specs.Language.Calls.{TypeWord}
-use Rattle.vt_spec.specs.Machine.World.{World, mount_numbered, mount_at}
 use Rattle.vt_laws_mounts.proofs.mounts.MountsFound.{found-map, found-map_there, numbers-map}
 use Rattle.vt_laws_mounts.proofs.mounts.MountsReplaced.{found-with_mount_itself, found-with_mount_other, none_numbered}
-use Rattle.vt_spec.specs.Machine.Receives.{has_members, inherited, inheriting, slave_of_heir}
 use Rattle.vt_laws_mounts.proofs.Groups.{inherited_kept, members-regrouped, mounts-regrouped, no_heir}
-use Rattle.vt_spec.specs.Lists.{is_among, Fresh}
 use Rattle.vt_laws_mounts.specs.Mounts.Attaching.{is_mount, numbers_of}
-use Rattle.vt_spec.specs.Machine.Types.{master_after, named_mounts, retyped, retyped_mount, type_after, with_master, with_new_groups, with_type}
-use Rattle.vt_spec.proofs.Lists.{is_among_numbers}
-use Rattle.std.specs.Prelude.{if◌then◌else◌}
-use Rattle.vt_spec.proofs.Worlds.{number-mount_in}
 
 pub flags_are_set : FlagsAreSet
 flags_are_set world here flags there =

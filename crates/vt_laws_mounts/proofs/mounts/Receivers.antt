@@ -1,20 +1,8 @@
 -- What the policy takes for the receivers of a group is what receives from it.
-use Rattle.std.proofs.Common.{arith, ◌≡◌, refl, sym, ap, subst, ◌∙◌, ⊎_elim, ℕ, zero, suc, nat_eq, Bool, true, false, true≢false, [], ◌∷◌, length, Option, Some, None, is_some}
-use Rattle.std.proofs.lemmas.Grind.{common_steps}
-use Rattle.std.specs.Prelude.{◌↔◌}
-use Rattle.std.specs.List.{list_all}
-use Rattle.std.proofs.lemmas.Bool.{not-true}
-use Rattle.std.proofs.lemmas.Option.{same_Some}
-use Rattle.vt_spec.specs.Lists.{chain, holds_of, is_among, last_or}
-use Rattle.vt_spec.specs.Machine.Mounts.{Mount, Propagation, source_of}
-use Rattle.vt_spec.specs.Machine.Mounts.Propagation.{Private, Shared, Slave, Unbindable}
-use Rattle.vt_spec.specs.Machine.Receives.{Receives, groups_up, has_members, receives}
-use Rattle.vt_spec.specs.Machine.Receives.Receives.{further_down, member, slave}
-use Rattle.vt_spec.specs.Machine.World.{World}
+use Rattle.std.proofs.Common.{arith, ◌≡◌, refl, sym, ap, subst, ◌∙◌, ⊎_elim, ℕ, zero, suc, nat_eq, Bool, true, false, true≢false, [], ◌∷◌, length, Option, Some, None, is_some, ◌↔◌}
+use Rattle.vt_spec.proofs.Common.{Among, Mount, Private, Propagation, Receives, Shared, Slave, Unbindable, World, all_from_among, among-filter, among-from_filter, among_cases, among_from_all, among_from_contains, among_from_list_all, chain, chain_ends, chain_goes_on, common_steps, contains_from_among, further_down, groups_up, has_members, head_among, holds_of, is_among, last_of_chain, last_or, list_all, member, not-true, receivers_of, receives, same_Some, slave, source_of, tail_among}
 use Rattle.vt_spec.specs.Machine.Invariants.{has_living_groups, masters_end}
 use Rattle.vt_laws_mounts.specs.Mounts.Receivers.{GroupsLive, IsClosed, ReceiversAreClosed, ReceiversAreLeast, ReceiversReceive, ReceivesIsComputed}
-use Rattle.vt_spec.proofs.Lists.{Among, all_from_among, among-filter, among-from_filter, among_cases, among_from_all, among_from_contains, among_from_list_all, chain_ends, chain_goes_on, contains_from_among, head_among, last_of_chain, tail_among}
-use Rattle.vt_spec.specs.Machine.Attach.{receivers_of}
 
 -- receivers are mounts of the world
 pub receivers_there : (world : World ℕ) (mount one : Mount ℕ) → Among one (receivers_of nat_eq world mount)

@@ -1,19 +1,6 @@
 -- Mounts that stand, and what the test of it computes.
-use Rattle.std.proofs.lemmas.Grind.{common_steps}
 use Rattle.std.proofs.Common.{◌≡◌, refl, sym, ap, subst, ◌∙◌, true, false, zero, suc, nat_eq, ℕ, Bool, List, None, Option, Some, [], arith, eq-eqb, eqb-true, filter, flat_map, inl, inr, is_some, length, not, option_map, true≢false, ⊎_elim, ◌<◌, ◌∷◌, ◌≤◌, ◌⊎◌}
-use Rattle.std.specs.List.{list_any}
-use Rattle.std.proofs.lemmas.Bool.{and_from, and_parts, false_from_ne_true, not-true, or_from, or_parts}
-use Rattle.std.proofs.lemmas.List.{length-map}
-use Rattle.std.proofs.lemmas.List.Filters.{length-filter_both}
-use Rattle.std.proofs.lemmas.Option.{same_Some}
-use Rattle.vt_spec.proofs.Lists.{Among, all_from_among, among-filter, among-from_filter, among-from_flat_map, among-map, among_from_all, among_from_list_all, among_numbers, chain_ends, chain_goes_on, last_of_chain, list_all_from_among, none_among, none_from_among, pair-filter}
-use Rattle.vt_spec.specs.Machine.Detach.{depth_of}
-use Rattle.vt_spec.specs.Lists.{any_pair, chain, last_or, same_option}
-use Rattle.vt_spec.specs.Machine.Mounts.{Location, Mount, children, is_unbindable, no_mount, stands_on, tree_from}
-use Rattle.vt_spec.specs.Machine.Attach.{bind_tree, bindable_children, bindable_tree, bound, stands_under}
-use Rattle.vt_spec.specs.Machine.World.{World, mount_at, mount_numbered}
-use Rattle.vt_spec.specs.Machine.Invariants.{Stands, last_parent, stands_in_its_namespace}
-use Rattle.vt_spec.specs.Machine.Invariants.Stands.{at_root, on_parent}
+use Rattle.vt_spec.proofs.Common.{Among, Location, Mount, Stands, World, all_from_among, among-filter, among-from_filter, among-from_flat_map, among-map, among_from_all, among_from_list_all, among_numbers, and_from, and_parts, any_pair, at_root, bind_tree, bindable_children, bindable_tree, bound, chain, chain_ends, chain_goes_on, children, common_steps, depth_of, false_from_ne_true, found_or_none, is_unbindable, last_of_chain, last_or, last_parent, length-filter_both, length-map, list_all_from_among, list_any, mount_at, mount_numbered, no_mount, none_among, none_from_among, not-true, number-mount_in, on_parent, or_from, or_parts, pair-filter, same_Some, same_option, stands_in_its_namespace, stands_on, stands_under, tree_from}
 use Rattle.vt_laws_mounts.specs.Mounts.Attaching.{OneNumberAMount, numbers_of}
 use Rattle.vt_laws_mounts.specs.Mounts.Invariants.{OneNumberEach}
 use Rattle.vt_laws_mounts.specs.Mounts.Standing.{AllStand, BindsTakeEachOnce, StandingIsComputed, TreesHaveEachOnce}
@@ -23,7 +10,6 @@ use Rattle.vt_laws_mounts.proofs.mounts.MountsNumbered.{pair-flat_map, same_numb
 use Rattle.vt_laws_mounts.proofs.mounts.MountsReplaced.{found_itself}
 use Rattle.vt_laws_mounts.proofs.ends.UnmountingNamespaces.{one_namespace, same_namespace}
 use Rattle.vt_spec.proofs.Found.{length_from_among}
-use Rattle.vt_spec.proofs.Worlds.{number-mount_in, found_or_none}
 
 -- numbers that are each another one and stand in a list are no more than it has
 pub fewer_numbers : (numbers others : List ℕ) → any_pair nat_eq numbers ≡ false

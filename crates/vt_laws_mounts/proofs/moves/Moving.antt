@@ -1,13 +1,6 @@
 -- A move leaves each mount standing, and at most one at a place.
 use Rattle.std.proofs.Common.{arith, ◌≡◌, refl, sym, ap, subst, ◌∙◌, true, nat_eq, ℕ, List, [], append-nil, eqb-true, flat_map, inl, inr, is_some, length, not, suc, true≢false, zero, ⊎_elim, ◌&&◌, ◌∷◌, ◌||◌}
-use Rattle.std.proofs.lemmas.Grind.{common_steps}
-use Rattle.vt_spec.proofs.Lists.{Among, among-flat_map, among-from_filter, among-from_flat_map, among-from_map, among_from_all, among_from_list_all, none_among, none_from_among}
-use Rattle.vt_spec.specs.Machine.Attach.{moved_tree, parts_of}
-use Rattle.vt_spec.specs.Lists.{is_among}
-use Rattle.vt_spec.specs.Machine.Mounts.{Location, Mount, children, mount_in, mount_tree, stands_on, tree_from}
-use Rattle.vt_spec.specs.Machine.World.{World, mount_at, mount_numbered}
-use Rattle.vt_spec.specs.Machine.Invariants.{MountInvariants, Stands, is_nowhere_or_attached, is_private}
-use Rattle.vt_spec.specs.Machine.Invariants.Stands.{at_root, on_parent}
+use Rattle.vt_spec.proofs.Common.{Among, Location, Mount, MountInvariants, Stands, World, among-flat_map, among-from_filter, among-from_flat_map, among-from_map, among_from_all, among_from_list_all, at_root, children, common_steps, found_or_none, is_among, is_nowhere_or_attached, is_private, mount_at, mount_in, mount_numbered, mount_tree, moved_tree, nat_eq_false_turned, none_among, none_from_among, number-mount_in, on_parent, or_false_alone, parts_of, stands_on, tree_among, tree_from}
 use Rattle.vt_laws_mounts.specs.Mounts.Attaching.{numbers_of}
 use Rattle.vt_laws_mounts.specs.Mounts.Moving.{CanMove, MovesKeepMountPoints, MovesKeepStanding}
 use Rattle.vt_laws_mounts.proofs.attached.Attaching.{Hangs}
@@ -21,8 +14,6 @@ use Rattle.vt_laws_mounts.proofs.moves.MovingPlaces.{places_moved}
 use Rattle.vt_laws_mounts.proofs.moves.MovingStands.{all_after}
 use Rattle.vt_laws_mounts.proofs.mounts.Standing.{standing_is_computed, trees_have_each_once}
 use Rattle.vt_laws_mounts.proofs.ends.UnmountingTrees.{AreClosed, trees_closed}
-use Rattle.vt_spec.proofs.Truths.{nat_eq_false_turned, or_false_alone}
-use Rattle.vt_spec.proofs.Worlds.{number-mount_in, found_or_none, tree_among}
 
 -- a tree begins with its top
 pub tree_top : (fuel : ℕ) (mounts : List (Mount ℕ)) (top : Mount ℕ)

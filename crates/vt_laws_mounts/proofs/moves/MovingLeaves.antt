@@ -1,17 +1,6 @@
 -- What moves, before anything is attached for the receivers: each mount stands, at most one at a place.
-use Rattle.std.proofs.Common.{arith, ◌≡◌, refl, sym, ap, subst, ◌∙◌, true, false, nat_eq, ℕ, Bool, List, None, Option, Some, [], eq-eqb, eqb-true, is_some, map, option_map, true≢false, ⊎_elim, ◌∷◌}
-use Rattle.std.proofs.lemmas.Grind.{common_steps}
-use Rattle.std.specs.List.{list_any}
-use Rattle.std.specs.Prelude.{if◌then◌else◌, unwrap_or}
-use Rattle.std.proofs.lemmas.Bool.{false_from_ne_true, or_from, or_parts}
-use Rattle.std.proofs.lemmas.Option.{same_Some}
-use Rattle.vt_spec.proofs.Lists.{Among, all_from_among, among-from_map, among-map, among_from_all, among_from_list_all, among_numbers, list_all_from_among, none_among, none_from_among, pair-map}
-use Rattle.vt_spec.specs.Machine.Attach.{Copies, Graft, Twig, copy_at, graft_of, parts_of, mount_point_on_copy, twig_of}
-use Rattle.vt_spec.specs.Lists.{any_pair, first_of_list, folded, holds_of, is_among}
-use Rattle.vt_spec.specs.Machine.Mounts.{Location, Mount, child_at, group_of, mount_in, stands_at, with_mount}
-use Rattle.vt_spec.specs.Machine.World.{World, mount_at, mount_numbered}
-use Rattle.vt_spec.specs.Machine.Invariants.{Stands}
-use Rattle.vt_spec.specs.Machine.Invariants.Stands.{at_root, on_parent}
+use Rattle.std.proofs.Common.{arith, ◌≡◌, refl, sym, ap, subst, ◌∙◌, true, false, nat_eq, ℕ, Bool, List, None, Option, Some, [], eq-eqb, eqb-true, is_some, map, option_map, true≢false, ⊎_elim, ◌∷◌, if◌then◌else◌, unwrap_or}
+use Rattle.vt_spec.proofs.Common.{Among, Copies, Graft, Location, Mount, Stands, Twig, World, all_from_among, among-from_map, among-map, among_from_all, among_from_list_all, among_numbers, any_pair, at_root, child_at, common_steps, copy_at, false_from_ne_true, first_of_list, folded, graft_of, group_of, holds_of, is_among, list_all_from_among, list_any, mount_at, mount_in, mount_numbered, mount_point_on_copy, nat_eq_false_turned, none_among, none_from_among, number-mount_in, on_parent, or_from, or_parts, pair-map, parts_of, same_Some, stands_at, twig_of, with_mount}
 use Rattle.vt_laws_mounts.specs.Mounts.Attaching.{OneNumberAMount, is_mount, numbers_of}
 use Rattle.vt_laws_mounts.specs.Mounts.Invariants.{NowhereOrAttached}
 use Rattle.vt_laws_mounts.specs.Mounts.Standing.{AllStand}
@@ -24,8 +13,6 @@ use Rattle.vt_laws_mounts.proofs.mounts.MountsAttached.{arriving, found-folded_o
 use Rattle.vt_laws_mounts.proofs.mounts.MountsFound.{found_there, placed_among, unfound}
 use Rattle.vt_laws_mounts.proofs.mounts.MountsNumbered.{is_one_of, same_number, same_origin}
 use Rattle.vt_laws_mounts.proofs.mounts.MountsReplaced.{found-with_mount_itself, found_itself, numbers-with_mount, one_number_by_numbers}
-use Rattle.vt_spec.proofs.Truths.{nat_eq_false_turned}
-use Rattle.vt_spec.proofs.Worlds.{number-mount_in}
 
 -- mounts that are replaced by others with numbers of their own are found
 pub found_folded : (mounts copies : List (Mount ℕ)) → OneNumberAMount copies → (copy : Mount ℕ) → Among copy copies

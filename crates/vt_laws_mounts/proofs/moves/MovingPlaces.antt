@@ -1,18 +1,6 @@
 -- After a move at most one mount stands at a place: of what moved, the copies at receivers, and what they push up.
-use Rattle.std.proofs.Common.{arith, ◌≡◌, refl, sym, ap, subst, ◌∙◌, true, false, nat_eq, ℕ, Bool, List, None, Option, Some, [], append-nil, eq-eqb, eqb-true, flat_map, inl, inr, is_some, map, option_map, true≢false, ◌++◌, ◌∷◌}
-use Rattle.std.proofs.lemmas.Grind.{common_steps}
-use Rattle.std.specs.List.{list_any}
-use Rattle.std.specs.Prelude.{if◌then◌else◌, unwrap_or}
-use Rattle.std.proofs.lemmas.Bool.{false_from_ne_true, or_parts}
-use Rattle.std.proofs.lemmas.Option.{same_Some}
-use Rattle.vt_spec.proofs.Lists.{Among, among-from_filter, among-from_flat_map, among-from_map, among-map, among_from_all, is_among_numbers, pair-map}
-use Rattle.vt_spec.specs.Machine.Attach.{Copies, Graft, Twig, attached_by, copies_at, copy_at, graft_of, is_top, parts_of, mount_point_on_copy, pushed_onto, pushed_up, receiver_stood_on, receivers_of, takes_part, top_of_copies, twig_of}
-use Rattle.vt_spec.specs.Lists.{any_pair, first_of_list, holds_of, is_among, rest_of, same_option}
-use Rattle.vt_spec.specs.Machine.Mounts.{Location, Mount, child_at, group_of, mount_in, root_of, same_location, stands_at}
-use Rattle.vt_spec.specs.Machine.Run.{numbers_in_use}
-use Rattle.vt_spec.specs.Machine.World.{World, mount_at, mount_numbered}
-use Rattle.vt_spec.specs.Machine.Invariants.{Stands}
-use Rattle.vt_spec.specs.Machine.Invariants.Stands.{at_root, on_parent}
+use Rattle.std.proofs.Common.{arith, ◌≡◌, refl, sym, ap, subst, ◌∙◌, true, false, nat_eq, ℕ, Bool, List, None, Option, Some, [], append-nil, eq-eqb, eqb-true, flat_map, inl, inr, is_some, map, option_map, true≢false, ◌++◌, ◌∷◌, if◌then◌else◌, unwrap_or}
+use Rattle.vt_spec.proofs.Common.{Among, Copies, Graft, Location, Mount, Stands, Twig, World, among-from_filter, among-from_flat_map, among-from_map, among-map, among_from_all, any_pair, at_root, attached_by, child_at, common_steps, copies_at, copy_at, false_from_ne_true, first_of_list, graft_of, group_of, holds_of, is_among, is_among_numbers, is_top, list_any, mount_at, mount_in, mount_numbered, mount_point_on_copy, nat_eq_false_turned, number-mount_in, numbers_in_use, on_parent, or_parts, pair-map, parts_of, pushed_onto, pushed_up, receiver_stood_on, receivers_of, rest_of, root_of, same_Some, same_location, same_option, stands_at, takes_part, top_of_copies, twig_of}
 use Rattle.vt_laws_mounts.specs.Mounts.Attaching.{is_mount}
 use Rattle.vt_laws_mounts.specs.Mounts.Copies.{ServeAsCopies}
 use Rattle.vt_laws_mounts.specs.Mounts.MountPoints.{OneMountAMountPoint}
@@ -25,8 +13,6 @@ use Rattle.vt_laws_mounts.proofs.mounts.MountsPlaces.{stands_at_its_place, stand
 use Rattle.vt_laws_mounts.proofs.mounts.MountsReplaced.{found_itself}
 use Rattle.vt_laws_mounts.proofs.moves.MovingLeaves.{MayMove, all_left, left, nowhere_left, one_left, places_left, same_numbers}
 use Rattle.vt_laws_mounts.proofs.moves.MovingStands.{after, all_after, copies_after, one_after}
-use Rattle.vt_spec.proofs.Truths.{nat_eq_false_turned}
-use Rattle.vt_spec.proofs.Worlds.{number-mount_in}
 
 module _ (world : World ℕ) (new : Copies ℕ) (place : Location ℕ) (mounts : List (Mount ℕ))
     (may : MayMove world place mounts) (serve : ServeAsCopies world (parts_of nat_eq world place) mounts new) where

@@ -1,23 +1,12 @@
 -- What is attached has a place, and is in the namespace of the mount that it is attached on.
-use Rattle.std.proofs.Common.{arith, ◌≡◌, refl, sym, ap, subst, ◌∙◌, true, false, suc, nat_eq, ℕ, Bool, List, None, Option, Some, [], add-zero, cond, filter, flat_map, inl, inr, is_some, length, map, not, true≢false, ⊎_elim, ◌&&◌, ◌++◌, ◌+◌, ◌∷◌, zero, eqb-true, ◌⊎◌}
-use Rattle.std.proofs.lemmas.Grind.{common_steps}
-use Rattle.std.proofs.lemmas.List.{length-append}
-use Rattle.std.proofs.lemmas.List.Elements.{filter-append}
-use Rattle.vt_spec.specs.Machine.Attach.{Copies, Graft, added_mounts, attached_by, bind_tree, copies_at, copy_at, moved_tree, parts_of, pushed_onto, receiver_stood_on}
-use Rattle.vt_spec.specs.Lists.{folded, holds_of, rest_of}
-use Rattle.vt_spec.specs.Machine.Mounts.{Location, Mount, children, mount_in, replaced_if_same, stands_at, stands_on, tree_from, with_mount}
-use Rattle.std.specs.Prelude.{Contains}
-use Rattle.vt_spec.specs.Machine.NewMounts.{new_mount, with_new_filesystem}
-use Rattle.vt_spec.specs.Machine.World.{World, mount_at}
-use Rattle.vt_spec.specs.Machine.Invariants.{is_root_mount}
-use Rattle.vt_spec.proofs.Lists.{Among, all_from_among, among-append, among-from_filter, among-from_flat_map, among-from_map, contains_from_among, filter_here, filter_skip}
+use Rattle.std.proofs.Common.{arith, ◌≡◌, refl, sym, ap, subst, ◌∙◌, true, false, suc, nat_eq, ℕ, Bool, List, None, Option, Some, [], add-zero, cond, filter, flat_map, inl, inr, is_some, length, map, not, true≢false, ⊎_elim, ◌&&◌, ◌++◌, ◌+◌, ◌∷◌, zero, eqb-true, ◌⊎◌, length-append, Contains}
+use Rattle.vt_spec.proofs.Common.{Among, Copies, Graft, Location, Mount, World, added_mounts, all_from_among, among-append, among-folded_mounts, among-from_filter, among-from_flat_map, among-from_map, attached_by, bind_tree, children, common_steps, contains_from_among, copies_at, copy_at, filter-append, filter_here, filter_skip, folded, found_or_none, holds_of, is_root_mount, mount_at, mount_in, moved_tree, new_mount, parts_of, pushed_onto, receiver_stood_on, replaced_if_same, rest_of, stands_at, stands_on, tree_among, tree_from, with_mount, with_new_filesystem}
 use Rattle.vt_laws_mounts.proofs.attached.Attaching.{taker_there}
 use Rattle.vt_laws_mounts.proofs.mounts.MountsAttached.{arrives, arriving, graft, in_front, moved_ones, others, push, push_keeps, supplied}
 use Rattle.vt_laws_mounts.proofs.mounts.MountsFound.{found_in, placed_among}
 use Rattle.vt_laws_mounts.proofs.mounts.MountsPlaces.{stands_there}
 use Rattle.vt_laws_mounts.proofs.mounts.MountsReplaced.{found_itself, replaced_elsewhere, replaced_there}
 use Rattle.vt_laws_mounts.specs.Mounts.Moving.{BindsKeepRootMounts, BindsStayInNamespaces, MovesKeepRootMounts, MovesStayInNamespaces, NewMountsKeepRootMounts, NewMountsStayInNamespaces, StaysInNamespaces}
-use Rattle.vt_spec.proofs.Worlds.{among-folded_mounts, found_or_none, tree_among}
 
 -- the root mounts of a namespace, and whether a mount is one
 abbrev count : ℕ → List (Mount ℕ) → ℕ

@@ -1,15 +1,6 @@
 -- After a move each mount stands: what moved, the copies at receivers, and what they push up.
-use Rattle.std.proofs.Common.{◌≡◌, refl, sym, ap, subst, ◌∙◌, true, false, nat_eq, ℕ, Bool, List, None, Option, Some, eq-eqb, flat_map, inl, map, option_map, ⊎_elim, ◌++◌, [], ◌∷◌, ◌||◌}
-use Rattle.std.specs.List.{list_any}
-use Rattle.std.specs.Prelude.{if◌then◌else◌, unwrap_or}
-use Rattle.std.proofs.lemmas.Option.{same_Some}
-use Rattle.vt_spec.proofs.Lists.{Among, all_from_among, among-append, among-append_right, among-flat_map, among-from_flat_map, among-from_map, among-map, among_from_all}
-use Rattle.vt_spec.specs.Machine.Attach.{Copies, Graft, Twig, attached_by, copies_at, copy_at, copy_number, graft_of, is_top, parts_of, mount_point_on_copy, pushed_onto, pushed_up, receiver_stood_on, top_of_copies, twig_of}
-use Rattle.vt_spec.specs.Lists.{first_of_list, holds_of, is_among, rest_of}
-use Rattle.vt_spec.specs.Machine.Mounts.{Location, Mount, group_of, mount_in, same_location, stands_at}
-use Rattle.vt_spec.specs.Machine.World.{World, mount_at, mount_numbered}
-use Rattle.vt_spec.specs.Machine.Invariants.{Stands}
-use Rattle.vt_spec.specs.Machine.Invariants.Stands.{at_root, on_parent}
+use Rattle.std.proofs.Common.{◌≡◌, refl, sym, ap, subst, ◌∙◌, true, false, nat_eq, ℕ, Bool, List, None, Option, Some, eq-eqb, flat_map, inl, map, option_map, ⊎_elim, ◌++◌, [], ◌∷◌, ◌||◌, if◌then◌else◌, unwrap_or}
+use Rattle.vt_spec.proofs.Common.{Among, Copies, Graft, Location, Mount, Stands, Twig, World, all_from_among, among-append, among-append_right, among-flat_map, among-from_flat_map, among-from_map, among-map, among_from_all, at_root, attached_by, copies_at, copy_at, copy_number, first_of_list, graft_of, group_of, holds_of, is_among, is_top, list_any, mount_at, mount_in, mount_numbered, mount_point_on_copy, number-mount_in, on_parent, parts_of, pushed_onto, pushed_up, receiver_stood_on, rest_of, same_Some, same_location, stands_at, top_of_copies, twig_of}
 use Rattle.vt_laws_mounts.specs.Mounts.Attaching.{OneNumberAMount, is_mount}
 use Rattle.vt_laws_mounts.specs.Mounts.Copies.{ServeAsCopies}
 use Rattle.vt_laws_mounts.specs.Mounts.Standing.{AllStand}
@@ -21,7 +12,6 @@ use Rattle.vt_laws_mounts.proofs.mounts.MountsNumbered.{copies_keep_numbers, is_
 use Rattle.vt_laws_mounts.proofs.mounts.MountsPlaces.{stands_there}
 use Rattle.vt_laws_mounts.proofs.mounts.MountsReplaced.{found_itself}
 use Rattle.vt_laws_mounts.proofs.moves.MovingLeaves.{MayMove, all_left, left, namespace_kept, nowhere_left, same_numbers}
-use Rattle.vt_spec.proofs.Worlds.{number-mount_in}
 
 module _ (world : World ℕ) (new : Copies ℕ) (place : Location ℕ) (mounts : List (Mount ℕ))
     (may : MayMove world place mounts) (serve : ServeAsCopies world (parts_of nat_eq world place) mounts new) where

@@ -1,15 +1,6 @@
 -- Changes of types and flags keep the invariants of mounts.
 use Rattle.std.proofs.Common.{arith, ◌≡◌, refl, sym, ap, ◌∙◌, true, false, nat_eq, ℕ, Bool, List, None, Option, Some, eqb-true, is_some, map, not, ◌&&◌, ◌||◌}
-use Rattle.std.proofs.lemmas.Grind.{common_steps}
-use Rattle.std.specs.List.{list_any}
-use Rattle.vt_spec.proofs.Lists.{Among, among-from_map, among_from_list_all, any_among, list_all_from_among}
-use Rattle.vt_spec.specs.Lists.{Fresh}
-use Rattle.vt_spec.specs.Machine.Mounts.{Location, Mount, replaced_if_same}
-use Rattle.vt_spec.specs.Language.Calls.{MountFlags}
-use Rattle.vt_spec.specs.Machine.World.{World, mount_at, mount_numbered, with_flags}
-use Rattle.vt_spec.specs.Machine.Receives.{inheriting}
-use Rattle.vt_spec.specs.Machine.Types.{named_mounts, type_after, with_type}
-use Rattle.vt_spec.specs.Machine.Invariants.{MountInvariants, is_nowhere_or_attached, is_private}
+use Rattle.vt_spec.proofs.Common.{Among, Fresh, Location, Mount, MountFlags, MountInvariants, World, among-from_map, among_from_list_all, any_among, common_steps, inheriting, is_nowhere_or_attached, is_private, list_all_from_among, list_any, mount_at, mount_numbered, named_mounts, number-mount_in, replaced_if_same, type_after, with_flags, with_type}
 use Rattle.vt_laws_mounts.specs.Mounts.Invariants.{NowhereOrAttached, OneNumberEach}
 use Rattle.vt_laws_mounts.specs.Mounts.Namespaces.{SetFlagsKeepCounts, SetFlagsKeepMounts, SetTypeKeepsCounts, SetTypeKeepsMounts}
 use Rattle.vt_laws_mounts.proofs.GroupsLiving.{all_live, tested_live}
@@ -26,7 +17,6 @@ use Rattle.vt_laws_mounts.proofs.mounts.MountsRetyped.{between, groups_by, retyp
 use Rattle.vt_laws_mounts.proofs.mounts.Standing.{LiesIn, lies_in_tree, standing_is_computed}
 use Rattle.vt_laws_mounts.proofs.mounts.Standing.LiesIn.{itself, under}
 use Rattle.vt_laws_mounts.proofs.namespaces.Unsharing.{placed_inside}
-use Rattle.vt_spec.proofs.Worlds.{number-mount_in}
 
 module _ (world : World ℕ) (mounts : MountInvariants nat_eq world) where
   -- what lies in the tree of a mount of a namespace is in one

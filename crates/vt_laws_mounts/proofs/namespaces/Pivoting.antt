@@ -1,16 +1,6 @@
 -- A pivot of the root: the new root mount stands where the old one stood, and that one over it.
-use Rattle.std.proofs.lemmas.Grind.{common_steps}
-use Rattle.std.proofs.Common.{◌≡◌, refl, sym, ap, subst, ◌∙◌, true, false, zero, suc, nat_eq, ℕ, Bool, None, Option, Some, arith, cond, eq-eqb, eqb-true, is_some, length, true≢false, ⊎_elim, ◌<◌, ◌⊎◌}
-use Rattle.std.specs.Prelude.{if◌then◌else◌}
-use Rattle.std.proofs.lemmas.Bool.{and_parts, false_from_ne_true}
-use Rattle.std.proofs.lemmas.Option.{same_Some}
-use Rattle.vt_spec.proofs.Lists.{Among, all_from_among, among-from_map, among-map, among_from_list_all, any_among, chain_ends, chain_goes_on, list_all_from_among, pair-map}
-use Rattle.vt_spec.specs.Lists.{any_pair, chain, rest_of}
-use Rattle.vt_spec.specs.Machine.Mounts.{Location, Mount, root_of, stands_at}
-use Rattle.vt_spec.specs.Machine.Namespaces.{pivoted, pivoted_mount}
-use Rattle.vt_spec.specs.Machine.World.{World, mount_at, mount_numbered}
-use Rattle.vt_spec.specs.Machine.Invariants.{MountInvariants, Stands, is_nowhere_or_attached, share_a_mount_point}
-use Rattle.vt_spec.specs.Machine.Invariants.Stands.{at_root, on_parent}
+use Rattle.std.proofs.Common.{◌≡◌, refl, sym, ap, subst, ◌∙◌, true, false, zero, suc, nat_eq, ℕ, Bool, None, Option, Some, arith, cond, eq-eqb, eqb-true, is_some, length, true≢false, ⊎_elim, ◌<◌, ◌⊎◌, if◌then◌else◌}
+use Rattle.vt_spec.proofs.Common.{Among, Location, Mount, MountInvariants, Stands, World, all_from_among, among-from_map, among-map, among_from_list_all, and_parts, any_among, any_pair, at_root, chain, chain_ends, chain_goes_on, common_steps, false_from_ne_true, found_or_none, is_nowhere_or_attached, list_all_from_among, mount_at, mount_numbered, number-mount_in, number-pivoted_mount, on_parent, pair-map, pivoted, pivoted_mount, rest_of, root_of, same_Some, share_a_mount_point, stands_at}
 use Rattle.vt_laws_mounts.specs.Mounts.Namespaces.{CanPivot, NumberedMountsCanPivot, PivotKeepsMounts}
 use Rattle.vt_laws_mounts.proofs.GroupsLiving.{all_live, tested_live}
 use Rattle.vt_laws_mounts.proofs.GroupsKept.{pivot_keeps_groups}
@@ -22,7 +12,6 @@ use Rattle.vt_laws_mounts.proofs.mounts.MountsReplaced.{found_itself}
 use Rattle.vt_laws_mounts.proofs.mounts.Standing.{LiesIn, lies_deeper, rank, rank_child}
 use Rattle.vt_laws_mounts.proofs.mounts.Standing.LiesIn.{itself, under}
 use Rattle.vt_laws_mounts.proofs.namespaces.Unsharing.{parent_of, stands_itself}
-use Rattle.vt_spec.proofs.Worlds.{number-mount_in, number-pivoted_mount, found_or_none}
 
 -- what the places below a place are on
 module _ (world : World ℕ) where

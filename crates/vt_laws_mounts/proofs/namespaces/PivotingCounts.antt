@@ -1,22 +1,11 @@
 -- A pivot of the root leaves each namespace as many mounts and as many root mounts.
 use Rattle.std.proofs.Common.{arith, ◌≡◌, refl, sym, ap, ◌∙◌, true, false, suc, nat_eq, ℕ, Bool, List, [], eq-eqb, eqb-true, filter, is_some, length, not, true≢false, ⊎_elim, ◌&&◌, ◌∷◌}
-use Rattle.std.proofs.lemmas.Grind.{common_steps}
-use Rattle.std.specs.List.{list_any}
-use Rattle.std.proofs.lemmas.Bool.{or_parts}
-use Rattle.std.proofs.lemmas.List.{length-map}
-use Rattle.vt_spec.proofs.Lists.{Among, among-filter, among-from_filter, filter_here, filter_skip, none_among, pair-filter}
-use Rattle.vt_spec.specs.Lists.{any_pair, holds_of}
-use Rattle.vt_spec.specs.Machine.Mounts.{Location, Mount}
-use Rattle.vt_spec.specs.Machine.Namespaces.{pivoted}
-use Rattle.vt_spec.specs.Machine.World.{World, mounts_of}
-use Rattle.vt_spec.specs.Machine.Invariants.{MountInvariants, is_root_mount}
+use Rattle.vt_spec.proofs.Common.{Among, Location, Mount, MountInvariants, World, among-filter, among-from_filter, any_pair, common_steps, filter_alike, filter_here, filter_skip, holds_of, is_root_mount, length-map, list_any, mounts_of, nat_eq_false_turned, none_among, or_parts, pair-filter, pivoted}
 use Rattle.vt_laws_mounts.specs.Mounts.Attaching.{OneNumberAMount}
 use Rattle.vt_laws_mounts.specs.Mounts.Namespaces.{CanPivot, PivotKeepsCounts}
 use Rattle.vt_laws_mounts.proofs.mounts.MountsCounted.{as_many_mounts, filter-map}
 use Rattle.vt_laws_mounts.proofs.mounts.MountsNumbered.{same_number}
 use Rattle.vt_laws_mounts.proofs.namespaces.Pivoting.{is_new, is_root, move, moved_namespace, moved_new, moved_other, moved_root, new_among, new_placed, root_among}
-use Rattle.vt_spec.proofs.Truths.{nat_eq_false_turned}
-use Rattle.vt_spec.proofs.Found.{filter_alike}
 use Rattle.vt_laws_mounts.specs.Mounts.Ending.{is_in}
 
 -- but for one mount

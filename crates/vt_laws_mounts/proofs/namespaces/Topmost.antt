@@ -1,11 +1,6 @@
 -- The topmost mount over a place.
-use Rattle.std.proofs.lemmas.Grind.{common_steps}
 use Rattle.std.proofs.Common.{◌≡◌, refl, ap, ◌∙◌, zero, suc, nat_eq, ℕ, None, Option, Some, arith, length, option_map, ◌+◌, ◌≤◌}
-use Rattle.vt_spec.specs.Lists.{chain, last_or}
-use Rattle.vt_spec.specs.Machine.Mounts.{Location, Mount, child_at, root_of, stands_at}
-use Rattle.vt_spec.specs.Machine.World.{World}
-use Rattle.vt_spec.specs.Machine.Invariants.{MountInvariants}
-use Rattle.vt_spec.proofs.Lists.{chain_ends, chain_goes_on, last_of_chain}
+use Rattle.vt_spec.proofs.Common.{Location, Mount, MountInvariants, World, chain, chain_ends, chain_goes_on, child_at, common_steps, last_of_chain, last_or, root_of, stands_at}
 use Rattle.vt_laws_mounts.specs.Mounts.Namespaces.{TopmostIsFree}
 use Rattle.vt_laws_mounts.proofs.mounts.MountsFound.{found_in}
 use Rattle.vt_laws_mounts.proofs.mounts.MountsPlaces.{stands_there}

@@ -1,16 +1,6 @@
 -- An unshare: the copies of a namespace's mounts stand on copies.
 use Rattle.std.proofs.Common.{arith, ◌≡◌, refl, sym, ap, subst, ◌∙◌, false, nat_eq, ℕ, List, None, Some, eq-eqb, is_some, map, not, option_map, true≢false, ⊎_elim, ◌&&◌, ◌||◌, ◌+◌, ◌*◌, true}
-use Rattle.std.proofs.lemmas.Grind.{common_steps}
-use Rattle.std.proofs.lemmas.Bool.{false_from_ne_true}
-use Rattle.std.proofs.lemmas.Option.{same_Some}
-use Rattle.vt_spec.proofs.Lists.{Among, all_from_among, among-append, among-append_left, among-append_right, among-filter, among-from_filter, among-from_map, among-map, among_from_all, among_from_list_all, pair-filter, pair-map}
-use Rattle.vt_spec.specs.Lists.{Fresh, any_pair, evens, holds_of, odds}
-use Rattle.vt_spec.specs.Machine.Mounts.{Location, Mount, index_of, numbers_by}
-use Rattle.vt_spec.specs.Machine.Namespaces.{copied_mount, location_on_copy, unshared}
-use Rattle.vt_spec.specs.Machine.Run.{Serves}
-use Rattle.vt_spec.specs.Machine.World.{Task, World, mount_numbered, mounts_of}
-use Rattle.vt_spec.specs.Machine.Invariants.{MountInvariants, Stands, is_nowhere_or_attached, is_private, share_a_mount_point}
-use Rattle.vt_spec.specs.Machine.Invariants.Stands.{at_root, on_parent}
+use Rattle.vt_spec.proofs.Common.{Among, Fresh, Location, Mount, MountInvariants, Serves, Stands, Task, World, all_from_among, among-append, among-append_left, among-append_right, among-filter, among-from_filter, among-from_map, among-map, among_from_all, among_from_list_all, any_pair, at_root, common_steps, copied_mount, evens, false_from_ne_true, found_or_none, holds_of, index_of, is_nowhere_or_attached, is_private, location_on_copy, mount_numbered, mounts_of, number-mount_in, numbers_by, odds, odds-distinct, on_parent, pair-filter, pair-map, same_Some, served-distinct, share_a_mount_point, unshared}
 use Rattle.vt_laws_mounts.specs.Mounts.Namespaces.{UnshareKeepsMounts}
 use Rattle.vt_laws_mounts.proofs.GroupsLiving.{all_live, tested_live}
 use Rattle.vt_laws_mounts.proofs.GroupsKept.{unshare_keeps_groups}
@@ -19,8 +9,6 @@ use Rattle.vt_laws_mounts.proofs.mounts.MountsNumbered.{is_one_of, number_is_old
 use Rattle.vt_laws_mounts.proofs.mounts.MountsPlaces.{one_place_of_two, place_of_both}
 use Rattle.vt_laws_mounts.proofs.mounts.MountsReplaced.{found_itself}
 use Rattle.vt_laws_mounts.specs.Mounts.Attaching.{is_mount}
-use Rattle.vt_spec.proofs.Worlds.{number-mount_in, found_or_none}
-use Rattle.vt_spec.proofs.FreshNumbers.{odds-distinct, served-distinct}
 
 -- A mount that stands on a parent
 pub record Parent (world : World ℕ) (mount : Mount ℕ) (place : Location ℕ) : Type 0 where

@@ -1,20 +1,8 @@
 -- An unshare: the mounts of each namespace.
-use Rattle.std.proofs.Common.{arith, ◌≡◌, refl, sym, ap, subst, ◌∙◌, true, false, nat_eq, ℕ, None, Option, Some, eq-eqb, eqb-true, filter, flat_map, map, option_to_list, true≢false, ◌++◌}
-use Rattle.std.proofs.lemmas.Grind.{common_steps}
-use Rattle.std.specs.List.{list_all}
-use Rattle.std.proofs.lemmas.Bool.{and_parts, false_from_ne_true}
-use Rattle.std.proofs.lemmas.List.{append-nil, length-map}
-use Rattle.std.proofs.lemmas.List.Elements.{filter-append}
-use Rattle.vt_spec.proofs.Lists.{Among, among-append_right, among-from_map, among_from_list_all, among_numbers, filter_none, is_among_numbers, none_from_among}
-use Rattle.vt_spec.specs.Lists.{evens, holds_of, odds}
-use Rattle.vt_spec.specs.Machine.Mounts.{Mount, numbers_by}
-use Rattle.vt_spec.specs.Machine.Namespaces.{copied_mount}
-use Rattle.vt_spec.specs.Machine.Run.{numbers_in_use, used_by_filesystem, used_by_mount}
-use Rattle.vt_spec.specs.Machine.World.{Namespace, mounts_of}
-use Rattle.vt_spec.specs.Machine.Invariants.{is_listed, is_root_mount}
+use Rattle.std.proofs.Common.{arith, ◌≡◌, refl, sym, ap, subst, ◌∙◌, true, false, nat_eq, ℕ, None, Option, Some, eq-eqb, eqb-true, filter, flat_map, map, option_to_list, true≢false, ◌++◌, append-nil}
+use Rattle.vt_spec.proofs.Common.{Among, Mount, Namespace, among-append_right, among-from_map, among_from_list_all, among_numbers, and_parts, common_steps, copied_mount, evens, false_from_ne_true, filter-append, filter_all, filter_none, holds_of, is_among_numbers, is_listed, is_root_mount, length-map, list_all, mounts_of, none_from_among, numbers_by, numbers_in_use, odds, used_by_filesystem, used_by_mount}
 use Rattle.vt_laws_mounts.specs.Mounts.Namespaces.{NewNamespaceIsEmpty, UnshareCopiesMounts, UnshareKeepsCounts, UnshareLeavesNamespaces}
 use Rattle.vt_laws_mounts.proofs.mounts.MountsCounted.{filter-map}
-use Rattle.vt_spec.proofs.Found.{filter_all}
 use Rattle.vt_laws_mounts.specs.Mounts.Ending.{is_in}
 
 pub unshare_leaves_namespaces : UnshareLeavesNamespaces

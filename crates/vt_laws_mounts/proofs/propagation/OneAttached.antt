@@ -1,13 +1,6 @@
 -- The attachment of one mount: its copies, one on each part.
 use Rattle.std.proofs.Common.{◌≡◌, sym, ap, subst, ◌∙◌, true, false, nat_eq, ℕ, List, [], ⊎_elim, ◌++◌, ◌∷◌}
-use Rattle.std.proofs.lemmas.Option.{same_Some}
-use Rattle.vt_spec.proofs.Lists.{Among, among-append_left, among-from_filter, among_from_contains, among_numbers, is_among_numbers}
-use Rattle.vt_spec.specs.Machine.Attach.{parts_of, receivers_of, takes_part}
-use Rattle.vt_spec.specs.Lists.{Fresh, is_among}
-use Rattle.vt_spec.specs.Machine.Mounts.{Location, Mount, group_of, source_of}
-use Rattle.vt_spec.specs.Machine.Mounts.Propagation.{Shared}
-use Rattle.vt_spec.specs.Machine.Receives.{receives}
-use Rattle.vt_spec.specs.Machine.World.{World, mount_at}
+use Rattle.vt_spec.proofs.Common.{Among, Fresh, Location, Mount, Shared, World, among-append_left, among-from_filter, among_from_contains, among_numbers, group_of, is_among, is_among_numbers, mount_at, parts_of, receivers_of, receives, same_Some, source_of, takes_part}
 use Rattle.vt_laws_mounts.specs.Mounts.Attaching.{is_mount, numbers_of}
 use Rattle.vt_laws_mounts.specs.Mounts.Propagation.{Attachment, IsPart, world_after}
 use Rattle.vt_laws_mounts.proofs.attached.Attaching.{taker_there}

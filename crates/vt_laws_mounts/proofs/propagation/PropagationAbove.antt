@@ -1,12 +1,7 @@
 -- Receivers that take part, but for members of the destination's group, have a group above them of which a part is a
 -- member: the destination's, or a nearer one.
 use Rattle.std.proofs.Common.{arith, ◌≡◌, refl, sym, ap, ◌∙◌, true, false, nat_eq, eq-eqb, ne_eqb, ℕ, zero, suc, List, Option, Some, inl, true≢false, ◌||◌}
-use Rattle.std.proofs.lemmas.Grind.{common_steps}
-use Rattle.vt_spec.proofs.Lists.{among-from_filter, among_from_contains, any_among, any_from_among, chain_ends, chain_goes_on, contains_from_among}
-use Rattle.vt_spec.specs.Lists.{chain, holds_of, is_among}
-use Rattle.vt_spec.specs.Machine.Attach.{parts_of, receivers_of, takes_part}
-use Rattle.vt_spec.specs.Machine.Mounts.{Mount, group_of, source_of}
-use Rattle.vt_spec.specs.Machine.Receives.{groups_up, has_members, is_member_of, receives}
+use Rattle.vt_spec.proofs.Common.{Mount, among-from_filter, among_from_contains, any_among, any_from_among, chain, chain_ends, chain_goes_on, common_steps, contains_from_among, group_of, groups_up, has_members, holds_of, is_among, is_member_of, parts_of, receivers_of, receives, source_of, takes_part}
 use Rattle.vt_laws_mounts.specs.Mounts.Propagation.{Attachment, HasGroupAbove, IsPart, LowerGroupsHaveAGroupAbove, SlavesHaveAGroupAbove, destination_of}
 use Rattle.vt_laws_mounts.proofs.GroupsKept.{found_passes, member_shared, shared_member}
 use Rattle.vt_laws_mounts.proofs.mounts.MountsFound.{number_found}

@@ -1,16 +1,6 @@
 -- Copies of a tree that is attached: that they are there, where they stand, and their types.
-use Rattle.std.proofs.Common.{arith, ◌≡◌, refl, sym, ap, subst, ◌∙◌, true, false, nat_eq, ℕ, Bool, List, None, Some, inl, is_some, true≢false, ⊎_elim, ◌&&◌, ◌∷◌}
-use Rattle.std.proofs.lemmas.Grind.{common_steps}
-use Rattle.std.specs.Prelude.{Contains, if◌then◌else◌}
-use Rattle.std.specs.List.{list_any}
-use Rattle.std.proofs.lemmas.Bool.{false_from_ne_true}
-use Rattle.vt_spec.proofs.Lists.{Among, among_from_contains, contains_from_among, among-from_map, among_numbers, any_from_among, is_among_numbers}
-use Rattle.vt_spec.specs.Machine.Attach.{Copies, copies_from, parts_of, type_at, type_on_shared}
-use Rattle.vt_spec.specs.Lists.{holds_of, is_among, rest_of}
-use Rattle.vt_spec.specs.Machine.Mounts.{Location, Mount, Propagation, group_of, is_shared, same_location}
-use Rattle.vt_spec.specs.Machine.Mounts.Propagation.{Private, Shared, Slave, Unbindable}
-use Rattle.vt_spec.specs.Machine.Receives.{is_member_of}
-use Rattle.vt_spec.specs.Machine.Run.{numbers_in_use}
+use Rattle.std.proofs.Common.{arith, ◌≡◌, refl, sym, ap, subst, ◌∙◌, true, false, nat_eq, ℕ, Bool, List, None, Some, inl, is_some, true≢false, ⊎_elim, ◌&&◌, ◌∷◌, Contains, if◌then◌else◌}
+use Rattle.vt_spec.proofs.Common.{Among, Copies, Location, Mount, Private, Propagation, Shared, Slave, Unbindable, among-from_map, among_from_contains, among_numbers, any_from_among, common_steps, contains_from_among, copies_from, false_from_ne_true, found_or_none, group_of, holds_of, is_among, is_among_numbers, is_member_of, is_shared, list_any, number-mount_in, numbers_in_use, parts_of, rest_of, same_location, type_at, type_on_shared}
 use Rattle.vt_laws_mounts.specs.Mounts.Attaching.{KeepsAllButMountPoint, is_mount, numbers_of, stands_at_a_receiver}
 use Rattle.vt_laws_mounts.specs.Mounts.Copies.{ServeAsCopies, ServeAsImages}
 use Rattle.vt_laws_mounts.specs.Mounts.Propagation.{Attachment, CanAttach, CopiesAreNew, CopiesAtLowerGroupsFollow, CopiesAtPeersArePeers, CopiesAtSlavesAreSlaves, EachIsCopied, FirstStandsOnItsPart, IsOfTree, IsPart, OthersStandOnCopies, PrivateOnShared, SharedOnShared, SlaveOnShared, TypeOnNotShared, copy_of, destination_of, moves_to, number_at, world_after}
@@ -19,7 +9,6 @@ use Rattle.vt_laws_mounts.proofs.mounts.MountsAttached.{is_pushed_by}
 use Rattle.vt_laws_mounts.proofs.mounts.MountsNumbered.{is_one_of, number_in_use, supplies_serve_as_copies, supplies_serve_as_images}
 use Rattle.vt_laws_mounts.proofs.propagation.PropagationCopies.{arrived, arrived_keeps, first_not_pushed, first_location, found_copy, made, not_pushed, other_place, tree}
 use Rattle.vt_laws_mounts.proofs.propagation.PropagationTypes.{image_new, image_of, kind, kind_there, lower_master, private_there, shared_kind, slave_kind, slave_there, there_new}
-use Rattle.vt_spec.proofs.Worlds.{number-mount_in, found_or_none}
 
 module _ (it : Attachment) (can : CanAttach it) where
   abbrev pub supply : Copies ℕ

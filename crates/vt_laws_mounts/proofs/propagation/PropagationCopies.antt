@@ -1,21 +1,12 @@
 -- The copy of a mount at a part, as it is found after a tree was attached.
-use Rattle.std.proofs.Common.{arith, ◌≡◌, refl, sym, ap, subst, ◌∙◌, true, false, nat_eq, ℕ, Bool, List, Some, [], eq-eqb, eqb-true, flat_map, map, ⊎_elim, ◌&&◌, ◌++◌, ◌∷◌}
-use Rattle.std.proofs.lemmas.Grind.{common_steps}
-use Rattle.std.specs.Prelude.{if◌then◌else◌}
-use Rattle.std.specs.List.{list_any}
-use Rattle.vt_spec.proofs.Lists.{Among, among-append_left, among-append_right, among-flat_map, among-from_filter, among-map, none_from_among, pair-map}
-use Rattle.vt_spec.specs.Machine.Attach.{Copies, Graft, Twig, attached_by, copies_at, copy_at, graft_of, parts_of, pushed_up, receivers_of, takes_part, twig_of}
-use Rattle.vt_spec.specs.Lists.{holds_of, is_among, rest_of}
-use Rattle.vt_spec.specs.Machine.Mounts.{Location, Mount, group_of, mount_in, same_location}
-use Rattle.vt_spec.specs.Machine.World.{World, mount_at, mount_numbered}
+use Rattle.std.proofs.Common.{arith, ◌≡◌, refl, sym, ap, subst, ◌∙◌, true, false, nat_eq, ℕ, Bool, List, Some, [], eq-eqb, eqb-true, flat_map, map, ⊎_elim, ◌&&◌, ◌++◌, ◌∷◌, if◌then◌else◌}
+use Rattle.vt_spec.proofs.Common.{Among, Copies, Graft, Location, Mount, Twig, World, among-append_left, among-append_right, among-flat_map, among-from_filter, among-map, attached_by, common_steps, copies_at, copy_at, graft_of, group_of, holds_of, is_among, list_any, mount_at, mount_in, mount_numbered, nat_eq_false_turned, none_from_among, number-mount_in, pair-map, parts_of, pushed_up, receivers_of, rest_of, same_location, takes_part, twig_of}
 use Rattle.vt_laws_mounts.specs.Mounts.Attaching.{KeepsAllButMountPoint, OneNumberAMount, numbers_of}
 use Rattle.vt_laws_mounts.specs.Mounts.Copies.{ServeAsCopies}
 use Rattle.vt_laws_mounts.proofs.mounts.MountsAttached.{arriving, found_attached, is_pushed_by, keeps_number, moved_ones, none_pushes, push_keeps}
 use Rattle.vt_laws_mounts.proofs.mounts.MountsNumbered.{copies_keep_numbers, is_one_of, same_number, same_origin, taker_elsewhere}
 use Rattle.vt_laws_mounts.proofs.mounts.MountsReplaced.{found_itself}
 use Rattle.vt_laws_mounts.proofs.moves.MovingLeaves.{found_folded}
-use Rattle.vt_spec.proofs.Truths.{nat_eq_false_turned}
-use Rattle.vt_spec.proofs.Worlds.{number-mount_in}
 
 -- a mount that keeps all stays the same
 same_mount : (mount : Mount ℕ) → KeepsAllButMountPoint mount mount

@@ -1,13 +1,6 @@
 -- What the copies of a tree that is attached hear of.
 use Rattle.std.proofs.Common.{arith, ◌≡◌, refl, sym, ap, subst, ◌∙◌, true, false, nat_eq, ℕ, Bool, List, None, Option, Some, [], is_some, option_map, true≢false, unwrap_or, ⊎_elim}
-use Rattle.std.proofs.lemmas.Grind.{common_steps}
-use Rattle.vt_spec.proofs.Lists.{Among, among_from_contains, among-from_filter, any_from_among, contains_from_among}
-use Rattle.vt_spec.specs.Machine.Attach.{Copies, attached_by, parts_of, receivers_of, takes_part, type_at}
-use Rattle.vt_spec.specs.Lists.{holds_of, is_among}
-use Rattle.vt_spec.specs.Machine.Mounts.{Location, Mount, group_of, source_of}
-use Rattle.vt_spec.specs.Machine.Mounts.Propagation.{Shared}
-use Rattle.vt_spec.specs.Machine.Receives.{groups_up, is_member_of, receivers, receives}
-use Rattle.vt_spec.specs.Machine.World.{World}
+use Rattle.vt_spec.proofs.Common.{Among, Copies, Location, Mount, Shared, World, among-from_filter, among_from_contains, any_from_among, attached_by, common_steps, contains_from_among, group_of, groups_up, holds_of, is_among, is_member_of, parts_of, receivers, receivers_of, receives, same_truth, source_of, takes_part, type_at}
 use Rattle.vt_laws_mounts.specs.Mounts.Attaching.{OneNumberAMount}
 use Rattle.vt_laws_mounts.specs.Mounts.Copies.{ServeAsImages}
 use Rattle.vt_laws_mounts.specs.Mounts.Propagation.{Attachment, CanAttach, CopiesHearAsTheirOrigins, CopiesHearOneAnother, IsOfTree, IsPart, copy_of, destination_of, world_after}
@@ -19,7 +12,6 @@ use Rattle.vt_laws_mounts.proofs.GroupsUp.{LivesIn, lives_in}
 use Rattle.vt_laws_mounts.proofs.propagation.PropagationAttaching.{copy_kind, copy_shared, each_is_copied, image_group, kind_at_destination, moving_there, part_among, serve_images, supply, tree_among}
 use Rattle.vt_laws_mounts.proofs.propagation.PropagationHearing.{hears_images, hears_old, old_up, old_up_after}
 use Rattle.vt_laws_mounts.proofs.propagation.PropagationUp.{heard, hears, up_among}
-use Rattle.vt_spec.proofs.Truths.{same_truth}
 
 -- groups live on, whether mounts move or not
 keeps_groups : (world : World ℕ) (new : Copies ℕ) (place : Location ℕ) (moves : Bool) (mounts : List (Mount ℕ))

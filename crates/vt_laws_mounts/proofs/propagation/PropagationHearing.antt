@@ -1,14 +1,6 @@
 -- Copies at a shared destination and its receivers hear one another as the parts do.
 use Rattle.std.proofs.Common.{arith, ◌≡◌, refl, sym, ap, subst, ◌∙◌, true, false, nat_eq, ℕ, Bool, List, None, Option, Some, inl, inr, is_some, length, true≢false, unwrap_or, ⊎_elim, ◌⊎◌}
-use Rattle.std.proofs.lemmas.Grind.{common_steps}
-use Rattle.std.proofs.lemmas.Option.{same_Some}
-use Rattle.vt_spec.proofs.Lists.{Among, any_among, any_from_among, among-from_filter}
-use Rattle.vt_spec.specs.Machine.Attach.{Copies, attached_by, parts_of, type_on_shared}
-use Rattle.vt_spec.specs.Lists.{holds_of, is_among}
-use Rattle.vt_spec.specs.Machine.Mounts.{Location, Mount, Propagation, group_of, source_of}
-use Rattle.vt_spec.specs.Machine.Mounts.Propagation.{Private, Shared, Slave, Unbindable}
-use Rattle.vt_spec.specs.Machine.Receives.{groups_up, has_members, is_member_of, receives}
-use Rattle.vt_spec.specs.Machine.World.{World, mount_at}
+use Rattle.vt_spec.proofs.Common.{Among, Copies, Location, Mount, Private, Propagation, Shared, Slave, Unbindable, World, among-from_filter, any_among, any_from_among, attached_by, common_steps, found_or_none, group_of, groups_up, has_master, has_members, has_no_master, holds_of, is_among, is_member_of, mount_at, parts_of, receives, same_Some, same_truth, source_of, type_on_shared}
 use Rattle.vt_laws_mounts.specs.Mounts.Attaching.{OneNumberAMount}
 use Rattle.vt_laws_mounts.specs.Mounts.Copies.{ServeAsImages}
 use Rattle.vt_laws_mounts.specs.Mounts.Receivers.{GroupsLive}
@@ -16,7 +8,6 @@ use Rattle.vt_laws_mounts.proofs.attached.AttachedMasters.{image_elsewhere, mast
 use Rattle.vt_laws_mounts.proofs.attached.Attaching.{taker_there}
 use Rattle.vt_laws_mounts.proofs.GroupsKept.{member_shared, shared_member}
 use Rattle.vt_laws_mounts.proofs.GroupsUp.{LivesIn, Up, live_members, lives_in}
-use Rattle.vt_spec.specs.Machine.Invariants.Lives.{has_master, has_no_master}
 use Rattle.vt_laws_mounts.proofs.GroupsUp.Up.{above, here}
 use Rattle.vt_laws_mounts.proofs.mounts.MountsNumbered.{is_one_of}
 use Rattle.vt_laws_mounts.proofs.propagation.PropagationCopies.{not_there}
@@ -24,8 +15,6 @@ use Rattle.vt_laws_mounts.proofs.propagation.PropagationTypes.{image_in, image_n
 use Rattle.vt_laws_mounts.proofs.propagation.PropagationUp.{Nearest, finds_some, found_nearest, heard, hears, lives_up, nearest_passes, nearest_up, no_loop, up_among, up_further}
 use Rattle.vt_laws_mounts.proofs.propagation.PropagationUp.Nearest.{further, itself}
 use Rattle.vt_laws_mounts.proofs.mounts.Receivers.{receives_from_source}
-use Rattle.vt_spec.proofs.Truths.{same_truth}
-use Rattle.vt_spec.proofs.Worlds.{found_or_none}
 
 shared_kind_of : (kind : Propagation ℕ) (group : ℕ) → group_of kind ≡ Some group → kind ≡ Shared group
 shared_kind_of (Shared own) group e = ap Shared (same_Some own group e)

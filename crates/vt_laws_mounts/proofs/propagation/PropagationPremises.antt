@@ -1,17 +1,11 @@
 -- What the laws of propagation ask for holds of binds, new mounts and moves.
-use Rattle.std.proofs.Common.{arith, ◌≡◌, refl, sym, ap, subst, ◌∙◌, nat_eq, ℕ, inl, inr, true≢false, ⊎_elim, length}
-use Rattle.std.proofs.lemmas.Grind.{common_steps}
-use Rattle.std.specs.Prelude.{Contains}
-use Rattle.vt_spec.proofs.Lists.{Among, among_from_contains, contains_from_among}
-use Rattle.vt_spec.specs.Machine.Attach.{bind_tree, moved_tree}
-use Rattle.vt_spec.specs.Machine.Mounts.{Mount}
-use Rattle.vt_spec.specs.Machine.World.{mount_at}
+use Rattle.std.proofs.Common.{arith, ◌≡◌, refl, sym, ap, subst, ◌∙◌, nat_eq, ℕ, inl, inr, true≢false, ⊎_elim, length, Contains}
+use Rattle.vt_spec.proofs.Common.{Among, Mount, among_from_contains, bind_tree, common_steps, contains_from_among, found_or_none, mount_at, moved_tree, tree_among}
 use Rattle.vt_laws_mounts.specs.Mounts.Propagation.{BindsCan, MovesCan, NewMountsCan}
 use Rattle.vt_laws_mounts.proofs.GroupsLiving.{tested_live}
 use Rattle.vt_laws_mounts.proofs.attached.BindsStand.{bind_there_or_source}
 use Rattle.vt_laws_mounts.proofs.mounts.MountsFound.{found_there}
 use Rattle.vt_laws_mounts.proofs.mounts.Standing.{binds_take_each_once, trees_have_each_once}
-use Rattle.vt_spec.proofs.Worlds.{found_or_none, tree_among}
 
 pub binds_can : BindsCan
 binds_can world fresh source place recursive serves mounts = record {

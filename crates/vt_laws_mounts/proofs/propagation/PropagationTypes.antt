@@ -1,13 +1,6 @@
 -- The types of copies, by those of the parts that they are at.
-use Rattle.std.proofs.Common.{arith, ◌≡◌, refl, sym, ap, ◌∙◌, true, false, nat_eq, ℕ, Bool, None, Option, Some, List, find, inl, option_map, true≢false, unwrap_or, ⊎_elim}
-use Rattle.std.proofs.lemmas.Grind.{common_steps}
-use Rattle.std.specs.Prelude.{if◌then◌else◌}
-use Rattle.vt_spec.proofs.Lists.{Among}
-use Rattle.vt_spec.specs.Machine.Attach.{Copies, Twig, copy_type, image, parts_of, type_at, type_on_shared}
-use Rattle.vt_spec.specs.Machine.Mounts.{Location, Mount, Propagation, group_of}
-use Rattle.vt_spec.specs.Machine.Mounts.Propagation.{Private, Shared, Slave, Unbindable}
-use Rattle.vt_spec.specs.Machine.Receives.{groups_up, has_members, is_member_of, slave_of_heir}
-use Rattle.vt_spec.specs.Machine.World.{World}
+use Rattle.std.proofs.Common.{arith, ◌≡◌, refl, sym, ap, ◌∙◌, true, false, nat_eq, ℕ, Bool, None, Option, Some, List, find, inl, option_map, true≢false, unwrap_or, ⊎_elim, if◌then◌else◌}
+use Rattle.vt_spec.proofs.Common.{Among, Copies, Location, Mount, Private, Propagation, Shared, Slave, Twig, Unbindable, World, common_steps, copy_type, group_of, groups_up, has_members, image, is_member_of, parts_of, slave_of_heir, type_at, type_on_shared}
 use Rattle.vt_laws_mounts.specs.Mounts.Attaching.{OneNumberAMount}
 use Rattle.vt_laws_mounts.specs.Mounts.Copies.{ServeAsImages}
 use Rattle.vt_laws_mounts.proofs.attached.AttachedGroups.{kind_at}

@@ -1,20 +1,9 @@
 -- Groups up the masters: hearing by the way up, and the nearest that passes a test.
 use Rattle.std.proofs.Common.{arith, ◌≡◌, refl, sym, ap, subst, ◌∙◌, true, false, zero, suc, nat_eq, ℕ, Bool, List, None, Option, Some, [], cond, find, is_some, true≢false, ⊎_elim, ◌∷◌, eqb-true}
-use Rattle.std.proofs.lemmas.Grind.{common_steps}
-use Rattle.std.proofs.lemmas.Bool.{or_cases}
-use Rattle.std.proofs.lemmas.Option.{same_Some}
-use Rattle.vt_spec.proofs.Lists.{Among, any_among, chain_ends, chain_goes_on}
-use Rattle.vt_spec.specs.Lists.{chain, is_among}
-use Rattle.vt_spec.specs.Machine.Mounts.{Mount, Propagation, source_of}
-use Rattle.vt_spec.specs.Machine.Mounts.Propagation.{Private, Shared, Slave, Unbindable}
-use Rattle.vt_spec.specs.Machine.Receives.{Receives, groups_up, receives}
-use Rattle.vt_spec.specs.Machine.Receives.Receives.{further_down, member, slave}
-use Rattle.vt_spec.specs.Machine.World.{World}
+use Rattle.vt_spec.proofs.Common.{Among, Lives, Mount, Private, Propagation, Receives, Shared, Slave, Unbindable, World, any_among, chain, chain_ends, chain_goes_on, common_steps, further_down, groups_up, has_master, has_no_master, is_among, member, or_cases, receives, same_Some, slave, source_of}
 use Rattle.vt_laws_mounts.specs.Mounts.Receivers.{GroupsLive}
 use Rattle.vt_laws_mounts.proofs.GroupsKept.{member_shared}
 use Rattle.vt_laws_mounts.proofs.GroupsUp.{LivesIn, Up, live_members, way_up}
-use Rattle.vt_spec.specs.Machine.Invariants.{Lives}
-use Rattle.vt_spec.specs.Machine.Invariants.Lives.{has_master, has_no_master}
 use Rattle.vt_laws_mounts.proofs.GroupsUp.Up.{above, here}
 use Rattle.vt_laws_mounts.proofs.mounts.Receivers.{receives_completely}
 

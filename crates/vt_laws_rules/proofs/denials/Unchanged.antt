@@ -1,29 +1,14 @@
 -- What lines, looks and directives leave as it was.
 use Rattle.std.proofs.Common.{◌≡◌, refl, subst, ℕ, nat_eq, Bool, true, false, ◌||◌, nat_lt, length, List, [], ◌∷◌, Option, Some, None, Result, Ok, Err, IfErr, ok_or}
+use Rattle.vt_spec.proofs.Common.{Answered, AskPeers, AskSealed, Asking, Call, Calling, Fresh, Grammar, Outcome, Permit, Request, Silent, Step, Task, TaskName, World, apply, call_outcome, denial, directed, finished_by, is_silent, line_step_by, longest_line, looks_of, only_looks, overfills, request_of, requested, spoken_step, step_world, task_called}
 use Rattle.vt_laws_rules.proofs.rules.Outcomes.{after_keeps, error_is, judged_keeps}
 use Rattle.vt_laws_rules.proofs.rules.OwnRules.{policy_refuses_own}
 use Rattle.vt_laws_rules.specs.Denials.{DeniedLineChangesNothing, DirectiveChangesNothing, LookChangesNothing, RefusedMemoryChangesNothing}
 use Rattle.vt_spec.specs.declared.errors.Deny.{Deny}
 use Rattle.vt_spec.specs.declared.errors.Rule.TheVariants.{S2}
-use Rattle.vt_spec.specs.Errors.{denial}
-use Rattle.vt_spec.specs.Language.Calls.{Call, TaskName}
-use Rattle.vt_spec.specs.Language.Calls.Directive.{AskPeers, AskSealed}
-use Rattle.vt_spec.specs.Lists.{Fresh}
-use Rattle.vt_spec.specs.Machine.Outcomes.{Outcome}
-use Rattle.vt_spec.specs.Machine.Policy.{call_outcome, finished_by, only_looks}
-use Rattle.vt_spec.specs.Machine.Run.{Step, line_step_by, requested, spoken_step, step_world}
-use Rattle.vt_spec.specs.Machine.Run.Step.{Answered, Silent}
-use Rattle.vt_spec.specs.Language.Script.{Grammar, Request, is_silent, request_of}
-use Rattle.vt_spec.specs.Language.Limits.{longest_line}
-use Rattle.vt_spec.specs.Language.Script.Request.{Asking, Calling}
-use Rattle.vt_spec.specs.Machine.Sealed.{directed}
-use Rattle.vt_spec.specs.Machine.World.{Task, World, task_called}
 use Rattle.vt_laws_rules.proofs.given.CallsGranted.{call_holds}
 use Rattle.vt_laws_rules.specs.Granted.{IsGranted}
 use Rattle.vt_laws_rules.specs.Granted.IsGranted.{lists_directory, lists_mounts, may_execute, reads_file, reads_part, reads_symlink, shows_object, shows_symlink}
-use Rattle.vt_spec.specs.Machine.Apply.{apply, overfills}
-use Rattle.vt_spec.specs.Machine.Looks.{looks_of}
-use Rattle.vt_spec.specs.Machine.Permits.{Permit}
 
 pub directive_changes_nothing : DirectiveChangesNothing
 directive_changes_nothing world AskPeers = refl

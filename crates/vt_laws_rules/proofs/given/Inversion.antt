@@ -1,33 +1,12 @@
 -- What `judge` permits is granted in one of the ways of `IsGranted`, and what is granted so, `judge` permits.
-use Rattle.std.proofs.Common.{ap, refl, ◌∙◌}
-use Rattle.std.specs.Prelude.{Bool, List, None, Ok, Option, Some, [], length, nat_lt, ok_or, true, ℕ, ◌++◌, ◌||◌, ◌∷◌, ◌≡◌}
-use Rattle.vt_spec.proofs.Given.{Gives, behind_option, behind_rules, behind_step, behind_test, behind_walk, by_rules, by_step, by_walk, given}
+use Rattle.std.proofs.Common.{ap, refl, ◌∙◌, Bool, List, None, Ok, Option, Some, [], length, nat_lt, ok_or, true, ℕ, ◌++◌, ◌||◌, ◌∷◌, ◌≡◌}
+use Rattle.vt_spec.proofs.Common.{Access, Bind, Call, Chdir, Chmod, Chown, Chroot, Close, Creation, Descriptor, Drop, Exclusive, Exec, Exit, Fork, Gives, Lazy, LinkTo, ListMounts, Looks, Ls, Lstat, MakeWhiteout, Mkdir, MountFlags, MountOverlay, MountPlain, MoveMount, NoCreation, Opaque, OpenFile, OrCreate, OverlayWords, Permit, PivotRoot, Pread, Pwrite, Read, Readlink, Remount, Rename, Rmdir, SetType, Setns, Stat, SymlinkAt, Task, ToBind, ToMountOverlay, ToMountPlain, ToMove, Umask, Umount, Unlink, Unshare, Write, admin_rules, attr_at, attr_rules, attr_with_mode, attr_with_owner, bind_permit, bind_rules, cap_sys_admin, cap_sys_chroot, chdir_permit, child_credentials, chmod_permit, chown_permit, chroot_permit, close_permit, denial, descriptor_at, descriptor_rules, destination_walk, directory_walk, enter_rules, exclusive_word_rules, exec_permit, exec_rules, file_mode, file_walk, file_word_rules, fork_permit, fork_rules, given, hard_link_permit, hard_link_rules, is_directory_there, is_one_object, is_special, judge, lacks, largest_file, layer_rules, layers_walked, lazy_permit, linking, list_permit, list_rules, lstat_permit, make_rules, may_chown, mkdir_permit, mount_overlay_permit, mount_plain_permit, move_permit, move_rules, new_file, new_leaf_walk, new_mount_rules, new_walk, object_there, object_walk, old_leaf_walk, old_walk, old_word_rules, opaque_permit, opaque_rules, open_permit, open_rules, opened_or_created_permit, overlay_at, owns, pivot_permit, pivot_rules, pread_permit, pwrite_permit, pwrite_rules, read_permit, read_rules, readlink_permit, readlink_rules, remount_permit, remount_rules, rename_new_walk, rename_permit, rename_rules, renamed_permit, rewrite_rules, rmdir_permit, rmdir_rules, rmdir_word_rules, same_object_rules, setns_permit, source_walk, stat_permit, symlink_permit, symlink_text_rules, symlink_walk, type_permit, type_rules, umount_permit, umount_rules, unlink_permit, unlink_rules, unnumbered, unshare_permit, whiteout_permit, whiteout_rules, write_permit, written_permit}
+use Rattle.vt_spec.proofs.Given.{behind_option, behind_rules, behind_step, behind_test, behind_walk, by_rules, by_step, by_walk}
 use Rattle.vt_laws_rules.specs.Granted.{AreNames, IsGranted, directory_made, symlink_made}
 use Rattle.vt_laws_rules.specs.Granted.IsGranted.{binds, closes, creates, creates_exclusively, drops_capabilities, enters_namespace, exits, forks, keeps_names, lists_directory, lists_mounts, makes_directory, makes_hard_link, makes_symlink, makes_whiteout, may_execute, mounts_overlayfs, mounts_tmpfs, moves_mount, opens, opens_existing, overwrites_file, pivots_root, reads_file, reads_part, reads_symlink, removes_directory, renames, changes_directory, changes_flags, changes_mode, changes_mark, changes_owner, changes_root, changes_type, changes_umask, shows_object, shows_symlink, unlinks, unmounts, unmounts_lazily, unshares, writes_new_file, writes_part}
-use Rattle.vt_spec.specs.Errors.{denial}
-use Rattle.vt_spec.specs.Language.Calls.{Access, Call, Creation, MountFlags, OverlayWords}
-use Rattle.vt_spec.specs.Language.Calls.Call.{Bind, Chdir, Chmod, Chown, Chroot, Close, Drop, Exec, Exit, Fork, Lazy, LinkTo, ListMounts, Ls, Lstat, MakeWhiteout, Mkdir, MountOverlay, MountPlain, MoveMount, Opaque, OpenFile, PivotRoot, Pread, Pwrite, Read, Readlink, Remount, Rename, Rmdir, SetType, Setns, Stat, SymlinkAt, Umask, Umount, Unlink, Unshare, Write}
-use Rattle.vt_spec.specs.Language.Calls.Creation.{Exclusive, NoCreation, OrCreate}
-use Rattle.vt_spec.specs.Language.Limits.{largest_file}
-use Rattle.vt_spec.specs.Machine.Judge.{bind_permit, chdir_permit, chmod_permit, chown_permit, chroot_permit, close_permit, exec_permit, fork_permit, hard_link_permit, judge, lazy_permit, list_permit, lstat_permit, mkdir_permit, mount_overlay_permit, mount_plain_permit, move_permit, opaque_permit, open_permit, opened_or_created_permit, pivot_permit, pread_permit, pwrite_permit, read_permit, readlink_permit, remount_permit, rename_permit, renamed_permit, rmdir_permit, setns_permit, stat_permit, symlink_permit, type_permit, umount_permit, unlink_permit, unnumbered, unshare_permit, whiteout_permit, write_permit, written_permit}
-use Rattle.vt_spec.specs.Machine.Looks.{Looks}
-use Rattle.vt_spec.specs.Machine.Permits.{Permit}
-use Rattle.vt_spec.specs.Machine.Permits.Permit.{ToBind, ToMountOverlay, ToMountPlain, ToMove}
-use Rattle.vt_spec.specs.Machine.Rules.Attributes.{attr_at, attr_rules, opaque_rules}
-use Rattle.vt_spec.specs.Machine.Rules.Conditions.{lacks}
-use Rattle.vt_spec.specs.Machine.Rules.Descriptors.{descriptor_at, descriptor_rules, exclusive_word_rules, open_rules, pwrite_rules}
-use Rattle.vt_spec.specs.Machine.Rules.Looking.{exec_rules, list_rules, read_rules, readlink_rules}
-use Rattle.vt_spec.specs.Machine.Rules.Making.{file_word_rules, hard_link_rules, make_rules, new_word_rules, rewrite_rules, symlink_text_rules, whiteout_rules}
-use Rattle.vt_spec.specs.Machine.Rules.Mounting.{admin_rules, bind_rules, destination_walk, layer_rules, layers_walked, lazy_rules, move_rules, new_mount_rules, overlay_at, pivot_rules, remount_rules, source_walk, type_rules, umount_rules}
-use Rattle.vt_spec.specs.Machine.Rules.Removing.{is_one_object, object_there, old_word_rules, rename_new_walk, rename_rules, rmdir_rules, rmdir_word_rules, same_object_rules, unlink_rules}
-use Rattle.vt_spec.specs.Machine.Rules.Tasks.{enter_rules, fork_rules}
-use Rattle.vt_spec.specs.Machine.Walking.{directory_walk, file_walk, is_directory_there, is_special, new_leaf_walk, new_walk, object_walk, old_leaf_walk, old_walk, symlink_walk}
-use Rattle.vt_spec.specs.Machine.World.{Descriptor, Task}
-use Rattle.vt_spec.specs.Rights.{cap_sys_admin, cap_sys_chroot, owns}
+use Rattle.vt_spec.specs.Machine.Rules.Making.{new_word_rules}
+use Rattle.vt_spec.specs.Machine.Rules.Mounting.{lazy_rules}
 use Rattle.vt_spec.specs.declared.errors.Rule.TheVariants.{E1, E2, E6, K1, S2}
-use Rattle.vt_spec.specs.Machine.Attributes.{attr_with_mode, attr_with_owner, may_chown}
-use Rattle.vt_spec.specs.Machine.Rows.{file_mode, linking, new_file}
-use Rattle.vt_spec.specs.Machine.Tasks.{child_credentials}
 
 module _ {N : Type 0} (eq : N → N → Bool) (looks : Looks N) (overfills : Permit N → Bool) (task : Task N) where
   abbrev Granted : Call → Permit N → Type 0

@@ -1,11 +1,7 @@
 -- What looks alike is the same to walks and rules, which look at nothing else.
 use Rattle.std.proofs.Common.{arith, ◌≡◌, ap, ℕ, nat_eq}
-use Rattle.std.proofs.lemmas.Grind.{common_steps}
+use Rattle.vt_spec.proofs.Common.{Looks, common_steps, destination_walk, directory_walk, file_walk, judge, new_leaf_walk, new_walk, object_walk, old_leaf_walk, old_walk, source_walk, symlink_walk}
 use Rattle.vt_laws_rules.specs.Judged.{AlikeAreJudgedAlike, AlikeAreWalkedAlike, LookAlike}
-use Rattle.vt_spec.specs.Machine.Judge.{judge}
-use Rattle.vt_spec.specs.Machine.Looks.{Looks}
-use Rattle.vt_spec.specs.Machine.Rules.Mounting.{destination_walk, source_walk}
-use Rattle.vt_spec.specs.Machine.Walking.{directory_walk, file_walk, symlink_walk, new_leaf_walk, new_walk, object_walk, old_leaf_walk, old_walk}
 
 same_looks : (one other : Looks ℕ) → LookAlike one other → one ≡ other
 same_looks one other alike = grind (arith, common_steps)

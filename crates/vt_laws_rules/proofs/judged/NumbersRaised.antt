@@ -1,14 +1,7 @@
 -- The policy's last step raises change numbers alone.
 use Rattle.std.proofs.Common.{arith, ◌≡◌, refl, ◌⊎◌, inl, ℕ, ◌+◌, nat_eq, Bool, true, false, cond, ◌||◌, List, [], ◌∷◌, ◌++◌, map}
-use Rattle.std.proofs.lemmas.Grind.{common_steps}
+use Rattle.vt_spec.proofs.Common.{Filesystem, Namespace, Outcome, Task, TaskName, World, common_steps, finished, finished_by, numbers_raised, raised, raised_if_changed, raised_namespace, raised_task, settled, without_changes}
 use Rattle.vt_laws_rules.specs.Judged.{AreRaised, LastStepRaisesNumbersAlone, change_numbers}
-use Rattle.vt_spec.specs.Machine.Filesystems.{raised, raised_if_changed}
-use Rattle.vt_spec.specs.Machine.Outcomes.{Outcome}
-use Rattle.vt_spec.specs.Machine.Policy.{finished, finished_by, numbers_raised, raised_namespace, raised_task}
-use Rattle.vt_spec.specs.Machine.SameWorlds.{without_changes}
-use Rattle.vt_spec.specs.Machine.Settled.{settled}
-use Rattle.vt_spec.specs.Machine.World.{Filesystem, Namespace, Task, World}
-use Rattle.vt_spec.specs.Language.Calls.{TaskName}
 
 abbrev MayRise : ℕ → ℕ → Type 0
 MayRise old new = (new ≡ old) ⊎ (new ≡ old + 1)

@@ -1,9 +1,8 @@
 -- Two supplies with room are joined by a renaming.
 use Rattle.std.proofs.Common.{◌≡◌, refl, sym, ap, ◌∙◌, true≢false, ℕ, Bool, true, subst}
+use Rattle.vt_spec.proofs.Common.{World, renamed}
 use std.Equiv.{◌≃◌, id_equiv, iso_to_equiv}
 use std.Univalence.{equiv_j}
-use Rattle.vt_spec.specs.Machine.Renaming.{renamed}
-use Rattle.vt_spec.specs.Machine.World.{World}
 use Rattle.vt_laws_rules.specs.Renaming.{Renaming}
 use Rattle.vt_laws_rules.specs.Numbers.{KeepsTo, Lot, Allotment, is_kept, is_kept_lot}
 use Rattle.vt_laws_rules.specs.Numbers.Lot.{Kept, LeftOver, New}

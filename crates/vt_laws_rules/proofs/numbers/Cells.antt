@@ -1,6 +1,6 @@
 -- Endless rows of numbers: each number stands at one place of one row.
-use Rattle.std.proofs.lemmas.Grind.{common_steps}
 use Rattle.std.proofs.Common.{◌≡◌, refl, ap, ◌∙◌, ℕ, zero, suc, ◌+◌, ◌*◌, ◌/◌, ◌≤◌, arith}
+use Rattle.vt_spec.proofs.Common.{common_steps}
 use Rattle.std.proofs.Math.Nat.{mul-suc, suc-mul}
 
 -- how many numbers stand before a diagonal, and the number at a place of a row

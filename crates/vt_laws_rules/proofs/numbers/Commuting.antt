@@ -1,15 +1,9 @@
 -- Whatever is generic in the numbers' type commutes with renamings.
-use Rattle.std.proofs.Common.{arith, ◌≡◌, refl, sym, ap, subst, ◌∙◌, ℕ, nat_eq, eq-eqb, ne_eqb, Bool, List, [], ◌∷◌, ⊎_elim, Option, Some, None}
-use Rattle.std.proofs.lemmas.Grind.{common_steps}
-use Rattle.std.proofs.lemmas.Bool.Decides.{eqb_tells}
-use Rattle.std.specs.Prelude.{map, option_map}
+use Rattle.std.proofs.Common.{arith, ◌≡◌, refl, sym, ap, subst, ◌∙◌, ℕ, nat_eq, eq-eqb, ne_eqb, Bool, List, [], ◌∷◌, ⊎_elim, Option, Some, None, map, option_map}
+use Rattle.vt_spec.proofs.Common.{Change, Content, Inode, Node, common_steps, eqb_tells, renamed_content, renamed_inode, renamed_node}
 use std.Equiv.{◌≃◌, id_equiv, iso_to_equiv}
 use std.Univalence.{equiv_j}
-use Rattle.vt_spec.specs.Machine.Renaming.{renamed_content, renamed_node}
-use Rattle.vt_spec.specs.Tree.{Content, Node}
-use Rattle.vt_spec.specs.Inodes.{Inode, renamed_inode}
 use Rattle.vt_laws_rules.specs.Renaming.{Renaming, renamed_change}
-use Rattle.vt_spec.specs.Language.Changes.{Change}
 
 pub map_itself : {A : Type 0} (f : A → A) → ((a : A) → f a ≡ a) → (list : List A) → map f list ≡ list
 map_itself f same [] = refl

@@ -1,7 +1,6 @@
 -- Two numbers exchanged.
 use Rattle.std.proofs.Common.{arith, ◌≡◌, ◌≢◌, sym, ap, ◌∙◌, true≢false, refl, ℕ, nat_eq, eq-eqb, ne_eqb, Bool, false, cond, ⊎_elim}
-use Rattle.std.proofs.lemmas.Grind.{common_steps}
-use Rattle.std.proofs.lemmas.Bool.Decides.{eqb_tells}
+use Rattle.vt_spec.proofs.Common.{common_steps, eqb_tells}
 use Rattle.vt_laws_rules.specs.Renaming.{Leaves, Renaming}
 
 abbrev pub swapped : ℕ → ℕ → ℕ → ℕ

@@ -1,16 +1,9 @@
 -- A world keeps to the numbers that it has anywhere.
-use Rattle.std.proofs.lemmas.Grind.{common_steps}
-use Rattle.std.proofs.Common.{◌≡◌, refl, sym, ap, ◌∙◌, true≢false, ℕ, Bool, true, false, List, [], ◌∷◌, Option, Some, None, zero, arith, suc}
-use Rattle.std.specs.Prelude.{All, map, option_map}
-use Rattle.std.specs.List.{list_all}
-use Rattle.vt_spec.specs.Tree.{Content, Node}
-use Rattle.vt_spec.specs.Machine.Mounts.{Location, Mount, Propagation}
-use Rattle.vt_spec.specs.Machine.Renaming.{renamed, renamed_content, renamed_descriptor, renamed_entry, renamed_filesystem, renamed_layer, renamed_location, renamed_mount, renamed_namespace, renamed_node, renamed_overlay, renamed_propagation, renamed_real, renamed_task}
-use Rattle.vt_spec.specs.Machine.World.{Descriptor, Filesystem, Layer, Namespace, Overlay, Real, Task, World}
-use Rattle.vt_spec.specs.Machine.World.Real.{Lower, Upper}
+use Rattle.std.proofs.Common.{◌≡◌, refl, sym, ap, ◌∙◌, true≢false, ℕ, Bool, true, false, List, [], ◌∷◌, Option, Some, None, zero, arith, suc, All, map, option_map}
+use Rattle.vt_spec.proofs.Common.{Content, Descriptor, Filesystem, Layer, Location, Lower, Mount, Namespace, Node, Overlay, Propagation, Real, Task, Upper, World, and_parts, common_steps, list_all, renamed, renamed_content, renamed_entry, renamed_filesystem, renamed_location, renamed_mount, renamed_namespace, renamed_node, renamed_overlay, renamed_task}
+use Rattle.vt_spec.specs.Machine.Renaming.{renamed_descriptor, renamed_layer, renamed_propagation, renamed_real}
 use Rattle.vt_laws_rules.specs.Renaming.{Leaves, Renaming}
 use Rattle.vt_laws_rules.specs.Numbers.{FilesystemNamed, IsFoundAmong, NamedIsKept, OverlayIfAnyNamed, OverlayNamed, WorldNamed, content_named, descriptor_named, layer_named, location_named, mount_named, namespace_named, node_named, none_or, propagation_named, real_named, task_named}
-use Rattle.std.proofs.lemmas.Bool.{and_parts}
 
 -- what is left where it is one by one is left so in a list
 list_left : {A : Type 0} (f : A → A) (test : A → Bool) → ((a : A) → test a ≡ true → f a ≡ a) → (list : List A)

@@ -1,18 +1,7 @@
 -- Worlds, outcomes, lines and turns commute with renamings of their numbers.
-use Rattle.std.proofs.Common.{arith, ◌≡◌, refl, sym, ap, ◌∙◌, ℕ, nat_eq, List, Option}
-use Rattle.std.proofs.lemmas.Grind.{common_steps}
-use Rattle.vt_spec.specs.Machine.Policy.{policy}
-use Rattle.std.specs.Prelude.{map, option_map}
-use Rattle.vt_spec.specs.FileTree.{FileTree}
-use Rattle.vt_spec.specs.Lists.{Fresh}
-use Rattle.vt_spec.specs.Machine.Mounts.{Mount, Propagation}
-use Rattle.vt_spec.specs.Machine.Outcomes.{Outcome}
-use Rattle.vt_spec.specs.Machine.Renaming.{renamed, renamed_files, renamed_filesystem, renamed_layer, renamed_mount, renamed_overlay, renamed_propagation, renamed_real, renamed_task}
-use Rattle.vt_spec.specs.Machine.Run.{Step, line_step}
-use Rattle.vt_spec.specs.Machine.Run.Step.{Answered, Silent}
-use Rattle.vt_spec.specs.Machine.Turns.{Progress, Sched, Turned}
-use Rattle.vt_spec.specs.Machine.World.{Filesystem, Layer, Overlay, Real, Task, World}
-use Rattle.vt_spec.specs.Machine.World.Real.{Lower, Upper}
+use Rattle.std.proofs.Common.{arith, ◌≡◌, refl, sym, ap, ◌∙◌, ℕ, nat_eq, List, Option, map, option_map}
+use Rattle.vt_spec.proofs.Common.{Answered, FileTree, Filesystem, Fresh, Layer, Lower, Mount, Outcome, Overlay, Progress, Propagation, Real, Sched, Silent, Step, Task, Turned, Upper, World, common_steps, line_step, policy, renamed, renamed_filesystem, renamed_mount, renamed_overlay, renamed_task}
+use Rattle.vt_spec.specs.Machine.Renaming.{renamed_files, renamed_layer, renamed_propagation, renamed_real}
 use Rattle.vt_laws_rules.specs.Renaming.{Renaming}
 use Rattle.vt_laws_rules.proofs.numbers.Commuting.{Named, commutes_nat, map_itself, node_itself, option_itself}
 use Rattle.vt_laws_rules.specs.Numbers.{CallsDoNotSeeNumbers, LinesDoNotSeeNumbers, renamed_held, renamed_outcome, renamed_progress, renamed_sched, renamed_step, renamed_supply, renamed_turned, SameWorldsAnswerAlike}

@@ -1,10 +1,8 @@
 -- Rows of numbers, each number at one place of one row: the first four stand first in the first row, and all others
 -- along the diagonals.
-use Rattle.std.proofs.Common.{◌≡◌, refl, sym, ap, ◌∙◌, ℕ, zero, suc, ◌+◌, ◌-◌, ◌<◌, ◌≤◌, Bool, true, false, nat_lt, arith}
-use Rattle.std.proofs.lemmas.Bool.{le-ltb, lt-ltb, ltb-false, ltb-true}
+use Rattle.std.proofs.Common.{◌≡◌, refl, sym, ap, ◌∙◌, ℕ, zero, suc, ◌+◌, ◌-◌, ◌<◌, ◌≤◌, Bool, true, false, nat_lt, arith, le-ltb, lt-ltb, ltb-false, ltb-true}
+use Rattle.vt_spec.proofs.Common.{common_steps, numbers_for}
 use Rattle.vt_laws_rules.proofs.numbers.Cells.{cell, cell-number_in_row, number_in_row, number_in_row-cell, numbers_before-sum}
-use Rattle.vt_spec.specs.Machine.Run.{numbers_for}
-use Rattle.std.proofs.lemmas.Grind.{common_steps}
 
 -- the number at a place of a row
 first_row : Bool → ℕ → ℕ

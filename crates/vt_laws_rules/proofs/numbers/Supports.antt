@@ -1,13 +1,6 @@
 -- Which numbers a world has in it.
-use Rattle.std.proofs.Common.{◌≡◌, ◌≢◌, refl, sym, ap, ◌∙◌, true≢false, ℕ, nat_eq, Bool, true, false, cond, List, [], ◌∷◌, ⊎_elim, Some}
-use Rattle.std.proofs.lemmas.Bool.Decides.{eqb_tells}
-use Rattle.std.specs.Prelude.{map, ◌||◌}
-use Rattle.vt_spec.specs.Lists.{Fresh, is_among}
-use Rattle.vt_spec.specs.Machine.Policy.{policy}
-use Rattle.vt_spec.specs.Machine.Renaming.{renamed}
-use Rattle.vt_spec.specs.Machine.Run.{Step, line_step, numbers_in_use, step_world}
-use Rattle.vt_spec.specs.Machine.Run.Step.{Answered, Silent}
-use Rattle.vt_spec.specs.Machine.World.{World, opening}
+use Rattle.std.proofs.Common.{◌≡◌, ◌≢◌, refl, sym, ap, ◌∙◌, true≢false, ℕ, nat_eq, Bool, true, false, cond, List, [], ◌∷◌, ⊎_elim, Some, map, ◌||◌}
+use Rattle.vt_spec.proofs.Common.{Answered, Fresh, Silent, Step, World, eqb_tells, is_among, line_step, numbers_in_use, opening, policy, renamed, step_world}
 use Rattle.vt_laws_rules.specs.Numbers.{CallsKeepToNumbers, LeavesOutTwo, LinesKeepToNumbers, OpeningKeepsToFour, UsedNumbersAreNamed, renamed_step}
 use Rattle.vt_laws_rules.specs.Renaming.{Renaming}
 use Rattle.vt_laws_rules.proofs.numbers.Commuting.{Named, commutes_nat, map_itself}

@@ -1,12 +1,8 @@
 -- A script has one text, whatever unused numbers are handed in.
-use Rattle.vt_spec.specs.Machine.Policy.{policy}
 use Rattle.std.proofs.Common.{◌≡◌, refl, sym, ap, ◌∙◌, true≢false, ℕ, suc, nat_eq, ◌+◌, ◌≤◌, Bool, true, false, List, [], ◌∷◌, ◌++◌, length, Some, None, arith, ltb-true, subst, eqb-true}
-use Rattle.vt_spec.specs.Lists.{Fresh, is_among}
-use Rattle.vt_spec.specs.Machine.Renaming.{renamed, SameWorld}
-use Rattle.vt_spec.specs.Machine.Run.{Step, line_step, step_text, step_world, first_world, text_from, text_of, numbers_for, Tells, numbers_in_use}
-use Rattle.vt_spec.specs.Machine.Run.Step.{Answered, Silent}
-use Rattle.vt_spec.specs.Language.Script.{Grammar, lines_of}
-use Rattle.vt_spec.specs.Machine.World.{World}
+use Rattle.vt_spec.proofs.Common.{Answered, Fresh, Grammar, Silent, Step, World, first_world, is_among, line_step, lines_of, numbers_for, numbers_in_use, policy, renamed, step_text, step_world, text_from}
+use Rattle.vt_spec.specs.Machine.Renaming.{SameWorld}
+use Rattle.vt_spec.specs.Machine.Run.{text_of, Tells}
 use Rattle.vt_laws_rules.specs.Renaming.{Renaming}
 use Rattle.vt_laws_rules.specs.Numbers.{KeepsTo, ServesWithRoom, Lot, Allotment, TellsWithRoom, WorldsKeepToHand, is_in_hand, is_in_hand_lot, is_kept, is_kept_lot, renamed_step, first_four, AnyTwoTextsAreOne, SomeTextIsThere, SuppliesDoNotMatter, MayBeText, WholeMachineHasOneText, RoomServes, TextsAreTold, LeavesOutTwo}
 use Rattle.vt_laws_rules.specs.Numbers.Lot.{Kept, LeftOver, New}

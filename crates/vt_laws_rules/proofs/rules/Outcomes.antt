@@ -1,17 +1,10 @@
 -- What an outcome that is put together of steps that may be refused keeps of them.
-use Rattle.std.proofs.Common.{◌≡◌, refl, subst, Bool, true, false, not, List, [], ◌∷◌, ◌++◌, ◌&&◌, ◌||◌, Result, Ok, Err, IfErr, is_ok, cond}
-use Rattle.std.specs.Str.{bytes_eq}
+use Rattle.std.proofs.Common.{◌≡◌, refl, subst, Bool, true, false, not, List, [], ◌∷◌, ◌++◌, ◌&&◌, ◌||◌, Result, Ok, Err, IfErr, is_ok, cond, bytes_eq}
+use Rattle.vt_spec.proofs.Common.{Answer, Outcome, Rules, Stop, TaskName, World, after, and_then, and_true_right, denial, finished_by, judged, stopped_by, then_walk, unless, walk_end, walk_unless}
 use Rattle.vt_laws_rules.specs.RuleRanks.{is_among}
 use Rattle.vt_spec.specs.declared.errors.Deny.{Deny}
 use Rattle.vt_spec.specs.declared.errors.Rule.{Rule}
-use Rattle.vt_spec.specs.Errors.{Rules, and_then, denial, rule_name, unless}
-use Rattle.vt_spec.specs.Language.Answers.{Answer}
-use Rattle.vt_spec.specs.Machine.Outcomes.{Outcome, after, judged}
-use Rattle.vt_spec.specs.Machine.Policy.{finished_by}
-use Rattle.vt_spec.specs.Machine.Walking.{Stop, stopped_by, then_walk, walk_end, walk_unless}
-use Rattle.vt_spec.specs.Language.Calls.{TaskName}
-use Rattle.vt_spec.specs.Machine.World.{World}
-use Rattle.vt_spec.proofs.Truths.{and_true_right}
+use Rattle.vt_spec.specs.Errors.{rule_name}
 
 -- what is told of the error of a result is told of it in every form
 pub error_is : {A : Type 0} (P : Deny → Type 0) (result : Result A Deny) (deny : Deny) → result ≡ Err deny

@@ -1,6 +1,6 @@
 -- Each call is refused by its own rules, with the error of the rule, and leaves the world then.
 use Rattle.std.proofs.Common.{arith, ◌≡◌, refl, ℕ, nat_eq, Bool, true, false, List, [], ◌∷◌, ◌++◌, ◌&&◌, ◌||◌, Option, Some, None, ok_or, Result, Ok, Err, IfErr, if◌then◌else◌, length, nat_lt, unwrap_or}
-use Rattle.std.proofs.lemmas.Grind.{common_steps}
+use Rattle.vt_spec.proofs.Common.{Access, Allowed, Bind, Call, Change, Chdir, Chmod, Chown, Chroot, Close, CopyUp, Creation, Exclusive, Exec, Fork, Fresh, Judgement, Lazy, LinkTo, Location, Ls, Lstat, MakeWhiteout, Mkdir, MountFlags, MountOverlay, MountPlain, MoveMount, NoCreation, Opaque, OpenFile, OrCreate, Overlay, OverlayWords, Permit, PivotRoot, Place, Pread, Pwrite, Read, ReadOnly, ReadWrite, Readlink, Remount, Rename, Rmdir, SetAttr, SetBytes, SetType, Setns, Stat, Stop, Symlink, SymlinkAt, Task, TaskName, Umount, Unlink, Unshare, World, Write, WriteOnly, admin_rules, and_then, apply, attr_with_mode, attr_with_owner, bind_permit, bound_at, call_outcome, cap_sys_admin, cap_sys_chroot, chdir_permit, child_credentials, chmod_permit, chown_permit, chroot_permit, close_permit, common_steps, denial, descriptor_at, descriptor_rules, directory_mode, evens, exact_attr, exclusive_word_rules, exec_permit, file_mode, file_word_rules, fork_permit, fork_rules, hard_link_permit, is_copied_up, is_special, judge_in, largest_file, lazy_permit, linking, list_permit, looks_of, lstat_permit, making, may_chown, mkdir_permit, mount_overlay_permit, mount_plain_permit, mounted, mounter_rules, move_permit, moved_to, moving, new_attr, new_directory, new_file, object_there, odds, old_word_rules, only_looks, opaque_permit, open_permit, opened_or_created_permit, overfills, overlay_mounted, overlay_permit_by, owns, pivot_permit, plain_filesystem, policy, pread_permit, pwrite_permit, read_permit, readlink_permit, remount_permit, removing, rename_permit, renamed_permit, rmdir_permit, rmdir_word_rules, setns_permit, stat_permit, symlink_mode, symlink_permit, symlink_text_rules, task_called, type_permit, umount_permit, unlink_permit, unshare_permit, walk_end, whiteout_permit, write_permit, written_permit}
 use Rattle.vt_laws_rules.proofs.rules.Outcomes.{DeniesOwn, IsOwn, RefusesOwn, after_own, among_more, are_own, error_is, finished_own, and_then_own, unless_own}
 use Rattle.vt_laws_rules.proofs.rules.WalkRules.{RefusesAsWalk, StopsAsWalk, destination_walks, directory_walks, file_walks, layer_walks, leaf_walks, new_leaf_walks, new_walks, object_walks, old_leaf_walks, old_walks, rename_new_walks, source_walks}
 use Rattle.vt_laws_rules.specs.Denials.{DenialChangesNothing}
@@ -9,41 +9,9 @@ use Rattle.vt_laws_rules.specs.RuleRanks.{is_among}
 use Rattle.vt_spec.specs.declared.errors.Deny.{Deny}
 use Rattle.vt_spec.specs.declared.errors.Rule.{Rule}
 use Rattle.vt_spec.specs.declared.errors.Rule.TheVariants.{B1, B2, E1, E2, E6, K1, S2, S4}
-use Rattle.vt_spec.specs.Errors.{denial, and_then}
-use Rattle.vt_spec.specs.Language.Calls.{Access, Call, Creation, MountFlags, OverlayWords, TaskName}
-use Rattle.vt_spec.specs.Language.Calls.Access.{ReadOnly, ReadWrite, WriteOnly}
-use Rattle.vt_spec.specs.Language.Calls.Call.{Bind, Chdir, Chmod, Chown, Chroot, Close, Exec, Fork, Lazy, LinkTo, Ls, Lstat, MakeWhiteout, Mkdir, MountOverlay, MountPlain, MoveMount, Opaque, OpenFile, PivotRoot, Pread, Pwrite, Read, Readlink, Remount, Rename, Rmdir, SetType, Setns, Stat, SymlinkAt, Umount, Unlink, Unshare, Write}
-use Rattle.vt_spec.specs.Language.Calls.Creation.{Exclusive, NoCreation, OrCreate}
-use Rattle.vt_spec.specs.Language.Changes.{Change}
-use Rattle.vt_spec.specs.Language.Changes.Change.{CopyUp, SetAttr, SetBytes}
-use Rattle.vt_spec.specs.Machine.Filesystems.{mounter_rules}
-use Rattle.vt_spec.specs.Lists.{Fresh, evens, odds}
-use Rattle.vt_spec.proofs.Tables.{exec_rules, list_rules, read_rules, readlink_rules, attr_at, attr_rules, opaque_rules, copy_rules, open_rules, pwrite_rules, hard_link_rules, make_rules, new_rules, rewrite_rules, whiteout_rules, overlay_at, overlay_mounted, bind_rules, layer_rules, layers_walked, lazy_rules, move_rules, new_mount_rules, pivot_rules, remount_rules, source_walk, destination_walk, type_rules, umount_rules, is_one_object, rename_new_walk, rename_rules, rmdir_rules, same_object_rules, unlink_rules, enter_rules}
-use Rattle.vt_spec.specs.Machine.Mounts.{Location}
-use Rattle.vt_spec.specs.Machine.Attributes.{attr_with_mode, attr_with_owner, may_chown}
-use Rattle.vt_spec.specs.Machine.Rules.Descriptors.{descriptor_at, descriptor_rules, exclusive_word_rules}
-use Rattle.vt_spec.specs.Machine.Descriptors.{is_copied_up}
-use Rattle.vt_spec.specs.Machine.Rows.{directory_mode, exact_attr, file_mode, lacks, linking, making, new_attr, new_file, symlink_mode}
-use Rattle.vt_spec.specs.Machine.Rules.Making.{file_word_rules, symlink_text_rules}
-use Rattle.vt_spec.specs.Language.Limits.{largest_file}
-use Rattle.vt_spec.specs.Machine.Attach.{bound_at, moved_to}
-use Rattle.vt_spec.specs.Machine.NewMounts.{mounted, plain_filesystem}
-use Rattle.vt_spec.specs.Machine.Rules.Mounting.{admin_rules}
-use Rattle.vt_spec.specs.Machine.Rules.Removing.{moving, object_there, removing, old_word_rules, rmdir_word_rules}
-use Rattle.vt_spec.specs.Machine.Rules.Tasks.{fork_rules}
-use Rattle.vt_spec.specs.Machine.Tasks.{child_credentials}
-use Rattle.vt_spec.specs.Machine.Policy.{call_outcome, only_looks, policy}
-use Rattle.vt_spec.specs.Rights.{owns, cap_sys_admin, cap_sys_chroot}
-use Rattle.vt_spec.specs.Tree.{new_directory}
-use Rattle.vt_spec.specs.Tree.Content.{Symlink}
-use Rattle.vt_spec.specs.Machine.Walking.{Place, Stop, is_special, walk_end}
+use Rattle.vt_spec.proofs.Tables.{exec_rules, list_rules, read_rules, readlink_rules, attr_at, attr_rules, opaque_rules, copy_rules, open_rules, pwrite_rules, hard_link_rules, make_rules, new_rules, rewrite_rules, whiteout_rules, overlay_at, bind_rules, layer_rules, layers_walked, lazy_rules, move_rules, new_mount_rules, pivot_rules, remount_rules, source_walk, destination_walk, type_rules, umount_rules, is_one_object, rename_new_walk, rename_rules, rmdir_rules, same_object_rules, unlink_rules, enter_rules}
+use Rattle.vt_spec.specs.Machine.Rows.{lacks}
 use Rattle.vt_spec.proofs.Walk.{directory_walk, file_walk, is_directory_there, symlink_walk, new_leaf_walk, new_walk, object_walk, old_leaf_walk, old_walk}
-use Rattle.vt_spec.specs.Machine.World.{Overlay, Task, World, task_called}
-use Rattle.vt_spec.specs.Machine.Apply.{apply, overfills}
-use Rattle.vt_spec.specs.Machine.Judge.{Judgement, bind_permit, chdir_permit, chmod_permit, chown_permit, chroot_permit, close_permit, exec_permit, fork_permit, hard_link_permit, judge_in, lazy_permit, list_permit, lstat_permit, mkdir_permit, mount_overlay_permit, mount_plain_permit, move_permit, opaque_permit, open_permit, opened_or_created_permit, overlay_permit_by, pivot_permit, pread_permit, pwrite_permit, read_permit, readlink_permit, remount_permit, rename_permit, renamed_permit, rmdir_permit, setns_permit, stat_permit, symlink_permit, type_permit, umount_permit, unlink_permit, unshare_permit, whiteout_permit, write_permit, written_permit}
-use Rattle.vt_spec.specs.Machine.Looks.{looks_of}
-use Rattle.vt_spec.specs.Machine.Permits.{Permit}
-use Rattle.vt_spec.specs.Machine.Permits.Permit.{Allowed}
 
 -- A call's refusals, where its rules have those of walks among them
 module _ (rules : List Rule) where

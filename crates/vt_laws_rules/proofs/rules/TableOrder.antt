@@ -1,37 +1,16 @@
 -- Each table of rules is in the policy's order, and walks are refused by the rules of walks.
-use Rattle.std.proofs.Common.{arith, ◌≡◌, refl, ℕ, nat_eq, Bool, true, false, ◌&&◌, nat_le, List, [], ◌∷◌, ◌++◌, Option, Some, None, ok_or, Result, Ok, Err, IfOk, unwrap_or}
-use Rattle.std.proofs.lemmas.Grind.{common_steps}
-use Rattle.std.specs.Prelude.{is_err}
+use Rattle.std.proofs.Common.{arith, ◌≡◌, refl, ℕ, nat_eq, Bool, true, false, ◌&&◌, nat_le, List, [], ◌∷◌, ◌++◌, Option, Some, None, ok_or, Result, Ok, Err, IfOk, unwrap_or, is_err}
+use Rattle.vt_spec.proofs.Common.{Access, Bind, Call, Change, Chdir, Chmod, Chown, Chroot, CopyUp, Exclusive, Exec, Fresh, Lazy, LinkTo, Location, Ls, Lstat, MakeWhiteout, Mkdir, MountFlags, MountOverlay, MountPlain, MoveMount, NoCreation, Opaque, OpenFile, OrCreate, Overlay, OverlayWords, PivotRoot, Place, Pwrite, Read, Readlink, Remount, Rename, Rmdir, Rules, SetAttr, SetType, Stat, Stop, Symlink, SymlinkAt, Task, Umount, Unlink, World, Write, and_then, attr_with_mode, attr_with_owner, common_steps, denial, descriptor_at, directory_mode, evens, exact_attr, is_copied_up, linking, looks_of, making, mounter_rules, moving, new_attr, new_directory, new_file, object_there, old_word_rules, removing, rmdir_word_rules, symlink_mode, symlink_text_rules, unless}
 use Rattle.vt_laws_rules.proofs.rules.Outcomes.{IsOwn, RefusesOwn, among_front, error_is, unless_own}
 use Rattle.vt_laws_rules.proofs.rules.WalkRules.{RefusesAsWalk, StopsAsWalk, destination_walks, directory_walks, file_walks, layer_walks, leaf_walks, new_leaf_walks, new_walks, object_walks, old_leaf_walks, old_walks, rename_new_walks, source_walks}
 use Rattle.vt_laws_rules.specs.Asked.{asked_first, asked_last, asked_of_open, asked_of_overlay, asked_of_rename, asked_of_write, exclusive_last_words, failing, last_word_rules, walked}
 use Rattle.vt_laws_rules.specs.RuleOrder.{FirstTablesInOrder, LastTablesInOrder, WalksRefuseAsWalks, walk_rules}
 use Rattle.vt_laws_rules.specs.RuleRanks.{IsInOrderAfterWalk, is_in_order_from, rank}
-use Rattle.vt_spec.specs.Machine.Looks.{looks_of}
 use Rattle.vt_spec.specs.declared.errors.Rule.{Rule}
 use Rattle.vt_spec.specs.declared.errors.Rule.TheVariants.{B1, C2, S4}
-use Rattle.vt_spec.specs.Errors.{and_then, denial, unless, Rules}
-use Rattle.vt_spec.specs.Language.Changes.{Change}
-use Rattle.vt_spec.specs.Language.Changes.Change.{CopyUp, SetAttr}
-use Rattle.vt_spec.specs.Machine.Filesystems.{mounter_rules}
 use Rattle.vt_spec.proofs.Tables.{copy_rules, is_one_object, rename_new_walk, attr_at, destination_walk, layers_walked, source_walk}
-use Rattle.vt_spec.specs.Machine.Rules.Descriptors.{descriptor_at}
-use Rattle.vt_spec.specs.Machine.Descriptors.{is_copied_up}
-use Rattle.vt_spec.specs.Machine.Rules.Removing.{moving, object_there, old_word_rules, removing, rmdir_word_rules}
-use Rattle.vt_spec.specs.Machine.World.{Overlay, Task, World}
 use Rattle.vt_spec.specs.declared.errors.Deny.{Deny}
-use Rattle.vt_spec.specs.Language.Calls.{Access, Call, MountFlags, OverlayWords}
-use Rattle.vt_spec.specs.Language.Calls.Call.{Bind, Chdir, Chmod, Chown, Chroot, Exec, Lazy, LinkTo, Ls, Lstat, MakeWhiteout, Mkdir, MountOverlay, MountPlain, MoveMount, Opaque, OpenFile, PivotRoot, Pwrite, Read, Readlink, Remount, Rename, Rmdir, SetType, Stat, SymlinkAt, Umount, Unlink, Write}
-use Rattle.vt_spec.specs.Language.Calls.Creation.{Exclusive, NoCreation, OrCreate}
-use Rattle.vt_spec.specs.Lists.{Fresh, evens}
-use Rattle.vt_spec.specs.Machine.Mounts.{Location}
-use Rattle.vt_spec.specs.Machine.Attributes.{attr_with_mode, attr_with_owner}
-use Rattle.vt_spec.specs.Machine.Rows.{directory_mode, exact_attr, linking, making, new_attr, new_file, symlink_mode}
-use Rattle.vt_spec.specs.Machine.Rules.Making.{symlink_text_rules}
-use Rattle.vt_spec.specs.Machine.Walking.{Place, Stop}
 use Rattle.vt_spec.proofs.Walk.{directory_walk, file_walk, is_directory_there, symlink_walk, new_leaf_walk, new_walk, object_walk, old_leaf_walk, old_walk}
-use Rattle.vt_spec.specs.Tree.{new_directory}
-use Rattle.vt_spec.specs.Tree.Content.{Symlink}
 
 -- a table that is asked after the walks, if they end well, is in order
 abbrev IsInOrderAtEnd : Result Rules Deny → Type 0

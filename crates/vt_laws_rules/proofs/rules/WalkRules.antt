@@ -1,21 +1,12 @@
 -- Walks are refused by the rules of walks alone.
 use Rattle.std.proofs.Common.{arith, refl, ℕ, zero, suc, Bool, false, List, [], ◌∷◌, ◌+◌, ◌||◌, reverse, Option, Some, None, ok_or, Result, Ok}
-use Rattle.std.proofs.lemmas.Grind.{common_steps}
+use Rattle.vt_spec.proofs.Common.{Dot, DotDot, Follow, Here, LastWord, Location, Named, NoWord, OverlayWords, Place, Stop, Task, World, and_then, common_steps, denial, ends_in_slash, file_or_symlink, file_walked, final_word, followed, if_symlink, last_walked, last_word, most_symlinks, path_rules, path_text, path_walked, prefix_walked, stopped_by, symlink_of, unless, walk_start, words, work_walked}
 use Rattle.vt_laws_rules.specs.RuleOrder.{walk_rules}
 use Rattle.vt_laws_rules.proofs.rules.Outcomes.{RefusesOwn, StopsOwn, and_then_own, if_own, stopped_own, then_walk_own, unless_own, walk_end_own, walk_unless_own}
 use Rattle.vt_spec.specs.declared.errors.Deny.{Deny}
 use Rattle.vt_spec.specs.declared.errors.Rule.TheVariants.{W6}
-use Rattle.vt_spec.specs.Errors.{and_then, denial, unless}
-use Rattle.vt_spec.specs.PathText.{ends_in_slash, path_rules, words}
-use Rattle.vt_spec.specs.Language.Calls.{OverlayWords}
-use Rattle.vt_spec.specs.Machine.Mounts.{Location}
 use Rattle.vt_spec.proofs.Tables.{destination_walk, each_walked, layers_walked, source_walk, walked_if_given, rename_new_walk}
-use Rattle.vt_spec.specs.Machine.Rules.Mounting.{work_walked}
-use Rattle.vt_spec.specs.Machine.Walking.{Follow, Here, LastWord, Place, Stop, stopped_by, final_word, if_symlink, last_word, symlink_of, path_text, walk_start}
-use Rattle.vt_spec.proofs.Walk.{directory_walk, entry_location, file_or_symlink, file_walk, file_walked, follow_rules, followed, prefix_walked, hops, is_top, last_walked, symlink_start, symlink_there, symlink_walk, symlink_walk_by, symlink_walked, new_leaf_walk, new_walk, object_named, object_walk, old_leaf_walk, old_walk, path_walked, place_walk, placed, search_rules, slash_rules, stepped, up_from, word_walked, words_walked}
-use Rattle.vt_spec.specs.Language.Limits.{most_symlinks}
-use Rattle.vt_spec.specs.Machine.Walking.LastWord.{Dot, DotDot, Named, NoWord}
-use Rattle.vt_spec.specs.Machine.World.{Task, World}
+use Rattle.vt_spec.proofs.Walk.{directory_walk, entry_location, file_walk, follow_rules, hops, is_top, symlink_start, symlink_there, symlink_walk, symlink_walk_by, symlink_walked, new_leaf_walk, new_walk, object_named, object_walk, old_leaf_walk, old_walk, place_walk, placed, search_rules, slash_rules, stepped, up_from, word_walked, words_walked}
 
 -- stopped by a rule of walks
 abbrev pub StopsAsWalk : {A N : Type 0} → Result A (Stop N) → Type 0

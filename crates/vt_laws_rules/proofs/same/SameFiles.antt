@@ -1,13 +1,7 @@
 -- What does not depend on the order of the numbers that stand beside a tree.
-use Rattle.std.proofs.Common.{◌≡◌, refl, sym, ap, subst, ◌∙◌, ℕ, nat_eq, true≢false, Bool, true, false, cond, ◌||◌, ◌&&◌, List, [], ◌∷◌, length, map, find, filter_map, Option, Some, None, is_some, option_map, option_to_list, reverse}
-use Rattle.std.specs.List.{cons_option, list_any}
-use Rattle.std.specs.List.Sorted.{IsPermutation}
-use Rattle.std.proofs.lemmas.List.Sorted.{length_permutation, list_any-IsPermutation}
-use Rattle.vt_spec.specs.FileTree.{FileTree, ancestors, has_entry_to, is_directory_under, is_file_under, is_under, name_in, named_parent, own_name, path_down}
+use Rattle.std.proofs.Common.{◌≡◌, refl, sym, ap, subst, ◌∙◌, ℕ, nat_eq, true≢false, Bool, true, false, cond, ◌||◌, ◌&&◌, List, [], ◌∷◌, length, map, find, filter_map, Option, Some, None, is_some, option_map, option_to_list, reverse, IsPermutation}
+use Rattle.vt_spec.proofs.Common.{FileTree, SameFiles, Tree, ancestors, before_first, chain, cons_option, entries_in, first_of_list, has_entry_to, is_among, is_directory_node, is_directory_under, is_file_under, is_under, length_permutation, list_any, list_any-IsPermutation, name_in, named_parent, own_name, path_down, when}
 use Rattle.vt_spec.specs.Machine.Filesystems.{directory_of_name}
-use Rattle.vt_spec.specs.Lists.{before_first, chain, first_of_list, is_among, when}
-use Rattle.vt_spec.specs.Machine.SameWorlds.{SameFiles}
-use Rattle.vt_spec.specs.Tree.{Tree, entries_in, is_directory_node}
 
 module _ (one other : FileTree ℕ) (same : SameFiles one other) where
   pub as_many : length one.numbers ≡ length other.numbers

@@ -1,18 +1,10 @@
 -- Change numbers, and the order of numbers beside trees, are not looked at.
-use Rattle.std.proofs.Common.{◌≡◌, refl, ap, subst, ◌∙◌, ℕ, nat_eq, Bool, true, false, cond, ◌||◌, ◌&&◌, List, [], ◌∷◌, ◌++◌, map, find, flat_map, Some, is_some, option_map, true≢false, sym}
-use Rattle.std.specs.Prelude.{unwrap_or}
-use Rattle.std.specs.List.{All, list_any}
-use Rattle.std.proofs.lemmas.List.Elements.{All-head, All-tail}
+use Rattle.std.proofs.Common.{◌≡◌, refl, ap, subst, ◌∙◌, ℕ, nat_eq, Bool, true, false, cond, ◌||◌, ◌&&◌, List, [], ◌∷◌, ◌++◌, map, find, flat_map, Some, is_some, option_map, true≢false, sym, unwrap_or, All}
+use Rattle.vt_spec.proofs.Common.{All-head, All-tail, Filesystem, Task, TaskName, World, going, has_child, is_among, is_overlay, list_any, locations_of, looks_of, mount_numbered, no_filesystem, same_name, without_changes}
 use Rattle.vt_laws_rules.proofs.judged.LooksAlike.{alike_are_judged_alike}
 use Rattle.vt_laws_rules.proofs.same.SameLooks.{others_look_alike}
 use Rattle.vt_laws_rules.specs.Judged.{LookAlike}
 use Rattle.vt_laws_rules.specs.Same.{PlainHasOneName, SameWorldsAreJudgedAlike, SameWorldsLookAlike}
-use Rattle.vt_spec.specs.Machine.Detach.{going, has_child}
-use Rattle.vt_spec.specs.Lists.{is_among}
-use Rattle.vt_spec.specs.Machine.Looks.{looks_of}
-use Rattle.vt_spec.specs.Machine.SameWorlds.{without_changes}
-use Rattle.vt_spec.specs.Machine.World.{Filesystem, Task, World, is_overlay, locations_of, mount_numbered, no_filesystem}
-use Rattle.vt_spec.specs.Language.Calls.{TaskName, same_name}
 use Rattle.vt_laws_rules.proofs.judged.NumbersRaised.{bare_task}
 
 -- a world with all its change numbers at zero but those of filesystems

@@ -1,26 +1,11 @@
 -- Worlds that are the same but for change numbers and the order of numbers beside trees look alike.
 use Rattle.std.proofs.Common.{◌≡◌, refl, sym, ap, subst, ◌∙◌, ℕ, ◌+◌, nat_eq, Bool, true, false, cond, not, ◌||◌, ◌&&◌, List, [], ◌∷◌, ◌++◌, map, filter, flat_map, find, Option, Some, None, is_some, option_to_list, unwrap_or}
-use Rattle.std.specs.List.{list_any}
-use Rattle.std.proofs.lemmas.List.Sorted.{IsPermutation-refl, list_any-IsPermutation}
+use Rattle.vt_spec.proofs.Common.{Change, Filesystem, IsPermutation-refl, Layer, Location, LowerObjectsHaveOneName, Mount, Overlay, Rules, SameFilesystem, SameFilesystems, Tree, World, attr_in, before_first, counts_in_layer, execute_right, filesystem_at, filesystem_numbered, has_entry_to, has_lower_directory, has_lower_directory_at, holds_of, in_use, is_kind_in, is_locked, is_overlay, is_point, is_real_upper, is_removed, layers_of, lies_in_layer, lies_only_in_lowers, lies_or_counts_under, list_any, list_any-IsPermutation, live_layers, live_upper_and_work, looks_of, mount_at, mounter_rules, no_filesystem, node_allows, of_overlay, open_layer, overlaps_one_of, overlay_or, overlay_rules, read_right, upper_and_work, upper_points, write_right}
 use Rattle.vt_laws_rules.proofs.same.SameFiles.{ancestors_same, directory_same, directory_under_same, path_same, under_same}
 use Rattle.vt_laws_rules.specs.Judged.{LookAlike}
 use Rattle.vt_spec.specs.declared.attributes.Kind.TheVariants.{File}
 use Rattle.vt_spec.specs.declared.errors.Rule.TheVariants.{B1, B2}
-use Rattle.vt_spec.specs.Language.Changes.{Change}
-use Rattle.vt_spec.specs.Machine.Detach.{is_point, upper_points}
-use Rattle.vt_spec.specs.FileTree.{attr_in, has_entry_to, is_kind_in, is_removed}
-use Rattle.vt_spec.specs.Machine.Filesystems.{can_give_owner, directories_asked, directories_changed, directory_of_name, has_lower_directory_at, lies_only_in_lowers, mounter_rules, object_copied, overlay_rules, path_of_name}
-use Rattle.vt_spec.specs.Machine.Layers.{has_lower_directory}
-use Rattle.vt_spec.specs.Lists.{before_first, holds_of}
-use Rattle.vt_spec.specs.Machine.Locked.{counts_in_layer, in_use, is_locked, is_real_upper, lies_in_layer, lies_or_counts_under, live_layers, live_upper_and_work, of_overlay, overlaps_one_of, overlay_or, upper_and_work}
-use Rattle.vt_spec.specs.Machine.Looks.{looks_of}
-use Rattle.vt_spec.specs.Machine.Mounts.{Location, Mount}
-use Rattle.vt_spec.specs.Machine.Rightful.{node_allows}
-use Rattle.vt_spec.specs.Machine.SameWorlds.{LowerObjectsHaveOneName, SameFilesystem, SameFilesystems}
-use Rattle.vt_spec.specs.Machine.World.{Filesystem, Layer, Overlay, World, filesystem_at, filesystem_numbered, is_overlay, layers_of, mount_at, no_filesystem, open_layer}
-use Rattle.vt_spec.specs.Errors.{Rules}
-use Rattle.vt_spec.specs.Rights.{execute_right, read_right, write_right}
-use Rattle.vt_spec.specs.Tree.{Tree}
+use Rattle.vt_spec.specs.Machine.Filesystems.{can_give_owner, directories_asked, directories_changed, directory_of_name, object_copied, path_of_name}
 
 abbrev numbered : ℕ → List (Filesystem ℕ) → Filesystem ℕ
 numbered number list = unwrap_or (find (λ filesystem. nat_eq number filesystem.number) list) (no_filesystem number)

@@ -1,26 +1,11 @@
 -- Whether what is attached leaves a namespace with too many mounts, in worlds that are the same but for change numbers
 -- and the order of numbers beside trees.
 use Rattle.std.proofs.Common.{arith, ◌≡◌, refl, sym, ap, ◌∙◌, ℕ, nat_eq, nat_lt, Bool, true, false, not, ◌&&◌, ◌||◌, List, [], ◌∷◌, ◌++◌, length, map, filter, flat_map, Option, Some, None, is_some}
-use Rattle.std.proofs.lemmas.Grind.{common_steps}
-use Rattle.std.specs.List.{list_any}
+use Rattle.vt_spec.proofs.Common.{Bind, Call, Copies, Filesystem, Fresh, Graft, Layer, Location, Looks, Mount, MountFlags, MountOverlay, MountPlain, Namespace, Overlay, Permit, Propagation, SameFilesystem, SameFilesystems, Task, ToBind, ToMountOverlay, ToMountPlain, ToMove, Twig, World, attach, attached_at, bind_permit, bindable_children, bindable_tree, bound, bound_at, common_steps, copies_at, copies_from, copy_at, copy_type, evens, filesystem_numbered, graft_of, has_too_many, holds_of, judge, list_any, looks_of, most_mounts, mount_at, mount_numbered, mount_overlay_permit, mount_plain_permit, mount_tree, mounted, move_permit, new_mount, odds, open_layer, overfills, overlay_filesystem, parts_of, plain_filesystem, pushed_onto, receivers_of, stands_under, takes_part, top_of_copies, with_new_filesystem}
 use Rattle.vt_laws_rules.proofs.same.SameFiles.{as_many, directory_under_same}
 use Rattle.vt_laws_rules.proofs.same.SameJudged.{same_worlds_are_judged_alike}
 use Rattle.vt_laws_rules.proofs.same.SameLooks.{found_same}
 use Rattle.vt_laws_rules.specs.Same.{SameWorldsJudgeAlike}
-use Rattle.vt_spec.specs.Machine.Apply.{overfills}
-use Rattle.vt_spec.specs.Machine.Attach.{Copies, Graft, Twig, attach, attached_at, bindable_children, bindable_tree, bound, bound_at, copies_at, copies_from, copy_at, copy_type, graft_of, has_too_many, parts_of, pushed_onto, receivers_of, stands_under, takes_part, top_of_copies}
-use Rattle.vt_spec.specs.Language.Limits.{most_mounts}
-use Rattle.vt_spec.specs.Language.Calls.{Call, MountFlags}
-use Rattle.vt_spec.specs.Language.Calls.Call.{Bind, MountOverlay, MountPlain}
-use Rattle.vt_spec.specs.Machine.Judge.{bind_permit, judge, mount_overlay_permit, mount_plain_permit, move_permit}
-use Rattle.vt_spec.specs.Lists.{Fresh, evens, holds_of, odds}
-use Rattle.vt_spec.specs.Machine.Looks.{Looks, looks_of}
-use Rattle.vt_spec.specs.Machine.Mounts.{Location, Mount, Propagation, mount_tree}
-use Rattle.vt_spec.specs.Machine.NewMounts.{mounted, new_mount, overlay_filesystem, plain_filesystem, with_new_filesystem}
-use Rattle.vt_spec.specs.Machine.Permits.{Permit}
-use Rattle.vt_spec.specs.Machine.Permits.Permit.{ToBind, ToMountOverlay, ToMountPlain, ToMove}
-use Rattle.vt_spec.specs.Machine.SameWorlds.{SameFilesystem, SameFilesystems}
-use Rattle.vt_spec.specs.Machine.World.{Filesystem, Layer, Namespace, Overlay, Task, World, filesystem_numbered, mount_at, mount_numbered, open_layer}
 
 -- the permits that attach mounts: those for which M9 is judged, and which raise no filesystem's change number
 abbrev pub attaches : Permit ℕ → Bool

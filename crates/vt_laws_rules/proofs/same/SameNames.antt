@@ -1,28 +1,11 @@
 -- What lies only below in an overlay has one name in a world that has the invariants: its real object is of a path, and
 -- the names that lead to it are that path.
-use Rattle.std.proofs.Common.{◌≡◌, refl, sym, ap, subst, ◌∙◌, true≢false, eq-eqb, eqb-true, suc, zero, ℕ, nat_eq, Bool, true, false, cond, List, [], ◌∷◌, ◌++◌, map, find, reverse, Option, Some, None, is_some, option_map, unwrap_or}
-use Rattle.std.specs.List.{All}
-use Rattle.std.proofs.lemmas.Bool.{not-true}
-use Rattle.std.proofs.lemmas.List.{reverse-append, reverse-reverse}
-use Rattle.std.proofs.lemmas.List.Elements.{All-head, All-tail}
+use Rattle.std.proofs.Common.{◌≡◌, refl, sym, ap, subst, ◌∙◌, true≢false, eq-eqb, eqb-true, suc, zero, ℕ, nat_eq, Bool, true, false, cond, List, [], ◌∷◌, ◌++◌, map, find, reverse, Option, Some, None, is_some, option_map, unwrap_or, All}
+use Rattle.vt_spec.proofs.Common.{All-head, All-tail, Filesystem, IsMerged, IsReached, IsTree, Lower, Overlay, Real, SameObject, Tree, Upper, World, cons-rest, directory_from_entry, entry_at, entry_from, entry_named, filesystem_numbered, has_entry_to, is_overlay, led, led-append, lies_only_in_lowers, no_filesystem, none_is_some, not-true, nothing_is_no_object, open_layer, real_node, real_object, real_shown, reverse-append, reverse-reverse, root_reached, shown, shown_layers, then_some, upper_object}
 use Rattle.vt_laws_rules.proofs.same.SameJudged.{same_worlds_look_alike}
 use Rattle.vt_laws_rules.proofs.same.SameMany.{same_worlds_judge_alike}
 use Rattle.vt_laws_rules.specs.Same.{SameInvariantWorldsJudgeAlike, SameInvariantWorldsLookAlike, WorldsHaveOneName}
-use Rattle.vt_spec.proofs.NodeChanges.{directory_from_entry, entry_from}
-use Rattle.vt_spec.proofs.Options.{cons-rest, none_is_some}
-use Rattle.vt_spec.proofs.Trees.{led-append, root_reached}
-use Rattle.vt_spec.proofs.Worlds.{nothing_is_no_object}
-use Rattle.vt_spec.specs.FileTree.{has_entry_to}
-use Rattle.vt_spec.specs.Lists.{then_some}
-use Rattle.vt_spec.specs.Machine.Filesystems.{lies_only_in_lowers}
-use Rattle.vt_spec.specs.Machine.Invariants.{IsMerged, SameObject, real_node, real_shown}
-use Rattle.vt_spec.specs.Machine.Layers.{shown}
-use Rattle.vt_spec.specs.Machine.Merging.{real_object}
 use Rattle.vt_spec.specs.Machine.Views.{Shown}
-use Rattle.vt_spec.specs.Machine.World.{Filesystem, Overlay, Real, World, filesystem_numbered, is_overlay, no_filesystem, open_layer, shown_layers, upper_object}
-use Rattle.vt_spec.specs.Machine.World.Real.{Lower, Upper}
-use Rattle.vt_spec.specs.Tree.{Tree, entry_named}
-use Rattle.vt_spec.specs.TreeInvariant.{IsReached, IsTree, entry_at, led}
 
 -- an overlay that is found is a filesystem of the world, so its tree is one
 tree_found : (number : ℕ) (list : List (Filesystem ℕ)) → All (λ filesystem. IsTree filesystem.files.tree) list

@@ -1,22 +1,6 @@
 -- The groups that mounts of others form where they are attached: those of others, and new ones.
-use Rattle.std.proofs.Common.{arith, ◌≡◌, refl, sym, ap, subst, ◌∙◌, ◌⊎◌, inl, inr, ⊎_elim, ℕ, nat_eq, Bool, true, false, cond, true≢false, List, [], ◌∷◌, ◌*◌, Option, Some, None, length, not, ◌+◌, eqb-true}
-use Rattle.std.proofs.lemmas.Grind.{common_steps}
-use Rattle.std.specs.Prelude.{option_map, unwrap_or}
-use Rattle.std.specs.List.{filter_map, list_any}
-use Rattle.std.proofs.lemmas.Bool.{false_from_ne_true}
-use Rattle.std.proofs.lemmas.Option.{same_Some}
-use Rattle.vt_spec.specs.Language.Calls.{TaskName}
-use Rattle.vt_spec.specs.Lists.{Fresh, folded, then_some, when}
-use Rattle.vt_spec.specs.Machine.Attach.{Copies, Graft, index_in_rows, index_of_group, all_groups_made, attach, copies_from, copy_at, copy_type, graft_of, group_made, image, is_destination, masters_with, nearest_image, parts_of, twig_master, twig_of, type_at, type_on_shared}
-use Rattle.vt_spec.specs.Machine.Mounts.{Location, Mount, Propagation, group_of, index_of, is_shared}
-use Rattle.vt_spec.specs.Machine.Mounts.Propagation.{Private, Shared, Slave, Unbindable}
-use Rattle.vt_spec.specs.Machine.Receives.{is_member_of, slave_of_heir}
-use Rattle.vt_spec.specs.Machine.Run.{Serves}
-use Rattle.vt_spec.specs.Machine.Sealed.{is_own_mount, master_of, other_mounts, own_mounts}
-use Rattle.vt_spec.specs.Machine.Types.{master_after}
-use Rattle.vt_spec.specs.Machine.World.{Filesystem, World, mount_at}
-use Rattle.vt_spec.proofs.Lists.{Among, among-from_filter, among-from_filter_map, among-from_flat_map, among-from_map, any_among}
-use Rattle.vt_spec.proofs.Options.{none_is_some}
+use Rattle.std.proofs.Common.{arith, ◌≡◌, refl, sym, ap, subst, ◌∙◌, ◌⊎◌, inl, inr, ⊎_elim, ℕ, nat_eq, Bool, true, false, cond, true≢false, List, [], ◌∷◌, ◌*◌, Option, Some, None, length, not, ◌+◌, eqb-true, option_map, unwrap_or, filter_map}
+use Rattle.vt_spec.proofs.Common.{Among, Copies, Filesystem, Fresh, Graft, Location, Mount, Private, Propagation, Serves, Shared, Slave, TaskName, Unbindable, World, all_groups_made, among-from_filter, among-from_filter_map, among-from_flat_map, among-from_map, any_among, attach, common_steps, copies_from, copy_at, copy_type, false_from_ne_true, folded, graft_of, group_made, group_of, image, index_in_rows, index_of, index_of_group, is_destination, is_member_of, is_own_mount, is_shared, list_any, master_after, master_of, masters_with, mount_at, nearest_image, none_is_some, other_mounts, own_mounts, parts_of, same_Some, slave_of_heir, then_some, twig_master, twig_of, type_at, type_on_shared, when}
 use Rattle.vt_laws_trees.specs.Layers.Layers.ChangesUpper.{IsNewBy}
 use Rattle.vt_laws_sealed.specs.Part.Seals.{IsApart}
 use Rattle.vt_laws_sealed.proofs.outsiders.OtherMounts.{Foreign, HearsGroup, foreign_above, member_not_new, other_hears_foreign, standing_apart_with}

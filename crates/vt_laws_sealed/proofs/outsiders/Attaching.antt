@@ -1,26 +1,6 @@
 -- Copies of mounts of others, attached at a mount of others and at its receivers.
-use Rattle.std.proofs.Common.{arith, ◌≡◌, refl, sym, ap, subst, ◌∙◌, ◌⊎◌, inl, inr, ⊎_elim, ℕ, nat_eq, Bool, true, false, cond, true≢false, List, [], ◌∷◌, ◌++◌, ◌*◌, append-nil, append_assoc, Option, Some, None, filter, find, flat_map, is_some, length, map, not, ◌&&◌, ◌||◌, eq-eqb, eqb-true}
-use Rattle.std.proofs.lemmas.Grind.{common_steps}
-use Rattle.std.specs.Prelude.{option_map, unwrap_or}
-use Rattle.std.specs.List.{cons_option, filter_map, list_any}
-use Rattle.std.proofs.lemmas.Bool.{and_from, and_parts, false_from_ne_true, not-true}
-use Rattle.std.proofs.lemmas.List.Elements.{filter_map-append}
-use Rattle.vt_spec.specs.Language.Calls.{TaskName}
-use Rattle.vt_spec.specs.Lists.{Fresh, folded, holds_of, rest_of, when}
-use Rattle.vt_spec.specs.Machine.Attach.{Copies, Graft, index_in_rows, added_mounts, attach, copies_at, copies_from, copy_at, graft_of, is_destination, parts_of, pushed_onto, pushed_up, receiver_stood_on, receivers_of, takes_part, twig_of, with_moved_mounts}
-use Rattle.vt_spec.specs.Machine.Invariants.{Stands}
-use Rattle.vt_spec.specs.Machine.Locked.{overlays}
-use Rattle.vt_spec.specs.Machine.Mounts.{Location, Mount, Propagation, group_of, index_of, mount_in, no_mount, replaced_if_same, stands_at, with_mount}
-use Rattle.vt_spec.specs.Machine.Mounts.Propagation.{Private, Shared, Slave, Unbindable}
-use Rattle.vt_spec.specs.Machine.Receives.{is_member_of, receivers, receives}
-use Rattle.vt_spec.specs.Machine.Run.{Serves}
-use Rattle.vt_spec.specs.Machine.Sealed.{is_at, is_member_task, is_own_mount, is_own_namespace, locations, master_of, members, no_outsider_on, other_mounts, outsiders, own_mounts, roots_and_directories, seen_by_descriptor, shares_no_events}
-use Rattle.vt_spec.specs.Machine.Settled.{has_layer_on}
-use Rattle.vt_spec.specs.Machine.World.{Filesystem, Task, World, all_locations, locations_of, mount_at, mount_numbered}
-use Rattle.vt_spec.proofs.Found.{found_among, found_passes}
-use Rattle.vt_spec.proofs.Lists.{Among, among-append, among-filter, among-flat_map, among-from_filter, among-from_flat_map, among-from_map, among-map, among_from_all, among_from_list_all, any_from_among, contains_from_among, list_all_from_among, map_same, map_twice, none_among, none_from_among}
-use Rattle.vt_spec.proofs.Options.{none_is_some}
-use Rattle.vt_spec.proofs.Worlds.{found_or_none, number-mount_in}
+use Rattle.std.proofs.Common.{arith, ◌≡◌, refl, sym, ap, subst, ◌∙◌, ◌⊎◌, inl, inr, ⊎_elim, ℕ, nat_eq, Bool, true, false, cond, true≢false, List, [], ◌∷◌, ◌++◌, ◌*◌, append-nil, append_assoc, Option, Some, None, filter, find, flat_map, is_some, length, map, not, ◌&&◌, ◌||◌, eq-eqb, eqb-true, option_map, unwrap_or, filter_map}
+use Rattle.vt_spec.proofs.Common.{Among, Copies, Filesystem, Fresh, Graft, Location, Mount, Private, Propagation, Serves, Shared, Slave, Stands, Task, TaskName, Unbindable, World, added_mounts, all_locations, among-append, among-filter, among-flat_map, among-from_filter, among-from_flat_map, among-from_map, among-map, among_from_all, among_from_list_all, and_from, and_parts, any_from_among, attach, common_steps, cons_option, contains_from_among, copies_at, copies_from, copy_at, false_from_ne_true, filter_map-append, folded, found_among, found_or_none, found_passes, graft_of, group_of, has_layer_on, holds_of, index_in_rows, index_of, is_at, is_destination, is_member_of, is_member_task, is_own_mount, is_own_namespace, list_all_from_among, list_any, locations, locations_of, map_same, map_twice, master_of, members, mount_at, mount_in, mount_numbered, no_mount, no_outsider_on, none_among, none_from_among, none_is_some, not-true, number-mount_in, other_mounts, outsiders, overlays, own_mounts, parts_of, pushed_onto, pushed_up, receiver_stood_on, receivers, receivers_of, receives, replaced_if_same, rest_of, roots_and_directories, seen_by_descriptor, shares_no_events, stands_at, takes_part, twig_of, when, with_mount, with_moved_mounts}
 use Rattle.vt_laws_mounts.proofs.mounts.MountsPlaces.{stands_there}
 use Rattle.vt_laws_mounts.proofs.mounts.MountsReplaced.{found_itself}
 use Rattle.vt_laws_worlds.proofs.worlds.Reached.{namespace_below}

@@ -1,21 +1,6 @@
 -- Binds and new mounts of others: mount(2) with MS_BIND, and with MS_REC, and of a tmpfs.
 use Rattle.std.proofs.Common.{arith, ◌≡◌, refl, sym, ap, subst, ◌∙◌, inl, inr, ⊎_elim, ℕ, zero, suc, nat_eq, Bool, true, false, true≢false, List, [], ◌∷◌, ◌++◌, append-nil, ◌*◌, ◌+◌, Some, Ok, filter, length, not}
-use Rattle.std.proofs.lemmas.Grind.{common_steps}
-use Rattle.vt_spec.specs.Language.Calls.{Call, MountFlags, TaskName}
-use Rattle.vt_spec.specs.Lists.{Fresh, odds}
-use Rattle.vt_spec.specs.Machine.Apply.{apply}
-use Rattle.vt_spec.specs.Machine.Attach.{bind_tree, bindable_children, bindable_tree, bound, stands_under}
-use Rattle.vt_spec.specs.Machine.Judge.{judge_in}
-use Rattle.vt_spec.specs.Machine.Locked.{overlays}
-use Rattle.vt_spec.specs.Machine.Mounts.{Location, Mount, children, is_unbindable}
-use Rattle.vt_spec.specs.Machine.NewMounts.{new_mount, plain_filesystem}
-use Rattle.vt_spec.specs.Machine.Permits.Permit.{ToBind, ToMountPlain}
-use Rattle.vt_spec.specs.Machine.Sealed.{is_own_namespace}
-use Rattle.vt_spec.specs.Machine.Settled.{settled}
-use Rattle.vt_spec.specs.Machine.World.{Filesystem, Task, World, mount_at, task_called}
-use Rattle.vt_spec.proofs.Lists.{Among, among-from_filter, among-from_flat_map}
-use Rattle.vt_spec.proofs.Options.{none_is_some}
-use Rattle.vt_spec.proofs.Worlds.{found_or_none, number-mount_in}
+use Rattle.vt_spec.proofs.Common.{Among, Call, Filesystem, Fresh, Location, Mount, MountFlags, Task, TaskName, ToBind, ToMountPlain, World, among-from_filter, among-from_flat_map, apply, bind_tree, bindable_children, bindable_tree, bound, children, common_steps, found_or_none, is_own_namespace, is_unbindable, judge_in, mount_at, new_mount, none_is_some, number-mount_in, odds, overlays, plain_filesystem, settled, stands_under, task_called}
 use Rattle.vt_laws_trees.specs.Trees.Calls.{mounts_overlay}
 use Rattle.vt_laws_rules.proofs.given.GivenPermits.{permits_are_for_their_calls}
 use Rattle.vt_laws_worlds.proofs.worlds.CallsKept.{name_found}

@@ -1,15 +1,6 @@
 -- A world in which mounts of others, others themselves and their namespaces are changed, and what the set sees is not.
 use Rattle.std.proofs.Common.{arith, ◌≡◌, refl, sym, ap, subst, ◌∙◌, ◌⊎◌, ⊎_elim, ℕ, nat_eq, Bool, true, false, true≢false, List, [], ◌∷◌, Option, None, filter, map, not}
-use Rattle.std.proofs.lemmas.Grind.{common_steps}
-use Rattle.std.specs.List.{list_all, list_any}
-use Rattle.std.proofs.lemmas.Bool.{and_from, and_parts, not-true}
-use Rattle.vt_spec.specs.Language.Calls.{TaskName}
-use Rattle.vt_spec.specs.Lists.{holds_of}
-use Rattle.vt_spec.specs.Machine.Mounts.{Location, Mount, mount_in}
-use Rattle.vt_spec.specs.Machine.Receives.{is_member_of}
-use Rattle.vt_spec.specs.Machine.Sealed.{is_member_task, is_own_namespace, locations, members, no_outsider_on, other_mounts, outsiders, own_mounts, shares_no_events}
-use Rattle.vt_spec.specs.Machine.World.{Namespace, Task, World, mount_at, mount_numbered}
-use Rattle.vt_spec.proofs.Lists.{Among, among-filter, among-from_filter, among-from_map, among_from_list_all, list_all_from_among, none_among, none_from_among}
+use Rattle.vt_spec.proofs.Common.{Among, Location, Mount, Namespace, Task, TaskName, World, among-filter, among-from_filter, among-from_map, among_from_list_all, and_from, and_parts, common_steps, holds_of, is_member_of, is_member_task, is_own_namespace, list_all, list_all_from_among, list_any, locations, members, mount_at, mount_in, mount_numbered, no_outsider_on, none_among, none_from_among, not-true, other_mounts, outsiders, own_mounts, shares_no_events}
 use Rattle.vt_laws_sealed.specs.Part.Parts.{SeesTheSame}
 use Rattle.vt_laws_sealed.proofs.part.Kept.{filter_map_map, filter_map_same}
 use Rattle.vt_laws_sealed.proofs.part.part.PartOfPart.{keep}

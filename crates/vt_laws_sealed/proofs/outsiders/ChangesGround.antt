@@ -1,25 +1,6 @@
 -- Where others change something: on mounts of their namespaces, where they stand, or where they have a file open.
-use Rattle.std.proofs.Common.{◌≡◌, sym, ap, subst, ◌∙◌, inr, ℕ, nat_eq, Bool, true, false, List, [], ◌∷◌, Option, Some, Ok, is_some}
-use Rattle.std.specs.Prelude.{⊤, ◌==◌}
-use Rattle.std.proofs.lemmas.Option.{same_Some}
-use Rattle.vt_spec.specs.Language.Calls.{Call, TaskName}
-use Rattle.vt_spec.specs.Language.Changes.{Change}
-use Rattle.vt_spec.specs.Language.Changes.Change.{CopyUp, SetMark}
-use Rattle.vt_spec.specs.Lists.{Fresh, when}
-use Rattle.vt_spec.specs.Machine.Apply.{overfills}
-use Rattle.vt_spec.specs.Machine.Descriptors.{is_copied_up}
-use Rattle.vt_spec.specs.Machine.Invariants.{IsWorld}
-use Rattle.vt_spec.specs.Machine.Looks.{looks_of}
-use Rattle.vt_spec.specs.Machine.Mounts.{Location}
-use Rattle.vt_spec.specs.Machine.Permits.{Permit}
-use Rattle.vt_spec.specs.Machine.Walking.{Here, LastWord, Place, directory_walk, file_walk, object_walk}
-use Rattle.vt_spec.specs.Machine.World.{Descriptor, Task, World, files_at, task_called}
-use Rattle.vt_spec.specs.PathText.{words}
-use Rattle.vt_spec.proofs.Found.{found_among}
-use Rattle.vt_spec.proofs.Given.{descriptor_found}
-use Rattle.vt_spec.proofs.Lists.{Among, among-map}
-use Rattle.vt_spec.proofs.Nodes.{directory_used}
-use Rattle.vt_spec.proofs.Options.{none_is_some}
+use Rattle.std.proofs.Common.{◌≡◌, sym, ap, subst, ◌∙◌, inr, ℕ, nat_eq, Bool, true, false, List, [], ◌∷◌, Option, Some, Ok, is_some, ◌==◌}
+use Rattle.vt_spec.proofs.Common.{Among, Call, Change, CopyUp, Descriptor, Fresh, Here, IsWorld, LastWord, Location, Permit, Place, SetMark, Task, TaskName, World, among-map, descriptor_found, directory_used, directory_walk, file_walk, files_at, found_among, is_copied_up, looks_of, none_is_some, object_walk, overfills, same_Some, task_called, when, words, ⊤}
 use Rattle.vt_laws_rules.specs.Granted.{IsGranted}
 use Rattle.vt_laws_rules.specs.Granted.IsGranted.{changes_mark, changes_mode, changes_owner, creates, creates_exclusively, makes_directory, makes_hard_link, makes_symlink, makes_whiteout, opens, opens_existing, overwrites_file, removes_directory, renames, unlinks, writes_new_file, writes_part}
 use Rattle.vt_laws_trees.proofs.trees.TreesWalked.{at_end}

@@ -1,26 +1,6 @@
 -- Files that others change, make and write to: chmod(2), mkdir(2), link(2), unlink(2), open(2), write(2), pwrite(2).
-use Rattle.std.proofs.Common.{arith, ◌≡◌, refl, sym, ap, subst, ◌∙◌, ℕ, nat_eq, Bool, true, false, List, [], ◌∷◌, Some}
-use Rattle.std.proofs.Common.{Ok}
-use Rattle.std.proofs.lemmas.Grind.{common_steps}
-use Rattle.vt_spec.specs.Language.Calls.{Access, Call, TaskName}
-use Rattle.vt_spec.specs.Language.Changes.{Change}
-use Rattle.vt_spec.specs.Language.Changes.Change.{CopyUp, Make, SetBytes}
-use Rattle.vt_spec.specs.Lists.{Fresh, evens, odds, when}
-use Rattle.vt_spec.specs.Machine.Apply.{apply, changed_if, filesystems_changed, overfills}
-use Rattle.vt_spec.specs.Machine.Descriptors.{is_copied_up, overwritten, with_copy, with_descriptor}
-use Rattle.vt_spec.specs.Machine.Filesystems.{changed_at, with_change}
-use Rattle.vt_spec.specs.Machine.Invariants.{MountInvariants, OverlayInvariants, TreeInvariants}
-use Rattle.vt_spec.specs.Machine.Judge.{judge_in}
-use Rattle.vt_spec.specs.Machine.Looks.{looks_of}
-use Rattle.vt_spec.specs.Machine.Mounts.{Location}
-use Rattle.vt_spec.specs.Machine.Outcomes.{Outcome, after}
-use Rattle.vt_spec.specs.Machine.Permits.{Permit}
-use Rattle.vt_spec.specs.Machine.Permits.Permit.{ToChange, ToMake, ToOpen, ToOpenNew, ToWritePart}
-use Rattle.vt_spec.specs.Machine.Policy.{call_outcome}
-use Rattle.vt_spec.specs.Machine.Settled.{settled}
-use Rattle.vt_spec.specs.Machine.World.{Task, World, node_at, task_called, with_task}
-use Rattle.vt_spec.specs.Tree.{Node, bytes_in}
-use Rattle.vt_spec.proofs.Options.{none_is_some}
+use Rattle.std.proofs.Common.{arith, ◌≡◌, refl, sym, ap, subst, ◌∙◌, ℕ, nat_eq, Bool, true, false, List, [], ◌∷◌, Some, Ok}
+use Rattle.vt_spec.proofs.Common.{Access, Call, Change, CopyUp, Fresh, Location, Make, MountInvariants, Node, Outcome, OverlayInvariants, Permit, SetBytes, Task, TaskName, ToChange, ToMake, ToOpen, ToOpenNew, ToWritePart, TreeInvariants, World, after, apply, bytes_in, call_outcome, changed_at, changed_if, common_steps, evens, filesystems_changed, is_copied_up, judge_in, looks_of, node_at, none_is_some, odds, overfills, overwritten, settled, task_called, when, with_change, with_copy, with_descriptor, with_task}
 use Rattle.vt_laws_rules.proofs.given.Inversion.{calls_are_granted}
 use Rattle.vt_laws_rules.proofs.judged.CallsJudged.{call_is_judged_then_applied}
 use Rattle.vt_laws_rules.specs.Granted.{IsGranted}

@@ -1,15 +1,6 @@
 -- Descriptors of others that are closed: close(2).
 use Rattle.std.proofs.Common.{arith, ◌≡◌, refl, inl, inr, ⊎_elim, ℕ, nat_eq, List, [], Some, map}
-use Rattle.std.proofs.lemmas.Grind.{common_steps}
-use Rattle.vt_spec.specs.Language.Calls.{Call, TaskName}
-use Rattle.vt_spec.specs.Lists.{Fresh}
-use Rattle.vt_spec.specs.Machine.Apply.{apply}
-use Rattle.vt_spec.specs.Machine.Descriptors.{without_descriptor}
-use Rattle.vt_spec.specs.Machine.Mounts.{Location}
-use Rattle.vt_spec.specs.Machine.Permits.Permit.{ToClose}
-use Rattle.vt_spec.specs.Machine.Settled.{settled}
-use Rattle.vt_spec.specs.Machine.World.{Descriptor, Task, World, task_called}
-use Rattle.vt_spec.proofs.Lists.{Among, among-from_filter, among-from_map, among-map}
+use Rattle.vt_spec.proofs.Common.{Among, Call, Descriptor, Fresh, Location, Task, TaskName, ToClose, World, among-from_filter, among-from_map, among-map, apply, common_steps, settled, task_called, without_descriptor}
 use Rattle.vt_laws_sealed.proofs.part.seals.ByPart.{apart_if_sealed}
 use Rattle.vt_laws_sealed.specs.Outsiders.{IsOutsidersCall}
 use Rattle.vt_laws_sealed.proofs.outsiders.OwnTasks.{callers_outside, replacing_leaves_apart}

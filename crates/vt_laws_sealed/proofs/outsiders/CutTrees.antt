@@ -1,19 +1,6 @@
 -- What lies under a directory of a tree lies there, too, once what nothing uses is gone.
-use Rattle.std.proofs.Common.{arith, ◌≡◌, refl, sym, ap, ◌∙◌, inl, inr, ℕ, nat_eq, Bool, true, false, cond, true≢false, List, [], ◌∷◌, Option, Some, None, filter, ◌&&◌, ◌||◌}
-use Rattle.std.proofs.lemmas.Grind.{common_steps}
-use Rattle.std.specs.Prelude.{option_and_then}
-use Rattle.std.specs.List.{list_any}
-use Rattle.std.proofs.lemmas.Bool.{and_parts}
-use Rattle.std.proofs.lemmas.Option.{same_Some}
-use Rattle.vt_spec.specs.FileTree.{FileTree, is_under}
-use Rattle.vt_spec.specs.Lists.{is_among}
-use Rattle.vt_spec.specs.Machine.Settled.{only_among}
-use Rattle.vt_spec.specs.Machine.World.{Layer}
-use Rattle.vt_spec.specs.Tree.{entries_in, entry_named, is_directory_node}
-use Rattle.vt_spec.specs.TreeInvariant.{IsDirectory, entry_at, led}
-use Rattle.vt_spec.proofs.Lists.{Among, among-from_filter, among_numbers, any_among}
-use Rattle.vt_spec.proofs.Options.{none_is_some}
-use Rattle.vt_spec.proofs.Truths.{same_truth}
+use Rattle.std.proofs.Common.{arith, ◌≡◌, refl, sym, ap, ◌∙◌, inl, inr, ℕ, nat_eq, Bool, true, false, cond, true≢false, List, [], ◌∷◌, Option, Some, None, filter, ◌&&◌, ◌||◌, option_and_then}
+use Rattle.vt_spec.proofs.Common.{Among, FileTree, IsDirectory, Layer, among-from_filter, among_numbers, and_parts, any_among, common_steps, entries_in, entry_at, entry_named, is_among, is_directory_node, is_under, led, list_any, none_is_some, only_among, same_Some, same_truth}
 use Rattle.vt_laws_trees.specs.Trees.{IsFileTree}
 use Rattle.vt_laws_trees.specs.Trees.Settling.{HoldsTree}
 use Rattle.vt_laws_trees.proofs.trees.TreesForgotten.{entry_used, kept_file_tree}

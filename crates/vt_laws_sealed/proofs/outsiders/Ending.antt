@@ -1,21 +1,6 @@
 -- Namespaces of others that end with their last tasks: _exit(2).
 use Rattle.std.proofs.Common.{arith, ◌≡◌, refl, sym, ap, ◌∙◌, inl, ℕ, nat_eq, Bool, true, false, true≢false, List, [], Option, Some, filter, map, not, ◌&&◌, eqb-true}
-use Rattle.std.proofs.lemmas.Grind.{common_steps}
-use Rattle.std.specs.List.{list_any}
-use Rattle.std.proofs.lemmas.Bool.{and_from, false_from_ne_true, not-false}
-use Rattle.vt_spec.specs.Language.Calls.{Call, TaskName, same_name}
-use Rattle.vt_spec.specs.Lists.{Fresh, holds_of, is_among}
-use Rattle.vt_spec.specs.Machine.Apply.{apply}
-use Rattle.vt_spec.specs.Machine.Detach.{is_going}
-use Rattle.vt_spec.specs.Machine.Invariants.{is_listed}
-use Rattle.vt_spec.specs.Machine.Mounts.{Location, Mount}
-use Rattle.vt_spec.specs.Machine.Namespaces.{has_tasks, is_in_ended, namespaces_ended}
-use Rattle.vt_spec.specs.Machine.Permits.Permit.{ToExit}
-use Rattle.vt_spec.specs.Machine.Sealed.{is_member_task, is_own_namespace, locations, members, outsiders, sealed}
-use Rattle.vt_spec.specs.Machine.Settled.{settled}
-use Rattle.vt_spec.specs.Machine.World.{Namespace, Task, World, locations_of, mount_numbered, task_called}
-use Rattle.vt_spec.proofs.Lists.{Among, among-flat_map, among-filter, among-from_filter, among-from_flat_map, among-from_map, among_numbers, any_among, any_from_among}
-use Rattle.vt_spec.proofs.Worlds.{same_task_name}
+use Rattle.vt_spec.proofs.Common.{Among, Call, Fresh, Location, Mount, Namespace, Task, TaskName, ToExit, World, among-filter, among-flat_map, among-from_filter, among-from_flat_map, among-from_map, among_numbers, and_from, any_among, any_from_among, apply, common_steps, false_from_ne_true, has_tasks, holds_of, is_among, is_going, is_in_ended, is_listed, is_member_task, is_own_namespace, list_any, locations, locations_of, members, mount_numbered, namespaces_ended, not-false, outsiders, same_name, same_task_name, sealed, settled, task_called}
 use Rattle.vt_laws_mounts.proofs.letting_go.Lists.{filter_less}
 use Rattle.vt_laws_mounts.proofs.mounts.MountsReplaced.{found_itself}
 use Rattle.vt_laws_worlds.proofs.worlds.CallsKept.{name_found}

@@ -1,13 +1,6 @@
 -- Every call of a task outside a sealed set leaves it sealed, whatever it is permitted.
 use Rattle.std.proofs.Common.{◌≡◌, ℕ, nat_eq, List, Some, Ok}
-use Rattle.vt_spec.specs.Language.Calls.{Call, TaskName}
-use Rattle.vt_spec.specs.Lists.{Fresh}
-use Rattle.vt_spec.specs.Machine.Apply.{apply, filesystems_changed}
-use Rattle.vt_spec.specs.Machine.Judge.{judge_in}
-use Rattle.vt_spec.specs.Machine.Permits.{Permit}
-use Rattle.vt_spec.specs.Machine.Permits.Permit.{Allowed, ToBind, ToChange, ToClose, ToEnterNamespace, ToExit, ToFork, ToList, ToListMounts, ToMake, ToMountOverlay, ToMountPlain, ToMove, ToOpen, ToOpenNew, ToPivot, ToRead, ToReadPart, ToRemoveDirectory, ToRename, ToSetCredentials, ToSetDirectory, ToSetFlags, ToSetRoot, ToSetType, ToSetUmask, ToStat, ToUnmount, ToUnmountLazily, ToUnshare, ToWritePart}
-use Rattle.vt_spec.specs.Machine.Settled.{settled}
-use Rattle.vt_spec.specs.Machine.World.{Task, World, task_called}
+use Rattle.vt_spec.proofs.Common.{Allowed, Call, Fresh, Permit, Task, TaskName, ToBind, ToChange, ToClose, ToEnterNamespace, ToExit, ToFork, ToList, ToListMounts, ToMake, ToMountOverlay, ToMountPlain, ToMove, ToOpen, ToOpenNew, ToPivot, ToRead, ToReadPart, ToRemoveDirectory, ToRename, ToSetCredentials, ToSetDirectory, ToSetFlags, ToSetRoot, ToSetType, ToSetUmask, ToStat, ToUnmount, ToUnmountLazily, ToUnshare, ToWritePart, World, apply, filesystems_changed, judge_in, settled, task_called}
 use Rattle.vt_laws_sealed.specs.Outsiders.{IsOutsidersCall, OutsidersLeaveASealedSet}
 use Rattle.vt_laws_sealed.proofs.outsiders.Binding.{bind_leaves, plain_leaves}
 use Rattle.vt_laws_sealed.proofs.outsiders.ChangingFiles.{attributes_leave, making_leaves, new_leaves, open_leaves, writing_leaves}

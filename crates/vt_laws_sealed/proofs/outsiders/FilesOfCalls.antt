@@ -1,32 +1,7 @@
 -- The filesystems after a call of others that changes something: the change of one, and of its upper layer.
 use Rattle.std.proofs.Common.{arith, ◌≡◌, ◌≢◌, refl, sym, ap, subst, ◌∙◌, inr, ⊎_elim, ℕ, nat_eq, Bool, true, false, true≢false, List, [], ◌∷◌, Option, Some, None, Ok, is_some, not, ◌&&◌, ◌||◌, eq-eqb, eqb-true}
-use Rattle.std.proofs.lemmas.Grind.{common_steps}
-use Rattle.std.specs.List.{list_any}
-use Rattle.std.proofs.lemmas.Bool.{and_from, and_parts, false_from_ne_true, not-true, or_cases, or_left}
-use Rattle.std.proofs.lemmas.Option.{same_Some}
-use Rattle.vt_spec.specs.FileTree.{is_under}
-use Rattle.vt_spec.specs.Language.Calls.{Call, TaskName}
-use Rattle.vt_spec.specs.Language.Changes.{Change, changed}
-use Rattle.vt_spec.specs.Language.Changes.Change.{CopyUp}
-use Rattle.vt_spec.specs.Lists.{Fresh, is_among, when}
-use Rattle.vt_spec.specs.Machine.Apply.{overfills}
-use Rattle.vt_spec.specs.Machine.CopyUp.{Merge, merge_changed}
-use Rattle.vt_spec.specs.Machine.Filesystems.{changed_at, filesystem_changed, lies_only_in_lowers, merge_of, numbers_of_change, numbers_over, overlay_changed, stack_of, with_change}
-use Rattle.vt_spec.specs.Machine.Invariants.{ListsNumbers, is_plain_layer, live_lowers}
-use Rattle.vt_spec.specs.Machine.Judge.{judge_in}
-use Rattle.vt_spec.specs.Machine.Locked.{counts_in_layer, is_locked, lies_in_layer, lies_or_counts_under, live_layers, of_overlay, overlay_or, overlays, upper_and_work}
-use Rattle.vt_spec.specs.Machine.Looks.{looks_of}
-use Rattle.vt_spec.specs.Machine.Mounts.{Location}
-use Rattle.vt_spec.specs.Machine.Permits.{Permit}
-use Rattle.vt_spec.specs.Machine.Sealed.{is_lower_root, no_outsider_on, own_lowers, used_alone, used_directly, used_filesystems, wholly_locked}
-use Rattle.vt_spec.specs.Machine.Settled.{has_layer_on}
-use Rattle.vt_spec.specs.Machine.World.{Filesystem, Layer, Overlay, Task, World, filesystem_at, filesystem_numbered, files_at, is_overlay, layers_of, mount_at, task_called}
-use Rattle.vt_spec.specs.Tree.{is_directory_node}
-use Rattle.vt_spec.specs.TreeInvariant.{HasOwnParents, IsTree, led}
-use Rattle.vt_spec.proofs.Found.{found_among}
-use Rattle.vt_spec.proofs.Lists.{Among, among-append_left, among-append_right, among-filter, among-flat_map, among-from_filter, among-from_flat_map, among_from_list_all, among_numbers, any_among, any_from_among, is_among_numbers}
-use Rattle.vt_spec.proofs.Nodes.{directory_used}
-use Rattle.vt_spec.proofs.Options.{none_is_some}
+use Rattle.vt_spec.proofs.Common.{Among, Call, Change, CopyUp, Filesystem, Fresh, HasOwnParents, IsTree, Layer, ListsNumbers, Location, Merge, Overlay, Permit, Task, TaskName, World, among-append_left, among-append_right, among-filter, among-flat_map, among-from_filter, among-from_flat_map, among_from_list_all, among_numbers, and_from, and_parts, any_among, any_from_among, changed, changed_at, common_steps, counts_in_layer, directory_used, false_from_ne_true, files_at, filesystem_at, filesystem_changed, filesystem_numbered, found_among, has_layer_on, is_among, is_among_numbers, is_directory_node, is_locked, is_lower_root, is_overlay, is_plain_layer, is_under, judge_in, layers_of, led, lies_in_layer, lies_only_in_lowers, lies_or_counts_under, list_any, live_layers, live_lowers, looks_of, merge_changed, merge_of, mount_at, no_outsider_on, none_is_some, not-true, numbers_of_change, of_overlay, or_cases, or_left, overfills, overlay_changed, overlay_or, overlays, own_lowers, same_Some, stack_of, task_called, upper_and_work, used_alone, used_directly, used_filesystems, when, wholly_locked, with_change}
+use Rattle.vt_spec.specs.Machine.Filesystems.{numbers_over}
 use Rattle.vt_laws_rules.proofs.given.GivenPermits.{permits_are_for_their_calls}
 use Rattle.vt_laws_rules.proofs.given.Inversion.{calls_are_granted}
 use Rattle.vt_laws_rules.specs.Given.{IsFor}

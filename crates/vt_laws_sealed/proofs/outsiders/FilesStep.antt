@@ -1,12 +1,6 @@
 -- Filesystems that are replaced one by one, by others of their numbers and layers: what is left for a sealed set.
 use Rattle.std.proofs.Common.{◌≡◌, sym, ap, subst, ◌∙◌, ℕ, nat_eq, true, false, List, [], map}
-use Rattle.std.specs.List.{list_any}
-use Rattle.vt_spec.specs.Language.Calls.{TaskName}
-use Rattle.vt_spec.specs.Lists.{any_pair, is_among}
-use Rattle.vt_spec.specs.Machine.Sealed.{own_lowers, used_filesystems}
-use Rattle.vt_spec.specs.Machine.Settled.{has_layer_on}
-use Rattle.vt_spec.specs.Machine.World.{Filesystem, Layer, World, is_overlay}
-use Rattle.vt_spec.proofs.Lists.{Among}
+use Rattle.vt_spec.proofs.Common.{Among, Filesystem, Layer, TaskName, World, any_pair, has_layer_on, is_among, is_overlay, list_any, own_lowers, used_filesystems}
 use Rattle.vt_laws_sealed.specs.Part.Seals.{IsApart}
 use Rattle.vt_laws_sealed.proofs.outsiders.FilesystemsStepped.{filesystems_stepped, stepping_keeps_footholds}
 use Rattle.vt_laws_sealed.proofs.outsiders.SeenLater.{lowered_by}

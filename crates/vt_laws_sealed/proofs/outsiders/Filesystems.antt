@@ -1,24 +1,6 @@
 -- Filesystems that a set of tasks uses are there, and a new one is none of them.
-use Rattle.std.proofs.Common.{arith, ◌≡◌, refl, sym, ap, subst, ◌∙◌, inl, ⊎_elim, ℕ, nat_eq, true, false, cond, true≢false, List, [], ◌∷◌, ◌++◌, append-nil, Option, Some, None, filter, find, flat_map, is_some, map, not, ◌&&◌, eqb-true}
-use Rattle.std.proofs.lemmas.Grind.{common_steps}
-use Rattle.std.specs.Prelude.{option_to_list, unwrap_or}
-use Rattle.std.specs.List.{cons_option, filter_map, list_all, list_any}
-use Rattle.std.proofs.lemmas.Bool.{and_parts, false_from_ne_true}
-use Rattle.std.proofs.lemmas.List.Elements.{filter-append, filter_map-append}
-use Rattle.vt_spec.specs.FileTree.{is_under}
-use Rattle.vt_spec.specs.Language.Calls.{TaskName}
-use Rattle.vt_spec.specs.Lists.{Fresh, is_among, when}
-use Rattle.vt_spec.specs.Machine.Invariants.{has_its_root, is_located_well, is_plain_layer}
-use Rattle.vt_spec.specs.Machine.Locked.{of_overlay, overlay_or, overlays}
-use Rattle.vt_spec.specs.Machine.Mounts.{Location, Mount}
-use Rattle.vt_spec.specs.Machine.Run.{Serves, numbers_in_use, used_by_filesystem, used_by_mount}
-use Rattle.vt_spec.specs.Machine.Sealed.{change_layers, is_member_task, is_own_mount, locations, members, own_lowers, own_mounts, used_directly, used_filesystems}
-use Rattle.vt_spec.specs.Machine.Settled.{only_among}
-use Rattle.vt_spec.specs.Machine.World.{Filesystem, Layer, Namespace, Overlay, World, all_locations, filesystem_numbered, is_overlay, layers_of, locations_of, mount_at, no_filesystem}
-use Rattle.vt_spec.specs.Tree.{is_directory_node}
-use Rattle.vt_spec.proofs.Found.{found_among, is_among_left, is_among_right}
-use Rattle.vt_spec.proofs.Lists.{Among, among-append, among-append_left, among-append_right, among-flat_map, among-from_filter, among-from_flat_map, among-from_map, among-map, among_from_contains, among_from_list_all, among_numbers, is_among_numbers, none_from_among}
-use Rattle.vt_spec.proofs.Nodes.{directory_used}
+use Rattle.std.proofs.Common.{arith, ◌≡◌, refl, sym, ap, subst, ◌∙◌, inl, ⊎_elim, ℕ, nat_eq, true, false, cond, true≢false, List, [], ◌∷◌, ◌++◌, append-nil, Option, Some, None, filter, find, flat_map, is_some, map, not, ◌&&◌, eqb-true, option_to_list, unwrap_or, filter_map}
+use Rattle.vt_spec.proofs.Common.{Among, Filesystem, Fresh, Layer, Location, Mount, Namespace, Overlay, Serves, TaskName, World, all_locations, among-append, among-append_left, among-append_right, among-flat_map, among-from_filter, among-from_flat_map, among-from_map, among-map, among_from_contains, among_from_list_all, among_numbers, and_parts, change_layers, common_steps, cons_option, directory_used, false_from_ne_true, filesystem_numbered, filter-append, filter_map-append, found_among, has_its_root, is_among, is_among_left, is_among_numbers, is_among_right, is_directory_node, is_located_well, is_member_task, is_overlay, is_own_mount, is_plain_layer, is_under, layers_of, list_all, list_any, locations, locations_of, members, mount_at, no_filesystem, none_from_among, numbers_in_use, of_overlay, only_among, overlay_or, overlays, own_lowers, own_mounts, used_by_filesystem, used_by_mount, used_directly, used_filesystems, when}
 use Rattle.vt_laws_sealed.specs.Part.Parts.{SeesTheSame, shown_of}
 use Rattle.vt_laws_sealed.specs.Part.Seals.{IsApart}
 use Rattle.vt_laws_sealed.proofs.part.Kept.{among-from_each_once, filter_map_same}

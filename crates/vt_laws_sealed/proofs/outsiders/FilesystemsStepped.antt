@@ -1,21 +1,13 @@
 -- Each filesystem is replaced by another one of its number: what a sealed set uses stays, and so does what its part has
 -- of lower layers.
-use Rattle.std.proofs.Common.{◌≡◌, refl, sym, ap, ◌∙◌, inl, inr, ℕ, nat_eq, Bool, true, false, cond, List, [], ◌∷◌, Some, find, map, not, ◌&&◌, ◌||◌, eqb-true}
-use Rattle.std.specs.Prelude.{unwrap_or}
-use Rattle.std.specs.List.{list_all, list_any}
-use Rattle.vt_spec.specs.Language.Calls.{TaskName}
-use Rattle.vt_spec.specs.Lists.{any_pair, is_among, when}
-use Rattle.vt_spec.specs.Machine.Sealed.{own_lowers, used_directly, used_filesystems, no_outsider_on, used_alone}
-use Rattle.vt_spec.specs.Machine.Settled.{has_layer_on}
-use Rattle.vt_spec.specs.Machine.World.{Filesystem, Layer, World, filesystem_numbered, is_overlay, no_filesystem}
-use Rattle.vt_spec.proofs.Lists.{Among, pair-map, among-map, among_from_contains}
+use Rattle.std.proofs.Common.{◌≡◌, refl, sym, ap, ◌∙◌, inl, inr, ℕ, nat_eq, Bool, true, false, cond, List, [], ◌∷◌, Some, find, map, not, ◌&&◌, ◌||◌, eqb-true, unwrap_or}
+use Rattle.vt_spec.proofs.Common.{Among, Filesystem, Layer, TaskName, World, among-map, among_from_contains, any_pair, filesystem_numbered, has_layer_on, is_among, is_overlay, list_all, list_any, no_filesystem, no_outsider_on, overlays, own_lowers, pair-map, used_alone, used_directly, used_filesystems, when}
 use Rattle.vt_laws_mounts.proofs.letting_go.sweeps.OfWorlds.{found_filesystem}
 use Rattle.vt_laws_sealed.specs.Part.Parts.{SeesTheSame, shown_of}
 use Rattle.vt_laws_sealed.proofs.part.Kept.{filter_map_map, filter_map_same}
 use Rattle.vt_laws_sealed.proofs.part.part.PartOfPart.{used_directly_used}
 use Rattle.vt_laws_sealed.proofs.outsiders.SeenLater.{lowered_by}
 use Rattle.vt_laws_mounts.proofs.letting_go.Lists.{filter-map}
-use Rattle.vt_spec.specs.Machine.Locked.{overlays}
 use Rattle.vt_laws_sealed.proofs.outsiders.Raising.{all-map_same}
 
 module _ (world before : World ℕ) (names : List TaskName) (sees : SeesTheSame world before names)

@@ -1,19 +1,7 @@
 -- Flags of a mount of others that are set.
 use Rattle.std.proofs.Common.{arith, ◌≡◌, refl, sym, ap, subst, ◌∙◌, inl, ℕ, nat_eq, Bool, true, false, cond, List, [], Some, Ok, filter, map, not, ◌||◌, eqb-true}
-use Rattle.std.proofs.lemmas.Grind.{common_steps}
+use Rattle.vt_spec.proofs.Common.{Among, Call, Fresh, Mount, MountFlags, Propagation, Remount, Task, TaskName, ToSetFlags, World, apply, common_steps, holds_of, is_at, is_own_namespace, judge_in, locations, map_alike, members, mount_numbered, no_mount, number-mount_in, other_mounts, own_mounts, replaced_if_same, roots_and_directories, seen_by_descriptor, settled, share_events, shares_no_events, task_called, when, with_mounts}
 use Rattle.vt_laws_mounts.proofs.letting_go.Lists.{filter-map}
-use Rattle.vt_spec.specs.Language.Calls.{Call, MountFlags, TaskName}
-use Rattle.vt_spec.specs.Language.Calls.Call.{Remount}
-use Rattle.vt_spec.specs.Lists.{Fresh, holds_of, when}
-use Rattle.vt_spec.specs.Machine.Apply.{apply}
-use Rattle.vt_spec.specs.Machine.Judge.{judge_in}
-use Rattle.vt_spec.specs.Machine.Mounts.{Mount, Propagation, no_mount, replaced_if_same}
-use Rattle.vt_spec.specs.Machine.Permits.Permit.{ToSetFlags}
-use Rattle.vt_spec.specs.Machine.Sealed.{is_at, is_own_namespace, locations, members, other_mounts, own_mounts, roots_and_directories, seen_by_descriptor, share_events, shares_no_events}
-use Rattle.vt_spec.specs.Machine.Settled.{settled}
-use Rattle.vt_spec.specs.Machine.World.{Task, World, mount_numbered, task_called, with_mounts}
-use Rattle.vt_spec.proofs.Lists.{Among, map_alike}
-use Rattle.vt_spec.proofs.Worlds.{number-mount_in}
 use Rattle.vt_laws_trees.specs.Trees.Calls.{mounts_overlay}
 use Rattle.vt_laws_worlds.proofs.worlds.FitPermitsNamed.{all_permits_fit}
 use Rattle.vt_laws_later_calls.specs.Ends.{sets_type, takes_uses}

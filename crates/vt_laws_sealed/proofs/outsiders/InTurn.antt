@@ -1,14 +1,6 @@
 -- Calls of others, one after the other, leave a sealed set sealed and its part as it was.
 use Rattle.std.proofs.Common.{◌≡◌, refl, sym, ap, subst, ◌∙◌, ⊎_elim, ℕ, nat_eq, Bool, true, false, cond, true≢false, List, [], ◌∷◌, Some, find, is_some}
-use Rattle.vt_spec.specs.Language.Calls.{TaskName, same_name}
-use Rattle.vt_spec.specs.Lists.{is_among}
-use Rattle.vt_spec.specs.Machine.Invariants.{IsWorld}
-use Rattle.vt_spec.specs.Machine.Policy.{policy}
-use Rattle.vt_spec.specs.Machine.Sealed.{is_member_task, members, part_of, sealed}
-use Rattle.vt_spec.specs.Machine.World.{Task, World, task_called}
-use Rattle.vt_spec.proofs.Found.{found_among, found_passes}
-use Rattle.vt_spec.proofs.Lists.{Among, among-filter, among-from_filter, among_from_list_all, any_from_among, list_all_from_among}
-use Rattle.vt_spec.proofs.Options.{some_from_is_some}
+use Rattle.vt_spec.proofs.Common.{Among, IsWorld, Task, TaskName, World, among-filter, among-from_filter, among_from_list_all, any_from_among, found_among, found_passes, is_among, is_member_task, list_all_from_among, members, part_of, policy, same_name, sealed, some_from_is_some, task_called}
 use Rattle.vt_laws_worlds.proofs.overlay_permits.worlds.EveryCall.{every_call_keeps_worlds}
 use Rattle.vt_laws_worlds.proofs.worlds.CallsKept.{name_found}
 use Rattle.vt_laws_sealed.specs.Outsiders.{AreOutsiders, IsOutsidersCall, OneCall, OutsidersLeaveItSealedInTurn, after_calls, are_all_called}

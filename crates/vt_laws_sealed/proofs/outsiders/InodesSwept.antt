@@ -1,18 +1,6 @@
 -- The sweep of inodes takes nothing that a sealed set sees.
-use Rattle.std.proofs.Common.{arith, ◌≡◌, refl, sym, ap, ◌∙◌, inr, ℕ, nat_eq, Bool, true, false, List, [], ◌++◌, None, filter, flat_map}
-use Rattle.std.proofs.lemmas.Grind.{common_steps}
-use Rattle.std.specs.Prelude.{option_map}
-use Rattle.std.specs.List.{list_all, list_any}
-use Rattle.vt_spec.specs.FileTree.{FileTree}
-use Rattle.vt_spec.specs.Language.Calls.{TaskName}
-use Rattle.vt_spec.specs.Lists.{any_pair, is_among}
-use Rattle.vt_spec.specs.Machine.Locked.{of_overlay}
-use Rattle.vt_spec.specs.Machine.Sealed.{own_lowers, sealed, used_filesystems}
-use Rattle.vt_spec.specs.Machine.Settled.{has_layer_on, layers_in, located_in, named_in, objects_of_overlay, real_among, only_used, only_used_by, used_in, without_dead_in}
-use Rattle.vt_spec.specs.Machine.World.{Filesystem, Layer, World, is_overlay, layers_of}
-use Rattle.vt_spec.specs.TreeInvariant.{IsDirectory}
-use Rattle.vt_spec.proofs.Lists.{Among, among-append_left, among-filter, among-flat_map, among-map, is_among_numbers}
-use Rattle.vt_spec.proofs.Worlds.{number-only_used}
+use Rattle.std.proofs.Common.{arith, ◌≡◌, refl, sym, ap, ◌∙◌, inr, ℕ, nat_eq, Bool, true, false, List, [], ◌++◌, None, filter, flat_map, option_map}
+use Rattle.vt_spec.proofs.Common.{Among, FileTree, Filesystem, IsDirectory, Layer, TaskName, World, among-append_left, among-filter, among-flat_map, among-map, any_pair, common_steps, has_layer_on, is_among, is_among_numbers, is_overlay, layers_in, layers_of, list_all, list_any, located_in, named_in, number-only_used, objects_of_overlay, of_overlay, only_used, only_used_by, own_lowers, real_among, sealed, used_filesystems, used_in, without_dead_in}
 use Rattle.vt_laws_trees.specs.Trees.{IsFileTree}
 use Rattle.vt_laws_trees.proofs.trees.TreesForgotten.{named_is_used}
 use Rattle.vt_laws_mounts.specs.Mounts.Invariants.{OneNumberEach}

@@ -1,23 +1,7 @@
 -- Others that enter other namespaces: setns(2).
-use Rattle.std.proofs.Common.{arith, ◌≡◌, refl, sym, ap, subst, ◌∙◌, ◌⊎◌, inl, inr, ⊎_elim, ℕ, nat_eq, true, false, true≢false, List, [], Option, Some, None, Ok, filter, is_some, map, not, eqb-true}
-use Rattle.std.proofs.lemmas.Grind.{common_steps}
-use Rattle.std.specs.Prelude.{ok_or, option_map, unwrap_or}
+use Rattle.std.proofs.Common.{arith, ◌≡◌, refl, sym, ap, subst, ◌∙◌, ◌⊎◌, inl, inr, ⊎_elim, ℕ, nat_eq, true, false, true≢false, List, [], Option, Some, None, Ok, filter, is_some, map, not, eqb-true, ok_or, option_map, unwrap_or}
+use Rattle.vt_spec.proofs.Common.{Among, Call, Fresh, Location, Mount, Permit, Task, TaskName, ToEnterNamespace, World, among-filter, among-flat_map, among-from_filter, among-from_flat_map, among-from_map, apply, common_steps, denial, entered_at, found_among, holds_of, is_among, is_member_task, is_own_namespace, judge_in, locations_of, looks_of, mounts_of, namespace_root, outsiders, overfills, replaced_if_called, root_mount, root_of, same_name, settled, task_called, topmost}
 use Rattle.vt_spec.specs.declared.errors.Rule.TheVariants.{S2}
-use Rattle.vt_spec.specs.Errors.{denial}
-use Rattle.vt_spec.specs.Language.Calls.{Call, TaskName, same_name}
-use Rattle.vt_spec.specs.Lists.{Fresh, holds_of, is_among}
-use Rattle.vt_spec.specs.Machine.Apply.{apply, overfills}
-use Rattle.vt_spec.specs.Machine.Judge.{judge_in}
-use Rattle.vt_spec.specs.Machine.Looks.{looks_of}
-use Rattle.vt_spec.specs.Machine.Mounts.{Location, Mount, root_of, topmost}
-use Rattle.vt_spec.specs.Machine.Namespaces.{entered_at, namespace_root}
-use Rattle.vt_spec.specs.Machine.Permits.{Permit}
-use Rattle.vt_spec.specs.Machine.Permits.Permit.{ToEnterNamespace}
-use Rattle.vt_spec.specs.Machine.Sealed.{is_member_task, is_own_namespace, outsiders}
-use Rattle.vt_spec.specs.Machine.Settled.{settled}
-use Rattle.vt_spec.specs.Machine.World.{Task, World, locations_of, mounts_of, replaced_if_called, root_mount, task_called}
-use Rattle.vt_spec.proofs.Found.{found_among}
-use Rattle.vt_spec.proofs.Lists.{Among, among-filter, among-flat_map, among-from_filter, among-from_flat_map, among-from_map}
 use Rattle.vt_laws_mounts.proofs.mounts.MountsReplaced.{found_itself}
 use Rattle.vt_laws_rules.proofs.given.Inversion.{calls_are_granted}
 use Rattle.vt_laws_rules.specs.Granted.{IsGranted}

@@ -1,17 +1,6 @@
 -- What lies under directories of a tree that is changed elsewhere: a part of the tree has the same of it.
 use Rattle.std.proofs.Common.{arith, ◌≡◌, refl, sym, ap, ◌∙◌, ℕ, nat_eq, Bool, true, false, cond, true≢false, List, [], ◌∷◌, ◌++◌, Option, Some, None, filter, is_some, ◌&&◌}
-use Rattle.std.proofs.lemmas.Grind.{common_steps}
-use Rattle.std.specs.List.{list_any}
-use Rattle.std.proofs.lemmas.Bool.{and_parts, false_from_ne_true}
-use Rattle.vt_spec.specs.FileTree.{FileTree, is_under}
-use Rattle.vt_spec.specs.Lists.{is_among}
-use Rattle.vt_spec.specs.Machine.Settled.{only_among}
-use Rattle.vt_spec.specs.Machine.World.{Layer}
-use Rattle.vt_spec.specs.Tree.{Node, entries_in, entry_named, is_directory_node}
-use Rattle.vt_spec.specs.TreeInvariant.{IsDirectory, led}
-use Rattle.vt_spec.proofs.Lists.{Among, among-from_filter, among_numbers, any_among}
-use Rattle.vt_spec.proofs.Nodes.{directory_used}
-use Rattle.vt_spec.proofs.Truths.{same_truth}
+use Rattle.vt_spec.proofs.Common.{Among, FileTree, IsDirectory, Layer, Node, among-from_filter, among_numbers, and_parts, any_among, common_steps, directory_used, entries_in, entry_named, false_from_ne_true, is_among, is_directory_node, is_under, led, list_any, only_among, same_truth}
 use Rattle.vt_laws_trees.specs.Trees.{IsFileTree}
 use Rattle.vt_laws_trees.proofs.layers.layers.ShownDirectories.{led_is_there}
 use Rattle.vt_laws_trees.proofs.layers.views.Stay.{led_where}

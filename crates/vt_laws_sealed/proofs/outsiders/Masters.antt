@@ -1,17 +1,6 @@
 -- Where a set of tasks sees the same, its namespaces have the mounts that they had.
 use Rattle.std.proofs.Common.{arith, ◌≡◌, refl, sym, ap, subst, ◌∙◌, inl, inr, ℕ, nat_eq, Bool, true, false, true≢false, List, [], ◌∷◌, Option, Some, None, filter, eq-eqb, eqb-true}
-use Rattle.std.proofs.lemmas.Grind.{common_steps}
-use Rattle.std.specs.List.{list_any}
-use Rattle.std.proofs.lemmas.Bool.{and_from, false_from_ne_true}
-use Rattle.vt_spec.specs.Language.Calls.{MountFlags, TaskName}
-use Rattle.vt_spec.specs.Lists.{holds_of, same_list, same_option}
-use Rattle.vt_spec.specs.Machine.Invariants.{HasLivingGroups, Lives, MountInvariants}
-use Rattle.vt_spec.specs.Machine.Mounts.{Location, Mount, Propagation, same_location, source_of}
-use Rattle.vt_spec.specs.Machine.Policy.{master_above, same_bool, same_flags, same_mount, same_mounts_in, same_propagation}
-use Rattle.vt_spec.specs.Machine.Receives.{has_members}
-use Rattle.vt_spec.specs.Machine.Sealed.{is_own_mount, is_own_namespace, own_mounts, shares_no_events}
-use Rattle.vt_spec.specs.Machine.World.{Task, World, mounts_of}
-use Rattle.vt_spec.proofs.Lists.{Among, among-from_filter, among_from_all, any_from_among}
+use Rattle.vt_spec.proofs.Common.{Among, HasLivingGroups, Lives, Location, Mount, MountFlags, MountInvariants, Propagation, Task, TaskName, World, among-from_filter, among_from_all, and_from, any_from_among, common_steps, false_from_ne_true, has_members, holds_of, is_own_mount, is_own_namespace, list_any, master_above, mounts_of, own_mounts, same_bool, same_flags, same_list, same_location, same_mount, same_mounts_in, same_option, same_propagation, shares_no_events, source_of}
 use Rattle.vt_laws_mounts.proofs.letting_go.Lists.{filter_less}
 use Rattle.vt_laws_sealed.specs.Part.Parts.{SeesTheSame}
 use Rattle.vt_laws_sealed.proofs.part.groups.ReceiversAlike.{own_member, start_hears}

@@ -1,18 +1,6 @@
 -- Mounts of others that move, with what stands on them: mount(2) with MS_MOVE.
 use Rattle.std.proofs.Common.{◌≡◌, refl, sym, ap, ◌∙◌, inl, ⊎_elim, ℕ, nat_eq, true, false, List, [], append-nil, Some, Ok, length}
-use Rattle.vt_spec.specs.Language.Calls.{Call, TaskName}
-use Rattle.vt_spec.specs.Lists.{Fresh}
-use Rattle.vt_spec.specs.Machine.Apply.{apply}
-use Rattle.vt_spec.specs.Machine.Attach.{moved_tree}
-use Rattle.vt_spec.specs.Machine.Judge.{judge_in}
-use Rattle.vt_spec.specs.Machine.Locked.{overlays}
-use Rattle.vt_spec.specs.Machine.Mounts.{Location, Mount}
-use Rattle.vt_spec.specs.Machine.Permits.Permit.{ToMove}
-use Rattle.vt_spec.specs.Machine.Settled.{settled}
-use Rattle.vt_spec.specs.Machine.World.{Task, World, mount_numbered, task_called}
-use Rattle.vt_spec.proofs.Lists.{Among}
-use Rattle.vt_spec.proofs.Options.{none_is_some}
-use Rattle.vt_spec.proofs.Worlds.{found_or_none}
+use Rattle.vt_spec.proofs.Common.{Among, Call, Fresh, Location, Mount, Task, TaskName, ToMove, World, apply, found_or_none, judge_in, mount_numbered, moved_tree, none_is_some, overlays, settled, task_called}
 use Rattle.vt_laws_trees.specs.Trees.Calls.{mounts_overlay}
 use Rattle.vt_laws_rules.proofs.given.GivenPermits.{permits_are_for_their_calls}
 use Rattle.vt_laws_worlds.proofs.worlds.CallsKept.{name_found}

@@ -1,13 +1,6 @@
 -- A change of a tree, or of an upper layer, leaves its root, and puts new numbers before those that it had.
 use Rattle.std.proofs.Common.{arith, ◌≡◌, refl, sym, ap, ◌∙◌, ⊎_elim, ℕ, nat_eq, Bool, true, false, List, [], ◌∷◌, ◌++◌, ◌*◌, ◌+◌, append_assoc, Option, Some, None, is_some}
-use Rattle.std.proofs.lemmas.Grind.{common_steps}
-use Rattle.vt_spec.specs.FileTree.{FileTree}
-use Rattle.vt_spec.specs.Language.Changes.{Change, changed, changed_node, node_with_attr, node_with_mark, with_inode, with_moved, with_name}
-use Rattle.vt_spec.specs.Language.Changes.Change.{AddName, CopyUp, Make, Move, Remove, SetAttr, SetBytes, SetMark}
-use Rattle.vt_spec.specs.Lists.{Fresh, evens, odds}
-use Rattle.vt_spec.specs.Machine.CopyUp.{Merge, Stack, copied_each, copied_up, copy_of, hides_directory, is_in_upper, line_to, merge_changed, name_left_by, shown_in_lowers_at, upper_directory_named, upper_of, with_mark, without_contents}
-use Rattle.vt_spec.specs.Tree.{Node, node_with_bytes}
-use Rattle.vt_spec.proofs.Lists.{Among, among-append}
+use Rattle.vt_spec.proofs.Common.{AddName, Among, Change, CopyUp, FileTree, Fresh, Make, Merge, Move, Node, Remove, SetAttr, SetBytes, SetMark, Stack, among-append, changed, changed_node, common_steps, copied_each, copied_up, copy_of, evens, hides_directory, is_in_upper, line_to, merge_changed, name_left_by, node_with_attr, node_with_bytes, node_with_mark, odds, shown_in_lowers_at, upper_directory_named, upper_of, with_inode, with_mark, with_moved, with_name, without_contents}
 use Rattle.vt_laws_trees.specs.Layers.Layers.ChangesUpper.{IsNewBy}
 use Rattle.vt_laws_worlds.proofs.overlays_let_go.changing.Copied.{numbers_moved, root_moved}
 

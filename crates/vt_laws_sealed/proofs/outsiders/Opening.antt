@@ -1,28 +1,8 @@
 -- Files that others open to read: open(2) with O_RDONLY.
-use Rattle.std.proofs.Common.{arith, ◌≡◌, refl, sym, subst, ◌∙◌, ◌⊎◌, inl, inr, ⊎_elim, ℕ, zero, suc, ◌+◌, nat_eq, Bool, false, ◌||◌, List, [], ◌∷◌, map, Option, Some, None, Ok, Err, Result, reverse}
-use Rattle.std.proofs.lemmas.Grind.{common_steps}
-use Rattle.std.specs.Prelude.{option_map}
-use Rattle.std.proofs.lemmas.Option.{same_Some}
+use Rattle.std.proofs.Common.{arith, ◌≡◌, refl, sym, subst, ◌∙◌, ◌⊎◌, inl, inr, ⊎_elim, ℕ, zero, suc, ◌+◌, nat_eq, Bool, false, ◌||◌, List, [], ◌∷◌, map, Option, Some, None, Ok, Err, Result, reverse, option_map}
+use Rattle.vt_spec.proofs.Common.{Access, Among, Call, Descriptor, Dot, DotDot, Fresh, Here, IsWorld, LastWord, Location, Named, NoWord, Permit, Place, Stop, Task, TaskName, ToOpen, World, and_then, common_steps, ends_in_slash, file_or_symlink, file_walked, final_word, followed, inserted, judge_in, looks_of, most_symlinks, new_name_rules, none_is_some, overfills, path_text, prefix_walked, same_Some, start_of, symlink_of, task_called, then_walk, topmost, walk_start, walk_unless, with_descriptor, with_task, words}
 use Rattle.vt_spec.specs.declared.errors.Deny.{Deny}
-use Rattle.vt_spec.specs.Errors.{and_then}
-use Rattle.vt_spec.specs.Language.Calls.{Access, Call, TaskName}
-use Rattle.vt_spec.specs.Language.Limits.{most_symlinks}
-use Rattle.vt_spec.specs.Lists.{Fresh}
-use Rattle.vt_spec.specs.Machine.Apply.{overfills}
-use Rattle.vt_spec.specs.Machine.Descriptors.{inserted, with_descriptor}
-use Rattle.vt_spec.specs.Machine.Invariants.{IsWorld}
-use Rattle.vt_spec.specs.Machine.Judge.{judge_in}
-use Rattle.vt_spec.specs.Machine.Looks.{looks_of}
-use Rattle.vt_spec.specs.Machine.Mounts.{Location, topmost}
-use Rattle.vt_spec.specs.Machine.Permits.{Permit}
-use Rattle.vt_spec.specs.Machine.Permits.Permit.{ToOpen}
-use Rattle.vt_spec.specs.Machine.Walking.{Here, LastWord, Place, Stop, final_word, path_text, start_of, symlink_of, then_walk, walk_start, walk_unless}
-use Rattle.vt_spec.specs.Machine.Walking.LastWord.{Dot, DotDot, Named, NoWord}
-use Rattle.vt_spec.specs.Machine.World.{Descriptor, Task, World, task_called, with_task}
-use Rattle.vt_spec.specs.PathText.{ends_in_slash, words}
-use Rattle.vt_spec.proofs.Lists.{Among}
-use Rattle.vt_spec.proofs.Options.{none_is_some}
-use Rattle.vt_spec.proofs.Walk.{entry_location, file_or_symlink, file_walk, file_walked, follow_rules, followed, new_name_rules, object_named, placed, prefix_walked, stepped, symlink_start, symlink_there}
+use Rattle.vt_spec.proofs.Walk.{entry_location, file_walk, follow_rules, object_named, placed, stepped, symlink_start, symlink_there}
 use Rattle.vt_laws_rules.proofs.given.Inversion.{calls_are_granted}
 use Rattle.vt_laws_rules.specs.Granted.{IsGranted}
 use Rattle.vt_laws_rules.specs.Granted.IsGranted.{opens, opens_existing}

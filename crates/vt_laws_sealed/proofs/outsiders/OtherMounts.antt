@@ -1,20 +1,6 @@
 -- Mounts of others, and the groups that they hear.
-use Rattle.std.proofs.Common.{arith, ◌≡◌, refl, sym, ap, subst, ◌∙◌, ◌⊎◌, inl, inr, ⊎_elim, ℕ, zero, suc, nat_eq, true, false, true≢false, List, [], ◌∷◌, Option, Some, None, map, not, eq-eqb, eqb-true}
-use Rattle.std.proofs.lemmas.Grind.{common_steps}
-use Rattle.std.specs.Prelude.{option_to_list}
-use Rattle.std.specs.List.{list_all}
-use Rattle.std.proofs.lemmas.Bool.{and_parts, false_from_ne_true, not-true, or_cases}
-use Rattle.vt_spec.specs.Language.Calls.{TaskName}
-use Rattle.vt_spec.specs.Lists.{Fresh, holds_of, is_among}
-use Rattle.vt_spec.specs.Machine.Invariants.{MountInvariants, HasLivingGroups, Stands, is_directory_seen_in, is_located_well, is_there, stands_on_directories}
-use Rattle.vt_spec.specs.Machine.Mounts.{Location, Mount, Propagation, children, group_of, source_of, stands_on, tree_from}
-use Rattle.vt_spec.specs.Machine.Receives.{is_member_of}
-use Rattle.vt_spec.specs.Machine.Run.{Serves, numbers_in_use, used_by_mount}
-use Rattle.vt_spec.specs.Machine.Sealed.{is_at, is_member_task, is_own_mount, is_own_namespace, master_of, members, other_mounts, outsiders, own_mounts, receives_events_of, roots_and_directories, share_events, shares_no_events}
-use Rattle.vt_spec.specs.Machine.World.{Task, World, all_locations, mount_at, mount_numbered}
-use Rattle.vt_spec.proofs.Found.{is_among_left}
-use Rattle.vt_spec.proofs.Lists.{Among, among-filter, among-flat_map, among-from_filter, among-from_flat_map, among-from_map, among_from_all, among_from_list_all, any_among, any_from_among, is_among_numbers, list_all_from_among}
-use Rattle.vt_spec.proofs.Options.{none_is_some}
+use Rattle.std.proofs.Common.{arith, ◌≡◌, refl, sym, ap, subst, ◌∙◌, ◌⊎◌, inl, inr, ⊎_elim, ℕ, zero, suc, nat_eq, true, false, true≢false, List, [], ◌∷◌, Option, Some, None, map, not, eq-eqb, eqb-true, option_to_list}
+use Rattle.vt_spec.proofs.Common.{Among, Fresh, HasLivingGroups, Location, Mount, MountInvariants, Propagation, Serves, Stands, Task, TaskName, World, all_locations, among-filter, among-flat_map, among-from_filter, among-from_flat_map, among-from_map, among_from_all, among_from_list_all, and_parts, any_among, any_from_among, children, common_steps, false_from_ne_true, group_of, holds_of, is_among, is_among_left, is_among_numbers, is_at, is_directory_seen_in, is_located_well, is_member_of, is_member_task, is_own_mount, is_own_namespace, is_there, list_all, list_all_from_among, master_of, members, mount_at, mount_numbered, none_is_some, not-true, numbers_in_use, or_cases, other_mounts, outsiders, own_mounts, receives_events_of, roots_and_directories, share_events, shares_no_events, source_of, stands_on, stands_on_directories, tree_from, used_by_mount}
 use Rattle.vt_laws_mounts.proofs.letting_go.sweeps.OfWorlds.{all_in_use}
 use Rattle.vt_laws_mounts.proofs.mounts.MountsReplaced.{found_itself}
 use Rattle.vt_laws_worlds.proofs.worlds.Reached.{namespace_below}

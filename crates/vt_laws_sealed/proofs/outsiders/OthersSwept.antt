@@ -1,21 +1,10 @@
 -- After the sweep others are where they were, and have no more footholds.
-use Rattle.std.proofs.Common.{arith, ◌≡◌, refl, sym, ap, ◌∙◌, inl, inr, ℕ, nat_eq, Bool, true, true≢false, List, [], ◌∷◌, filter, find, is_some, not, ◌||◌, eq-eqb, eqb-true}
-use Rattle.std.proofs.lemmas.Grind.{common_steps}
-use Rattle.std.specs.Prelude.{unwrap_or}
-use Rattle.std.specs.List.{list_all, list_any}
-use Rattle.std.proofs.lemmas.Bool.{and_from, and_parts, false_from_ne_true, not-true, or_cases, or_left, or_right}
-use Rattle.vt_spec.specs.Language.Calls.{TaskName}
-use Rattle.vt_spec.specs.Machine.Locked.{overlays}
-use Rattle.vt_spec.specs.Machine.Mounts.{Location, Mount, no_mount}
-use Rattle.vt_spec.specs.Machine.Sealed.{is_member_task, is_own_mount, is_own_namespace, locations, no_outsider_on, other_mounts, outsiders, own_mounts, receives_events_of, shares_no_events, used_alone}
-use Rattle.vt_spec.specs.Machine.Settled.{filesystem_lives, has_layer_on, mount_lives, only_used, settled, without_dead_filesystems, without_dead_in, without_dead_mounts}
-use Rattle.vt_spec.specs.Machine.World.{Filesystem, Task, World, all_locations, is_overlay, locations_of, mount_at}
-use Rattle.vt_spec.proofs.Lists.{Among, among-filter, among-flat_map, among-from_filter, among-from_flat_map, among-from_map, among_from_list_all, any_from_among, list_all_from_among}
+use Rattle.std.proofs.Common.{arith, ◌≡◌, refl, sym, ap, ◌∙◌, inl, inr, ℕ, nat_eq, Bool, true, true≢false, List, [], ◌∷◌, filter, find, is_some, not, ◌||◌, eq-eqb, eqb-true, unwrap_or}
+use Rattle.vt_spec.proofs.Common.{Among, Filesystem, Location, Mount, Task, TaskName, World, all_locations, among-filter, among-flat_map, among-from_filter, among-from_flat_map, among-from_map, among_from_list_all, and_from, and_parts, any_from_among, common_steps, false_from_ne_true, filesystem_lives, has_layer_on, is_member_task, is_overlay, is_own_mount, is_own_namespace, list_all, list_all_from_among, list_any, locations, locations_of, mount_at, mount_lives, no_mount, no_outsider_on, not-true, number-only_used, only_used, or_cases, or_left, or_right, other_mounts, outsiders, overlays, own_mounts, receives_events_of, settled, shares_no_events, used_alone, without_dead_filesystems, without_dead_in, without_dead_mounts}
 use Rattle.vt_laws_mounts.proofs.letting_go.Lists.{filter_less}
 use Rattle.vt_laws_sealed.proofs.part.part.PartOfPart.{located}
 use Rattle.vt_laws_sealed.proofs.outsiders.Staying.{OthersStayOut}
 use Rattle.vt_laws_sealed.proofs.outsiders.InodesSwept.{cut_overlay, cut_layers}
-use Rattle.vt_spec.proofs.Worlds.{number-only_used}
 
 -- Others are where they were.
 module _ (world before : World ℕ) (names : List TaskName) (others : OthersStayOut world before names) where

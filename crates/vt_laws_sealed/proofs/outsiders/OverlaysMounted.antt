@@ -1,24 +1,6 @@
 -- Overlays that others mount over their own layers: mount(2) of an overlay.
-use Rattle.std.proofs.Common.{arith, ◌≡◌, refl, sym, ap, subst, ◌∙◌, inl, inr, ⊎_elim, ℕ, nat_eq, false, true≢false, List, [], ◌∷◌, ◌++◌, ◌*◌, ◌+◌, Option, Some, None, Result, Ok, Err, map, eqb-true, eq-eqb}
-use Rattle.std.proofs.lemmas.Grind.{common_steps}
-use Rattle.std.specs.Prelude.{option_map, option_to_list}
-use Rattle.std.proofs.lemmas.Bool.{and_parts, false_from_ne_true, not-true}
-use Rattle.vt_spec.specs.Language.Calls.{Call, MountFlags, OverlayWords, TaskName}
-use Rattle.vt_spec.specs.Lists.{Fresh, evens, odds}
-use Rattle.vt_spec.specs.Machine.Apply.{apply, overfills}
-use Rattle.vt_spec.specs.Machine.Judge.{judge_in}
-use Rattle.vt_spec.specs.Machine.Looks.{looks_of}
-use Rattle.vt_spec.specs.Machine.Mounts.{Location, Mount}
-use Rattle.vt_spec.specs.Machine.NewMounts.{new_mount, overlay_filesystem}
-use Rattle.vt_spec.specs.Machine.Permits.{Permit}
-use Rattle.vt_spec.specs.Machine.Permits.Permit.{ToMountOverlay}
-use Rattle.vt_spec.specs.Machine.Rules.Mounting.{LayerLocations, each_walked, layer_at, layer_locations, layers_walked, overlay_at, source_walk, walked_if_given, work_walked}
-use Rattle.vt_spec.specs.Machine.Sealed.{no_outsider_on}
-use Rattle.vt_spec.specs.Machine.Settled.{has_layer_on, settled}
-use Rattle.vt_spec.specs.Machine.Walking.{Here, Stop, walk_end}
-use Rattle.vt_spec.specs.Machine.World.{Filesystem, Layer, Overlay, Task, World, layers_of, mount_at, task_called}
-use Rattle.vt_spec.proofs.Given.{Gives, given}
-use Rattle.vt_spec.proofs.Lists.{Among, among-append, among-append_left, among-append_right, any_from_among, among-from_map, none_from_among}
+use Rattle.std.proofs.Common.{arith, ◌≡◌, refl, sym, ap, subst, ◌∙◌, inl, inr, ⊎_elim, ℕ, nat_eq, false, true≢false, List, [], ◌∷◌, ◌++◌, ◌*◌, ◌+◌, Option, Some, None, Result, Ok, Err, map, eqb-true, eq-eqb, option_map, option_to_list}
+use Rattle.vt_spec.proofs.Common.{Among, Call, Filesystem, Fresh, Gives, Here, Layer, LayerLocations, Location, Mount, MountFlags, Overlay, OverlayWords, Permit, Stop, Task, TaskName, ToMountOverlay, World, among-append, among-append_left, among-append_right, among-from_map, and_parts, any_from_among, apply, common_steps, each_walked, evens, false_from_ne_true, given, has_layer_on, judge_in, layer_at, layer_locations, layers_of, layers_walked, looks_of, mount_at, new_mount, no_outsider_on, none_from_among, not-true, odds, overfills, overlay_at, overlay_filesystem, settled, source_walk, task_called, walk_end, walked_if_given, work_walked}
 use Rattle.vt_laws_rules.proofs.given.GivenPermits.{permits_are_for_their_calls}
 use Rattle.vt_laws_rules.proofs.given.Inversion.{calls_are_granted}
 use Rattle.vt_laws_rules.specs.Granted.{IsGranted}

@@ -1,28 +1,6 @@
 -- Calls of others that set something of the task alone, or give it a child.
-use Rattle.std.proofs.lemmas.Grind.{common_steps}
-use Rattle.std.proofs.Common.{◌≡◌, refl, sym, ap, subst, ◌∙◌, ◌⊎◌, inl, inr, ⊎_elim, ℕ, nat_eq, Bool, true, false, cond, true≢false, List, [], ◌∷◌, ◌++◌, ◌+◌, append-nil, Some, None, Ok, filter, is_some, map, not, arith}
-use Rattle.std.specs.List.{filter_map, list_all, list_any}
-use Rattle.std.proofs.lemmas.Bool.{and_from, and_parts, false_from_ne_true, not-true}
-use Rattle.std.proofs.lemmas.List.Elements.{filter-append}
-use Rattle.vt_spec.specs.Language.Calls.{Call, TaskName, same_name}
-use Rattle.vt_spec.specs.Language.Calls.Call.{Drop, Fork, Umask}
-use Rattle.vt_spec.specs.Lists.{Fresh, holds_of, is_among}
-use Rattle.vt_spec.specs.Machine.Apply.{apply}
-use Rattle.vt_spec.specs.Machine.Judge.{judge_in}
-use Rattle.vt_spec.specs.Machine.Mounts.{Location, Mount}
-use Rattle.vt_spec.specs.Machine.Tasks.{child_name, child_of}
-use Rattle.vt_spec.specs.Machine.Outcomes.{Outcome, after}
-use Rattle.vt_spec.specs.Machine.Permits.{Permit}
-use Rattle.vt_spec.specs.Machine.Permits.Permit.{ToFork, ToSetCredentials, ToSetUmask}
-use Rattle.vt_spec.specs.Machine.Policy.{call_outcome}
-use Rattle.vt_spec.specs.Machine.Sealed.{is_member_task, is_own_mount, locations, members, no_outsider_on, other_mounts, outsiders, share_events}
-use Rattle.vt_spec.specs.Machine.Settled.{settled}
-use Rattle.vt_spec.specs.Machine.World.{Namespace, Task, World, locations_of, mount_at, mount_numbered, replaced_if_called, task_called}
-use Rattle.vt_spec.specs.Rights.{Credentials}
-use Rattle.vt_spec.proofs.Found.{found_among}
-use Rattle.vt_spec.proofs.Lists.{Among, among-append, among-filter, among-flat_map, among-from_filter, among-from_flat_map, among-from_map, among_from_list_all, any_among, contains_from_among, list_all_from_among, map_same, none_among, none_from_among}
-use Rattle.vt_spec.proofs.Options.{some_from_is_some}
-use Rattle.vt_spec.proofs.Worlds.{name-replaced_if_called, same_task_name}
+use Rattle.std.proofs.Common.{◌≡◌, refl, sym, ap, subst, ◌∙◌, ◌⊎◌, inl, inr, ⊎_elim, ℕ, nat_eq, Bool, true, false, cond, true≢false, List, [], ◌∷◌, ◌++◌, ◌+◌, append-nil, Some, None, Ok, filter, is_some, map, not, arith, filter_map}
+use Rattle.vt_spec.proofs.Common.{Among, Call, Credentials, Drop, Fork, Fresh, Location, Mount, Namespace, Outcome, Permit, Task, TaskName, ToFork, ToSetCredentials, ToSetUmask, Umask, World, after, among-append, among-filter, among-flat_map, among-from_filter, among-from_flat_map, among-from_map, among_from_list_all, and_from, and_parts, any_among, apply, call_outcome, child_name, child_of, common_steps, contains_from_among, false_from_ne_true, filter-append, found_among, holds_of, is_among, is_member_task, is_own_mount, judge_in, list_all, list_all_from_among, list_any, locations, locations_of, map_same, members, mount_at, mount_numbered, name-replaced_if_called, no_outsider_on, none_among, none_from_among, not-true, other_mounts, outsiders, replaced_if_called, same_name, same_task_name, settled, share_events, some_from_is_some, task_called}
 use Rattle.vt_laws_mounts.proofs.letting_go.Lists.{filter-map}
 use Rattle.vt_laws_rules.proofs.judged.CallsJudged.{call_is_judged_then_applied}
 use Rattle.vt_laws_rules.proofs.given.GivenPermits.{permits_are_for_their_calls}

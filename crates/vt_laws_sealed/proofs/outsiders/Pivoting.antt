@@ -1,21 +1,6 @@
 -- Another root mount of a namespace of others: pivot_root(2).
 use Rattle.std.proofs.Common.{arith, ◌≡◌, refl, sym, ap, subst, ◌∙◌, inl, inr, ⊎_elim, ℕ, nat_eq, Bool, true, false, cond, true≢false, List, [], Some, None, Ok, filter, map, not, eqb-true}
-use Rattle.std.proofs.lemmas.Grind.{common_steps}
-use Rattle.std.specs.List.{list_all}
-use Rattle.vt_spec.specs.Language.Calls.{Call, TaskName, same_name}
-use Rattle.vt_spec.specs.Language.Calls.Call.{PivotRoot}
-use Rattle.vt_spec.specs.Lists.{Fresh, is_among}
-use Rattle.vt_spec.specs.Machine.Apply.{apply}
-use Rattle.vt_spec.specs.Machine.Judge.{judge_in}
-use Rattle.vt_spec.specs.Machine.Mounts.{Location, Mount, Propagation, no_mount, root_of, same_location}
-use Rattle.vt_spec.specs.Machine.Namespaces.{pivoted_location, pivoted_mount, pivoted_task}
-use Rattle.vt_spec.specs.Machine.Permits.Permit.{ToPivot}
-use Rattle.vt_spec.specs.Machine.Sealed.{is_member_task, is_own_namespace, locations, members, other_mounts, outsiders, own_mounts, share_events, shares_no_events}
-use Rattle.vt_spec.specs.Machine.Settled.{settled}
-use Rattle.vt_spec.specs.Machine.World.{Task, World, locations_of, mount_at, mount_numbered, task_called}
-use Rattle.vt_spec.proofs.Lists.{Among, among-filter, among-flat_map, among-from_filter, among-from_flat_map, among-from_map, among_from_list_all, any_from_among, list_all_from_among, map_same, pair-map}
-use Rattle.vt_spec.proofs.Options.{none_is_some}
-use Rattle.vt_spec.proofs.Worlds.{found_or_none, number-mount_in}
+use Rattle.vt_spec.proofs.Common.{Among, Call, Fresh, Location, Mount, PivotRoot, Propagation, Task, TaskName, ToPivot, World, among-filter, among-flat_map, among-from_filter, among-from_flat_map, among-from_map, among_from_list_all, any_from_among, apply, common_steps, found_or_none, is_among, is_member_task, is_own_namespace, judge_in, list_all, list_all_from_among, locations, locations_of, map_same, members, mount_at, mount_numbered, no_mount, none_is_some, number-mount_in, other_mounts, outsiders, own_mounts, pair-map, pivoted_location, pivoted_mount, pivoted_task, root_of, same_location, same_name, settled, share_events, shares_no_events, task_called}
 use Rattle.vt_laws_mounts.proofs.letting_go.Lists.{filter-map}
 use Rattle.vt_laws_trees.specs.Trees.Calls.{mounts_overlay}
 use Rattle.vt_laws_mounts.specs.Mounts.Invariants.{OneNumberEach}

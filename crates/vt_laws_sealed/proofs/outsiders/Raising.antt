@@ -1,21 +1,6 @@
 -- Change numbers that the call of a task outside a set raises are not those of the set's part.
-use Rattle.std.proofs.Common.{arith, ◌≡◌, refl, sym, ap, ◌∙◌, ℕ, nat_eq, Bool, true, false, cond, true≢false, List, [], ◌∷◌, Option, Some, is_some, filter, find, flat_map, map, not, ◌&&◌, ◌||◌, eqb-true}
-use Rattle.std.proofs.lemmas.Grind.{common_steps}
-use Rattle.std.specs.Prelude.{unwrap_or}
-use Rattle.std.specs.List.{filter_map, list_all, list_any}
-use Rattle.vt_spec.specs.FileTree.{FileTree, is_under}
-use Rattle.vt_spec.specs.Language.Calls.{TaskName, same_name}
-use Rattle.vt_spec.specs.Lists.{holds_of, is_among, when}
-use Rattle.vt_spec.specs.Machine.Filesystems.{raised, raised_if_changed}
-use Rattle.vt_spec.specs.Machine.Invariants.{MountInvariants}
-use Rattle.vt_spec.specs.Machine.Locked.{overlays}
-use Rattle.vt_spec.specs.Machine.Mounts.{Location, Mount}
-use Rattle.vt_spec.specs.Machine.Policy.{numbers_raised, raised_namespace, raised_task}
-use Rattle.vt_spec.specs.Machine.Sealed.{holds_all_tasks, is_member_task, is_own_namespace, locations, members, no_outsider_on, no_outsider_on_mounts, outsiders, own_lowers, part_of, share_events, shares_no_events, used_alone, used_directly, used_filesystems}
-use Rattle.vt_spec.specs.Machine.Settled.{has_layer_on, only_among}
-use Rattle.vt_spec.specs.Machine.World.{Filesystem, Layer, Namespace, Task, World, filesystem_numbered, is_overlay, locations_of, mount_at, no_filesystem}
-use Rattle.vt_spec.proofs.Lists.{Among, among-from_filter, among_from_contains, among_numbers, map_same}
-use Rattle.vt_spec.proofs.Worlds.{same_task_name}
+use Rattle.std.proofs.Common.{arith, ◌≡◌, refl, sym, ap, ◌∙◌, ℕ, nat_eq, Bool, true, false, cond, true≢false, List, [], ◌∷◌, Option, Some, is_some, filter, find, flat_map, map, not, ◌&&◌, ◌||◌, eqb-true, unwrap_or, filter_map}
+use Rattle.vt_spec.proofs.Common.{Among, FileTree, Filesystem, Layer, Location, Mount, MountInvariants, Namespace, Task, TaskName, World, among-from_filter, among_from_contains, among_numbers, common_steps, filesystem_numbered, has_layer_on, holds_all_tasks, holds_of, is_among, is_member_task, is_overlay, is_own_namespace, is_under, list_all, list_any, locations, locations_of, map_same, members, mount_at, no_filesystem, no_outsider_on, no_outsider_on_mounts, numbers_raised, only_among, outsiders, overlays, own_lowers, part_of, raised, raised_if_changed, raised_namespace, raised_task, same_name, same_task_name, share_events, shares_no_events, used_alone, used_directly, used_filesystems, when}
 use Rattle.vt_laws_mounts.proofs.letting_go.Lists.{filter-map, flat_map-map}
 use Rattle.vt_laws_later_calls.proofs.AfterChange.{raised_files}
 use Rattle.vt_laws_sealed.specs.Part.Parts.{SeesTheSame, shown_of}

@@ -1,10 +1,6 @@
 -- Calls of others that change nothing.
 use Rattle.std.proofs.Common.{arith, sym, subst, ℕ, nat_eq, List, []}
-use Rattle.std.proofs.lemmas.Grind.{common_steps}
-use Rattle.vt_spec.specs.Language.Calls.{Call, TaskName}
-use Rattle.vt_spec.specs.Lists.{Fresh}
-use Rattle.vt_spec.specs.Machine.Settled.{settled}
-use Rattle.vt_spec.specs.Machine.World.{World}
+use Rattle.vt_spec.proofs.Common.{Call, Fresh, TaskName, World, common_steps, settled}
 use Rattle.vt_laws_sealed.proofs.part.seals.ByPart.{apart_if_sealed}
 use Rattle.vt_laws_sealed.specs.Outsiders.{IsOutsidersCall}
 use Rattle.vt_laws_sealed.proofs.outsiders.Staying.{LeavesApart}

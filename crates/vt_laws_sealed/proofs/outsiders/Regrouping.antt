@@ -1,18 +1,6 @@
 -- Groups of others that lose their last members, and what mounts of others become.
 use Rattle.std.proofs.Common.{arith, ◌≡◌, refl, sym, ap, subst, ◌∙◌, ◌⊎◌, inl, inr, ⊎_elim, ℕ, nat_eq, Bool, true, false, cond, true≢false, List, [], Option, Some, None, length, map, eq-eqb}
-use Rattle.std.proofs.lemmas.Grind.{common_steps}
-use Rattle.std.specs.List.{list_any}
-use Rattle.std.proofs.lemmas.Bool.{and_parts}
-use Rattle.std.proofs.lemmas.Option.{same_Some}
-use Rattle.vt_spec.specs.Language.Calls.{TaskName}
-use Rattle.vt_spec.specs.Machine.Mounts.{Mount, Propagation, group_of, source_of}
-use Rattle.vt_spec.specs.Machine.Mounts.Propagation.{Private, Shared, Slave, Unbindable}
-use Rattle.vt_spec.specs.Machine.Receives.{groups_up, has_members, heir, inherited, inheriting, is_member_of, regrouped_by, slave_of_heir}
-use Rattle.vt_spec.specs.Machine.Sealed.{master_of, members, other_mounts, own_mounts, shares_no_events}
-use Rattle.vt_spec.specs.Machine.World.{Namespace, Task, World}
-use Rattle.vt_spec.proofs.Found.{find-chain_start, found_among}
-use Rattle.vt_spec.proofs.Lists.{Among, among-from_filter, among-map, among_from_list_all, any_among, any_from_among, is_among_numbers, map_same, map_twice}
-use Rattle.vt_spec.proofs.Options.{none_is_some}
+use Rattle.vt_spec.proofs.Common.{Among, Mount, Namespace, Private, Propagation, Shared, Slave, Task, TaskName, Unbindable, World, among-from_filter, among-map, among_from_list_all, and_parts, any_among, any_from_among, common_steps, find-chain_start, found_among, group_of, groups_up, has_members, heir, inherited, inheriting, is_among_numbers, is_member_of, list_any, map_same, map_twice, master_of, members, none_is_some, other_mounts, own_mounts, regrouped_by, same_Some, shares_no_events, slave_of_heir, source_of}
 use Rattle.vt_laws_mounts.proofs.mounts.Receivers.{along_chain}
 use Rattle.vt_laws_sealed.proofs.part.part.Observed.{own_mounts_same}
 use Rattle.vt_laws_sealed.proofs.part.part.PartOfPart.{keep}

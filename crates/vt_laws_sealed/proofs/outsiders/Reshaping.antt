@@ -1,12 +1,6 @@
 -- Mounts of others with other mount points and types, in their namespaces or in none: the part shows the same of them.
 use Rattle.std.proofs.Common.{arith, ◌≡◌, refl, sym, ap, ◌∙◌, ◌⊎◌, inl, inr, ⊎_elim, ℕ, nat_eq, Bool, true, false, cond, List, Option, Some, None, ◌||◌}
-use Rattle.std.proofs.lemmas.Grind.{common_steps}
-use Rattle.vt_spec.specs.Language.Calls.{TaskName}
-use Rattle.vt_spec.specs.Lists.{holds_of, when}
-use Rattle.vt_spec.specs.Machine.Mounts.{Location, Mount, Propagation}
-use Rattle.vt_spec.specs.Machine.Sealed.{is_at, is_own_mount, is_own_namespace, locations, members, own_mounts, roots_and_directories, seen_by_descriptor}
-use Rattle.vt_spec.specs.Machine.World.{World}
-use Rattle.vt_spec.proofs.Lists.{Among, among-filter}
+use Rattle.vt_spec.proofs.Common.{Among, Location, Mount, Propagation, TaskName, World, among-filter, common_steps, holds_of, is_at, is_own_mount, is_own_namespace, locations, members, own_mounts, roots_and_directories, seen_by_descriptor, when}
 use Rattle.vt_laws_sealed.proofs.part.part.PartOfPart.{is_own, keep}
 use Rattle.vt_laws_sealed.proofs.outsiders.ChangedWorlds.{KeepsOrDetaches}
 use Rattle.vt_laws_sealed.proofs.outsiders.OtherMounts.{not_own}

@@ -1,20 +1,6 @@
 -- What a set of tasks sees is there, where it sees the same: mounts, filesystems and lower layers.
-use Rattle.std.proofs.Common.{arith, ◌≡◌, refl, sym, ap, subst, ◌∙◌, ℕ, nat_eq, Bool, true, false, cond, true≢false, List, [], ◌++◌, Option, Some, None, filter, find, flat_map, map, ◌&&◌, ◌||◌, eqb-true}
-use Rattle.std.proofs.lemmas.Grind.{common_steps}
-use Rattle.std.specs.Prelude.{option_to_list, unwrap_or}
-use Rattle.std.specs.List.{filter_map, list_any}
-use Rattle.vt_spec.specs.FileTree.{FileTree, is_under}
-use Rattle.vt_spec.specs.Language.Calls.{TaskName}
-use Rattle.std.proofs.lemmas.Option.{same_Some}
-use Rattle.vt_spec.specs.Lists.{is_among, when}
-use Rattle.vt_spec.specs.Machine.Locked.{of_overlay, overlay_or}
-use Rattle.vt_spec.specs.Machine.Mounts.{Mount}
-use Rattle.vt_spec.specs.Machine.Sealed.{change_layers, is_at, is_own_mount, locations, members, own_lowers, own_mounts, part_of, roots_and_directories, seen_by_descriptor, used_directly, used_filesystems}
-use Rattle.vt_spec.specs.Machine.Settled.{only_among}
-use Rattle.vt_spec.specs.Machine.World.{Filesystem, Layer, Overlay, Task, World, filesystem_numbered, layers_of, no_filesystem}
-use Rattle.vt_spec.proofs.Found.{found_among, found_passes}
-use Rattle.vt_spec.proofs.Lists.{Among, among-append_left, among-append_right, among-filter_map, among-from_filter, among-from_filter_map, among-from_flat_map, among-from_map}
-use Rattle.vt_spec.proofs.Options.{none_is_some}
+use Rattle.std.proofs.Common.{arith, ◌≡◌, refl, sym, ap, subst, ◌∙◌, ℕ, nat_eq, Bool, true, false, cond, true≢false, List, [], ◌++◌, Option, Some, None, filter, find, flat_map, map, ◌&&◌, ◌||◌, eqb-true, option_to_list, unwrap_or, filter_map}
+use Rattle.vt_spec.proofs.Common.{Among, FileTree, Filesystem, Layer, Mount, Overlay, Task, TaskName, World, among-append_left, among-append_right, among-filter_map, among-from_filter, among-from_filter_map, among-from_flat_map, among-from_map, change_layers, common_steps, filesystem_numbered, found_among, found_passes, is_among, is_at, is_own_mount, is_under, layers_of, list_any, locations, members, no_filesystem, none_is_some, of_overlay, only_among, overlay_or, own_lowers, own_mounts, part_of, roots_and_directories, same_Some, seen_by_descriptor, used_directly, used_filesystems, when}
 use Rattle.vt_laws_sealed.specs.Part.Parts.{SeesTheSame, shown_of}
 use Rattle.vt_laws_sealed.proofs.part.part.Observed.{own_mounts_same}
 use Rattle.vt_laws_sealed.proofs.part.part.PartOfPart.{is_own, keep, kept_how, used_directly_used}

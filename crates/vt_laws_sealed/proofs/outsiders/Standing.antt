@@ -1,24 +1,9 @@
 -- Where a task of others gets: to mounts of its namespace, or where it stands.
-use Rattle.std.proofs.Common.{arith, ◌≡◌, refl, sym, ap, subst, ◌∙◌, ◌⊎◌, inl, inr, ⊎_elim, ℕ, nat_eq, true, List, Option, Some, None, Ok, Err, Result, length, eqb-true}
-use Rattle.std.proofs.lemmas.Grind.{common_steps}
-use Rattle.std.specs.Prelude.{ok_or, option_map}
-use Rattle.std.proofs.lemmas.Bool.{and_parts}
-use Rattle.std.proofs.lemmas.Option.{same_Some}
+use Rattle.std.proofs.Common.{arith, ◌≡◌, refl, sym, ap, subst, ◌∙◌, ◌⊎◌, inl, inr, ⊎_elim, ℕ, nat_eq, true, List, Option, Some, None, Ok, Err, Result, length, eqb-true, ok_or, option_map}
+use Rattle.vt_spec.proofs.Common.{Among, Dot, DotDot, IsWorld, LastWord, Location, Mount, Named, NoWord, Stands, Task, World, among_from_all, among_from_list_all, and_parts, child_at, common_steps, denial, entry_location, found_among, found_or_none, found_passes, hops, is_directory_seen_in, last_or, last_word, looks_of, mount_at, mount_numbered, none_is_some, number-mount_in, root_of, same_Some, stands_at, stands_on_directories, start_of, stepped, topmost, up_from, words}
 use Rattle.vt_spec.specs.declared.errors.Deny.{Deny}
 use Rattle.vt_spec.specs.declared.errors.Rule.TheVariants.{W6}
-use Rattle.vt_spec.specs.Errors.{denial}
-use Rattle.vt_spec.specs.Lists.{last_or}
-use Rattle.vt_spec.specs.Machine.Invariants.{IsWorld, Stands, is_directory_seen_in, stands_on_directories}
-use Rattle.vt_spec.specs.Machine.Looks.{looks_of}
-use Rattle.vt_spec.specs.Machine.Mounts.{Location, Mount, child_at, root_of, stands_at, topmost}
-use Rattle.vt_spec.specs.Machine.Walking.{LastWord, entry_location, hop, hops, last_word, start_of, stepped, up_from}
-use Rattle.vt_spec.specs.Machine.Walking.LastWord.{Dot, DotDot, Named, NoWord}
-use Rattle.vt_spec.specs.Machine.World.{Task, World, mount_at, mount_numbered}
-use Rattle.vt_spec.specs.PathText.{words}
-use Rattle.vt_spec.proofs.Found.{found_among, found_passes}
-use Rattle.vt_spec.proofs.Lists.{Among, among_from_all, among_from_list_all}
-use Rattle.vt_spec.proofs.Options.{none_is_some}
-use Rattle.vt_spec.proofs.Worlds.{found_or_none, number-mount_in}
+use Rattle.vt_spec.specs.Machine.Walking.{hop}
 use Rattle.vt_laws_trees.proofs.trees.TreesEntered.{chain_ends}
 use Rattle.vt_laws_mounts.proofs.mounts.MountsPlaces.{stands_there}
 use Rattle.vt_laws_mounts.proofs.mounts.MountsReplaced.{found_itself}

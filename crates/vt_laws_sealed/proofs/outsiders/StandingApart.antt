@@ -1,12 +1,7 @@
 -- What is known of others and of a sealed set while a call of others is under way: that the set has its mounts, its
 -- namespaces and its groups for itself.
 use Rattle.std.proofs.Common.{◌≡◌, ℕ, nat_eq, true, false, List, Some, None}
-use Rattle.vt_spec.specs.Language.Calls.{TaskName}
-use Rattle.vt_spec.specs.Machine.Invariants.{MountInvariants, is_listed}
-use Rattle.vt_spec.specs.Machine.Mounts.{Mount, group_of}
-use Rattle.vt_spec.specs.Machine.Sealed.{holds_all_tasks, is_at, is_own_namespace, members, no_outsider_on_mounts, roots_and_directories, shares_no_events}
-use Rattle.vt_spec.specs.Machine.World.{World}
-use Rattle.vt_spec.proofs.Lists.{Among}
+use Rattle.vt_spec.proofs.Common.{Among, Mount, MountInvariants, TaskName, World, group_of, holds_all_tasks, is_at, is_listed, is_own_namespace, members, no_outsider_on_mounts, roots_and_directories, shares_no_events}
 
 -- No mount is in a group that has one of the new numbers, and none of these groups has a master.
 pub record StandsApart (world : World ℕ) (names : List TaskName) (New : ℕ → Type 0) : Type 0 where

@@ -1,22 +1,7 @@
 -- A call of a task outside a sealed set leaves it sealed, if the set sees the same and others stay outside.
 use Rattle.std.proofs.Common.{arith, ◌≡◌, refl, sym, ap, subst, ◌∙◌, ◌⊎◌, inl, inr, ⊎_elim, ℕ, nat_eq, Bool, true, false, List, [], ◌++◌, append-nil, Some, Result, Ok, Err, map, not, ◌||◌}
-use Rattle.std.proofs.lemmas.Grind.{common_steps}
-use Rattle.std.specs.List.{list_all, list_any}
-use Rattle.std.proofs.lemmas.Bool.{and_from, and_parts, or_cases, or_left, or_right}
+use Rattle.vt_spec.proofs.Common.{Among, Answer, Call, Filesystem, Fresh, IsWorld, Permit, Task, TaskName, World, among-append, among-from_filter, among-map, among_from_contains, among_from_list_all, and_from, and_parts, apply, common_steps, filesystems_changed, has_layer_on, holds_all_tasks, is_among, is_among_numbers, is_overlay, judge_in, list_all, list_all_from_among, list_any, no_outsider_on, no_outsider_on_mounts, numbers_raised, only_looks, or_cases, or_left, or_right, overlays, policy, settled, shares_no_events, task_called, used_alone, used_filesystems}
 use Rattle.vt_spec.specs.declared.errors.Deny.{Deny}
-use Rattle.vt_spec.specs.Language.Answers.{Answer}
-use Rattle.vt_spec.specs.Language.Calls.{Call, TaskName}
-use Rattle.vt_spec.specs.Lists.{Fresh, is_among}
-use Rattle.vt_spec.specs.Machine.Apply.{apply, filesystems_changed}
-use Rattle.vt_spec.specs.Machine.Invariants.{IsWorld}
-use Rattle.vt_spec.specs.Machine.Judge.{judge_in}
-use Rattle.vt_spec.specs.Machine.Locked.{overlays}
-use Rattle.vt_spec.specs.Machine.Permits.{Permit}
-use Rattle.vt_spec.specs.Machine.Policy.{numbers_raised, only_looks, policy}
-use Rattle.vt_spec.specs.Machine.Sealed.{holds_all_tasks, no_outsider_on, no_outsider_on_mounts, shares_no_events, used_alone, used_filesystems}
-use Rattle.vt_spec.specs.Machine.Settled.{has_layer_on, settled}
-use Rattle.vt_spec.specs.Machine.World.{Filesystem, Task, World, is_overlay, task_called}
-use Rattle.vt_spec.proofs.Lists.{Among, among-append, among-from_filter, among-map, among_from_contains, among_from_list_all, is_among_numbers, list_all_from_among}
 use Rattle.vt_laws_rules.proofs.denials.Unchanged.{look_changes_nothing}
 use Rattle.vt_laws_rules.proofs.rules.OwnRules.{denial_changes_nothing}
 use Rattle.vt_laws_worlds.proofs.overlay_permits.worlds.EveryCall.{every_call_keeps_worlds}

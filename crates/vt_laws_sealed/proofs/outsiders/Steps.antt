@@ -1,16 +1,6 @@
 -- Steps of a call of others, one after the other: what each leaves of a sealed set is left by all.
-use Rattle.std.proofs.Common.{arith, ◌≡◌, sym, ap, subst, ◌∙◌, ℕ, nat_eq, List, [], Some, map}
-use Rattle.std.proofs.lemmas.Grind.{common_steps}
-use Rattle.std.specs.Prelude.{Contains}
-use Rattle.std.specs.List.{filter_map, list_any}
-use Rattle.vt_spec.specs.Language.Calls.{TaskName}
-use Rattle.vt_spec.specs.Lists.{is_among}
-use Rattle.vt_spec.specs.Machine.Invariants.{MountInvariants}
-use Rattle.vt_spec.specs.Machine.Mounts.{Location, Mount}
-use Rattle.vt_spec.specs.Machine.Receives.{is_member_of}
-use Rattle.vt_spec.specs.Machine.Sealed.{is_own_namespace, members, own_lowers, roots_and_directories, used_filesystems}
-use Rattle.vt_spec.specs.Machine.World.{Namespace, Task, World}
-use Rattle.vt_spec.proofs.Lists.{Among}
+use Rattle.std.proofs.Common.{arith, ◌≡◌, sym, ap, subst, ◌∙◌, ℕ, nat_eq, List, [], Some, map, Contains, filter_map}
+use Rattle.vt_spec.proofs.Common.{Among, Location, Mount, MountInvariants, Namespace, Task, TaskName, World, common_steps, is_among, is_member_of, is_own_namespace, list_any, members, own_lowers, roots_and_directories, used_filesystems}
 use Rattle.vt_laws_sealed.specs.Part.Parts.{SeesTheSame, shown_of}
 use Rattle.vt_laws_sealed.proofs.part.part.Observed.{directly_same, lowers_same, own_mounts_same, used_same}
 use Rattle.vt_laws_sealed.proofs.outsiders.StandingApart.{NothingNew, StandsApart}

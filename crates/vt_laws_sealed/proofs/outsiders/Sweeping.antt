@@ -1,20 +1,6 @@
 -- The sweep at the end of a call takes nothing that a sealed set uses.
 use Rattle.std.proofs.Common.{arith, ◌≡◌, sym, ap, ◌∙◌, ℕ, nat_eq, true, false, List, [], Option, Some, None, not, eqb-true}
-use Rattle.std.proofs.lemmas.Grind.{common_steps}
-use Rattle.std.specs.List.{list_all, list_any}
-use Rattle.std.proofs.lemmas.Bool.{and_parts, not-true}
-use Rattle.vt_spec.specs.Language.Calls.{TaskName}
-use Rattle.vt_spec.specs.Lists.{any_pair}
-use Rattle.vt_spec.specs.Machine.Invariants.{ListsNumbers, OverlayInvariants, TreeInvariants, is_plain_layer}
-use Rattle.vt_spec.specs.Machine.Locked.{of_overlay, overlay_or}
-use Rattle.vt_spec.specs.Machine.Mounts.{Mount}
-use Rattle.vt_spec.specs.Machine.Sealed.{own_lowers, sealed}
-use Rattle.vt_spec.specs.Machine.Settled.{filesystem_lives, mount_lives, only_used, settled, without_dead_filesystems, without_dead_in, without_dead_inodes, without_dead_mounts}
-use Rattle.vt_spec.specs.Machine.World.{Filesystem, Layer, Overlay, World, filesystem_numbered, is_overlay, layers_of}
-use Rattle.vt_spec.specs.Tree.{is_directory_node}
-use Rattle.vt_spec.specs.TreeInvariant.{HasOwnParents, IsTree}
-use Rattle.vt_spec.proofs.Lists.{Among, pair-filter, pair-map, among-from_filter, among-from_map, among_from_all, among_from_list_all, any_among}
-use Rattle.vt_spec.proofs.Options.{none_from_not_some}
+use Rattle.vt_spec.proofs.Common.{Among, Filesystem, HasOwnParents, IsTree, Layer, ListsNumbers, Mount, Overlay, OverlayInvariants, TaskName, TreeInvariants, World, among-from_filter, among-from_map, among_from_all, among_from_list_all, and_parts, any_among, any_pair, common_steps, filesystem_lives, filesystem_numbered, is_directory_node, is_overlay, is_plain_layer, layers_of, list_all, list_any, mount_lives, none_from_not_some, not-true, number-only_used, of_overlay, only_used, overlay_or, own_lowers, pair-filter, pair-map, sealed, settled, without_dead_filesystems, without_dead_in, without_dead_inodes, without_dead_mounts}
 use Rattle.vt_laws_mounts.proofs.letting_go.sweeps.OfWorlds.{found_filesystem}
 use Rattle.vt_laws_mounts.specs.Mounts.Invariants.{OneNumberEach}
 use Rattle.vt_laws_worlds.proofs.overlay_permits.kept.KeptOverlays.{overlays_in, trees_in}
@@ -25,7 +11,6 @@ use Rattle.vt_laws_sealed.proofs.outsiders.InodesSwept.{IsLowerTree, inodes_swep
 use Rattle.vt_laws_sealed.proofs.outsiders.OthersSwept.{others_swept}
 use Rattle.vt_laws_sealed.proofs.outsiders.SeenLater.{lower_of, used_later}
 use Rattle.vt_laws_sealed.proofs.outsiders.Staying.{LeavesApart}
-use Rattle.vt_spec.proofs.Worlds.{number-only_used}
 
 -- All steps of the sweep
 module _ (world before : World ℕ) (names : List TaskName) (apart : IsApart world names)

@@ -1,22 +1,6 @@
 -- Mounts of others that are taken away: what is left for the set.
-use Rattle.std.proofs.Common.{arith, ◌≡◌, refl, sym, ap, subst, ◌∙◌, ⊎_elim, inl, inr, ℕ, nat_eq, Bool, true, false, cond, true≢false, List, [], Option, Some, None, length, map}
-use Rattle.std.proofs.lemmas.Grind.{common_steps}
-use Rattle.std.specs.Prelude.{option_map}
-use Rattle.std.specs.List.{list_any}
-use Rattle.std.proofs.lemmas.Option.{same_Some}
-use Rattle.std.proofs.lemmas.Bool.{false_from_ne_true}
-use Rattle.vt_spec.specs.Language.Calls.{TaskName}
-use Rattle.vt_spec.specs.Lists.{holds_of}
-use Rattle.vt_spec.specs.Machine.Detach.{taken_away, after_going, is_going, mount_point_left, mount_point_of_parent}
-use Rattle.vt_spec.specs.Machine.Invariants.{Stands}
-use Rattle.vt_spec.specs.Machine.Mounts.{Location, Mount, detached}
-use Rattle.vt_spec.specs.Machine.Mounts.Propagation.{Private}
-use Rattle.vt_spec.specs.Machine.Receives.{lost_a_group, regrouped_by}
-use Rattle.vt_spec.specs.Machine.Sealed.{is_own_mount, is_own_namespace, other_mounts, own_mounts, sealed}
-use Rattle.vt_spec.specs.Machine.Settled.{settled}
-use Rattle.vt_spec.specs.Machine.World.{Namespace, Task, World, mount_at, mount_numbered, with_mounts}
-use Rattle.vt_spec.proofs.Lists.{Among, among-from_filter, among-from_map, among_from_all, pair-map}
-use Rattle.vt_spec.proofs.Options.{none_is_some}
+use Rattle.std.proofs.Common.{arith, ◌≡◌, refl, sym, ap, subst, ◌∙◌, ⊎_elim, inl, inr, ℕ, nat_eq, Bool, true, false, cond, true≢false, List, [], Option, Some, None, length, map, option_map}
+use Rattle.vt_spec.proofs.Common.{Among, Location, Mount, Namespace, Private, Stands, Task, TaskName, World, after_going, among-from_filter, among-from_map, among_from_all, common_steps, detached, false_from_ne_true, holds_of, is_going, is_own_mount, is_own_namespace, list_any, lost_a_group, mount_at, mount_numbered, mount_point_left, mount_point_of_parent, none_is_some, other_mounts, own_mounts, pair-map, regrouped_by, same_Some, sealed, settled, taken_away, with_mounts}
 use Rattle.vt_laws_trees.proofs.trees.TreesEntered.{chain_ends}
 use Rattle.vt_laws_mounts.specs.Mounts.Invariants.{OneNumberEach}
 use Rattle.vt_laws_mounts.proofs.mounts.MountsReplaced.{found_itself}

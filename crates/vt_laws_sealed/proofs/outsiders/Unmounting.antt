@@ -1,27 +1,6 @@
 -- Mounts of others that are unmounted, with those that an event takes away: umount(2).
-use Rattle.std.proofs.Common.{arith, ◌≡◌, refl, sym, ap, subst, ◌∙◌, ⊎_elim, ℕ, nat_eq, Bool, true, false, true≢false, List, [], ◌∷◌, Option, Some, None, Ok, map}
-use Rattle.std.proofs.lemmas.Grind.{common_steps}
-use Rattle.std.specs.Prelude.{option_map, unwrap_or}
-use Rattle.std.specs.List.{filter_map}
-use Rattle.std.proofs.lemmas.Bool.{false_from_ne_true}
-use Rattle.vt_spec.specs.Language.Calls.{Call, TaskName}
-use Rattle.vt_spec.specs.Language.Calls.Call.{Umount}
-use Rattle.vt_spec.specs.Lists.{Fresh, holds_of}
-use Rattle.vt_spec.specs.Machine.Apply.{apply}
-use Rattle.vt_spec.specs.Machine.Attach.{receivers_of}
-use Rattle.vt_spec.specs.Machine.Detach.{going, going_at, going_from, goes_at, is_going}
-use Rattle.vt_spec.specs.Machine.Invariants.{Stands}
-use Rattle.vt_spec.specs.Machine.Judge.{judge_in}
-use Rattle.vt_spec.specs.Machine.Mounts.{Location, Mount, child_at, group_of, is_shared, stands_at}
-use Rattle.vt_spec.specs.Machine.Permits.Permit.{ToUnmount}
-use Rattle.vt_spec.specs.Machine.Receives.{receivers, receives}
-use Rattle.vt_spec.specs.Machine.Sealed.{is_own_mount, is_own_namespace, other_mounts, own_mounts}
-use Rattle.vt_spec.specs.Machine.Settled.{settled}
-use Rattle.vt_spec.specs.Machine.World.{Task, World, mount_at, mount_numbered, task_called}
-use Rattle.vt_spec.proofs.Found.{found_among, found_passes}
-use Rattle.vt_spec.proofs.Lists.{Among, among-filter, among-from_filter, among-from_filter_map, among-from_map, among_from_all, among_numbers, contains_from_among}
-use Rattle.vt_spec.proofs.Options.{none_is_some}
-use Rattle.vt_spec.proofs.Worlds.{found_or_none, number-mount_in}
+use Rattle.std.proofs.Common.{arith, ◌≡◌, refl, sym, ap, subst, ◌∙◌, ⊎_elim, ℕ, nat_eq, Bool, true, false, true≢false, List, [], ◌∷◌, Option, Some, None, Ok, map, option_map, unwrap_or, filter_map}
+use Rattle.vt_spec.proofs.Common.{Among, Call, Fresh, Location, Mount, Stands, Task, TaskName, ToUnmount, Umount, World, among-filter, among-from_filter, among-from_filter_map, among-from_map, among_from_all, among_numbers, apply, child_at, common_steps, contains_from_among, false_from_ne_true, found_among, found_or_none, found_passes, goes_at, going, going_at, going_from, group_of, holds_of, is_going, is_own_mount, is_own_namespace, is_shared, judge_in, mount_at, mount_numbered, none_is_some, number-mount_in, other_mounts, own_mounts, receivers, receivers_of, receives, settled, stands_at, task_called}
 use Rattle.vt_laws_trees.specs.Trees.Calls.{mounts_overlay}
 use Rattle.vt_laws_mounts.proofs.mounts.MountsPlaces.{stands_there}
 use Rattle.vt_laws_mounts.proofs.mounts.MountsReplaced.{found_itself}

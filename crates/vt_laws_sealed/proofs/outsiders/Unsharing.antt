@@ -1,22 +1,6 @@
 -- Others that get a namespace of their own, with copies of the mounts of theirs: unshare(2) with CLONE_NEWNS.
-use Rattle.std.proofs.Common.{arith, ◌≡◌, refl, sym, ap, subst, ◌∙◌, ◌⊎◌, inl, inr, ⊎_elim, ℕ, nat_eq, Bool, true, false, cond, true≢false, List, [], ◌∷◌, ◌++◌, append-nil, Option, Some, None, filter, flat_map, map, ◌+◌, ◌*◌, not, eqb-true}
-use Rattle.std.proofs.lemmas.Grind.{common_steps}
-use Rattle.std.specs.List.{filter_map, list_all, list_any}
-use Rattle.std.proofs.lemmas.Bool.{and_from, and_parts, false_from_ne_true, not-true}
-use Rattle.std.proofs.lemmas.List.Elements.{filter-append, filter_map-append}
-use Rattle.vt_spec.specs.Language.Calls.{Call, TaskName}
-use Rattle.vt_spec.specs.Lists.{Fresh, evens, holds_of, odds}
-use Rattle.vt_spec.specs.Machine.Apply.{apply}
-use Rattle.vt_spec.specs.Machine.Invariants.{is_listed}
-use Rattle.vt_spec.specs.Machine.Mounts.{Location, Mount, Propagation, index_of, numbers_by}
-use Rattle.vt_spec.specs.Machine.Namespaces.{copied_mount, is_copied, location_on_copy, namespaces_ended, unshared, unshared_task}
-use Rattle.vt_spec.specs.Machine.Permits.Permit.{ToUnshare}
-use Rattle.vt_spec.specs.Machine.Run.{Serves, used_by_filesystem, used_by_mount}
-use Rattle.vt_spec.specs.Machine.Sealed.{is_at, is_member_task, is_own_mount, is_own_namespace, locations, master_of, members, no_outsider_on, other_mounts, outsiders, roots_and_directories}
-use Rattle.vt_spec.specs.Machine.Settled.{settled}
-use Rattle.vt_spec.specs.Machine.World.{Namespace, Task, World, all_locations, locations_of, mount_at, mount_numbered, mounts_of, task_called}
-use Rattle.vt_spec.proofs.Found.{is_among_right}
-use Rattle.vt_spec.proofs.Lists.{Among, among-append, among-append_left, among-filter, among-flat_map, among-from_filter, among-from_flat_map, among-from_map, among-map, among_from_list_all, among_numbers, any_among, is_among_numbers, list_all_from_among, none_among, none_from_among}
+use Rattle.std.proofs.Common.{arith, ◌≡◌, refl, sym, ap, subst, ◌∙◌, ◌⊎◌, inl, inr, ⊎_elim, ℕ, nat_eq, Bool, true, false, cond, true≢false, List, [], ◌∷◌, ◌++◌, append-nil, Option, Some, None, filter, flat_map, map, ◌+◌, ◌*◌, not, eqb-true, filter_map}
+use Rattle.vt_spec.proofs.Common.{Among, Call, Fresh, Location, Mount, Namespace, Propagation, Serves, Task, TaskName, ToUnshare, World, all_locations, among-append, among-append_left, among-filter, among-flat_map, among-from_filter, among-from_flat_map, among-from_map, among-map, among_from_list_all, among_numbers, and_from, and_parts, any_among, apply, common_steps, copied_mount, evens, false_from_ne_true, filter-append, filter_map-append, holds_of, index_of, is_among_numbers, is_among_right, is_at, is_copied, is_listed, is_member_task, is_own_mount, is_own_namespace, list_all, list_all_from_among, list_any, location_on_copy, locations, locations_of, master_of, members, mount_at, mount_numbered, mounts_of, namespaces_ended, no_outsider_on, none_among, none_from_among, not-true, numbers_by, odds, other_mounts, outsiders, roots_and_directories, settled, task_called, unshared, unshared_task, used_by_filesystem, used_by_mount}
 use Rattle.vt_laws_mounts.proofs.ends.Ending.{ended_namespaces_keep_mounts}
 use Rattle.vt_laws_mounts.proofs.namespaces.Unsharing.{unshare_keeps_mounts}
 use Rattle.vt_laws_worlds.proofs.worlds.Roots.{found_copy}

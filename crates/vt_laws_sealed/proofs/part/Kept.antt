@@ -1,10 +1,6 @@
 -- Lists of which something is kept: filters, searches and lists that agree.
-use Rattle.std.proofs.lemmas.Grind.{common_steps}
-use Rattle.std.proofs.Common.{◌≡◌, refl, ap, inl, inr, ⊎_elim, ℕ, nat_eq, Bool, true, false, List, [], ◌∷◌, Option, Some, map, filter, find, not, eqb-true, length, ◌≤◌, arith}
-use Rattle.std.specs.Prelude.{unwrap_or}
-use Rattle.std.specs.List.{cons_option, filter_map}
-use Rattle.vt_spec.specs.Lists.{each_once}
-use Rattle.vt_spec.proofs.Lists.{Among, among-filter, among-from_filter, filter_here, filter_skip}
+use Rattle.std.proofs.Common.{◌≡◌, refl, ap, inl, inr, ⊎_elim, ℕ, nat_eq, Bool, true, false, List, [], ◌∷◌, Option, Some, map, filter, find, not, eqb-true, length, ◌≤◌, arith, unwrap_or, filter_map}
+use Rattle.vt_spec.proofs.Common.{Among, among-filter, among-from_filter, common_steps, cons_option, each_once, filter_here, filter_skip}
 
 -- lists of what is alike are alike
 pub filter_map_same : {A B : Type 0} (f g : A → Option B) (xs : List A) → ((x : A) → Among x xs → f x ≡ g x)

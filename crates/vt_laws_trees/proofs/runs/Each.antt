@@ -1,9 +1,7 @@
 -- Two lists of which each two elements at one place stand in a relation.
-use Rattle.std.proofs.Common.{arith, ◌≡◌, refl, subst, Bool, true, false, cond, ◌||◌, List, [], ◌∷◌, ◌++◌, map, filter, find, flat_map, Option, Some, None}
-use Rattle.std.proofs.lemmas.Grind.{common_steps}
-use Rattle.std.specs.Prelude.{unwrap_or, ⊤}
-use Rattle.std.specs.List.{list_any}
-use Rattle.vt_spec.proofs.Options.{cons-first, cons-rest}
+use Rattle.std.proofs.Common.{arith, ◌≡◌, refl, subst, Bool, true, false, cond, ◌||◌, List, [], ◌∷◌, ◌++◌, map, filter, find, flat_map, Option, Some, None, unwrap_or}
+use Rattle.vt_spec.proofs.Common.{common_steps, cons-rest, list_any, ⊤}
+use Rattle.vt_spec.proofs.Options.{cons-first}
 
 module _ {A B : Type 0} (R : A → B → Type 0) where
   abbrev pub Each : List A → List B → Type 0

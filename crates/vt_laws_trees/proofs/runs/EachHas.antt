@@ -1,11 +1,7 @@
 -- What holds of one list holds of another, of which each two elements at one place stand in a relation.
-use Rattle.std.proofs.Common.{◌≡◌, refl, Bool, ◌&&◌, ◌||◌, inl, inr, subst, sym, List, [], ◌∷◌}
-use Rattle.std.specs.Prelude.{All}
-use Rattle.std.specs.List.{list_all}
-use Rattle.std.proofs.lemmas.List.Elements.{All-cons, All-head, All-nil, All-tail}
-use Rattle.vt_spec.proofs.Lists.{Among}
+use Rattle.std.proofs.Common.{◌≡◌, refl, Bool, ◌&&◌, ◌||◌, inl, inr, subst, sym, List, [], ◌∷◌, All}
+use Rattle.vt_spec.proofs.Common.{All-cons, All-head, All-nil, All-tail, Among, any_pair, list_all}
 use Rattle.vt_laws_trees.proofs.runs.Each.{Each, each_any}
-use Rattle.vt_spec.specs.Lists.{any_pair}
 
 module _ {A B : Type 0} (R : A → B → Type 0) where
   pub each_all : (p : A → Bool) (q : B → Bool) → ((a : A) (b : B) → R a b → p a ≡ q b)

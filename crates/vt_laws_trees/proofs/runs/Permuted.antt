@@ -1,9 +1,7 @@
 -- What is made of a list in another order.
-use Rattle.std.proofs.lemmas.Grind.{common_steps}
-use Rattle.std.proofs.Common.{◌≡◌, refl, ap, ◌∙◌, ℕ, zero, suc, ◌<◌, Bool, true, false, cond, ◌&&◌, List, [], ◌∷◌, length, get_or, set, swap, filter, flat_map, append_assoc, arith}
-use Rattle.std.specs.List.{list_all}
-use Rattle.std.specs.List.Sorted.{IsPermutation}
-use Rattle.std.proofs.lemmas.List.Sorted.{IsPermutation-append_comm, IsPermutation-append_left, IsPermutation-append_right, IsPermutation-keeps, IsPermutation-refl, IsPermutation-trans}
+use Rattle.std.proofs.Common.{◌≡◌, refl, ap, ◌∙◌, ℕ, zero, suc, ◌<◌, Bool, true, false, cond, ◌&&◌, List, [], ◌∷◌, length, get_or, set, swap, filter, flat_map, append_assoc, arith, IsPermutation}
+use Rattle.vt_spec.proofs.Common.{IsPermutation-append_left, IsPermutation-append_right, IsPermutation-refl, IsPermutation-trans, common_steps, list_all}
+use Rattle.std.proofs.lemmas.List.Sorted.{IsPermutation-append_comm, IsPermutation-keeps}
 
 -- A relation holds along each permutation if it is reflexive and transitive, and goes under a head and over an exchange
 -- of two heads.

@@ -1,22 +1,8 @@
 -- Every call but the mount of an overlay leaves a world of trees.
-use Rattle.std.proofs.Common.{arith, eqb-true, ◌≡◌, refl, sym, ap, subst, true≢false, ℕ, nat_eq, eq-eqb, Bool, true, false, not, cond, List, [], ◌∷◌, ◌++◌, Option, Some, None, is_some, ok_or, inl, inr, ◌*◌}
-use Rattle.std.proofs.lemmas.Grind.{common_steps}
-use Rattle.std.specs.Prelude.{unwrap_or}
-use Rattle.std.specs.List.{All}
-use Rattle.std.proofs.lemmas.List.Elements.{All-append, All-cons, All-filter, All-map, All-nil, All-weaker}
+use Rattle.std.proofs.Common.{arith, eqb-true, ◌≡◌, refl, sym, ap, subst, true≢false, ℕ, nat_eq, eq-eqb, Bool, true, false, not, cond, List, [], ◌∷◌, ◌++◌, Option, Some, None, is_some, ok_or, inl, inr, ◌*◌, unwrap_or, All}
+use Rattle.vt_spec.proofs.Common.{Access, All-append, All-cons, All-filter, All-map, All-nil, All-weaker, Call, Change, CopyUp, Filesystem, Fresh, Here, IsNewIn, Location, Mount, Node, NoneFails, Outcome, Permit, Place, SetBytes, SetMark, Task, TaskName, ToMountPlain, ToOpen, World, apply, call_outcome, common_steps, denial, entries_in, entries_in-no_directory, evens, file_mode, files_at, filesystem_lives, filesystems-taken_away, filesystems_raised, finished_by, first_mount, is_copied_up, is_directory_at, is_directory_node, is_directory_there, is_overlay, is_special, linking, looks_of, making, mount_in, moving, new_directory, new_file, new_name_rules, new_plain, nil_from_not_some, no_filesystem, no_mount, node_at, none_is_not, object_there, odds, only_used, open_new_permit, opening, or_false_left, overfills, parent_in, plain_filesystem, pwritten, removing, root_attr, root_of, settled, special_word, symlink_walk, taken_away, task_called, with_change, with_copy, with_new, without_dead_filesystems, without_dead_in, without_dead_mounts, without_replaced}
 use Rattle.vt_spec.specs.declared.errors.Rule.TheVariants.{S2}
-use Rattle.vt_spec.specs.Errors.{denial, NoneFails}
-use Rattle.vt_spec.specs.Tree.{Node, is_directory_node, new_directory, parent_in, entries_in}
-use Rattle.vt_spec.specs.Language.Calls.{Call, TaskName, Access}
-use Rattle.vt_spec.specs.Machine.Filesystems.{filesystems_raised, with_change}
-use Rattle.vt_spec.specs.Lists.{Fresh, evens, odds}
-use Rattle.vt_spec.specs.Machine.Mounts.{Location, Mount, mount_in, no_mount, root_of}
-use Rattle.vt_spec.specs.Machine.NewMounts.{plain_filesystem}
-use Rattle.vt_spec.specs.Machine.Outcomes.{Outcome}
-use Rattle.vt_spec.specs.Machine.Policy.{call_outcome, finished_by}
-use Rattle.vt_spec.specs.Machine.Settled.{filesystem_lives, only_used, settled, without_dead_filesystems, without_dead_in, without_dead_mounts}
-use Rattle.vt_spec.specs.Machine.World.{Filesystem, Task, World, first_mount, is_directory_at, is_overlay, new_plain, new_tree, no_filesystem, opening, root_attr, task_called, files_at, node_at}
-use Rattle.vt_spec.proofs.Nodes.{none_is_not}
+use Rattle.vt_spec.specs.Machine.World.{new_tree}
 use Rattle.vt_spec.proofs.Trees.{is_tree-tree_of_root}
 use Rattle.vt_laws_trees.specs.Trees.{IsFileTree, IsProper}
 use Rattle.vt_laws_trees.specs.Trees.Calls.{AreNew, CallsKeepTrees, IsStanding, IsWorldOfTrees, OpeningHasTrees, mounts_overlay}
@@ -31,24 +17,6 @@ use Rattle.vt_laws_rules.proofs.given.CallsGranted.{call_holds}
 use Rattle.vt_laws_rules.specs.Plain.{IsPlain}
 use Rattle.vt_laws_rules.specs.Granted.{IsGranted, directory_made, symlink_made, whiteout_made}
 use Rattle.vt_laws_rules.specs.Granted.IsGranted.{changes_mark, changes_mode, changes_owner, creates, creates_exclusively, makes_directory, makes_hard_link, makes_symlink, makes_whiteout, mounts_overlayfs, mounts_tmpfs, opens, opens_existing, overwrites_file, removes_directory, renames, unlinks, writes_new_file, writes_part}
-use Rattle.vt_spec.proofs.NodeChanges.{entries_in-no_directory, nil_from_not_some}
-use Rattle.vt_spec.proofs.Tables.{with_new}
-use Rattle.vt_spec.proofs.Truths.{or_false_left}
-use Rattle.vt_spec.proofs.Walk.{new_name_rules}
-use Rattle.vt_spec.proofs.Worlds.{filesystems-taken_away, special_word}
-use Rattle.vt_spec.specs.Language.Changes.{Change}
-use Rattle.vt_spec.specs.Language.Changes.Change.{CopyUp, SetBytes, SetMark}
-use Rattle.vt_spec.specs.Laws.Trees.{IsNewIn}
-use Rattle.vt_spec.specs.Machine.Apply.{apply, overfills}
-use Rattle.vt_spec.specs.Machine.Descriptors.{is_copied_up, pwritten, with_copy}
-use Rattle.vt_spec.specs.Machine.Detach.{taken_away, without_replaced}
-use Rattle.vt_spec.specs.Machine.Judge.{open_new_permit}
-use Rattle.vt_spec.specs.Machine.Looks.{looks_of}
-use Rattle.vt_spec.specs.Machine.Permits.{Permit}
-use Rattle.vt_spec.specs.Machine.Permits.Permit.{ToMountPlain, ToOpen}
-use Rattle.vt_spec.specs.Machine.Rows.{file_mode, linking, making, new_file}
-use Rattle.vt_spec.specs.Machine.Rules.Removing.{moving, object_there, removing}
-use Rattle.vt_spec.specs.Machine.Walking.{Here, Place, is_directory_there, is_special, symlink_walk}
 use Rattle.vt_laws_trees.proofs.trees.PlacesReached.{file_is, new_is, new_leaf_is, old_is, old_leaf_is, rename_new_is}
 use Rattle.vt_laws_trees.proofs.trees.TreesEntered.{ends_link_walk}
 

@@ -1,12 +1,7 @@
 -- What is linked is there, and is no directory.
 use Rattle.std.proofs.Common.{eqb-true, ◌≡◌, sym, ap, ◌∙◌, ℕ, nat_eq, true, false, is_some}
-use Rattle.vt_spec.specs.Errors.{NoneFails}
-use Rattle.vt_spec.specs.Tree.{is_directory_node}
-use Rattle.vt_spec.specs.Machine.Mounts.{Location}
+use Rattle.vt_spec.proofs.Common.{Location, NoneFails, Place, Task, World, files_at, is_directory_node, is_special, linking, name_of, node_at}
 use Rattle.vt_spec.proofs.Tables.{hard_link_rules}
-use Rattle.vt_spec.specs.Machine.Rows.{linking}
-use Rattle.vt_spec.specs.Machine.Walking.{Place, is_special, name_of}
-use Rattle.vt_spec.specs.Machine.World.{Task, World, files_at, node_at}
 use Rattle.vt_laws_trees.specs.Trees.{IsFileTree, MayAddName}
 use Rattle.vt_laws_trees.proofs.trees.ChangesByRemoving.{shown}
 use Rattle.vt_laws_trees.proofs.trees.ChangesOfCalls.{place_is_free}

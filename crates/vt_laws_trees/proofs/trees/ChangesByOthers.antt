@@ -1,16 +1,7 @@
 -- Permits that change no file leave the filesystems.
 use Rattle.std.proofs.Common.{arith, ◌≡◌, refl, ◌∙◌, ℕ, nat_eq, Bool, true, false, cond, List, [], ◌∷◌, true≢false}
-use Rattle.std.proofs.lemmas.Grind.{common_steps}
-use Rattle.vt_spec.specs.Language.Calls.{TypeWord}
-use Rattle.vt_spec.specs.Machine.Detach.{unmounted, unmounted_if_there}
-use Rattle.vt_spec.specs.Lists.{Fresh, folded}
-use Rattle.vt_spec.specs.Machine.Mounts.{Mount}
-use Rattle.vt_spec.specs.Machine.World.{Task, World}
-use Rattle.vt_spec.specs.Machine.Types.{with_type}
-use Rattle.vt_spec.proofs.Worlds.{filesystems-regrouped, filesystems-taken_away}
-use Rattle.vt_spec.specs.Machine.Apply.{apply}
-use Rattle.vt_spec.specs.Machine.Permits.{Permit}
-use Rattle.vt_spec.specs.Machine.Permits.Permit.{ToChange, ToMake, ToMountOverlay, ToMountPlain, ToOpen, ToOpenNew, ToRemoveDirectory, ToRename, ToWritePart}
+use Rattle.vt_spec.proofs.Common.{Fresh, Mount, Permit, Task, ToChange, ToMake, ToMountOverlay, ToMountPlain, ToOpen, ToOpenNew, ToRemoveDirectory, ToRename, ToWritePart, TypeWord, World, apply, common_steps, filesystems-taken_away, folded, unmounted, unmounted_if_there, with_type}
+use Rattle.vt_spec.proofs.Worlds.{filesystems-regrouped}
 
 -- Mounts that go, or get another type, leave the filesystems
 

@@ -1,27 +1,12 @@
 -- What is removed and renamed may be.
-use Rattle.std.proofs.Common.{arith, eqb-true, ◌≡◌, ◌≢◌, refl, sym, ap, subst, ◌∙◌, true≢false, ℕ, nat_eq, eq-eqb, Bool, true, false, not, List, [], ◌∷◌, ◌&&◌, Option, Some, None, is_some, option_map}
-use Rattle.std.proofs.lemmas.Grind.{common_steps}
-use Rattle.vt_spec.specs.Errors.{NoneFails}
-use Rattle.std.specs.Prelude.{unwrap_or}
-use Rattle.vt_spec.specs.Tree.{entries_in, entry_named, is_directory_node}
-use Rattle.vt_spec.specs.TreeInvariant.{IsDirectory, IsReached, IsTree, entry_at, led}
-use Rattle.vt_spec.specs.FileTree.{FileTree, is_directory_under}
-use Rattle.vt_spec.specs.Lists.{holds_of}
-use Rattle.vt_spec.specs.Machine.Mounts.{Location}
+use Rattle.std.proofs.Common.{arith, eqb-true, ◌≡◌, ◌≢◌, refl, sym, ap, subst, ◌∙◌, true≢false, ℕ, nat_eq, eq-eqb, Bool, true, false, not, List, [], ◌∷◌, ◌&&◌, Option, Some, None, is_some, option_map, unwrap_or}
+use Rattle.vt_spec.proofs.Common.{FileTree, IsDirectory, IsReached, IsTree, Location, NoneFails, Place, Task, World, and_from, common_steps, directory_from_entry, entries_in, entries_in-no_directory, entry_at, entry_named, files_at, found, holds_of, is_directory_at, is_directory_node, is_directory_under, is_removed_at, is_special, led, mount_at, name_of, new_name_rules, nil_from_not_some, node_at, none_is_not, not-false, object_there, same_Some}
 use Rattle.vt_spec.proofs.Tables.{is_nonempty, is_one_object, rename_rules, same_filesystem}
-use Rattle.vt_spec.specs.Machine.Rules.Removing.{object_there}
-use Rattle.vt_spec.specs.Machine.Walking.{Place, is_special, name_of}
-use Rattle.vt_spec.proofs.Walk.{entry_location, new_name_rules}
-use Rattle.vt_spec.specs.Machine.World.{Task, World, files_at, is_directory_at, is_removed_at, mount_at, node_at}
-use Rattle.vt_spec.proofs.Nodes.{none_is_not}
-use Rattle.vt_spec.proofs.Trees.{found}
+use Rattle.vt_spec.proofs.Walk.{entry_location}
 use Rattle.vt_laws_trees.specs.Trees.{IsFileTree, MayMove, MayRemove}
 use Rattle.vt_laws_trees.proofs.trees.TreesAbove.{under_seen}
 use Rattle.vt_laws_trees.proofs.trees.TreesReached.{filled_reached, not_removed_reached}
 use Rattle.vt_laws_trees.proofs.trees.TreesWalked.{IsPlace, place_named}
-use Rattle.std.proofs.lemmas.Option.{same_Some}
-use Rattle.std.proofs.lemmas.Bool.{and_from, not-false}
-use Rattle.vt_spec.proofs.NodeChanges.{directory_from_entry, entries_in-no_directory, nil_from_not_some}
 use Rattle.vt_spec.proofs.Truths.{and_from_three}
 
 -- the tree that a mount shows

@@ -1,21 +1,14 @@
 -- Each change of a tree makes a tree of it.
 use Rattle.std.proofs.Common.{eqb-true, ◌≡◌, ◌≢◌, refl, sym, ap, subst, ◌∙◌, ℕ, nat_eq, Bool, true, false, cond, List, ◌||◌, ⊎_elim, Option, Some, None, is_some}
-use Rattle.std.proofs.lemmas.Bool.Decides.{eqb_tells}
-use Rattle.vt_spec.specs.Tree.{Tree, Node, is_directory_node, node_with_bytes, node_with_entry, with_object}
-use Rattle.vt_spec.specs.TreeInvariant.{entry_at, IsTree}
-use Rattle.vt_spec.specs.Language.Changes.{changed, changed_node, node_with_attr, node_with_mark, node_with_parent, node_without_entry, with_inode, with_name, without_name, without_parent}
-use Rattle.vt_spec.specs.Language.Changes.Change.{AddName, CopyUp, Make, Move, Remove, SetAttr, SetBytes, SetMark}
-use Rattle.vt_spec.specs.FileTree.{FileTree}
-use Rattle.vt_spec.specs.Lists.{is_among}
-use Rattle.vt_spec.specs.Machine.Invariants.{ListsNumbers}
-use Rattle.vt_spec.proofs.Nodes.{directory_used, entries-node_with_bytes, is_directory-node_with_bytes, is_directory-node_with_entry, is_some-node_with_bytes, is_some-node_with_entry, parent-node_with_bytes}
+use Rattle.vt_spec.proofs.Common.{AddName, CopyUp, FileTree, IsTree, ListsNumbers, Make, Move, Node, Remove, SetAttr, SetBytes, SetMark, Tree, changed, changed_node, directory_used, entries-node_with_bytes, entry_at, eqb_tells, is_among, is_directory-node_with_entry, is_directory_node, is_some-node_with_entry, is_some-node_with_parent, is_some-node_without_entry, node_with_attr, node_with_bytes, node_with_entry, node_with_mark, node_with_parent, node_without_entry, with_inode, with_name, without_name, without_parent}
+use Rattle.vt_spec.specs.Tree.{with_object}
+use Rattle.vt_spec.proofs.Nodes.{is_directory-node_with_bytes, is_some-node_with_bytes, parent-node_with_bytes}
 use Rattle.vt_spec.proofs.Trees.{entry_kept, entry_new, is_tree-with_object, kept_beside, parent_beside, used_differs}
 use Rattle.vt_laws_trees.specs.Trees.{ChangesKeepNumbers, ChangesKeepOwnParents, ChangesKeepTrees, HasOwnParents, MayMake}
 use Rattle.vt_laws_trees.proofs.trees.ChangesNodes.{KeepsPlace, attr_keeps_place, mark_keeps_place, part_stays}
 use Rattle.vt_laws_trees.proofs.trees.ChangesOfNames.{Nobody, Nowhere, linked_rearranged, removed_rearranged, still_rearranged}
 use Rattle.vt_laws_trees.proofs.trees.ChangesOfPlace.{moved_alike, moved_rearranged}
 use Rattle.vt_laws_trees.proofs.trees.TreesRearranged.{is_tree-rearranged, own_parent-rearranged}
-use Rattle.vt_spec.proofs.NodeChanges.{is_some-node_with_parent, is_some-node_without_entry}
 
 pub bytes_keep_place : (bytes : List ℕ) → KeepsPlace (node_with_bytes bytes)
 bytes_keep_place bytes = record {

@@ -1,20 +1,8 @@
 -- The entries of a tree in which a name is given, or taken away.
-use Rattle.std.proofs.Common.{arith, ◌≡◌, ◌≢◌, refl, sym, ap, ◌∙◌, true≢false, ℕ, nat_eq, Bool, true, false, not, cond, List, [], ◌⊎◌, inl, inr, ⊎_elim, Some, None}
-use Rattle.std.proofs.lemmas.Grind.{common_steps}
-use Rattle.std.proofs.lemmas.Bool.Decides.{eqb_tells}
-use Rattle.std.proofs.lemmas.Float.{T_from_true}
-use Rattle.std.specs.Str.{bytes_eq}
-use Rattle.std.specs.FinMap.Entries.{is_sorted, is_sorted-put, is_sorted-where_key}
-use Rattle.std.specs.Cmp.Lexicographic.{bytes_decides, nat_list_cmp_total}
-use Rattle.std.specs.Ordering.{eq_by_cmp, is_eq}
-use Rattle.std.specs.Cmp.{tied_itself}
-use Rattle.vt_spec.specs.Tree.{name_cmp, entry_named, with_entry, entries_in, node_with_entry}
-use Rattle.vt_spec.specs.TreeInvariant.{entry_at, IsDirectory}
-use Rattle.vt_spec.specs.Language.Changes.{node_without_entry, with_name, without_entry, without_name}
-use Rattle.vt_spec.specs.FileTree.{FileTree}
-use Rattle.vt_spec.proofs.Nodes.{entries-node_with_entry, entry_named-with_entry, entry_named-without_entry, none_is_not, passes, same_name}
+use Rattle.std.proofs.Common.{arith, ◌≡◌, ◌≢◌, refl, sym, ap, ◌∙◌, true≢false, ℕ, nat_eq, Bool, true, false, not, cond, List, [], ◌⊎◌, inl, inr, ⊎_elim, Some, None, bytes_eq, is_eq}
+use Rattle.vt_spec.proofs.Common.{FileTree, IsDirectory, T_from_true, bytes_decides, common_steps, entries-node_with_entry, entries-node_without_entry, entries_in, entry_at, entry_named, entry_named-with_entry, entry_named-without_entry, eq_by_cmp, eqb_tells, is_sorted, is_sorted-put, is_sorted-where_key, name_cmp, nat_list_cmp_total, node_with_entry, node_without_entry, none_is_not, passes, tied_itself, with_entry, with_name, without_entry, without_name}
+use Rattle.vt_spec.proofs.Nodes.{same_name}
 use Rattle.vt_laws_trees.proofs.trees.ChangesNodes.{changed_node_there, elsewhere}
-use Rattle.vt_spec.proofs.NodeChanges.{entries-node_without_entry}
 
 -- A name taken away
 module _ (files : FileTree ℕ) (directory : ℕ) (name : List ℕ) where

@@ -1,13 +1,7 @@
 -- What an inode keeps when it loses an entry, its entries, or gets another parent, attributes or mark.
 use Rattle.std.proofs.Common.{arith, ◌≡◌, ◌≢◌, refl, ℕ, nat_eq, Bool, Option, Some, None, is_some}
-use Rattle.std.proofs.lemmas.Grind.{common_steps}
+use Rattle.vt_spec.proofs.Common.{Content, Directory, FileTree, Node, Regular, Symlink, Whiteout, changed_node, common_steps, content_with_mark, entries_in, entries_of, is_directory, is_directory_node, kind_of, node_other, node_set, node_with_attr, node_with_mark, node_with_parent, parent_in, parent_of, part_kept}
 use Rattle.vt_spec.specs.declared.attributes.Attr.{Attr}
-use Rattle.vt_spec.specs.Rights.{is_directory}
-use Rattle.vt_spec.specs.Tree.{Node, Content, kind_of, entries_of, is_directory_node, entries_in, parent_of, parent_in}
-use Rattle.vt_spec.specs.Tree.Content.{Directory, Regular, Symlink, Whiteout}
-use Rattle.vt_spec.specs.Language.Changes.{changed_node, content_with_mark, node_with_attr, node_with_mark, node_with_parent}
-use Rattle.vt_spec.specs.FileTree.{FileTree}
-use Rattle.vt_spec.proofs.Nodes.{node_other, node_set, part_kept}
 
 -- a change of a node that keeps its kind, entries and parent, and that it is there
 pub record KeepsPlace (change : Option (Node ℕ) → Option (Node ℕ)) : Type 0 where

@@ -1,14 +1,9 @@
 -- A name that is missing, in a directory that is not removed, is free.
 use Rattle.std.proofs.Common.{arith, ◌≡◌, refl, ap, true≢false, ℕ, nat_eq, false, Option, Some, None, is_some, option_map}
-use Rattle.std.proofs.lemmas.Grind.{common_steps}
-use Rattle.vt_spec.specs.Errors.{NoneFails}
-use Rattle.vt_spec.specs.Machine.Walking.{Place, is_special, name_of}
-use Rattle.vt_spec.proofs.Walk.{new_name_rules}
-use Rattle.vt_spec.specs.Machine.World.{World, files_at}
+use Rattle.vt_spec.proofs.Common.{NoneFails, Place, World, common_steps, files_at, is_special, name_of, new_name_rules, none_from_not_some}
 use Rattle.vt_laws_trees.specs.Trees.{IsFileTree, IsFree}
 use Rattle.vt_laws_trees.proofs.trees.TreesReached.{not_removed_reached}
 use Rattle.vt_laws_trees.proofs.trees.TreesWalked.{IsFilePlace, file_named}
-use Rattle.vt_spec.proofs.Options.{none_from_not_some}
 
 -- what is nothing after a step that always finds was nothing
 pub mapped_none : {A B : Type 0} (f : A → B) (o : Option A) → option_map f o ≡ None → o ≡ None

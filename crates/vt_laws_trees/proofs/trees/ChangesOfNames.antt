@@ -1,19 +1,10 @@
 -- Changes of inodes, links, removals and renames are rearrangements of a tree.
 use Rattle.std.proofs.Common.{arith, ◌≡◌, ◌≢◌, refl, sym, ap, subst, ◌∙◌, true≢false, ℕ, nat_eq, List, ◌⊎◌, inl, inr, ⊎_elim, Option, Some, None, is_some}
-use Rattle.std.proofs.lemmas.Grind.{common_steps}
-use Rattle.std.proofs.lemmas.Bool.Decides.{eqb_tells}
-use Rattle.std.proofs.lemmas.Option.{same_Some}
-use Rattle.std.specs.FinMap.Entries.{is_sorted}
-use Rattle.vt_spec.specs.Tree.{Tree, Node, name_cmp, entry_named, is_directory_node, entries_in, node_with_entry, parent_in}
-use Rattle.vt_spec.specs.TreeInvariant.{entry_at, IsDirectory, IsReached, IsTree}
-use Rattle.vt_spec.specs.Language.Changes.{changed_node, node_with_parent, node_without_entry, with_name, without_name, without_parent}
-use Rattle.vt_spec.specs.FileTree.{FileTree}
-use Rattle.vt_spec.proofs.Nodes.{is_directory-node_with_entry, is_some-node_with_entry, none_is_not, parent-node_with_entry}
+use Rattle.vt_spec.proofs.Common.{FileTree, IsDirectory, IsReached, IsTree, Node, Tree, changed_node, common_steps, entries-node_with_parent, entries_in, entry_at, entry_named, eqb_tells, is_directory-node_with_entry, is_directory-node_with_parent, is_directory-node_without_entry, is_directory_node, is_some-node_with_entry, is_some-node_with_parent, is_some-node_without_entry, is_sorted, name_cmp, node_with_entry, node_with_parent, node_without_entry, none_is_not, parent-node_with_entry, parent-node_without_entry, parent_in, same_Some, with_name, without_name, without_parent}
 use Rattle.vt_laws_trees.specs.Trees.{MayAddName, MayRemove}
 use Rattle.vt_laws_trees.proofs.trees.ChangesNodes.{KeepsPlace, changed_node_there, elsewhere, own_parent-node_with_parent, part_stays}
 use Rattle.vt_laws_trees.proofs.trees.ChangesNames.{given_elsewhere, given_in_order, given_kept, given_told, untaken_empty, untaken_in_order, untaken_kept, untaken_told}
 use Rattle.vt_laws_trees.proofs.trees.TreesRearranged.{IsRearranged, Vanishes}
-use Rattle.vt_spec.proofs.NodeChanges.{entries-node_with_parent, is_directory-node_with_parent, is_directory-node_without_entry, is_some-node_with_parent, is_some-node_without_entry, parent-node_without_entry}
 
 -- nobody leaves, nobody arrives
 abbrev pub Nobody : ℕ → Type 0

@@ -1,21 +1,13 @@
 -- A rename is a rearrangement of a tree: the object gets another name, and what had that is gone.
 use Rattle.std.proofs.Common.{◌≡◌, ◌≢◌, refl, sym, ap, subst, ◌∙◌, ℕ, nat_eq, List, [], ◌∷◌, ◌++◌, ◌⊎◌, inl, inr, ⊎_elim, Option, Some, is_some}
-use Rattle.std.proofs.lemmas.Bool.Decides.{eqb_tells}
-use Rattle.std.proofs.lemmas.Option.{same_Some}
-use Rattle.std.specs.FinMap.Entries.{is_sorted}
-use Rattle.vt_spec.specs.Tree.{name_cmp, entry_named, is_directory_node, entries_in, node_with_entry, parent_in}
-use Rattle.vt_spec.specs.TreeInvariant.{entry_at, led, IsDirectory, IsReached, IsTree}
-use Rattle.vt_spec.specs.Language.Changes.{node_with_parent, node_without_entry, with_moved, with_name, without_name, without_parent}
-use Rattle.vt_spec.specs.FileTree.{FileTree}
-use Rattle.vt_spec.proofs.Nodes.{is_directory-node_with_entry, is_some-node_with_entry, parent-node_with_entry}
-use Rattle.vt_spec.proofs.Trees.{entry_reached, led-append, root_reached}
+use Rattle.vt_spec.proofs.Common.{FileTree, IsDirectory, IsReached, IsTree, entries-node_with_parent, entries-without_parent, entries_in, entry_at, entry_named, eqb_tells, is_directory-node_with_entry, is_directory-node_with_parent, is_directory-node_without_entry, is_directory_node, is_some-node_with_entry, is_some-node_with_parent, is_some-node_without_entry, is_sorted, led, led-append, name_cmp, node_with_entry, node_with_parent, node_without_entry, parent-node_with_entry, parent-node_without_entry, parent_in, root-without_parent, root_reached, same_Some, with_moved, with_name, without_name, without_parent}
+use Rattle.vt_spec.proofs.Trees.{entry_reached}
 use Rattle.vt_laws_trees.specs.Trees.{MayMove}
 use Rattle.vt_laws_trees.proofs.trees.ChangesNodes.{changed_node_there, elsewhere, part_stays}
 use Rattle.vt_laws_trees.proofs.trees.ChangesNames.{given_elsewhere, given_entry, given_in_order, given_kept, given_told, untaken_empty, untaken_in_order, untaken_kept, untaken_told}
 use Rattle.vt_laws_trees.proofs.trees.ChangesOfNames.{decided_some, not_root, only_name, unparented_kind, unparented_own, unparented_parent, unparented_used}
 use Rattle.vt_laws_trees.proofs.trees.TreesRearranged.{IsRearranged, Vanishes, led_closed, no_entries}
-use Rattle.vt_spec.proofs.NodeChanges.{entries-node_with_parent, entries-without_parent, is_directory-node_with_parent, is_directory-node_without_entry, is_some-node_with_parent, is_some-node_without_entry, parent-node_with_parent, parent-node_without_entry}
-use Rattle.vt_spec.proofs.Worlds.{root-without_parent}
+use Rattle.vt_spec.proofs.NodeChanges.{parent-node_with_parent}
 
 module _ (files : FileTree ℕ) (from : ℕ) (old : List ℕ) (to : ℕ) (new : List ℕ) (object : ℕ)
     (conditions : IsTree files.tree) (may : MayMove files.tree from old to new object) where

@@ -1,22 +1,9 @@
 -- Changes keep trees within the limits of names, texts and files.
-use Rattle.std.proofs.Common.{arith, eq-eqb, eqb-true, ◌≡◌, refl, ap, ◌∙◌, ℕ, nat_eq, nat_le, Bool, true, false, not, cond, List, [], ◌∷◌, length, map, ◌&&◌, Option, Some, None}
-use Rattle.std.proofs.lemmas.Grind.{common_steps}
-use Rattle.std.specs.List.{filter, list_all}
-use Rattle.std.specs.Str.{bytes_eq}
+use Rattle.std.proofs.Common.{arith, eq-eqb, eqb-true, ◌≡◌, refl, ap, ◌∙◌, ℕ, nat_eq, nat_le, Bool, true, false, not, cond, List, [], ◌∷◌, length, map, ◌&&◌, Option, Some, None, filter, bytes_eq}
+use Rattle.vt_spec.proofs.Common.{AddName, Content, CopyUp, Directory, Entries, FileTree, Filesystem, Make, Move, Node, Regular, Remove, SetAttr, SetBytes, SetMark, Symlink, Whiteout, World, all-filter, and_parts, changed_node, common_steps, entries_in, entry_named, filesystem_lives, has_fit_names, has_fit_text, is_fit_filesystem, is_no_larger, is_overlay, largest_file, list_all, node_with_attr, node_with_bytes, node_with_entry, node_with_mark, node_with_parent, node_without_entry, only_among, only_used, only_used_by, used_in, with_entry, with_inode, with_name, without_dead_filesystems, without_dead_in, without_dead_mounts, without_entry, without_name, without_parent}
 use Rattle.vt_spec.specs.declared.attributes.Attr.{Attr}
-use Rattle.vt_spec.specs.Tree.{Content, Entries, Node, node_with_bytes, node_with_entry, with_entry, entries_in, entry_named}
-use Rattle.vt_spec.specs.Tree.Content.{Directory, Regular, Symlink, Whiteout}
-use Rattle.vt_spec.specs.Language.Changes.{changed_node, node_with_attr, node_with_mark, node_with_parent, node_without_entry, with_inode, with_name, without_entry, without_name, without_parent}
-use Rattle.vt_spec.specs.Language.Changes.Change.{AddName, CopyUp, Make, Move, Remove, SetAttr, SetBytes, SetMark}
-use Rattle.vt_spec.specs.FileTree.{FileTree}
-use Rattle.vt_spec.specs.Language.Limits.{largest_file}
-use Rattle.vt_spec.specs.Machine.Settled.{filesystem_lives, only_among, only_used, only_used_by, used_in, without_dead_filesystems, without_dead_in, without_dead_mounts}
-use Rattle.vt_spec.specs.Machine.World.{Filesystem, World, is_overlay}
-use Rattle.vt_spec.specs.Machine.Invariants.{has_fit_names, has_fit_text, is_fit_filesystem, is_no_larger}
 use Rattle.vt_laws_trees.specs.Trees.Sizes.{ChangesKeepSizes, SettlingKeepsSizes, is_fit_name, is_fit_node, is_fit_tree}
 use Rattle.vt_laws_trees.proofs.trees.TreesTasks.{all_mapped, both}
-use Rattle.std.proofs.lemmas.Bool.{and_parts}
-use Rattle.vt_spec.proofs.Lists.{all-filter}
 
 -- the limits of one inode, that may be missing
 abbrev pub fits : Option (Node ℕ) → Bool

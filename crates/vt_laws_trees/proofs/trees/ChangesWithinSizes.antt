@@ -1,36 +1,10 @@
 -- Every call but the mount of an overlay keeps names, link texts and files within the limits.
-use Rattle.std.proofs.lemmas.Grind.{common_steps}
-use Rattle.std.proofs.Common.{arith, eq-eqb, ◌≡◌, refl, sym, ap, subst, ◌∙◌, true≢false, ℕ, ◌+◌, ◌≤◌, nat_eq, nat_le, le-leb, leb-true, ltb-false, Bool, true, false, not, cond, List, [], ◌∷◌, ◌++◌, length, ◌&&◌, inl, inr, ⊎_elim, Option, Some, None, is_some, ok_or}
-use Rattle.std.proofs.lemmas.List.{length-append, length-drop, length-take}
-use Rattle.std.specs.List.{All, list_all, list_any}
-use Rattle.std.proofs.lemmas.List.Elements.{All-append, All-cons, All-filter, All-nil}
+use Rattle.std.proofs.Common.{arith, eq-eqb, ◌≡◌, refl, sym, ap, subst, ◌∙◌, true≢false, ℕ, ◌+◌, ◌≤◌, nat_eq, nat_le, le-leb, leb-true, ltb-false, Bool, true, false, not, cond, List, [], ◌∷◌, ◌++◌, length, ◌&&◌, inl, inr, ⊎_elim, Option, Some, None, is_some, ok_or, length-append, length-drop, length-take, All}
+use Rattle.vt_spec.proofs.Common.{Access, All-append, All-cons, All-filter, All-nil, Call, Change, Content, CopyUp, Directory, Filesystem, Fresh, Location, Node, NoneFails, Outcome, Permit, Place, Regular, SetBytes, SetMark, Symlink, Task, TaskName, ToMountPlain, ToOpen, Whiteout, World, and_parts, apply, bytes_in, call_outcome, changed, common_steps, denial, evens, file_mode, files_at, filesystem_at, filesystem_changed, filesystem_lives, filesystems-taken_away, filesystems-without_replaced, filesystems_raised, finished_by, is_copied_up, is_directory_there, is_empty, is_fit_filesystem, is_overlay, is_special, largest_file, linking, list_all, list_any, longest_path, looks_of, making, mount_at, moving, new_directory, new_file, new_plain, node_at, node_with_bytes, none_from_not_some, object_there, odds, open_new_permit, or_false_left, overfills, overwritten, plain_filesystem, pwritten, raised, raised_if_changed, removing, root_attr, settled, task_called, with_change, with_copy, with_files, with_filesystem, with_new, without_dead_filesystems, without_dead_in, without_dead_mounts, without_mounts_on, without_replaced}
 use Rattle.std.proofs.lemmas.List.Sums.{AllPass-from_list_all, list_all-from_AllPass}
-use Rattle.std.proofs.lemmas.Bool.{and_parts}
 use Rattle.vt_spec.specs.declared.attributes.Attr.{Attr}
 use Rattle.vt_spec.specs.declared.errors.Rule.TheVariants.{S2}
-use Rattle.vt_spec.specs.Errors.{NoneFails, denial}
-use Rattle.vt_spec.specs.PathText.{is_empty}
-use Rattle.vt_spec.specs.Language.Limits.{largest_file, longest_path}
-use Rattle.vt_spec.specs.Tree.{Content, Node, bytes_in, new_directory, node_with_bytes}
-use Rattle.vt_spec.specs.Tree.Content.{Directory, Regular, Symlink, Whiteout}
-use Rattle.vt_spec.specs.Language.Calls.{Access, Call, TaskName}
-use Rattle.vt_spec.specs.Language.Changes.{Change, changed}
-use Rattle.vt_spec.specs.Language.Changes.Change.{CopyUp, SetBytes, SetMark}
-use Rattle.vt_spec.specs.Machine.Detach.{without_mounts_on, without_replaced}
-use Rattle.vt_spec.specs.Machine.Filesystems.{filesystem_changed, filesystems_raised, raised, raised_if_changed, with_change, with_files}
-use Rattle.vt_spec.specs.Lists.{Fresh, evens, odds}
-use Rattle.vt_spec.specs.Machine.Mounts.{Location}
-use Rattle.vt_spec.proofs.Tables.{pwrite_rules, with_new}
-use Rattle.vt_spec.specs.Machine.Descriptors.{is_copied_up, overwritten, pwritten, with_copy}
-use Rattle.vt_spec.specs.Machine.Rows.{file_mode, linking, making, new_file}
-use Rattle.vt_spec.specs.Machine.NewMounts.{plain_filesystem}
-use Rattle.vt_spec.specs.Machine.Rules.Removing.{moving, object_there, removing}
-use Rattle.vt_spec.specs.Machine.Outcomes.{Outcome}
-use Rattle.vt_spec.specs.Machine.Policy.{call_outcome, finished_by}
-use Rattle.vt_spec.specs.Machine.Settled.{filesystem_lives, settled, without_dead_filesystems, without_dead_in, without_dead_mounts}
-use Rattle.vt_spec.specs.Machine.Walking.{Place, is_directory_there, is_special}
-use Rattle.vt_spec.specs.Machine.World.{Filesystem, Task, World, files_at, filesystem_at, is_overlay, mount_at, new_plain, node_at, root_attr, task_called, with_filesystem}
-use Rattle.vt_spec.specs.Machine.Invariants.{is_fit_filesystem}
+use Rattle.vt_spec.proofs.Tables.{pwrite_rules}
 use Rattle.vt_laws_trees.specs.Trees.Calls.{mounts_overlay}
 use Rattle.vt_laws_trees.specs.Trees.Sizes.{CallsKeepSizes, IsFitChange, IsFitWorld, OpeningIsFit, is_fit_node, is_fit_tree}
 use Rattle.vt_laws_trees.proofs.trees.ChangesByCalls.{without_dead_plain}
@@ -40,17 +14,9 @@ use Rattle.vt_laws_trees.proofs.trees.TreesOfWorlds.{number_numbered, numbered_a
 use Rattle.vt_laws_trees.proofs.trees.TreesSizes.{HasFitLast, fit_name_of, no_longer}
 use Rattle.vt_laws_trees.proofs.trees.TreesTasks.{all_appended, all_mapped, both}
 use Rattle.vt_laws_trees.proofs.trees.TreesWalked.{after_holds}
-use Rattle.vt_spec.proofs.Options.{none_from_not_some}
-use Rattle.vt_spec.proofs.Truths.{or_false_left}
-use Rattle.vt_spec.proofs.Worlds.{filesystems-taken_away, filesystems-without_replaced}
 use Rattle.vt_laws_rules.proofs.given.CallsGranted.{call_holds}
 use Rattle.vt_laws_rules.specs.Granted.{IsGranted, directory_made, symlink_made, whiteout_made}
 use Rattle.vt_laws_rules.specs.Granted.IsGranted.{changes_mark, changes_mode, changes_owner, creates, creates_exclusively, makes_directory, makes_hard_link, makes_symlink, makes_whiteout, mounts_overlayfs, mounts_tmpfs, opens, opens_existing, overwrites_file, removes_directory, renames, unlinks, writes_new_file, writes_part}
-use Rattle.vt_spec.specs.Machine.Apply.{apply, overfills}
-use Rattle.vt_spec.specs.Machine.Judge.{open_new_permit}
-use Rattle.vt_spec.specs.Machine.Looks.{looks_of}
-use Rattle.vt_spec.specs.Machine.Permits.{Permit}
-use Rattle.vt_spec.specs.Machine.Permits.Permit.{ToMountPlain, ToOpen}
 use Rattle.vt_laws_trees.proofs.trees.PlacesReached.{file_is, new_is, new_leaf_is, rename_new_is}
 
 -- a new tree

@@ -1,9 +1,6 @@
 -- Where the walks of calls that make, remove and rename end.
 use Rattle.std.proofs.Common.{Bool, List, Ok, [], nat_eq, not, ℕ, ◌&&◌, ◌∷◌, ◌≡◌}
-use Rattle.vt_spec.specs.Machine.Looks.{Looks, looks_of}
-use Rattle.vt_spec.specs.Machine.Rules.Removing.{rename_new_walk}
-use Rattle.vt_spec.specs.Machine.Walking.{Place, file_walk, new_leaf_walk, new_walk, old_leaf_walk, old_walk}
-use Rattle.vt_spec.specs.Machine.World.{Task, World}
+use Rattle.vt_spec.proofs.Common.{Looks, Place, Task, World, file_walk, looks_of, new_leaf_walk, new_walk, old_leaf_walk, old_walk, rename_new_walk}
 use Rattle.vt_spec.specs.declared.errors.Rule.TheVariants.{W3}
 use Rattle.vt_laws_trees.proofs.trees.TreesSizes.{HasFitLast, fit_file_walk, fit_new_leaf_walk, fit_new_walk}
 use Rattle.vt_laws_trees.proofs.trees.TreesWalked.{IsNewFilePlace, IsNewPlace, IsOldPlace, at_end, ends_both, ends_file_walk, ends_new_leaf_walk, ends_new_walk, ends_old_leaf_walk, ends_old_walk, ends_then, ends_unless}

@@ -1,20 +1,9 @@
 -- The directories above a directory, one by one: a directory under another sees it above itself.
-use Rattle.std.proofs.lemmas.Grind.{common_steps}
 use Rattle.std.proofs.Common.{◌≡◌, ◌≢◌, refl, sym, ap, subst, ◌∙◌, true≢false, ℕ, zero, suc, ◌+◌, ◌-◌, ◌<◌, ◌≤◌, arith, nat_eq, eq-eqb, eqb-true, ne_eqb, Bool, true, false, cond, List, [], ◌∷◌, length, ◌||◌, ⊎_elim, Option, Some, None, option_and_then, unwrap_or}
-use Rattle.std.proofs.lemmas.Bool.{cases_lt, or_right}
+use Rattle.vt_spec.proofs.Common.{AllByRecursion, FileTree, IsDirectory, IsReached, IsTree, Node, Tree, among_targets, cases_lt, chain, common_steps, directory_from_entry, directory_used, entries_in, entry_at, found, has_entry_to, is_among, is_directory_node, is_directory_under, led, named_parent, nat_eq_equiv, none_is_not, or_right, parent_in, same_Some, targets_in, when}
 use Rattle.std.proofs.lemmas.Map.Made.{length-le_from_is_member}
-use Rattle.std.proofs.lemmas.Option.{same_Some}
-use Rattle.std.specs.Cmp.{nat_eq_equiv}
-use Rattle.std.specs.List.{AllByRecursion, IsDistinct}
-use Rattle.vt_spec.specs.Tree.{Node, Tree, entries_in, is_directory_node, parent_in}
-use Rattle.vt_spec.specs.TreeInvariant.{entry_at, led, IsDirectory, IsReached, IsTree}
-use Rattle.vt_spec.specs.FileTree.{FileTree, has_entry_to, is_directory_under, named_parent, targets_in}
-use Rattle.vt_spec.specs.Lists.{chain, is_among, when}
-use Rattle.vt_spec.proofs.Nodes.{directory_used, none_is_not}
-use Rattle.vt_spec.proofs.Trees.{found}
+use Rattle.std.specs.List.{IsDistinct}
 use Rattle.vt_laws_trees.specs.Trees.{IsFileTree}
-use Rattle.vt_spec.proofs.Found.{among_targets}
-use Rattle.vt_spec.proofs.NodeChanges.{directory_from_entry}
 
 -- so many steps up
 pub up : Tree ℕ → ℕ → Option ℕ → Option ℕ

@@ -1,23 +1,9 @@
 -- What a path leads to is there, where the roots of mounts and their places are.
-use Rattle.std.proofs.Common.{arith, ◌≡◌, ◌≢◌, refl, sym, ap, subst, ◌∙◌, true≢false, ℕ, zero, suc, nat_eq, Bool, true, false, not, cond, List, [], ◌∷◌, length, reverse, ◌==◌, ⊎_elim, Option, Some, None, is_some, option_map, ok_or, Result, Ok, Err}
-use Rattle.std.proofs.lemmas.Grind.{common_steps}
-use Rattle.std.specs.Prelude.{filter, unwrap_or}
-use Rattle.std.specs.List.{All, find}
-use Rattle.std.proofs.lemmas.List.{length-reverse, nil_from_length}
-use Rattle.std.proofs.lemmas.List.Elements.{All-head, All-tail}
+use Rattle.std.proofs.Common.{arith, ◌≡◌, ◌≢◌, refl, sym, ap, subst, ◌∙◌, true≢false, ℕ, zero, suc, nat_eq, Bool, true, false, not, cond, List, [], ◌∷◌, length, reverse, ◌==◌, ⊎_elim, Option, Some, None, is_some, option_map, ok_or, Result, Ok, Err, filter, unwrap_or, All, find}
+use Rattle.vt_spec.proofs.Common.{All-head, All-tail, Dot, DotDot, Filesystem, Here, IsTree, LastWord, Location, Mount, Named, NoWord, Stop, Task, World, chain, child_at, common_steps, denial, directory_used, ends_in_slash, entries_in, entry_named, files_at, final_word, followed, hop, is_directory_at, is_directory_node, is_empty, is_lost, is_no_word, last_or, last_walked, last_word, length-reverse, mount_at, mount_in, nil_from_length, no_mount, node_at, none_is_not, parent_location, parts, path_rules, path_text, path_walked, prefix_walked, root_of, same_location, stands_at, then_walk, topmost, unless, walk_start, walk_unless, with_byte, words}
 use Rattle.vt_spec.specs.declared.errors.Deny.{Deny}
 use Rattle.vt_spec.specs.declared.errors.Rule.TheVariants.{W6, W8}
-use Rattle.vt_spec.specs.Errors.{denial, unless}
-use Rattle.vt_spec.specs.PathText.{ends_in_slash, is_empty, parts, path_rules, with_byte, words}
-use Rattle.vt_spec.specs.Tree.{entries_in, entry_named, is_directory_node}
-use Rattle.vt_spec.specs.Lists.{chain, last_or}
-use Rattle.vt_spec.specs.Machine.Mounts.{Location, Mount, child_at, mount_in, no_mount, root_of, same_location, stands_at, topmost}
-use Rattle.vt_spec.specs.Machine.Walking.{Here, LastWord, Stop, final_word, is_no_word, last_word, path_text, then_walk, walk_start, walk_unless}
-use Rattle.vt_spec.proofs.Walk.{entry_location, followed, prefix_walked, hop, hops, is_lost, is_top, last_walked, symlink_walk, symlink_walk_by, parent_location, path_walked, search_rules, slash_rules, stepped, steps_with, up_from, word_walked}
-use Rattle.vt_spec.specs.Machine.Walking.LastWord.{Dot, DotDot, Named, NoWord}
-use Rattle.vt_spec.specs.Machine.World.{Filesystem, Task, World, files_at, is_directory_at, mount_at, node_at}
-use Rattle.vt_spec.proofs.Nodes.{directory_used, none_is_not}
-use Rattle.vt_spec.specs.TreeInvariant.{IsTree}
+use Rattle.vt_spec.proofs.Walk.{entry_location, hops, is_top, symlink_walk, symlink_walk_by, search_rules, slash_rules, stepped, steps_with, up_from, word_walked}
 use Rattle.vt_laws_trees.specs.Trees.Calls.{IsStanding}
 use Rattle.vt_laws_trees.proofs.trees.TreesOfWorlds.{numbered_all}
 use Rattle.vt_laws_trees.proofs.trees.TreesWalked.{Ends, ends_next, ends_step, ends_then, ends_unless, not_true, ok_same}

@@ -1,25 +1,10 @@
 -- A tree without the inodes that are not used is a tree.
-use Rattle.std.proofs.Common.{arith, eqb-true, ◌≡◌, refl, sym, ap, subst, ◌∙◌, true≢false, ℕ, nat_eq, eq-eqb, Bool, true, false, cond, List, [], ◌∷◌, ◌++◌, not, ◌&&◌, ◌||◌, ⊎_elim, Some, None, is_some}
-use Rattle.std.proofs.lemmas.Grind.{common_steps}
-use Rattle.std.specs.List.{filter, flat_map, list_all, list_any}
-use Rattle.std.proofs.lemmas.Map.Views.{any-filter_same}
-use Rattle.std.proofs.lemmas.List.Elements.{All-filter, All-map, All-weaker}
-use Rattle.std.proofs.lemmas.Bool.{or_right, cases_Bool}
-use Rattle.std.specs.FinMap.Entries.{is_sorted}
-use Rattle.vt_spec.specs.Tree.{Tree, name_cmp, entry_named, is_directory_node, entries_in, parent_in}
-use Rattle.vt_spec.specs.TreeInvariant.{entry_at, IsDirectory, HasName, IsTree}
-use Rattle.vt_spec.specs.FileTree.{FileTree, targets_in}
-use Rattle.vt_spec.specs.Lists.{is_among}
-use Rattle.vt_spec.specs.Machine.Settled.{filesystem_lives, layers_in, located_in, named_in, objects_of_overlay, only_among, only_used, only_used_by, only_used_of, used_in, without_dead_filesystems, without_dead_in, without_dead_mounts}
-use Rattle.vt_spec.specs.Machine.World.{Filesystem, World, is_overlay}
-use Rattle.vt_spec.proofs.Nodes.{directory_used}
+use Rattle.std.proofs.Common.{arith, eqb-true, ◌≡◌, refl, sym, ap, subst, ◌∙◌, true≢false, ℕ, nat_eq, eq-eqb, Bool, true, false, cond, List, [], ◌∷◌, ◌++◌, not, ◌&&◌, ◌||◌, ⊎_elim, Some, None, is_some, filter, flat_map}
+use Rattle.vt_spec.proofs.Common.{All-filter, All-map, All-weaker, FileTree, Filesystem, HasName, IsDirectory, IsTree, Tree, World, among_targets, any-filter_same, cases_Bool, common_steps, directory_from_entry, directory_used, entries_in, entry_at, entry_named, filesystem_lives, is_among, is_among_left, is_among_right, is_directory_node, is_overlay, is_sorted, layers_in, list_all, list_any, located_in, name_cmp, named_in, none_from_not_some, objects_of_overlay, only_among, only_used, only_used_by, only_used_of, or_right, parent_in, targets_in, used_in, without_dead_filesystems, without_dead_in, without_dead_mounts}
 use Rattle.vt_spec.proofs.Trees.{led_kept}
 use Rattle.vt_laws_trees.specs.Trees.{HasOwnParents, IsFileTree}
 use Rattle.vt_laws_trees.specs.Trees.Settling.{HasFileTrees, HoldsTree, SettlingKeepsTrees, UnusedIsGone, UsedStays}
 use Rattle.vt_laws_trees.proofs.trees.TreesRearranged.{no_entries}
-use Rattle.vt_spec.proofs.Found.{among_targets, is_among_left, is_among_right}
-use Rattle.vt_spec.proofs.NodeChanges.{directory_from_entry}
-use Rattle.vt_spec.proofs.Options.{none_from_not_some}
 
 pub among_flat_map : (f : ℕ → List ℕ) (xs : List ℕ) (x y : ℕ) → is_among nat_eq x xs ≡ true
     → is_among nat_eq y (f x) ≡ true → is_among nat_eq y (flat_map f xs) ≡ true

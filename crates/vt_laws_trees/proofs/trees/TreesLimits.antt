@@ -1,46 +1,14 @@
 -- No call breaks a limit of a task.
-use Rattle.std.proofs.Common.{arith, ◌≡◌, refl, sym, ap, ◌∙◌, true≢false, ℕ, nat_eq, nat_le, Bool, true, false, not, cond, List, [], ◌∷◌, length, map, ◌+◌, Option, Some, None, ok_or, Ok}
-use Rattle.std.proofs.lemmas.Grind.{common_steps}
-use Rattle.std.specs.Prelude.{unwrap_or}
-use Rattle.std.specs.List.{find, list_all}
+use Rattle.std.proofs.Common.{arith, ◌≡◌, refl, sym, ap, ◌∙◌, true≢false, ℕ, nat_eq, nat_le, Bool, true, false, not, cond, List, [], ◌∷◌, length, map, ◌+◌, Option, Some, None, ok_or, Ok, unwrap_or, find}
+use Rattle.vt_spec.proofs.Common.{Access, Call, Change, CopyUp, Fork, ForkWords, Fresh, Location, Mount, Outcome, Permit, Place, SetMark, Task, TaskName, ToOpen, TypeWord, World, all-filter, and_parts, apply, call_outcome, child_credentials, child_of, common_steps, deepest_first, deepest_name, denial, evens, finished_by, folded, is_copied_up, is_within_limits, lazily_unmounted, linking, list_all, looks_of, making, most_descriptors, most_forks, mount_at, mount_numbered, mount_tree, moving, namespace_entered, namespaces_ended, new_file, none_is_not, object_there, odds, open_new_permit, or_parts, overfills, pivoted, pivoted_location, pivoted_task, pwritten, raised, raised_task, removing, replaced_if_called, same_name, task_called, tasks-taken_away, tasks-with_change, tasks-without_replaced, unmounted, unmounted_if_there, unshared, with_change, with_copy, with_descriptor, with_new, with_task, with_type, without_descriptor, without_mounts_on, without_replaced, without_task}
 use Rattle.vt_spec.specs.declared.errors.Rule.TheVariants.{S2}
-use Rattle.vt_spec.specs.Errors.{denial}
-use Rattle.vt_spec.specs.Language.Calls.{Access, Call, ForkWords, TaskName, TypeWord, same_name}
-use Rattle.vt_spec.specs.Language.Calls.Call.{Fork}
-use Rattle.vt_spec.specs.Language.Changes.{Change}
-use Rattle.vt_spec.specs.Language.Changes.Change.{CopyUp, SetMark}
-use Rattle.vt_spec.specs.Machine.Detach.{deepest_first, lazily_unmounted, unmounted, unmounted_if_there, without_mounts_on, without_replaced}
-use Rattle.vt_spec.specs.Machine.Filesystems.{raised, with_change}
-use Rattle.vt_spec.specs.Lists.{Fresh, evens, folded, odds}
-use Rattle.vt_spec.specs.Machine.Mounts.{Location, Mount, mount_tree}
-use Rattle.vt_spec.specs.Machine.Namespaces.{namespace_entered, namespaces_ended, pivoted, pivoted_location, pivoted_task, unshared}
-use Rattle.vt_spec.specs.Machine.Descriptors.{is_copied_up, pwritten, with_copy, with_descriptor, without_descriptor}
-use Rattle.vt_spec.specs.Language.Limits.{deepest_name, most_descriptors, most_forks}
-use Rattle.vt_spec.specs.Machine.Rows.{linking, making, new_file}
-use Rattle.vt_spec.proofs.Tables.{with_new}
-use Rattle.vt_spec.specs.Machine.World.{Task, World, mount_at, mount_numbered, replaced_if_called, task_called, with_task, without_task}
-use Rattle.vt_spec.specs.Machine.Rules.Removing.{moving, object_there, removing}
-use Rattle.vt_spec.specs.Machine.Tasks.{child_credentials, child_of}
-use Rattle.vt_spec.specs.Machine.Outcomes.{Outcome}
-use Rattle.vt_spec.specs.Machine.Policy.{call_outcome, finished_by, raised_task}
-use Rattle.vt_spec.specs.Machine.Types.{with_type}
-use Rattle.vt_spec.specs.Machine.Walking.{Place}
-use Rattle.vt_spec.specs.Machine.Invariants.{is_within_limits}
-use Rattle.vt_spec.proofs.Nodes.{none_is_not}
-use Rattle.vt_spec.proofs.Lists.{all-filter}
 use Rattle.vt_laws_trees.specs.Trees.Limits.{CallsKeepSmallTasks, HasSmallTasks, OpeningHasSmallTasks, names_few_groups}
 use Rattle.vt_laws_trees.proofs.trees.TreesTasks.{all_appended, all_mapped, child_within, closed_within, masked_within, opened_within, parent_within, replaced_within}
 use Rattle.vt_laws_trees.proofs.trees.TreesWalked.{after_holds, ok_same}
-use Rattle.std.proofs.lemmas.Bool.{and_parts, or_parts}
-use Rattle.vt_spec.proofs.Worlds.{tasks-regrouped, tasks-taken_away, tasks-with_change, tasks-without_replaced}
+use Rattle.vt_spec.proofs.Worlds.{tasks-regrouped}
 use Rattle.vt_laws_rules.proofs.given.CallsGranted.{call_holds}
 use Rattle.vt_laws_rules.specs.Granted.{IsGranted}
 use Rattle.vt_laws_rules.specs.Granted.IsGranted.{changes_directory, changes_mark, changes_mode, changes_owner, changes_root, changes_type, changes_umask, closes, creates, creates_exclusively, drops_capabilities, enters_namespace, exits, forks, makes_directory, makes_hard_link, makes_symlink, makes_whiteout, opens, opens_existing, overwrites_file, pivots_root, removes_directory, renames, unlinks, unmounts, unmounts_lazily, unshares, writes_new_file, writes_part}
-use Rattle.vt_spec.specs.Machine.Apply.{apply, overfills}
-use Rattle.vt_spec.specs.Machine.Judge.{open_new_permit}
-use Rattle.vt_spec.specs.Machine.Looks.{looks_of}
-use Rattle.vt_spec.specs.Machine.Permits.{Permit}
-use Rattle.vt_spec.specs.Machine.Permits.Permit.{ToOpen}
 
 -- Worlds with the same tasks
 pub same_tasks : (a b : World ℕ) → a.tasks ≡ b.tasks → HasSmallTasks b → HasSmallTasks a

@@ -1,17 +1,8 @@
 -- In each world the root of a mount, and its place, are directories.
-use Rattle.std.proofs.Common.{arith, ◌≡◌, refl, sym, ap, ◌∙◌, true≢false, ℕ, nat_eq, eq-eqb, ne_eqb, Bool, true, false, List, [], ◌∷◌, Option, Some, None}
-use Rattle.std.proofs.lemmas.Grind.{common_steps}
-use Rattle.std.specs.Prelude.{option_to_list, unwrap_or}
-use Rattle.std.specs.List.{All, list_all, list_any}
-use Rattle.std.proofs.lemmas.List.Elements.{All-cons, All-nil}
+use Rattle.std.proofs.Common.{arith, ◌≡◌, refl, sym, ap, ◌∙◌, true≢false, ℕ, nat_eq, eq-eqb, ne_eqb, Bool, true, false, List, [], ◌∷◌, Option, Some, None, option_to_list, unwrap_or, All}
+use Rattle.vt_spec.proofs.Common.{All-cons, All-nil, Location, Mount, and_parts, any_pair, common_steps, has_its_root, list_all, list_any, mount_in, none_is_not, or_false_left, or_parts}
 use Rattle.std.proofs.lemmas.List.Sums.{AllPass-from_list_all}
-use Rattle.std.proofs.lemmas.Bool.{and_parts, or_parts}
-use Rattle.vt_spec.specs.Lists.{any_pair}
-use Rattle.vt_spec.specs.Machine.Mounts.{Location, Mount, mount_in}
-use Rattle.vt_spec.specs.Machine.Invariants.{has_its_root}
-use Rattle.vt_spec.proofs.Nodes.{none_is_not}
 use Rattle.vt_laws_trees.specs.Trees.Calls.{WorldsAreStanding}
-use Rattle.vt_spec.proofs.Truths.{or_false_left}
 
 none_passes : {A : Type 0} (test : A → Bool) (list : List A) → list_any test list ≡ false
     → All (λ a. test a ≡ false) list

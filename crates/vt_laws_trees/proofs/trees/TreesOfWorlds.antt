@@ -1,20 +1,9 @@
 -- A change of a filesystem in a world of trees leaves a world of trees.
-use Rattle.std.proofs.Common.{arith, eqb-true, ◌≡◌, refl, sym, ap, subst, ◌∙◌, true≢false, ℕ, nat_eq, Bool, true, false, cond, List, [], ◌∷◌, map, ◌⊎◌, inl, inr, ⊎_elim, Some, None, is_some}
-use Rattle.std.proofs.lemmas.Grind.{common_steps}
-use Rattle.std.specs.Prelude.{unwrap_or}
-use Rattle.std.specs.List.{All, find, list_any}
-use Rattle.std.proofs.lemmas.List.Elements.{All-cons, All-head, All-nil, All-tail}
-use Rattle.vt_spec.specs.Language.Changes.{Change, changed}
-use Rattle.vt_spec.specs.Machine.Detach.{taken_away}
-use Rattle.vt_spec.specs.Machine.Filesystems.{filesystem_changed, filesystems_raised, raised, raised_if_changed, with_change, with_files}
-use Rattle.vt_spec.specs.Lists.{Fresh}
-use Rattle.vt_spec.specs.Machine.Mounts.{Location}
-use Rattle.vt_spec.specs.Machine.World.{Filesystem, World, files_at, filesystem_at, is_overlay, mount_at, no_filesystem, replaced_if_numbered, with_filesystem}
+use Rattle.std.proofs.Common.{arith, eqb-true, ◌≡◌, refl, sym, ap, subst, ◌∙◌, true≢false, ℕ, nat_eq, Bool, true, false, cond, List, [], ◌∷◌, map, ◌⊎◌, inl, inr, ⊎_elim, Some, None, is_some, unwrap_or, All, find}
+use Rattle.vt_spec.proofs.Common.{All-cons, All-head, All-nil, All-tail, Change, Filesystem, Fresh, Location, World, changed, common_steps, files_at, filesystem_at, filesystem_changed, filesystems-taken_away, filesystems_raised, is_overlay, list_any, mount_at, no_filesystem, none_from_not_some, raised, raised_if_changed, replaced_if_numbered, shown-taken_away, taken_away, with_change, with_files, with_filesystem}
 use Rattle.vt_laws_trees.specs.Trees.{IsFileTree, IsProper}
 use Rattle.vt_laws_trees.specs.Trees.Calls.{AreNew, IsWorldOfTrees}
 use Rattle.vt_laws_trees.proofs.trees.ChangesKeepTrees.{changes_keep_numbers, changes_keep_own_parents, changes_keep_trees}
-use Rattle.vt_spec.proofs.Options.{none_from_not_some}
-use Rattle.vt_spec.proofs.Worlds.{filesystems-taken_away, shown-taken_away}
 
 -- a filesystem of the list, or the one that is not there
 abbrev pub numbered : ℕ → List (Filesystem ℕ) → Filesystem ℕ

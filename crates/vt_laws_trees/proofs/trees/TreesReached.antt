@@ -1,20 +1,9 @@
 -- A directory that is not removed is reached from the root, and so is one that has an entry.
-use Rattle.std.proofs.Common.{eqb-true, ◌≡◌, refl, sym, ap, subst, ◌∙◌, true≢false, ℕ, nat_eq, eq-eqb, Bool, true, false, not, cond, List, [], ◌∷◌, map, ◌&&◌, ◌||◌, Some, None, is_some}
-use Rattle.std.specs.declared.cmp.Ordering.{Ordering}
-use Rattle.std.specs.declared.cmp.Ordering.TheVariants.{Equal, Greater, Less}
-use Rattle.std.specs.Cmp.{tied_itself}
-use Rattle.std.specs.Cmp.Lexicographic.{nat_list_cmp_total}
-use Rattle.std.specs.FinMap.Entries.{below_all, is_sorted}
-use Rattle.std.specs.Ordering.{eq_by_cmp, is_eq, is_lt}
-use Rattle.vt_spec.specs.Tree.{Entries, Tree, entries_in, entry_named, name_cmp, parent_in}
-use Rattle.vt_spec.specs.TreeInvariant.{entry_at, IsDirectory, IsReached, IsTree}
-use Rattle.vt_spec.specs.FileTree.{has_entry_to, is_removed, named_parent}
-use Rattle.vt_spec.specs.Lists.{is_among, when}
-use Rattle.vt_spec.proofs.Nodes.{none_is_not, same_name}
-use Rattle.vt_spec.proofs.Trees.{root_reached}
+use Rattle.std.proofs.Common.{eqb-true, ◌≡◌, refl, sym, ap, subst, ◌∙◌, true≢false, ℕ, nat_eq, eq-eqb, Bool, true, false, not, cond, List, [], ◌∷◌, map, ◌&&◌, ◌||◌, Some, None, is_some, Ordering, Equal, Greater, Less, is_eq, is_lt}
+use Rattle.vt_spec.proofs.Common.{Entries, IsDirectory, IsReached, IsTree, Tree, and_parts, below_all, entries_in, entry_at, entry_named, eq_by_cmp, has_entry_to, is_among, is_removed, is_sorted, name_cmp, named_parent, nat_list_cmp_total, none_is_not, parent_in, root_reached, tied_itself, when}
+use Rattle.vt_spec.proofs.Nodes.{same_name}
 use Rattle.vt_laws_trees.proofs.trees.TreesAbove.{parent_named}
 use Rattle.vt_laws_trees.proofs.trees.TreesRearranged.{no_entries}
-use Rattle.std.proofs.lemmas.Bool.{and_parts}
 
 -- a name below all others is none of them
 below_missing : (name : List ℕ) (entries : Entries ℕ) (number : ℕ) → below_all name_cmp name entries ≡ true

@@ -1,13 +1,8 @@
 -- A tree in which names are taken away, given, and given in exchange: what has to be seen of the inodes for it to be a
 -- tree again.
 use Rattle.std.proofs.Common.{◌≡◌, ◌≢◌, sym, ap, subst, ◌∙◌, ℕ, true, List, [], ◌∷◌, ◌⊎◌, inl, inr, ⊎_elim, Option, Some, is_some}
-use Rattle.std.specs.FinMap.Entries.{is_sorted}
-use Rattle.vt_spec.specs.Tree.{Tree, Node, name_cmp, entry_named, is_directory_node, entries_in, parent_in}
-use Rattle.vt_spec.specs.TreeInvariant.{entry_at, led, IsDirectory, HasName, IsReached, IsTree}
-use Rattle.vt_spec.proofs.Nodes.{none_is_not}
-use Rattle.vt_spec.proofs.Trees.{found, entry_reached, reached_named, root_reached}
-use Rattle.std.proofs.lemmas.Option.{same_Some}
-use Rattle.vt_spec.proofs.NodeChanges.{directory_from_entry}
+use Rattle.vt_spec.proofs.Common.{HasName, IsDirectory, IsReached, IsTree, Node, Tree, directory_from_entry, entries_in, entry_at, entry_named, found, is_directory_node, is_sorted, led, name_cmp, none_is_not, parent_in, reached_named, root_reached, same_Some}
+use Rattle.vt_spec.proofs.Trees.{entry_reached}
 
 -- what holds where a list of names begins, and goes on along each entry, holds where they lead
 pub led_closed : (tree : Tree ℕ) (P : ℕ → Type 0)

@@ -1,21 +1,12 @@
 -- The last word of a path is a name within the limits.
-use Rattle.std.proofs.Common.{arith, ◌≡◌, refl, true≢false, ℕ, zero, suc, ◌+◌, nat_le, nat_lt, le-leb, ltb-false, Bool, true, false, not, cond, List, [], ◌∷◌, length, reverse, ◌&&◌, ◌||◌, Option, Some, None, is_some, Result, nat_eq}
-use Rattle.std.proofs.lemmas.Grind.{common_steps}
-use Rattle.std.specs.Prelude.{⊤}
-use Rattle.std.specs.List.{filter, list_all, list_any}
+use Rattle.std.proofs.Common.{arith, ◌≡◌, refl, true≢false, ℕ, zero, suc, ◌+◌, nat_le, nat_lt, le-leb, ltb-false, Bool, true, false, not, cond, List, [], ◌∷◌, length, reverse, ◌&&◌, ◌||◌, Option, Some, None, is_some, Result, nat_eq, filter}
+use Rattle.vt_spec.proofs.Common.{Dot, DotDot, Here, LastWord, Named, NoWord, Place, Stop, Task, World, and_parts, common_steps, ends_in_slash, file_or_symlink, file_walked, final_word, followed, is_empty, is_special, list_all, list_any, longest_name, longest_path, most_symlinks, name_of, new_name_rules, or_false_left, or_parts, parts, path_rules, path_text, prefix_walked, symlink_of, then_walk, walk_start, walk_unless, words, ⊤}
 use mathlib.Core.List.{reverse_aux}
 use Rattle.vt_spec.specs.declared.errors.Rule.TheVariants.{W6}
-use Rattle.vt_spec.specs.PathText.{ends_in_slash, is_empty, parts, path_rules, words}
-use Rattle.vt_spec.specs.Language.Limits.{longest_name, longest_path, most_symlinks}
-use Rattle.vt_spec.specs.Machine.Walking.{Here, LastWord, Place, Stop, final_word, is_special, symlink_of, name_of, path_text, then_walk, walk_start, walk_unless}
-use Rattle.vt_spec.proofs.Walk.{file_or_symlink, file_walk, file_walked, follow_rules, followed, prefix_walked, symlink_start, symlink_there, new_leaf_walk, new_name_rules, new_walk, object_named, place_walk, placed, search_rules, steps_at}
-use Rattle.vt_spec.specs.Machine.Walking.LastWord.{Dot, DotDot, Named, NoWord}
-use Rattle.vt_spec.specs.Machine.World.{Task, World}
+use Rattle.vt_spec.proofs.Walk.{file_walk, follow_rules, symlink_start, symlink_there, new_leaf_walk, new_walk, object_named, place_walk, placed, search_rules, steps_at}
 use Rattle.vt_laws_trees.specs.Trees.Sizes.{is_fit_name}
 use Rattle.vt_laws_trees.proofs.trees.TreesTasks.{both}
 use Rattle.vt_laws_trees.proofs.trees.TreesWalked.{Ends, ends_next, ends_step, ends_then, ends_unless}
-use Rattle.std.proofs.lemmas.Bool.{and_parts, or_parts}
-use Rattle.vt_spec.proofs.Truths.{or_false_left}
 
 pub no_longer : (most : ℕ) (bytes : List ℕ) → nat_lt most (length bytes) ≡ false → nat_le (length bytes) most ≡ true
 no_longer most bytes h = le-leb (length bytes) most (ltb-false most (length bytes) h)

@@ -1,24 +1,10 @@
 -- What calls do to tasks keeps the limits of tasks.
-use Rattle.std.proofs.lemmas.Grind.{common_steps}
-use Rattle.std.proofs.Common.{nat_eq, ◌≡◌, refl, true≢false, ℕ, suc, ◌+◌, ◌≤◌, ◌==◌, ◌%◌, arith, nat_le, nat_lt, eq-eqb, eqb-true, le-leb, le-ltb, leb-true, leb-false, lt-ltb, Bool, true, false, not, cond, List, [], ◌∷◌, ◌++◌, length, map, ◌&&◌, Option, Some, None}
+use Rattle.std.proofs.Common.{nat_eq, ◌≡◌, refl, true≢false, ℕ, suc, ◌+◌, ◌≤◌, ◌==◌, ◌%◌, arith, nat_le, nat_lt, eq-eqb, eqb-true, le-leb, le-ltb, leb-true, leb-false, lt-ltb, Bool, true, false, not, cond, List, [], ◌∷◌, ◌++◌, length, map, ◌&&◌, Option, Some, None, length-append, filter, find}
+use Rattle.vt_spec.proofs.Common.{Access, Among, CopyUp, Descriptor, ForkWords, Fresh, IsWorld, Location, Task, TaskName, World, all-filter, among_from_list_all, and_parts, are_ascending_from, child_credentials, child_name, child_of, common_steps, deepest_name, found_among, free_above, free_from, free_number, inserted, is_within_limits, list_all, most_descriptors, most_forks, opens_for_reading, opens_for_writing, pwritten, replaced_if_called, same_name, stands_on_directories, task_called, tasks-with_change, with_copy, with_descriptor, without_descriptor}
 use Rattle.std.proofs.Math.Nat.{mod-lt}
-use Rattle.std.proofs.lemmas.List.{length-append}
-use Rattle.std.proofs.lemmas.Bool.{and_parts}
-use Rattle.std.specs.List.{filter, find, list_all}
-use Rattle.vt_spec.specs.Language.Calls.{Access, ForkWords, TaskName, opens_for_reading, opens_for_writing, same_name}
-use Rattle.vt_spec.specs.Machine.Mounts.{Location}
-use Rattle.vt_spec.specs.Machine.Descriptors.{free_from, free_number, inserted, with_descriptor, without_descriptor, pwritten, with_copy}
-use Rattle.vt_spec.specs.Language.Limits.{deepest_name, most_descriptors, most_forks}
-use Rattle.vt_spec.specs.Machine.Tasks.{child_credentials, child_name, child_of, permission_bits}
-use Rattle.vt_spec.specs.Machine.World.{Descriptor, Task, replaced_if_called, World, task_called}
-use Rattle.vt_spec.specs.Machine.Invariants.{are_ascending_from, is_within_limits, IsWorld, stands_on_directories}
+use Rattle.vt_spec.specs.Machine.Tasks.{permission_bits}
 pub use Rattle.std.proofs.lemmas.Bool.{and_from as both}
-use Rattle.vt_spec.proofs.Found.{found_among}
-use Rattle.vt_spec.proofs.Lists.{Among, all-filter, among_from_list_all}
-use Rattle.vt_spec.proofs.Descriptors.{ascending-filter, free_above}
-use Rattle.vt_spec.specs.Language.Changes.Change.{CopyUp}
-use Rattle.vt_spec.specs.Lists.{Fresh}
-use Rattle.vt_spec.proofs.Worlds.{tasks-with_change}
+use Rattle.vt_spec.proofs.Descriptors.{ascending-filter}
 
 -- a task that is called is there
 pub called_there : (tasks : List (Task ℕ)) (name : TaskName) (task : Task ℕ)

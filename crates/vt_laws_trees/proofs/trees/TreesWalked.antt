@@ -1,18 +1,9 @@
 -- What is known of the end of a walk: the directory of a name is one, and the name leads where its entry does.
 use Rattle.std.proofs.Common.{arith, ◌≡◌, refl, sym, ap, ◌∙◌, true≢false, ℕ, zero, suc, ◌+◌, nat_eq, Bool, true, false, not, List, [], ◌∷◌, ◌&&◌, ◌||◌, Option, Some, None, is_some, option_map, Result, Ok, Err, reverse, subst}
-use Rattle.std.proofs.lemmas.Grind.{common_steps}
-use Rattle.std.specs.Prelude.{⊤}
+use Rattle.vt_spec.proofs.Common.{Dot, DotDot, Here, LastWord, Location, Named, NoWord, NoneFails, Outcome, Place, Rules, Stop, Task, World, after, and_then, common_steps, ends_in_slash, file_or_symlink, file_walked, final_word, followed, is_directory_at, is_special, most_symlinks, name_of, new_name_rules, path_text, prefix_walked, stopped_by, symlink_of, then_walk, topmost, unless, walk_start, walk_unless, words, ⊤}
 use Rattle.vt_spec.specs.declared.errors.Deny.{Deny}
 use Rattle.vt_spec.specs.declared.errors.Rule.TheVariants.{W3, W6}
-use Rattle.vt_spec.specs.Errors.{NoneFails, Rules, and_then, unless}
-use Rattle.vt_spec.specs.Machine.Mounts.{Location, topmost}
-use Rattle.vt_spec.specs.Machine.Outcomes.{Outcome, after}
-use Rattle.vt_spec.specs.Machine.Walking.{Here, LastWord, Place, Stop, final_word, is_special, symlink_of, name_of, path_text, stopped_by, then_walk, walk_start, walk_unless}
-use Rattle.vt_spec.proofs.Walk.{entry_location, file_or_symlink, file_walk, file_walked, followed, follow_rules, prefix_walked, is_directory_there, symlink_start, symlink_there, new_leaf_walk, new_name_rules, new_walk, object_named, old_leaf_walk, old_walk, place_walk, placed, search_rules, steps_at}
-use Rattle.vt_spec.specs.Language.Limits.{most_symlinks}
-use Rattle.vt_spec.specs.Machine.Walking.LastWord.{Dot, DotDot, Named, NoWord}
-use Rattle.vt_spec.specs.Machine.World.{Task, World, is_directory_at}
-use Rattle.vt_spec.specs.PathText.{ends_in_slash, words}
+use Rattle.vt_spec.proofs.Walk.{entry_location, file_walk, follow_rules, is_directory_there, symlink_start, symlink_there, new_leaf_walk, new_walk, object_named, old_leaf_walk, old_walk, place_walk, placed, search_rules, steps_at}
 pub use Rattle.std.proofs.lemmas.Bool.{not-false as not_true}
 
 -- where a walk ends, this holds

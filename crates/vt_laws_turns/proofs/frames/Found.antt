@@ -1,11 +1,6 @@
 -- What is found by its number, in lists in which each number is there once.
-use Rattle.std.proofs.Common.{arith, ◌≡◌, refl, sym, ap, ◌∙◌, ⊎_elim, ℕ, nat_eq, Bool, true, false, true≢false, cond, List, [], ◌∷◌, Option, Some, find, map, eqb-true, eq-eqb}
-use Rattle.std.proofs.lemmas.Grind.{common_steps}
-use Rattle.std.specs.Prelude.{option_map}
-use Rattle.std.specs.List.{list_any}
-use Rattle.std.proofs.lemmas.Bool.{or_parts}
-use Rattle.vt_spec.specs.Lists.{any_pair}
-use Rattle.vt_spec.proofs.Lists.{Among}
+use Rattle.std.proofs.Common.{arith, ◌≡◌, refl, sym, ap, ◌∙◌, ⊎_elim, ℕ, nat_eq, Bool, true, false, true≢false, cond, List, [], ◌∷◌, Option, Some, find, map, eqb-true, eq-eqb, option_map}
+use Rattle.vt_spec.proofs.Common.{Among, any_pair, common_steps, list_any, or_parts}
 
 module _ {A : Type 0} (number_of : A → ℕ) where
   abbrev pub numbered : ℕ → List A → Option A

@@ -1,25 +1,10 @@
 -- Where a task gets: to mounts of its namespace, or where it stands. These show what it sees.
-use Rattle.std.proofs.Common.{arith, ◌≡◌, refl, sym, ap, subst, ◌∙◌, ◌⊎◌, inl, inr, ⊎_elim, ℕ, nat_eq, Bool, true, false, List, [], ◌∷◌, ◌++◌, ◌||◌, Option, Some, None, Ok, Err, Result, flat_map, length, eqb-true}
-use Rattle.std.proofs.lemmas.Grind.{common_steps}
-use Rattle.std.specs.Prelude.{ok_or, option_map, option_to_list}
-use Rattle.std.specs.List.{list_any}
-use Rattle.std.proofs.lemmas.Bool.{and_parts}
-use Rattle.std.proofs.lemmas.Option.{same_Some}
+use Rattle.std.proofs.Common.{arith, ◌≡◌, refl, sym, ap, subst, ◌∙◌, ◌⊎◌, inl, inr, ⊎_elim, ℕ, nat_eq, Bool, true, false, List, [], ◌∷◌, ◌++◌, ◌||◌, Option, Some, None, Ok, Err, Result, flat_map, length, eqb-true, ok_or, option_map, option_to_list}
+use Rattle.vt_spec.proofs.Common.{Among, Dot, DotDot, IsWorld, LastWord, Location, Looks, Mount, Named, NoWord, Stands, Task, World, among-append, among-filter, among-from_map, among_from_all, among_from_list_all, and_parts, and_then, any_from_among, chain, child_at, common_steps, denial, entered_upward, entry_location, filesystems_of, found_among, found_or_none, found_passes, holds_of, hops, is_directory_seen_in, last_or, list_any, looks_of, met_at, met_by, mount_at, mount_numbered, mounts_of, nat_eq_itself, none_is_some, number-mount_in, object_named, root_of, same_Some, stands_at, stands_on_directories, start_of, stepped, task_called, up_from}
 use Rattle.vt_spec.specs.declared.errors.Deny.{Deny}
 use Rattle.vt_spec.specs.declared.errors.Rule.TheVariants.{W6}
-use Rattle.vt_spec.specs.Errors.{and_then, denial}
-use Rattle.vt_spec.specs.Lists.{chain, holds_of, last_or}
-use Rattle.vt_spec.specs.Machine.Invariants.{IsWorld, Stands, is_directory_seen_in, stands_on_directories}
-use Rattle.vt_spec.specs.Machine.Looks.{Looks, looks_of, topmost}
-use Rattle.vt_spec.specs.Machine.Mounts.{Location, Mount, child_at, root_of, stands_at}
-use Rattle.vt_spec.specs.Machine.Walking.{LastWord, entered_upward, entry_location, filesystems_of, hop, hops, met_at, met_by, object_named, start_of, stepped, up_from}
-use Rattle.vt_spec.specs.Machine.Walking.LastWord.{Dot, DotDot, Named, NoWord}
-use Rattle.vt_spec.specs.Machine.World.{Task, World, mount_at, mount_numbered, mounts_of, task_called}
-use Rattle.vt_spec.proofs.Found.{found_among, found_passes}
-use Rattle.vt_spec.proofs.Lists.{Among, among-append, among-filter, among-from_map, among_from_all, among_from_list_all, any_from_among}
-use Rattle.vt_spec.proofs.Options.{none_is_some}
-use Rattle.vt_spec.proofs.Truths.{nat_eq_itself}
-use Rattle.vt_spec.proofs.Worlds.{found_or_none, number-mount_in}
+use Rattle.vt_spec.specs.Machine.Looks.{topmost}
+use Rattle.vt_spec.specs.Machine.Walking.{hop}
 use Rattle.vt_laws_mounts.proofs.mounts.MountsPlaces.{stands_there}
 use Rattle.vt_laws_mounts.proofs.mounts.MountsReplaced.{found_itself}
 use Rattle.vt_laws_worlds.proofs.worlds.Reached.{namespace_below}

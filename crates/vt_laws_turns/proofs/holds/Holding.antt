@@ -1,24 +1,8 @@
 -- Turns keep it that calls under way hold what their tasks see.
-use Rattle.std.proofs.lemmas.Grind.{common_steps, reverse_onto}
-use Rattle.std.proofs.Common.{◌≡◌, ◌≢◌, refl, sym, ap, subst, ◌∙◌, ◌⊎◌, inl, inr, ⊎_elim, ℕ, nat_eq, Bool, true, false, true≢false, cond, not, List, [], ◌∷◌, ◌++◌, ◌*◌, Some, map, reverse, is_some, eq-eqb, eqb-true, arith}
-use Rattle.std.specs.Prelude.{Contains, slice_get}
-use Rattle.std.specs.List.{list_any}
-use Rattle.std.proofs.lemmas.Option.{get_or_from_slice_get, slice_get_within}
-use Rattle.vt_spec.specs.Language.Calls.{Call, TaskName, same_name}
-use Rattle.vt_spec.specs.Lists.{Fresh, folded, is_among}
-use Rattle.vt_spec.specs.Machine.Apply.{apply}
-use Rattle.vt_spec.specs.Machine.Invariants.{IsWorld, is_listed}
-use Rattle.vt_spec.specs.Machine.Looks.{looks_of}
-use Rattle.vt_spec.specs.Machine.Mounts.{Location, Mount}
-use Rattle.vt_spec.specs.Machine.Outcomes.{Outcome, after}
-use Rattle.vt_spec.specs.Machine.Policy.{call_outcome, finished_by, policy}
-use Rattle.vt_spec.specs.Machine.Run.{Serves}
-use Rattle.vt_spec.specs.Machine.Turns.{Progress, Route, Sched, Turned, filesystem_change_of, hold_one, is_stale, namespace_change_of, one_further, routes, turn, without_progress, words_of}
-use Rattle.vt_spec.specs.Machine.World.{Namespace, Task, World, mount_at, mount_numbered, task_called}
-use Rattle.vt_spec.proofs.Found.{found_among}
-use Rattle.vt_spec.proofs.Lists.{Among, among-append, among-append_right, among-flat_map, among-from_filter, among-from_map, among-map, among_from_contains, among_from_list_all, among_numbers, contains_from_among}
-use Rattle.vt_spec.proofs.Options.{some_from_is_some}
-use Rattle.vt_spec.proofs.Worlds.{number-mount_in, same_name_itself}
+use Rattle.std.proofs.Common.{◌≡◌, ◌≢◌, refl, sym, ap, subst, ◌∙◌, ◌⊎◌, inl, inr, ⊎_elim, ℕ, nat_eq, Bool, true, false, true≢false, cond, not, List, [], ◌∷◌, ◌++◌, ◌*◌, Some, map, reverse, is_some, eq-eqb, eqb-true, arith, Contains, slice_get}
+use Rattle.vt_spec.proofs.Common.{Among, Call, Fresh, IsWorld, Location, Mount, Namespace, Outcome, Progress, Route, Sched, Serves, Task, TaskName, Turned, World, after, among-append, among-append_right, among-flat_map, among-from_filter, among-from_map, among-map, among_from_contains, among_from_list_all, among_numbers, apply, call_outcome, common_steps, contains_from_among, filesystem_change_of, finished_by, folded, found_among, get_or_from_slice_get, is_among, is_listed, is_stale, list_any, looks_of, mount_at, mount_numbered, namespace_change_of, number-mount_in, one_further, policy, routes, same_name, same_name_itself, slice_get_within, some_from_is_some, task_called, turn, without_progress, words_of}
+use Rattle.std.proofs.lemmas.Grind.{reverse_onto}
+use Rattle.vt_spec.specs.Machine.Turns.{hold_one}
 use Rattle.vt_laws_rules.proofs.judged.CallsJudged.{call_is_judged_then_applied}
 use Rattle.vt_laws_trees.proofs.calls.tasks.TasksLaws.{other_tasks_stay}
 use Rattle.vt_laws_mounts.specs.Mounts.Attaching.{numbers_of}

@@ -1,18 +1,7 @@
 -- What a walk meets is seen by its task.
-use Rattle.std.proofs.lemmas.Grind.{common_steps}
-use Rattle.std.proofs.Common.{◌≡◌, refl, sym, subst, ⊎_elim, ℕ, zero, suc, nat_eq, Bool, true, false, cond, List, [], ◌∷◌, ◌++◌, ◌||◌, Option, Some, None, Ok, Err, Result, flat_map, length, arith}
-use Rattle.std.specs.Prelude.{option_to_list}
+use Rattle.std.proofs.Common.{◌≡◌, refl, sym, subst, ⊎_elim, ℕ, zero, suc, nat_eq, Bool, true, false, cond, List, [], ◌∷◌, ◌++◌, ◌||◌, Option, Some, None, Ok, Err, Result, flat_map, length, arith, option_to_list}
+use Rattle.vt_spec.proofs.Common.{Among, Dot, DotDot, Here, IsWorld, LastWord, Location, Looks, Named, NoWord, Place, Rules, Stop, Task, World, all_met, also_met, among-append, among-append_left, among-append_right, among_from_contains, and_then, common_steps, ends_in_slash, entered, entered_mounts, filesystems_of, follow_rules, is_special, last_word, object_named, parsed_path, placed, search_rules, stepped, steps_at, steps_with, stopped_by, symlink_of, symlink_start, symlink_text, symlink_there, task_called, then_walk, unless, walk_start, walk_unless, word_walked}
 use Rattle.vt_spec.specs.declared.errors.Deny.{Deny}
-use Rattle.vt_spec.specs.Errors.{Rules, and_then, unless}
-use Rattle.vt_spec.specs.FileTree.{symlink_text}
-use Rattle.vt_spec.specs.Machine.Invariants.{IsWorld}
-use Rattle.vt_spec.specs.Machine.Looks.{Looks}
-use Rattle.vt_spec.specs.Machine.Mounts.{Location}
-use Rattle.vt_spec.specs.Machine.Walking.{Here, LastWord, Place, Stop, all_met, also_met, entered, entered_mounts, filesystems_of, follow_rules, is_special, last_word, object_named, placed, search_rules, stepped, steps_at, steps_with, stopped_by, symlink_of, symlink_start, symlink_there, then_walk, walk_start, walk_unless, word_walked}
-use Rattle.vt_spec.specs.Machine.Walking.LastWord.{Dot, DotDot, Named, NoWord}
-use Rattle.vt_spec.specs.Machine.World.{Task, World, task_called}
-use Rattle.vt_spec.specs.PathText.{ends_in_slash, parsed_path}
-use Rattle.vt_spec.proofs.Lists.{Among, among-append, among-append_left, among-append_right, among_from_contains}
 use Rattle.vt_laws_worlds.proofs.worlds.ReachedWalks.{own_directory_found, root_found}
 use Rattle.vt_laws_turns.specs.Walks.ByWords.{Aim, StandsOnDirectories, begun, last_for, pending_for, steps_of, whole_walk}
 use Rattle.vt_laws_turns.specs.Walks.HalfWalks.{met_in, words_walked_in}

@@ -1,21 +1,7 @@
 -- In the schedules of a script the numbers handed in are unused, and forks name few groups.
-use Rattle.std.proofs.lemmas.Grind.{common_steps}
-use Rattle.std.proofs.Common.{◌≡◌, refl, sym, ap, subst, ◌∙◌, inl, inr, ⊎_elim, ℕ, suc, nat_eq, Bool, true, false, true≢false, cond, List, [], ◌∷◌, ◌++◌, ◌+◌, Option, Some, None, find, map, eqb-true, add-one, arith, ◌<◌}
-use Rattle.std.specs.Prelude.{nat_le, option_map, unwrap_or}
-use Rattle.std.specs.List.{cons_option, filter_map}
-use Rattle.std.proofs.lemmas.Bool.{false_from_ne_true}
-use Rattle.vt_spec.specs.Language.Calls.{Call}
-use Rattle.vt_spec.specs.Language.Script.{Grammar, Request, Who, lines_of, whole}
-use Rattle.vt_spec.specs.Language.Script.Request.{Asking, Calling}
-use Rattle.vt_spec.specs.Lists.{Fresh, counted_from, first_of_list, folded, is_among, rest_of}
-use Rattle.vt_spec.specs.Machine.Invariants.{IsWorld}
-use Rattle.vt_spec.specs.Machine.Run.{Serves, first_world, handed, later, numbers_for, numbers_in_use}
-use Rattle.vt_spec.specs.Machine.Turns.{Item, Queue, Queued, Sched, Turned, first_sched, queue_of, queued_line, queued_request, queues_of, refused_line, same_who, schedule_who, shortened, turn, with_item_last}
-use Rattle.vt_spec.specs.Machine.Turns.Item.{Asks, Calls, Refused}
-use Rattle.vt_spec.specs.Machine.World.{World}
-use Rattle.vt_spec.proofs.Found.{found_among}
-use Rattle.vt_spec.proofs.Lists.{Among, among-append, among-from_map}
-use Rattle.vt_spec.proofs.Options.{none_is_some}
+use Rattle.std.proofs.Common.{◌≡◌, refl, sym, ap, subst, ◌∙◌, inl, inr, ⊎_elim, ℕ, suc, nat_eq, Bool, true, false, true≢false, cond, List, [], ◌∷◌, ◌++◌, ◌+◌, Option, Some, None, find, map, eqb-true, add-one, arith, ◌<◌, nat_le, option_map, unwrap_or, filter_map}
+use Rattle.vt_spec.proofs.Common.{Among, Asking, Asks, Call, Calling, Calls, Fresh, Grammar, IsWorld, Item, Queue, Queued, Refused, Request, Sched, Serves, Turned, Who, World, among-append, among-from_map, common_steps, cons_option, counted_from, false_from_ne_true, first_of_list, first_world, folded, found_among, handed, is_among, later, lines_of, none_is_some, numbers_for, numbers_in_use, queue_of, rest_of, same_who, shortened, turn, whole}
+use Rattle.vt_spec.specs.Machine.Turns.{first_sched, queued_line, queued_request, queues_of, refused_line, schedule_who, with_item_last}
 use Rattle.vt_laws_rules.specs.Numbers.{KeepsTo, LeavesOutTwo}
 use Rattle.vt_laws_rules.proofs.numbers.Rows.{col, col-spread, row, row-spread, row_first, spread, spread_for}
 use Rattle.vt_laws_rules.proofs.numbers.Supports.{calls_keep_to_numbers, opening_keeps_to_four, used_numbers_are_named}

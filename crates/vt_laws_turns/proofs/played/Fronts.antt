@@ -1,13 +1,6 @@
 -- Commits are fronts of queues.
-use Rattle.std.proofs.lemmas.Grind.{common_steps}
-use Rattle.std.proofs.Common.{◌≡◌, refl, sym, ap, subst, ◌∙◌, ⊎_elim, ℕ, nat_eq, Bool, true, false, cond, true≢false, List, [], ◌∷◌, ◌++◌, Option, Some, find, map, arith}
-use Rattle.std.proofs.lemmas.List.{append_assoc}
-use Rattle.std.specs.Prelude.{option_map, option_to_list, unwrap_or}
-use Rattle.vt_spec.specs.Language.Script.{Who}
-use Rattle.vt_spec.specs.Language.Script.Who.{Nobody, Someone}
-use Rattle.vt_spec.specs.Lists.{first_of_list, rest_of}
-use Rattle.vt_spec.specs.Machine.Turns.{Queue, Queued, Sched, Turned, queue_of, same_who, shortened, turn}
-use Rattle.vt_spec.proofs.Worlds.{same_name_itself, same_task_name}
+use Rattle.std.proofs.Common.{◌≡◌, refl, sym, ap, subst, ◌∙◌, ⊎_elim, ℕ, nat_eq, Bool, true, false, cond, true≢false, List, [], ◌∷◌, ◌++◌, Option, Some, find, map, arith, append_assoc, option_map, option_to_list, unwrap_or}
+use Rattle.vt_spec.proofs.Common.{Nobody, Queue, Queued, Sched, Someone, Turned, Who, common_steps, first_of_list, queue_of, rest_of, same_name_itself, same_task_name, same_who, shortened, turn}
 use Rattle.vt_laws_turns.specs.Commits.{Commit, CommitsAreFronts, Turn, commit_by, commit_of, commits, items_of, left_by}
 use Rattle.vt_laws_turns.proofs.played.Turning.{Turns, turn_is}
 

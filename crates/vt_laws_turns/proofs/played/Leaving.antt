@@ -1,14 +1,6 @@
 -- What a turn leaves: the world and the calls under way that it began with, or those after the call of a task.
 use Rattle.std.proofs.Common.{arith, ◌≡◌, refl, ap, ◌∙◌, ⊎_elim, ℕ, nat_eq, true≢false, List, [], ◌∷◌, Option, Some, None}
-use Rattle.std.proofs.lemmas.Grind.{common_steps}
-use Rattle.vt_spec.specs.Language.Calls.{Call, TaskName}
-use Rattle.vt_spec.specs.Language.Script.{Who}
-use Rattle.vt_spec.specs.Language.Script.Who.{Nobody, Someone}
-use Rattle.vt_spec.specs.Lists.{Fresh, first_of_list}
-use Rattle.vt_spec.specs.Machine.Policy.{policy}
-use Rattle.vt_spec.specs.Machine.Turns.{Item, Queued, Sched, Turned, queue_of, turn, without_progress}
-use Rattle.vt_spec.specs.Machine.Turns.Item.{Asks, Calls, Refused}
-use Rattle.vt_spec.proofs.Options.{none_is_some}
+use Rattle.vt_spec.proofs.Common.{Asks, Call, Calls, Fresh, Item, Nobody, Queued, Refused, Sched, Someone, TaskName, Turned, Who, common_steps, first_of_list, none_is_some, policy, queue_of, turn, without_progress}
 use Rattle.vt_laws_rules.proofs.denials.Unchanged.{directive_changes_nothing}
 use Rattle.vt_laws_turns.specs.Commits.{Turn}
 use Rattle.vt_laws_turns.proofs.TurnShapes.{Shape, is_task_call, turn_shape}

@@ -1,18 +1,6 @@
 -- How often a call restarts.
-use Rattle.std.proofs.lemmas.Grind.{common_steps}
-use Rattle.std.proofs.Common.{◌≡◌, refl, sym, ap, subst, ◌∙◌, inl, inr, ℕ, nat_eq, Bool, true, false, true≢false, cond, not, List, [], ◌∷◌, ◌++◌, ◌≤◌, ◌<◌, ◌+◌, ◌&&◌, Option, Some, None, arith}
-use Rattle.std.specs.Prelude.{is_some, option_map, option_to_list, unwrap_or}
-use Rattle.vt_spec.specs.Language.Calls.{Call, TaskName, same_name}
-use Rattle.vt_spec.specs.Language.Limits.{most_restarts}
-use Rattle.vt_spec.specs.Language.Script.{Who}
-use Rattle.vt_spec.specs.Language.Script.Who.{Nobody, Someone}
-use Rattle.vt_spec.specs.Lists.{Fresh, first_of_list, holds_of}
-use Rattle.vt_spec.specs.Machine.Turns.{Progress, Queued, Reply, Sched, Turned, first_progress, is_overtaken, one_further, queue_of, same_who, turn, without_progress}
-use Rattle.vt_spec.specs.Machine.World.{Task, task_called}
-use Rattle.vt_spec.proofs.Found.{found_among, found_passes}
-use Rattle.vt_spec.proofs.Lists.{contains_from_among}
-use Rattle.vt_spec.proofs.Options.{none_is_some}
-use Rattle.vt_spec.proofs.Worlds.{same_name_itself, same_task_name}
+use Rattle.std.proofs.Common.{◌≡◌, refl, sym, ap, subst, ◌∙◌, inl, inr, ℕ, nat_eq, Bool, true, false, true≢false, cond, not, List, [], ◌∷◌, ◌++◌, ◌≤◌, ◌<◌, ◌+◌, ◌&&◌, Option, Some, None, arith, is_some, option_map, option_to_list, unwrap_or}
+use Rattle.vt_spec.proofs.Common.{Call, Fresh, Nobody, Progress, Queued, Reply, Sched, Someone, Task, TaskName, Turned, Who, common_steps, contains_from_among, first_of_list, first_progress, found_among, found_passes, holds_of, is_overtaken, most_restarts, none_is_some, one_further, queue_of, same_name, same_name_itself, same_task_name, same_who, task_called, turn, without_progress}
 use Rattle.vt_laws_turns.specs.Commits.{Commit, Turn, commit_by, commit_of, commits, items_of}
 use Rattle.vt_laws_turns.specs.Restarts.{AtMostThreeRestarts, CallsBegin, CallsGoOn, CallsRestart, IsAnsweredOrAt, IsSched, IsUnderWay, ThenCallsAreRunWhole, finds_overtaken, has_call_first, is_call, restarts_in, under_way_of}
 use Rattle.vt_laws_turns.proofs.TurnKinds.{IsWalked, TurnKind, turn_of_call}

@@ -1,17 +1,6 @@
 -- Each turn keeps the conditions of a scheduler's state.
-use Rattle.std.proofs.lemmas.Grind.{common_steps}
-use Rattle.std.proofs.Common.{◌≡◌, refl, sym, ap, subst, ◌∙◌, ⊎_elim, ℕ, suc, nat_eq, Bool, true, false, true≢false, cond, not, List, [], ◌∷◌, ◌≤◌, Option, Some, filter, map, length, arith}
-use Rattle.std.specs.Prelude.{Contains}
-use Rattle.vt_spec.specs.Language.Calls.{TaskName, same_name}
-use Rattle.vt_spec.specs.Language.Limits.{most_restarts}
-use Rattle.vt_spec.specs.Language.Script.{Who}
-use Rattle.vt_spec.specs.Language.Script.Who.{Someone}
-use Rattle.vt_spec.specs.Lists.{Fresh, first_of_list, holds_of}
-use Rattle.vt_spec.specs.Machine.Turns.{Progress, Queue, Queued, Sched, Turned, one_further, queue_of, same_who, shortened, turn, without_progress}
-use Rattle.vt_spec.specs.Machine.World.{Task, World}
-use Rattle.vt_spec.proofs.Found.{found_among, found_passes}
-use Rattle.vt_spec.proofs.Lists.{Among, among_from_contains, among-from_filter, contains_from_among}
-use Rattle.vt_spec.proofs.Worlds.{same_name-swapped, same_task_name}
+use Rattle.std.proofs.Common.{◌≡◌, refl, sym, ap, subst, ◌∙◌, ⊎_elim, ℕ, suc, nat_eq, Bool, true, false, true≢false, cond, not, List, [], ◌∷◌, ◌≤◌, Option, Some, filter, map, length, arith, Contains}
+use Rattle.vt_spec.proofs.Common.{Among, Fresh, Progress, Queue, Queued, Sched, Someone, Task, TaskName, Turned, Who, World, among-from_filter, among_from_contains, common_steps, contains_from_among, first_of_list, found_among, found_passes, holds_of, most_restarts, one_further, queue_of, same_name, same_name-swapped, same_task_name, same_who, shortened, turn, without_progress}
 use Rattle.vt_laws_turns.specs.Restarts.{IsSched, SchedulersBegin, ScriptsBegin, TurnsKeepSchedulers, all_under_way_of, has_call_first, is_call}
 use Rattle.vt_laws_turns.proofs.TurnShapes.{Before, Shape, is_task_call, turn_shape}
 use Rattle.vt_laws_turns.proofs.TurnShapes.Before.{Again, AtStart, OnWay}

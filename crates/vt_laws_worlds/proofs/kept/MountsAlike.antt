@@ -1,17 +1,6 @@
 -- Worlds with the same mounts and masters, as changes of files and of tasks leave them.
 use Rattle.std.proofs.Common.{arith, ◌≡◌, refl, ap, ◌∙◌, sym, true, false, nat_eq, ℕ, Bool, List, [], ◌∷◌}
-use Rattle.std.proofs.lemmas.Grind.{common_steps}
-use Rattle.vt_spec.specs.Language.Changes.{Change}
-use Rattle.vt_spec.specs.Language.Changes.Change.{CopyUp, SetBytes}
-use Rattle.vt_spec.specs.Machine.Filesystems.{with_change}
-use Rattle.vt_spec.specs.Lists.{Fresh}
-use Rattle.vt_spec.specs.Machine.Mounts.{Location, Mount, mount_in}
-use Rattle.vt_spec.specs.Machine.Descriptors.{overwritten, pwritten, with_copy}
-use Rattle.vt_spec.specs.Machine.World.{World, node_at}
-use Rattle.vt_spec.specs.Machine.Invariants.{MountInvariants, Stands}
-use Rattle.vt_spec.specs.Machine.Invariants.Stands.{at_root, on_parent}
-use Rattle.vt_spec.specs.Tree.{bytes_in}
-use Rattle.vt_spec.proofs.Lists.{all_from_among, among_from_all}
+use Rattle.vt_spec.proofs.Common.{Change, CopyUp, Fresh, Location, Mount, MountInvariants, SetBytes, Stands, World, all_from_among, among_from_all, at_root, bytes_in, common_steps, mount_in, node_at, on_parent, overwritten, pwritten, with_change, with_copy}
 
 -- Standing is of the mounts alone.
 stands_alike : (a b : World ℕ) → a.mounts ≡ b.mounts → (number : ℕ) → Stands nat_eq a number → Stands nat_eq b number

@@ -1,15 +1,6 @@
 -- What is attached in a namespace of a task keeps the invariants of mounts: binds, new mounts and moves.
 use Rattle.std.proofs.Common.{◌≡◌, ap, subst, ◌∙◌, sym, true, nat_eq, ℕ, Bool, List, [], inl, inr, ◌⊎◌, ◌∷◌, ◌++◌, arith, flat_map, is_some, map, true≢false, ⊎_elim, ◌*◌, ◌+◌}
-use Rattle.std.proofs.lemmas.Bool.{and_parts, false_from_ne_true}
-use Rattle.vt_spec.specs.Lists.{Fresh, is_among, odds}
-use Rattle.vt_spec.specs.Machine.Mounts.{Location, Mount}
-use Rattle.vt_spec.specs.Language.Calls.{MountFlags}
-use Rattle.vt_spec.specs.Machine.Attach.{bound_at, moved_to}
-use Rattle.vt_spec.specs.Machine.NewMounts.{mounted, plain_filesystem, with_new_filesystem}
-use Rattle.vt_spec.specs.Machine.Run.{Serves, numbers_in_use, used_by_filesystem, used_by_mount}
-use Rattle.vt_spec.specs.Machine.World.{Filesystem, Namespace, Task, World, mount_at, mount_numbered}
-use Rattle.vt_spec.specs.Machine.Invariants.{MountInvariants, is_there}
-use Rattle.vt_spec.proofs.Lists.{Among, among-append, among-map, among-append_left, among-append_right, among-flat_map, among-from_flat_map, among_numbers, is_among_numbers}
+use Rattle.vt_spec.proofs.Common.{Among, Filesystem, Fresh, Location, Mount, MountFlags, MountInvariants, Namespace, Serves, Task, World, among-append, among-append_left, among-append_right, among-flat_map, among-from_flat_map, among-map, among_numbers, and_parts, bound_at, false_from_ne_true, found_or_none, is_among, is_among_numbers, is_there, mount_at, mount_numbered, mounted, moved_to, number-mount_in, numbers_in_use, odds, plain_filesystem, served-distinct, used_by_filesystem, used_by_mount, with_new_filesystem}
 use Rattle.vt_laws_mounts.specs.Mounts.Attached.{IsAttachedAt}
 use Rattle.vt_laws_mounts.specs.Mounts.Attaching.{is_mount, numbers_of}
 use Rattle.vt_laws_mounts.specs.Mounts.Moving.{CanMove}
@@ -19,8 +10,6 @@ use Rattle.vt_laws_mounts.proofs.attached.AttachedNowhere.{binds_keep_nowhere, m
 use Rattle.vt_laws_mounts.proofs.attached.BindsStand.{binds_keep_numbers, binds_keep_places, binds_keep_standing, moves_keep_numbers, new_mounts_keep_numbers, new_mounts_keep_places, new_mounts_keep_standing}
 use Rattle.vt_laws_mounts.proofs.moves.Moving.{moves_keep_places, moves_keep_standing}
 use Rattle.vt_laws_worlds.specs.Worlds.Permits.{IsDestination, IsOwn, MayMoveTo}
-use Rattle.vt_spec.proofs.Worlds.{number-mount_in, found_or_none}
-use Rattle.vt_spec.proofs.FreshNumbers.{served-distinct}
 
 -- The supply for what a new filesystem is mounted with serves beside it: its number and its root are of the other half.
 module _ (world : World ℕ) (fresh : Fresh ℕ) (serves : Serves nat_eq world fresh) where

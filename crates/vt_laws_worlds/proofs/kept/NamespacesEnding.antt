@@ -1,20 +1,6 @@
 -- Namespaces that end with their last tasks, after an exit, an unshare or an entry.
-use Rattle.std.proofs.Common.{arith, ◌≡◌, refl, sym, ap, subst, ◌∙◌, inl, ⊎_elim, ℕ, nat_eq, Bool, true, false, true≢false, List, [], ◌∷◌, ◌++◌, Some, eqb-true, filter, flat_map, length, map, not, ◌&&◌}
-use Rattle.std.proofs.lemmas.Grind.{common_steps}
-use Rattle.std.specs.List.{list_any}
-use Rattle.std.specs.Prelude.{unwrap_or}
-use Rattle.std.proofs.lemmas.Bool.{and_parts, false_from_ne_true, not-false}
-use Rattle.std.proofs.lemmas.Option.{same_Some}
-use Rattle.vt_spec.specs.Machine.Detach.{after_going, is_going}
-use Rattle.vt_spec.specs.Lists.{Fresh, evens, holds_of, odds}
-use Rattle.vt_spec.specs.Machine.Mounts.{Mount, numbers_by}
-use Rattle.vt_spec.specs.Machine.Namespaces.{copied_mount, entered_at, has_tasks, is_in_ended, namespace_entered, namespace_root, namespaces_ended, unshared, unshared_task}
-use Rattle.vt_spec.specs.Machine.Receives.{inheriting}
-use Rattle.vt_spec.specs.Machine.Run.{Serves, numbers_in_use, used_by_filesystem, used_by_mount}
-use Rattle.vt_spec.specs.Machine.World.{Namespace, Task, World, mounts_of, without_task}
-use Rattle.vt_spec.specs.Language.Calls.{same_name}
-use Rattle.vt_spec.specs.Machine.Invariants.{NamespaceInvariants, is_root_mount}
-use Rattle.vt_spec.proofs.Lists.{Among, among-append, among-append_left, among-append_right, among-filter, among-from_filter, among-from_map, among-map, any_among, contains_from_among, is_among_numbers, pair-filter}
+use Rattle.std.proofs.Common.{arith, ◌≡◌, refl, sym, ap, subst, ◌∙◌, inl, ⊎_elim, ℕ, nat_eq, Bool, true, false, true≢false, List, [], ◌∷◌, ◌++◌, Some, eqb-true, filter, flat_map, length, map, not, ◌&&◌, unwrap_or}
+use Rattle.vt_spec.proofs.Common.{Among, Fresh, Mount, Namespace, NamespaceInvariants, Serves, Task, World, after_going, among-append, among-append_left, among-append_right, among-filter, among-from_filter, among-from_map, among-map, and_parts, any_among, common_steps, contains_from_among, copied_mount, entered_at, evens, false_from_ne_true, has_tasks, holds_of, inheriting, is_among_numbers, is_going, is_in_ended, is_root_mount, list_any, mounts_of, namespace_entered, namespace_root, namespaces_ended, not-false, numbers_by, numbers_in_use, odds, pair-filter, same_Some, same_name, unshared, unshared_task, used_by_filesystem, used_by_mount, without_task}
 use Rattle.vt_laws_mounts.specs.Mounts.Invariants.{OneNumberEach}
 use Rattle.vt_laws_mounts.specs.Mounts.Ending.{root_mounts_in}
 use Rattle.vt_laws_mounts.proofs.ends.EndingCounts.{ended_namespaces_keep_roots}

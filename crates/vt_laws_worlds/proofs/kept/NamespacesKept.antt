@@ -1,20 +1,6 @@
 -- Each permit that fits keeps the invariants of namespaces.
 use Rattle.std.proofs.Common.{arith, ◌≡◌, refl, sym, ap, subst, None, Option, Some, flat_map, map, nat_eq, ℕ, ◌+◌}
-use Rattle.std.proofs.lemmas.Grind.{common_steps}
-use Rattle.vt_spec.specs.Machine.Apply.{apply}
-use Rattle.vt_spec.specs.Language.Changes.Change.{Make, Move, Remove}
-use Rattle.vt_spec.specs.Machine.Detach.{mounts_on, without_mounts_on, without_replaced}
-use Rattle.vt_spec.specs.Lists.{Fresh, evens, odds}
-use Rattle.vt_spec.specs.Machine.Mounts.{Location, Mount, mount_tree}
-use Rattle.vt_spec.specs.Machine.Descriptors.{is_copied_up, with_descriptor, without_descriptor}
-use Rattle.vt_spec.specs.Machine.NewMounts.{plain_filesystem}
-use Rattle.vt_spec.specs.Machine.Tasks.{child_of}
-use Rattle.vt_spec.specs.Machine.Permits.{Permit}
-use Rattle.vt_spec.specs.Machine.Permits.Permit.{ToBind, ToChange, ToClose, ToEnterNamespace, ToExit, ToFork, ToMake, ToMountOverlay, ToMountPlain, ToMove, ToOpen, ToOpenNew, ToPivot, ToRemoveDirectory, ToRename, ToSetCredentials, ToSetDirectory, ToSetFlags, ToSetRoot, ToSetType, ToSetUmask, ToUnmount, ToUnmountLazily, ToUnshare, ToWritePart}
-use Rattle.vt_spec.specs.Machine.Run.{Serves}
-use Rattle.vt_spec.specs.Machine.World.{Task, World, mount_at, mount_numbered, replaced_if_called}
-use Rattle.vt_spec.specs.Machine.Invariants.{IsWorld, NamespaceInvariants}
-use Rattle.vt_spec.proofs.Lists.{Among}
+use Rattle.vt_spec.proofs.Common.{Among, Fresh, IsWorld, Location, Make, Mount, Move, NamespaceInvariants, Permit, Remove, Serves, Task, ToBind, ToChange, ToClose, ToEnterNamespace, ToExit, ToFork, ToMake, ToMountOverlay, ToMountPlain, ToMove, ToOpen, ToOpenNew, ToPivot, ToRemoveDirectory, ToRename, ToSetCredentials, ToSetDirectory, ToSetFlags, ToSetRoot, ToSetType, ToSetUmask, ToUnmount, ToUnmountLazily, ToUnshare, ToWritePart, World, apply, child_of, common_steps, evens, is_copied_up, mount_at, mount_numbered, mount_tree, mounts_on, odds, plain_filesystem, replaced_if_called, with_descriptor, without_descriptor, without_mounts_on, without_replaced}
 use Rattle.vt_laws_mounts.proofs.ends.EndingCounts.{points_keep_roots, points_take_none_in, unmount_keeps_roots, unmount_takes_none_in}
 use Rattle.vt_laws_mounts.proofs.ends.EndingLazyCounts.{lazy_unmount_keeps_roots, lazy_unmount_takes_none_in}
 use Rattle.vt_laws_mounts.proofs.namespaces.MountsInvariants.{flags_keep_counts, type_keeps_counts}

@@ -1,16 +1,6 @@
 -- Namespaces of a world with their mounts and tasks, as facts on what stands in its lists.
-use Rattle.std.proofs.lemmas.Grind.{common_steps}
-use Rattle.std.proofs.Common.{◌≡◌, refl, sym, ap, subst, ◌∙◌, ℕ, nat_eq, Bool, true, false, List, [], ◌∷◌, Option, Some, None, arith, eq-eqb, eqb-true, inl, is_some, length, map, true≢false, ⊎_elim, ◌&&◌}
-use Rattle.std.specs.Prelude.{Contains, option_to_list}
-use Rattle.std.specs.List.{list_all}
-use Rattle.std.proofs.lemmas.Bool.{and_parts}
-use Rattle.vt_spec.specs.Machine.Attach.{has_too_many}
-use Rattle.vt_spec.specs.Lists.{any_pair, holds_of}
-use Rattle.vt_spec.specs.Machine.Mounts.{Mount}
-use Rattle.vt_spec.specs.Machine.Namespaces.{has_tasks}
-use Rattle.vt_spec.specs.Machine.World.{Namespace, Task, World, mounts_of}
-use Rattle.vt_spec.specs.Machine.Invariants.{NamespaceInvariants, has_one_root, is_listed}
-use Rattle.vt_spec.proofs.Lists.{Among, among-filter, among-from_filter, among-from_map, among-map, among_from_all, among_from_contains, among_from_list_all, among_numbers, any_among, any_from_among, is_among_numbers, list_all_from_among}
+use Rattle.std.proofs.Common.{◌≡◌, refl, sym, ap, subst, ◌∙◌, ℕ, nat_eq, Bool, true, false, List, [], ◌∷◌, Option, Some, None, arith, eq-eqb, eqb-true, inl, is_some, length, map, true≢false, ⊎_elim, ◌&&◌, Contains, option_to_list}
+use Rattle.vt_spec.proofs.Common.{Among, Mount, Namespace, NamespaceInvariants, Task, World, among-filter, among-from_filter, among-from_map, among-map, among_from_all, among_from_contains, among_from_list_all, among_numbers, and_parts, any_among, any_from_among, any_pair, common_steps, has_one_root, has_tasks, has_too_many, holds_of, is_among_numbers, is_listed, list_all, list_all_from_among, mounts_of}
 use Rattle.vt_laws_mounts.specs.Mounts.Ending.{IsOutOrStays, TakesNoMountsIn, root_mounts_in}
 use Rattle.vt_laws_mounts.specs.Mounts.Moving.{StaysInNamespaces}
 

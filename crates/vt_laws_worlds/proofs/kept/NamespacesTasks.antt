@@ -1,15 +1,6 @@
 -- Tasks that change, fork and end, and the namespaces that they are in.
 use Rattle.std.proofs.Common.{arith, ◌≡◌, refl, sym, ap, ◌∙◌, ⊎_elim, ℕ, nat_eq, Bool, true, false, cond, true≢false, List, [], ◌∷◌, ◌++◌, map}
-use Rattle.std.proofs.lemmas.Grind.{common_steps}
-use Rattle.std.specs.List.{list_any}
-use Rattle.std.specs.Cmp.Lexicographic.{bytes_decides}
-use Rattle.std.proofs.lemmas.Bool.{or_parts}
-use Rattle.vt_spec.specs.Lists.{any_pair}
-use Rattle.vt_spec.specs.Machine.Mounts.{Mount}
-use Rattle.vt_spec.specs.Machine.Namespaces.{pivoted_task}
-use Rattle.vt_spec.specs.Machine.World.{Namespace, Task, World, replaced_if_called}
-use Rattle.vt_spec.specs.Language.Calls.{same_name}
-use Rattle.vt_spec.proofs.Lists.{Among, among-append, among-append_left, among-from_map, none_among}
+use Rattle.vt_spec.proofs.Common.{Among, Mount, Namespace, Task, World, among-append, among-append_left, among-from_map, any_pair, bytes_decides, common_steps, list_any, none_among, or_parts, pivoted_task, replaced_if_called, same_name}
 use Rattle.vt_laws_worlds.proofs.kept.NamespacesListed.{IsListedIn, TasksStay, mapped_tasks_stay}
 use Rattle.vt_laws_worlds.proofs.TasksNamed.{AreNamedApart}
 

@@ -1,17 +1,7 @@
 -- The opening world has the invariants.
-use Rattle.std.proofs.Common.{arith, ◌≡◌, refl, sym, ap, ◌∙◌, ℕ, nat_eq, eq-eqb, true, false, cond, [], ◌||◌, ◌&&◌, Some, None, is_some}
-use Rattle.std.proofs.lemmas.Grind.{common_steps}
-use Rattle.std.specs.Prelude.{option_to_list, unwrap_or}
-use Rattle.std.specs.List.{list_all}
-use Rattle.std.proofs.lemmas.Bool.{and_from}
-use Rattle.std.proofs.lemmas.List.Elements.{All-cons, All-head, All-nil, All-weaker}
-use Rattle.vt_spec.specs.Lists.{Fresh}
-use Rattle.vt_spec.specs.Machine.Mounts.{Mount, no_mount, root_of}
-use Rattle.vt_spec.specs.Machine.World.{Filesystem, World, filesystem_numbered, first_mount, first_location, is_directory_at, mount_at, mount_numbered, new_plain, node_at, opening}
-use Rattle.vt_spec.specs.Machine.Invariants.{ListsNumbers, MountInvariants, NamespaceInvariants, Stands, TaskInvariants, TreeInvariants}
-use Rattle.vt_spec.specs.Machine.Invariants.Stands.{at_root}
-use Rattle.vt_spec.specs.Tree.{is_directory_node}
-use Rattle.vt_spec.specs.TreeInvariant.{HasOwnParents, IsTree}
+use Rattle.std.proofs.Common.{arith, ◌≡◌, refl, sym, ap, ◌∙◌, ℕ, nat_eq, eq-eqb, true, false, cond, [], ◌||◌, ◌&&◌, Some, None, is_some, option_to_list, unwrap_or}
+use Rattle.vt_spec.proofs.Common.{All-cons, All-head, All-nil, All-weaker, Filesystem, Fresh, HasOwnParents, IsTree, ListsNumbers, Mount, MountInvariants, NamespaceInvariants, Stands, TaskInvariants, TreeInvariants, World, and_from, at_root, common_steps, directory_is_there, filesystem_numbered, first_mount, is_directory_at, is_directory_node, list_all, mount_at, mount_numbered, new_plain, no_mount, node_at, opening, root_of}
+use Rattle.vt_spec.specs.Machine.World.{first_location}
 use Rattle.vt_laws_mounts.specs.LettingGo.InUse.{AllInUse}
 use Rattle.vt_laws_mounts.proofs.letting_go.sweeps.InUse.{nothing_goes}
 use Rattle.vt_laws_mounts.proofs.letting_go.Lists.{or_first}
@@ -25,7 +15,6 @@ use Rattle.vt_laws_worlds.specs.Worlds.Kept.{MountsShow}
 use Rattle.vt_laws_worlds.proofs.TasksNamed.{opening_counts_forks}
 use Rattle.vt_laws_worlds.proofs.RaisedInUse.{world_of}
 use Rattle.vt_laws_mounts.proofs.GroupsLiving.{all_live}
-use Rattle.vt_spec.proofs.Nodes.{directory_is_there}
 
 module _ (fresh : Fresh ℕ) where
   abbrev first_world : World ℕ

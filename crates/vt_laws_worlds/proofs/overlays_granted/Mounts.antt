@@ -1,6 +1,6 @@
 -- The mount of an overlay that is granted.
 use Rattle.std.proofs.Common.{Some, nat_eq, refl, ℕ, ◌≡◌}
-use Rattle.std.specs.Prelude.{⊤}
+use Rattle.vt_spec.proofs.Common.{Call, Fresh, IsWorld, Permit, Task, ToMountOverlay, World, looks_of, overfills, task_called, ⊤}
 use Rattle.vt_laws_trees.proofs.layers.mounting.Walked.{all_plain, are_walked, fit_layers, has_layers, shown_plain}
 use Rattle.vt_laws_worlds.specs.OverlaysGranted.Granted.{GivenOverlaysMayBeMounted, MayBeMounted}
 use Rattle.vt_laws_rules.proofs.given.Inversion.{calls_are_granted}
@@ -10,14 +10,6 @@ use Rattle.vt_laws_trees.proofs.trees.TreesWalked.{at_end}
 use Rattle.vt_laws_worlds.proofs.worlds.FitPermits.{destination}
 use Rattle.vt_laws_worlds.proofs.worlds.ReachedPlaces.{IsTopmost, destination_walk_end}
 use Rattle.vt_spec.proofs.Tables.{destination_walk}
-use Rattle.vt_spec.specs.Language.Calls.{Call}
-use Rattle.vt_spec.specs.Lists.{Fresh}
-use Rattle.vt_spec.specs.Machine.Apply.{overfills}
-use Rattle.vt_spec.specs.Machine.Invariants.{IsWorld}
-use Rattle.vt_spec.specs.Machine.Looks.{looks_of}
-use Rattle.vt_spec.specs.Machine.Permits.{Permit}
-use Rattle.vt_spec.specs.Machine.Permits.Permit.{ToMountOverlay}
-use Rattle.vt_spec.specs.Machine.World.{Task, World, task_called}
 
 module _ (world : World ℕ) (fresh : Fresh ℕ) (task : Task ℕ) (is : IsWorld nat_eq world)
     (called : task_called world task.name ≡ Some task) where

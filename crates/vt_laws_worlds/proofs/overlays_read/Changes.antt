@@ -1,9 +1,6 @@
 -- What a permit changes is no overlay without an upper layer.
 use Rattle.std.proofs.Common.{arith, Bool, List, None, Option, Some, [], ap, false, is_some, nat_eq, not, refl, subst, sym, true, true≢false, ℕ, ◌&&◌, ◌==◌, ◌∙◌, ◌∷◌, ◌≡◌}
-use Rattle.std.proofs.lemmas.Grind.{common_steps}
-use Rattle.std.proofs.lemmas.Bool.{or_parts}
-use Rattle.std.specs.List.{list_all}
-use Rattle.std.specs.Prelude.{⊤}
+use Rattle.vt_spec.proofs.Common.{Access, Call, Change, CopyUp, Descriptor, Filesystem, Fresh, Location, Looks, Overlay, Permit, Task, ToOpen, World, among_from_list_all, and_true_left, and_true_right, common_steps, descriptor_found, descriptor_numbered, filesystem_at, found_among, has_no_upper, is_copied_up, is_overlay, lies_only_in_lowers, list_all, looks_of, mount_at, none_is_some, of_overlay, opens_for_writing, or_parts, overfills, overlay_or, when, ⊤}
 use Rattle.vt_laws_trees.specs.Calls.Inodes.{change_of, written_if_some}
 use Rattle.vt_laws_mounts.specs.Counts.BesideOverlays.{OverlaysHaveNoUpper}
 use Rattle.vt_laws_worlds.proofs.overlays_stay.left.Given.{given_to_task}
@@ -15,26 +12,6 @@ use Rattle.vt_laws_rules.specs.Granted.{IsGranted}
 use Rattle.vt_laws_rules.specs.Granted.IsGranted.{changes_mark, changes_mode, changes_owner, creates, creates_exclusively, makes_directory, makes_hard_link, makes_symlink, makes_whiteout, opens, opens_existing, overwrites_file, removes_directory, renames, unlinks, writes_new_file, writes_part}
 use Rattle.vt_laws_trees.proofs.trees.TreesOfWorlds.{numbered_anyhow}
 use Rattle.vt_laws_trees.proofs.trees.TreesTasks.{called_there}
-use Rattle.vt_spec.proofs.Found.{found_among}
-use Rattle.vt_spec.proofs.Given.{descriptor_found}
-use Rattle.vt_spec.proofs.Lists.{among_from_list_all}
-use Rattle.vt_spec.proofs.Options.{none_is_some}
-use Rattle.vt_spec.proofs.Truths.{and_true_left, and_true_right}
-use Rattle.vt_spec.specs.Language.Calls.{Access, Call, opens_for_writing}
-use Rattle.vt_spec.specs.Language.Changes.{Change}
-use Rattle.vt_spec.specs.Language.Changes.Change.{CopyUp}
-use Rattle.vt_spec.specs.Lists.{Fresh, when}
-use Rattle.vt_spec.specs.Machine.Apply.{overfills}
-use Rattle.vt_spec.specs.Machine.Descriptors.{is_copied_up}
-use Rattle.vt_spec.specs.Machine.Filesystems.{lies_only_in_lowers}
-use Rattle.vt_spec.specs.Machine.Locked.{of_overlay, overlay_or}
-use Rattle.vt_spec.specs.Machine.Looks.{Looks, looks_of}
-use Rattle.vt_spec.specs.Machine.Mounts.{Location}
-use Rattle.vt_spec.specs.Machine.Permits.{Permit}
-use Rattle.vt_spec.specs.Machine.Permits.Permit.{ToOpen}
-use Rattle.vt_spec.specs.Machine.Rules.Conditions.{has_no_upper}
-use Rattle.vt_spec.specs.Machine.Rules.Descriptors.{descriptor_numbered}
-use Rattle.vt_spec.specs.Machine.World.{Descriptor, Filesystem, Overlay, Task, World, filesystem_at, is_overlay, mount_at}
 
 module _ (world : World ℕ) (task : Task ℕ) (fresh : Fresh ℕ) where
   abbrev looks : Looks ℕ

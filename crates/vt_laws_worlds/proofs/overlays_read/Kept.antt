@@ -1,8 +1,6 @@
 -- A permit leaves no descriptor open for writing in an overlay without an upper layer.
 use Rattle.std.proofs.Common.{arith, Bool, List, None, Ok, Option, Some, [], ap, false, inr, is_some, map, nat_eq, not, option_map, refl, subst, sym, true, ⊎_elim, ℕ, ◌&&◌, ◌+◌, ◌++◌, ◌==◌, ◌∙◌, ◌∷◌, ◌≡◌}
-use Rattle.std.proofs.lemmas.Grind.{common_steps}
-use Rattle.std.proofs.lemmas.Bool.{and_parts}
-use Rattle.std.specs.Prelude.{⊤}
+use Rattle.vt_spec.proofs.Common.{Access, Among, Call, Change, Descriptor, Filesystem, Fresh, IsWorld, Location, Looks, Mount, Outcome, Overlay, Permit, Task, TaskName, ToClose, ToEnterNamespace, ToExit, ToFork, ToOpen, ToOpenNew, ToPivot, ToSetCredentials, ToSetDirectory, ToSetRoot, ToSetUmask, ToUnshare, World, after, all_locations, among-append, among-flat_map, among-from_filter, among-from_map, among-map, among_from_list_all, and_parts, apply, call_outcome, child_of, common_steps, evens, has_no_upper, is_located_well, judge_in, list_all_from_among, locations_of, looks_of, mount_at, mount_numbered, numbers_raised, odds, opens_for_writing, overfills, overlay_at, overlay_filesystem, overlay_or, pivoted_task, plain_filesystem, raised_task, replaced_if_called, same_name, settled, with_change, with_descriptor, without_descriptor, ⊤}
 use Rattle.vt_laws_trees.proofs.calls.tasks.TasksLeft.{left_tasks, tasks_left}
 use Rattle.vt_laws_worlds.specs.Given.LeftWorlds.{IsGivenToTask}
 use Rattle.vt_laws_worlds.proofs.overlay_permits.kept.KeptOverlays.{permits_make_their_change}
@@ -27,29 +25,6 @@ use Rattle.vt_laws_worlds.proofs.worlds.PermitsSeen.{permits_keep_what_is_seen}
 use Rattle.vt_laws_worlds.proofs.worlds.Placed.{among-inserted}
 use Rattle.vt_laws_worlds.proofs.worlds.Seen.{KeepsWhatIsSeen, mount_of_located}
 use Rattle.vt_laws_worlds.proofs.worlds.SeenMounts.{mounted_seen}
-use Rattle.vt_spec.proofs.Lists.{Among, among-append, among-flat_map, among-from_filter, among-from_map, among-map, among_from_list_all, list_all_from_among}
-use Rattle.vt_spec.specs.Language.Calls.{Access, Call, TaskName, opens_for_writing, same_name}
-use Rattle.vt_spec.specs.Language.Changes.{Change}
-use Rattle.vt_spec.specs.Lists.{Fresh, evens, odds}
-use Rattle.vt_spec.specs.Machine.Apply.{apply, overfills}
-use Rattle.vt_spec.specs.Machine.Descriptors.{with_descriptor, without_descriptor}
-use Rattle.vt_spec.specs.Machine.Filesystems.{with_change}
-use Rattle.vt_spec.specs.Machine.Invariants.{IsWorld, is_located_well}
-use Rattle.vt_spec.specs.Machine.Judge.{judge_in}
-use Rattle.vt_spec.specs.Machine.Locked.{overlay_or}
-use Rattle.vt_spec.specs.Machine.Looks.{Looks, looks_of}
-use Rattle.vt_spec.specs.Machine.Mounts.{Location, Mount}
-use Rattle.vt_spec.specs.Machine.Namespaces.{pivoted_task}
-use Rattle.vt_spec.specs.Machine.NewMounts.{overlay_filesystem, plain_filesystem}
-use Rattle.vt_spec.specs.Machine.Outcomes.{Outcome, after}
-use Rattle.vt_spec.specs.Machine.Permits.{Permit}
-use Rattle.vt_spec.specs.Machine.Permits.Permit.{ToClose, ToEnterNamespace, ToExit, ToFork, ToOpen, ToOpenNew, ToPivot, ToSetCredentials, ToSetDirectory, ToSetRoot, ToSetUmask, ToUnshare}
-use Rattle.vt_spec.specs.Machine.Policy.{call_outcome, numbers_raised, raised_task}
-use Rattle.vt_spec.specs.Machine.Rules.Conditions.{has_no_upper}
-use Rattle.vt_spec.specs.Machine.Rules.Mounting.{overlay_at}
-use Rattle.vt_spec.specs.Machine.Settled.{settled}
-use Rattle.vt_spec.specs.Machine.Tasks.{child_of}
-use Rattle.vt_spec.specs.Machine.World.{Descriptor, Filesystem, Overlay, Task, World, all_locations, locations_of, mount_at, mount_numbered, replaced_if_called}
 
 -- Whether there is an upper layer is told by the layers
 abbrev lacking : Option Layers → Bool

@@ -1,6 +1,6 @@
 -- In every world that a script leads to, who writes has a layer to write to.
-use Rattle.std.proofs.Common.{Bool, List, None, Option, Some, [], false, nat_eq, refl, subst, sym, true, ℕ, ◌∷◌, ◌≡◌}
-use Rattle.std.specs.Prelude.{length, nat_lt}
+use Rattle.std.proofs.Common.{Bool, List, None, Option, Some, [], false, nat_eq, refl, subst, sym, true, ℕ, ◌∷◌, ◌≡◌, length, nat_lt}
+use Rattle.vt_spec.proofs.Common.{Asking, Calling, Fresh, Grammar, IsWorld, Request, Serves, World, is_silent, line_step, line_step_by, longest_line, opening, request_of, requested, step_world}
 use Rattle.vt_laws_worlds.proofs.overlay_permits.worlds.EveryCall.{every_call_keeps_worlds}
 use Rattle.vt_laws_worlds.proofs.overlays_read.Changes.{changes_have_layers}
 use Rattle.vt_laws_worlds.proofs.overlays_read.Kept.{every_call_keeps_writers}
@@ -9,13 +9,6 @@ use Rattle.vt_laws_rules.proofs.denials.Unchanged.{directive_changes_nothing, re
 use Rattle.vt_laws_worlds.proofs.opening.OpeningWorld.{opening_is_a_world}
 use Rattle.vt_laws_worlds.proofs.worlds.WordsFew.{lines_name_few, request_names_few}
 use Rattle.vt_laws_worlds.specs.Worlds.Calls.{LeadsTo}
-use Rattle.vt_spec.specs.Language.Limits.{longest_line}
-use Rattle.vt_spec.specs.Language.Script.{Grammar, Request, is_silent, request_of}
-use Rattle.vt_spec.specs.Language.Script.Request.{Asking, Calling}
-use Rattle.vt_spec.specs.Lists.{Fresh}
-use Rattle.vt_spec.specs.Machine.Invariants.{IsWorld}
-use Rattle.vt_spec.specs.Machine.Run.{Serves, line_step, line_step_by, requested, step_world}
-use Rattle.vt_spec.specs.Machine.World.{World, opening}
 
 -- a world with all invariants in which writers have layers
 abbrev Holds : World ℕ → Type 0

@@ -1,21 +1,8 @@
 -- Whether an overlay has an upper layer is as it was after the sweep, and where worlds are the same.
-use Rattle.std.proofs.Common.{arith, Bool, List, None, Some, [], ap, cond, eqb-true, false, filter, find, inr, is_some, map, nat_eq, not, refl, sym, true, true≢false, ℕ, ◌&&◌, ◌||◌, ◌∙◌, ◌∷◌, ◌≡◌}
-use Rattle.std.proofs.lemmas.Grind.{common_steps}
-use Rattle.std.specs.List.{list_all, list_any}
-use Rattle.std.specs.Prelude.{unwrap_or}
+use Rattle.std.proofs.Common.{arith, Bool, List, None, Some, [], ap, cond, eqb-true, false, filter, find, inr, is_some, map, nat_eq, not, refl, sym, true, true≢false, ℕ, ◌&&◌, ◌||◌, ◌∙◌, ◌∷◌, ◌≡◌, unwrap_or}
+use Rattle.vt_spec.proofs.Common.{Among, Descriptor, Filesystem, Location, Mount, SameFilesystems, Task, World, all_from_among, all_locations, among-flat_map, among-map, among_from_all, among_from_list_all, any_from_among, common_steps, filesystem_numbered, has_layer_on, has_no_upper, is_among, is_mounted, is_overlay, list_all, list_all_from_among, list_any, locations_of, looks_of, mount_at, mount_in, nat_eq_itself, no_filesystem, number-only_used, of_overlay, only_used, only_used_by, overlay_or, settled, used_in, without_dead_filesystems, without_dead_in, without_dead_mounts}
 use Rattle.vt_laws_worlds.specs.OverlaysRead.Writers.{PlainWorldsHaveLayers, SameWorldsHaveLayersAlike, SweepsKeepWriters, WritersHaveLayers, writes_to_a_layer}
 use Rattle.vt_laws_trees.proofs.trees.TreesOfWorlds.{numbered_anyhow}
-use Rattle.vt_spec.proofs.Lists.{Among, all_from_among, among-flat_map, among-map, among_from_all, among_from_list_all, any_from_among, list_all_from_among}
-use Rattle.vt_spec.proofs.Truths.{nat_eq_itself}
-use Rattle.vt_spec.proofs.Worlds.{number-only_used}
-use Rattle.vt_spec.specs.Lists.{is_among}
-use Rattle.vt_spec.specs.Machine.Locked.{of_overlay, overlay_or}
-use Rattle.vt_spec.specs.Machine.Looks.{looks_of}
-use Rattle.vt_spec.specs.Machine.Mounts.{Location, Mount, mount_in}
-use Rattle.vt_spec.specs.Machine.Rules.Conditions.{has_no_upper}
-use Rattle.vt_spec.specs.Machine.SameWorlds.{SameFilesystems}
-use Rattle.vt_spec.specs.Machine.Settled.{has_layer_on, is_mounted, only_used, only_used_by, settled, used_in, without_dead_filesystems, without_dead_in, without_dead_mounts}
-use Rattle.vt_spec.specs.Machine.World.{Descriptor, Filesystem, Task, World, all_locations, filesystem_numbered, is_overlay, locations_of, mount_at, no_filesystem}
 
 -- the filesystem is an overlay without an upper layer
 abbrev pub lacks_upper : Filesystem ℕ → Bool

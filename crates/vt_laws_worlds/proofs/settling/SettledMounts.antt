@@ -1,15 +1,6 @@
 -- Mounts and namespaces where what nothing uses goes.
-use Rattle.std.proofs.Common.{arith, ◌≡◌, sym, ap, ◌∙◌, ℕ, nat_eq, true, List, Some, filter, is_some}
-use Rattle.std.proofs.lemmas.Grind.{common_steps}
-use Rattle.std.specs.Prelude.{length, nat_lt, option_to_list, ◌==◌}
-use Rattle.std.specs.List.{list_all, list_any}
-use Rattle.vt_spec.specs.Language.Limits.{most_mounts}
-use Rattle.vt_spec.specs.Machine.Mounts.{Location, Mount}
-use Rattle.vt_spec.specs.Machine.Settled.{mount_lives, settled}
-use Rattle.vt_spec.specs.Machine.World.{Namespace, World, mount_at, mount_numbered, mounts_of}
-use Rattle.vt_spec.specs.Machine.Invariants.{MountInvariants, NamespaceInvariants, Stands, is_listed, is_root_mount}
-use Rattle.vt_spec.specs.Machine.Invariants.Stands.{at_root, on_parent}
-use Rattle.vt_spec.proofs.Lists.{all-filter}
+use Rattle.std.proofs.Common.{arith, ◌≡◌, sym, ap, ◌∙◌, ℕ, nat_eq, true, List, Some, filter, is_some, length, nat_lt, option_to_list, ◌==◌}
+use Rattle.vt_spec.proofs.Common.{Location, Mount, MountInvariants, Namespace, NamespaceInvariants, Stands, World, all-filter, at_root, common_steps, is_listed, is_root_mount, list_all, list_any, most_mounts, mount_at, mount_lives, mount_numbered, mounts_of, on_parent, settled}
 use Rattle.vt_laws_mounts.proofs.letting_go.Lists.{all_from_among, among-from_filter, among_from_all, filter_twice}
 use Rattle.vt_laws_mounts.proofs.GroupsLiving.{all_live, tested_live}
 use Rattle.vt_laws_mounts.proofs.GroupsKept.{settling_keeps_groups}

@@ -1,17 +1,10 @@
 -- What is seen where tasks are, at the roots of mounts and at their places stays where what nothing uses goes.
-use Rattle.std.proofs.Common.{arith, ◌≡◌, refl, sym, ap, ◌∙◌, ℕ, nat_eq, eqb-true, eq-eqb, Bool, true, false, not, List, [], ◌∷◌, ◌++◌, find, map, filter, is_some, true≢false}
-use Rattle.std.proofs.lemmas.Grind.{common_steps}
-use Rattle.std.specs.Prelude.{filter_map, unwrap_or}
-use Rattle.vt_spec.specs.Lists.{is_among}
-use Rattle.vt_spec.specs.Machine.Mounts.{Location, Mount, root_of}
-use Rattle.vt_spec.specs.Machine.Settled.{filesystem_lives, is_located, is_mounted, located_in, mount_lives, only_used, settled, without_dead_filesystems, without_dead_in, without_dead_mounts}
-use Rattle.vt_spec.specs.Machine.World.{Filesystem, World, all_locations, filesystem_numbered, is_overlay, mount_at, mount_numbered, no_filesystem, node_at}
+use Rattle.std.proofs.Common.{arith, ◌≡◌, refl, sym, ap, ◌∙◌, ℕ, nat_eq, eqb-true, eq-eqb, Bool, true, false, not, List, [], ◌∷◌, ◌++◌, find, map, filter, is_some, true≢false, filter_map, unwrap_or}
+use Rattle.vt_spec.proofs.Common.{Filesystem, Location, Mount, World, all_locations, common_steps, filesystem_lives, filesystem_numbered, is_among, is_located, is_mounted, is_overlay, located_in, map_twice, mount_at, mount_lives, mount_numbered, no_filesystem, node_at, number-only_used, only_used, root_of, settled, without_dead_filesystems, without_dead_in, without_dead_mounts}
 use Rattle.vt_laws_mounts.proofs.letting_go.Lists.{Among, among-filter, among-map, any_passes, is_among_numbers, or_first, or_second, passes}
 use Rattle.vt_laws_mounts.proofs.letting_go.leaving.PlacesLeft.{found_in_filter, found_itself, nowhere_parts}
 use Rattle.vt_laws_trees.proofs.trees.TreesForgotten.{among_located, used_stays}
 use Rattle.vt_laws_worlds.specs.Worlds.Kept.{IsUnderWay}
-use Rattle.vt_spec.proofs.Worlds.{number-only_used}
-use Rattle.vt_spec.proofs.Lists.{map_twice}
 pub use Rattle.vt_spec.proofs.Worlds.{number-only_used as used_number}
 
 -- an inode of a filesystem by its number, where those of the number stay and keep it

@@ -1,36 +1,21 @@
 -- Tasks, and what mounts show, where what nothing uses goes.
-use Rattle.std.proofs.Common.{arith, ◌≡◌, refl, sym, ap, subst, ◌∙◌, not, inl, inr, ℕ, nat_eq, Bool, true, false, List, ◌++◌, Option, Some, None, filter, is_some, map, true≢false, ◌&&◌}
-use Rattle.std.proofs.lemmas.Grind.{common_steps}
-use Rattle.std.specs.Prelude.{All, filter_map, option_to_list}
-use Rattle.std.specs.List.{list_all}
-use Rattle.std.proofs.lemmas.Bool.{and_from, and_parts}
-use Rattle.std.proofs.lemmas.List.Elements.{All-filter, All-weaker}
+use Rattle.std.proofs.Common.{arith, ◌≡◌, refl, sym, ap, subst, ◌∙◌, not, inl, inr, ℕ, nat_eq, Bool, true, false, List, ◌++◌, Option, Some, None, filter, is_some, map, true≢false, ◌&&◌, All, filter_map, option_to_list}
+use Rattle.vt_spec.proofs.Common.{All-filter, All-weaker, Descriptor, Filesystem, HasOwnParents, IsTree, IsWorld, ListsNumbers, Location, Mount, Stands, Task, TaskInvariants, TreeInvariants, World, all_locations, and_from, and_parts, any_pair, at_root, common_steps, filesystem_lives, filesystem_numbered, has_its_root, has_regular_files_open, is_among, is_directory_at, is_directory_node, is_kind_in, is_located_well, is_overlay, list_all, locations_of, mount_at, mount_lives, mount_numbered, node_at, number-mount_in, number-only_used, on_parent, pair-filter, pair-map, root_of, same_Some, settled, stands_on_directories, without_dead_filesystems, without_dead_in, without_dead_mounts}
 use Rattle.vt_spec.specs.declared.attributes.Kind.TheVariants.{File}
-use Rattle.vt_spec.specs.FileTree.{is_kind_in}
-use Rattle.vt_spec.specs.Lists.{any_pair, is_among}
-use Rattle.vt_spec.specs.Machine.Mounts.{Location, Mount, root_of}
-use Rattle.vt_spec.specs.Machine.Settled.{filesystem_lives, mount_lives, settled, without_dead_filesystems, without_dead_in, without_dead_mounts}
-use Rattle.vt_spec.specs.Machine.World.{Descriptor, Filesystem, Task, World, all_locations, filesystem_numbered, is_directory_at, is_overlay, locations_of, mount_at, mount_numbered, node_at}
-use Rattle.vt_spec.specs.Machine.Invariants.{ListsNumbers, IsWorld, Stands, TaskInvariants, TreeInvariants, has_its_root, has_regular_files_open, is_located_well, stands_on_directories}
-use Rattle.vt_spec.specs.Tree.{is_directory_node}
 use Rattle.vt_laws_mounts.proofs.letting_go.sweeps.InUse.{one_sweep_is_enough}
 use Rattle.vt_laws_mounts.proofs.letting_go.Lists.{Among, all_from_among, all_pass, among-append_left, among-append_right, among-filter, among-filter_map, among-flat_map, among-from_filter, among-map, among_from_all, is_among_numbers, passes}
 use Rattle.vt_laws_mounts.proofs.letting_go.leaving.PlacesLeft.{found_is_there}
 use Rattle.vt_laws_mounts.specs.LettingGo.InUse.{IsListedTree}
-use Rattle.vt_spec.proofs.Lists.{pair-filter, pair-map}
 use Rattle.vt_laws_trees.specs.Trees.{IsFileTree}
 use Rattle.vt_laws_trees.proofs.trees.ChangesByCalls.{without_dead_plain}
 use Rattle.vt_laws_trees.proofs.trees.ChangesOfSizes.{settling_keeps_sizes}
 use Rattle.vt_laws_trees.proofs.trees.TreesForgotten.{settling_keeps_trees}
-use Rattle.std.proofs.lemmas.Option.{same_Some}
-use Rattle.vt_spec.specs.TreeInvariant.{HasOwnParents, IsTree}
-use Rattle.vt_spec.specs.Machine.Invariants.Stands.{at_root, on_parent}
 use Rattle.vt_laws_worlds.specs.Worlds.Kept.{IsPlain, IsUnderWay, IsWorldButForUse, MountsShow, SettlingLeavesAWorld}
 use Rattle.vt_laws_worlds.proofs.Plain.{uppers_plain}
 use Rattle.vt_laws_worlds.proofs.RaisedInUse.{world_of}
 use Rattle.vt_laws_worlds.proofs.settling.SettledMounts.{settled_mounts, settled_namespaces}
 use Rattle.vt_laws_worlds.proofs.settling.SettledSeen.{attached_lives, found_still, itself, located_lives, placed_attached, seen_stays}
-use Rattle.vt_spec.proofs.Worlds.{mount_in-among, number-mount_in, number-only_used}
+use Rattle.vt_spec.proofs.Worlds.{mount_in-among}
 
 module _ (world : World ℕ) (unsettled : IsUnderWay world) where
   abbrev after : World ℕ

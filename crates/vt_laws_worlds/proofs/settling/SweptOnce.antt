@@ -1,13 +1,6 @@
 -- Where the invariants of mounts hold, they hold on the way, so that one sweep serves for several.
 use Rattle.std.proofs.Common.{arith, ℕ, nat_eq, List, [], ◌∷◌}
-use Rattle.std.proofs.lemmas.Grind.{common_steps}
-use Rattle.vt_spec.specs.Language.Calls.{TaskName}
-use Rattle.vt_spec.specs.Machine.Detach.{unmounted_if_there}
-use Rattle.vt_spec.specs.Machine.Invariants.{MountInvariants}
-use Rattle.vt_spec.specs.Machine.Mounts.{Mount}
-use Rattle.vt_spec.specs.Machine.World.{World, without_task}
-use Rattle.vt_spec.proofs.Lists.{all_from_among, among_from_all}
-use Rattle.vt_spec.proofs.Worlds.{stands_alike}
+use Rattle.vt_spec.proofs.Common.{Mount, MountInvariants, TaskName, World, all_from_among, among_from_all, common_steps, stands_alike, unmounted_if_there, without_task}
 use Rattle.vt_laws_mounts.specs.LettingGo.Several.{KeepsMounts, ended_task}
 use Rattle.vt_laws_mounts.proofs.letting_go.ends.EndsInTurn.{one_sweep_for_all_exits_with_overlays}
 use Rattle.vt_laws_mounts.proofs.letting_go.mounting.EventsInTurn.{one_sweep_for_all_events_with_overlays}

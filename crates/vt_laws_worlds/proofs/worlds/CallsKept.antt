@@ -1,27 +1,11 @@
 -- Every call leaves a world: what is permitted fits, and each permit that fits keeps the invariants.
 use Rattle.std.proofs.Common.{◌≡◌, refl, sym, ap, subst, ◌∙◌, inr, ℕ, nat_eq, Bool, true, false, List, ◌++◌, ◌||◌, not, Option, Some, None, Result, Ok, Err, flat_map, is_ok, map, ok_or, true≢false}
-use Rattle.std.proofs.lemmas.Bool.{not-true, or_parts}
-use Rattle.std.proofs.lemmas.Slice.Eq.{bytes_eq-Decides}
+use Rattle.vt_spec.proofs.Common.{All-weaker, Answer, Call, Filesystem, ForksAreCounted, Fresh, HasOwnParents, IsTree, IsWorld, Judgement, ListsNumbers, MountInvariants, NamespaceInvariants, Outcome, Permit, Serves, Task, TaskName, World, after, apply, bytes_eq-Decides, call_outcome, denial, filesystems_changed_by, finished, finished_by, found_passes, is_among, is_within_limits, judge_in, none_from_not_some, not-true, numbers_in_use, only_looks, or_parts, policy, same_name, settled, task_called, used_by_filesystem, used_by_mount}
 use Rattle.vt_spec.specs.declared.errors.Deny.{Deny}
 use Rattle.vt_spec.specs.declared.errors.Rule.TheVariants.{S2}
-use Rattle.vt_spec.specs.Errors.{denial}
-use Rattle.vt_spec.specs.Machine.Apply.{apply}
-use Rattle.vt_spec.specs.Language.Calls.{Call, TaskName, same_name}
-use Rattle.vt_spec.specs.Machine.Judge.{Judgement, judge_in}
-use Rattle.vt_spec.specs.Lists.{Fresh, is_among}
-use Rattle.vt_spec.specs.Language.Answers.{Answer}
-use Rattle.vt_spec.specs.Machine.Outcomes.{Outcome, after}
-use Rattle.vt_spec.specs.Machine.Permits.{Permit}
-use Rattle.vt_spec.specs.Machine.Policy.{call_outcome, filesystems_changed_by, finished, finished_by, only_looks, policy}
-use Rattle.vt_spec.specs.Machine.Run.{Serves, numbers_in_use, used_by_filesystem, used_by_mount}
-use Rattle.vt_spec.specs.Machine.Settled.{settled}
-use Rattle.vt_spec.specs.Machine.World.{Filesystem, Task, World, task_called}
-use Rattle.vt_spec.specs.Machine.Invariants.{ForksAreCounted, IsWorld, ListsNumbers, MountInvariants, NamespaceInvariants, is_within_limits}
-use Rattle.vt_spec.specs.TreeInvariant.{HasOwnParents, IsTree}
 use Rattle.vt_laws_rules.proofs.judged.CallsJudged.{call_is_judged_then_applied}
 use Rattle.vt_laws_rules.proofs.rules.OwnRules.{denial_changes_nothing}
 use Rattle.vt_laws_rules.proofs.denials.Unchanged.{look_changes_nothing}
-use Rattle.std.proofs.lemmas.List.Elements.{All-weaker}
 use Rattle.vt_laws_mounts.proofs.letting_go.Lists.{Among, all_from_among, among-append_left, among-append_right, among-flat_map, among_from_all, among_numbers, is_among_numbers, passes}
 use Rattle.vt_laws_trees.specs.Trees.{IsFileTree}
 use Rattle.vt_laws_trees.specs.Trees.Calls.{AreNew, IsWorldOfTrees, mounts_overlay}
@@ -46,8 +30,6 @@ use Rattle.vt_laws_worlds.proofs.worlds.PermitsFilesystems.{permits_keep_filesys
 use Rattle.vt_laws_worlds.proofs.worlds.PermitsNamed.{permits_keep_counting_forks, permits_keep_names}
 use Rattle.vt_laws_worlds.proofs.worlds.PermitsPlaced.{permits_keep_directories, permits_keep_locations, permits_keep_open_files}
 use Rattle.vt_laws_worlds.proofs.worlds.PermitsShow.{permits_keep_mounts_showing}
-use Rattle.vt_spec.proofs.Found.{found_passes}
-use Rattle.vt_spec.proofs.Options.{none_from_not_some}
 
 -- a task goes by the name that it is found by
 pub name_found : (world : World ℕ) (name : TaskName) (task : Task ℕ) → task_called world name ≡ Some task

@@ -1,18 +1,6 @@
 -- Where no namespace gets mounts, none has too many.
-use Rattle.std.proofs.lemmas.Grind.{common_steps}
-use Rattle.std.proofs.Common.{◌≡◌, refl, sym, ap, subst, ◌∙◌, true≢false, arith, inl, inr, ⊎_elim, ◌⊎◌, ℕ, nat_eq, nat_lt, Bool, true, false, cond, List, [], ◌∷◌, ◌≤◌, filter, map, length, None}
-use Rattle.std.proofs.lemmas.Bool.{le-ltb, ltb-false}
-use Rattle.vt_spec.specs.Machine.Attach.{has_too_many}
-use Rattle.vt_spec.specs.Language.Limits.{most_mounts}
-use Rattle.vt_spec.specs.Language.Changes.{Change}
-use Rattle.vt_spec.specs.Machine.Detach.{after_going, deepest_first, lazily_unmounted, taken_away, unmounted_if_there}
-use Rattle.vt_spec.specs.Machine.Filesystems.{with_change}
-use Rattle.vt_spec.specs.Lists.{Fresh, folded, holds_of}
-use Rattle.vt_spec.specs.Machine.Mounts.{Location, Mount, mount_tree}
-use Rattle.vt_spec.specs.Machine.Namespaces.{has_tasks, is_in_ended, namespaces_ended}
-use Rattle.vt_spec.specs.Machine.Receives.{regrouped}
-use Rattle.vt_spec.specs.Machine.World.{Namespace, World, mount_numbered, with_mounts}
-use Rattle.vt_spec.proofs.Lists.{Among, among-from_filter, none_among, none_from_among}
+use Rattle.std.proofs.Common.{◌≡◌, refl, sym, ap, subst, ◌∙◌, true≢false, arith, inl, inr, ⊎_elim, ◌⊎◌, ℕ, nat_eq, nat_lt, Bool, true, false, cond, List, [], ◌∷◌, ◌≤◌, filter, map, length, None, le-ltb, ltb-false}
+use Rattle.vt_spec.proofs.Common.{Among, Change, Fresh, Location, Mount, Namespace, World, after_going, among-from_filter, common_steps, deepest_first, folded, has_tasks, has_too_many, holds_of, is_in_ended, lazily_unmounted, most_mounts, mount_numbered, mount_tree, namespaces_ended, none_among, none_from_among, regrouped, taken_away, unmounted_if_there, with_change, with_mounts}
 use Rattle.vt_laws_mounts.specs.Mounts.Ending.{count_in, is_in}
 
 abbrev pub NoMore : List (Mount ℕ) → List (Mount ℕ) → Type 0

@@ -1,28 +1,8 @@
 -- Permits that attach nothing leave no namespace with too many mounts.
-use Rattle.std.proofs.lemmas.Grind.{common_steps}
-use Rattle.std.proofs.Common.{◌≡◌, refl, ap, ◌∙◌, true≢false, arith, ◌⊎◌, eqb-true, eq-eqb, ℕ, nat_eq, nat_lt, Bool, true, false, List, [], ◌∷◌, ◌++◌, ◌+◌, ◌≤◌, ◌&&◌, filter, map, length, Option, Some, None}
-use Rattle.std.proofs.lemmas.List.{length-append, length-map}
-use Rattle.std.proofs.lemmas.List.Elements.{filter-append}
-use Rattle.vt_spec.specs.Machine.Apply.{apply}
-use Rattle.vt_spec.specs.Machine.Attach.{has_too_many}
-use Rattle.vt_spec.specs.Language.Limits.{most_mounts}
-use Rattle.vt_spec.specs.Language.Calls.{MountFlags, TypeWord}
-use Rattle.vt_spec.specs.Language.Changes.Change.{CopyUp}
-use Rattle.vt_spec.specs.Machine.Detach.{without_mounts_on, without_replaced}
-use Rattle.vt_spec.specs.Lists.{Fresh, evens, odds}
-use Rattle.vt_spec.specs.Machine.Mounts.{Location, Mount, numbers_by, replaced_if_same}
-use Rattle.vt_spec.specs.Machine.Namespaces.{copied_mount, namespace_entered, pivoted_mount, unshared}
-use Rattle.vt_spec.specs.Machine.Descriptors.{is_copied_up, pwritten, with_copy}
-use Rattle.vt_spec.specs.Machine.Permits.{Permit}
-use Rattle.vt_spec.specs.Machine.Permits.Permit.{ToBind, ToChange, ToEnterNamespace, ToExit, ToMake, ToMountOverlay, ToMountPlain, ToMove, ToOpen, ToOpenNew, ToPivot, ToRemoveDirectory, ToRename, ToSetFlags, ToSetType, ToUnmount, ToUnmountLazily, ToUnshare, ToWritePart}
-use Rattle.vt_spec.specs.Machine.Run.{Serves}
-use Rattle.vt_spec.specs.Machine.Types.{named_mounts, retyped_mount, with_new_groups, with_type}
-use Rattle.vt_spec.specs.Machine.World.{Namespace, Task, World, mount_at, mount_numbered, mounts_of, task_called, without_task}
-use Rattle.vt_spec.specs.Machine.Invariants.{IsWorld, is_listed}
-use Rattle.vt_spec.proofs.Lists.{Among, among-append, among-append_right, among-from_map, among_from_list_all, among_numbers, is_among_numbers, none_from_among}
+use Rattle.std.proofs.Common.{◌≡◌, refl, ap, ◌∙◌, true≢false, arith, ◌⊎◌, eqb-true, eq-eqb, ℕ, nat_eq, nat_lt, Bool, true, false, List, [], ◌∷◌, ◌++◌, ◌+◌, ◌≤◌, ◌&&◌, filter, map, length, Option, Some, None, length-append}
+use Rattle.vt_spec.proofs.Common.{Among, CopyUp, Fresh, IsWorld, Location, Mount, MountFlags, Namespace, Permit, Serves, Task, ToBind, ToChange, ToEnterNamespace, ToExit, ToMake, ToMountOverlay, ToMountPlain, ToMove, ToOpen, ToOpenNew, ToPivot, ToRemoveDirectory, ToRename, ToSetFlags, ToSetType, ToUnmount, ToUnmountLazily, ToUnshare, ToWritePart, TypeWord, World, among-append, among-append_right, among-from_map, among_from_list_all, among_numbers, apply, common_steps, copied_mount, evens, filter-append, has_too_many, is_among_numbers, is_copied_up, is_listed, length-map, most_mounts, mount_at, mount_numbered, mounts_of, named_mounts, namespace_entered, none_from_among, number-mount_in, numbers_by, odds, pivoted_mount, pwritten, replaced_if_same, retyped_mount, task_called, unshared, with_copy, with_new_groups, with_type, without_mounts_on, without_replaced, without_task}
 use Rattle.vt_laws_mounts.proofs.mounts.MountsReplaced.{found_itself}
 use Rattle.vt_laws_worlds.proofs.worlds.FewMounts.{Shrinks, StaysOrLeaves, change_shrinks, ended_few, few_of, filtered_no_more, lazily_shrinks, mapped_no_more, none_counted, not_too_many, regrouped_shrinks, shrinks_few, shrinks_itself, shrinks_then, taken_shrinks}
-use Rattle.vt_spec.proofs.Worlds.{number-mount_in}
 use Rattle.vt_laws_mounts.specs.LettingGo.Ends.{is_in}
 use Rattle.vt_laws_trees.proofs.trees.TreesTasks.{called_there}
 use Rattle.vt_laws_rules.proofs.same.SameMany.{attaches}

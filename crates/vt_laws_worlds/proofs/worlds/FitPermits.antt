@@ -1,25 +1,7 @@
 -- What the walks and the rules of a call say of what its permit names.
-use Rattle.std.proofs.Common.{arith, Bool, Ok, Option, ap, eqb-true, length, ok_or, option_map, refl, suc, sym, true≢false, zero, ◌||◌, ◌∙◌}
-use Rattle.std.proofs.lemmas.Grind.{common_steps}
-use Rattle.std.proofs.Math.Bool.{or-false}
-use Rattle.std.proofs.lemmas.Option.{same_Some}
-use Rattle.std.specs.List.{list_any}
-use Rattle.std.specs.Prelude.{None, Some, false, is_some, nat_eq, option_to_list, true, unwrap_or, ℕ, ◌≡◌}
+use Rattle.std.proofs.Common.{arith, Bool, Ok, Option, ap, eqb-true, length, ok_or, option_map, refl, suc, sym, true≢false, zero, ◌||◌, ◌∙◌, None, Some, false, is_some, nat_eq, option_to_list, true, unwrap_or, ℕ, ◌≡◌}
+use Rattle.vt_spec.proofs.Common.{Among, Descriptor, Here, IsWorld, Location, Looks, Place, Task, TaskName, World, among_from_list_all, chain, common_steps, descriptor_at, found_among, holds_of, is_directory_at, is_elsewhere, is_kind_in, is_listed, is_no_root, is_on_descendant, is_special, lies_under_location, list_any, looks_of, mount_at, mount_numbered, node_at, none_is_not, or-false, rest_of, same_Some, task_called}
 use Rattle.vt_laws_mounts.proofs.namespaces.Topmost.{topmost_is_free}
-use Rattle.vt_spec.proofs.Found.{found_among}
-use Rattle.vt_spec.proofs.Lists.{Among, among_from_list_all}
-use Rattle.vt_spec.proofs.Nodes.{none_is_not}
-use Rattle.vt_spec.specs.FileTree.{is_kind_in}
-use Rattle.vt_spec.specs.Language.Calls.{TaskName}
-use Rattle.vt_spec.specs.Lists.{chain, holds_of, rest_of}
-use Rattle.vt_spec.specs.Machine.Invariants.{IsWorld, is_listed}
-use Rattle.vt_spec.specs.Machine.Looks.{Looks, looks_of}
-use Rattle.vt_spec.specs.Machine.Mounts.{Location}
-use Rattle.vt_spec.specs.Machine.Rules.Conditions.{is_elsewhere, is_no_root}
-use Rattle.vt_spec.specs.Machine.Rules.Descriptors.{descriptor_at}
-use Rattle.vt_spec.specs.Machine.Rules.Mounting.{is_on_descendant, lies_under_location}
-use Rattle.vt_spec.specs.Machine.Walking.{Here, Place, is_special}
-use Rattle.vt_spec.specs.Machine.World.{Descriptor, Task, World, is_directory_at, mount_at, mount_numbered, node_at, task_called}
 use Rattle.vt_spec.specs.declared.attributes.Kind.TheVariants.{File, White}
 use Rattle.vt_spec.specs.declared.errors.Deny.{Deny}
 use Rattle.vt_laws_trees.proofs.trees.TreesTasks.{called_there}

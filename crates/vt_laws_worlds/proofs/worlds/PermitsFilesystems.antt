@@ -1,22 +1,6 @@
 -- A permit that fits keeps filesystems plain, with numbers of their own.
 use Rattle.std.proofs.Common.{◌≡◌, refl, sym, ap, subst, ◌∙◌, inl, inr, ⊎_elim, ℕ, nat_eq, Bool, true, false, List, [], ◌∷◌, ◌++◌, ◌||◌, map}
-use Rattle.std.specs.List.{list_any}
-use Rattle.std.proofs.lemmas.Bool.{or_parts}
-use Rattle.vt_spec.specs.Machine.Apply.{apply}
-use Rattle.vt_spec.specs.Language.Changes.Change.{CopyUp, Make, Move, Remove}
-use Rattle.vt_spec.specs.Language.Changes.{Change}
-use Rattle.vt_spec.specs.Machine.Detach.{going, without_mounts_on, without_replaced}
-use Rattle.vt_spec.specs.Machine.Filesystems.{with_change}
-use Rattle.vt_spec.specs.Lists.{Fresh, any_pair, evens, odds}
-use Rattle.vt_spec.specs.Machine.Mounts.{Location}
-use Rattle.vt_spec.specs.Machine.Namespaces.{namespace_entered, unshared}
-use Rattle.vt_spec.specs.Machine.Descriptors.{is_copied_up, pwritten, with_copy}
-use Rattle.vt_spec.specs.Machine.NewMounts.{plain_filesystem}
-use Rattle.vt_spec.specs.Machine.Permits.{Permit}
-use Rattle.vt_spec.specs.Machine.Permits.Permit.{ToChange, ToEnterNamespace, ToExit, ToMake, ToMountOverlay, ToMountPlain, ToOpen, ToOpenNew, ToRemoveDirectory, ToRename, ToSetType, ToUnmount, ToUnmountLazily, ToUnshare, ToWritePart}
-use Rattle.vt_spec.specs.Machine.Run.{Serves}
-use Rattle.vt_spec.specs.Machine.World.{Filesystem, Task, World, is_overlay, mount_at, mount_numbered, replaced_if_numbered, without_task}
-use Rattle.vt_spec.proofs.Lists.{Among, among-append, none_among, none_from_among}
+use Rattle.vt_spec.proofs.Common.{Among, Change, CopyUp, Filesystem, Fresh, Location, Make, Move, Permit, Remove, Serves, Task, ToChange, ToEnterNamespace, ToExit, ToMake, ToMountOverlay, ToMountPlain, ToOpen, ToOpenNew, ToRemoveDirectory, ToRename, ToSetType, ToUnmount, ToUnmountLazily, ToUnshare, ToWritePart, World, among-append, any_pair, apply, evens, filesystems-taken_away, filesystems-without_replaced, going, is_copied_up, is_overlay, list_any, mount_at, mount_numbered, namespace_entered, nat_eq_false_turned, none_among, none_from_among, odds, or_parts, plain_filesystem, pwritten, replaced_if_numbered, unshared, with_change, with_copy, without_mounts_on, without_replaced, without_task}
 use Rattle.vt_laws_mounts.proofs.mounts.MountsRetyped.{types_are_of_mounts}
 use Rattle.vt_laws_mounts.proofs.ends.UnmountingEnds.{lazy_is_of_mounts}
 use Rattle.vt_laws_trees.proofs.trees.TreesOfWorlds.{numbered_anyhow}
@@ -25,8 +9,6 @@ use Rattle.vt_laws_worlds.specs.Worlds.Kept.{IsPlain, KeptByPermits}
 use Rattle.vt_laws_worlds.specs.Worlds.Permits.{NamesWhatIsThere}
 use Rattle.vt_laws_worlds.proofs.worlds.PermitsSeen.{gone_on, replaced_plain, taken_plain}
 use Rattle.vt_laws_worlds.proofs.worlds.SeenTrees.{change_of_plain, changed_one, numbers-replaced, unused_by_filesystem}
-use Rattle.vt_spec.proofs.Truths.{nat_eq_false_turned}
-use Rattle.vt_spec.proofs.Worlds.{filesystems-taken_away, filesystems-without_replaced}
 
 -- How the filesystems go on: as they were, with one in the place of the one with its number, or with one more
 pub data FilesystemsGoOn (before : List (Filesystem ℕ)) : List (Filesystem ℕ) → Type 0 where

@@ -1,18 +1,7 @@
 -- A permit that fits keeps the names of tasks apart, where tasks have counted their forks; and they go on counting
 -- them.
-use Rattle.std.proofs.Common.{refl, ap, ◌∙◌, ℕ, nat_eq, map}
-use Rattle.std.specs.Prelude.{unwrap_or}
-use Rattle.vt_spec.specs.Machine.Apply.{apply}
-use Rattle.vt_spec.specs.Language.Changes.Change.{Make, Move, Remove}
-use Rattle.vt_spec.specs.Machine.Detach.{going, without_mounts_on, without_replaced}
-use Rattle.vt_spec.specs.Lists.{Fresh, evens, odds}
-use Rattle.vt_spec.specs.Machine.Mounts.{Location, numbers_by}
-use Rattle.vt_spec.specs.Machine.Namespaces.{entered_at, namespace_entered, namespace_root, unshared, unshared_task}
-use Rattle.vt_spec.specs.Machine.Descriptors.{is_copied_up, with_descriptor, without_descriptor}
-use Rattle.vt_spec.specs.Machine.Permits.{Permit}
-use Rattle.vt_spec.specs.Machine.Permits.Permit.{ToChange, ToClose, ToEnterNamespace, ToExit, ToFork, ToMake, ToMountOverlay, ToOpen, ToOpenNew, ToPivot, ToRemoveDirectory, ToRename, ToSetCredentials, ToSetDirectory, ToSetRoot, ToSetType, ToSetUmask, ToUnmount, ToUnmountLazily, ToUnshare, ToWritePart}
-use Rattle.vt_spec.specs.Machine.World.{Task, World, mount_at, mount_numbered, mounts_of, replaced_if_called, without_task}
-use Rattle.vt_spec.specs.Machine.Invariants.{ForksAreCounted}
+use Rattle.std.proofs.Common.{refl, ap, ◌∙◌, ℕ, nat_eq, map, unwrap_or}
+use Rattle.vt_spec.proofs.Common.{ForksAreCounted, Fresh, Location, Make, Move, Permit, Remove, Task, ToChange, ToClose, ToEnterNamespace, ToExit, ToFork, ToMake, ToMountOverlay, ToOpen, ToOpenNew, ToPivot, ToRemoveDirectory, ToRename, ToSetCredentials, ToSetDirectory, ToSetRoot, ToSetType, ToSetUmask, ToUnmount, ToUnmountLazily, ToUnshare, ToWritePart, World, apply, entered_at, evens, going, is_copied_up, mount_at, mount_numbered, mounts_of, namespace_entered, namespace_root, numbers_by, odds, replaced_if_called, tasks-taken_away, tasks-with_change, tasks-without_replaced, unshared, unshared_task, with_descriptor, without_descriptor, without_mounts_on, without_replaced, without_task}
 use Rattle.vt_laws_mounts.proofs.mounts.MountsRetyped.{types_are_of_mounts}
 use Rattle.vt_laws_mounts.proofs.ends.UnmountingEnds.{lazy_is_of_mounts}
 use Rattle.vt_laws_worlds.specs.Worlds.Kept.{KeptByAllPermits, KeptByPermits}
@@ -21,7 +10,6 @@ use Rattle.vt_laws_worlds.specs.Worlds.Tasks.{OneTaskAName}
 use Rattle.vt_laws_worlds.proofs.worlds.PermitsSeen.{gone_on}
 use Rattle.vt_laws_worlds.proofs.TasksNamed.{GoOn, counted_among, counted_from, go_on_apart, go_on_counted}
 use Rattle.vt_laws_worlds.proofs.TasksNamed.GoOn.{all_moved, one_changed, one_left, one_more, same_ones}
-use Rattle.vt_spec.proofs.Worlds.{tasks-taken_away, tasks-with_change, tasks-without_replaced}
 use Rattle.vt_laws_trees.proofs.trees.TreesTasks.{called_there, tasks-with_copy, tasks-pwritten}
 
 module _ (world : World ℕ) (fresh : Fresh ℕ) (task : Task ℕ) where

@@ -1,29 +1,10 @@
 -- A permit that fits leaves each task on directories that are there, with regular files open.
-use Rattle.std.proofs.Common.{◌≡◌, refl, sym, ap, subst, ◌∙◌, ⊎_elim, ℕ, nat_eq, true, false, not, List, [], ◌∷◌, Some, is_some, map}
-use Rattle.std.specs.Prelude.{unwrap_or, ⊤, ◌+◌, ◌==◌}
-use Rattle.std.proofs.lemmas.Bool.{and_from, and_parts}
+use Rattle.std.proofs.Common.{◌≡◌, refl, sym, ap, subst, ◌∙◌, ⊎_elim, ℕ, nat_eq, true, false, not, List, [], ◌∷◌, Some, is_some, map, unwrap_or, ◌+◌, ◌==◌}
+use Rattle.vt_spec.proofs.Common.{Access, Descriptor, Fresh, IsWorld, Location, Make, Move, Node, Overlay, Permit, Remove, Serves, Task, ToBind, ToChange, ToClose, ToEnterNamespace, ToExit, ToFork, ToMake, ToMountOverlay, ToMountPlain, ToMove, ToOpen, ToOpenNew, ToPivot, ToRemoveDirectory, ToRename, ToSetCredentials, ToSetDirectory, ToSetFlags, ToSetRoot, ToSetType, ToSetUmask, ToUnmount, ToUnmountLazily, ToUnshare, ToWritePart, World, among-append, among-from_filter, among-from_map, and_from, and_parts, apply, child_of, entered_at, evens, filesystem_at, going, holds_of, is_copied_up, is_kind, kind_of, mount_at, mount_numbered, mounts_of, namespace_entered, namespace_root, namespaces_ended, node_at, numbers_by, odds, overlay_or, pivoted_task, replaced_if_called, same_name, task_called, tasks-taken_away, tasks-with_change, tasks-without_replaced, unshared, unshared_task, with_descriptor, without_descriptor, without_mounts_on, without_replaced, without_task, ⊤}
 use Rattle.vt_spec.specs.declared.attributes.Kind.TheVariants.{File}
-use Rattle.vt_spec.specs.Machine.Apply.{apply}
-use Rattle.vt_spec.specs.Language.Calls.{Access, same_name}
-use Rattle.vt_spec.specs.Language.Changes.Change.{Make, Move, Remove}
-use Rattle.vt_spec.specs.Machine.Detach.{going, without_mounts_on, without_replaced}
-use Rattle.vt_spec.specs.FileTree.{is_kind}
-use Rattle.vt_spec.specs.Lists.{Fresh, evens, holds_of, odds}
-use Rattle.vt_spec.specs.Machine.Mounts.{Location, numbers_by}
-use Rattle.vt_spec.specs.Machine.Namespaces.{entered_at, namespace_entered, namespace_root, namespaces_ended, pivoted_task, unshared, unshared_task}
-use Rattle.vt_spec.specs.Machine.Descriptors.{is_copied_up, with_descriptor, without_descriptor}
-use Rattle.vt_spec.specs.Machine.Tasks.{child_of}
-use Rattle.vt_spec.specs.Machine.Permits.{Permit}
-use Rattle.vt_spec.specs.Machine.Permits.Permit.{ToBind, ToChange, ToClose, ToEnterNamespace, ToExit, ToFork, ToMake, ToMountOverlay, ToMountPlain, ToMove, ToOpen, ToOpenNew, ToPivot, ToRemoveDirectory, ToRename, ToSetCredentials, ToSetDirectory, ToSetFlags, ToSetRoot, ToSetType, ToSetUmask, ToUnmount, ToUnmountLazily, ToUnshare, ToWritePart}
-use Rattle.vt_spec.specs.Machine.Run.{Serves}
-use Rattle.vt_spec.specs.Machine.World.{Descriptor, Overlay, Task, World, filesystem_at, mount_at, mount_numbered, mounts_of, node_at, replaced_if_called, task_called, without_task}
-use Rattle.vt_spec.specs.Machine.Invariants.{IsWorld}
-use Rattle.vt_spec.specs.Tree.{Node, kind_of}
-use Rattle.vt_spec.proofs.Lists.{among-append, among-from_filter, among-from_map}
 use Rattle.vt_laws_mounts.specs.Mounts.Attaching.{is_mount}
 use Rattle.vt_laws_mounts.proofs.mounts.MountsRetyped.{types_are_of_mounts}
 use Rattle.vt_laws_mounts.proofs.ends.UnmountingEnds.{lazy_is_of_mounts}
-use Rattle.vt_spec.specs.Machine.Locked.{overlay_or}
 use Rattle.vt_laws_worlds.specs.Worlds.Kept.{IsPlain, KeptByPermits}
 use Rattle.vt_laws_worlds.specs.Worlds.Permits.{IsFitPermit, IsReachedDirectory, NamesWhatIsThere}
 use Rattle.vt_laws_worlds.specs.Worlds.Tasks.{LocationsAreThere, OpenFilesAreRegular, TasksStandOnDirectories}
@@ -33,7 +14,6 @@ use Rattle.vt_laws_worlds.proofs.worlds.Roots.{namespace_root_stands, own_there,
 use Rattle.vt_laws_worlds.proofs.worlds.Seen.{KeepsWhatIsSeen, kind_is, kind_seen, seen_alike, there_is}
 use Rattle.vt_laws_worlds.proofs.Plain.{plain_numbered}
 use Rattle.vt_laws_worlds.proofs.worlds.SeenMerges.{new_inode_seen}
-use Rattle.vt_spec.proofs.Worlds.{tasks-taken_away, tasks-with_change, tasks-without_replaced}
 use Rattle.vt_laws_trees.proofs.trees.TreesTasks.{called_there, tasks-with_copy, tasks-pwritten}
 
 -- where a walk led

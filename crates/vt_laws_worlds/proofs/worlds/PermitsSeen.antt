@@ -1,31 +1,12 @@
 -- A permit that fits keeps what is seen.
-use Rattle.std.proofs.Common.{arith, ◌≡◌, refl, sym, subst, ◌∙◌, ℕ, nat_eq, Bool, true, false, filter, flat_map, List, [], ◌∷◌, Option, Some, None, map}
-use Rattle.std.proofs.lemmas.Grind.{common_steps}
-use Rattle.std.specs.Prelude.{All}
-use Rattle.vt_spec.specs.Machine.Apply.{apply}
-use Rattle.vt_spec.specs.Machine.Attach.{bind_tree}
-use Rattle.vt_spec.specs.Language.Changes.{Change}
-use Rattle.vt_spec.specs.Language.Changes.Change.{CopyUp, Make, Move, Remove}
-use Rattle.vt_spec.specs.Machine.Filesystems.{with_change}
-use Rattle.vt_spec.specs.Machine.Detach.{going, mounts_on, taken_away, without_mounts_on, without_replaced}
-use Rattle.vt_spec.specs.Lists.{Fresh, evens, odds}
-use Rattle.vt_spec.specs.Machine.Mounts.{Location, Mount, mount_tree, numbers_by}
-use Rattle.vt_spec.specs.Machine.Namespaces.{copied_mount, is_in_ended, namespace_entered, namespaces_ended, unshared}
-use Rattle.vt_spec.specs.Machine.Descriptors.{is_copied_up, pwritten, with_copy}
-use Rattle.vt_spec.specs.Machine.NewMounts.{plain_filesystem}
-use Rattle.vt_spec.specs.Machine.Permits.{Permit}
-use Rattle.vt_spec.specs.Machine.Permits.Permit.{ToBind, ToChange, ToClose, ToEnterNamespace, ToExit, ToFork, ToMake, ToMountOverlay, ToMountPlain, ToMove, ToOpen, ToOpenNew, ToPivot, ToRemoveDirectory, ToRename, ToSetCredentials, ToSetDirectory, ToSetFlags, ToSetRoot, ToSetType, ToSetUmask, ToUnmount, ToUnmountLazily, ToUnshare, ToWritePart}
-use Rattle.vt_spec.specs.Machine.Run.{Serves}
-use Rattle.vt_spec.specs.Machine.World.{Task, World, files_at, is_overlay, mount_at, mount_numbered, mounts_of, without_task}
-use Rattle.vt_spec.specs.Machine.Invariants.{IsWorld, Stands}
-use Rattle.vt_spec.proofs.Lists.{among_from_all}
+use Rattle.std.proofs.Common.{arith, ◌≡◌, refl, sym, subst, ◌∙◌, ℕ, nat_eq, Bool, true, false, filter, flat_map, List, [], ◌∷◌, Option, Some, None, map, All}
+use Rattle.vt_spec.proofs.Common.{Change, CopyUp, Fresh, IsWorld, Location, Make, Mount, Move, Permit, Remove, Serves, Stands, Task, ToBind, ToChange, ToClose, ToEnterNamespace, ToExit, ToFork, ToMake, ToMountOverlay, ToMountPlain, ToMove, ToOpen, ToOpenNew, ToPivot, ToRemoveDirectory, ToRename, ToSetCredentials, ToSetDirectory, ToSetFlags, ToSetRoot, ToSetType, ToSetUmask, ToUnmount, ToUnmountLazily, ToUnshare, ToWritePart, World, among_from_all, apply, bind_tree, common_steps, copied_mount, evens, files_at, filesystems-taken_away, filesystems-without_replaced, going, is_copied_up, is_in_ended, is_overlay, mount_at, mount_numbered, mount_tree, mounts_of, mounts_on, namespace_entered, namespaces_ended, numbers_by, odds, plain_filesystem, pwritten, taken_away, unshared, with_change, with_copy, without_mounts_on, without_replaced, without_task}
 use Rattle.vt_laws_worlds.specs.Worlds.Kept.{IsPlain}
 use Rattle.vt_laws_worlds.specs.Worlds.Permits.{NamesWhatIsThere, SetsBytesOfFiles}
 use Rattle.vt_laws_worlds.proofs.worlds.Seen.{KeepsWhatIsSeen, same_seen, seen_alike, seen_on}
 use Rattle.vt_laws_worlds.proofs.worlds.SeenMounts.{attached_seen, copied_seen, ended_seen, flags_seen, lazy_seen, mounted_seen, moved_seen, pivoted_seen, retyped_seen, taken_seen}
 use Rattle.vt_laws_worlds.proofs.worlds.SeenMerges.{AreNewInodes, UppersAreElsewhere, change_keeps_seen, elsewhere_in, new_in, odds_new, served_new, uppers_elsewhere}
 use Rattle.vt_laws_worlds.proofs.worlds.SeenTrees.{MakesNew, unused_inode}
-use Rattle.vt_spec.proofs.Worlds.{filesystems-taken_away, filesystems-without_replaced}
 
 -- what a permit sets or names makes nothing
 pub makes_none : (world : World ℕ) (location : Location ℕ) (change : Change ℕ) → SetsBytesOfFiles world location change

@@ -1,21 +1,6 @@
 -- A permit that fits leaves each mount with a root and a place that are directories.
 use Rattle.std.proofs.Common.{arith, ◌≡◌, refl, ℕ, nat_eq, Bool, true, false, List, [], ◌∷◌, Option, Some, None}
-use Rattle.std.proofs.lemmas.Grind.{common_steps}
-use Rattle.std.proofs.lemmas.Bool.{and_parts}
-use Rattle.vt_spec.specs.Machine.Apply.{apply}
-use Rattle.vt_spec.specs.Language.Changes.Change.{CopyUp, Make, Move, Remove}
-use Rattle.vt_spec.specs.Language.Changes.{Change}
-use Rattle.vt_spec.specs.Machine.Detach.{going, without_mounts_on, without_replaced}
-use Rattle.vt_spec.specs.Machine.Filesystems.{with_change}
-use Rattle.vt_spec.specs.Lists.{Fresh, evens, odds}
-use Rattle.vt_spec.specs.Machine.Mounts.{Location}
-use Rattle.vt_spec.specs.Machine.Namespaces.{namespace_entered, unshared}
-use Rattle.vt_spec.specs.Machine.Descriptors.{is_copied_up, pwritten, with_copy}
-use Rattle.vt_spec.specs.Machine.Permits.{Permit}
-use Rattle.vt_spec.specs.Machine.Permits.Permit.{ToBind, ToChange, ToClose, ToEnterNamespace, ToExit, ToFork, ToMake, ToMountOverlay, ToMountPlain, ToMove, ToOpen, ToOpenNew, ToPivot, ToRemoveDirectory, ToRename, ToSetCredentials, ToSetDirectory, ToSetFlags, ToSetRoot, ToSetType, ToSetUmask, ToUnmount, ToUnmountLazily, ToUnshare, ToWritePart}
-use Rattle.vt_spec.specs.Machine.Run.{Serves}
-use Rattle.vt_spec.specs.Machine.World.{Task, World, mount_at, mount_numbered, without_task}
-use Rattle.vt_spec.specs.Machine.Invariants.{IsWorld}
+use Rattle.vt_spec.proofs.Common.{Change, CopyUp, Fresh, IsWorld, Location, Make, Move, Permit, Remove, Serves, Task, ToBind, ToChange, ToClose, ToEnterNamespace, ToExit, ToFork, ToMake, ToMountOverlay, ToMountPlain, ToMove, ToOpen, ToOpenNew, ToPivot, ToRemoveDirectory, ToRename, ToSetCredentials, ToSetDirectory, ToSetFlags, ToSetRoot, ToSetType, ToSetUmask, ToUnmount, ToUnmountLazily, ToUnshare, ToWritePart, World, and_parts, apply, common_steps, evens, filesystems-taken_away, filesystems-without_replaced, going, is_copied_up, mount_at, mount_numbered, namespace_entered, odds, pwritten, unshared, with_change, with_copy, without_mounts_on, without_replaced, without_task}
 use Rattle.vt_laws_worlds.specs.Worlds.Kept.{KeptByAllPermits, KeptByPermits, MountsShow}
 use Rattle.vt_laws_worlds.specs.Worlds.Permits.{IsReachedDirectory, NamesWhatIsThere}
 use Rattle.vt_laws_worlds.proofs.worlds.PermitsSeen.{are_new, change_seen_in, copy_seen, elsewhere, gone_on, makes_none, new_at, odds_are_new, permits_keep_what_is_seen, written_seen}
@@ -24,7 +9,6 @@ use Rattle.vt_laws_worlds.proofs.worlds.Seen.{KeepsWhatIsSeen, seen_alike}
 use Rattle.vt_laws_worlds.proofs.worlds.SeenMerges.{change_keeps_mounts, change_keeps_seen}
 use Rattle.vt_laws_worlds.proofs.worlds.Shows.{AllShow, IsPlace, all_show_after, ended_show, flags_show, lazy_show, mounts_show, own_shows, pivoted_show, retyped_show, taken_show, unshared_show, world_shows}
 use Rattle.vt_laws_worlds.proofs.worlds.ShowsGrafts.{bound_show, mounted_show, moved_show}
-use Rattle.vt_spec.proofs.Worlds.{filesystems-taken_away, filesystems-without_replaced}
 
 module _ (world : World ℕ) (fresh : Fresh ℕ) (task : Task ℕ) (is : IsWorld nat_eq world)
     (serves : Serves nat_eq world fresh) where

@@ -1,14 +1,7 @@
 -- Where tasks stand, and what they have open, is there in each world that keeps what is seen.
 use Rattle.std.proofs.Common.{arith, ◌≡◌, refl, ap, ◌∙◌, ◌⊎◌, inl, inr, ⊎_elim, ℕ, nat_eq, true, List, [], ◌∷◌, map}
-use Rattle.std.proofs.lemmas.Grind.{common_steps}
-use Rattle.std.proofs.lemmas.Bool.{and_from, and_parts}
+use Rattle.vt_spec.proofs.Common.{Among, Descriptor, Location, Task, World, all_locations, among-flat_map, among-from_flat_map, among-from_map, among-map, among_from_list_all, and_from, and_parts, common_steps, has_regular_files_open, inserted, is_directory_at, is_directory_seen_in, is_kind_in, is_located_well, list_all_from_among, locations_of, mount_at, node_at, replaced_if_called, stands_on_directories}
 use Rattle.vt_spec.specs.declared.attributes.Kind.TheVariants.{File}
-use Rattle.vt_spec.specs.FileTree.{is_kind_in}
-use Rattle.vt_spec.specs.Machine.Mounts.{Location}
-use Rattle.vt_spec.specs.Machine.Descriptors.{inserted}
-use Rattle.vt_spec.specs.Machine.World.{Descriptor, Task, World, all_locations, is_directory_at, locations_of, mount_at, node_at, replaced_if_called}
-use Rattle.vt_spec.specs.Machine.Invariants.{has_regular_files_open, is_directory_seen_in, is_located_well, stands_on_directories}
-use Rattle.vt_spec.proofs.Lists.{Among, among-flat_map, among-from_flat_map, among-from_map, among-map, among_from_list_all, list_all_from_among}
 use Rattle.vt_laws_worlds.specs.Worlds.Tasks.{LocationsAreThere, OpenFilesAreRegular, TasksStandOnDirectories}
 use Rattle.vt_laws_worlds.proofs.worlds.Seen.{KeepsWhatIsSeen, directory_after, file_after, is_in, located_after, mount_of_located}
 

@@ -1,26 +1,10 @@
 -- Where one step of a walk leads: to what is there, on a mount of the task's namespace or on one that is in none.
-use Rattle.std.proofs.Common.{arith, ◌≡◌, refl, sym, ap, subst, ◌∙◌, true≢false, ⊎_elim, ℕ, nat_eq, Bool, true, false, not, cond, List, [], ◌∷◌, ◌&&◌, ◌||◌, length, Option, Some, None, is_some, option_map, ok_or, Ok, Err}
-use Rattle.std.proofs.lemmas.Grind.{common_steps}
-use Rattle.std.specs.Prelude.{option_to_list}
-use Rattle.std.specs.List.{list_all}
-use Rattle.std.proofs.lemmas.Bool.{and_from}
-use Rattle.std.proofs.lemmas.Option.{same_Some}
+use Rattle.std.proofs.Common.{arith, ◌≡◌, refl, sym, ap, subst, ◌∙◌, true≢false, ⊎_elim, ℕ, nat_eq, Bool, true, false, not, cond, List, [], ◌∷◌, ◌&&◌, ◌||◌, length, Option, Some, None, is_some, option_map, ok_or, Ok, Err, option_to_list}
+use Rattle.vt_spec.proofs.Common.{Among, Dot, DotDot, IsWorld, LastWord, Location, Mount, Named, NoWord, Node, Stands, Task, World, among_from_all, among_from_list_all, and_from, at_root, child_at, common_steps, denial, directory_used, entries_in, entry_named, files_at, found_or_none, hop, is_among, is_directory_at, is_directory_node, is_kind_in, is_lost, is_nowhere_or_attached, is_private, last_or, list_all, mount_at, mount_numbered, node_at, none_is_not, number-mount_in, on_parent, parent_location, root_of, same_Some, same_location, stands_at, symlink_text, topmost, unless}
 use Rattle.vt_spec.specs.declared.attributes.Kind.TheVariants.{File, White}
 use Rattle.vt_spec.specs.declared.errors.Deny.{Deny}
 use Rattle.vt_spec.specs.declared.errors.Rule.TheVariants.{W6, W8}
-use Rattle.vt_spec.specs.Errors.{denial, unless}
-use Rattle.vt_spec.specs.Tree.{Node, entries_in, entry_named, is_directory_node}
-use Rattle.vt_spec.specs.FileTree.{is_kind_in, symlink_text}
-use Rattle.vt_spec.specs.Lists.{is_among, last_or}
-use Rattle.vt_spec.specs.Machine.Mounts.{Location, Mount, child_at, root_of, same_location, stands_at, topmost}
-use Rattle.vt_spec.specs.Machine.Walking.{LastWord}
-use Rattle.vt_spec.proofs.Walk.{entry_location, hop, hops, is_lost, is_top, parent_location, stepped, up_from}
-use Rattle.vt_spec.specs.Machine.Walking.LastWord.{Dot, DotDot, Named, NoWord}
-use Rattle.vt_spec.specs.Machine.World.{Task, World, files_at, is_directory_at, mount_at, mount_numbered, node_at}
-use Rattle.vt_spec.specs.Machine.Invariants.{IsWorld, Stands, is_nowhere_or_attached, is_private}
-use Rattle.vt_spec.specs.Machine.Invariants.Stands.{at_root, on_parent}
-use Rattle.vt_spec.proofs.Lists.{Among, among_from_all, among_from_list_all}
-use Rattle.vt_spec.proofs.Nodes.{directory_used, none_is_not}
+use Rattle.vt_spec.proofs.Walk.{entry_location, hops, is_top, stepped, up_from}
 use Rattle.vt_laws_mounts.specs.Mounts.Attaching.{numbers_of}
 use Rattle.vt_laws_mounts.proofs.mounts.MountsFound.{found_in, placed_among}
 use Rattle.vt_laws_mounts.proofs.mounts.MountsNumbered.{is_one_of}
@@ -30,7 +14,6 @@ use Rattle.vt_laws_trees.proofs.trees.TreesEntered.{chain_ends, directory_in_tre
 use Rattle.vt_laws_trees.proofs.trees.TreesOfMounts.{worlds_are_standing}
 use Rattle.vt_laws_trees.proofs.trees.TreesWalked.{ok_same}
 use Rattle.vt_laws_worlds.specs.Worlds.Permits.{IsReached, IsReachedDirectory}
-use Rattle.vt_spec.proofs.Worlds.{number-mount_in, found_or_none}
 
 -- a directory is no link
 pub directory_no_link : (o : Option (Node ℕ)) → is_directory_node o ≡ true → symlink_text o ≡ None

@@ -1,22 +1,10 @@
 -- Where walks to a name end: at a directory that is there, and at what has the name in it; and those of mount calls.
 use Rattle.std.proofs.Common.{arith, ◌≡◌, refl, sym, ap, subst, ◌∙◌, true≢false, ℕ, zero, suc, nat_eq, Bool, true, false, not, List, [], ◌∷◌, ◌&&◌, ◌||◌, ◌+◌, reverse, Option, Some, None, is_some, Ok, Err, Result}
-use Rattle.std.proofs.lemmas.Grind.{common_steps}
-use Rattle.std.proofs.lemmas.Option.{same_Some}
+use Rattle.vt_spec.proofs.Common.{Dot, DotDot, Here, IsWorld, LastWord, Location, Named, NoWord, Place, Stop, Task, World, and_then, common_steps, ends_in_slash, file_or_symlink, file_walked, final_word, followed, is_directory_at, is_removed_at, is_special, most_symlinks, new_name_rules, node_at, none_is_not, path_text, prefix_walked, same_Some, symlink_of, symlink_text, task_called, then_some, then_walk, topmost, walk_start, walk_unless, words}
 use Rattle.vt_spec.specs.declared.errors.Deny.{Deny}
 use Rattle.vt_spec.specs.declared.errors.Rule.TheVariants.{W3, W6, W8}
-use Rattle.vt_spec.specs.Errors.{and_then}
-use Rattle.vt_spec.specs.PathText.{ends_in_slash, words}
-use Rattle.vt_spec.specs.FileTree.{symlink_text}
-use Rattle.vt_spec.specs.Lists.{then_some}
-use Rattle.vt_spec.specs.Machine.Mounts.{Location, topmost}
 use Rattle.vt_spec.proofs.Tables.{destination_walk, source_walk, rename_new_walk}
-use Rattle.vt_spec.specs.Machine.Walking.{Here, LastWord, Place, Stop, final_word, is_special, symlink_of, path_text, then_walk, walk_start, walk_unless}
-use Rattle.vt_spec.proofs.Walk.{directory_walk, entry_location, file_or_symlink, file_walk, file_walked, follow_rules, followed, prefix_walked, is_directory_there, symlink_start, symlink_there, new_leaf_walk, new_name_rules, new_walk, object_named, old_leaf_walk, old_walk, place_walk, placed, search_rules, stepped, steps_at}
-use Rattle.vt_spec.specs.Language.Limits.{most_symlinks}
-use Rattle.vt_spec.specs.Machine.Walking.LastWord.{Dot, DotDot, Named, NoWord}
-use Rattle.vt_spec.specs.Machine.World.{Task, World, is_directory_at, is_removed_at, node_at, task_called}
-use Rattle.vt_spec.specs.Machine.Invariants.{IsWorld}
-use Rattle.vt_spec.proofs.Nodes.{none_is_not}
+use Rattle.vt_spec.proofs.Walk.{directory_walk, entry_location, file_walk, follow_rules, is_directory_there, symlink_start, symlink_there, new_leaf_walk, new_walk, object_named, old_leaf_walk, old_walk, place_walk, placed, search_rules, stepped, steps_at}
 use Rattle.vt_laws_trees.proofs.trees.TreesWalked.{Ends, ends_next, ends_step, ends_then, ends_unless, not_true, ok_same}
 use Rattle.vt_laws_worlds.proofs.worlds.Reached.{IsDirectory, entry_found, step_found, topmost_directory, topmost_end}
 use Rattle.vt_laws_worlds.proofs.worlds.ReachedWalks.{End, Found, FoundDirectory, directory_walk_end, front_end, start_end, walk_start_end}

@@ -1,21 +1,10 @@
 -- Where the walks of a task end: at what is there, on a mount of the task's namespace or on one that is in none.
 use Rattle.std.proofs.Common.{arith, ◌≡◌, refl, ℕ, zero, suc, nat_eq, Bool, true, false, not, cond, List, [], ◌∷◌, ◌+◌, reverse, Option, Some, None, Ok, Result, inl, inr}
-use Rattle.std.proofs.lemmas.Grind.{common_steps}
-use Rattle.std.proofs.lemmas.Bool.{and_parts}
+use Rattle.vt_spec.proofs.Common.{Among, Dot, DotDot, Follow, Here, IsWorld, LastWord, Location, Named, NoWord, Stop, Task, World, all_locations, among-flat_map, among_from_list_all, and_parts, common_steps, ends_in_slash, final_word, followed, found_among, if_symlink, is_absolute, is_directory_at, is_directory_seen_in, is_located_well, last_walked, last_word, locations_of, most_symlinks, node_at, path_text, path_walked, prefix_walked, start_of, symlink_text, task_called, walk_start, walk_unless, words}
 use Rattle.vt_spec.specs.declared.errors.Rule.TheVariants.{W3}
-use Rattle.vt_spec.specs.PathText.{ends_in_slash, is_absolute, words}
-use Rattle.vt_spec.specs.FileTree.{symlink_text}
-use Rattle.vt_spec.specs.Machine.Mounts.{Location}
-use Rattle.vt_spec.specs.Machine.Walking.{Follow, Here, LastWord, Stop, final_word, if_symlink, last_word, path_text, start_of, walk_start, walk_unless}
-use Rattle.vt_spec.proofs.Walk.{directory_walk, follow_rules, followed, prefix_walked, last_walked, symlink_start, symlink_walk, symlink_walk_by, symlink_walked, object_walk, path_walked, search_rules, slash_rules, stepped, steps_with, word_walked, words_walked}
-use Rattle.vt_spec.specs.Language.Limits.{most_symlinks}
-use Rattle.vt_spec.specs.Machine.Walking.LastWord.{Dot, DotDot, Named, NoWord}
-use Rattle.vt_spec.specs.Machine.World.{Task, World, all_locations, is_directory_at, locations_of, node_at, task_called}
-use Rattle.vt_spec.specs.Machine.Invariants.{IsWorld, is_directory_seen_in, is_located_well}
-use Rattle.vt_spec.proofs.Lists.{Among, among-flat_map, among_from_list_all}
+use Rattle.vt_spec.proofs.Walk.{directory_walk, follow_rules, symlink_start, symlink_walk, symlink_walk_by, symlink_walked, object_walk, search_rules, slash_rules, stepped, steps_with, word_walked, words_walked}
 use Rattle.vt_laws_trees.proofs.trees.TreesWalked.{Ends, ends_next, ends_step, ends_then, ends_unless, not_true}
 use Rattle.vt_laws_worlds.proofs.worlds.Reached.{IsEnd, IsFound, IsFoundDirectory, directory_end, step_found}
-use Rattle.vt_spec.proofs.Found.{found_among}
 use Rattle.vt_laws_trees.proofs.trees.TreesTasks.{called_there, called_stands}
 pub use Rattle.vt_spec.proofs.Found.{found_among}
 

@@ -1,30 +1,16 @@
 -- Directories at which a task may come to stand: the root of a mount of its namespace, also through mounts over it,
 -- and the
 -- copies of where it stood.
-use Rattle.std.proofs.Common.{arith, ◌≡◌, refl, sym, ap, subst, ◌∙◌, inl, inr, ⊎_elim, ℕ, zero, suc, nat_eq, eqb-true, eq-eqb, Bool, true, false, cond, true≢false, find, filter, length, List, [], ◌∷◌, ◌==◌, Option, Some, None, is_some, map, option_map}
-use Rattle.std.proofs.lemmas.Grind.{common_steps}
-use Rattle.std.specs.Prelude.{if◌then◌else◌, option_to_list, unwrap_or}
-use Rattle.std.specs.List.{list_all}
-use Rattle.std.proofs.lemmas.Bool.{and_from, and_parts}
-use Rattle.vt_spec.specs.Lists.{Fresh, chain, evens, holds_of, last_or, odds}
-use Rattle.vt_spec.specs.Machine.Mounts.{Location, Mount, child_at, numbers_by, root_of, stands_at, topmost}
-use Rattle.vt_spec.specs.Machine.Namespaces.{copied_mount, is_copied, location_on_copy, moved_location, namespace_root, pivoted_location, pivoted_task, unshared, unshared_task}
-use Rattle.vt_spec.specs.Machine.World.{Namespace, Task, World, filesystem_numbered, is_directory_at, mount_at, mount_numbered, mounts_of, node_at, root_mount}
-use Rattle.vt_spec.specs.Machine.Invariants.{IsWorld, Stands, has_one_root, is_listed, is_root_mount}
-use Rattle.vt_spec.specs.Machine.Invariants.Stands.{at_root, on_parent}
-use Rattle.vt_spec.specs.Tree.{is_directory_node}
-use Rattle.vt_spec.proofs.Lists.{Among, among-append_right, among-filter, among-from_filter, among-from_map, among-map, among_from_all, among_from_list_all, among_numbers, any_among, chain_ends, chain_goes_on, is_among_numbers, none_among}
+use Rattle.std.proofs.Common.{arith, ◌≡◌, refl, sym, ap, subst, ◌∙◌, inl, inr, ⊎_elim, ℕ, zero, suc, nat_eq, eqb-true, eq-eqb, Bool, true, false, cond, true≢false, find, filter, length, List, [], ◌∷◌, ◌==◌, Option, Some, None, is_some, map, option_map, if◌then◌else◌, option_to_list, unwrap_or}
+use Rattle.vt_spec.proofs.Common.{Among, Fresh, IsWorld, Location, Mount, Namespace, Serves, Stands, Task, World, among-append_right, among-filter, among-from_filter, among-from_map, among-map, among_from_all, among_from_list_all, among_numbers, and_from, and_parts, any_among, at_root, chain, chain_ends, chain_goes_on, child_at, common_steps, copied_mount, directory_is_there, evens, filesystem_numbered, found_or_none, has_one_root, holds_of, is_among_numbers, is_copied, is_directory_at, is_directory_node, is_listed, is_root_mount, last_or, list_all, location_on_copy, mount_at, mount_numbered, mounts_of, moved_location, namespace_root, node_at, none_among, number-mount_in, numbers_by, odds, on_parent, pivoted_location, pivoted_task, root_mount, root_of, stands_at, topmost, unshared, unshared_task}
 use Rattle.vt_laws_mounts.specs.Mounts.Attaching.{is_mount, numbers_of}
 use Rattle.vt_laws_mounts.proofs.mounts.MountsFound.{found_in, found_there}
 use Rattle.vt_laws_mounts.proofs.mounts.MountsNumbered.{unshare_keeps_numbers}
 use Rattle.vt_laws_mounts.proofs.mounts.MountsPlaces.{stands_there}
 use Rattle.vt_laws_mounts.proofs.mounts.MountsReplaced.{found_itself}
-use Rattle.vt_spec.specs.Machine.Run.{Serves}
 use Rattle.vt_laws_worlds.proofs.worlds.PermitsSeen.{unshared_seen}
 use Rattle.vt_laws_worlds.proofs.worlds.Placed.{IsPlaced, StandsAt, opens_after, stands_after}
 use Rattle.vt_laws_worlds.proofs.worlds.Seen.{KeepsWhatIsSeen, is_in, mount_of_located}
-use Rattle.vt_spec.proofs.Nodes.{directory_is_there}
-use Rattle.vt_spec.proofs.Worlds.{number-mount_in, found_or_none}
 use Rattle.vt_laws_mounts.proofs.letting_go.Lists.{held_number}
 pub use Rattle.vt_spec.proofs.NodeChanges.{directory_is_there as directory_there}
 

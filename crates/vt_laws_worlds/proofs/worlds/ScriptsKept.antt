@@ -1,13 +1,6 @@
 -- Every world that a script without overlays leads to has the invariants.
-use Rattle.std.proofs.Common.{◌≡◌, sym, subst, ℕ, nat_eq, Bool, true, false, List, [], ◌∷◌, Option, Some, None}
-use Rattle.std.specs.Prelude.{length, nat_lt}
-use Rattle.std.proofs.lemmas.List.Elements.{All-head, All-tail}
-use Rattle.vt_spec.specs.Lists.{Fresh}
-use Rattle.vt_spec.specs.Machine.Run.{Serves, line_step, line_step_by, requested, step_world}
-use Rattle.vt_spec.specs.Language.Script.{Grammar, Request, is_silent, request_of}
-use Rattle.vt_spec.specs.Language.Limits.{longest_line}
-use Rattle.vt_spec.specs.Language.Script.Request.{Asking, Calling}
-use Rattle.vt_spec.specs.Machine.World.{World, opening}
+use Rattle.std.proofs.Common.{◌≡◌, sym, subst, ℕ, nat_eq, Bool, true, false, List, [], ◌∷◌, Option, Some, None, length, nat_lt}
+use Rattle.vt_spec.proofs.Common.{All-head, All-tail, Asking, Calling, Fresh, Grammar, Request, Serves, World, is_silent, line_step, line_step_by, longest_line, opening, request_of, requested, step_world}
 use Rattle.vt_laws_rules.proofs.denials.Unchanged.{directive_changes_nothing, refused_memory_changes_nothing}
 use Rattle.vt_laws_trees.specs.Trees.Calls.{HasNoOverlays, asks_for_overlay}
 use Rattle.vt_laws_worlds.specs.Worlds.Calls.{LeadsTo, ScriptsLeadToWorlds}

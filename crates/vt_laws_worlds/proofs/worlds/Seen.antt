@@ -1,20 +1,10 @@
 -- What a change of a world keeps of what is seen: mounts stay and show what they showed, in their namespace or in
 -- none, and
 -- inodes stay and keep their kind.
-use Rattle.std.proofs.Common.{arith, ◌≡◌, refl, sym, ap, ◌∙◌, ℕ, nat_eq, Bool, true, ◌&&◌, Option, Some, None, is_some}
-use Rattle.std.proofs.lemmas.Grind.{common_steps}
-use Rattle.std.specs.Prelude.{option_to_list}
-use Rattle.std.specs.List.{list_all}
-use Rattle.std.proofs.lemmas.Bool.{and_parts}
+use Rattle.std.proofs.Common.{arith, ◌≡◌, refl, sym, ap, ◌∙◌, ℕ, nat_eq, Bool, true, ◌&&◌, Option, Some, None, is_some, option_to_list}
+use Rattle.vt_spec.proofs.Common.{Location, Mount, Node, World, and_parts, common_steps, holds_of, is_directory, is_directory_at, is_directory_node, is_kind, is_kind_in, is_located_well, is_there, kind_of, list_all, mount_at, mount_numbered, node_at}
 use Rattle.vt_spec.specs.declared.attributes.Kind.{Kind}
 use Rattle.vt_spec.specs.declared.attributes.Kind.TheVariants.{File}
-use Rattle.vt_spec.specs.FileTree.{is_kind, is_kind_in}
-use Rattle.vt_spec.specs.Lists.{holds_of}
-use Rattle.vt_spec.specs.Machine.Mounts.{Location, Mount}
-use Rattle.vt_spec.specs.Machine.World.{World, is_directory_at, mount_at, mount_numbered, node_at}
-use Rattle.vt_spec.specs.Machine.Invariants.{is_located_well, is_there}
-use Rattle.vt_spec.specs.Rights.{is_directory}
-use Rattle.vt_spec.specs.Tree.{Node, is_directory_node, kind_of}
 use Rattle.vt_laws_mounts.specs.Mounts.Attaching.{is_mount}
 use Rattle.vt_laws_trees.specs.Trees.Settling.{inode_in}
 

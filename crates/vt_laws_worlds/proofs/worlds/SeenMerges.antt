@@ -1,28 +1,11 @@
 -- A change of an overlay keeps each inode that is there, and its kind, in the merged tree and in the upper layer; so
 -- what is seen stays in a change of any filesystem.
-use Rattle.std.proofs.lemmas.Grind.{common_steps}
-use Rattle.std.proofs.Common.{arith, ◌≡◌, ◌≢◌, refl, sym, ap, subst, ◌∙◌, inl, ⊎_elim, ◌++◌, not, ℕ, ◌+◌, ◌*◌, nat_eq, ne_eqb, eq-eqb, Bool, true, false, cond, true≢false, List, [], ◌∷◌, Option, Some, None, is_some, map}
-use Rattle.std.proofs.lemmas.Bool.{and_parts}
-use Rattle.std.specs.List.{list_all}
-use Rattle.std.specs.Prelude.{All, option_to_list}
-use Rattle.vt_spec.specs.Language.Changes.{Change, changed, changed_node, content_with_parent, node_with_attr, node_with_mark, node_with_parent, node_without_entries, with_inode, with_moved, with_name, without_name, without_parent}
-use Rattle.vt_spec.specs.Language.Changes.Change.{AddName, CopyUp, Make, Move, Remove, SetAttr, SetBytes, SetMark}
-use Rattle.vt_spec.specs.FileTree.{FileTree, a_name}
-use Rattle.vt_spec.specs.Lists.{Fresh, evens, odds}
-use Rattle.vt_spec.specs.Machine.CopyUp.{Merge, Stack, copied_content, copied_each, copied_up, copy_named, copy_of, copy_of_node, copy_parent, hides_directory, is_in_upper, merge_changed, merge_with_moved, merge_with_new, merge_without_name, name_left_by, shown_in_lowers_at, upper_directory_named, upper_of, whiteout_of, with_mark, without_contents}
-use Rattle.vt_spec.specs.Machine.Filesystems.{filesystem_changed, merge_of, overlay_changed, stack_of, with_change, with_files}
-use Rattle.vt_spec.specs.Machine.Invariants.{ListsNumbers, OverlayInvariants, is_plain_layer}
-use Rattle.vt_spec.specs.Machine.Locked.{of_overlay, overlay_or}
-use Rattle.vt_spec.specs.Machine.Mounts.{Location, Mount, mount_in}
-use Rattle.vt_spec.specs.Machine.Run.{Serves}
-use Rattle.vt_spec.specs.Machine.World.{Filesystem, Layer, Overlay, World, files_at, filesystem_at, filesystem_numbered, is_directory_at, is_overlay, layers_of, mount_at, node_at, replaced_if_numbered, with_filesystem}
-use Rattle.vt_spec.specs.Tree.{Node, entries_in, entry_named, kind_of, node_with_bytes}
-use Rattle.vt_spec.proofs.Lists.{Among, all_from_among, among_from_list_all}
+use Rattle.std.proofs.Common.{arith, ◌≡◌, ◌≢◌, refl, sym, ap, subst, ◌∙◌, inl, ⊎_elim, ◌++◌, not, ℕ, ◌+◌, ◌*◌, nat_eq, ne_eqb, eq-eqb, Bool, true, false, cond, true≢false, List, [], ◌∷◌, Option, Some, None, is_some, map, All, option_to_list}
+use Rattle.vt_spec.proofs.Common.{AddName, Among, Change, CopyUp, FileTree, Filesystem, Fresh, Layer, ListsNumbers, Location, Make, Merge, Mount, Move, Node, Overlay, OverlayInvariants, Remove, Serves, SetAttr, SetBytes, SetMark, Stack, World, a_name, all_from_among, among_from_list_all, and_parts, changed, changed_node, common_steps, content_with_parent, copied_content, copied_each, copied_up, copy_named, copy_of, copy_of_node, copy_parent, entries_in, entry_named, evens, evens-distinct, files_at, filesystem_at, filesystem_changed, filesystem_numbered, hides_directory, is_directory_at, is_in_upper, is_overlay, is_plain_layer, kind_of, layers_of, list_all, merge_changed, merge_of, merge_with_moved, merge_with_new, merge_without_name, mount_at, mount_in, name_left_by, node_at, node_with_attr, node_with_bytes, node_with_mark, node_with_parent, node_without_entries, odds, odds-distinct, odds-no_evens, of_overlay, overlay_changed, overlay_or, replaced_if_numbered, shown_in_lowers_at, stack_of, upper_directory_named, upper_of, whiteout_of, with_change, with_files, with_filesystem, with_inode, with_mark, with_moved, with_name, without_contents, without_name, without_parent}
 use Rattle.vt_laws_trees.proofs.trees.ChangesNodes.{part_stays}
 use Rattle.vt_laws_trees.proofs.trees.TreesOfWorlds.{number_numbered, numbered, numbered_all}
 use Rattle.vt_laws_worlds.proofs.worlds.Seen.{KeepsKind, KeepsWhatIsSeen, kind_seen, same_kind, same_seen, seen_by_nodes, seen_on}
 use Rattle.vt_laws_worlds.proofs.worlds.SeenTrees.{MakesNew, found_new, made_kind, unused_inode, SameKinds, changes_keep_kinds, found_other, keeps-with_inode, kind-with_attr, kind-with_bytes, kind-with_entries, kind-with_mark, kind-with_parent, kinds-with_name, kinds-without_name, kinds-without_parent, numbers-replaced, replaced_keeps}
-use Rattle.vt_spec.proofs.FreshNumbers.{evens-distinct, odds-distinct, odds-no_evens}
 use Rattle.vt_laws_trees.specs.Trees.Settling.{inode_in}
 
 -- Trees of which the second has the inodes of the first

@@ -1,18 +1,6 @@
 -- Changes of mounts keep what is seen: mounts that are taken away, attached, moved, copied or changed.
 use Rattle.std.proofs.Common.{arith, ◌≡◌, refl, sym, ap, subst, ◌∙◌, inl, inr, ⊎_elim, ℕ, zero, suc, nat_eq, eqb-true, Bool, true, false, true≢false, length, List, [], ◌∷◌, ◌++◌, map}
-use Rattle.std.proofs.lemmas.Grind.{common_steps}
-use Rattle.vt_spec.specs.Machine.Attach.{Copies, attach, copy_at, graft_of, parts_of, twig_of}
-use Rattle.vt_spec.specs.Language.Calls.{MountFlags, TypeWord}
-use Rattle.vt_spec.specs.Machine.Detach.{deepest_first, lazily_unmounted, taken_away, unmounted_if_there}
-use Rattle.vt_spec.specs.Lists.{Fresh, folded, holds_of, is_among}
-use Rattle.vt_spec.specs.Machine.Mounts.{Location, Mount, children, group_of, mount_in, mount_tree, stands_on, tree_from, with_mount}
-use Rattle.vt_spec.specs.Machine.Namespaces.{pivoted, pivoted_mount}
-use Rattle.vt_spec.specs.Machine.NewMounts.{mounted, new_mount, with_new_filesystem}
-use Rattle.vt_spec.specs.Machine.Types.{with_type}
-use Rattle.vt_spec.specs.Machine.World.{Filesystem, World, mount_at, mount_numbered, with_mounts}
-use Rattle.vt_spec.specs.Machine.Invariants.{Stands}
-use Rattle.vt_spec.specs.Machine.Invariants.Stands.{at_root, on_parent}
-use Rattle.vt_spec.proofs.Lists.{Among, among-from_filter, among-from_flat_map, among-from_map, among_numbers, is_among_numbers}
+use Rattle.vt_spec.proofs.Common.{Among, Copies, Filesystem, Fresh, Location, Mount, MountFlags, Stands, TypeWord, World, among-from_filter, among-from_flat_map, among-from_map, among_numbers, at_root, attach, children, common_steps, copy_at, deepest_first, filesystems-taken_away, folded, graft_of, group_of, holds_of, is_among, is_among_left, is_among_numbers, lazily_unmounted, mount_at, mount_in, mount_numbered, mount_tree, mounted, new_mount, number-mount_in, number-pivoted_mount, on_parent, parts_of, pivoted, pivoted_mount, stands_on, taken_away, tree_among, tree_from, twig_of, unmounted_if_there, with_mount, with_mounts, with_new_filesystem, with_type}
 use Rattle.vt_laws_mounts.specs.Mounts.Attaching.{OneNumberAMount, is_mount, numbers_of}
 use Rattle.vt_laws_mounts.proofs.mounts.MountsAttached.{arrives, arriving, attach_keeps_mounts, found_attached, moved_mounts_show, moved_ones, numbers_attached, others, push_keeps, supplied}
 use Rattle.vt_laws_mounts.proofs.mounts.MountsFound.{found-map_there, numbers-map}
@@ -22,8 +10,6 @@ use Rattle.vt_laws_mounts.proofs.ends.Unmounting.{numbers_taken}
 use Rattle.vt_laws_mounts.proofs.ends.UnmountingEnds.{others_are_kept, taken_are_detached}
 use Rattle.vt_laws_trees.proofs.trees.TreesOfWorlds.{numbered}
 use Rattle.vt_laws_worlds.proofs.worlds.Seen.{KeepsKind, KeepsView, KeepsWhatIsSeen, is_in, same_seen, same_view, seen_alike, seen_by_mounts, seen_on}
-use Rattle.vt_spec.proofs.Found.{is_among_left}
-use Rattle.vt_spec.proofs.Worlds.{filesystems-taken_away, number-mount_in, number-pivoted_mount, tree_among}
 
 -- Mounts are taken away
 module _ (world : World ℕ) (gone : List ℕ) where

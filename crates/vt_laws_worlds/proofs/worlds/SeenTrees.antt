@@ -1,26 +1,12 @@
 -- A change of a tree keeps each inode that is there, and its kind; so do changes of filesystems in a world without
 -- overlays.
-use Rattle.std.proofs.Common.{arith, ◌≡◌, refl, sym, ap, ◌∙◌, ◌⊎◌, inr, ℕ, nat_eq, eqb-true, eq-eqb, Bool, true, false, cond, true≢false, flat_map, List, [], ◌∷◌, ◌++◌, Option, Some, None, map}
-use Rattle.std.proofs.lemmas.Grind.{common_steps}
-use Rattle.std.specs.Prelude.{All, ⊤}
+use Rattle.std.proofs.Common.{arith, ◌≡◌, refl, sym, ap, ◌∙◌, ◌⊎◌, inr, ℕ, nat_eq, eqb-true, eq-eqb, Bool, true, false, cond, true≢false, flat_map, List, [], ◌∷◌, ◌++◌, Option, Some, None, map, All}
+use Rattle.vt_spec.proofs.Common.{AddName, Among, Change, Content, CopyUp, Directory, FileTree, Filesystem, Fresh, ListsNumbers, Location, Make, Move, Node, Regular, Remove, Serves, SetAttr, SetBytes, SetMark, Symlink, Whiteout, World, all_from_among, among-append_left, among-append_right, among-flat_map, among_from_all, among_numbers, changed, common_steps, entries_in, entries_of, entry_named, filesystem_at, filesystem_changed, holds_of, is_among, is_overlay, kind_of, mount_at, no_filesystem, node_with_attr, node_with_bytes, node_with_entry, node_with_mark, node_with_parent, node_without_entry, none_among, none_from_not_some, numbers_in_use, replaced_if_numbered, used_by_filesystem, used_by_mount, with_change, with_entries, with_entry, with_files, with_filesystem, with_inode, with_name, without_entry, without_name, without_parent, ⊤}
 use Rattle.vt_spec.specs.declared.attributes.Attr.{Attr}
-use Rattle.vt_spec.specs.Language.Changes.{Change, changed, node_with_attr, node_with_mark, node_with_parent, node_without_entry, with_inode, with_name, without_entry, without_name, without_parent}
-use Rattle.vt_spec.specs.Language.Changes.Change.{AddName, CopyUp, Make, Move, Remove, SetAttr, SetBytes, SetMark}
-use Rattle.vt_spec.specs.FileTree.{FileTree}
-use Rattle.vt_spec.specs.Machine.Filesystems.{filesystem_changed, with_change, with_files}
-use Rattle.vt_spec.specs.Lists.{Fresh, holds_of, is_among}
-use Rattle.vt_spec.specs.Machine.Mounts.{Location}
-use Rattle.vt_spec.specs.Machine.Run.{Serves, numbers_in_use, used_by_filesystem, used_by_mount}
-use Rattle.vt_spec.specs.Machine.World.{Filesystem, World, filesystem_at, is_overlay, mount_at, no_filesystem, replaced_if_numbered, with_filesystem}
-use Rattle.vt_spec.specs.Machine.Invariants.{ListsNumbers}
-use Rattle.vt_spec.specs.Tree.{Content, Node, entries_in, entries_of, entry_named, kind_of, node_with_bytes, node_with_entry, with_entries, with_entry}
-use Rattle.vt_spec.specs.Tree.Content.{Directory, Regular, Symlink, Whiteout}
-use Rattle.vt_spec.proofs.Lists.{Among, all_from_among, among-append_left, among-append_right, among-flat_map, among_from_all, among_numbers, none_among}
 use Rattle.vt_laws_trees.proofs.trees.ChangesNodes.{part_stays}
 use Rattle.vt_laws_trees.proofs.trees.TreesOfWorlds.{number_numbered, numbered, numbered_anyhow}
 use Rattle.vt_laws_worlds.specs.Worlds.Kept.{IsPlain}
 use Rattle.vt_laws_worlds.proofs.worlds.Seen.{KeepsKind, kind_seen, same_kind}
-use Rattle.vt_spec.proofs.Options.{none_from_not_some}
 use Rattle.vt_spec.proofs.Worlds.{number-replaced_if_numbered}
 use Rattle.vt_laws_trees.specs.Trees.Settling.{inode_in}
 

@@ -1,23 +1,6 @@
 -- What mounts show, and where they stand, stays there when mounts are taken away, changed or copied.
-use Rattle.std.proofs.Common.{arith, ◌≡◌, refl, sym, ap, subst, ◌∙◌, ⊎_elim, ℕ, nat_eq, eqb-true, eq-eqb, Bool, true, false, true≢false, List, [], ◌∷◌, Option, Some, None, is_some, length, map, option_map}
-use Rattle.std.proofs.lemmas.Grind.{common_steps}
-use Rattle.std.specs.Prelude.{if◌then◌else◌, option_to_list, unwrap_or}
-use Rattle.std.specs.List.{list_all}
-use Rattle.std.proofs.lemmas.Bool.{and_from, and_parts}
-use Rattle.std.proofs.lemmas.Option.{same_Some}
-use Rattle.vt_spec.specs.Language.Calls.{MountFlags, TypeWord}
-use Rattle.vt_spec.specs.Machine.Detach.{after_going, deepest_first, going, is_going, lazily_unmounted, mount_point_of_parent, mount_point_left, taken_away, unmounted, unmounted_if_there}
-use Rattle.vt_spec.specs.Lists.{Fresh, evens, folded, holds_of, odds}
-use Rattle.vt_spec.specs.Machine.Mounts.{Location, Mount, detached, mount_tree, numbers_by, replaced_if_same, with_mount}
-use Rattle.vt_spec.specs.Machine.Namespaces.{copied_mount, location_on_copy, namespaces_ended, pivoted, pivoted_mount, unshared}
-use Rattle.vt_spec.specs.Machine.Receives.{inheriting}
-use Rattle.vt_spec.specs.Machine.Run.{Serves}
-use Rattle.vt_spec.specs.Machine.Types.{named_mounts, with_type}
-use Rattle.vt_spec.specs.Machine.World.{Task, World, is_directory_at, mount_at, mount_numbered, mounts_of, node_at, with_mounts}
-use Rattle.vt_spec.specs.Machine.Invariants.{IsWorld, Stands, has_its_root}
-use Rattle.vt_spec.specs.Machine.Invariants.Stands.{at_root, on_parent}
-use Rattle.vt_spec.specs.Tree.{is_directory_node}
-use Rattle.vt_spec.proofs.Lists.{Among, among-append, among-filter, among-from_filter, among-from_map, among_from_all, among_from_list_all, list_all_from_among}
+use Rattle.std.proofs.Common.{arith, ◌≡◌, refl, sym, ap, subst, ◌∙◌, ⊎_elim, ℕ, nat_eq, eqb-true, eq-eqb, Bool, true, false, true≢false, List, [], ◌∷◌, Option, Some, None, is_some, length, map, option_map, if◌then◌else◌, option_to_list, unwrap_or}
+use Rattle.vt_spec.proofs.Common.{Among, Fresh, IsWorld, Location, Mount, MountFlags, Serves, Stands, Task, TypeWord, World, after_going, among-append, among-filter, among-from_filter, among-from_map, among_from_all, among_from_list_all, and_from, and_parts, at_root, common_steps, copied_mount, deepest_first, detached, directory_is_there, evens, folded, going, has_its_root, holds_of, inheriting, is_directory_at, is_directory_node, is_going, lazily_unmounted, list_all, list_all_from_among, location_on_copy, mount_at, mount_numbered, mount_point_left, mount_point_of_parent, mount_tree, mounts_of, named_mounts, namespaces_ended, node_at, number-mount_in, numbers_by, odds, on_parent, pivoted, pivoted_mount, replaced_if_same, same_Some, taken_away, unmounted, unmounted_if_there, unshared, with_mount, with_mounts, with_type}
 use Rattle.vt_laws_mounts.specs.Mounts.Attaching.{is_mount}
 use Rattle.vt_laws_mounts.proofs.Groups.{mounts-regrouped}
 use Rattle.vt_laws_mounts.proofs.mounts.MountsFound.{found_there}
@@ -28,8 +11,6 @@ use Rattle.vt_laws_worlds.proofs.worlds.PermitsSeen.{unshared_seen}
 use Rattle.vt_laws_worlds.proofs.worlds.Roots.{copy_stands, in_own, is_numbered, itself, last_has, own_there}
 use Rattle.vt_laws_worlds.proofs.worlds.Seen.{KeepsWhatIsSeen, directory_after, directory_kept, seen_alike}
 use Rattle.vt_laws_worlds.proofs.worlds.SeenMounts.{flags_seen, pivoted_seen, retyped_seen, taken_seen}
-use Rattle.vt_spec.proofs.Nodes.{directory_is_there}
-use Rattle.vt_spec.proofs.Worlds.{number-mount_in}
 use Rattle.vt_laws_trees.specs.Trees.Settling.{inode_in}
 
 -- a directory, seen through a mount of the list

@@ -1,14 +1,7 @@
 -- What mounts show, and where they stand, is there where a tree of mounts is attached.
-use Rattle.std.proofs.Common.{◌≡◌, refl, sym, ap, subst, ◌∙◌, ◌⊎◌, inl, inr, ⊎_elim, ℕ, nat_eq, eqb-true, eq-eqb, Bool, true, false, true≢false, flat_map, not, List, [], ◌∷◌, ◌++◌, ◌&&◌, Option, Some, None, is_some, length, map, option_map}
-use Rattle.std.specs.Prelude.{if◌then◌else◌, unwrap_or}
-use Rattle.std.proofs.lemmas.Bool.{and_from, and_parts}
-use Rattle.std.proofs.lemmas.Option.{same_Some}
-use Rattle.vt_spec.specs.Machine.Attach.{Copies, Graft, Twig, added_mounts, attached_by, copies_at, copy_at, copy_number, copy_mount_point, is_top, mount_point_on_copy, pushed_onto, reaches, receiver_stood_on, receivers_of, takes_part, top_of_copies, twig_of, with_moved_mounts}
-use Rattle.vt_spec.specs.Lists.{rest_of}
-use Rattle.vt_spec.specs.Machine.Mounts.{Location, Mount, child_at, group_of, root_of, stands_at}
-use Rattle.vt_spec.specs.Machine.World.{World, is_directory_at, mount_at, mount_numbered}
-use Rattle.vt_spec.specs.Tree.{is_directory_node}
-use Rattle.vt_spec.proofs.Lists.{Among, among-append, among-append_left, among-append_right, among-flat_map, among-from_filter, among-from_flat_map, among-from_map, among-map, is_among_numbers}
+use Rattle.std.proofs.Common.{◌≡◌, refl, sym, ap, subst, ◌∙◌, ◌⊎◌, inl, inr, ⊎_elim, ℕ, nat_eq, eqb-true, eq-eqb, Bool, true, false, true≢false, flat_map, not, List, [], ◌∷◌, ◌++◌, ◌&&◌, Option, Some, None, is_some, length, map, option_map, if◌then◌else◌, unwrap_or}
+use Rattle.vt_spec.proofs.Common.{Among, Copies, Graft, Location, Mount, Twig, World, added_mounts, among-append, among-append_left, among-append_right, among-flat_map, among-folded_mounts, among-from_filter, among-from_flat_map, among-from_map, among-map, and_from, and_parts, attached_by, child_at, copies_at, copy_at, copy_mount_point, copy_number, group_of, is_among_numbers, is_directory_at, is_directory_node, is_top, mount_at, mount_numbered, mount_point_on_copy, number-mount_in, pushed_onto, receiver_stood_on, receivers_of, rest_of, root_of, same_Some, stands_at, takes_part, top_of_copies, twig_of, with_moved_mounts}
+use Rattle.vt_spec.specs.Machine.Attach.{reaches}
 use Rattle.vt_laws_mounts.specs.Mounts.Attaching.{OneNumberAMount, is_mount, numbers_of}
 use Rattle.vt_laws_mounts.proofs.attached.Attaching.{taker_there}
 use Rattle.vt_laws_mounts.proofs.mounts.MountsAttached.{graft, moved_ones, parts, push}
@@ -17,7 +10,6 @@ use Rattle.vt_laws_mounts.proofs.mounts.MountsReplaced.{found_itself}
 use Rattle.vt_laws_worlds.proofs.worlds.Roots.{last_has}
 use Rattle.vt_laws_worlds.proofs.worlds.Seen.{KeepsWhatIsSeen}
 use Rattle.vt_laws_worlds.proofs.worlds.Shows.{AllShow, IsPlace, ShowsWell, place_after, shows_after}
-use Rattle.vt_spec.proofs.Worlds.{among-folded_mounts, number-mount_in}
 use Rattle.vt_laws_trees.specs.Trees.Settling.{inode_in}
 
 -- the roots of mounts of a list are places, and so is the topmost over one of them

@@ -1,17 +1,6 @@
 -- Binds, new mounts and moves leave mounts that show what is there, and stand on what is there.
-use Rattle.std.proofs.lemmas.Grind.{common_steps}
-use Rattle.std.proofs.Common.{◌≡◌, refl, sym, ap, subst, ◌∙◌, ◌⊎◌, inl, inr, ⊎_elim, ℕ, zero, suc, ◌+◌, ◌*◌, arith, nat_eq, eqb-true, eq-eqb, Bool, true, false, cond, true≢false, find, flat_map, filter, List, [], ◌∷◌, ◌++◌, Some, None, length, map}
-use Rattle.std.specs.Prelude.{unwrap_or}
-use Rattle.vt_spec.specs.Machine.Attach.{attach, bind_tree, bindable_children, bindable_tree, bound, bound_at, is_top, stands_under, twig_of}
-use Rattle.vt_spec.specs.Lists.{Fresh, first_of_list, holds_of, odds}
-use Rattle.vt_spec.specs.Machine.Mounts.{Location, Mount, children, group_of, mount_tree, stands_on, tree_from}
-use Rattle.vt_spec.specs.Language.Calls.{MountFlags}
-use Rattle.vt_spec.specs.Machine.NewMounts.{mounted, new_mount, plain_filesystem, with_new_filesystem}
-use Rattle.vt_spec.specs.Machine.Run.{Serves, numbers_in_use, used_by_filesystem, used_by_mount}
-use Rattle.vt_spec.specs.Machine.World.{Filesystem, World, is_directory_at, mount_at, mount_numbered, no_filesystem, root_attr}
-use Rattle.vt_spec.specs.Machine.Invariants.{IsWorld}
-use Rattle.vt_spec.specs.Tree.{is_directory_node, new_directory}
-use Rattle.vt_spec.proofs.Lists.{Among, among-append, among-append_left, among-append_right, among-flat_map, among-from_filter, among-from_flat_map, none_from_among}
+use Rattle.std.proofs.Common.{◌≡◌, refl, sym, ap, subst, ◌∙◌, ◌⊎◌, inl, inr, ⊎_elim, ℕ, zero, suc, ◌+◌, ◌*◌, arith, nat_eq, eqb-true, eq-eqb, Bool, true, false, cond, true≢false, find, flat_map, filter, List, [], ◌∷◌, ◌++◌, Some, None, length, map, unwrap_or}
+use Rattle.vt_spec.proofs.Common.{Among, Filesystem, Fresh, IsWorld, Location, Mount, MountFlags, Serves, World, among-append, among-append_left, among-append_right, among-flat_map, among-from_filter, among-from_flat_map, attach, bind_tree, bindable_children, bindable_tree, bound, bound_at, children, common_steps, first_of_list, group_of, holds_of, is_directory_at, is_directory_node, is_top, mount_at, mount_numbered, mount_tree, mounted, new_directory, new_mount, no_filesystem, none_from_among, number-mount_in, numbers_in_use, odds, plain_filesystem, root_attr, stands_on, stands_under, tree_among, tree_from, twig_of, used_by_filesystem, used_by_mount, with_new_filesystem}
 use Rattle.vt_laws_mounts.proofs.attached.BindsStand.{binds_keep_numbers, moves_keep_numbers, new_mounts_keep_numbers}
 use Rattle.vt_laws_mounts.proofs.mounts.MountsAttached.{graft, supplied}
 use Rattle.vt_laws_mounts.proofs.mounts.Standing.{bindable_child}
@@ -22,7 +11,6 @@ use Rattle.vt_laws_worlds.proofs.worlds.SeenMounts.{added_seen, attached_seen}
 use Rattle.vt_laws_worlds.proofs.worlds.SeenTrees.{unused_by_filesystem, unused_number}
 use Rattle.vt_laws_worlds.proofs.worlds.Shows.{AllShow, IsPlace, all_show_after, world_shows}
 use Rattle.vt_laws_worlds.proofs.worlds.ShowsAttached.{attached_show}
-use Rattle.vt_spec.proofs.Worlds.{number-mount_in, tree_among}
 use Rattle.vt_spec.proofs.FreshNumbers.{served-differ}
 use Rattle.vt_laws_trees.specs.Trees.Settling.{inode_in}
 

@@ -1,16 +1,7 @@
 -- The groups that a line names are at most 32.
-use Rattle.std.proofs.Common.{arith, ◌≡◌, refl, sym, ap, ◌∙◌, ℕ, Bool, true, false, cond, List, [], ◌∷◌, Option, Some, None, option_map}
-use Rattle.std.proofs.lemmas.Grind.{common_steps}
-use Rattle.std.specs.Prelude.{codes, length, nat_le, ⊤}
-use Rattle.std.specs.Str.{bytes_eq}
-use Rattle.vt_spec.specs.PathText.{parts}
-use Rattle.vt_spec.specs.Language.Calls.{Access, Call, CapabilityWord, Creation}
-use Rattle.vt_spec.specs.Language.Calls.Call.{Fork, Mkdir, MountOverlay, OpenFile}
-use Rattle.vt_spec.specs.Lists.{then_some, when}
-use Rattle.vt_spec.specs.Language.Script.{access_word, bytes_word, descriptor_word, flags_word, kept_or_identity, mode_word, offset_word, path_word, task_word, type_word, yes_or_no_word, Grammar, Request, Version, Who, asked_by, attribute_words, call_read, capabilities_word, call_words, chown_call, creation_words, descriptor_words, each_of, fork_words, groups_word, identity_word, may_have, mount_words, mounting_words, naming_words, no_more, request_of, request_of_texts, second_words, task_words, token_text, raw_tokens, who_of, word_then}
-use Rattle.vt_spec.specs.Language.Script.Request.{Asking, Calling}
-use Rattle.vt_spec.specs.Language.Script.Version.{One, Two}
-use Rattle.vt_spec.specs.Language.Script.Who.{Nobody, Someone}
+use Rattle.std.proofs.Common.{arith, ◌≡◌, refl, sym, ap, ◌∙◌, ℕ, Bool, true, false, cond, List, [], ◌∷◌, Option, Some, None, option_map, codes, length, nat_le, bytes_eq}
+use Rattle.vt_spec.proofs.Common.{Access, Asking, Call, Calling, CapabilityWord, Creation, Fork, Grammar, Mkdir, MountOverlay, Nobody, One, OpenFile, Request, Someone, Two, Version, Who, asked_by, call_read, call_words, capabilities_word, common_steps, each_of, groups_word, identity_word, no_more, parts, path_word, raw_tokens, request_of, request_of_texts, task_word, then_some, token_text, when, word_then, ⊤}
+use Rattle.vt_spec.specs.Language.Script.{access_word, bytes_word, descriptor_word, flags_word, kept_or_identity, mode_word, offset_word, type_word, yes_or_no_word, attribute_words, chown_call, creation_words, descriptor_words, fork_words, may_have, mount_words, mounting_words, naming_words, second_words, task_words, who_of}
 use Rattle.vt_laws_trees.specs.Trees.Limits.{names_few_groups}
 
 -- Groups

@@ -1,46 +1,19 @@
 -- Mounts were added and tasks went from locations to others of the same inodes, and mounts are to be detached: what
 -- code counts
 -- before it detaches them. So does unshare(2), where a namespace ends with it.
-use Rattle.std.proofs.Common.{◌≡◌, refl, sym, ap, subst, ◌∙◌, ◌⊎◌, ⊎_elim, inl, inr, ℕ, ◌+◌, nat_eq, eqb-true, eq-eqb, Bool, true, false, true≢false, cond, not, ◌&&◌, ◌||◌, List, [], ◌∷◌, ◌++◌, map, flat_map, Option, Some, None, is_some, arith, nat_lt}
-use Rattle.std.specs.Prelude.{option_to_list}
-use Rattle.std.specs.List.{list_all, list_any}
-use Rattle.std.proofs.lemmas.Bool.{and_parts}
-use Rattle.std.proofs.lemmas.List.{append-nil, map-append}
-use Rattle.vt_spec.specs.Lists.{any_pair, folded, is_among}
-use Rattle.vt_spec.specs.Machine.Mounts.{Location, Mount, detached, mount_in}
-use Rattle.vt_spec.specs.Machine.Settled.{is_located, mount_lives}
-use Rattle.vt_spec.specs.Machine.World.{Filesystem, Namespace, World, all_locations, mount_at}
-use Rattle.vt_spec.specs.Machine.Invariants.{is_nowhere_or_attached, is_private}
-use Rattle.vt_laws_mounts.specs.Counts.Using.{AreThere, Exchanges, is_inode, is_on, pinned_if, places_of}
+use Rattle.std.proofs.Common.{◌≡◌, refl, sym, ap, subst, ◌∙◌, ◌⊎◌, ⊎_elim, inl, inr, ℕ, ◌+◌, nat_eq, eqb-true, eq-eqb, Bool, true, false, true≢false, cond, not, ◌&&◌, ◌||◌, List, [], ◌∷◌, ◌++◌, map, flat_map, Option, Some, None, is_some, arith, nat_lt, option_to_list, append-nil}
+use Rattle.vt_spec.proofs.Common.{Filesystem, Location, Mount, Namespace, World, all_locations, and_parts, any_pair, detached, folded, is_among, is_located, is_nowhere_or_attached, is_private, list_all, list_any, map-append, map_alike, map_twice, mount_at, mount_in, mount_lives}
+use Rattle.vt_mounting.proofs.Common.{Among, AreThere, CountsItsMounts, Exchanges, FilesystemEntry, Inode, IsHeld, LocationsStand, MountEntry, MountsStand, OneNumberAMount, Shown, Tasks, WorldValue, all_pass, among-append, among-append_left, among-append_right, among-from_map, among-map, among_from_all, any_passes, counted, exchanges_follow, filesystem_seen, inode_at, inodes_of_mount_point, inodes_seen, is_inode, is_on, located_while_counted, locations_use_mounts, mount_uses, mounts_in, mounts_of_worlds_stand, one_passes, or_first, passes, pinned_if, places_of, shown, shown_entry, stands_on_attached, times, times_append, world_of, worlds_are_in_use, writes_of}
 use Rattle.vt_laws_mounts.proofs.counts.using.MountRoots as Roots
-use Rattle.vt_laws_mounts.proofs.counts.using.Places.{exchanges_follow, locations_are_uses, locations_use_mounts, mounts_are_uses}
-use Rattle.vt_fs.specs.FilesystemsValue.{FilesystemEntry, Shown, filesystem_seen, inodes_seen, shown, shown_entry}
-use Rattle.vt_laws_mounts.specs.LettingGo.Counts.{mount_uses, times}
-use Rattle.vt_laws_mounts.specs.LettingGo.Keeping.{LocationsStand}
-use Rattle.vt_laws_mounts.specs.LettingGo.Leaving.{MountsStand, stands_on_attached}
-use Rattle.vt_laws_mounts.specs.LettingGo.Mounting.{inode_at}
-use Rattle.vt_laws_mounts.specs.LettingGo.OneByOne.{Inode}
-use Rattle.vt_laws_mounts.proofs.letting_go.Lists.{Among, all_pass, among-append, among-append_left, among-append_right, among-from_map, among-map, among_from_all, any_passes, one_passes, or_first, passes}
+use Rattle.vt_laws_mounts.proofs.counts.using.Places.{locations_are_uses, mounts_are_uses}
 use Rattle.vt_laws_mounts.proofs.letting_go.leaving.MountsAdded.{found_before}
-use Rattle.vt_laws_mounts.proofs.letting_go.sweeps.OfWorlds.{mounts_of_worlds_stand}
-use Rattle.vt_laws_mounts.proofs.letting_go.sweeps.UsesCounted.{located_while_counted}
-use Rattle.vt_location.specs.Numbers.{counted}
-use Rattle.vt_mount.specs.MountsValue.{MountEntry, mounts_in}
-use Rattle.vt_tasks.specs.TasksValue.{Tasks}
-use Rattle.vt_laws_worlds.proofs.RaisedInUse.{worlds_are_in_use}
-use Rattle.vt_laws_mounts.proofs.letting_go.sweeps.UpperUses.{times_append}
-use Rattle.vt_laws_mounts.specs.Mounts.Attaching.{OneNumberAMount}
-use Rattle.vt_laws_mounts.specs.LettingGo.Attaching.{inodes_of_mount_point}
-use Rattle.vt_world.specs.Held.{CountsItsMounts, IsHeld, writes_of}
 use Rattle.vt_mounting.proofs.detach.MountsLeave.{leaves_alike, merged_alike}
 use Rattle.vt_mounting.specs.Detach.Uses.{Kept, is_unused, merged_seen}
-use Rattle.vt_world.specs.WorldValue.{WorldValue, world_of}
 use Rattle.vt_mounting.proofs.detach.Midway.{IsShown, Midway, NoneUnused, Reached, gone_if, gone_number, point_left, points_left}
 use Rattle.vt_mounting.proofs.detach.MidwayBegins as Begins
 use Rattle.vt_mounting.proofs.detach.Moving.{Moves}
 use Rattle.vt_mounting.proofs.attach.OverlaysMore.{grown, leaves_grown, merged_grown, mounted_more}
 use Rattle.vt_mounting.proofs.detach.Overlaid.{plain_ones_are}
-use Rattle.vt_spec.proofs.Lists.{map_alike, map_twice}
 
 flat_alike : {A B : Type 0} (f g : A → List B) (xs : List A) → ((x : A) → Among x xs → f x ≡ g x)
     → flat_map f xs ≡ flat_map g xs

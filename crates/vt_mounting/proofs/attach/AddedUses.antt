@@ -1,32 +1,14 @@
 -- What mounts that are attached use: their roots and their mount points, and the filesystems that they show.
-use Rattle.std.proofs.Common.{◌≡◌, refl, sym, ap, ◌∙◌, inl, inr, ℕ, ◌+◌, nat_eq, Bool, true, false, cond, List, [], ◌∷◌, ◌++◌, map, Option, Some, None, option_map, if◌then◌else◌, arith}
-use Rattle.std.specs.List.{cons_option}
-use Rattle.std.specs.Prelude.{filter_map}
-use Rattle.std.proofs.lemmas.List.{append-nil, map-append}
-use Rattle.std.specs.List.{list_all}
-use Rattle.vt_spec.specs.Lists.{any_pair, folded}
+use Rattle.std.proofs.Common.{◌≡◌, refl, sym, ap, ◌∙◌, inl, inr, ℕ, ◌+◌, nat_eq, Bool, true, false, cond, List, [], ◌∷◌, ◌++◌, map, Option, Some, None, option_map, if◌then◌else◌, arith, filter_map, append-nil}
+use Rattle.vt_spec.proofs.Common.{Inodes, World, all_locations, any_pair, cons_option, folded, list_all, map-append, map_alike, map_twice, root_of}
 use Rattle.vt_spec.specs.Machine.Mounts as meant
-use Rattle.vt_spec.specs.Machine.Mounts.{root_of}
-use Rattle.vt_spec.specs.Machine.World.{World, all_locations}
-use Rattle.vt_spec.specs.Inodes.{Inodes}
-use Rattle.vt_laws_mounts.specs.Counts.Using.{Exchanges, is_inode, is_on, pinned_if, places_of}
+use Rattle.vt_mounting.proofs.Common.{Among, Exchanges, Inode, Shown, counted, counted_test, inode_at, is_inode, is_on, location_of, mount_of, pinned_if, places_of, times, times_append}
 use Rattle.vt_laws_mounts.proofs.counts.using.Places.{mounts_are_uses}
-use Rattle.vt_fs.specs.FilesystemsValue.{Shown}
-use Rattle.vt_laws_mounts.specs.LettingGo.Counts.{times}
-use Rattle.vt_laws_mounts.specs.LettingGo.Mounting.{inode_at}
-use Rattle.vt_laws_mounts.specs.LettingGo.OneByOne.{Inode}
-use Rattle.vt_laws_mounts.proofs.letting_go.Lists.{Among}
 use Rattle.vt_location.specs.declared.locations.Location.{Location}
 use Rattle.vt_location.specs.declared.mounts.Mount.{Mount}
-use Rattle.vt_location.specs.Locations.{location_of}
-use Rattle.vt_location.specs.MountValue.{mount_of}
-use Rattle.vt_location.specs.Numbers.{counted}
-use Rattle.vt_laws_mounts.proofs.letting_go.sweeps.UpperUses.{times_append}
 use Rattle.vt_mounting.proofs.detach.Detached.{inodes_of_point}
 use Rattle.vt_mounting.specs.Detach.Uses.{inode_of, mounted_if, pinned_at, pinned_in, shown_by}
 use Rattle.vt_mounting.proofs.detach.Shown.{counted_eq_back}
-use Rattle.vt_location.proofs.NumberLemmas.{counted_test}
-use Rattle.vt_spec.proofs.Lists.{map_alike, map_twice}
 
 -- the inodes that mounts use
 abbrev pub gained_by : List Mount → List Inode

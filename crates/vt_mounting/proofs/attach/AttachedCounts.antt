@@ -1,20 +1,10 @@
 -- Mounts that come after all others: nothing is on them, and their numbers are greater.
-use Rattle.std.proofs.Common.{◌≡◌, refl, sym, ap, ◌∙◌, inl, inr, ℕ, ◌+◌, ◌<◌, ◌%◌, ◌/◌, ◌==◌, nat_eq, eqb-true, nat_lt, Bool, true, false, true≢false, ◌&&◌, ◌||◌, List, [], ◌∷◌, ◌++◌, map, flat_map, if◌then◌else◌, arith}
-use Rattle.std.specs.List.{list_all}
-use Rattle.std.proofs.lemmas.Bool.{ltb-true, ne_eqb}
-use Rattle.vt_spec.specs.Lists.{is_among}
+use Rattle.std.proofs.Common.{◌≡◌, refl, sym, ap, ◌∙◌, inl, inr, ℕ, ◌+◌, ◌<◌, ◌%◌, ◌/◌, ◌==◌, nat_eq, eqb-true, nat_lt, Bool, true, false, true≢false, ◌&&◌, ◌||◌, List, [], ◌∷◌, ◌++◌, map, flat_map, if◌then◌else◌, arith, ltb-true, ne_eqb}
+use Rattle.vt_spec.proofs.Common.{Descriptor, Task, all_locations, is_among, list_all, locations_of}
 use Rattle.vt_spec.specs.Machine.Mounts as meant
-use Rattle.vt_spec.specs.Machine.World.{Descriptor, Task, all_locations, locations_of}
-use Rattle.vt_laws_mounts.specs.LettingGo.Counts.{times}
-use Rattle.vt_laws_mounts.proofs.letting_go.Lists.{Among, among-append_left, among-append_right, among-from_map, among-map, among_numbers, is_among_numbers, passes}
+use Rattle.vt_mounting.proofs.Common.{Among, CountsItsUses, IsHeld, WorldValue, among-append_left, among-append_right, among-from_map, among-map, among_numbers, are_ascending, counted, is_among_numbers, is_counted_before, mount_of, mounts_in, passes, times, world_of, writes_of, writes_on}
 use Rattle.vt_location.specs.declared.mounts.Mount.{Mount}
-use Rattle.vt_location.specs.MountValue.{mount_of}
-use Rattle.vt_location.specs.Numbers.{counted}
-use Rattle.vt_mount.specs.MountsValue.{are_ascending, mounts_in}
-use Rattle.vt_laws_trees.specs.Runs.Handed.{is_counted_before}
-use Rattle.vt_world.specs.Held.{CountsItsUses, IsHeld, writes_of, writes_on}
 use Rattle.vt_mounting.specs.Detach.Uses.{unused_entry}
-use Rattle.vt_world.specs.WorldValue.{WorldValue, world_of}
 use Rattle.vt_mounting.proofs.attach.Beside.{IsBeside}
 use Rattle.vt_mounting.proofs.attach.EnteringLemmas.{apart}
 use Rattle.vt_mounting.proofs.detach.FilesSeen.{mount_named}

@@ -1,32 +1,15 @@
 -- A world in which mounts were attached: what they use is counted, and nothing else changed.
-use Rattle.std.proofs.Common.{◌≡◌, refl, sym, ap, subst, ◌∙◌, inl, inr, ℕ, nat_eq, eqb-true, Bool, true, false, not, ◌&&◌, ◌||◌, List, [], ◌∷◌, ◌++◌, map, Option, Some, None, option_map, is_some}
-use Rattle.std.specs.Prelude.{All, option_to_list}
-use Rattle.std.specs.List.{list_all}
-use Rattle.std.proofs.lemmas.Bool.{and_parts}
+use Rattle.std.proofs.Common.{◌≡◌, refl, sym, ap, subst, ◌∙◌, inl, inr, ℕ, nat_eq, eqb-true, Bool, true, false, not, ◌&&◌, ◌||◌, List, [], ◌∷◌, ◌++◌, map, Option, Some, None, option_map, is_some, All, option_to_list}
+use Rattle.vt_spec.proofs.Common.{Filesystem, Inode as Counted, World, and_parts, filesystem_numbered, has_its_root, is_directory_at, is_directory_node, list_all, mount_at, node_at, node_in}
 use Rattle.vt_spec.specs.Machine.Mounts as meant
-use Rattle.vt_spec.specs.Machine.World.{Filesystem, World, filesystem_numbered, is_directory_at, mount_at, node_at}
-use Rattle.vt_spec.specs.Machine.Invariants.{has_its_root}
-use Rattle.vt_spec.specs.Inodes.{Inode as Counted, node_in}
-use Rattle.vt_spec.specs.Tree.{is_directory_node}
-use Rattle.vt_laws_mounts.specs.Counts.Using.{AreThere}
-use Rattle.vt_fs.specs.FilesystemsValue.{FilesystemEntry, filesystem_seen, inodes_seen}
-use Rattle.vt_laws_mounts.specs.LettingGo.OneByOne.{Inode}
-use Rattle.vt_laws_mounts.proofs.letting_go.Lists.{Among, among-append_right, among-map, passes}
-use Rattle.vt_laws_mounts.proofs.letting_go.leaving.PlacesLeft.{found_itself}
+use Rattle.vt_mounting.proofs.Common.{Among, AreThere, FilesystemEntry, HasOwnNodes, Inode, IsUnderWay, among-append_right, among-map, counted, directory_there, filesystem_seen, found_filesystem, found_itself, inodes_seen, is_small_node, location_of, mount_of, number_of, passes}
 use Rattle.vt_location.specs.declared.locations.Location.{Location}
 use Rattle.vt_location.specs.declared.locations.NodeRef.{NodeRef}
 use Rattle.vt_location.specs.declared.mounts.Mount.{Mount}
-use Rattle.vt_location.specs.Locations.{is_small_node, location_of, number_of}
-use Rattle.vt_location.specs.MountValue.{mount_of}
-use Rattle.vt_location.specs.Numbers.{counted}
-use Rattle.vt_laws_worlds.specs.Worlds.Kept.{IsUnderWay}
-use Rattle.vt_laws_worlds.proofs.worlds.Roots.{directory_there}
 use Rattle.vt_mounting.proofs.detach.Detached.{inodes_of_point}
-use Rattle.vt_world.specs.Held.{HasOwnNodes}
 use Rattle.vt_mounting.specs.Attach.Room.{has_small_nodes, point_is_small}
 use Rattle.vt_mounting.proofs.attach.AddedUses.{IsFoundIn, gained_by}
 use Rattle.vt_mounting.proofs.detach.NodesFound.{node_at_home}
-use Rattle.vt_laws_mounts.proofs.letting_go.sweeps.OfWorlds.{found_filesystem}
 
 -- an inode of which there is a node is there
 pub inode_is_there : (o : Option (Counted ℕ)) → is_some (node_in o) ≡ true → is_some o ≡ true

@@ -1,18 +1,9 @@
 -- What an attachment asks of the world to which it attaches, beside its plain filesystems: an overlay of it may have no
 -- mount yet.
-use Rattle.std.proofs.Common.{◌≡◌, ℕ, false, true, is_some}
-use Rattle.std.specs.Prelude.{All}
-use Rattle.vt_spec.specs.Machine.Locked.{of_overlay}
-use Rattle.vt_spec.specs.Machine.World.{Filesystem, is_overlay}
+use Rattle.std.proofs.Common.{◌≡◌, ℕ, false, true, is_some, All}
+use Rattle.vt_spec.proofs.Common.{Filesystem, is_overlay, of_overlay}
 use Rattle.vt_laws_mounts.proofs.counts.using.MountRoots as Roots
-use Rattle.vt_laws_mounts.specs.LettingGo.Keeping.{LocationsStand}
-use Rattle.vt_laws_mounts.specs.LettingGo.Leaving.{MountsStand}
-use Rattle.vt_laws_mounts.proofs.letting_go.Lists.{all_from_among, among_from_all}
-use Rattle.vt_laws_mounts.proofs.letting_go.sweeps.OfWorlds.{mounts_of_worlds_stand}
-use Rattle.vt_laws_worlds.specs.OverlaysStay.Woven.{are_rising}
-use Rattle.vt_group.specs.Grouping.{Has}
-use Rattle.vt_world.specs.Held.{CountsItsUses, CountsWhatIsInIt, HasOwnNodes, IsHeld, IsMountedSoOften}
-use Rattle.vt_world.specs.WorldValue.{WorldValue, overlays_seen, world_of}
+use Rattle.vt_mounting.proofs.Common.{CountsItsUses, CountsWhatIsInIt, Has, HasOwnNodes, IsHeld, IsMountedSoOften, LocationsStand, MountsStand, WorldValue, all_from_among, among_from_all, are_rising, mounts_of_worlds_stand, overlays_seen, world_of}
 use Rattle.vt_mounting.proofs.detach.PlainFound.{overlay_among}
 
 -- an overlay without an upper layer

@@ -1,28 +1,13 @@
 -- The copies of an attachment stand in the order of their numbers: all at one part, in the order of the tree, then all
 -- at the next.
-use Rattle.std.proofs.Common.{◌≡◌, ◌<◌, ◌≤◌, refl, sym, ap, subst, ◌∙◌, ⊎_elim, inl, inr, true≢false, ℕ, ◌+◌, ◌*◌, nat_eq, eq-eqb, Bool, true, false, cond, ◌&&◌, List, [], ◌∷◌, ◌++◌, map, length, Some, arith}
-use Rattle.std.specs.Prelude.{flat_map, if◌then◌else◌, nat_lt, unwrap_or}
-use Rattle.std.specs.List.{list_all, list_any}
+use Rattle.std.proofs.Common.{◌≡◌, ◌<◌, ◌≤◌, refl, sym, ap, subst, ◌∙◌, ⊎_elim, inl, inr, true≢false, ℕ, ◌+◌, ◌*◌, nat_eq, eq-eqb, Bool, true, false, cond, ◌&&◌, List, [], ◌∷◌, ◌++◌, map, length, Some, arith, flat_map, if◌then◌else◌, nat_lt, unwrap_or, lt-ltb, ne_eqb}
+use Rattle.vt_spec.proofs.Common.{Mount, World, any_pair, copies_at, copy_at, group_of, index_from, index_of, is_destination, length-map, list_all, list_any, map_twice, mount_at, or_parts, parts_of, twig_of}
 use Rattle.std.proofs.Math.Nat.{mul-le-mul_left}
-use Rattle.std.proofs.lemmas.Bool.{lt-ltb, ne_eqb, or_parts}
-use Rattle.std.proofs.lemmas.List.{length-map}
-use Rattle.vt_laws_mounts.proofs.letting_go.Lists.{Among, all_pass, among-from_flat_map, among-from_map, fails, flat_map_alike}
-use Rattle.vt_location.specs.Locations.{location_of}
-use Rattle.vt_location.specs.MountValue.{mount_of}
-use Rattle.vt_location.specs.Numbers.{counted}
-use Rattle.vt_mount.specs.MountsValue.{are_ascending}
-use Rattle.vt_laws_mounts.proofs.mounts.MountsNumbered.{parts_apart, same_number}
-use Rattle.vt_laws_worlds.proofs.permits.taken.TakenAttached.{index_bound}
+use Rattle.vt_mounting.proofs.Common.{Among, OneNumberAMount, all_pass, among-from_flat_map, among-from_map, are_ascending, counted, fails, flat_map_alike, graft_in, index_bound, location_of, mount_of, numbers_at, parts_apart, planned_copies}
+use Rattle.vt_laws_mounts.proofs.mounts.MountsNumbered.{same_number}
 use Rattle.vt_propagate.specs.declared.copying.Counts.{Counts}
 use Rattle.vt_propagate.specs.declared.copying.Graft.{Graft}
-use Rattle.vt_propagate.specs.Planned.{graft_in, numbers_at, planned_copies}
-use Rattle.vt_spec.specs.Lists.{any_pair, index_from}
-use Rattle.vt_spec.specs.Machine.Attach.{copies_at, copy_at, is_destination, parts_of, twig_of}
-use Rattle.vt_spec.specs.Machine.Mounts.{Mount, group_of, index_of}
-use Rattle.vt_spec.specs.Machine.World.{World, mount_at}
 use Rattle.vt_mounting.proofs.attach.EnteringLemmas.{ascending_joined}
-use Rattle.vt_spec.proofs.Lists.{map_twice}
-use Rattle.vt_laws_mounts.specs.Mounts.Attaching.{OneNumberAMount}
 
 pub differs : (first : Mount ℕ) (rest : List (Mount ℕ)) → OneNumberAMount (first ∷ rest) → (mount : Mount ℕ)
     → Among mount rest → nat_eq mount.number first.number ≡ false

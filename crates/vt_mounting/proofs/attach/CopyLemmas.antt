@@ -1,10 +1,10 @@
 -- The numbers of the copies of a namespace's mounts, by the places of their originals.
 use Rattle.std.proofs.Common.{◌≡◌, ap, ◌∙◌, ℕ, ◌+◌, ◌*◌, nat_eq, List, unwrap_or, arith}
+use Rattle.vt_spec.proofs.Common.{Mount, index_of}
 use Rattle.vt_location.specs.declared.numbers.MountId.{MountId}
-use Rattle.vt_location.specs.Numbers.{counted}
+use Rattle.vt_mounting.proofs.Common.{counted}
 use Rattle.vt_mount.specs.Attached.{AreOf}
 use Rattle.vt_mount.proofs.AttachedLemmas.{place_of, places_alike}
-use Rattle.vt_spec.specs.Machine.Mounts.{Mount, index_of}
 use Rattle.vt_mounting.specs.Attach.Copying.{copy_numbers}
 
 pub numbered_so : (next : ℕ) (id : MountId) (originals : List MountId) (place : ℕ)

@@ -1,11 +1,8 @@
 -- Mounts that come after all others.
-use Rattle.std.proofs.Common.{◌≡◌, sym, ap, subst, ◌∙◌, ⊎_elim, inl, inr, refl, ℕ, ◌<◌, true, ◌&&◌, List, [], ◌∷◌, ◌++◌, ◌+◌, length, take, drop, get_or}
-use Rattle.std.specs.Prelude.{nat_lt}
-use Rattle.std.specs.List.{list_all}
-use Rattle.std.proofs.lemmas.Bool.{and_parts, lt-ltb, ltb-true}
-use Rattle.vt_laws_mounts.proofs.letting_go.Lists.{Among, all_pass, among-append_right, passes}
+use Rattle.std.proofs.Common.{◌≡◌, sym, ap, subst, ◌∙◌, ⊎_elim, inl, inr, refl, ℕ, ◌<◌, true, ◌&&◌, List, [], ◌∷◌, ◌++◌, ◌+◌, length, take, drop, get_or, nat_lt, lt-ltb, ltb-true}
+use Rattle.vt_spec.proofs.Common.{and_parts, list_all}
+use Rattle.vt_mounting.proofs.Common.{Among, all_pass, among-append_right, are_ascending, passes}
 use Rattle.vt_location.specs.declared.mounts.Mount.{Mount}
-use Rattle.vt_mount.specs.MountsValue.{are_ascending}
 use Rattle.vt_mount.proofs.EnteringLemmas.{at_index}
 use Rattle.vt_spec.specs.Machine.Mounts as meant
 

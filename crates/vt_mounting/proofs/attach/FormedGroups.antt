@@ -1,16 +1,8 @@
 -- The groups that an attachment makes, against the types of its copies.
-use Rattle.std.proofs.Common.{◌≡◌, ◌⊎◌, refl, sym, ap, subst, ◌∙◌, true≢false, inl, inr, ℕ, nat_eq, eq-eqb, eqb-true, Bool, true, false, cond, not, List, map, Option, Some, None, is_some, option_map, unwrap_or}
-use Rattle.std.specs.Prelude.{filter_map}
-use Rattle.vt_group.specs.Grouping.{HasGroup}
+use Rattle.std.proofs.Common.{◌≡◌, ◌⊎◌, refl, sym, ap, subst, ◌∙◌, true≢false, inl, inr, ℕ, nat_eq, eq-eqb, eqb-true, Bool, true, false, cond, not, List, map, Option, Some, None, is_some, option_map, unwrap_or, filter_map}
+use Rattle.vt_spec.proofs.Common.{Among, Copies, Graft, Location, Mount, Private, Propagation, Shared, Slave, Twig, Unbindable, World, all_from_among, among-filter_map, among-flat_map, among-from_filter_map, among-from_flat_map, among-from_map, among-map, any_among, any_from_among, contains_from_among, copies_at, copy_at, copy_type, graft_of, group_made, group_of, has_members, holds_of, image, is_among, is_among_numbers, is_destination, is_member_of, is_shared, master_after, mount_at, nearest_image, parts_of, then_some, twig_master, twig_of, type_at, type_at_part, when}
+use Rattle.vt_mounting.proofs.Common.{HasGroup}
 use Rattle.vt_laws_mounts.proofs.mounts.MountsFound.{number_found}
-use Rattle.vt_spec.specs.Lists.{holds_of, is_among, then_some, when}
-use Rattle.vt_spec.specs.Machine.Attach.{Copies, Graft, Twig, copies_at, copy_at, copy_type, graft_of, group_made, image, is_destination, nearest_image, parts_of, twig_master, twig_of, type_at, type_at_part}
-use Rattle.vt_spec.specs.Machine.Mounts.{Location, Mount, Propagation, group_of, is_shared}
-use Rattle.vt_spec.specs.Machine.Mounts.Propagation.{Private, Shared, Slave, Unbindable}
-use Rattle.vt_spec.specs.Machine.Receives.{has_members, is_member_of}
-use Rattle.vt_spec.specs.Machine.Types.{master_after}
-use Rattle.vt_spec.specs.Machine.World.{World, mount_at}
-use Rattle.vt_spec.proofs.Lists.{Among, all_from_among, among-filter_map, among-flat_map, among-from_filter_map, among-from_flat_map, among-from_map, among-map, any_among, any_from_among, contains_from_among, is_among_numbers}
 use Rattle.vt_mounting.specs.Attach.AttachedGroups.{FormedGroupsBegin, GroupsOfCopiesAreNamed, HasGroupsOf, all_copies, groups_formed}
 use Rattle.vt_laws_mounts.proofs.Groups.{no_group_of_heir}
 

@@ -1,53 +1,20 @@
 -- Attachments with copies at all receivers are done: the code's world is what the policy leaves, and counts what is in
 -- it.
-use Rattle.std.proofs.Common.{◌≡◌, refl, sym, ap, subst, ◌∙◌, ⊎_elim, inl, inr, ℕ, ◌+◌, nat_eq, Bool, true, false, true≢false, cond, List, [], ◌∷◌, ◌++◌, map, filter, Option, is_some, arith}
-use Rattle.std.specs.Prelude.{All}
-use Rattle.std.specs.List.{list_all}
-use Rattle.vt_laws_mounts.specs.Counts.Counted.{IsCounted}
-use Rattle.vt_laws_mounts.specs.Counts.Using.{exchanged}
-use Rattle.vt_laws_mounts.specs.Counts.OverlaysStay.{layer_count}
-use Rattle.vt_laws_mounts.proofs.counts.overlays.FilesystemUses.{no_upper_is_in_any}
-use Rattle.vt_laws_mounts.proofs.counts.using.Exchanged.{uses_are_exchanged_beside_overlays}
-use Rattle.vt_fs.specs.FilesystemsValue.{FilesystemEntry, Filesystems, Shown, filesystem_seen, filesystems_seen, inodes_seen, shown, shown_entry}
-use Rattle.vt_group.specs.Grouping.{Grouping, Has, master_in}
-use Rattle.vt_group.specs.Together.{Grows, new_group, typed}
-use Rattle.vt_laws_rules.specs.Numbers.{KeepsTo}
-use Rattle.vt_laws_mounts.specs.LettingGo.Counts.{mounts_showing, times}
-use Rattle.vt_laws_mounts.specs.LettingGo.InUse.{HasTrees, InodesInUse}
-use Rattle.vt_laws_mounts.specs.LettingGo.OneByOne.{Inode}
-use Rattle.vt_laws_mounts.proofs.letting_go.Lists.{Among, all_from_among, among-append, among-from_map, among-map, among_from_all}
-use Rattle.vt_laws_mounts.proofs.letting_go.sweeps.UpperUses.{times_append}
-use Rattle.vt_laws_worlds.specs.OverlaysStay.Woven.{ArePartedBy, are_rising}
-use Rattle.vt_laws_worlds.proofs.overlays_stay.weaving.WovenLists.{woven_lists_are_failing, woven_lists_are_passing}
+use Rattle.std.proofs.Common.{◌≡◌, refl, sym, ap, subst, ◌∙◌, ⊎_elim, inl, inr, ℕ, ◌+◌, nat_eq, Bool, true, false, true≢false, cond, List, [], ◌∷◌, ◌++◌, map, filter, Option, is_some, arith, All}
+use Rattle.vt_spec.proofs.Common.{Copies, Filesystem, Fresh, IsWorld, Permit, Propagation, SameWorlds, TaskName, World, attach, attached_by, copies_from, filesystem_numbered, folded, has_its_root, has_members, is_among, is_overlay, list_all, map_twice, masters_with, parts_of}
+use Rattle.vt_mounting.proofs.Common.{Among, AttachesBy, CountsItsMounts, CountsItsUses, CountsWhatIsInIt, FilesystemEntry, Filesystems, Grouping, Grows, Has, HasOwnInodes, HasOwnNodes, Inode, InodesInUse, IsCounted, IsHeld, IsMountedSoOften, IsUnderWay, KeepsTo, MountEntry, MovesOnce, OverlaysAreNamed, OverlaysHaveNoUpper, Shown, WorldValue, WritersHaveLayers, all_from_among, among-append, among-from_map, among-map, among_from_all, any_same_worlds_are_worlds, any_same_worlds_keep_to_numbers, are_ascending, are_rising, counted, exchanged, filesystem_seen, filesystems_seen, has_only_named, inodes_seen, is_counted_before, layer_count, location_of, master_in, mount_of, mounts_entered, mounts_in, mounts_showing, moved_by, new_group, no_upper_is_in_any, numbers_at, overlays_seen, same_worlds_have_layers_alike, shown, shown_entry, times, times_append, typed, uses_are_exchanged_beside_overlays, with_kind, world_of, woven_lists_are_failing}
+use Rattle.vt_laws_mounts.specs.LettingGo.InUse.{HasTrees}
+use Rattle.vt_laws_worlds.specs.OverlaysStay.Woven.{ArePartedBy}
+use Rattle.vt_laws_worlds.proofs.overlays_stay.weaving.WovenLists.{woven_lists_are_passing}
 use Rattle.vt_location.specs.declared.locations.Location.{Location}
 use Rattle.vt_location.specs.declared.mounts.Mount.{Mount}
-use Rattle.vt_location.specs.Locations.{location_of}
-use Rattle.vt_location.specs.MountValue.{mount_of}
-use Rattle.vt_location.specs.Numbers.{counted}
-use Rattle.vt_mount.specs.MountsValue.{MountEntry, are_ascending, mounts_in}
 use Rattle.vt_propagate.specs.declared.copying.Counts.{Counts}
 use Rattle.vt_propagate.specs.declared.copying.Graft.{Graft}
-use Rattle.vt_propagate.specs.Attaching.{AttachesBy}
 use Rattle.vt_propagate.specs.Copying as planned
-use Rattle.vt_propagate.specs.Falling.{moved_by}
-use Rattle.vt_propagate.specs.Planned.{numbers_at}
-use Rattle.vt_propagate.specs.Pushing.{MovesOnce}
-use Rattle.vt_retype.specs.Retyping.{with_kind, with_type_in}
-use Rattle.vt_laws_trees.specs.Runs.Handed.{is_counted_before}
-use Rattle.vt_spec.specs.Language.Calls.{TaskName}
-use Rattle.vt_spec.specs.Lists.{Fresh, folded, is_among}
-use Rattle.vt_spec.specs.Machine.Attach.{Copies, attach, attached_by, copies_from, masters_with, parts_of}
+use Rattle.vt_retype.specs.Retyping.{with_type_in}
 use Rattle.vt_spec.specs.Machine.Mounts as meant
-use Rattle.vt_spec.specs.Machine.Mounts.{Propagation}
-use Rattle.vt_spec.specs.Machine.Permits.{Permit}
-use Rattle.vt_spec.specs.Machine.Receives.{has_members}
-use Rattle.vt_spec.specs.Machine.World.{Filesystem, World, filesystem_numbered, is_overlay}
-use Rattle.vt_spec.specs.Machine.Invariants.{IsWorld, has_its_root}
-use Rattle.vt_laws_worlds.specs.Worlds.Kept.{IsUnderWay}
 use Rattle.vt_mounting.specs.Detach.Events.{Permits, left_by}
-use Rattle.vt_world.specs.Held.{CountsItsMounts, CountsItsUses, CountsWhatIsInIt, HasOwnInodes, HasOwnNodes, IsHeld, IsMountedSoOften}
 use Rattle.vt_mounting.specs.Detach.Uses.{unused_entry, Merged, kept_with, merged_seen, overlays_kept, merged_by}
-use Rattle.vt_world.specs.WorldValue.{WorldValue, overlays_seen, world_of}
 use Rattle.vt_mounting.proofs.detach.BesideOverlays.{layers_alike}
 use Rattle.vt_mounting.proofs.detach.Finishing.{CountsBeside, own_exchanged}
 use Rattle.vt_mounting.proofs.detach.MountsChanged.{times_map}
@@ -57,16 +24,8 @@ use Rattle.vt_mounting.proofs.detach.OwnInodesKept.{IsOwn}
 use Rattle.vt_mounting.proofs.detach.Showing.{ShowsAs, shown_has, shown_is_counted, shown_is_same}
 use Rattle.vt_mounting.proofs.detach.Staying.{IsDone}
 use Rattle.vt_mounting.proofs.attach.OverlaysMore.{counted_more, merged_by_all, seen_more}
-use Rattle.vt_laws_mounts.specs.Counts.BesideOverlays.{OverlaysHaveNoUpper}
-use Rattle.vt_laws_mounts.specs.Counts.OverlaysStay.{OverlaysAreNamed}
-use Rattle.vt_laws_mounts.specs.LettingGo.Keeping.{has_only_named}
-use Rattle.vt_laws_worlds.proofs.one_text.same.SameNumbers.{any_same_worlds_keep_to_numbers}
-use Rattle.vt_laws_worlds.proofs.one_text.same.SameWhole.{any_same_worlds_are_worlds}
-use Rattle.vt_laws_worlds.specs.OverlaysRead.Writers.{WritersHaveLayers}
-use Rattle.vt_laws_worlds.proofs.overlays_read.Swept.{same_worlds_have_layers_alike}
 use Rattle.vt_laws_worlds.proofs.overlays_stay.kept.OverlaysLeft.{by_overlays, no_upper_of_plain}
 use Rattle.vt_laws_worlds.proofs.overlays_stay.kept.OverlaysSwept.{same_worlds_have_no_upper_alike}
-use Rattle.vt_spec.specs.Machine.SameWorlds.{SameWorlds}
 use Rattle.vt_mounting.proofs.attach.Beside.{IsBeside, IsReadOnly}
 use Rattle.vt_mounting.specs.Attach.AttachedGroups.{HasGroupsOf, all_copies, groups_formed, type_of}
 use Rattle.vt_mounting.specs.Attach.Grafted.{IsGrafted}
@@ -76,7 +35,6 @@ use Rattle.vt_mounting.specs.Attach.PlannedUses.{point_seen}
 use Rattle.vt_mounting.specs.Attach.Room.{has_small_nodes}
 use Rattle.vt_mounting.proofs.attach.AddedUses.{gained_by, showing}
 use Rattle.vt_mounting.proofs.attach.AttachedCounts.{unused_counts}
-use Rattle.vt_mount.proofs.EnteringLemmas.{mounts_entered}
 use Rattle.vt_mounting.proofs.attach.FormedGroups.{formed_groups_begin, groups_of_copies_are_named}
 use Rattle.vt_mounting.proofs.attach.GraftedUses.{after, beside_overlays, changed_at, exchanged_then, gained_there, nothing_goes}
 use Rattle.vt_mounting.proofs.attach.GrownGroups.{ascending_rises, attached_worlds_grow}
@@ -85,7 +43,6 @@ use Rattle.vt_mounting.proofs.attach.PlannedCounts.{exchanged_on, inodes_of_poin
 use Rattle.vt_mounting.proofs.attach.PlannedPoints.{moved_at}
 use Rattle.vt_mounting.proofs.attach.PointsCounted.{points_count}
 use Rattle.vt_mounting.proofs.attach.TakingNumbers.{TakesNumbers, left_is_world, numbers_are_kept}
-use Rattle.vt_spec.proofs.Lists.{map_twice}
 
 -- the world with these filesystems
 abbrev pub with_base : WorldValue → Filesystems → World ℕ

@@ -1,44 +1,13 @@
 -- The uses of inodes where mounts come and others move onto them.
-use Rattle.std.proofs.Common.{◌≡◌, refl, sym, ap, subst, ◌∙◌, inl, inr, true≢false, ℕ, ◌+◌, nat_eq, eqb-true, Bool, true, false, cond, not, ◌&&◌, ◌||◌, List, [], ◌∷◌, ◌++◌, map, find, Option, Some, is_some, arith}
-use Rattle.std.specs.Prelude.{All, filter, filter_map, flat_map, option_to_list, unwrap_or}
-use Rattle.std.specs.List.{cons_option, list_all}
-use Rattle.std.specs.Map.{lookup}
-use Rattle.std.proofs.lemmas.Bool.{and_parts, ne_eqb}
-use Rattle.std.proofs.lemmas.List.{map-append}
-use Rattle.std.proofs.lemmas.List.Folds.{list_all-append}
-use Rattle.vt_laws_mounts.specs.Counts.Using.{AreThere, Exchanges, is_inode, is_on, places_of}
+use Rattle.std.proofs.Common.{◌≡◌, refl, sym, ap, subst, ◌∙◌, inl, inr, true≢false, ℕ, ◌+◌, nat_eq, eqb-true, Bool, true, false, cond, not, ◌&&◌, ◌||◌, List, [], ◌∷◌, ◌++◌, map, find, Option, Some, is_some, arith, All, filter, filter_map, flat_map, option_to_list, unwrap_or, ne_eqb}
+use Rattle.vt_spec.proofs.Common.{Filesystem, IsWorld, ListsNumbers, Propagation, World, all_locations, and_parts, any_pair, cons_option, filesystem_numbered, has_its_root, is_among, is_directory_at, is_directory_node, layers_in, list_all, list_all-append, lookup, map-append, map_alike, map_twice, mount_at, mount_in, named_in, no_mount, node_at, objects_of_overlay, or_else, root_of, used_in, with_mounts}
+use Rattle.vt_mounting.proofs.Common.{Among, AreThere, Exchanges, FilesystemEntry, Filesystems, HasOwnInodes, HasOwnNodes, Inode, IsUnderWay, MountEntry, MovesOnce, WorldValue, all_pass, among-append_left, among-append_right, among-filter_map, among-from_map, among-map, among_from_all, among_numbers, are_ascending, counted, directory_there, exchanges_follow, filesystem_seen, filesystems_seen, found_filesystem, inode_at, inodes_seen, is_inode, is_inode_used, is_on, location_of, map_same, mount_of, mounts_entered, mounts_in, none_passes, number_of, one_number_by_numbers, overlays_seen, passes, places_of, times, times_append, world_of, worlds_are_in_use, woven}
 use Rattle.vt_laws_mounts.proofs.counts.using.MountRoots.{places_stand}
-use Rattle.vt_laws_mounts.proofs.counts.using.Places.{exchanges_follow}
-use Rattle.vt_fs.specs.FilesystemsValue.{FilesystemEntry, Filesystems, filesystem_seen, filesystems_seen, inodes_seen}
-use Rattle.vt_laws_mounts.specs.LettingGo.Counts.{times}
-use Rattle.vt_laws_mounts.specs.LettingGo.Mounting.{inode_at}
-use Rattle.vt_laws_mounts.specs.LettingGo.OneByOne.{Inode, let_go_inode_of, let_go_inodes, without_inode}
-use Rattle.vt_laws_mounts.specs.LettingGo.InUse.{is_inode_used}
-use Rattle.vt_laws_mounts.proofs.letting_go.Lists.{Among, all_pass, among-append_left, among-append_right, among-filter_map, among-from_map, among-map, among_from_all, among_numbers, map_same, none_passes, passes}
-use Rattle.vt_laws_mounts.proofs.letting_go.sweeps.OfWorlds.{found_filesystem}
-use Rattle.vt_laws_mounts.proofs.letting_go.sweeps.UpperUses.{times_append}
-use Rattle.vt_laws_worlds.specs.OverlaysStay.Woven.{woven}
+use Rattle.vt_laws_mounts.specs.LettingGo.OneByOne.{let_go_inode_of, let_go_inodes, without_inode}
 use Rattle.vt_location.specs.declared.locations.Location.{Location}
 use Rattle.vt_location.specs.declared.mounts.Mount.{Mount}
-use Rattle.vt_location.specs.Locations.{location_of, number_of}
-use Rattle.vt_location.specs.MountValue.{mount_of}
-use Rattle.vt_location.specs.Numbers.{counted}
-use Rattle.vt_mount.specs.MountsValue.{MountEntry, are_ascending, mounts_in}
-use Rattle.vt_laws_mounts.proofs.mounts.MountsReplaced.{one_number_by_numbers}
-use Rattle.vt_propagate.specs.Pushing.{MovesOnce}
-use Rattle.vt_spec.specs.Lists.{any_pair, is_among, or_else}
 use Rattle.vt_spec.specs.Machine.Mounts as meant
-use Rattle.vt_spec.specs.Machine.Mounts.{Propagation, mount_in, no_mount, root_of}
-use Rattle.vt_spec.specs.Machine.World.{Filesystem, World, all_locations, filesystem_numbered, is_directory_at, mount_at, node_at, with_mounts}
-use Rattle.vt_spec.specs.Machine.Invariants.{IsWorld, ListsNumbers, has_its_root}
-use Rattle.vt_spec.specs.Machine.Settled.{layers_in, named_in, objects_of_overlay, used_in}
-use Rattle.vt_spec.specs.Tree.{is_directory_node}
-use Rattle.vt_laws_worlds.specs.Worlds.Kept.{IsUnderWay}
-use Rattle.vt_laws_worlds.proofs.RaisedInUse.{worlds_are_in_use}
-use Rattle.vt_laws_worlds.proofs.worlds.Roots.{directory_there}
-use Rattle.vt_world.specs.Held.{HasOwnInodes, HasOwnNodes}
 use Rattle.vt_mounting.specs.Detach.Uses.{inode_of, unused_entry}
-use Rattle.vt_world.specs.WorldValue.{WorldValue, overlays_seen, world_of}
 use Rattle.vt_mounting.proofs.detach.NodesFound.{node_at_home, own_together}
 use Rattle.vt_mounting.proofs.detach.Overlaid.{plain_one_among}
 use Rattle.vt_mounting.proofs.attach.Beside.{IsBeside}
@@ -47,13 +16,11 @@ use Rattle.vt_mounting.specs.Attach.PlannedUses.{point_seen}
 use Rattle.vt_mounting.specs.Attach.Room.{has_small_nodes}
 use Rattle.vt_mounting.proofs.attach.AddedUses.{IsFoundIn, gained_by, mounts_are_gained}
 use Rattle.vt_mounting.proofs.attach.AttachedWorlds.{new_found, new_uses_there, there_in}
-use Rattle.vt_mount.proofs.EnteringLemmas.{mounts_entered}
 use Rattle.vt_mounting.proofs.attach.EnteringLemmas.{apart}
 use Rattle.vt_mounting.proofs.attach.MovedPoints.{points_are_moved}
 use Rattle.vt_mounting.proofs.attach.PlacedUses.{points_are_uses}
 use Rattle.vt_mounting.proofs.attach.PlannedCounts.{inodes_of_points}
 use Rattle.vt_mounting.proofs.attach.PlannedPoints.{moved_at, number_at, others_stay, left_with_more, stands_then, stood, taken_with_more}
-use Rattle.vt_spec.proofs.Lists.{map_alike, map_twice}
 
 -- What is in use stays
 

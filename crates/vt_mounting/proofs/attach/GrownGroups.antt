@@ -1,23 +1,11 @@
 -- Mounts that come after all others: their types come after the others', and so do their groups.
-use Rattle.std.proofs.Common.{◌≡◌, refl, sym, ap, ◌∙◌, true≢false, ⊎_elim, ℕ, nat_eq, Bool, true, false, ◌&&◌, ◌||◌, List, [], ◌∷◌, ◌++◌, map, Option, Some, None, is_some, option_map, append_assoc}
-use Rattle.std.specs.Prelude.{nat_lt}
-use Rattle.std.specs.BTreeMap.{insert_entry}
-use Rattle.std.specs.List.{cons_option, list_all}
-use Rattle.std.specs.Ordering.{match_ordering, nat_cmp}
-use Rattle.std.proofs.lemmas.Bool.{and_parts}
-use Rattle.std.proofs.lemmas.List.{append-nil}
-use Rattle.std.proofs.lemmas.List.Folds.{list_any-append}
-use Rattle.vt_group.specs.Grouping.{HasGroup, are_rising, peer_of, peers_of}
+use Rattle.std.proofs.Common.{◌≡◌, refl, sym, ap, ◌∙◌, true≢false, ⊎_elim, ℕ, nat_eq, Bool, true, false, ◌&&◌, ◌||◌, List, [], ◌∷◌, ◌++◌, map, Option, Some, None, is_some, option_map, append_assoc, nat_lt, nat_cmp, append-nil}
+use Rattle.vt_spec.proofs.Common.{Mount, Private, Propagation, Shared, Slave, Unbindable, and_parts, cons_option, folded, group_of, has_members, holds_of, insert_entry, is_member_of, list_all, list_any-append, match_ordering, source_of}
+use Rattle.vt_mounting.proofs.Common.{HasGroup, all_from_among, among_from_all, are_ascending, numbers_of, peer_of, peers_of}
+use Rattle.vt_group.specs.Grouping.{are_rising}
 use Rattle.vt_group.specs.Together.{with_type_of}
 use Rattle.vt_group.proofs.Peers.{cmp_greater}
-use Rattle.vt_laws_mounts.proofs.letting_go.Lists.{all_from_among, among_from_all}
-use Rattle.vt_mount.specs.MountsValue.{are_ascending}
-use Rattle.vt_spec.specs.Lists.{folded, holds_of}
-use Rattle.vt_spec.specs.Machine.Mounts.{Mount, Propagation, group_of, source_of}
-use Rattle.vt_spec.specs.Machine.Mounts.Propagation.{Private, Shared, Slave, Unbindable}
-use Rattle.vt_spec.specs.Machine.Receives.{has_members, is_member_of}
 use Rattle.vt_mounting.specs.Attach.AttachedGroups.{AttachedWorldsGrow, type_of}
-use Rattle.vt_laws_mounts.specs.Mounts.Attaching.{numbers_of}
 
 -- One that comes last
 

@@ -1,58 +1,22 @@
 -- The event that moves a tree to a shared mount, with copies at its receivers: mount(2) with MS_MOVE.
-use Rattle.std.proofs.Common.{◌≡◌, ◌<◌, refl, sym, ap, subst, ◌∙◌, ⊎_elim, inl, inr, true≢false, ℕ, zero, suc, ◌+◌, ◌*◌, ◌%◌, ◌==◌, nat_eq, eq-eqb, Bool, true, false, cond, ◌&&◌, ◌||◌, List, [], ◌∷◌, ◌++◌, map, filter, length, Option, Some, None, is_some, arith}
-use Rattle.std.specs.Prelude.{Contains, drop, if◌then◌else◌, option_map, take, unwrap_or}
-use Rattle.std.specs.List.{list_all, list_any}
-use Rattle.std.specs.Map.{lookup}
-use Rattle.std.proofs.Math.Seq.{drop-append_seam, take-append_seam}
-use Rattle.std.proofs.lemmas.Bool.{ne_eqb, or_left, or_parts}
-use Rattle.std.proofs.lemmas.List.{drop-map, length-append, length-map, map-append}
-use Rattle.std.proofs.lemmas.List.Folds.{list_all-append, list_any-append}
-use Rattle.vt_spec.specs.Language.Calls.{TaskName}
-use Rattle.vt_spec.specs.Lists.{any_pair, first_of_list, folded, holds_of, is_among, rest_of}
-use Rattle.vt_spec.specs.Machine.Attach.{attach, attached_by, copies_from, masters_with, parts_of, type_at, type_on_shared}
+use Rattle.std.proofs.Common.{◌≡◌, ◌<◌, refl, sym, ap, subst, ◌∙◌, ⊎_elim, inl, inr, true≢false, ℕ, zero, suc, ◌+◌, ◌*◌, ◌%◌, ◌==◌, nat_eq, eq-eqb, Bool, true, false, cond, ◌&&◌, ◌||◌, List, [], ◌∷◌, ◌++◌, map, filter, length, Option, Some, None, is_some, arith, Contains, drop, if◌then◌else◌, option_map, take, unwrap_or, ne_eqb, length-append}
+use Rattle.vt_spec.proofs.Common.{Filesystem, IsWorld, Permit, Private, Propagation, Shared, Slave, TaskName, ToMove, Unbindable, World, among_from_contains, any_pair, attach, attached_by, contains_from_among, copies_from, drop-append_seam, first_of_list, folded, group_of, has_members, holds_of, is_among, is_mounted, is_shared, length-map, list_all, list_all-append, list_any, list_any-append, lookup, map-append, map_twice, masters_with, mount_at, mount_lives, mount_numbered, mount_tree, or_left, or_parts, parts_of, rest_of, settled, some_from_is_some, take-append_seam, tree_from, type_at, type_on_shared, with_mount}
+use Rattle.std.proofs.lemmas.List.{drop-map}
 use Rattle.vt_spec.specs.Machine.Mounts as meant
-use Rattle.vt_spec.specs.Machine.Mounts.{Propagation, group_of, is_shared, mount_tree, tree_from, with_mount}
-use Rattle.vt_spec.specs.Machine.Mounts.Propagation.{Private, Shared, Slave, Unbindable}
-use Rattle.vt_spec.specs.Machine.Permits.{Permit}
-use Rattle.vt_spec.specs.Machine.Permits.Permit.{ToMove}
-use Rattle.vt_spec.specs.Machine.Receives.{has_members}
-use Rattle.vt_spec.specs.Machine.Settled.{is_mounted, mount_lives, settled}
-use Rattle.vt_spec.specs.Machine.World.{Filesystem, World, mount_at, mount_numbered}
-use Rattle.vt_spec.specs.Machine.Invariants.{IsWorld}
-use Rattle.vt_spec.proofs.Lists.{among_from_contains, contains_from_among, map_twice}
-use Rattle.vt_laws_mounts.specs.Counts.Using.{Exchanges}
+use Rattle.vt_mounting.proofs.Common.{Among, AttachesBy, Exchanges, Filesystems, Grouping, Grows, Has, IsHeld, IsUnderWay, KeepsTo, MountEntry, MovesOnce, OneNumberAMount, Shown, WorldValue, all_from_among, among-from_map, among-map, among_from_all, any-map, are_ascending, counted, counts_from, in_use_of, is_among_numbers, is_counted_before, location_of, master_in, mount_of, mounts_entered, mounts_in, mounts_of_worlds_stand, moved_by, new_group, none_passes, numbers_at, numbers_of, one_number_by_numbers, overlays_seen, parts_apart, passes, planned_copies, typed, world_of, worlds_are_in_use}
 use Rattle.vt_laws_mounts.proofs.counts.using.MountRoots as Roots
-use Rattle.vt_fs.specs.FilesystemsValue.{Filesystems, Shown}
-use Rattle.vt_group.specs.Grouping.{Grouping, Has, master_in}
-use Rattle.vt_group.specs.Together.{Grows, new_group, typed}
-use Rattle.vt_laws_rules.specs.Numbers.{KeepsTo}
-use Rattle.vt_laws_mounts.proofs.letting_go.Lists.{Among, all_from_among, among-from_map, among-map, among_from_all, any-map, is_among_numbers, none_passes, passes}
-use Rattle.vt_laws_mounts.proofs.letting_go.sweeps.OfWorlds.{mounts_of_worlds_stand}
 use Rattle.vt_location.specs.declared.mounts.Mount.{Mount}
-use Rattle.vt_location.specs.Locations.{location_of}
-use Rattle.vt_location.specs.MountValue.{mount_of}
-use Rattle.vt_location.specs.Numbers.{counted}
-use Rattle.vt_mount.specs.MountsValue.{MountEntry, are_ascending, mounts_in}
-use Rattle.vt_laws_mounts.proofs.mounts.MountsNumbered.{parts_apart}
-use Rattle.vt_laws_mounts.proofs.mounts.MountsReplaced.{one_number_by_numbers}
 use Rattle.vt_laws_mounts.proofs.moves.MovingRoots.{tree_placed}
 use Rattle.vt_laws_mounts.proofs.mounts.Standing.{trees_have_each_once}
 use Rattle.vt_laws_worlds.proofs.overlays_stay.left.Given.{given_permits_are_under_way_without_upper}
 use Rattle.vt_propagate.specs.declared.copying.Counts.{Counts}
 use Rattle.vt_propagate.specs.declared.copying.Graft.{Graft}
-use Rattle.vt_propagate.specs.Attaching.{AttachesBy, IsMoved}
+use Rattle.vt_propagate.specs.Attaching.{IsMoved}
 use Rattle.vt_propagate.specs.Copying as planned
-use Rattle.vt_propagate.specs.Falling.{moved_by}
-use Rattle.vt_propagate.specs.Planned.{numbers_at, planned_copies}
-use Rattle.vt_propagate.specs.Pushing.{MovesOnce, leaver}
-use Rattle.vt_laws_trees.specs.Runs.Handed.{counts_from, is_counted_before}
-use Rattle.vt_laws_worlds.specs.Worlds.Kept.{IsUnderWay}
+use Rattle.vt_propagate.specs.Pushing.{leaver}
 use Rattle.vt_laws_worlds.specs.Worlds.Permits.{MayMoveTo}
-use Rattle.vt_laws_worlds.proofs.RaisedInUse.{worlds_are_in_use}
 use Rattle.vt_mounting.specs.Detach.Events.{Permits, left_by}
-use Rattle.vt_world.specs.Held.{IsHeld}
 use Rattle.vt_mounting.specs.Detach.Uses.{unused_entry, Merged, kept_of, kept_with}
-use Rattle.vt_world.specs.WorldValue.{WorldValue, overlays_seen, world_of}
 use Rattle.vt_mounting.proofs.detach.Bridging.{IsSwept, shows_left}
 use Rattle.vt_mounting.proofs.detach.FileEvents.{permit_fits}
 use Rattle.vt_mounting.proofs.detach.Grouped.{settled_has}
@@ -70,7 +34,6 @@ use Rattle.vt_mounting.specs.Attach.PlannedUses.{point_seen}
 use Rattle.vt_mounting.proofs.attach.AddedUses.{gained_by}
 use Rattle.vt_mounting.proofs.attach.AttachedCounts.{lower_numbers}
 use Rattle.vt_mounting.proofs.attach.Binding.{group_there, is_seen, same_base}
-use Rattle.vt_mount.proofs.EnteringLemmas.{mounts_entered}
 use Rattle.vt_mounting.proofs.attach.EnteringLemmas.{apart}
 use Rattle.vt_mounting.proofs.attach.FormedGroups.{formed_groups_begin, groups_of_copies_are_named}
 use Rattle.vt_mounting.proofs.attach.Beside.{beside as is_beside}
@@ -87,9 +50,6 @@ use Rattle.vt_mounting.proofs.attach.PlannedPoints.{moved_at}
 use Rattle.vt_mounting.proofs.attach.TakingNumbers.{TakesNumbers, left_is_world, numbers_are_kept}
 use Rattle.vt_mounting.proofs.attach.TypedMounts.{Kind, KindsOnce, looked_up_kind, retyped_one, typed_at, typed_seen, typed_with_more}
 use Rattle.vt_mounting.proofs.attach.TypesGrown.{GrowBeside, grows_beside}
-use Rattle.vt_spec.proofs.Options.{some_from_is_some}
-use Rattle.vt_laws_mounts.specs.Mounts.Attaching.{numbers_of, OneNumberAMount}
-use Rattle.vt_laws_mounts.specs.LettingGo.TreesOverlays.{in_use_of}
 
 tree_is_some : (fuel : ℕ) (mounts : List (meant.Mount ℕ)) (top : meant.Mount ℕ)
     → 0 < length (tree_from nat_eq fuel mounts top)

@@ -1,20 +1,12 @@
 -- Where a tree of mounts moves, all mounts and filesystems are still in use.
-use Rattle.std.proofs.Common.{◌≡◌, ap, subst, ◌∙◌, inl, ℕ, nat_eq, true, List, [], ◌∷◌, is_some}
-use Rattle.std.specs.Prelude.{option_to_list}
-use Rattle.std.specs.List.{list_all}
+use Rattle.std.proofs.Common.{◌≡◌, ap, subst, ◌∙◌, inl, ℕ, nat_eq, true, List, [], ◌∷◌, is_some, option_to_list}
+use Rattle.vt_spec.proofs.Common.{Copies, Location, Mount, World, attached_by, list_all, mount_at, mount_lives, without_dead_filesystems, without_dead_mounts}
 use Rattle.vt_laws_mounts.specs.LettingGo.InUse.{AllInUse}
-use Rattle.vt_laws_mounts.specs.LettingGo.Keeping.{LocationsStand}
-use Rattle.vt_laws_mounts.specs.LettingGo.Leaving.{MountsStand}
-use Rattle.vt_laws_mounts.specs.LettingGo.OneByOne.{FilesystemsInUseBut, MountsInUseBut}
+use Rattle.vt_mounting.proofs.Common.{Among, LocationsStand, MountsInUseBut, MountsStand, in_use_of, mounts_go_one_by_one}
+use Rattle.vt_laws_mounts.specs.LettingGo.OneByOne.{FilesystemsInUseBut}
 use Rattle.vt_laws_mounts.proofs.letting_go.mounting.Attached.{attached_groups, attached_loses}
-use Rattle.vt_laws_mounts.proofs.letting_go.Lists.{Among}
 use Rattle.vt_laws_mounts.proofs.letting_go.mounting.MountingOverlays.{all_but_those}
-use Rattle.vt_laws_mounts.proofs.letting_go.sweeps.OneByOne.{filesystems_go_one_by_one, mounts_go_one_by_one}
-use Rattle.vt_spec.specs.Machine.Attach.{Copies, attached_by}
-use Rattle.vt_spec.specs.Machine.Mounts.{Location, Mount}
-use Rattle.vt_spec.specs.Machine.Settled.{mount_lives, without_dead_filesystems, without_dead_mounts}
-use Rattle.vt_spec.specs.Machine.World.{World, mount_at}
-use Rattle.vt_laws_mounts.specs.LettingGo.TreesOverlays.{in_use_of}
+use Rattle.vt_laws_mounts.proofs.letting_go.sweeps.OneByOne.{filesystems_go_one_by_one}
 
 module _ (world : World ℕ) (in_use : AllInUse world) (stand : MountsStand world) (located : LocationsStand world)
     (new : Copies ℕ) (place : Location ℕ)

@@ -1,17 +1,12 @@
 -- Mounts that get other mount points one after the other, and all at once.
 use Rattle.std.proofs.Common.{◌≡◌, refl, ap, ◌∙◌, ℕ, nat_eq, Bool, true, false, cond, List, [], ◌∷◌, map, Some}
-use Rattle.std.specs.Map.{lookup}
+use Rattle.vt_spec.proofs.Common.{Mount, lookup, map_alike, map_twice, or_else}
 use Rattle.vt_location.specs.declared.locations.Location.{Location}
-use Rattle.vt_location.specs.Locations.{location_of}
-use Rattle.vt_location.specs.Numbers.{counted}
-use Rattle.vt_mount.specs.MountsValue.{MountEntry, changed, mounts_in}
-use Rattle.vt_spec.specs.Lists.{or_else}
+use Rattle.vt_mounting.proofs.Common.{MountEntry, changed, counted, location_of, mounts_in}
 use Rattle.vt_spec.specs.Machine.Mounts as meant
-use Rattle.vt_spec.specs.Machine.Mounts.{Mount}
 use Rattle.vt_mounting.specs.Attach.Planned.{placed_entry, with_points}
 use Rattle.vt_mounting.specs.Attach.PlannedUses.{PointsAreMoved, point_seen}
 use Rattle.vt_mounting.proofs.detach.LookLemmas.{turned}
-use Rattle.vt_spec.proofs.Lists.{map_alike, map_twice}
 
 abbrev at_point : List (ℕ × meant.Location ℕ) → Mount ℕ → Mount ℕ
 at_point points mount = record mount { mount_point = or_else (lookup (nat_eq mount.number) points) mount.mount_point }

@@ -1,30 +1,18 @@
 -- A tree of mounts moves: its own mounts stay in their places with new types, the first at its new mount point, and the
 -- copies at receivers come after all.
-use Rattle.std.proofs.Common.{◌≡◌, refl, sym, ap, subst, ◌∙◌, inl, inr, true≢false, ℕ, nat_eq, eqb-true, eq-eqb, Bool, true, false, cond, ◌&&◌, List, [], ◌∷◌, ◌++◌, map, find, Option, Some, None, is_some, option_map, unwrap_or}
-use Rattle.std.specs.Prelude.{if◌then◌else◌}
-use Rattle.std.specs.Map.{lookup}
-use Rattle.std.proofs.lemmas.Option.{same_Some}
-use Rattle.vt_laws_mounts.proofs.letting_go.Lists.{Among, among-from_map}
+use Rattle.std.proofs.Common.{◌≡◌, refl, sym, ap, subst, ◌∙◌, inl, inr, true≢false, ℕ, nat_eq, eqb-true, eq-eqb, Bool, true, false, cond, ◌&&◌, List, [], ◌∷◌, ◌++◌, map, find, Option, Some, None, is_some, option_map, unwrap_or, if◌then◌else◌}
+use Rattle.vt_spec.proofs.Common.{Copies, Location, Mount, Twig, World, any_pair, copy_at, copy_type, first_of_list, folded, group_of, holds_of, is_top, lookup, map_alike, map_twice, mount_at, or_else, parts_of, same_Some, twig_of, type_at, with_mount}
+use Rattle.vt_mounting.proofs.Common.{Among, among-from_map, counted, graft_in, location_of, mount_of, moved_by, numbers_at}
 use Rattle.vt_location.specs.declared.mounts.Mount.{Mount as Code}
-use Rattle.vt_location.specs.Locations.{location_of}
-use Rattle.vt_location.specs.MountValue.{mount_of}
-use Rattle.vt_location.specs.Numbers.{counted}
 use Rattle.vt_laws_mounts.proofs.mounts.MountsFound.{number_found}
 use Rattle.vt_propagate.specs.declared.copying.Counts.{Counts}
 use Rattle.vt_propagate.specs.declared.copying.Graft.{Graft}
-use Rattle.vt_propagate.specs.Falling.{moved_by}
-use Rattle.vt_propagate.specs.Planned.{graft_in, numbers_at}
-use Rattle.vt_spec.specs.Lists.{any_pair, first_of_list, folded, holds_of, or_else}
-use Rattle.vt_spec.specs.Machine.Attach.{Copies, Twig, copy_at, copy_type, is_top, parts_of, twig_of, type_at}
-use Rattle.vt_spec.specs.Machine.Mounts.{Location, Mount, group_of, with_mount}
-use Rattle.vt_spec.specs.Machine.World.{World, mount_at}
 use Rattle.vt_mounting.specs.Attach.AttachedGroups.{type_of}
 use Rattle.vt_mounting.specs.Attach.Moved.{top_of}
 use Rattle.vt_mounting.specs.Attach.Planned.{Point}
 use Rattle.vt_mounting.specs.Attach.PlannedUses.{point_seen}
 use Rattle.vt_mounting.proofs.attach.GraftedUses.{changed_at}
 use Rattle.vt_mounting.proofs.attach.TypedMounts.{KindsOnce, all_replaced, lookup_kind, replaced_by, same_numbered}
-use Rattle.vt_spec.proofs.Lists.{map_alike, map_twice}
 
 lookup_append : {B : Type 0} (number : ℕ) (xs ys : List (ℕ × B))
     → lookup (nat_eq number) (xs ++ ys) ≡ or_else (lookup (nat_eq number) xs) (lookup (nat_eq number) ys)

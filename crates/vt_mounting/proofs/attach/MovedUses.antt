@@ -1,28 +1,13 @@
 -- What code counts once mounts are attached and a task's root and working directory have gone to them.
 use Rattle.std.proofs.Common.{◌≡◌, ◌≤◌, refl, sym, ap, subst, ◌∙◌, ⊎_elim, inl, inr, ℕ, ◌+◌, nat_eq, eqb-true, Bool, true, false, cond, ◌&&◌, List, [], ◌∷◌, ◌++◌, map, arith}
-use Rattle.std.specs.List.{list_any}
-use Rattle.std.proofs.lemmas.Bool.{or_parts}
-use Rattle.std.proofs.lemmas.List.{map-append}
-use Rattle.vt_spec.specs.Lists.{any_pair, is_among}
-use Rattle.vt_spec.specs.Machine.Mounts.{Location, Mount}
-use Rattle.vt_spec.specs.Machine.World.{Descriptor, World, all_locations, locations_of}
+use Rattle.vt_spec.proofs.Common.{Descriptor, Location, Mount, World, all_locations, any_pair, is_among, list_any, locations_of, map-append, map_alike, map_twice, or_parts}
 use Rattle.vt_laws_mounts.proofs.counts.using.MountRoots as Roots
-use Rattle.vt_laws_mounts.specs.LettingGo.Counts.{mount_uses, times}
-use Rattle.vt_laws_mounts.proofs.letting_go.Lists.{Among, among-append, among-append_right, among-from_map, among-map, among_from_all, among_numbers, fails, passes}
+use Rattle.vt_mounting.proofs.Common.{Among, CountsItsUses, IsHeld, MountEntry, OneNumberAMount, Tasks, WorldValue, among-append, among-append_right, among-from_map, among-map, among_from_all, among_numbers, changed, fails, held, locations_in, mount_of, mount_uses, mounts_in, one_if, passes, released, times, times_append, world_of, writes_of, writes_on}
 use Rattle.vt_location.specs.declared.mounts.Mount.{Mount as Attached}
-use Rattle.vt_location.specs.MountValue.{mount_of}
-use Rattle.vt_mount.specs.MountsValue.{MountEntry, changed, held, mounts_in, released}
-use Rattle.vt_tasks.specs.Counts.{locations_in, one_if}
-use Rattle.vt_tasks.specs.TasksValue.{Tasks}
-use Rattle.vt_laws_mounts.proofs.letting_go.sweeps.UpperUses.{times_append}
-use Rattle.vt_laws_mounts.specs.Mounts.Attaching.{OneNumberAMount}
 use Rattle.vt_mounting.specs.Attach.Copying.{with_use_moved}
-use Rattle.vt_world.specs.Held.{CountsItsUses, IsHeld, writes_of, writes_on}
 use Rattle.vt_mounting.specs.Detach.Uses.{unused_entry}
-use Rattle.vt_world.specs.WorldValue.{WorldValue, world_of}
 use Rattle.vt_mounting.proofs.attach.AddedBegins.{IsAdded}
 use Rattle.vt_mounting.proofs.detach.Moving.{swap_eq}
-use Rattle.vt_spec.proofs.Lists.{map_alike, map_twice}
 
 -- One use goes from a mount to another
 

@@ -1,28 +1,13 @@
 -- Where a tree moves, its own mounts stand first among the copies, and the copies at receivers stand in the order of
 -- their numbers behind all mounts.
-use Rattle.std.proofs.Common.{◌≡◌, ◌<◌, refl, sym, ap, subst, ◌∙◌, ℕ, ◌+◌, ◌*◌, nat_eq, Bool, true, false, ◌&&◌, ◌||◌, List, [], ◌∷◌, ◌++◌, map, filter, length, arith}
-use Rattle.std.specs.Prelude.{flat_map, if◌then◌else◌, nat_lt}
-use Rattle.std.specs.List.{list_all, list_any}
-use Rattle.std.proofs.lemmas.Bool.{and_parts, ltb-true, ne_eqb, or_parts}
-use Rattle.std.proofs.lemmas.List.{length-map}
-use Rattle.vt_laws_mounts.proofs.letting_go.Lists.{Among, among-from_flat_map, among-from_map, flat_map_alike, none_passes, passes}
-use Rattle.vt_location.specs.Locations.{location_of}
-use Rattle.vt_location.specs.MountValue.{mount_of}
-use Rattle.vt_location.specs.Numbers.{counted}
-use Rattle.vt_mount.specs.MountsValue.{are_ascending}
-use Rattle.vt_laws_mounts.proofs.mounts.MountsNumbered.{parts_apart}
+use Rattle.std.proofs.Common.{◌≡◌, ◌<◌, refl, sym, ap, subst, ◌∙◌, ℕ, ◌+◌, ◌*◌, nat_eq, Bool, true, false, ◌&&◌, ◌||◌, List, [], ◌∷◌, ◌++◌, map, filter, length, arith, flat_map, if◌then◌else◌, nat_lt, ltb-true, ne_eqb}
+use Rattle.vt_spec.proofs.Common.{Mount, World, and_parts, copies_at, copy_at, group_of, index_of, length-map, list_all, list_any, map_twice, mount_at, or_parts, parts_of, receivers_of, rest_of, takes_part, twig_of}
+use Rattle.vt_mounting.proofs.Common.{Among, OneNumberAMount, among-from_flat_map, among-from_map, are_ascending, counted, flat_map_alike, graft_in, location_of, mount_of, none_passes, numbers_at, parts_apart, passes}
 use Rattle.vt_propagate.specs.declared.copying.Counts.{Counts}
 use Rattle.vt_propagate.specs.declared.copying.Graft.{Graft}
-use Rattle.vt_propagate.specs.Planned.{graft_in, numbers_at}
 use Rattle.vt_propagate.proofs.Pushed.{receivers_apart}
-use Rattle.vt_spec.specs.Lists.{rest_of}
-use Rattle.vt_spec.specs.Machine.Attach.{copies_at, copy_at, parts_of, receivers_of, takes_part, twig_of}
-use Rattle.vt_spec.specs.Machine.Mounts.{Mount, group_of, index_of}
-use Rattle.vt_spec.specs.Machine.World.{World, mount_at}
 use Rattle.vt_mounting.proofs.attach.CopiesAscend.{number_at, numbers_grow, place_in, place_later, rows_ascend}
 use Rattle.vt_mounting.proofs.attach.EnteringLemmas.{ascending_joined}
-use Rattle.vt_spec.proofs.Lists.{map_twice}
-use Rattle.vt_laws_mounts.specs.Mounts.Attaching.{OneNumberAMount}
 
 -- mounts in the order of their numbers have one number each
 pub ascending_once : (mounts : List (Mount ℕ)) → are_ascending mounts ≡ true → OneNumberAMount mounts

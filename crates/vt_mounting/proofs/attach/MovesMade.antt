@@ -1,18 +1,10 @@
 -- Mounts that moved: which mount points they got and left.
-use Rattle.std.proofs.Common.{Result, Ok, Err, IfOk, ◌≡◌, refl, ap, ◌∙◌, ℕ, true, cond, ◌&&◌, List, [], ◌∷◌, ◌++◌, Option, Some, None, flat_map, is_some, map, option_map}
-use Rattle.std.specs.Prelude.{option_to_list}
-use Rattle.std.specs.Option.{option_and_then}
-use Rattle.std.specs.List.{list_all}
-use Rattle.std.proofs.lemmas.Bool.{and_parts}
-use Rattle.std.proofs.lemmas.List.{append-nil, map-append}
-use Rattle.std.proofs.lemmas.List.Folds.{list_all-append}
-use Rattle.std.proofs.lemmas.Grind.{flat_map-append}
+use Rattle.std.proofs.Common.{Result, Ok, Err, IfOk, ◌≡◌, refl, ap, ◌∙◌, ℕ, true, cond, ◌&&◌, List, [], ◌∷◌, ◌++◌, Option, Some, None, flat_map, is_some, map, option_map, option_to_list, option_and_then, append-nil}
+use Rattle.vt_spec.proofs.Common.{and_parts, flat_map-append, list_all, list_all-append, map-append}
 use Rattle.vt_location.specs.declared.locations.Location.{Location}
-use Rattle.vt_location.specs.Locations.{location_of}
-use Rattle.vt_location.specs.Numbers.{counted}
+use Rattle.vt_mounting.proofs.Common.{MountEntry, counted, entry_numbered, location_of}
 use Rattle.vt_mount.specs.declared.moving.Moved.{Moved}
 use Rattle.vt_mount.specs.Moving.{all_moves, is_small_point, is_small as has_small_points, move_of, moves_by}
-use Rattle.vt_mount.specs.MountsValue.{MountEntry, entry_numbered}
 use Rattle.vt_spec.specs.Machine.Mounts as meant
 use Rattle.vt_mounting.specs.Attach.Planned.{AreMoves, Point, is_small, left_of, points_left, points_taken, taken_of, with_points}
 use Rattle.vt_mounting.proofs.attach.PlannedMoves.{mapped_points}

@@ -1,50 +1,16 @@
 -- A new filesystem stands beside the others before its mount comes: mount(2) of a tmpfs.
-use Rattle.std.proofs.Common.{◌≡◌, ◌⊎◌, refl, sym, ap, subst, ◌∙◌, inl, inr, ⊎_elim, ℕ, ◌<◌, ◌+◌, ◌*◌, nat_eq, eq-eqb, lt-ltb, nat_lt, Bool, true, false, cond, not, ◌&&◌, ◌||◌, List, [], ◌∷◌, ◌++◌, map, filter, find, flat_map, Option, Some, None, is_some, option_map, arith}
-use Rattle.std.specs.Prelude.{All, filter_map, option_to_list, unwrap_or}
-use Rattle.std.specs.List.{list_all, list_any}
-use Rattle.std.proofs.lemmas.Bool.{and_parts, le-ltb, ne_eqb}
-use Rattle.std.proofs.lemmas.List.Elements.{All-head, All-tail}
-use Rattle.std.proofs.lemmas.List.{map-append}
-use Rattle.std.proofs.lemmas.List.Folds.{list_all-append}
-use Rattle.vt_spec.specs.Language.Calls.{MountFlags, TaskName}
-use Rattle.vt_spec.specs.FileTree.{is_directory_under}
-use Rattle.vt_spec.specs.Lists.{Fresh, is_among, odds}
-use Rattle.vt_spec.specs.Machine.Attach.{attach, parts_of, receivers_of, takes_part}
-use Rattle.vt_spec.specs.Machine.Locked.{of_overlay, overlay_or}
+use Rattle.std.proofs.Common.{◌≡◌, ◌⊎◌, refl, sym, ap, subst, ◌∙◌, inl, inr, ⊎_elim, ℕ, ◌<◌, ◌+◌, ◌*◌, nat_eq, eq-eqb, lt-ltb, nat_lt, Bool, true, false, cond, not, ◌&&◌, ◌||◌, List, [], ◌∷◌, ◌++◌, map, filter, find, flat_map, Option, Some, None, is_some, option_map, arith, All, filter_map, option_to_list, unwrap_or, le-ltb, ne_eqb}
+use Rattle.vt_spec.proofs.Common.{All-head, All-tail, Filesystem, Fresh, IsWorld, Layer, Location, MountFlags, Overlay, TaskName, ToMountPlain, World, all_locations, and_parts, attach, filesystem_numbered, group_of, has_its_root, has_layer_on, is_among, is_directory_at, is_directory_node, is_directory_under, is_located_well, is_overlay, is_plain_layer, layers_in, layers_of, list_all, list_all-append, list_any, located_in, map-append, mount_at, mount_in, mounted, named_in, new_mount, new_plain, no_filesystem, objects_of_overlay, odds, of_overlay, overlay_or, parts_of, plain_filesystem, receivers, receivers_of, receives, root_attr, takes_part, used_in}
 use Rattle.vt_spec.specs.Machine.Mounts as meant
-use Rattle.vt_spec.specs.Machine.Mounts.{Location, group_of, mount_in}
-use Rattle.vt_spec.specs.Machine.NewMounts.{mounted, new_mount, plain_filesystem}
-use Rattle.vt_spec.specs.Machine.Permits.Permit.{ToMountPlain}
-use Rattle.vt_spec.specs.Machine.Receives.{receivers, receives}
-use Rattle.vt_spec.specs.Machine.Settled.{has_layer_on, layers_in, located_in, named_in, objects_of_overlay, used_in}
-use Rattle.vt_spec.specs.Machine.World.{Filesystem, Layer, Overlay, World, all_locations, filesystem_numbered, is_directory_at, is_overlay, layers_of, mount_at, new_plain, no_filesystem, root_attr}
-use Rattle.vt_spec.specs.Machine.Invariants.{IsWorld, has_its_root, is_located_well, is_plain_layer}
-use Rattle.vt_spec.specs.Tree.{is_directory_node}
-use Rattle.vt_laws_mounts.specs.Counts.BesideOverlays.{OverlaysHaveNoUpper}
-use Rattle.vt_laws_mounts.specs.Counts.Counted.{IsCounted}
-use Rattle.vt_laws_mounts.specs.Counts.OverlaysStay.{layer_count, layers_among}
-use Rattle.vt_laws_mounts.specs.Counts.Using.{is_on, is_outside, one_counted, places_of}
-use Rattle.vt_laws_mounts.proofs.counts.overlays.FilesystemUses.{new_tree_is_counted_beside_overlays, no_upper_is_in_any, plain_ones_use_nothing}
-use Rattle.vt_laws_mounts.proofs.counts.using.Exchanged.{uses_are_exchanged_beside_overlays}
+use Rattle.vt_mounting.proofs.Common.{Among, CountsItsMounts, FilesystemEntry, Filesystems, InodesInUse, IsCounted, IsHeld, IsNew, OverlaysHaveNoUpper, WorldValue, all_from_among, all_pass, among-append, among-append_left, among-append_right, among-filter_map, among-from_filter, among-from_map, among_from_all, among_numbers, are_rising, counted, directory_there, fails, filesystem_seen, filesystems_seen, filter_alike, found_filesystem, found_itself, handed_from, inode_number, inodes_seen, is_inode_used, is_on, layer_count, layers_among, mounts_in, mounts_of_worlds_stand, mounts_showing, no_upper_is_in_any, none_passes, overlays_seen, passes, places_of, put_in, times, times_append, uses_are_exchanged_beside_overlays, world_of, worlds_are_in_use, worlds_have_trees, woven}
+use Rattle.vt_laws_mounts.specs.Counts.Using.{is_outside, one_counted}
+use Rattle.vt_laws_mounts.proofs.counts.overlays.FilesystemUses.{new_tree_is_counted_beside_overlays, plain_ones_use_nothing}
 use Rattle.vt_laws_mounts.proofs.counts.using.MountRoots as Roots
 use Rattle.vt_laws_mounts.proofs.counts.using.MountRoots.{places_stand}
-use Rattle.vt_fs.specs.FilesystemsValue.{FilesystemEntry, Filesystems, IsNew, filesystem_seen, filesystems_seen, inodes_seen}
-use Rattle.vt_laws_mounts.specs.LettingGo.Counts.{mounts_showing, times}
-use Rattle.vt_laws_mounts.specs.LettingGo.InUse.{HasTrees, InodesInUse, is_inode_used}
-use Rattle.vt_laws_mounts.proofs.letting_go.sweeps.UpperUses.{times_append}
+use Rattle.vt_laws_mounts.specs.LettingGo.InUse.{HasTrees}
 use Rattle.vt_laws_mounts.proofs.letting_go.mounting.AttachedSwept.{new_mounts_of_trees_keep_all}
-use Rattle.vt_laws_mounts.proofs.letting_go.Lists.{Among, all_from_among, all_pass, among-append, among-append_left, among-append_right, among-filter_map, among-from_filter, among-from_filter_map, among-from_map, among_from_all, among_numbers, fails, filter_alike, none_passes, passes}
-use Rattle.vt_laws_mounts.proofs.letting_go.sweeps.OfWorlds.{found_filesystem, mounts_of_worlds_stand, worlds_have_trees}
-use Rattle.vt_laws_mounts.proofs.letting_go.leaving.PlacesLeft.{found_itself}
-use Rattle.vt_laws_worlds.specs.OverlaysStay.Woven.{are_rising, put_in, woven}
-use Rattle.vt_location.specs.Numbers.{counted, inode_number}
-use Rattle.vt_mount.specs.MountsValue.{mounts_in}
-use Rattle.vt_laws_trees.specs.Runs.Handed.{handed_from}
-use Rattle.vt_laws_worlds.proofs.RaisedInUse.{worlds_are_in_use}
-use Rattle.vt_laws_worlds.proofs.worlds.Roots.{directory_there}
+use Rattle.vt_laws_mounts.proofs.letting_go.Lists.{among-from_filter_map}
 use Rattle.vt_mounting.specs.Detach.Events.{Permits, left_by}
-use Rattle.vt_world.specs.Held.{CountsItsMounts, IsHeld}
-use Rattle.vt_world.specs.WorldValue.{WorldValue, overlays_seen, world_of}
 use Rattle.vt_mounting.proofs.detach.FileEvents.{permit_fits}
 use Rattle.vt_mounting.proofs.detach.BesideOverlays.{layers_alike}
 use Rattle.vt_mounting.proofs.detach.LookLemmas.{turned}

@@ -1,29 +1,14 @@
 -- A filesystem that is new: one empty directory, with a number that no other has.
-use Rattle.std.proofs.Common.{◌≡◌, refl, sym, ap, subst, ◌∙◌, inl, ⊎_elim, ℕ, ◌<◌, ◌%◌, ◌/◌, ◌==◌, nat_eq, eq-eqb, eqb-true, lt-ltb, nat_lt, Bool, true, false, true≢false, cond, not, ◌&&◌, ◌||◌, List, [], ◌∷◌, ◌++◌, map, flat_map, Some, None, is_some, arith}
-use Rattle.std.specs.Prelude.{All}
-use Rattle.std.specs.List.{list_all}
-use Rattle.std.proofs.lemmas.Bool.{ltb-true, ne_eqb}
-use Rattle.vt_spec.proofs.Lists.{list_all_from_among}
-use Rattle.vt_spec.proofs.Truths.{and_true_left, and_true_right}
-use Rattle.vt_spec.specs.Machine.Run.{used_by_filesystem, used_by_mount}
-use Rattle.vt_spec.specs.Machine.World.{Filesystem, Namespace, filesystem_numbered, root_attr}
-use Rattle.vt_spec.specs.TreeInvariant.{IsTree}
-use Rattle.vt_spec.specs.Inodes.{Inodes}
+use Rattle.std.proofs.Common.{◌≡◌, refl, sym, ap, subst, ◌∙◌, inl, ⊎_elim, ℕ, ◌<◌, ◌%◌, ◌/◌, ◌==◌, nat_eq, eq-eqb, eqb-true, lt-ltb, nat_lt, Bool, true, false, true≢false, cond, not, ◌&&◌, ◌||◌, List, [], ◌∷◌, ◌++◌, map, flat_map, Some, None, is_some, arith, All, ltb-true, ne_eqb}
+use Rattle.vt_spec.proofs.Common.{Filesystem, Inodes, IsTree, Namespace, and_true_left, and_true_right, filesystem_numbered, list_all, list_all_from_among, root_attr, used_by_filesystem, used_by_mount}
 use Rattle.vt_laws_mounts.specs.Counts.Using.{root_counted}
-use Rattle.vt_fs.specs.FilesystemsValue.{FilesystemEntry, Filesystems, IsNew, filesystem_seen, inodes_seen, without}
-use Rattle.vt_laws_rules.proofs.numbers.Supports.{used_numbers_are_named}
-use Rattle.vt_laws_mounts.proofs.letting_go.Lists.{Among, all_from_among, among-append, among-append_left, among-append_right, among-flat_map, among_from_all, filter_here, filter_skip, is_among_numbers}
-use Rattle.vt_location.specs.Numbers.{counted, inode_number, is_own_number}
+use Rattle.vt_mounting.proofs.Common.{Among, FilesystemEntry, Filesystems, HasOwnInodes, HasOwnNodes, IsHeld, IsNew, WorldValue, all_from_among, among-append, among-append_left, among-append_right, among-flat_map, among_from_all, counted, directory_there, filesystem_seen, inode_number, inodes_seen, is_among_numbers, is_counted_before, is_own_number, leaves_two, number_numbered, numbered_all, used_numbers_are_named, world_of}
+use Rattle.vt_fs.specs.FilesystemsValue.{without}
+use Rattle.vt_laws_mounts.proofs.letting_go.Lists.{filter_here, filter_skip}
 use Rattle.vt_location.proofs.NumberLemmas.{is_own}
-use Rattle.vt_laws_trees.specs.Runs.Handed.{is_counted_before}
-use Rattle.vt_laws_trees.proofs.trees.TreesOfWorlds.{number_numbered, numbered_all}
-use Rattle.vt_laws_worlds.proofs.worlds.Roots.{directory_there}
-use Rattle.vt_world.specs.Held.{HasOwnInodes, HasOwnNodes, IsHeld}
-use Rattle.vt_world.specs.WorldValue.{WorldValue, world_of}
 use Rattle.vt_mounting.proofs.detach.NodesFound.{own_nodes}
 use Rattle.vt_mounting.proofs.detach.Overlaid.{plain_one_among}
 use Rattle.vt_mounting.proofs.detach.OwnInodesKept.{IsOwn}
-use Rattle.vt_laws_worlds.proofs.permits.in_use.InUseServes.{leaves_two}
 
 -- what is counted before
 pub counted_before : (next count : ℕ) → is_counted_before next (counted count) ≡ true → count < next

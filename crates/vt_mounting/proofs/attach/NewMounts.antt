@@ -1,38 +1,13 @@
 -- The event that mounts a new filesystem: mount(2) of a tmpfs.
-use Rattle.std.proofs.Common.{◌≡◌, ◌<◌, refl, sym, ap, subst, ◌∙◌, ⊎_elim, ℕ, ◌+◌, ◌*◌, ◌%◌, ◌==◌, nat_eq, true, true≢false, false, cond, List, [], ◌∷◌, ◌++◌, map, length, is_some, arith}
-use Rattle.std.specs.List.{list_all}
-use Rattle.std.proofs.lemmas.Bool.{ne_eqb}
-use Rattle.std.proofs.lemmas.List.{length-map}
-use Rattle.vt_spec.specs.Language.Calls.{MountFlags, TaskName}
-use Rattle.vt_spec.specs.Lists.{Fresh, odds}
-use Rattle.vt_spec.specs.Machine.Attach.{attach, parts_of}
+use Rattle.std.proofs.Common.{◌≡◌, ◌<◌, refl, sym, ap, subst, ◌∙◌, ⊎_elim, ℕ, ◌+◌, ◌*◌, ◌%◌, ◌==◌, nat_eq, true, true≢false, false, cond, List, [], ◌∷◌, ◌++◌, map, length, is_some, arith, ne_eqb}
+use Rattle.vt_spec.proofs.Common.{Fresh, Location, MountFlags, Permit, TaskName, ToMountPlain, World, among_from_contains, attach, group_of, length-map, list_all, new_mount, odds, parts_of, plain_filesystem, root_attr, with_new_filesystem}
 use Rattle.vt_spec.specs.Machine.Mounts as meant
-use Rattle.vt_spec.specs.Machine.Mounts.{Location, group_of}
-use Rattle.vt_spec.specs.Machine.NewMounts.{new_mount, plain_filesystem, with_new_filesystem}
-use Rattle.vt_spec.specs.Machine.Permits.{Permit}
-use Rattle.vt_spec.specs.Machine.Permits.Permit.{ToMountPlain}
-use Rattle.vt_spec.specs.Machine.World.{World, root_attr}
-use Rattle.vt_spec.proofs.Lists.{among_from_contains}
-use Rattle.vt_fs.specs.FilesystemsValue.{FilesystemEntry, Filesystems, IsNew}
-use Rattle.vt_group.specs.Grouping.{Grouping}
-use Rattle.vt_group.specs.Together.{new_group}
-use Rattle.vt_laws_rules.specs.Numbers.{KeepsTo}
-use Rattle.vt_laws_mounts.proofs.letting_go.Lists.{Among}
-use Rattle.vt_location.specs.Locations.{location_of}
-use Rattle.vt_location.specs.MountValue.{mount_of}
-use Rattle.vt_location.specs.Numbers.{counted, inode_number}
-use Rattle.vt_mount.specs.MountsValue.{MountEntry, are_ascending, mounts_in}
-use Rattle.vt_laws_mounts.proofs.mounts.MountsNumbered.{parts_apart}
+use Rattle.vt_mounting.proofs.Common.{Among, FilesystemEntry, Filesystems, Grouping, IsHeld, IsNew, IsSeen, KeepsTo, MountEntry, OneNumberAMount, WorldValue, are_ascending, counted, counts_from, handed_from, inode_number, is_counted_before, location_of, mount_of, mounts_in, new_group, parts_apart, planned_copies, world_of}
 use Rattle.vt_propagate.specs.declared.copying.Counts.{Counts}
 use Rattle.vt_propagate.specs.declared.copying.Graft.{Graft}
 use Rattle.vt_propagate.specs.Copying as planned
-use Rattle.vt_propagate.specs.Planned.{planned_copies}
-use Rattle.vt_propagate.specs.Seen.{IsSeen}
-use Rattle.vt_laws_trees.specs.Runs.Handed.{counts_from, handed_from, is_counted_before}
 use Rattle.vt_mounting.specs.Detach.Events.{Permits, left_by}
-use Rattle.vt_world.specs.Held.{IsHeld}
 use Rattle.vt_mounting.specs.Detach.Uses.{Merged, kept_with, merged_seen}
-use Rattle.vt_world.specs.WorldValue.{WorldValue, world_of}
 use Rattle.vt_mounting.proofs.detach.Grouped.{same_has}
 use Rattle.vt_mounting.proofs.detach.Places.{located_is_named}
 use Rattle.vt_mounting.proofs.detach.Staying.{IsDone}
@@ -47,7 +22,6 @@ use Rattle.vt_mounting.proofs.attach.Beside.{beside}
 use Rattle.vt_mounting.proofs.attach.GraftedDone.{graft_is_done, grafted_value, plan_attaches, with_base}
 use Rattle.vt_mounting.proofs.attach.NewBase.{base_is, destination_there, left_attached, new_base, plain_is, same_parts, takes}
 use Rattle.vt_mounting.proofs.attach.NumbersByParts.{new_mounts_keep_to_numbers}
-use Rattle.vt_laws_mounts.specs.Mounts.Attaching.{OneNumberAMount}
 
 module _ (value : WorldValue) (whole : IsHeld value) (name : TaskName) (graft : Graft) (counts : Counts)
     (flags : MountFlags)

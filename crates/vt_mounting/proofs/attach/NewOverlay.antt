@@ -1,23 +1,9 @@
 -- The code's world with an overlay more, which no mount shows yet: what an attachment asks of it.
-use Rattle.std.proofs.Common.{◌≡◌, ◌≤◌, ◌<◌, refl, sym, ap, subst, ◌∙◌, ⊎_elim, ℕ, nat_eq, nat_lt, lt-ltb, true, List, [], ◌∷◌, ◌++◌, length, arith}
-use Rattle.std.specs.Prelude.{All}
-use Rattle.std.proofs.lemmas.Bool.{and_parts, ne_eqb}
-use Rattle.std.proofs.lemmas.List.{map-append}
+use Rattle.std.proofs.Common.{◌≡◌, ◌≤◌, ◌<◌, refl, sym, ap, subst, ◌∙◌, ⊎_elim, ℕ, nat_eq, nat_lt, lt-ltb, true, List, [], ◌∷◌, ◌++◌, length, arith, All, ne_eqb}
+use Rattle.vt_spec.proofs.Common.{Filesystem, and_parts, filesystem_numbered, has_its_root, is_overlay, map-append}
 use Rattle.vt_spec.specs.Machine.Mounts as meant
-use Rattle.vt_spec.specs.Machine.Invariants.{has_its_root}
-use Rattle.vt_spec.specs.Machine.World.{Filesystem, filesystem_numbered, is_overlay}
-use Rattle.vt_laws_mounts.specs.LettingGo.Counts.{mounts_showing}
-use Rattle.vt_laws_mounts.proofs.letting_go.Lists.{all_from_among, all_pass, among-append, among_from_all, passes}
-use Rattle.vt_laws_worlds.specs.OverlaysStay.Woven.{are_rising}
-use Rattle.vt_laws_worlds.proofs.worlds.Roots.{directory_there}
-use Rattle.vt_fs.specs.FilesystemsValue.{Filesystems}
-use Rattle.vt_location.specs.Numbers.{counted}
-use Rattle.vt_mount.specs.MountsValue.{mounts_in}
-use Rattle.vt_overlay.specs.MergedTree.{AreLayers}
+use Rattle.vt_mounting.proofs.Common.{AreLayers, CountsItsUses, CountsWhatIsInIt, Filesystems, HasOwnNodes, IsHeld, IsMountedSoOften, OverlayEntry, WorldValue, all_from_among, all_pass, among-append, among_from_all, are_rising, counted, directory_there, mounts_in, mounts_showing, overlay_of_store, overlay_seen, overlays_seen, passes, world_of}
 use Rattle.vt_store.specs.OverlaysValue as stored
-use Rattle.vt_world.specs.Held.{CountsItsUses, CountsWhatIsInIt, HasOwnNodes, IsHeld, IsMountedSoOften}
-use Rattle.vt_world.specs.StoredWorld.{overlay_of_store}
-use Rattle.vt_world.specs.WorldValue.{OverlayEntry, WorldValue, overlay_seen, overlays_seen, world_of}
 use Rattle.vt_mounting.proofs.detach.Grouped.{same_has}
 use Rattle.vt_mounting.proofs.detach.PlainFound.{overlay_among}
 use Rattle.vt_mounting.proofs.attach.AttachedCounts.{times_none}

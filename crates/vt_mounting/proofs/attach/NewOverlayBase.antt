@@ -1,22 +1,10 @@
 -- The plain filesystems that are kept once the layers of a new overlay are held: their inodes and their mounts are
 -- counted, and all filesystems stand in the order of their numbers.
-use Rattle.std.proofs.Common.{◌≡◌, sym, ap, subst, ◌∙◌, ℕ, nat_eq, nat_lt, lt-ltb, true, List, [], ◌∷◌, ◌++◌, map, arith}
-use Rattle.std.specs.Prelude.{All}
-use Rattle.vt_spec.specs.Machine.World.{Filesystem, World, filesystem_numbered}
-use Rattle.vt_laws_mounts.specs.Counts.Counted.{IsCounted}
-use Rattle.vt_laws_mounts.specs.Counts.Using.{exchanged}
-use Rattle.vt_laws_mounts.specs.LettingGo.OneByOne.{Inode}
-use Rattle.vt_laws_mounts.proofs.letting_go.Lists.{Among, all_from_among, all_pass, among-from_map, among-map, among_from_all}
-use Rattle.vt_laws_worlds.specs.OverlaysStay.Woven.{are_rising, woven}
-use Rattle.vt_fs.specs.FilesystemsValue.{FilesystemEntry, Filesystems, Shown, filesystems_seen, inodes_seen, shown, shown_entry}
-use Rattle.vt_location.specs.Numbers.{counted}
-use Rattle.vt_overlay.specs.MergedTree.{AreLayers}
+use Rattle.std.proofs.Common.{◌≡◌, sym, ap, subst, ◌∙◌, ℕ, nat_eq, nat_lt, lt-ltb, true, List, [], ◌∷◌, ◌++◌, map, arith, All}
+use Rattle.vt_spec.proofs.Common.{Filesystem, World, filesystem_numbered}
+use Rattle.vt_mounting.proofs.Common.{Among, AreLayers, FilesystemEntry, Filesystems, HasOwnInodes, Inode, IsCounted, IsHeld, Shown, WorldValue, all_from_among, all_pass, among-from_map, among-map, among_from_all, any_same_worlds_count_alike, are_rising, counted, exchanged, filesystems_seen, inodes_seen, overlay_of_store, overlay_seen, overlays_seen, shown, shown_entry, world_of, woven}
 use Rattle.vt_store.specs.OverlaysValue as stored
-use Rattle.vt_world.specs.Held.{HasOwnInodes, IsHeld}
-use Rattle.vt_world.specs.StoredWorld.{overlay_of_store}
-use Rattle.vt_world.specs.WorldValue.{WorldValue, overlay_seen, overlays_seen, world_of}
 use Rattle.vt_mounting.specs.Detach.Stored.{layer_of}
-use Rattle.vt_laws_mounts.proofs.counts.Alike.{any_same_worlds_count_alike}
 use Rattle.vt_mounting.proofs.detach.Finishing.{own_exchanged}
 use Rattle.vt_mounting.proofs.detach.Overlaid.{same_files_rise}
 use Rattle.vt_mounting.proofs.detach.OwnInodesKept.{IsOwn}

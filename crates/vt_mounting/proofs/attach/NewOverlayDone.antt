@@ -1,66 +1,19 @@
 -- The event that mounts an overlay: mount(2), and the kernel's overlayfs document, "upper and lower".
-use Rattle.std.proofs.Common.{◌≡◌, ◌≤◌, ◌<◌, refl, sym, ap, subst, ◌∙◌, inl, ⊎_elim, ℕ, ◌+◌, ◌*◌, ◌%◌, ◌==◌, nat_eq, true, false, true≢false, not, ◌&&◌, List, [], ◌∷◌, ◌++◌, map, filter, length, is_some, None, arith}
-use Rattle.std.specs.Prelude.{All}
-use Rattle.std.specs.List.{list_all}
-use Rattle.std.proofs.lemmas.Bool.{and_parts}
-use Rattle.std.proofs.lemmas.List.{length-map, map-append}
-use Rattle.vt_spec.specs.Language.Calls.{MountFlags}
-use Rattle.vt_spec.specs.Lists.{Fresh, folded, odds}
-use Rattle.vt_spec.specs.Machine.Attach.{attach, attached_at, copies_from, graft_of, masters_with, parts_of, receivers_of, takes_part}
-use Rattle.vt_spec.specs.Machine.Invariants.{IsWorld}
+use Rattle.std.proofs.Common.{◌≡◌, ◌≤◌, ◌<◌, refl, sym, ap, subst, ◌∙◌, inl, ⊎_elim, ℕ, ◌+◌, ◌*◌, ◌%◌, ◌==◌, nat_eq, true, false, true≢false, not, ◌&&◌, List, [], ◌∷◌, ◌++◌, map, filter, length, is_some, None, arith, All}
+use Rattle.vt_spec.proofs.Common.{Filesystem, Fresh, IsTree, IsWorld, Location, MountFlags, Overlay, Permit, SameFilesystem, SameFilesystems, SameWorlds, Task, ToMountOverlay, World, among_from_contains, and_parts, attach, attached_at, copies_from, folded, graft_of, group_of, inode_count, is_overlay, length-map, list_all, map-append, masters_with, mount_at, new_mount, odds, parts_of, receivers_of, takes_part}
 use Rattle.vt_spec.specs.Machine.Mounts as meant
-use Rattle.vt_spec.specs.Machine.Mounts.{Location, group_of}
-use Rattle.vt_spec.specs.Machine.NewMounts.{inode_count, new_mount}
-use Rattle.vt_spec.specs.Machine.Permits.{Permit}
-use Rattle.vt_spec.specs.Machine.Permits.Permit.{ToMountOverlay}
-use Rattle.vt_spec.specs.Machine.SameWorlds.{SameFilesystem, SameFilesystems, SameWorlds}
-use Rattle.vt_spec.specs.Machine.World.{Filesystem, Overlay, Task, World, is_overlay, mount_at}
-use Rattle.vt_spec.specs.TreeInvariant.{IsTree}
-use Rattle.vt_spec.proofs.Lists.{among_from_contains}
-use Rattle.vt_laws_mounts.specs.Counts.OverlaysStay.{OverlaysAreNamed}
+use Rattle.vt_mounting.proofs.Common.{Among, AttachesBy, Filesystems, Grouping, HasOwnNodes, IsGivenToTask, IsHeld, IsSeen, KeepsTo, MountEntry, OneNumberAMount, OverlayValue, OverlaysAreNamed, ShowsLayers, WorldValue, WritersHaveLayers, alike_from_same, among-append, among-append_right, among-from_filter, among_from_all, any_same_worlds_are_worlds, are_ascending, counted, counted_later, counts_from, directory_there, filesystems_seen, found_same, has_only_named, is_counted_before, location_named, location_of, master_in, mount_of, mounts_in, new_group, overlay_of_store, overlay_seen, overlays_seen, parts_apart, planned_copies, same_worlds_have_layers_alike, sameness_is_an_equivalence, shown, with_layers, world_of, worlds_have_trees, woven}
 use Rattle.vt_laws_worlds.proofs.given.left.Permits.{given_permits_leave_every_world}
-use Rattle.vt_laws_worlds.specs.Given.LeftWorlds.{IsGivenToTask}
-use Rattle.vt_laws_mounts.specs.LettingGo.Keeping.{has_only_named}
-use Rattle.vt_laws_mounts.proofs.letting_go.Lists.{Among, among-append, among-append_right, among-from_filter, among_from_all}
-use Rattle.vt_laws_mounts.proofs.letting_go.sweeps.OfWorlds.{worlds_have_trees}
-use Rattle.vt_laws_mounts.proofs.mounts.MountsNumbered.{parts_apart}
-use Rattle.vt_laws_mounts.specs.Mounts.Attaching.{OneNumberAMount}
-use Rattle.vt_laws_trees.proofs.runs.answered.AlikeWorlds.{alike_from_same, sameness_is_an_equivalence}
-use Rattle.vt_laws_worlds.proofs.one_text.same.SameWhole.{any_same_worlds_are_worlds}
-use Rattle.vt_world.specs.OverlaysKept.Kept.{ShowsLayers}
 use Rattle.vt_world.proofs.overlays_made.Supplied.{mounts_get_counts}
 use Rattle.vt_laws_worlds.proofs.overlays_read.Kept.{permits_keep_writers}
-use Rattle.vt_laws_worlds.proofs.overlays_read.Swept.{same_worlds_have_layers_alike}
-use Rattle.vt_laws_worlds.specs.OverlaysRead.Writers.{WritersHaveLayers}
-use Rattle.vt_laws_worlds.specs.OverlaysStay.Woven.{woven}
 use Rattle.vt_laws_trees.proofs.runs.EachHas.{each_among, each_holds}
 use Rattle.vt_laws_worlds.proofs.permits.taken.PartsKept as Kept
-use Rattle.vt_laws_worlds.proofs.permits.taken.TakenNumbers.{counted_later}
 use Rattle.vt_laws_rules.proofs.same.SameFiles.{directory_under_same}
-use Rattle.vt_laws_rules.proofs.same.SameLooks.{found_same}
-use Rattle.vt_laws_rules.specs.Numbers.{KeepsTo, location_named}
-use Rattle.vt_laws_trees.specs.Runs.Handed.{counts_from, is_counted_before}
-use Rattle.vt_laws_worlds.proofs.worlds.Roots.{directory_there}
-use Rattle.vt_fs.specs.FilesystemsValue.{Filesystems, filesystems_seen, shown}
-use Rattle.vt_group.specs.Grouping.{Grouping, master_in}
-use Rattle.vt_group.specs.Together.{new_group}
-use Rattle.vt_location.specs.Locations.{location_of}
-use Rattle.vt_location.specs.MountValue.{mount_of}
-use Rattle.vt_location.specs.Numbers.{counted}
-use Rattle.vt_mount.specs.MountsValue.{MountEntry, are_ascending, mounts_in}
-use Rattle.vt_overlay.specs.MergedTree.{OverlayValue}
 use Rattle.vt_overlay.specs.MergedTree as merged
 use Rattle.vt_propagate.specs.declared.copying.Counts.{Counts}
 use Rattle.vt_propagate.specs.declared.copying.Graft.{Graft}
-use Rattle.vt_propagate.specs.Attaching.{AttachesBy}
 use Rattle.vt_propagate.specs.Copying as planned
-use Rattle.vt_propagate.specs.Planned.{planned_copies}
-use Rattle.vt_propagate.specs.Seen.{IsSeen}
-use Rattle.vt_store.specs.LayersHeld.{with_layers}
 use Rattle.vt_store.specs.OverlaysValue as stored
-use Rattle.vt_world.specs.Held.{HasOwnNodes, IsHeld}
-use Rattle.vt_world.specs.StoredWorld.{overlay_of_store}
-use Rattle.vt_world.specs.WorldValue.{WorldValue, overlay_seen, overlays_seen, world_of}
 use Rattle.vt_mounting.specs.Detach.Events.{left_by, overlay_kept, supply_of}
 use Rattle.vt_mounting.specs.Detach.Stored.{layer_of}
 use Rattle.vt_mounting.specs.Detach.Uses.{Merged, kept_with, merged_seen}

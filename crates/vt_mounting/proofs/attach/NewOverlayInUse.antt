@@ -1,45 +1,16 @@
 -- Once the layers of a new overlay are held, plain filesystems count them as their own, all mounts show directories
 -- that are there, and all inodes are in use.
-use Rattle.std.proofs.Common.{◌≡◌, refl, sym, ap, ◌∙◌, ⊎_elim, ℕ, ◌+◌, nat_eq, lt-ltb, true, cond, ◌||◌, List, [], ◌∷◌, ◌++◌, map, flat_map, Option, Some, None, unwrap_or, arith}
-use Rattle.std.specs.Prelude.{option_to_list}
-use Rattle.std.specs.List.{list_all}
-use Rattle.std.proofs.lemmas.Bool.{and_from, and_parts, ltb-true, ne_eqb, or_cases}
-use Rattle.std.proofs.lemmas.List.Elements.{All-weaker}
-use Rattle.std.proofs.lemmas.List.Sorted.{list_any-IsPermutation}
-use Rattle.vt_spec.proofs.Truths.{nat_eq_turned}
-use Rattle.vt_spec.specs.Lists.{is_among}
-use Rattle.vt_spec.specs.Machine.Invariants.{has_its_root}
-use Rattle.vt_spec.specs.Machine.Locked.{of_overlay, overlay_or}
-use Rattle.vt_spec.specs.Machine.Mounts.{Location}
-use Rattle.vt_spec.specs.Machine.SameWorlds.{SameFilesystem, SameWorlds}
-use Rattle.vt_spec.specs.Machine.Settled.{layers_in, located_in, named_in, objects_of_overlay, used_in}
-use Rattle.vt_spec.specs.Machine.World.{Filesystem, Layer, World, filesystem_numbered, is_directory_at, layers_of, mount_at, no_filesystem}
-use Rattle.vt_spec.specs.Tree.{is_directory_node}
-use Rattle.vt_laws_mounts.specs.Counts.OverlaysStay.{layer_count}
-use Rattle.vt_laws_mounts.specs.LettingGo.Counts.{inode_uses, mounts_showing, times}
-use Rattle.vt_laws_mounts.specs.LettingGo.InUse.{InodesInUse, is_inode_used}
-use Rattle.vt_laws_mounts.specs.LettingGo.Keeping.{has_only_named}
-use Rattle.vt_laws_mounts.specs.LettingGo.OneByOne.{Inode}
-use Rattle.vt_laws_mounts.proofs.letting_go.Lists.{Among, all_pass, among_from_all, is_among_left, or_first, or_second, passes}
+use Rattle.std.proofs.Common.{◌≡◌, refl, sym, ap, ◌∙◌, ⊎_elim, ℕ, ◌+◌, nat_eq, lt-ltb, true, cond, ◌||◌, List, [], ◌∷◌, ◌++◌, map, flat_map, Option, Some, None, unwrap_or, arith, option_to_list, ltb-true, ne_eqb}
+use Rattle.vt_spec.proofs.Common.{All-weaker, Filesystem, Layer, Location, SameFilesystem, SameWorlds, World, and_from, and_parts, filesystem_numbered, has_its_root, is_among, is_directory_at, is_directory_node, layers_in, layers_of, list_all, list_any-IsPermutation, located_in, mount_at, named_in, nat_eq_turned, no_filesystem, objects_of_overlay, of_overlay, or_cases, overlay_or, used_in}
+use Rattle.vt_mounting.proofs.Common.{Among, AreLayers, CountsItsMounts, FilesystemEntry, Filesystems, Inode, InodesInUse, IsHeld, Shown, WorldValue, alike_from_same, all_pass, among_from_all, counted, directory_there, filesystems_seen, has_only_named, inode_uses, is_among_left, is_inode_used, layer_count, layer_seen, mounts_in, mounts_showing, or_first, or_second, overlay_of_store, overlay_seen, overlays_seen, passes, shown, times, world_of, worlds_are_in_use, woven}
 use Rattle.vt_laws_mounts.proofs.letting_go.sweeps.UsesCounted.{used_while_counted}
 use Rattle.vt_laws_trees.proofs.runs.answered.AlikeSettled.{used_permuted}
-use Rattle.vt_laws_trees.proofs.runs.answered.AlikeWorlds.{alike_from_same}
 use Rattle.vt_laws_worlds.proofs.one_text.same.SameInvariants.{roots_keep}
-use Rattle.vt_laws_worlds.specs.OverlaysStay.Woven.{woven}
 use Rattle.vt_laws_trees.proofs.runs.EachHas.{each_holds}
 use Rattle.vt_laws_trees.proofs.runs.Each.{each_flat}
 use Rattle.vt_laws_trees.proofs.runs.Permuted.{list_all-IsPermutation}
-use Rattle.vt_laws_worlds.proofs.RaisedInUse.{worlds_are_in_use}
-use Rattle.vt_laws_worlds.proofs.worlds.Roots.{directory_there}
-use Rattle.vt_fs.specs.FilesystemsValue.{FilesystemEntry, Filesystems, Shown, filesystems_seen, shown}
-use Rattle.vt_location.specs.Numbers.{counted}
 use Rattle.vt_overlay.specs.declared.merge.layers.LayerRef.{LayerRef}
-use Rattle.vt_mount.specs.MountsValue.{mounts_in}
-use Rattle.vt_overlay.specs.MergedTree.{AreLayers, layer_seen}
 use Rattle.vt_store.specs.OverlaysValue as stored
-use Rattle.vt_world.specs.Held.{CountsItsMounts, IsHeld}
-use Rattle.vt_world.specs.StoredWorld.{overlay_of_store}
-use Rattle.vt_world.specs.WorldValue.{WorldValue, overlay_seen, overlays_seen, world_of}
 use Rattle.vt_mounting.specs.Detach.Stored.{layer_of}
 use Rattle.vt_mounting.proofs.attach.NewBase.{found_before}
 use Rattle.vt_mounting.proofs.attach.NewFilesystems.{found_below}

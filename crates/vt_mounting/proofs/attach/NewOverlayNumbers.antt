@@ -1,29 +1,12 @@
 -- The numbers of the world in which an overlay and its mounts have come: those of before, even ones, and the counts that
 -- were taken.
-use Rattle.std.proofs.Common.{◌≡◌, sym, subst, ◌∙◌, ⊎_elim, ℕ, ◌+◌, ◌*◌, ◌<◌, nat_eq, true, false, List, [], ◌∷◌, ◌++◌, length, map, flat_map, arith}
-use Rattle.std.specs.Prelude.{All}
-use Rattle.vt_spec.specs.Language.Calls.{MountFlags}
-use Rattle.vt_spec.specs.Lists.{Fresh}
-use Rattle.vt_spec.specs.Machine.Attach.{attach, parts_of}
-use Rattle.vt_spec.specs.Machine.Invariants.{IsWorld, ListsNumbers}
-use Rattle.vt_spec.specs.Machine.Mounts.{Location, Mount}
-use Rattle.vt_spec.specs.Machine.NewMounts.{new_mount}
-use Rattle.vt_spec.specs.Machine.Renaming.{renamed, renamed_location}
-use Rattle.vt_spec.specs.Machine.Run.{used_by_filesystem, used_by_mount}
-use Rattle.vt_spec.specs.Machine.World.{Filesystem, Namespace, World}
-use Rattle.vt_laws_mounts.proofs.letting_go.Lists.{Among, among-append, among-append_left, among-append_right, among-from_flat_map, among_from_all, among_numbers, is_among_numbers}
+use Rattle.std.proofs.Common.{◌≡◌, sym, subst, ◌∙◌, ⊎_elim, ℕ, ◌+◌, ◌*◌, ◌<◌, nat_eq, true, false, List, [], ◌∷◌, ◌++◌, length, map, flat_map, arith, All}
+use Rattle.vt_spec.proofs.Common.{Filesystem, Fresh, IsWorld, ListsNumbers, Location, Mount, MountFlags, Namespace, World, attach, new_mount, parts_of, renamed, renamed_location, used_by_filesystem, used_by_mount}
+use Rattle.vt_mounting.proofs.Common.{Among, HasOwnNodes, IsHeld, KeepsTo, WorldValue, among-append, among-append_left, among-append_right, among-from_flat_map, among_from_all, among_numbers, counted, counted_later, counts_from, is_among_numbers, is_counted_before, leaves_two, used_numbers_are_named, world_of}
 use Rattle.vt_laws_worlds.proofs.one_text.in_use.InUseServes.{any_worlds_keep_to_numbers_in_use}
-use Rattle.vt_laws_worlds.proofs.permits.in_use.InUseServes.{leaves_two}
 use Rattle.vt_laws_worlds.proofs.permits.taken.TakenHanded.{counted_here}
-use Rattle.vt_laws_worlds.proofs.permits.taken.TakenNumbers.{counted_later}
 use Rattle.vt_laws_rules.proofs.numbers.Commuting.{Named, commutes_nat}
 use Rattle.vt_laws_rules.proofs.numbers.Renamings.{named_world, renamed_itself}
-use Rattle.vt_laws_rules.proofs.numbers.Supports.{used_numbers_are_named}
-use Rattle.vt_laws_rules.specs.Numbers.{KeepsTo}
-use Rattle.vt_laws_trees.specs.Runs.Handed.{counts_from, is_counted_before}
-use Rattle.vt_location.specs.Numbers.{counted}
-use Rattle.vt_world.specs.Held.{HasOwnNodes, IsHeld}
-use Rattle.vt_world.specs.WorldValue.{WorldValue, world_of}
 use Rattle.vt_mounting.proofs.detach.FilesSeen.{nodes_named}
 use Rattle.vt_mounting.proofs.attach.NumbersByParts.{attach_same}
 

@@ -1,31 +1,14 @@
 -- The code's world with a new overlay, and the one with the plain filesystems that are kept once its layers are held:
 -- the same but for the order of the numbers beside trees.
-use Rattle.std.proofs.Common.{◌≡◌, refl, sym, ap, subst, ◌∙◌, inl, inr, ℕ, nat_eq, nat_lt, eqb-true, lt-ltb, Bool, true, false, cond, List, [], ◌∷◌, ◌++◌, map, Option, Some, None, is_some, arith}
-use Rattle.std.proofs.lemmas.Bool.{le-ltb}
-use Rattle.std.proofs.lemmas.List.{map-append}
-use Rattle.vt_spec.specs.Inodes.{Inode as Counted, Inodes, node_in, pinned, tree_of, used_once_more}
-use Rattle.vt_spec.specs.Lists.{folded}
-use Rattle.vt_spec.specs.Machine.SameWorlds.{SameFiles, SameFilesystem, SameFilesystems, SameWorlds}
-use Rattle.vt_spec.specs.Machine.World.{Filesystem}
-use Rattle.vt_laws_mounts.proofs.counts.Listed.{same_numbers_are_permuted}
-use Rattle.vt_laws_mounts.specs.Counts.Using.{pinned_if}
-use Rattle.vt_laws_mounts.specs.LettingGo.OneByOne.{Inode}
-use Rattle.vt_laws_mounts.proofs.letting_go.Lists.{Among, among-from_map}
-use Rattle.vt_laws_worlds.specs.OverlaysStay.Woven.{put_in, woven}
-use Rattle.vt_laws_worlds.proofs.overlays_stay.weaving.WovenLists.{woven_lists_are_alike}
-use Rattle.vt_laws_trees.proofs.runs.answered.AlikeWorlds.{sameness_is_an_equivalence}
-use Rattle.vt_fs.specs.FilesystemsValue.{FilesystemEntry, Filesystems, Shown, files_seen, filesystem_seen, filesystems_seen, inodes_seen, numbers_seen, shown, shown_entry}
-use Rattle.vt_fs.proofs.Numbers.{numbers_apart_each, numbers_listed}
-use Rattle.vt_location.specs.Numbers.{counted}
+use Rattle.std.proofs.Common.{◌≡◌, refl, sym, ap, subst, ◌∙◌, inl, inr, ℕ, nat_eq, nat_lt, eqb-true, lt-ltb, Bool, true, false, cond, List, [], ◌∷◌, ◌++◌, map, Option, Some, None, is_some, arith, le-ltb}
+use Rattle.vt_spec.proofs.Common.{Filesystem, Inode as Counted, Inodes, SameFiles, SameFilesystem, SameFilesystems, SameWorlds, Tree, folded, map-append, node_in, pinned, tree_of, used_once_more}
+use Rattle.vt_mounting.proofs.Common.{Among, FilesystemEntry, Filesystems, Inode, IsHeld, Shown, WorldValue, among-from_map, counted, filesystem_seen, filesystems_seen, inodes_seen, numbers_apart_each, numbers_listed, numbers_seen, overlay_of_store, overlay_seen, overlays_seen, pinned_if, put_in, same_numbers_are_permuted, sameness_is_an_equivalence, shown, shown_entry, world_of, woven, woven_lists_are_alike}
+use Rattle.vt_fs.specs.FilesystemsValue.{files_seen}
 use Rattle.vt_store.specs.OverlaysValue as stored
-use Rattle.vt_world.specs.Held.{IsHeld}
-use Rattle.vt_world.specs.StoredWorld.{overlay_of_store}
-use Rattle.vt_world.specs.WorldValue.{WorldValue, overlay_seen, overlays_seen, world_of}
 use Rattle.vt_mounting.proofs.detach.PlainFound.{overlay_among}
 use Rattle.vt_mounting.proofs.attach.NewBase.{put_before}
 use Rattle.vt_mounting.proofs.attach.NewFilesystems.{filesystem_counted, number_below}
 use Rattle.vt_mounting.proofs.attach.NewOverlayUses.{held_by, overlay_last}
-use Rattle.vt_spec.specs.Tree.{Tree}
 
 -- An overlay with a greater number than all is woven last
 

@@ -1,39 +1,9 @@
 -- The uses that the layers of a new overlay are, in the code's world with that overlay, whatever mounts show.
-use Rattle.std.proofs.Common.{◌≡◌, refl, sym, ap, subst, ◌∙◌, ⊎_elim, ℕ, suc, ◌+◌, nat_eq, eqb-true, Bool, true, false, cond, not, ◌&&◌, ◌||◌, List, [], ◌∷◌, ◌++◌, map, filter, flat_map, Option, Some, is_some, unwrap_or, arith}
-use Rattle.std.specs.Prelude.{slice_get}
-use Rattle.std.proofs.lemmas.Bool.{ne_eqb}
-use Rattle.std.proofs.lemmas.List.{append-nil, append_assoc, map-append}
-use Rattle.vt_laws_trees.proofs.trees.TreesOfWorlds.{number_numbered}
-use Rattle.vt_spec.proofs.Lists.{map_alike, map_twice}
-use Rattle.vt_spec.specs.Lists.{folded}
-use Rattle.vt_spec.specs.Tree.{is_directory_node}
-use Rattle.vt_laws_mounts.specs.Counts.OverlaysStay.{layer_count}
-use Rattle.vt_spec.specs.Machine.Locked.{of_overlay}
-use Rattle.vt_spec.specs.Machine.Settled.{layers_in, located_in, named_in, objects_of_overlay}
-use Rattle.vt_spec.specs.Machine.World.{Filesystem, Layer, World, filesystem_numbered, layers_of, no_filesystem}
-use Rattle.vt_spec.specs.Inodes.{node_in}
-use Rattle.vt_laws_mounts.specs.Counts.BesideOverlays.{OverlaysHaveNoUpper}
-use Rattle.vt_laws_mounts.specs.Counts.Counted.{IsCounted}
-use Rattle.vt_laws_mounts.specs.Counts.Using.{AreThere, Exchanges, exchanged, is_inode, pinned_if}
-use Rattle.vt_laws_mounts.proofs.counts.overlays.FilesystemUses.{no_upper_is_in_any}
-use Rattle.vt_laws_mounts.proofs.counts.using.Exchanged.{uses_are_exchanged_beside_overlays}
-use Rattle.vt_laws_mounts.specs.LettingGo.Counts.{inode_uses, times}
-use Rattle.vt_laws_mounts.specs.LettingGo.OneByOne.{Inode}
-use Rattle.vt_laws_mounts.proofs.letting_go.Lists.{Among, all_pass, among-from_map, among_from_all}
-use Rattle.vt_laws_mounts.proofs.letting_go.sweeps.OfWorlds.{worlds_have_trees}
-use Rattle.vt_laws_mounts.proofs.letting_go.sweeps.UpperUses.{times_append}
-use Rattle.vt_laws_worlds.proofs.RaisedInUse.{worlds_are_in_use}
-use Rattle.vt_laws_worlds.proofs.worlds.Roots.{directory_there}
-use Rattle.vt_fs.specs.FilesystemsValue.{FilesystemEntry, Filesystems, Shown, entry_of, inodes_seen, no_entry}
-use Rattle.vt_location.specs.Locations.{inode_of as inode_number_of}
-use Rattle.vt_location.specs.Numbers.{counted}
-use Rattle.vt_location.proofs.NumberLemmas.{counted_same}
+use Rattle.std.proofs.Common.{◌≡◌, refl, sym, ap, subst, ◌∙◌, ⊎_elim, ℕ, suc, ◌+◌, nat_eq, eqb-true, Bool, true, false, cond, not, ◌&&◌, ◌||◌, List, [], ◌∷◌, ◌++◌, map, filter, flat_map, Option, Some, is_some, unwrap_or, arith, slice_get, ne_eqb, append-nil, append_assoc}
+use Rattle.vt_spec.proofs.Common.{Filesystem, Layer, World, filesystem_numbered, folded, is_directory_node, layers_in, layers_of, located_in, map-append, map_alike, map_twice, named_in, no_filesystem, node_in, objects_of_overlay, of_overlay}
+use Rattle.vt_mounting.proofs.Common.{Among, AreLayers, AreThere, CountsItsMounts, Exchanges, FilesystemEntry, Filesystems, Inode, IsCounted, IsHeld, OverlaysHaveNoUpper, Shown, WorldValue, all_pass, among-from_map, among_from_all, counted, counted_same, directory_there, entry_of, exchanged, inode_of, inode_uses, inodes_seen, is_inode, layer_count, layer_seen, no_entry, no_upper_is_in_any, number_numbered, overlay_of_store, overlay_seen, pinned_if, times, times_append, uses_are_exchanged_beside_overlays, world_of, worlds_are_in_use, worlds_have_trees}
 use Rattle.vt_overlay.specs.declared.merge.layers.LayerRef.{LayerRef}
-use Rattle.vt_overlay.specs.MergedTree.{AreLayers, layer_seen}
 use Rattle.vt_store.specs.OverlaysValue as stored
-use Rattle.vt_world.specs.Held.{CountsItsMounts, IsHeld}
-use Rattle.vt_world.specs.StoredWorld.{overlay_of_store}
-use Rattle.vt_world.specs.WorldValue.{WorldValue, overlay_seen, world_of}
 use Rattle.vt_mounting.specs.Detach.Stored.{layer_of}
 use Rattle.vt_mounting.specs.Detach.Uses.{mounted_if}
 use Rattle.vt_mounting.proofs.detach.Moving.{map_itself}
@@ -210,16 +180,16 @@ module _ (value : WorldValue) (whole : IsHeld value) (base : Filesystems) (entry
 
       by : (layer : LayerRef) → Among layer entry.overlay.lowers → (b : Bool)
           → nat_eq (counted was.count) (counted layer.directory.filesystem.count) ≡ b
-          → (not b || is_some ((inodes_seen was).inode (inode_number_of layer.directory))) ≡ true
+          → (not b || is_some ((inodes_seen was).inode (inode_of layer.directory))) ≡ true
       by layer n false e = refl
       by layer n true e =
           let at = among_place entry.overlay.lowers layer n in
           let same : was.count ≡ layer.directory.filesystem.count =
           counted_same was.count layer.directory.filesystem.count (eqb-true _ _ e) in
-          inode_is_there ((inodes_seen was).inode (inode_number_of layer.directory))
-          (directory_there (node_in ((inodes_seen was).inode (inode_number_of layer.directory)))
+          inode_is_there ((inodes_seen was).inode (inode_of layer.directory))
+          (directory_there (node_in ((inodes_seen was).inode (inode_of layer.directory)))
           (ap (λ (o : Option FilesystemEntry). is_directory_node (node_in ((inodes_seen (unwrap_or o
-          (no_entry layer.directory.filesystem.count))).inode (inode_number_of layer.directory))))
+          (no_entry layer.directory.filesystem.count))).inode (inode_of layer.directory))))
           (sym (ap (entry_of value.filesystems) (sym same)
           ∙ one_entry value.filesystems (plain_ones_apart value whole) was m)) ∙ (are at.0 layer at.1).directory))
 

@@ -1,26 +1,11 @@
 -- The numbers that an attachment takes, whatever groups there are: two for each mount of the tree at each part.
-use Rattle.std.proofs.Common.{◌≡◌, refl, sym, ap, subst, ◌∙◌, ℕ, ◌+◌, ◌*◌, ◌-◌, ◌%◌, ◌/◌, ◌==◌, ◌<◌, nat_eq, eq-eqb, Bool, true, false, cond, ◌&&◌, ◌||◌, List, [], ◌∷◌, map, Some, length, unwrap_or, arith}
-use Rattle.std.specs.Prelude.{nat_lt}
-use Rattle.vt_laws_rules.specs.Numbers.{KeepsTo}
+use Rattle.std.proofs.Common.{◌≡◌, refl, sym, ap, subst, ◌∙◌, ℕ, ◌+◌, ◌*◌, ◌-◌, ◌%◌, ◌/◌, ◌==◌, ◌<◌, nat_eq, eq-eqb, Bool, true, false, cond, ◌&&◌, ◌||◌, List, [], ◌∷◌, map, Some, length, unwrap_or, arith, nat_lt}
+use Rattle.vt_spec.proofs.Common.{Copies, Fresh, IsWorld, Location, Mount, Namespace, Permit, Task, ToBind, ToMountPlain, ToMove, ToUnshare, World, among-from_map, among_from_list_all, among_numbers, attach, attached_by, bind_tree, copies_from, has_one_root, index_from, index_in_rows, index_of, index_of_group, is_listed, is_member_of, mount_numbered, mount_tree, mounted, mounts_of, namespaces_ended, new_mount, new_plain, odds, parts_of, plain_filesystem, settled, task_called, with_new_filesystem}
+use Rattle.vt_mounting.proofs.Common.{KeepsTo, counted_later, counts_from, handed_from, index_bound, is_counted_before, permit_named}
 use Rattle.vt_laws_worlds.proofs.permits.named.NamedPermits.{permit_left}
 use Rattle.vt_laws_worlds.proofs.permits.named.PermitsKeepTo.{left_renamed}
-use Rattle.vt_laws_worlds.proofs.permits.taken.TakenAttached.{index_bound}
-use Rattle.vt_laws_worlds.proofs.permits.taken.TakenNumbers.{counted_later}
 use Rattle.vt_laws_worlds.specs.Permits.Left.{left_by}
-use Rattle.vt_laws_worlds.specs.Permits.Named.{permit_named}
-use Rattle.vt_laws_trees.specs.Runs.Handed.{counts_from, handed_from, is_counted_before}
-use Rattle.vt_spec.specs.Lists.{Fresh, odds, index_from}
-use Rattle.vt_spec.specs.Machine.Attach.{Copies, attach, attached_by, bind_tree, copies_from, index_of_group, index_in_rows, parts_of}
-use Rattle.vt_spec.specs.Machine.Mounts.{Location, Mount, index_of, mount_tree}
-use Rattle.vt_spec.specs.Machine.NewMounts.{mounted, new_mount, plain_filesystem, with_new_filesystem}
-use Rattle.vt_spec.specs.Machine.Permits.{Permit}
-use Rattle.vt_spec.specs.Machine.Permits.Permit.{ToBind, ToMountPlain, ToMove, ToUnshare}
-use Rattle.vt_spec.specs.Machine.Receives.{is_member_of}
-use Rattle.vt_spec.specs.Machine.Settled.{settled}
-use Rattle.vt_spec.specs.Machine.World.{Namespace, Task, World, mount_numbered, mounts_of, new_plain, task_called}
-use Rattle.vt_spec.specs.Machine.Invariants.{IsWorld, has_one_root, is_listed}
-use Rattle.vt_spec.specs.Machine.Namespaces.{namespaces_ended, unshared_by}
-use Rattle.vt_spec.proofs.Lists.{among_from_list_all, among_numbers, among-from_map}
+use Rattle.vt_spec.specs.Machine.Namespaces.{unshared_by}
 use Rattle.vt_laws_worlds.proofs.worlds.ReachedWalks.{task_among}
 use Rattle.vt_mounting.specs.Attach.AttachedNumbers.{BindsKeepToNumbers, MovesKeepToNumbers, NewMountsKeepToNumbers, UnsharesKeepToNumbers, numbers_of_new_mount, numbers_of_parts}
 use Rattle.vt_laws_worlds.proofs.permits.taken.TakenFirst.{nonempty, numbers_same, tree_some, bind_some}

@@ -1,27 +1,14 @@
 -- The opening world is held.
-use Rattle.std.proofs.Common.{◌≡◌, refl, sym, ap, subst, ◌∙◌, true≢false, ℕ, ◌+◌, ◌*◌, nat_eq, eq-eqb, eqb-true, Bool, true, false, cond, List, [], ◌∷◌, ◌++◌, map, Some, None, is_some, arith}
-use Rattle.std.specs.Prelude.{All, if◌then◌else◌}
-use Rattle.std.proofs.lemmas.List.Elements.{All-cons, All-nil}
+use Rattle.std.proofs.Common.{◌≡◌, refl, sym, ap, subst, ◌∙◌, true≢false, ℕ, ◌+◌, ◌*◌, nat_eq, eq-eqb, eqb-true, Bool, true, false, cond, List, [], ◌∷◌, ◌++◌, map, Some, None, is_some, arith, All, if◌then◌else◌}
+use Rattle.vt_spec.proofs.Common.{All-cons, All-nil, Filesystem, Inodes, IsWorld, Private as IsPrivate, first_mount, first_task, is_among, is_overlay, new_directory, new_plain, node_in, of_overlay, one_directory, opening, pinned, plain_flags, root_attr, tree_of, used_once_more}
 use Rattle.vt_spec.specs.declared.attributes.Attr.{Attr}
-use Rattle.vt_spec.specs.Language.Calls.{plain_flags}
-use Rattle.vt_spec.specs.Lists.{is_among}
-use Rattle.vt_spec.specs.Machine.Locked.{of_overlay}
-use Rattle.vt_spec.specs.Machine.Mounts.Propagation.{Private as IsPrivate}
 use Rattle.vt_spec.specs.Machine.World as meant
-use Rattle.vt_spec.specs.Machine.World.{Filesystem, first_mount, first_task, is_overlay, new_plain, opening, root_attr}
-use Rattle.vt_spec.specs.Machine.Invariants.{IsWorld}
-use Rattle.vt_spec.specs.Inodes.{Inodes, node_in, one_directory, pinned, tree_of, used_once_more}
-use Rattle.vt_spec.specs.Tree.{new_directory, tree_of_root}
-use Rattle.vt_laws_mounts.specs.Counts.Counted.{IsCounted}
-use Rattle.vt_laws_mounts.specs.Counts.OverlaysStay.{layer_count}
+use Rattle.vt_spec.specs.Tree.{tree_of_root}
+use Rattle.vt_mounting.proofs.Common.{ChangesInodes, CountsItsMounts, CountsItsUses, CountsWhatIsInIt, FilesystemEntry, Filesystems, Grouping, Has, HasOwnInodes, IsCounted, IsHeld, IsNew, KeepsTo, MountEntry, NamespaceEntry, Shown, WorldValue, counted, filesystem_seen, has_only_named, inode_number, inodes_seen, is_counted_before, is_own_number, layer_count, location_of, mount_of, mounts_in, mounts_showing, namespace_of, no_groups, numbers_listed, numbers_seen, shown, shown_entry, shown_with, with_changed, world_of}
 use Rattle.vt_laws_mounts.specs.Counts.Using.{one_counted, root_counted}
 use Rattle.vt_laws_mounts.proofs.counts.using.Places.{opening_is_counted}
-use Rattle.vt_laws_rules.specs.Numbers.{KeepsTo}
 use Rattle.vt_laws_rules.proofs.numbers.Supports.{opening_keeps_to_four}
-use Rattle.vt_group.specs.Grouping.{Grouping, Has, no_groups}
 use Rattle.vt_group.proofs.Showing.{opening_has_no_groups}
-use Rattle.vt_laws_mounts.specs.LettingGo.Counts.{mounts_showing}
-use Rattle.vt_laws_mounts.specs.LettingGo.Keeping.{has_only_named}
 use Rattle.vt_cred.specs.declared.mount_flags.MountFlags.{MountFlags}
 use Rattle.vt_location.specs.declared.births.Birth.TheVariants.{Here}
 use Rattle.vt_location.specs.declared.locations.NodeRef.{NodeRef}
@@ -30,20 +17,12 @@ use Rattle.vt_location.specs.declared.numbers.FilesystemId.{FilesystemId}
 use Rattle.vt_location.specs.declared.numbers.MountId.{MountId}
 use Rattle.vt_location.specs.declared.numbers.NamespaceId.{NamespaceId}
 use Rattle.vt_cred.specs.MountFlags.{flags_of}
-use Rattle.vt_location.specs.Locations.{location_of}
-use Rattle.vt_location.specs.MountValue.{mount_of}
-use Rattle.vt_location.specs.Numbers.{counted, inode_number, is_own_number}
 use Rattle.vt_location.proofs.NumberLemmas.{is_own}
-use Rattle.vt_laws_trees.specs.Runs.Handed.{is_counted_before}
 use Rattle.vt_laws_worlds.proofs.opening.OpeningWorld.{opening_is_a_world}
-use Rattle.vt_fs.specs.FilesystemsValue.{ChangesInodes, FilesystemEntry, Filesystems, IsNew, Shown, filesystem_seen, inodes_seen, numbers_seen, shown, shown_entry, shown_with, with_changed}
 use Rattle.vt_fs.proofs.NewFilesystem.{only_one}
-use Rattle.vt_fs.proofs.Numbers.{numbers_counted, numbers_listed}
-use Rattle.vt_mount.specs.MountsValue.{MountEntry, mounts_in}
+use Rattle.vt_fs.proofs.Numbers.{numbers_counted}
 use Rattle.vt_tasks.specs.TasksValue.{first_task_at}
-use Rattle.vt_world.specs.Held.{CountsItsMounts, CountsItsUses, CountsWhatIsInIt, HasOwnInodes, IsHeld}
 use Rattle.vt_mounting.specs.Attach.Opening.{first_shown, opening_numbers}
-use Rattle.vt_world.specs.WorldValue.{NamespaceEntry, WorldValue, namespace_of, world_of}
 
 -- One filesystem, with a use more of its root again and again
 pub pinned_once : (root uses : ℕ) → pinned nat_eq (one_counted root uses) root ≡ one_counted root (uses + 1)

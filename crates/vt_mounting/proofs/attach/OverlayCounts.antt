@@ -1,17 +1,10 @@
 -- How many mounts show overlays, as code counts them: those that come are room for, and are counted.
-use Rattle.std.proofs.Common.{◌≡◌, refl, sym, ap, subst, ◌∙◌, ℕ, ◌+◌, ◌-◌, ◌<◌, ◌≤◌, nat_eq, Bool, true, false, true≢false, cond, ◌&&◌, List, [], ◌∷◌, map, length, Option, Some, None, is_some, option_map, unwrap_or, take, get_or, arith}
-use Rattle.std.specs.List.{list_all}
-use Rattle.std.proofs.lemmas.Bool.{and_parts, le-leb, leb-true}
-use Rattle.std.proofs.lemmas.List.{length-take-le}
-use Rattle.vt_spec.specs.Lists.{folded}
-use Rattle.vt_laws_mounts.proofs.letting_go.Lists.{passes}
+use Rattle.std.proofs.Common.{◌≡◌, refl, sym, ap, subst, ◌∙◌, ℕ, ◌+◌, ◌-◌, ◌<◌, ◌≤◌, nat_eq, Bool, true, false, true≢false, cond, ◌&&◌, List, [], ◌∷◌, map, length, Option, Some, None, is_some, option_map, unwrap_or, take, get_or, arith, le-leb, leb-true, length-take-le}
+use Rattle.vt_spec.proofs.Common.{and_parts, folded, list_all}
+use Rattle.vt_mounting.proofs.Common.{OverlayValue, Overlays, StoreValue, counted, counted_test, entry_in, entry_kept, overlay_in, passes, with_mounts, with_mounts_by, with_overlay_changed}
 use Rattle.vt_location.specs.declared.mounts.Mount.{Mount}
-use Rattle.vt_location.specs.Numbers.{counted}
-use Rattle.vt_location.proofs.NumberLemmas.{counted_test}
-use Rattle.vt_overlay.specs.MergedTree.{OverlayValue}
-use Rattle.vt_store.specs.Counts.{mounts_by, mounts_in, with_mounts, with_mounts_by}
-use Rattle.vt_store.specs.OverlaysValue.{OverlayEntry, Overlays, entry_kept, with_overlay_changed}
-use Rattle.vt_store.specs.StoreValue.{StoreValue, entry_in, overlay_in}
+use Rattle.vt_store.specs.Counts.{mounts_by, mounts_in}
+use Rattle.vt_store.specs.OverlaysValue.{OverlayEntry}
 use Rattle.vt_mounting.specs.Attach.Room.{merged_has_room, most_counted}
 use Rattle.vt_mounting.specs.Detach.Stored.{merged_of}
 use Rattle.vt_mounting.specs.Detach.Uses.{Merged, merged_at, merged_by, mounted_merged}

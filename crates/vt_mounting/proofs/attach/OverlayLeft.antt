@@ -1,57 +1,26 @@
 -- What the permit that mounts an overlay leaves: the plain filesystems that are kept once the layers are held, the
 -- overlay that these show, and a mount of it, but for the order of the numbers beside trees.
-use Rattle.std.proofs.Common.{◌≡◌, refl, sym, ap, subst, ◌∙◌, ℕ, nat_eq, Bool, true, false, cond, not, ◌||◌, List, [], ◌∷◌, ◌++◌, map, filter, flat_map, length, Some, None, is_some}
-use Rattle.std.specs.Prelude.{All}
-use Rattle.std.specs.List.{list_all, list_any}
-use Rattle.std.proofs.lemmas.List.Sorted.{length_permutation, list_any-IsPermutation}
-use Rattle.std.proofs.lemmas.Option.{same_Some}
-use Rattle.vt_spec.proofs.FreshNumbers.{evens-distinct, served-distinct}
-use Rattle.vt_spec.proofs.Lists.{pair-filter}
-use Rattle.vt_spec.specs.FileTree.{targets_in}
-use Rattle.vt_spec.specs.Language.Calls.{MountFlags}
-use Rattle.vt_spec.specs.Lists.{Fresh, any_pair, each_once, evens, is_among, odds}
-use Rattle.vt_spec.specs.Machine.Attach.{attach}
-use Rattle.vt_spec.specs.Machine.Merging.{MergedInode, merged_inodes, merged_objects, tree_of}
+use Rattle.std.proofs.Common.{◌≡◌, refl, sym, ap, subst, ◌∙◌, ℕ, nat_eq, Bool, true, false, cond, not, ◌||◌, List, [], ◌∷◌, ◌++◌, map, filter, flat_map, length, Some, None, is_some, All}
+use Rattle.vt_spec.proofs.Common.{Filesystem, Fresh, Location, MergedInode, MountFlags, Overlay, SameFiles, SameFilesystem, SameWorlds, Task, ToMountOverlay, Tree, World, any_pair, attach, each_once, evens, evens-distinct, inode_count, is_among, length_permutation, list_all, list_any, list_any-IsPermutation, merged_inodes, merged_objects, named_in, new_mount, odds, open_layer, overlay_filesystem, pair-filter, same_Some, served-distinct, shown_layers, targets_in, with_new_filesystem}
+use Rattle.vt_spec.specs.Machine.Merging.{tree_of}
 use Rattle.vt_spec.specs.Machine.Mounts as meant
-use Rattle.vt_spec.specs.Machine.Mounts.{Location}
-use Rattle.vt_spec.specs.Machine.NewMounts.{inode_count, new_mount, overlay_filesystem, with_new_filesystem}
-use Rattle.vt_spec.specs.Machine.Permits.Permit.{ToMountOverlay}
-use Rattle.vt_spec.specs.Machine.SameWorlds.{SameFiles, SameFilesystem, SameWorlds}
-use Rattle.vt_spec.specs.Machine.Settled.{named_in}
-use Rattle.vt_spec.specs.Machine.World.{Filesystem, Overlay, Task, World, open_layer, shown_layers}
-use Rattle.vt_spec.specs.Tree.{Tree}
-use Rattle.vt_laws_mounts.proofs.counts.Listed.{same_numbers_are_permuted}
-use Rattle.vt_laws_worlds.specs.Given.LeftWorlds.{IsGivenToTask}
+use Rattle.vt_mounting.proofs.Common.{AreLayers, Filesystems, Inode, IsGivenToTask, IsHeld, IsShownAlike, OverlayValue, ShowsLayer, ShowsLayers, WorldValue, alike_from_same, all_from_among, counted, filesystems_seen, found_by_number, found_same, has_only_named, inodes_are_the_tree, inodes_have_their_objects, inodes_stay, layer_seen, overlay_of_store, overlay_seen, overlays_seen, same_numbers_are_permuted, sameness_is_an_equivalence, shown, with_objects, world_of, woven}
 use Rattle.vt_laws_trees.proofs.layers.directories.Merged.{merged_lists_numbers}
 use Rattle.vt_laws_trees.specs.Layers.Layers.Mounted as mounted
-use Rattle.vt_laws_mounts.specs.LettingGo.Keeping.{has_only_named}
-use Rattle.vt_laws_mounts.specs.LettingGo.OneByOne.{Inode}
-use Rattle.vt_laws_mounts.proofs.letting_go.Lists.{all_from_among}
 use Rattle.vt_laws_trees.proofs.runs.answered.AlikeAttached.{attach_alike}
-use Rattle.vt_laws_trees.proofs.runs.answered.AlikeWorlds.{Alike, alike_from_same, alike_onward, same_from_alike, sameness_is_an_equivalence}
-use Rattle.vt_world.proofs.overlays_kept.inodes.InodesInOrder.{inodes_are_the_tree, inodes_have_their_objects, inodes_stay}
+use Rattle.vt_laws_trees.proofs.runs.answered.AlikeWorlds.{Alike, alike_onward, same_from_alike}
 use Rattle.vt_world.specs.OverlaysKept.Inodes.{inodes_kept}
-use Rattle.vt_world.specs.OverlaysKept.Kept.{IsShownAlike, ShowsLayer, ShowsLayers, with_objects}
 use Rattle.vt_laws_worlds.proofs.overlays_let_go.mounting.NewOverlays.{new_mounts_of_overlays_keep_all, new_overlays_are_named}
 use Rattle.vt_world.proofs.overlays_made.Numbers.{made_overlays_are_same}
 use Rattle.vt_world.specs.OverlaysMade.Made.{handed_in, overlay_shown}
-use Rattle.vt_laws_worlds.specs.OverlaysStay.Woven.{woven}
-use Rattle.vt_laws_rules.proofs.same.SameLooks.{found_same}
 use Rattle.vt_laws_trees.proofs.runs.Each.{each_append}
 use Rattle.vt_laws_trees.proofs.runs.Permuted.{IsPermutation-flat_map, list_all-IsPermutation}
-use Rattle.vt_location.specs.Numbers.{counted}
-use Rattle.vt_fs.proofs.Numbers.{found_by_number}
-use Rattle.vt_fs.specs.FilesystemsValue.{Filesystems, filesystems_seen, shown}
 use Rattle.vt_overlay.specs.declared.merge.layers.LayerRef.{LayerRef}
 use Rattle.vt_overlay.specs.MergedTree as Kept
-use Rattle.vt_overlay.specs.MergedTree.{AreLayers, OverlayValue, layer_seen}
 use Rattle.vt_store.proofs.OverlaysAlike.{overlays_stay_with_layers}
 use Rattle.vt_store.specs.Laws.{IsSameLayer}
 use Rattle.vt_store.specs.OverlaysValue as stored
 use Rattle.vt_store.specs.StoreValue as store
-use Rattle.vt_world.specs.Held.{IsHeld}
-use Rattle.vt_world.specs.StoredWorld.{overlay_of_store}
-use Rattle.vt_world.specs.WorldValue.{WorldValue, overlay_seen, overlays_seen, world_of}
 use Rattle.vt_mounting.specs.Detach.Events.{layer_kept, left_by, overlay_kept, supply_of}
 use Rattle.vt_mounting.specs.Detach.Stored.{layer_of}
 use Rattle.vt_mounting.proofs.detach.OverlayGranted.{NamesLayers, kept_layers, lowers_seen, overlay_names}

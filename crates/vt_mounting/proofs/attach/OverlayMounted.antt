@@ -1,30 +1,10 @@
 -- The event that mounts an overlay, as a store is left by it: mount(2), and the kernel's overlayfs document.
 use Rattle.std.proofs.Common.{◌≡◌, ◌<◌, ◌*◌, ◌+◌, ◌∙◌, sym, ap, subst, ℕ, nat_eq, true, List, [], ◌∷◌, ◌++◌, ◌%◌, ◌==◌, map, length, None, false}
-use Rattle.std.specs.List.{list_all}
-use Rattle.std.proofs.lemmas.List.{map-append}
-use Rattle.vt_spec.specs.Language.Calls.{MountFlags}
-use Rattle.vt_spec.specs.Machine.Attach.{parts_of}
-use Rattle.vt_spec.specs.Machine.NewMounts.{new_mount}
-use Rattle.vt_spec.specs.Machine.Permits.Permit.{ToMountOverlay}
-use Rattle.vt_spec.specs.Machine.SameWorlds.{SameWorlds}
-use Rattle.vt_spec.specs.Machine.World.{Layer, Overlay, Task}
-use Rattle.vt_spec.proofs.Lists.{map_alike, map_twice}
-use Rattle.vt_fs.specs.FilesystemsValue.{Filesystems, shown}
-use Rattle.vt_group.specs.Grouping.{Grouping}
-use Rattle.vt_laws_worlds.specs.Given.LeftWorlds.{IsGivenToTask}
-use Rattle.vt_location.specs.Locations.{location_of}
-use Rattle.vt_location.specs.MountValue.{mount_of}
-use Rattle.vt_location.specs.Numbers.{counted}
-use Rattle.vt_mount.specs.MountsValue.{MountEntry, are_ascending, mounts_in}
-use Rattle.vt_overlay.specs.MergedTree.{AreLayers, layer_seen}
+use Rattle.vt_spec.proofs.Common.{Layer, MountFlags, Overlay, SameWorlds, Task, ToMountOverlay, list_all, map-append, map_alike, map_twice, new_mount, parts_of}
+use Rattle.vt_mounting.proofs.Common.{AreLayers, Filesystems, Grouping, IsGivenToTask, IsHeld, MountEntry, Overlays, StoreValue, WorldValue, are_ascending, counted, layer_seen, location_of, mount_of, mounts_in, overlay_of_store, overlays_of_store, shown, with_store, world_of}
 use Rattle.vt_propagate.specs.declared.copying.Counts.{Counts}
 use Rattle.vt_propagate.specs.declared.copying.Graft.{Graft}
 use Rattle.vt_store.specs.OverlaysValue as stored
-use Rattle.vt_store.specs.OverlaysValue.{Overlays}
-use Rattle.vt_store.specs.StoreValue.{StoreValue}
-use Rattle.vt_world.specs.Held.{IsHeld}
-use Rattle.vt_world.specs.StoredWorld.{overlay_of_store, overlays_of_store, with_store}
-use Rattle.vt_world.specs.WorldValue.{WorldValue, world_of}
 use Rattle.vt_mounting.specs.Detach.Events.{left_by, overlay_kept, supply_of}
 use Rattle.vt_mounting.specs.Detach.Stored.{OverlaysStay, kept, layer_of, merged_of}
 use Rattle.vt_mounting.specs.Detach.Uses.{kept_with, merged_seen}

@@ -1,24 +1,17 @@
 -- The inodes of an overlay that a store keeps have the numbers of its nodes.
-use Rattle.std.proofs.Common.{◌≡◌, ◌≤◌, ◌<◌, refl, sym, ap, subst, ◌∙◌, ℕ, true, true≢false, ◌&&◌, List, length, Option, Some, None, is_some, arith}
-use Rattle.std.proofs.lemmas.Bool.{lt-ltb}
-use Rattle.std.proofs.lemmas.Option.{slice_get_within}
-use Rattle.vt_spec.specs.Tree.{Tree}
-use Rattle.vt_fs.specs.FilesystemsValue.{Filesystems}
-use Rattle.vt_world.proofs.overlays_kept.inodes.InodesInOrder.{inodes_are_the_tree}
+use Rattle.std.proofs.Common.{◌≡◌, ◌≤◌, ◌<◌, refl, sym, ap, subst, ◌∙◌, ℕ, true, true≢false, ◌&&◌, List, length, Option, Some, None, is_some, arith, lt-ltb}
+use Rattle.vt_spec.proofs.Common.{Tree, slice_get_within}
+use Rattle.vt_mounting.proofs.Common.{AreLayers, Filesystems, HasOwnNodes, OverlayValue, counted, inodes_are_the_tree, is_small_node, number_of, overlay_of_store}
 use Rattle.vt_laws_trees.specs.Overlays.TreesSeen.{node_by}
 use Rattle.vt_location.specs.declared.births.Birth.{Birth}
 use Rattle.vt_location.specs.declared.births.Birth.TheVariants.{Below, Here}
 use Rattle.vt_location.specs.declared.locations.NodeRef.{NodeRef}
 use Rattle.vt_location.specs.Births.{IsSmallBirth, is_small_birth}
-use Rattle.vt_location.specs.Locations.{is_small_node, number_of}
 use Rattle.vt_location.specs.NodeNumbers.{IsSmall}
-use Rattle.vt_location.specs.Numbers.{counted}
 use Rattle.vt_overlay.proofs.BirthsFound.{in_slot, small_birth}
 use Rattle.vt_overlay.proofs.TreeFound.{IsAt, found_is_at}
-use Rattle.vt_overlay.specs.MergedTree.{AreLayers, OverlayValue, longest, merged_tree, node_born, overlay_seen, path_at, plain_world, real_number}
+use Rattle.vt_overlay.specs.MergedTree.{longest, merged_tree, node_born, overlay_seen, path_at, plain_world, real_number}
 use Rattle.vt_store.specs.OverlaysValue as stored
-use Rattle.vt_world.specs.Held.{HasOwnNodes}
-use Rattle.vt_world.specs.StoredWorld.{overlay_of_store}
 use Rattle.vt_world.specs.WorldValue as worlds
 
 small_births : (birth : Birth) → IsSmallBirth birth → is_small_birth birth ≡ true

@@ -1,33 +1,12 @@
 -- After the mount of an overlay a store shows its overlays as they were, and the new one as its layers showed it before.
-use Rattle.std.proofs.Common.{◌≡◌, refl, sym, ap, subst, ◌∙◌, ⊎_elim, ℕ, nat_eq, nat_lt, ltb-true, lt-ltb, Bool, true, false, true≢false, cond, not, ◌||◌, List, [], ◌∷◌, ◌++◌, filter, length, map, Option, None, is_some, arith}
-use Rattle.std.specs.Prelude.{All}
-use Rattle.std.specs.List.{list_all, list_any}
-use Rattle.std.proofs.lemmas.Bool.{and_parts, ne_eqb}
-use Rattle.std.proofs.lemmas.List.{map-append}
-use Rattle.std.proofs.lemmas.List.Sorted.{length_permutation}
-use Rattle.vt_spec.specs.Lists.{any_pair}
-use Rattle.vt_spec.specs.Machine.Locked.{of_overlay}
-use Rattle.vt_spec.specs.Machine.SameWorlds.{SameFilesystems}
-use Rattle.vt_spec.specs.Machine.World.{Filesystem, Real, is_overlay}
-use Rattle.vt_spec.proofs.Lists.{map_alike}
-use Rattle.vt_laws_mounts.proofs.letting_go.Lists.{Among, all_from_among, all_pass, among-append, among-map}
-use Rattle.vt_laws_rules.proofs.same.SameLooks.{found_same}
-use Rattle.vt_world.proofs.overlays_kept.inodes.InodesInOrder.{inodes_stay}
-use Rattle.vt_world.specs.OverlaysKept.Kept.{IsShownAlike}
-use Rattle.vt_laws_worlds.specs.OverlaysStay.Woven.{are_rising, woven}
-use Rattle.vt_laws_worlds.proofs.overlays_stay.weaving.WovenLists.{woven_lists_are_failing}
-use Rattle.vt_fs.specs.FilesystemsValue.{Filesystems, filesystems_seen, shown}
-use Rattle.vt_fs.proofs.Numbers.{found_by_number}
-use Rattle.vt_location.specs.Numbers.{counted}
+use Rattle.std.proofs.Common.{◌≡◌, refl, sym, ap, subst, ◌∙◌, ⊎_elim, ℕ, nat_eq, nat_lt, ltb-true, lt-ltb, Bool, true, false, true≢false, cond, not, ◌||◌, List, [], ◌∷◌, ◌++◌, filter, length, map, Option, None, is_some, arith, All, ne_eqb}
+use Rattle.vt_spec.proofs.Common.{Filesystem, Real, SameFilesystems, and_parts, any_pair, is_overlay, length_permutation, list_all, list_any, map-append, map_alike, of_overlay}
+use Rattle.vt_mounting.proofs.Common.{Among, AreLayers, Filesystems, IsHeld, IsShownAlike, OverlayEntry, OverlayValue, StoreValue, WorldValue, all_from_among, all_pass, among-append, among-map, are_rising, counted, filesystems_seen, found_by_number, found_same, inodes_stay, overlay_of_store, overlay_seen, overlays_of_store, overlays_seen, shown, with_store, world_of, woven, woven_lists_are_failing}
 use Rattle.vt_overlay.specs.declared.merge.layers.LayerRef.{LayerRef}
-use Rattle.vt_overlay.specs.MergedTree.{AreLayers, OverlayValue}
 use Rattle.vt_store.specs.Laws.{IsSameLayer}
 use Rattle.vt_store.proofs.OverlaysAlike.{overlays_stay_with_layers}
 use Rattle.vt_store.specs.OverlaysValue as stored
-use Rattle.vt_store.specs.StoreValue.{StoreValue, overlay_filesystem}
-use Rattle.vt_world.specs.Held.{IsHeld}
-use Rattle.vt_world.specs.StoredWorld.{overlay_of_store, overlays_of_store, with_store}
-use Rattle.vt_world.specs.WorldValue.{OverlayEntry, WorldValue, overlay_seen, overlays_seen, world_of}
+use Rattle.vt_store.specs.StoreValue.{overlay_filesystem}
 use Rattle.vt_mounting.specs.Detach.Stored.{OverlaysStay, layer_of, merged_of}
 use Rattle.vt_mounting.specs.Detach.Uses.{overlays_kept}
 use Rattle.vt_mounting.proofs.detach.LayersShown.{layers_shown_well}

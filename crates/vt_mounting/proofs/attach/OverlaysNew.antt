@@ -1,25 +1,13 @@
 -- A new overlay in a store: its layers are in use, and it comes after all others.
-use Rattle.std.proofs.Common.{◌≡◌, ◌≤◌, refl, sym, ap, ◌∙◌, ℕ, ◌+◌, nat_eq, eq-eqb, nat_lt, Bool, true, false, cond, not, ◌&&◌, List, [], ◌∷◌, ◌++◌, length, map, Option, Some, None, option_map, unwrap_or, arith}
-use Rattle.std.specs.Prelude.{nat_le}
-use Rattle.std.specs.List.{list_all}
-use Rattle.std.proofs.lemmas.Bool.{and_parts, le-leb, leb-true, ltb-true, ne_eqb}
-use Rattle.vt_spec.specs.Lists.{folded}
-use Rattle.vt_spec.proofs.Lists.{map_alike}
-use Rattle.vt_fs.specs.FilesystemsValue.{Shown, shown_with}
-use Rattle.vt_spec.specs.Inodes.{pinned}
-use Rattle.vt_laws_mounts.specs.Counts.Using.{pinned_if}
-use Rattle.vt_laws_mounts.specs.LettingGo.OneByOne.{Inode}
-use Rattle.vt_laws_mounts.proofs.letting_go.Lists.{all_pass, filter_here, filter_skip, passes}
+use Rattle.std.proofs.Common.{◌≡◌, ◌≤◌, refl, sym, ap, ◌∙◌, ℕ, ◌+◌, nat_eq, eq-eqb, nat_lt, Bool, true, false, cond, not, ◌&&◌, List, [], ◌∷◌, ◌++◌, length, map, Option, Some, None, option_map, unwrap_or, arith, nat_le, le-leb, leb-true, ltb-true, ne_eqb}
+use Rattle.vt_spec.proofs.Common.{and_parts, folded, list_all, map_alike, pinned}
+use Rattle.vt_mounting.proofs.Common.{Inode, Overlays, Shown, StoreValue, all_pass, counted, counted_test, entry_kept, inode_of as inode_number_of, lowers_in, passes, pinned_if, shown_with, with_layers, without_overlay}
+use Rattle.vt_laws_mounts.proofs.letting_go.Lists.{filter_here, filter_skip}
 use Rattle.vt_location.specs.declared.locations.Location.{Location}
 use Rattle.vt_location.specs.declared.mounts.Mount.{Mount}
-use Rattle.vt_location.specs.Locations.{inode_of as inode_number_of}
-use Rattle.vt_location.specs.Numbers.{counted}
-use Rattle.vt_location.proofs.NumberLemmas.{counted_test}
 use Rattle.vt_overlay.specs.declared.merge.layers.LayerRef.{LayerRef}
 use Rattle.vt_store.specs.LayersHeld as Stored
-use Rattle.vt_store.specs.LayersHeld.{lowers_in, with_layers}
-use Rattle.vt_store.specs.OverlaysValue.{OverlayEntry, Overlays, entry_kept, without_overlay}
-use Rattle.vt_store.specs.StoreValue.{StoreValue}
+use Rattle.vt_store.specs.OverlaysValue.{OverlayEntry}
 use Rattle.vt_mounting.specs.Detach.Stored.{layer_of}
 use Rattle.vt_mounting.specs.Detach.Uses.{Merged, inode_of, merged_at, mounted_in, mounts_shown, pinned_in}
 use Rattle.vt_mounting.proofs.detach.Shown.{changed_inodes, counted_eq_back}

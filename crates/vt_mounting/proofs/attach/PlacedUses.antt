@@ -1,24 +1,10 @@
 -- Mounts that get other mount points: what they use before and after.
-use Rattle.std.proofs.Common.{◌≡◌, ◌⊎◌, refl, sym, ap, subst, ◌∙◌, inl, inr, ℕ, nat_eq, eqb-true, Bool, true, false, cond, List, [], ◌∷◌, ◌++◌, map, find, Option, Some, None, is_some, unwrap_or}
-use Rattle.std.specs.Option.{option_and_then}
-use Rattle.std.specs.Prelude.{option_to_list}
-use Rattle.std.specs.List.{list_any}
-use Rattle.std.proofs.lemmas.Bool.{or_parts}
-use Rattle.std.proofs.lemmas.List.{map-append}
-use Rattle.vt_laws_mounts.specs.Counts.Using.{Exchanges}
-use Rattle.vt_laws_mounts.proofs.counts.using.Places.{exchanges_follow, mount_is_placed}
-use Rattle.vt_laws_mounts.specs.LettingGo.Mounting.{inode_at}
-use Rattle.vt_laws_mounts.specs.LettingGo.OneByOne.{Inode}
+use Rattle.std.proofs.Common.{◌≡◌, ◌⊎◌, refl, sym, ap, subst, ◌∙◌, inl, inr, ℕ, nat_eq, eqb-true, Bool, true, false, cond, List, [], ◌∷◌, ◌++◌, map, find, Option, Some, None, is_some, unwrap_or, option_and_then, option_to_list}
+use Rattle.vt_spec.proofs.Common.{Mount, World, any_pair, list_any, map-append, mount_in, no_mount, or_parts, with_mounts}
+use Rattle.vt_mounting.proofs.Common.{Exchanges, Inode, MountEntry, changed, counted, entry_numbered, exchanges_follow, inode_at, location_of, mount_is_placed, mounts_in, one_number_by_numbers}
 use Rattle.vt_location.specs.declared.locations.Location.{Location}
-use Rattle.vt_location.specs.Locations.{location_of}
-use Rattle.vt_location.specs.Numbers.{counted}
-use Rattle.vt_mount.specs.MountsValue.{MountEntry, changed, entry_numbered, mounts_in}
 use Rattle.vt_laws_mounts.proofs.mounts.MountsNumbered.{same_number}
-use Rattle.vt_laws_mounts.proofs.mounts.MountsReplaced.{one_number_by_numbers}
-use Rattle.vt_spec.specs.Lists.{any_pair}
 use Rattle.vt_spec.specs.Machine.Mounts as meant
-use Rattle.vt_spec.specs.Machine.Mounts.{Mount, mount_in, no_mount}
-use Rattle.vt_spec.specs.Machine.World.{World, with_mounts}
 use Rattle.vt_mounting.specs.Attach.Planned.{Point, left_at, moved_to, placed_entry, points_left, points_taken, taken_at, with_points}
 use Rattle.vt_mounting.specs.Attach.PlannedUses.{PointsAreUses}
 use Rattle.vt_mounting.proofs.attach.PlannedMoves.{number_stays}

@@ -1,16 +1,12 @@
 -- Filesystems once mounts moved and others came: the uses of their inodes, and how many more mounts show them.
 use Rattle.std.proofs.Common.{◌≡◌, refl, ap, ◌∙◌, ℕ, ◌+◌, List, [], ◌∷◌, ◌++◌, map}
-use Rattle.vt_laws_mounts.specs.Counts.Using.{exchanged, pinned_if, unpinned_if}
-use Rattle.vt_fs.specs.FilesystemsValue.{Shown}
-use Rattle.vt_laws_mounts.specs.LettingGo.OneByOne.{Inode}
+use Rattle.vt_spec.proofs.Common.{folded, map_alike, map_twice}
+use Rattle.vt_mounting.proofs.Common.{Inode, Shown, counted, exchanged, pinned_if, unpinned_if}
 use Rattle.vt_location.specs.declared.locations.Location.{Location}
 use Rattle.vt_location.specs.declared.mounts.Mount.{Mount}
-use Rattle.vt_location.specs.Numbers.{counted}
-use Rattle.vt_spec.specs.Lists.{folded}
 use Rattle.vt_mounting.specs.Attach.Planned.{pinned_by, unpinned_by}
 use Rattle.vt_mounting.specs.Detach.Uses.{inode_of, shown_by}
 use Rattle.vt_mounting.proofs.attach.AddedUses.{folded_after, gained_by, showing, shown_by_all, with_mounts_on}
-use Rattle.vt_spec.proofs.Lists.{map_alike, map_twice}
 
 abbrev pub inodes_of_points : List Location → List Inode
 inodes_of_points points = map (λ (point : Location). inode_of point.node) points

@@ -1,21 +1,12 @@
 -- Mounts that get other mount points, one after the other: their room, and the uses of their mount points.
-use Rattle.std.proofs.Common.{◌≡◌, refl, ap, subst, sym, ◌∙◌, ℕ, ◌+◌, ◌-◌, ◌<◌, ◌≤◌, nat_eq, Bool, true, false, cond, ◌&&◌, List, [], ◌∷◌, length, Some, None, Option, option_map, take, drop, get_or, is_some, map, inl, arith}
-use Rattle.std.specs.Prelude.{IsErr, OnOk, Result, nat_le, option_to_list, ⊤}
-use Rattle.std.specs.List.{list_all}
-use Rattle.std.proofs.lemmas.Bool.{and_parts, le-leb, leb-true}
-use Rattle.std.proofs.lemmas.List.{flat_map_more, length-append, length-map, length-take-le, map_more, take-append-drop, take_more}
-use Rattle.std.proofs.lemmas.List.Folds.{list_all-append, list_all_more}
-use Rattle.vt_fs.specs.FilesystemsValue.{ChangesInodes, Filesystems, Shown, inodes_at, shown}
-use Rattle.vt_spec.specs.Inodes.{pinned, uses_in}
-use Rattle.vt_laws_mounts.proofs.letting_go.Lists.{Among, among-append_left, among-append_right, among-map, passes}
-use Rattle.vt_laws_mounts.specs.LettingGo.OneByOne.{Inode}
+use Rattle.std.proofs.Common.{◌≡◌, refl, ap, subst, sym, ◌∙◌, ℕ, ◌+◌, ◌-◌, ◌<◌, ◌≤◌, nat_eq, Bool, true, false, cond, ◌&&◌, List, [], ◌∷◌, length, Some, None, Option, option_map, take, drop, get_or, is_some, map, inl, arith, IsErr, OnOk, Result, nat_le, option_to_list, le-leb, leb-true, length-append, length-take-le, take-append-drop}
+use Rattle.vt_spec.proofs.Common.{and_parts, folded, length-map, list_all, list_all-append, pinned, take_more, uses_in, ⊤}
+use Rattle.std.proofs.lemmas.List.{flat_map_more, map_more}
+use Rattle.std.proofs.lemmas.List.Folds.{list_all_more}
+use Rattle.vt_mounting.proofs.Common.{Among, ChangesInodes, Filesystems, Inode, MountEntry, Shown, among-append_left, among-append_right, among-map, counted, entry_numbered, inodes_at, location_of, number_of, passes, shown}
 use Rattle.vt_location.specs.declared.locations.Location.{Location}
 use Rattle.vt_location.specs.declared.mounts.Mount.{Mount}
-use Rattle.vt_location.specs.Locations.{location_of, number_of}
-use Rattle.vt_location.specs.Numbers.{counted}
 use Rattle.vt_mount.specs.declared.moving.Moved.{Moved}
-use Rattle.vt_mount.specs.MountsValue.{MountEntry, entry_numbered}
-use Rattle.vt_spec.specs.Lists.{folded}
 use Rattle.vt_mounting.specs.Attach.Planned.{Point, left_of, pinned_by, placed_entry, points_taken, taken_at, taken_of, unpinned_by, with_points}
 use Rattle.vt_mounting.specs.Attach.Room.{has_room, most_counted, point_has_room, uses_shown}
 use Rattle.vt_mounting.specs.Detach.Uses.{inode_of, mounts_shown}

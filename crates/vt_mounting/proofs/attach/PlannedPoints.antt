@@ -1,22 +1,10 @@
 -- New mount points of mounts that are there, each once: which ones are taken, which are left, and where the mounts are
 -- then.
-use Rattle.std.proofs.Common.{◌≡◌, refl, sym, ap, subst, ◌∙◌, ⊎_elim, inl, inr, true≢false, ℕ, nat_eq, eq-eqb, eqb-true, Bool, true, false, cond, ◌||◌, List, [], ◌∷◌, ◌++◌, map, Option, Some, None, is_some}
-use Rattle.std.specs.Map.{lookup}
-use Rattle.std.specs.Option.{option_and_then}
-use Rattle.std.specs.Prelude.{option_to_list}
-use Rattle.std.specs.List.{list_any}
-use Rattle.std.proofs.lemmas.Bool.{ne_eqb, or_parts}
-use Rattle.std.proofs.lemmas.Option.{same_Some}
-use Rattle.vt_laws_mounts.proofs.letting_go.Lists.{Among, among-append, among-map, any-map, fails, map_same, passes}
+use Rattle.std.proofs.Common.{◌≡◌, refl, sym, ap, subst, ◌∙◌, ⊎_elim, inl, inr, true≢false, ℕ, nat_eq, eq-eqb, eqb-true, Bool, true, false, cond, ◌||◌, List, [], ◌∷◌, ◌++◌, map, Option, Some, None, is_some, option_and_then, option_to_list, ne_eqb}
+use Rattle.vt_spec.proofs.Common.{Mount, any_pair, is_among, list_any, lookup, or_else, or_parts, same_Some}
+use Rattle.vt_mounting.proofs.Common.{Among, MountEntry, MovesOnce, among-append, among-map, any-map, changed, counted, entry_numbered, fails, location_of, map_same, mounts_in, moved_by, passes}
 use Rattle.vt_location.specs.declared.locations.Location.{Location}
-use Rattle.vt_location.specs.Locations.{location_of}
-use Rattle.vt_location.specs.Numbers.{counted}
-use Rattle.vt_mount.specs.MountsValue.{MountEntry, changed, entry_numbered, mounts_in}
-use Rattle.vt_propagate.specs.Falling.{moved_by}
-use Rattle.vt_propagate.specs.Pushing.{MovesOnce}
-use Rattle.vt_spec.specs.Lists.{any_pair, is_among, or_else}
 use Rattle.vt_spec.specs.Machine.Mounts as meant
-use Rattle.vt_spec.specs.Machine.Mounts.{Mount}
 use Rattle.vt_mounting.specs.Attach.Planned.{Point, left_at, placed_entry, points_left, points_taken, taken_at, with_points}
 use Rattle.vt_mounting.specs.Attach.PlannedUses.{point_seen}
 

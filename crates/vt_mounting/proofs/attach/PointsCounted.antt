@@ -1,13 +1,9 @@
 -- Where mounts get other mount points, they count what they counted, and show what they showed.
-use Rattle.std.proofs.Common.{sym, subst, ℕ, nat_eq, Bool, true, false, cond, List, [], ◌∷◌, if◌then◌else◌}
-use Rattle.std.specs.Prelude.{All}
-use Rattle.vt_laws_mounts.proofs.letting_go.Lists.{all_from_among, among-from_map, among_from_all}
+use Rattle.std.proofs.Common.{sym, subst, ℕ, nat_eq, Bool, true, false, cond, List, [], ◌∷◌, if◌then◌else◌, All}
+use Rattle.vt_spec.proofs.Common.{World}
+use Rattle.vt_mounting.proofs.Common.{CountsItsUses, MountEntry, all_from_among, among-from_map, among_from_all, changed, counted}
 use Rattle.vt_location.specs.declared.locations.Location.{Location}
-use Rattle.vt_location.specs.Numbers.{counted}
-use Rattle.vt_mount.specs.MountsValue.{MountEntry, changed}
-use Rattle.vt_spec.specs.Machine.World.{World}
 use Rattle.vt_mounting.specs.Attach.Planned.{Point, placed_entry, with_points}
-use Rattle.vt_world.specs.Held.{CountsItsUses}
 
 module _ (world : World ℕ) where
   one_counts : (number : ℕ) (place : Location) (entries : List MountEntry) → All (CountsItsUses world) entries

@@ -1,23 +1,12 @@
 -- Uses of inodes and filesystems that new mounts make, and room for them.
-use Rattle.std.proofs.Common.{◌≡◌, refl, sym, ap, subst, ◌∙◌, ℕ, ◌+◌, ◌*◌, ◌-◌, ◌<◌, ◌≤◌, nat_eq, eqb-true, Bool, true, false, cond, ◌&&◌, List, [], ◌∷◌, ◌++◌, length, find, Option, Some, None, option_map, unwrap_or, take, get_or, arith}
-use Rattle.std.specs.Prelude.{Err, IsErr, Ok, OnOk, Result, nat_le, ⊤}
-use Rattle.std.specs.List.{list_all}
-use Rattle.std.proofs.lemmas.Bool.{and_parts, le-leb, leb-true}
-use Rattle.std.proofs.lemmas.List.{length-take-le}
-use Rattle.vt_spec.specs.Lists.{folded}
-use Rattle.vt_spec.specs.Inodes.{Inode as Counted, Inodes, pinned, used_once_more, uses_in}
-use Rattle.vt_laws_mounts.specs.Counts.Using.{pinned_if}
-use Rattle.vt_fs.specs.FilesystemsValue.{Filesystems, Shown, entry_of, inodes_at, inodes_seen, no_entry, shown, shown_entry, with_changed}
-use Rattle.vt_laws_mounts.specs.LettingGo.OneByOne.{Inode}
-use Rattle.vt_laws_mounts.proofs.letting_go.Lists.{passes}
+use Rattle.std.proofs.Common.{◌≡◌, refl, sym, ap, subst, ◌∙◌, ℕ, ◌+◌, ◌*◌, ◌-◌, ◌<◌, ◌≤◌, nat_eq, eqb-true, Bool, true, false, cond, ◌&&◌, List, [], ◌∷◌, ◌++◌, length, find, Option, Some, None, option_map, unwrap_or, take, get_or, arith, Err, IsErr, Ok, OnOk, Result, nat_le, le-leb, leb-true, length-take-le}
+use Rattle.vt_spec.proofs.Common.{Inode as Counted, Inodes, and_parts, folded, list_all, pinned, used_once_more, uses_in, ⊤}
+use Rattle.vt_mounting.proofs.Common.{Filesystems, Inode, Shown, counted, counted_test, entry_of, inodes_at, inodes_seen, no_entry, number_of, passes, pinned_if, shown, shown_entry, with_changed}
 use Rattle.vt_location.specs.declared.locations.Location.{Location}
 use Rattle.vt_location.specs.declared.mounts.Mount.{Mount}
-use Rattle.vt_location.specs.Locations.{number_of}
-use Rattle.vt_location.specs.Numbers.{counted}
 use Rattle.vt_mounting.specs.Attach.Room.{has_room, most_counted, point_has_room, uses_shown}
 use Rattle.vt_mounting.specs.Detach.Uses.{inode_of, mounted_if, mounted_in, mounts_shown, pinned_at, pinned_in, shown_by}
 use Rattle.vt_mounting.proofs.attach.EnteringLemmas.{among_at}
-use Rattle.vt_location.proofs.NumberLemmas.{counted_test}
 
 -- the uses of an inode, as code counts them
 pub uses_are_shown : (count number : ℕ) (filesystems : Filesystems)

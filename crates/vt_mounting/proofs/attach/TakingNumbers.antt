@@ -1,26 +1,11 @@
 -- The end of an event that takes numbers: mount(2), unshare(2). What is counted next grows by as many counts as it
 -- takes.
 use Rattle.std.proofs.Common.{◌≡◌, ℕ, ◌+◌, ◌%◌, nat_eq, length, ◌*◌, Some}
-use Rattle.vt_spec.specs.Language.Calls.{TaskName}
-use Rattle.vt_spec.specs.Machine.Permits.{Permit}
-use Rattle.vt_spec.specs.Machine.Permits.Permit.{ToUnshare}
-use Rattle.vt_spec.specs.Machine.World.{Task, mounts_of, task_called}
-use Rattle.vt_spec.specs.Machine.Invariants.{IsWorld}
-use Rattle.vt_laws_mounts.specs.Counts.BesideOverlays.{OverlaysHaveNoUpper}
-use Rattle.vt_fs.specs.FilesystemsValue.{FilesystemEntry, inodes_seen}
-use Rattle.vt_laws_rules.specs.Numbers.{KeepsTo}
-use Rattle.vt_laws_mounts.proofs.letting_go.Lists.{Among, all_from_among}
-use Rattle.vt_laws_worlds.specs.Permits.Left.{IsGiven}
+use Rattle.vt_spec.proofs.Common.{IsWorld, Permit, Task, TaskName, ToUnshare, mounts_of, task_called}
+use Rattle.vt_mounting.proofs.Common.{Among, CountsItsMounts, FilesystemEntry, HasOwnInodes, IsGiven, IsHeld, KeepsTo, OverlaysHaveNoUpper, WorldValue, all_from_among, any_same_worlds_are_worlds, any_same_worlds_keep_to_numbers, given_permits_give_no_upper, inodes_seen, is_counted_before, overlays_seen, same_worlds_have_layers_alike, world_of}
 use Rattle.vt_laws_worlds.specs.Permits.Taken.{handed_to}
-use Rattle.vt_laws_worlds.proofs.one_text.same.SameNumbers.{any_same_worlds_keep_to_numbers}
-use Rattle.vt_laws_worlds.proofs.one_text.same.SameWhole.{any_same_worlds_are_worlds}
-use Rattle.vt_laws_worlds.proofs.overlays_stay.left.Given.{given_permits_give_no_upper}
-use Rattle.vt_laws_trees.specs.Runs.Handed.{is_counted_before}
-use Rattle.vt_laws_worlds.proofs.overlays_read.Swept.{same_worlds_have_layers_alike}
 use Rattle.vt_mounting.proofs.detach.Writers.{left_writers}
 use Rattle.vt_mounting.specs.Detach.Events.{left_by, supply_of}
-use Rattle.vt_world.specs.Held.{CountsItsMounts, HasOwnInodes, IsHeld}
-use Rattle.vt_world.specs.WorldValue.{WorldValue, overlays_seen, world_of}
 use Rattle.vt_mounting.proofs.attach.NumbersByParts.{unshares_keep_to_numbers}
 use Rattle.vt_mounting.proofs.detach.Finishing.{CountsBeside}
 use Rattle.vt_mounting.proofs.detach.Overlaid.{overlays_hold_still, same_files_rise}

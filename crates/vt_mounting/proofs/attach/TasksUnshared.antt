@@ -1,28 +1,14 @@
 -- A task gets a namespace of its own, as code does it: unshare(2) with CLONE_NEWNS.
 use Rattle.std.proofs.Common.{◌≡◌, ap, subst, ◌∙◌, ℕ, ◌+◌, ◌*◌, nat_lt, true, List, [], ◌∷◌, ◌++◌, length, map, Some}
-use Rattle.std.specs.List.{list_all}
-use Rattle.std.proofs.lemmas.Option.{same_Some}
-use Rattle.vt_spec.specs.Language.Calls.{TaskName}
-use Rattle.vt_spec.specs.Machine.Permits.Permit.{ToUnshare}
-use Rattle.vt_spec.specs.Machine.World.{Task}
-use Rattle.vt_fs.specs.FilesystemsValue.{Filesystems}
-use Rattle.vt_group.specs.Grouping.{Grouping}
+use Rattle.vt_spec.proofs.Common.{Task, TaskName, ToUnshare, list_all, same_Some}
+use Rattle.vt_mounting.proofs.Common.{Filesystems, Grouping, IsHeld, MountEntry, NamespaceEntry, WorldValue, attached_in, called, changed_by, changed_called, counted, counts_from, location_of, mount_of, mounts_in, replaced}
 use Rattle.vt_location.specs.declared.locations.Location.{Location}
-use Rattle.vt_location.specs.Locations.{location_of}
-use Rattle.vt_location.specs.MountValue.{mount_of}
-use Rattle.vt_location.specs.Numbers.{counted}
-use Rattle.vt_mount.specs.MountsValue.{MountEntry, mounts_in}
-use Rattle.vt_laws_trees.specs.Runs.Handed.{counts_from}
 use Rattle.vt_tasks.specs.declared.task.Task.{Task as Own}
 use Rattle.vt_tasks.specs.TaskValue.{task_of}
-use Rattle.vt_tasks.specs.TasksValue.{called, changed_by, changed_called, replaced}
-use Rattle.vt_mount.specs.Attached.{attached_in}
 use Rattle.vt_mounting.specs.Attach.Copying.{CopiesAttached, copies_of, moved_in, with_use_moved}
 use Rattle.vt_mounting.specs.Detach.Events.{Permits}
-use Rattle.vt_world.specs.Held.{IsHeld}
 use Rattle.vt_mounting.specs.Detach.NamespacesLeft.{MountsAreLeft, namespace_entry, with_one_task_less}
 use Rattle.vt_mounting.specs.Detach.Uses.{Merged, kept_of, kept_with, overlays_kept}
-use Rattle.vt_world.specs.WorldValue.{NamespaceEntry, WorldValue}
 use Rattle.vt_mounting.proofs.detach.Staying.{IsDone}
 use Rattle.vt_mounting.proofs.attach.UnsharedDone as Done
 use Rattle.vt_mounting.proofs.attach.UnsharedInodes.{copies_gain, copies_there}

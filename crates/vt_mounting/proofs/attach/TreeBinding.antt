@@ -1,31 +1,18 @@
 -- The mounts of a tree that a bind copies: what code makes of them is the policy's tree.
-use Rattle.std.proofs.Common.{◌≡◌, refl, sym, ap, subst, ◌∙◌, ⊎_elim, inl, inr, ℕ, nat_eq, eq-eqb, Bool, true, false, true≢false, cond, length, List, [], ◌∷◌, map, find, Some, option_map}
-use Rattle.std.specs.Prelude.{filter, flat_map}
-use Rattle.std.specs.List.{cons_option}
-use Rattle.std.proofs.lemmas.Bool.{and_parts}
-use Rattle.vt_laws_mounts.proofs.letting_go.Lists.{Among}
-use Rattle.vt_laws_mounts.proofs.letting_go.leaving.PlacesLeft.{number_found}
+use Rattle.std.proofs.Common.{◌≡◌, refl, sym, ap, subst, ◌∙◌, ⊎_elim, inl, inr, ℕ, nat_eq, eq-eqb, Bool, true, false, true≢false, cond, length, List, [], ◌∷◌, map, find, Some, option_map, filter, flat_map}
+use Rattle.vt_spec.proofs.Common.{Mount, World, and_parts, bind_tree, bindable_children, bindable_tree, bound, cons_option, is_located_well, mount_at, no_mount, stands_under}
+use Rattle.vt_mounting.proofs.Common.{Among, IsHeld, OneNumberAMount, WorldValue, are_ascending, counted, is_small_node, location_of, mounts_in, number_found, number_of, world_of}
 use Rattle.vt_location.specs.declared.locations.Location.{Location as Place}
 use Rattle.vt_location.specs.declared.numbers.MountId.{MountId}
-use Rattle.vt_location.specs.Locations.{is_small_node, location_of, number_of}
-use Rattle.vt_location.specs.Numbers.{counted}
-use Rattle.vt_mount.specs.MountsValue.{are_ascending, mounts_in}
 use Rattle.vt_laws_mounts.proofs.attached.BindsStand.{bind_there_or_source}
 use Rattle.vt_laws_mounts.proofs.mounts.Standing.{binds_take_each_once}
-use Rattle.vt_spec.specs.Machine.Attach.{bind_tree, bindable_children, bindable_tree, bound, stands_under}
-use Rattle.vt_spec.specs.Machine.Mounts.{Mount, no_mount}
-use Rattle.vt_spec.specs.Machine.World.{World, mount_at}
-use Rattle.vt_spec.specs.Machine.Invariants.{is_located_well}
 use Rattle.vt_mounting.specs.Attach.BoundMounts.{bound_mounts, rooted_at}
 use Rattle.vt_mount.specs.Attached.{AreOf}
-use Rattle.vt_world.specs.Held.{IsHeld}
-use Rattle.vt_world.specs.WorldValue.{WorldValue, world_of}
 use Rattle.vt_mounting.proofs.detach.LocationsSeen.{seen_where_located}
 use Rattle.vt_mounting.proofs.attach.Binding.{found_some}
 use Rattle.vt_mounting.proofs.attach.CopiesAscend.{differs}
 use Rattle.vt_mount.proofs.AttachedLemmas.{ascending_found, picked}
 use Rattle.vt_laws_worlds.proofs.worlds.FitPermits.{some_of}
-use Rattle.vt_laws_mounts.specs.Mounts.Attaching.{OneNumberAMount}
 
 module _ (value : WorldValue) (whole : IsHeld value) (source : Place) (recursive : Bool)
     (small : is_small_node source.node ≡ true)

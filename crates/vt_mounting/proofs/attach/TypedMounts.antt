@@ -1,21 +1,12 @@
 -- Mounts that get types one after the other, and mounts that are put in the places of those with their numbers.
-use Rattle.std.proofs.Common.{◌≡◌, refl, sym, ap, ◌∙◌, ⊎_elim, inl, inr, true≢false, ℕ, nat_eq, eqb-true, eq-eqb, Bool, true, false, cond, List, [], ◌∷◌, ◌++◌, map, find, Some, None, is_some, unwrap_or}
-use Rattle.std.specs.List.{list_any}
-use Rattle.std.specs.Map.{lookup}
-use Rattle.std.proofs.lemmas.Bool.{ne_eqb, or_parts}
-use Rattle.std.proofs.lemmas.List.{map-append}
-use Rattle.std.proofs.lemmas.Option.{same_Some}
+use Rattle.std.proofs.Common.{◌≡◌, refl, sym, ap, ◌∙◌, ⊎_elim, inl, inr, true≢false, ℕ, nat_eq, eqb-true, eq-eqb, Bool, true, false, cond, List, [], ◌∷◌, ◌++◌, map, find, Some, None, is_some, unwrap_or, ne_eqb}
+use Rattle.vt_spec.proofs.Common.{Mount, Propagation, any_pair, folded, list_any, lookup, map-append, map_alike, map_twice, nat_eq-swapped, no_mount, or_parts, replaced_if_same, same_Some, with_mount}
 use Rattle.vt_group.specs.Grouping.{retyped_if}
-use Rattle.vt_laws_mounts.proofs.letting_go.Lists.{Among, among-append_right, among-map, fails, map_same}
-use Rattle.vt_mount.specs.MountsValue.{MountEntry, changed, mounts_in}
-use Rattle.vt_laws_mounts.proofs.mounts.MountsReplaced.{found_itself, one_number_by_numbers}
-use Rattle.vt_retype.specs.Retyping.{with_kind, with_type_in}
-use Rattle.vt_spec.specs.Lists.{any_pair, folded}
-use Rattle.vt_spec.specs.Machine.Mounts.{Mount, Propagation, no_mount, replaced_if_same, with_mount}
+use Rattle.vt_mounting.proofs.Common.{Among, MountEntry, among-append_right, among-map, changed, fails, map_same, mounts_in, one_number_by_numbers, with_kind}
+use Rattle.vt_laws_mounts.proofs.mounts.MountsReplaced.{found_itself}
+use Rattle.vt_retype.specs.Retyping.{with_type_in}
 use Rattle.vt_mounting.specs.Attach.AttachedGroups.{type_of}
 use Rattle.vt_mounting.specs.Attach.Moved.{typed_all}
-use Rattle.vt_spec.proofs.Lists.{map_alike, map_twice}
-use Rattle.vt_spec.proofs.Truths.{nat_eq-swapped}
 use Rattle.vt_mounting.proofs.detach.LostUses.{folded_append}
 
 abbrev pub Kind : Type 0

@@ -1,24 +1,14 @@
 -- Mounts that get types where they are, while others come after all: how the groups of the world grow.
-use Rattle.std.proofs.Common.{◌≡◌, refl, sym, ap, subst, ◌∙◌, ⊎_elim, inl, inr, true≢false, ℕ, nat_eq, eqb-true, eq-eqb, Bool, true, false, ◌||◌, ◌⊎◌, List, [], ◌∷◌, ◌++◌, map, Option, Some, None, is_some, option_map, unwrap_or}
-use Rattle.std.specs.Prelude.{All}
-use Rattle.std.specs.List.{cons_option}
-use Rattle.std.specs.Map.{lookup}
-use Rattle.std.proofs.lemmas.List.{map-append}
-use Rattle.vt_group.specs.Grouping.{HasGroup, LacksGroup, are_rising, peers_of, retyped_if}
-use Rattle.vt_group.specs.Together.{Grows, with_type_of}
+use Rattle.std.proofs.Common.{◌≡◌, refl, sym, ap, subst, ◌∙◌, ⊎_elim, inl, inr, true≢false, ℕ, nat_eq, eqb-true, eq-eqb, Bool, true, false, ◌||◌, ◌⊎◌, List, [], ◌∷◌, ◌++◌, map, Option, Some, None, is_some, option_map, unwrap_or, All}
+use Rattle.vt_spec.proofs.Common.{Mount, Private, Propagation, Shared, Slave, Unbindable, World, cons_option, folded, group_of, has_members, holds_of, is_among, is_member_of, is_shared, lookup, map-append, masters_with, source_of}
+use Rattle.vt_mounting.proofs.Common.{Among, Grows, HasGroup, all_from_among, among-append, among-append_left, among-append_right, among-from_map, among-map, among_from_all, any_passes, numbers_of, peers_of}
+use Rattle.vt_group.specs.Grouping.{LacksGroup, are_rising, retyped_if}
+use Rattle.vt_group.specs.Together.{with_type_of}
 use Rattle.vt_group.proofs.Peers.{numbers-retyped, peers-set}
-use Rattle.vt_laws_mounts.proofs.letting_go.Lists.{Among, all_from_among, among-append, among-append_left, among-append_right, among-from_map, among-map, among_from_all, any_passes}
-use Rattle.vt_spec.specs.Lists.{folded, holds_of, is_among}
-use Rattle.vt_spec.specs.Machine.Attach.{masters_with}
-use Rattle.vt_spec.specs.Machine.Mounts.{Mount, Propagation, group_of, is_shared, source_of}
-use Rattle.vt_spec.specs.Machine.Mounts.Propagation.{Private, Shared, Slave, Unbindable}
-use Rattle.vt_spec.specs.Machine.Receives.{has_members, is_member_of}
-use Rattle.vt_spec.specs.Machine.World.{World}
 use Rattle.vt_spec.proofs.Lists as spec
 use Rattle.vt_mounting.specs.Attach.AttachedGroups.{type_of}
 use Rattle.vt_mounting.proofs.attach.GrownGroups.{all_entered}
 use Rattle.vt_mounting.proofs.attach.TypedMounts.{KindsOnce, all_typed, looked_up_kind, lookup_kind, retyped_one, typed_at}
-use Rattle.vt_laws_mounts.specs.Mounts.Attaching.{numbers_of}
 use Rattle.vt_mounting.proofs.detach.LostUses.{folded_append}
 
 -- The mounts keep their numbers, and some become shared or were so. Others come after them with greater numbers. A group

@@ -1,45 +1,17 @@
 -- The end of an unshare, where the inodes that the copies use are found: unshare(2) with CLONE_NEWNS.
-use Rattle.std.proofs.Common.{◌≡◌, refl, sym, ap, subst, ◌∙◌, ℕ, ◌+◌, ◌*◌, nat_eq, ◌&&◌, Bool, true, false, List, [], ◌∷◌, ◌++◌, filter, length, map, Option, Some}
-use Rattle.std.specs.Prelude.{All, nat_lt}
-use Rattle.std.specs.List.{list_all}
-use Rattle.vt_spec.specs.Lists.{holds_of}
-use Rattle.vt_spec.specs.Language.Calls.{TaskName}
-use Rattle.vt_spec.specs.Machine.Mounts.{Location, Mount}
-use Rattle.vt_spec.specs.Machine.Namespaces.{copied_mount}
-use Rattle.vt_spec.specs.Machine.Permits.Permit.{ToUnshare}
-use Rattle.vt_spec.specs.Machine.SameWorlds.{SameWorlds}
-use Rattle.vt_spec.specs.Machine.Settled.{settled}
-use Rattle.vt_spec.specs.Machine.World.{Namespace, Task, World, mount_at, mounts_of}
-use Rattle.vt_spec.specs.Machine.Invariants.{IsWorld, MountInvariants}
-use Rattle.vt_laws_mounts.specs.Counts.Using.{AreThere, places_of}
-use Rattle.vt_fs.specs.FilesystemsValue.{FilesystemEntry, Filesystems, inodes_seen, shown}
-use Rattle.vt_group.specs.Grouping.{Grouping, Has, are_rising}
-use Rattle.vt_group.specs.Together.{GrowsTo, typed}
-use Rattle.vt_laws_rules.specs.Numbers.{KeepsTo}
-use Rattle.vt_laws_mounts.specs.LettingGo.Counts.{times}
-use Rattle.vt_laws_mounts.specs.LettingGo.Mounting.{inode_at}
-use Rattle.vt_laws_mounts.specs.LettingGo.OneByOne.{Inode}
-use Rattle.vt_laws_mounts.proofs.letting_go.Lists.{Among}
+use Rattle.std.proofs.Common.{◌≡◌, refl, sym, ap, subst, ◌∙◌, ℕ, ◌+◌, ◌*◌, nat_eq, ◌&&◌, Bool, true, false, List, [], ◌∷◌, ◌++◌, filter, length, map, Option, Some, All, nat_lt}
+use Rattle.vt_spec.proofs.Common.{IsWorld, Location, Mount, MountInvariants, Namespace, SameWorlds, Task, TaskName, ToUnshare, World, copied_mount, holds_of, list_all, mount_at, mounts_of, settled}
+use Rattle.vt_mounting.proofs.Common.{Among, AreThere, CountsWhatIsInIt, FilesystemEntry, Filesystems, Grouping, GrowsTo, Has, Inode, IsHeld, KeepsTo, MountEntry, NamespaceEntry, Tasks, WorldValue, WritersHaveLayers, any_same_worlds_keep_to_numbers, are_ascending, ascending_filter, attached_in, counted, counts_from, inode_at, inodes_seen, is_counted_before, mount_of, mounts_in, namespace_of, numbers_of, places_of, shown, times, typed, world_of}
+use Rattle.vt_group.specs.Grouping.{are_rising}
 use Rattle.vt_location.specs.declared.mounts.Mount.{Mount as Attached}
-use Rattle.vt_location.specs.MountValue.{mount_of}
-use Rattle.vt_location.specs.Numbers.{counted}
-use Rattle.vt_mount.specs.MountsValue.{MountEntry, are_ascending, mounts_in}
-use Rattle.vt_laws_worlds.proofs.one_text.same.SameNumbers.{any_same_worlds_keep_to_numbers}
-use Rattle.vt_laws_trees.specs.Runs.Handed.{counts_from, is_counted_before}
-use Rattle.vt_tasks.specs.TasksValue.{Tasks}
-use Rattle.vt_mount.specs.Attached.{attached_in}
 use Rattle.vt_mounting.specs.Attach.Copying.{copies_of}
-use Rattle.vt_laws_worlds.specs.OverlaysRead.Writers.{WritersHaveLayers}
 use Rattle.vt_mounting.proofs.detach.Writers.{left_writers}
 use Rattle.vt_mounting.specs.Detach.Events.{Permits, left_by}
-use Rattle.vt_world.specs.Held.{CountsWhatIsInIt, IsHeld}
 use Rattle.vt_mounting.specs.Detach.NamespacesLeft.{MountsAreLeft, namespace_entry, numbers_inside, with_one_task_less}
 use Rattle.vt_mounting.specs.Detach.Uses.{with_attached, Merged, kept_of, kept_with, merged_seen, overlays_kept}
-use Rattle.vt_world.specs.WorldValue.{NamespaceEntry, WorldValue, namespace_of, world_of}
 use Rattle.vt_mounting.proofs.attach.AddedBegins as Begins
 use Rattle.vt_mounting.proofs.attach.AddedBegins.{IsAdded, KeepsAdded, with_added}
 use Rattle.vt_mounting.proofs.attach.GrownGroups.{ascending_rises}
-use Rattle.vt_mount.proofs.AttachedLemmas.{ascending_filter}
 use Rattle.vt_mounting.proofs.attach.UnsharingLemmas.{copies_ascend}
 use Rattle.vt_mounting.proofs.attach.AddedUses.{gained_by, shown_by_all}
 use Rattle.vt_mounting.proofs.detach.Bridging.{IsSwept, swept_is_same}
@@ -59,7 +31,6 @@ use Rattle.vt_mounting.proofs.attach.OverlaysMore.{merged_by_all}
 use Rattle.vt_mounting.proofs.attach.UnsharedGroups as Groups
 use Rattle.vt_mounting.proofs.attach.UnsharedTasks as Tasks
 use Rattle.vt_mounting.proofs.attach.UnsharedWorlds as Worlds
-use Rattle.vt_laws_mounts.specs.Mounts.Attaching.{numbers_of}
 
 module _ (value : WorldValue) (whole : IsHeld value) (name : TaskName) (permits : Permits value name ToUnshare)
     (count : ℕ) (in_namespace : counted count ≡ permits.task.namespace)

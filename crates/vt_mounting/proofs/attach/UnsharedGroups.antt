@@ -1,29 +1,13 @@
 -- The groups of an unshare before the old namespace is left: each copy is in those of the mount that it copies.
 use Rattle.std.proofs.Common.{◌≡◌, refl, sym, ap, subst, ◌∙◌, inl, ℕ, nat_eq, true, List, [], ◌++◌, map, Option, Some, is_some}
-use Rattle.vt_spec.specs.Language.Calls.{TaskName}
-use Rattle.vt_spec.specs.Lists.{holds_of}
-use Rattle.vt_spec.specs.Machine.Mounts.{Mount, group_of}
-use Rattle.vt_spec.specs.Machine.Receives.{has_members, is_member_of}
-use Rattle.vt_spec.specs.Machine.Run.{Serves}
-use Rattle.vt_spec.specs.Machine.World.{Task, World, task_called}
-use Rattle.vt_group.specs.Grouping.{Grouping, Has, HasGroup, are_rising}
-use Rattle.vt_group.specs.Laws.{typed_by}
-use Rattle.vt_group.specs.Together.{Grows, GrowsTo, typed}
-use Rattle.vt_laws_mounts.proofs.letting_go.Lists.{Among, all_from_among, among-map, any_passes, map_same, one_passes}
+use Rattle.vt_spec.proofs.Common.{Mount, Serves, Task, TaskName, World, group_of, has_members, holds_of, is_member_of, map_twice, task_called}
+use Rattle.vt_mounting.proofs.Common.{Among, AreTyped, Grouping, Grows, GrowsTo, Has, HasGroup, IsHeld, MountEntry, WorldValue, all_from_among, among-map, any_passes, counted, counts_from, map_same, mount_of, mounts_in, numbers_of, one_passes, typed, typed_by, world_of}
+use Rattle.vt_group.specs.Grouping.{are_rising}
 use Rattle.vt_location.specs.declared.mounts.Mount.{Mount as Attached}
-use Rattle.vt_location.specs.MountValue.{mount_of}
-use Rattle.vt_location.specs.Numbers.{counted}
-use Rattle.vt_mount.specs.MountsValue.{MountEntry, mounts_in}
-use Rattle.vt_laws_trees.specs.Runs.Handed.{counts_from}
 use Rattle.vt_mounting.specs.Attach.AttachedGroups.{type_of}
-use Rattle.vt_world.specs.Held.{IsHeld}
-use Rattle.vt_retype.specs.Retyping.{AreTyped}
-use Rattle.vt_world.specs.WorldValue.{WorldValue, world_of}
 use Rattle.vt_mounting.proofs.detach.FollowedTypes.{world_typed}
 use Rattle.vt_mounting.proofs.attach.GrownGroups.{attached_worlds_grow}
 use Rattle.vt_mounting.proofs.attach.UnsharedWorlds as Worlds
-use Rattle.vt_spec.proofs.Lists.{map_twice}
-use Rattle.vt_laws_mounts.specs.Mounts.Attaching.{numbers_of}
 
 module _ (value : WorldValue) (whole : IsHeld value) (name : TaskName) (task : Task ℕ)
     (found : task_called (world_of value) name ≡ Some task)

@@ -1,36 +1,15 @@
 -- The inodes that the copies of an unshare use are there, and are found through the copies as through the originals.
 use Rattle.std.proofs.Common.{◌≡◌, refl, sym, ap, subst, ◌∙◌, inl, inr, ℕ, nat_eq, eqb-true, Bool, true, false, not, ◌&&◌, ◌||◌, List, [], ◌∷◌, ◌++◌, map, Option, Some, None, option_map, is_some}
-use Rattle.std.specs.List.{list_all}
-use Rattle.std.proofs.lemmas.Bool.{and_parts}
-use Rattle.std.proofs.lemmas.Option.{same_Some}
-use Rattle.vt_spec.specs.Language.Calls.{TaskName}
-use Rattle.vt_spec.specs.Lists.{Fresh, holds_of}
+use Rattle.vt_spec.proofs.Common.{Filesystem, Fresh, Serves, Task, TaskName, World, and_parts, copied_mount, filesystem_numbered, has_its_root, holds_of, is_located_well, is_there, list_all, location_on_copy, mount_at, mount_numbered, node_in, same_Some, task_called}
 use Rattle.vt_spec.specs.Machine.Mounts as meant
-use Rattle.vt_spec.specs.Machine.Namespaces.{copied_mount, location_on_copy}
-use Rattle.vt_spec.specs.Machine.Run.{Serves}
-use Rattle.vt_spec.specs.Machine.World.{Filesystem, Task, World, filesystem_numbered, mount_at, mount_numbered, task_called}
-use Rattle.vt_spec.specs.Machine.Invariants.{has_its_root, is_located_well, is_there}
-use Rattle.vt_spec.specs.Inodes.{node_in}
 use Rattle.vt_spec.specs.Inodes as Trees
-use Rattle.vt_laws_mounts.specs.Counts.Using.{AreThere, places_of}
-use Rattle.vt_fs.specs.FilesystemsValue.{FilesystemEntry, inodes_seen}
-use Rattle.vt_laws_mounts.specs.LettingGo.Counts.{times}
-use Rattle.vt_laws_mounts.specs.LettingGo.Mounting.{inode_at}
-use Rattle.vt_laws_mounts.specs.LettingGo.OneByOne.{Inode}
-use Rattle.vt_laws_mounts.proofs.letting_go.Lists.{Among, among-append_right, among-filter, among-from_filter, among-from_map, among-map, passes}
-use Rattle.vt_laws_mounts.proofs.letting_go.leaving.PlacesLeft.{found_itself}
+use Rattle.vt_mounting.proofs.Common.{Among, AreThere, FilesystemEntry, Inode, IsHeld, WorldValue, among-append_right, among-filter, among-from_filter, among-from_map, among-map, counted, directory_there, found_itself, inode_at, inodes_seen, is_small_node, location_of, mount_of, number_of, passes, places_of, times, world_of}
 use Rattle.vt_location.specs.declared.locations.Location.{Location}
 use Rattle.vt_location.specs.declared.locations.NodeRef.{NodeRef}
 use Rattle.vt_location.specs.declared.mounts.Mount.{Mount}
-use Rattle.vt_location.specs.Locations.{is_small_node, location_of, number_of}
-use Rattle.vt_location.specs.MountValue.{mount_of}
-use Rattle.vt_location.specs.Numbers.{counted}
 use Rattle.vt_laws_mounts.proofs.namespaces.Unsharing.{parent_of}
-use Rattle.vt_laws_worlds.proofs.worlds.Roots.{directory_there}
 use Rattle.vt_mounting.proofs.detach.Detached.{inodes_of_point}
-use Rattle.vt_world.specs.Held.{IsHeld}
 use Rattle.vt_mounting.specs.Attach.Room.{has_small_nodes, point_is_small}
-use Rattle.vt_world.specs.WorldValue.{WorldValue, world_of}
 use Rattle.vt_mounting.proofs.attach.AddedBegins.{nothing_moves, with_added}
 use Rattle.vt_mounting.proofs.attach.AddedUses.{IsFoundIn, gained_by, gained_uses}
 use Rattle.vt_mounting.proofs.detach.MidwayBegins.{point_is_located}

@@ -1,28 +1,12 @@
 -- A task gets copies of its namespace's mounts: where its root and its working directory are then, and what the copies
 -- stand on.
 use Rattle.std.proofs.Common.{◌≡◌, refl, sym, ap, subst, ◌∙◌, ◌⊎◌, ⊎_elim, inl, inr, ℕ, nat_eq, eqb-true, Bool, true, false, true≢false, cond, ◌&&◌, List, [], ◌∷◌, ◌++◌, map, flat_map, Option, Some, None, option_map, is_some, arith}
-use Rattle.std.proofs.lemmas.Bool.{and_parts}
-use Rattle.std.proofs.lemmas.List.{map-append}
-use Rattle.std.proofs.lemmas.Option.{same_Some}
+use Rattle.vt_spec.proofs.Common.{Fresh, Location, Mount, Namespace, Serves, Task, TaskName, World, all_locations, and_parts, copied_mount, evens, holds_of, is_among, is_copied, is_listed, is_located_well, location_on_copy, locations_of, map-append, mount_at, mount_in, mount_numbered, mounts_of, moved_location, numbers_by, numbers_in_use, odds, same_Some, task_called, unshared_task, used_by_filesystem, used_by_mount}
 use Rattle.vt_spec.proofs.Lists as spec
-use Rattle.vt_spec.specs.Language.Calls.{TaskName}
-use Rattle.vt_spec.specs.Lists.{Fresh, evens, holds_of, is_among, odds}
-use Rattle.vt_spec.specs.Machine.Mounts.{Location, Mount, mount_in, numbers_by}
-use Rattle.vt_spec.specs.Machine.Namespaces.{copied_mount, is_copied, location_on_copy, moved_location, unshared_task}
-use Rattle.vt_spec.specs.Machine.Run.{Serves, numbers_in_use, used_by_filesystem, used_by_mount}
-use Rattle.vt_spec.specs.Machine.World.{Namespace, Task, World, all_locations, locations_of, mount_at, mount_numbered, mounts_of, task_called}
-use Rattle.vt_spec.specs.Machine.Invariants.{is_listed, is_located_well}
-use Rattle.vt_laws_mounts.specs.LettingGo.Mounting.{inode_at}
-use Rattle.vt_laws_mounts.proofs.letting_go.Lists.{Among, among-append_left, among-append_right, among-filter, among-from_filter, among-from_map, among-map, among_numbers, is_among_left, is_among_numbers, one_passes, passes}
-use Rattle.vt_laws_mounts.proofs.letting_go.leaving.PlacesLeft.{found_itself}
+use Rattle.vt_mounting.proofs.Common.{Among, IsHeld, OneNumberAMount, Tasks, WorldValue, among-append_left, among-append_right, among-filter, among-from_filter, among-from_map, among-map, among_numbers, found_itself, inode_at, is_among_left, is_among_numbers, locations_in, one_passes, passes, replaced, world_of, writes_of_task}
 use Rattle.vt_laws_mounts.proofs.mounts.MountsNumbered.{unshare_keeps_numbers}
 use Rattle.vt_laws_mounts.proofs.namespaces.Unsharing.{parent_of}
-use Rattle.vt_tasks.specs.Counts.{locations_in}
-use Rattle.vt_tasks.specs.TasksValue.{Tasks, replaced}
 use Rattle.vt_laws_worlds.proofs.worlds.Roots.{found_copy}
-use Rattle.vt_laws_mounts.specs.Mounts.Attaching.{OneNumberAMount}
-use Rattle.vt_world.specs.Held.{IsHeld, writes_of_task}
-use Rattle.vt_world.specs.WorldValue.{WorldValue, world_of}
 use Rattle.vt_mounting.proofs.attach.AddedBegins.{IsAdded, with_added}
 use Rattle.vt_mounting.proofs.detach.Splits.{IsSplit, locations_around, replaced_split, writes_replaced}
 

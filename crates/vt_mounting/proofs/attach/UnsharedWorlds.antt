@@ -1,29 +1,10 @@
 -- The world of an unshare: the namespaces count their tasks, and the old one ends with its last.
-use Rattle.std.proofs.Common.{◌≡◌, refl, sym, ap, subst, ◌∙◌, ⊎_elim, inl, inr, ℕ, nat_eq, eqb-true, eq-eqb, Bool, true, false, true≢false, ◌&&◌, ◌||◌, List, [], ◌∷◌, ◌++◌, map, filter, flat_map, Option, Some, None, arith}
-use Rattle.std.specs.Prelude.{option_to_list}
-use Rattle.std.specs.List.{list_all}
-use Rattle.std.proofs.lemmas.Bool.{and_parts}
-use Rattle.std.proofs.lemmas.List.{map-append}
-use Rattle.vt_spec.specs.Language.Calls.{TaskName}
-use Rattle.vt_spec.specs.Lists.{holds_of, is_among}
-use Rattle.vt_spec.specs.Machine.Detach.{taken_away}
-use Rattle.vt_spec.specs.Machine.Mounts.{Location, Mount}
-use Rattle.vt_spec.specs.Machine.Namespaces.{has_tasks, is_in_ended, namespaces_ended, unshared}
-use Rattle.vt_spec.specs.Machine.Receives.{regrouped}
-use Rattle.vt_spec.specs.Machine.Run.{Serves, numbers_in_use, used_by_filesystem, used_by_mount}
-use Rattle.vt_spec.specs.Machine.World.{Namespace, Task, World, mount_at, task_called}
-use Rattle.vt_spec.specs.Machine.Invariants.{MountInvariants, is_listed}
-use Rattle.vt_location.proofs.NumberLemmas.{counted_test}
+use Rattle.std.proofs.Common.{◌≡◌, refl, sym, ap, subst, ◌∙◌, ⊎_elim, inl, inr, ℕ, nat_eq, eqb-true, eq-eqb, Bool, true, false, true≢false, ◌&&◌, ◌||◌, List, [], ◌∷◌, ◌++◌, map, filter, flat_map, Option, Some, None, arith, option_to_list}
+use Rattle.vt_spec.proofs.Common.{Location, Mount, MountInvariants, Namespace, Serves, Task, TaskName, World, and_parts, has_tasks, holds_of, is_among, is_in_ended, is_listed, list_all, map-append, mount_at, namespaces_ended, numbers_in_use, regrouped, taken_away, task_called, unshared, used_by_filesystem, used_by_mount}
+use Rattle.vt_mounting.proofs.Common.{Among, CountsWhatIsInIt, IsHeld, NamespaceEntry, Tasks, WorldValue, among-append, among-append_right, among-from_filter, among-from_map, among-map, among_from_all, among_numbers, counted, counted_test, counts_from, filter_alike, is_among_left, is_among_numbers, namespace_of, one_if, passes, times, world_of}
 use Rattle.vt_laws_mounts.proofs.namespaces.Unsharing.{unshare_keeps_mounts}
-use Rattle.vt_laws_mounts.specs.LettingGo.Counts.{times}
-use Rattle.vt_laws_mounts.proofs.letting_go.Lists.{Among, among-append, among-append_right, among-from_filter, among-from_map, among-map, among_from_all, among_numbers, filter_alike, is_among_left, is_among_right, is_among_numbers, passes}
-use Rattle.vt_location.specs.Numbers.{counted}
-use Rattle.vt_laws_trees.specs.Runs.Handed.{counts_from}
-use Rattle.vt_tasks.specs.Counts.{one_if}
-use Rattle.vt_tasks.specs.TasksValue.{Tasks}
-use Rattle.vt_world.specs.Held.{CountsWhatIsInIt, IsHeld}
+use Rattle.vt_laws_mounts.proofs.letting_go.Lists.{is_among_right}
 use Rattle.vt_mounting.specs.Detach.NamespacesLeft.{with_one_task_less}
-use Rattle.vt_world.specs.WorldValue.{NamespaceEntry, WorldValue, namespace_of, world_of}
 use Rattle.vt_mounting.proofs.attach.AddedBegins.{IsAdded, with_added}
 use Rattle.vt_mounting.proofs.detach.LeavingNamespaces.{nothing_goes_with}
 use Rattle.vt_mounting.proofs.detach.Moving.{swap_eq}

@@ -1,30 +1,18 @@
 -- Copies that are attached after all other mounts, what is counted on them, and the namespace that is entered with
 -- them.
-use Rattle.std.proofs.Common.{◌≡◌, ◌<◌, ◌≤◌, refl, sym, ap, subst, ◌∙◌, ⊎_elim, inl, inr, ℕ, ◌+◌, nat_eq, eqb-true, eq-eqb, ne_eqb, Bool, true, false, true≢false, cond, ◌&&◌, List, [], ◌∷◌, ◌++◌, map, flat_map, Some, option_map, unwrap_or, arith}
-use Rattle.std.specs.Prelude.{nat_lt, ◌%◌, ◌==◌}
-use Rattle.std.specs.List.{list_all, list_any}
-use Rattle.std.proofs.lemmas.Bool.{and_parts, lt-ltb, ltb-true}
+use Rattle.std.proofs.Common.{◌≡◌, ◌<◌, ◌≤◌, refl, sym, ap, subst, ◌∙◌, ⊎_elim, inl, inr, ℕ, ◌+◌, nat_eq, eqb-true, eq-eqb, ne_eqb, Bool, true, false, true≢false, cond, ◌&&◌, List, [], ◌∷◌, ◌++◌, map, flat_map, Some, option_map, unwrap_or, arith, nat_lt, ◌%◌, ◌==◌, lt-ltb, ltb-true}
+use Rattle.vt_spec.proofs.Common.{Mount, Namespace as meant_namespace, Serves, and_parts, index_from, index_of, list_all, list_any, location_on_copy, numbers_in_use, used_by_filesystem, used_by_mount}
 use Rattle.indexmap.specs.IndexMap.{insert_entry}
-use Rattle.vt_fs.specs.FilesystemsValue.{Filesystems}
-use Rattle.vt_laws_mounts.proofs.letting_go.Lists.{Among, all_pass, among-append_right, among-from_map, among-map, is_among_numbers, passes}
+use Rattle.vt_mounting.proofs.Common.{Among, Filesystems, IsHeld, MountEntry, NamespaceEntry, WorldValue, all_pass, among-append_right, among-from_map, among-map, are_ascending, changed, counted, counts_from, entries_of, entry_numbered, held, is_among_numbers, location_of, mounts_in, namespace_of, passes, released, world_of}
 use Rattle.vt_location.specs.declared.locations.Location.{Location}
 use Rattle.vt_location.specs.declared.mounts.Mount.{Mount as Attached}
 use Rattle.vt_location.specs.declared.numbers.NamespaceId.{NamespaceId}
-use Rattle.vt_location.specs.Locations.{location_of}
-use Rattle.vt_location.specs.Numbers.{counted}
-use Rattle.vt_mount.specs.MountsValue.{MountEntry, are_ascending, changed, entry_numbered, held, mounts_in, released, uses_of, writers_of}
-use Rattle.vt_laws_trees.specs.Runs.Handed.{counts_from}
-use Rattle.vt_spec.specs.Lists.{index_from}
+use Rattle.vt_mount.specs.MountsValue.{uses_of, writers_of}
 use Rattle.vt_spec.specs.Machine.Mounts as meant
-use Rattle.vt_spec.specs.Machine.Mounts.{Mount, index_of}
-use Rattle.vt_spec.specs.Machine.Namespaces.{location_on_copy}
-use Rattle.vt_spec.specs.Machine.Run.{Serves, numbers_in_use, used_by_filesystem, used_by_mount}
-use Rattle.vt_spec.specs.Machine.World.{Namespace as meant_namespace}
 use Rattle.vt_world.specs.declared.namespaces.Namespace.{Namespace}
 use Rattle.vt_mounting.specs.Attach.Copying.{copied_by, copies_of, copy_numbers, moved_in, with_use_moved}
-use Rattle.vt_world.specs.Held.{IsHeld}
 use Rattle.vt_mounting.specs.Detach.Uses.{unused_entry, with_attached, Merged, kept_of, kept_with}
-use Rattle.vt_world.specs.WorldValue.{NamespaceEntry, WorldValue, entries_of, entry_of, namespace_of, world_of}
+use Rattle.vt_world.specs.WorldValue.{entry_of}
 use Rattle.vt_mounting.proofs.attach.AttachedCounts.{lower_numbers}
 use Rattle.vt_mounting.proofs.attach.EnteringLemmas.{ascending_joined}
 use Rattle.vt_mount.specs.Indexes.{same_namespace}

@@ -1,21 +1,11 @@
 -- Which filesystems live in a world with overlays, by the mounts that show them and the layers that overlays have in
 -- them.
-use Rattle.std.proofs.Common.{◌≡◌, refl, sym, ap, subst, ◌∙◌, ⊎_elim, ℕ, zero, suc, ◌+◌, nat_eq, nat_lt, Bool, true, false, true≢false, cond, ◌&&◌, ◌||◌, [], filter, Option, Some, None, is_some, arith}
-use Rattle.std.specs.List.{list_any}
-use Rattle.std.proofs.lemmas.Bool.{and_parts, or_cases}
-use Rattle.std.proofs.lemmas.List.{append-nil}
-use Rattle.vt_spec.specs.Machine.Locked.{overlay_or}
-use Rattle.vt_spec.specs.Machine.Settled.{filesystem_lives, has_layer_on, is_mounted, settled, without_dead_mounts}
-use Rattle.vt_spec.specs.Machine.World.{Filesystem, Overlay, World, is_overlay, layers_of}
-use Rattle.vt_spec.proofs.Truths.{one_more_is_some}
-use Rattle.vt_laws_mounts.specs.Counts.OverlaysStay.{HasNoLayerIn, layer_count}
-use Rattle.vt_laws_mounts.proofs.counts.overlays.Living.{lives_while_mounted, overlays_are_mounted, overlays_are_no_layers, overlays_use_filesystems}
+use Rattle.std.proofs.Common.{◌≡◌, refl, sym, ap, subst, ◌∙◌, ⊎_elim, ℕ, zero, suc, ◌+◌, nat_eq, nat_lt, Bool, true, false, true≢false, cond, ◌&&◌, ◌||◌, [], filter, Option, Some, None, is_some, arith, append-nil}
+use Rattle.vt_spec.proofs.Common.{Filesystem, Overlay, World, and_parts, filesystem_lives, has_layer_on, is_mounted, is_overlay, layers_of, list_any, one_more_is_some, or_cases, overlay_or, settled, without_dead_mounts}
+use Rattle.vt_mounting.proofs.Common.{Among, IsHeld, WorldValue, all_from_among, among-filter, among-from_filter, among_from_all, any-filter, any_passes, filter_alike, filter_twice, in_use_of, layer_count, mounted_while_counted, one_passes, or_first, or_second, overlays_seen, overlays_use_filesystems, world_of}
+use Rattle.vt_laws_mounts.specs.Counts.OverlaysStay.{HasNoLayerIn}
+use Rattle.vt_laws_mounts.proofs.counts.overlays.Living.{lives_while_mounted, overlays_are_mounted, overlays_are_no_layers}
 use Rattle.vt_laws_mounts.proofs.counts.overlays.NamedStay.{named_overlays_stay}
-use Rattle.vt_laws_mounts.proofs.letting_go.Lists.{Among, all_from_among, among-filter, among-from_filter, among_from_all, any-filter, any_passes, filter_alike, filter_twice, one_passes, or_first, or_second}
-use Rattle.vt_laws_mounts.specs.LettingGo.TreesOverlays.{in_use_of}
-use Rattle.vt_laws_mounts.proofs.letting_go.sweeps.UsesCounted.{mounted_while_counted}
-use Rattle.vt_world.specs.Held.{IsHeld}
-use Rattle.vt_world.specs.WorldValue.{WorldValue, overlays_seen, world_of}
 use Rattle.vt_mounting.proofs.detach.Overlaid.{AreStillMounted, KeepsOverlays, named_midway, overlays_are}
 
 -- Counts

@@ -2,29 +2,12 @@
 -- as the
 -- sweep says, the code's world is the one that the sweep leaves, and counts what is in it.
 use Rattle.std.proofs.Common.{true, ◌≡◌, sym, subst, ◌∙◌, ℕ, nat_eq, List, filter, map}
-use Rattle.vt_spec.specs.Machine.SameWorlds.{SameWorlds, without_changes}
-use Rattle.vt_spec.specs.Machine.Settled.{is_mounted, settled}
-use Rattle.vt_spec.specs.Machine.World.{World, filesystem_numbered}
-use Rattle.vt_laws_worlds.specs.OverlaysStay.Woven.{are_rising}
-use Rattle.vt_spec.specs.Machine.Invariants.{IsWorld}
-use Rattle.vt_laws_mounts.specs.Counts.Counted.{IsCounted}
-use Rattle.vt_laws_mounts.specs.Counts.Using.{AreThere, Exchanges, exchanged}
-use Rattle.vt_laws_mounts.proofs.counts.overlays.FilesystemUses.{no_upper_is_in_any}
+use Rattle.vt_spec.proofs.Common.{IsWorld, SameWorlds, World, filesystem_numbered, is_mounted, settled, without_changes}
+use Rattle.vt_mounting.proofs.Common.{Among, AreThere, CountsItsMounts, Exchanges, FilesystemEntry, Has, Inode, IsCounted, IsHeld, WorldValue, among_from_all, are_rising, counted, exchanged, filesystem_seen, in_use_of, inodes_seen, mounts_in, no_upper_is_in_any, overlays_seen, world_of, worlds_are_in_use, worlds_have_trees}
 use Rattle.vt_laws_mounts.proofs.counts.using.Sweeps.{uses_are_swept_beside_overlays}
-use Rattle.vt_fs.specs.FilesystemsValue.{FilesystemEntry, filesystem_seen, inodes_seen}
-use Rattle.vt_group.specs.Grouping.{Has}
-use Rattle.vt_laws_mounts.specs.LettingGo.OneByOne.{Inode}
-use Rattle.vt_laws_mounts.proofs.letting_go.Lists.{Among, among_from_all}
-use Rattle.vt_laws_mounts.proofs.letting_go.sweeps.OfWorlds.{worlds_have_trees}
-use Rattle.vt_location.specs.Numbers.{counted}
-use Rattle.vt_mount.specs.MountsValue.{mounts_in}
-use Rattle.vt_laws_worlds.proofs.RaisedInUse.{worlds_are_in_use}
-use Rattle.vt_world.specs.Held.{CountsItsMounts, IsHeld}
-use Rattle.vt_world.specs.WorldValue.{WorldValue, overlays_seen, world_of}
 use Rattle.vt_mounting.proofs.detach.BesideOverlays.{swept_overlays}
 use Rattle.vt_mounting.proofs.detach.Overlaid.{KeepsOverlays, found_plain_one, is_plain_one, no_upper_midway, plain_numbers_left, swept_rise}
 use Rattle.vt_mounting.proofs.detach.Showing.{ShowsAs, shown_has, shown_is_counted, shown_is_same}
-use Rattle.vt_laws_mounts.specs.LettingGo.TreesOverlays.{in_use_of}
 
 -- An entry comes from one of the same filesystem, in which inodes got these uses and lost those.
 pub record ComesFrom (old : WorldValue) (after : World ℕ) (gained lost : List Inode)

@@ -2,57 +2,24 @@
 -- leaves,
 -- and counts what is in it.
 use Rattle.std.proofs.Common.{◌≡◌, refl, sym, ap, subst, ◌∙◌, ◌+◌, ⊎_elim, inl, inr, true≢false, ℕ, nat_eq, eq-eqb, eqb-true, Bool, true, false, cond, [], ◌∷◌, map, Some, None, is_some}
-use Rattle.std.specs.Prelude.{⊤}
-use Rattle.std.proofs.lemmas.Option.{same_Some}
-use Rattle.vt_spec.specs.Language.Calls.{TaskName}
-use Rattle.vt_spec.specs.Language.Changes.{Change}
-use Rattle.vt_spec.specs.Lists.{Fresh}
-use Rattle.vt_spec.specs.Machine.Apply.{apply}
-use Rattle.vt_spec.specs.Machine.Filesystems.{with_change, with_files}
-use Rattle.vt_spec.specs.Machine.Mounts.{Location}
-use Rattle.vt_spec.specs.Machine.Permits.{Permit}
-use Rattle.vt_spec.specs.Machine.SameWorlds.{SameFiles, SameFilesystem, SameFilesystems, SameWorlds}
-use Rattle.vt_spec.specs.Machine.Settled.{settled}
-use Rattle.vt_spec.specs.Machine.World.{Filesystem, Task, World, filesystem_at, filesystem_numbered, is_overlay, replaced_if_numbered, with_filesystem}
-use Rattle.vt_spec.specs.Machine.Invariants.{IsWorld}
-use Rattle.vt_spec.specs.Fits.{Fits}
-use Rattle.vt_spec.specs.Inodes.{Inodes, changed, node_in, tree_of}
+use Rattle.vt_spec.proofs.Common.{Change, Filesystem, Fits, Fresh, Inodes, IsWorld, Location, Permit, SameFiles, SameFilesystem, SameFilesystems, SameWorlds, Task, TaskName, World, apply, filesystem_at, filesystem_numbered, is_overlay, node_in, replaced_if_numbered, same_Some, settled, tree_of, with_change, with_files, with_filesystem, ⊤}
+use Rattle.vt_spec.specs.Inodes.{changed}
 use Rattle.vt_laws_mounts.specs.Counts.BesideOverlays.{IsChangeOfPlain}
 use Rattle.vt_laws_mounts.specs.Counts.Changing.{LinksWhatIsThere, after_change, filesystem_of}
-use Rattle.vt_laws_mounts.specs.Counts.Counted.{IsCounted}
-use Rattle.vt_laws_mounts.specs.Counts.OverlaysStay.{layer_count}
-use Rattle.vt_laws_mounts.proofs.counts.Alike.{any_same_worlds_count_alike}
+use Rattle.vt_mounting.proofs.Common.{Among, ChangesInodes, CountsItsMounts, CountsItsUses, CountsWhatIsInIt, FilesystemEntry, Filesystems, HasOwnInodes, IsCounted, IsHeld, KeepsTo, Shown, WorldValue, WritersHaveLayers, all_from_among, among_from_all, any_same_worlds_count_alike, any_same_worlds_keep_to_numbers, are_rising, counted, counted_same, counted_test, entry_of, filesystem_seen, filesystems_seen, found_filesystem, inodes_seen, is_counted_before, is_own_number, layer_count, mounts_showing, numbers_apart_each, numbers_listed, numbers_seen, overlays_seen, permit_named, permits_keep_to_numbers, same_numbers_are_permuted, same_worlds_have_layers_alike, sameness_is_an_equivalence, shown_entry, world_of, woven_lists_are_alike}
 use Rattle.vt_laws_mounts.proofs.counts.changing.Changes.{counts_follow_changes_beside_overlays, only_files_change_beside_overlays, other_counts_stay_beside_overlays}
-use Rattle.vt_laws_mounts.proofs.counts.Listed.{same_numbers_are_permuted}
 use Rattle.vt_laws_mounts.proofs.counts.changing.SameAfter.{counted_changes_are_swept_beside_overlays}
 use Rattle.vt_laws_mounts.proofs.counts.using.Exchanged.{numbers_mapped}
-use Rattle.vt_fs.specs.FilesystemsValue.{ChangesInodes, FilesystemEntry, Filesystems, Shown, entry_of, files_seen, filesystem_seen, filesystems_seen, inodes_seen, numbers_seen, shown_entry, shown_if}
-use Rattle.vt_laws_rules.specs.Numbers.{IsSuppliedFrom, KeepsTo}
-use Rattle.vt_laws_mounts.specs.LettingGo.Counts.{mounts_showing}
+use Rattle.vt_fs.specs.FilesystemsValue.{files_seen, shown_if}
+use Rattle.vt_laws_rules.specs.Numbers.{IsSuppliedFrom}
 use Rattle.vt_laws_mounts.specs.LettingGo.TreeChanges.{with_tree}
-use Rattle.vt_laws_mounts.proofs.letting_go.Lists.{Among, all_from_among, among_from_all}
-use Rattle.vt_location.specs.Numbers.{counted, is_own_number}
-use Rattle.vt_location.proofs.NumberLemmas.{counted_same, counted_test}
-use Rattle.vt_laws_worlds.specs.Permits.Named.{permit_named}
-use Rattle.vt_laws_worlds.proofs.permits.named.PermitsKeepTo.{permits_keep_to_numbers}
-use Rattle.vt_laws_mounts.proofs.letting_go.sweeps.OfWorlds.{found_filesystem}
-use Rattle.vt_laws_worlds.proofs.one_text.same.SameNumbers.{any_same_worlds_keep_to_numbers}
-use Rattle.vt_laws_worlds.specs.OverlaysStay.Woven.{are_rising}
 use Rattle.vt_laws_worlds.proofs.overlays_stay.left.Given.{same_gives_no_upper}
-use Rattle.vt_laws_worlds.proofs.overlays_stay.weaving.WovenLists.{woven_lists_are_alike}
-use Rattle.vt_laws_trees.specs.Runs.Handed.{is_counted_before}
-use Rattle.vt_laws_trees.proofs.runs.answered.AlikeWorlds.{sameness_is_an_equivalence}
-use Rattle.vt_laws_worlds.specs.OverlaysRead.Writers.{WritersHaveLayers}
-use Rattle.vt_laws_worlds.proofs.overlays_read.Swept.{same_worlds_have_layers_alike}
 use Rattle.vt_mounting.proofs.detach.Writers.{left_writers}
 use Rattle.vt_mounting.specs.Detach.Events.{Becomes, Permits, left_by, supply_of}
-use Rattle.vt_world.specs.Held.{CountsItsMounts, CountsItsUses, CountsWhatIsInIt, HasOwnInodes, IsHeld}
-use Rattle.vt_world.specs.WorldValue.{WorldValue, overlays_seen, world_of}
 use Rattle.vt_mounting.proofs.detach.ChangedNumbers.{MakesOther, none_stays}
 use Rattle.vt_mounting.proofs.detach.Grouped.{same_has}
 use Rattle.vt_mounting.proofs.detach.FilesSeen.{one_entry}
 use Rattle.vt_mounting.proofs.detach.Overlaid.{found_plain_one, layers_kept, overlay_apart, overlays_counted, overlays_hold_still, plain_one_among, plain_ones_apart, same_files_rise, same_numbers_rise, woven_mapped}
-use Rattle.vt_fs.proofs.Numbers.{numbers_apart_each, numbers_listed}
 
 abbrev pub with_filesystems : WorldValue → Filesystems → WorldValue
 with_filesystems value filesystems = record value { filesystems = filesystems }

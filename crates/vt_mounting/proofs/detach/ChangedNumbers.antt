@@ -1,10 +1,7 @@
 -- A change of counted inodes gives no number an inode, but the one that it makes.
 use Rattle.std.proofs.Common.{◌≡◌, refl, sym, ap, ◌∙◌, ℕ, nat_eq, eqb-true, Bool, true, false, cond, Option, Some, None}
-use Rattle.std.specs.Prelude.{⊤}
-use Rattle.vt_spec.specs.Language.Changes.{Change, node_with_attr, node_with_mark, node_with_parent, node_without_entry}
-use Rattle.vt_spec.specs.Language.Changes.Change.{AddName, CopyUp, Make, Move, Remove, SetAttr, SetBytes, SetMark}
-use Rattle.vt_spec.specs.Inodes.{Inode, Inodes, changed, inode_with_node, node_in, pinned, unpinned, used_once_less, used_once_more, with_changed, with_inode, without_replaced}
-use Rattle.vt_spec.specs.Tree.{Node, entries_in, entry_named, node_with_bytes, node_with_entry}
+use Rattle.vt_spec.proofs.Common.{AddName, Change, CopyUp, Inode, Inodes, Make, Move, Node, Remove, SetAttr, SetBytes, SetMark, entries_in, entry_named, inode_with_node, node_in, node_with_attr, node_with_bytes, node_with_entry, node_with_mark, node_with_parent, node_without_entry, pinned, unpinned, used_once_less, used_once_more, with_changed, ⊤}
+use Rattle.vt_spec.specs.Inodes.{changed, with_inode, without_replaced}
 
 module _ (number : ℕ) where
   abbrev IsNone : Inodes ℕ → Type 0

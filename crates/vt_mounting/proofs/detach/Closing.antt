@@ -1,29 +1,13 @@
 -- A task closes a file: close(2).
-use Rattle.std.proofs.Common.{◌≡◌, ◌<◌, refl, sym, ap, subst, ◌∙◌, inl, ℕ, ◌+◌, ◌==◌, nat_eq, ne_eqb, Bool, true, false, cond, not, List, [], ◌∷◌, ◌++◌, map, filter, find, Some, None, append_assoc, arith}
-use Rattle.std.specs.Option.{option_and_then}
-use Rattle.std.proofs.lemmas.Bool.{and_parts, eqb-true, leb-true}
-use Rattle.std.proofs.lemmas.List.{map-append}
-use Rattle.vt_spec.specs.Language.Calls.{TaskName, opens_for_writing}
-use Rattle.vt_spec.specs.Machine.Descriptors.{without_descriptor}
-use Rattle.vt_spec.specs.Machine.Permits.Permit.{ToClose}
-use Rattle.vt_spec.specs.Machine.Rules.Descriptors.{descriptor_numbered}
-use Rattle.vt_spec.specs.Machine.World.{Descriptor, Task, all_locations, task_called}
-use Rattle.vt_spec.specs.Machine.Invariants.{are_ascending_from, is_located_well}
-use Rattle.vt_fs.specs.FilesystemsValue.{Filesystems}
-use Rattle.vt_laws_mounts.specs.LettingGo.Counts.{times}
-use Rattle.vt_laws_mounts.proofs.letting_go.Lists.{Among, among-append_right, passes, times_around}
-use Rattle.vt_location.specs.Locations.{is_small_node, location_of, number_of}
-use Rattle.vt_location.specs.Numbers.{counted}
-use Rattle.vt_mount.specs.MountsValue.{MountEntry}
+use Rattle.std.proofs.Common.{◌≡◌, ◌<◌, refl, sym, ap, subst, ◌∙◌, inl, ℕ, ◌+◌, ◌==◌, nat_eq, ne_eqb, Bool, true, false, cond, not, List, [], ◌∷◌, ◌++◌, map, filter, find, Some, None, append_assoc, arith, option_and_then, eqb-true, leb-true}
+use Rattle.vt_spec.proofs.Common.{Descriptor, Task, TaskName, ToClose, all_locations, and_parts, are_ascending_from, descriptor_numbered, is_located_well, map-append, opens_for_writing, task_called, without_descriptor}
+use Rattle.vt_mounting.proofs.Common.{Among, Filesystems, IsHeld, MountEntry, Tasks, WorldValue, among-append_right, called, changed_by, changed_called, counted, is_small_node, location_of, locations_in, number_of, passes, replaced, times, world_of, writes_of_task, writes_on}
+use Rattle.vt_laws_mounts.proofs.letting_go.Lists.{times_around}
 use Rattle.vt_request.specs.Requests.{access_of}
-use Rattle.vt_tasks.specs.Counts.{locations_in}
 use Rattle.vt_tasks.specs.declared.descriptors.OpenFile.{OpenFile}
 use Rattle.vt_tasks.specs.Open.{numbered}
-use Rattle.vt_tasks.specs.TasksValue.{Tasks, called, changed_by, changed_called, replaced}
 use Rattle.vt_mounting.specs.Detach.Events.{Permits}
-use Rattle.vt_world.specs.Held.{IsHeld, writes_of_task, writes_on}
 use Rattle.vt_mounting.specs.Detach.Uses.{Merged, kept_of, kept_with, let_go_mount, released_use, without_location}
-use Rattle.vt_world.specs.WorldValue.{WorldValue, world_of}
 use Rattle.vt_mounting.proofs.detach.LocationsSeen.{seen_where_located}
 use Rattle.vt_mounting.proofs.detach.Leaving.{left_done}
 use Rattle.vt_mounting.proofs.detach.Moving.{Moves, Use}

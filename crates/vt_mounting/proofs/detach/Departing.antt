@@ -1,27 +1,9 @@
 -- Events after which a task has left locations and a namespace.
-use Rattle.std.proofs.Common.{◌≡◌, refl, sym, ap, subst, ◌∙◌, ℕ, nat_eq, Bool, true, false, true≢false, ◌&&◌, List, [], map, filter, Option, Some, None, is_some}
-use Rattle.std.specs.Prelude.{option_to_list}
-use Rattle.std.specs.List.{list_all}
-use Rattle.vt_spec.specs.Language.Calls.{TaskName}
-use Rattle.vt_spec.specs.Lists.{folded, holds_of}
-use Rattle.vt_spec.specs.Machine.Detach.{taken_away}
-use Rattle.vt_spec.specs.Machine.Mounts.{Location, Mount}
-use Rattle.vt_spec.specs.Machine.Namespaces.{has_tasks, is_in_ended, namespaces_ended}
-use Rattle.vt_spec.specs.Machine.Permits.{Permit}
-use Rattle.vt_spec.specs.Machine.Receives.{regrouped}
-use Rattle.vt_spec.specs.Machine.World.{Namespace, Task, World, mount_at}
-use Rattle.vt_spec.specs.Machine.Invariants.{is_listed}
-use Rattle.vt_fs.specs.FilesystemsValue.{Filesystems}
-use Rattle.vt_group.specs.Grouping.{Grouping}
-use Rattle.vt_laws_mounts.proofs.letting_go.Lists.{Among, filter_alike, passes}
-use Rattle.vt_location.specs.Numbers.{counted}
-use Rattle.vt_mount.specs.MountsValue.{MountEntry}
-use Rattle.vt_tasks.specs.TasksValue.{Tasks}
-use Rattle.vt_world.specs.Held.{CountsWhatIsInIt, IsHeld}
+use Rattle.std.proofs.Common.{◌≡◌, refl, sym, ap, subst, ◌∙◌, ℕ, nat_eq, Bool, true, false, true≢false, ◌&&◌, List, [], map, filter, Option, Some, None, is_some, option_to_list}
+use Rattle.vt_spec.proofs.Common.{Location, Mount, Namespace, Permit, Task, TaskName, World, and-false, folded, has_tasks, holds_of, is_in_ended, is_listed, list_all, mount_at, namespaces_ended, regrouped, taken_away}
+use Rattle.vt_mounting.proofs.Common.{Among, AreTyped, CountsWhatIsInIt, Filesystems, Grouping, IsHeld, MountEntry, NamespaceEntry, Tasks, WorldValue, counted, filter_alike, namespace_of, passes, world_of}
 use Rattle.vt_mounting.specs.Detach.NamespacesLeft.{MountsAreLeft, namespace_entry, numbers_inside, with_one_task_less}
-use Rattle.vt_retype.specs.Retyping.{AreTyped}
 use Rattle.vt_mounting.specs.Detach.Uses.{Kept, Merged, kept_of, kept_with, overlays_kept}
-use Rattle.vt_world.specs.WorldValue.{NamespaceEntry, WorldValue, namespace_of, world_of}
 use Rattle.vt_mounting.proofs.detach.Bridging.{IsSwept}
 use Rattle.vt_mounting.proofs.detach.Finishing.{CountsBeside, IsApplied}
 use Rattle.vt_mounting.proofs.detach.FollowedTypes.{gained_typed, own_types, uses_left_typed}
@@ -36,7 +18,6 @@ use Rattle.vt_mounting.proofs.detach.NamespacesTyped.{nowhere_private, taken_is_
 use Rattle.vt_mounting.proofs.detach.Staying.{IsDone, after}
 use Rattle.vt_mounting.proofs.detach.Overlaid.{keeps_itself, same_files_keep}
 use Rattle.vt_mounting.proofs.detach.TypedEvents.{typed_done}
-use Rattle.std.proofs.Math.Bool.{and-false}
 
 module _ (value : WorldValue) (whole : IsHeld value) (tasks : Tasks) (more less : List Use)
     (moves : Moves value tasks more less) (count : ℕ) (entries : List NamespaceEntry)

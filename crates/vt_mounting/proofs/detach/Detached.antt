@@ -1,30 +1,13 @@
 -- Mounts of a list leave their namespaces one after the other.
-use Rattle.std.proofs.Common.{◌≡◌, refl, sym, ap, subst, ◌∙◌, ℕ, nat_eq, Bool, true, false, true≢false, cond, ◌+◌, ◌||◌, List, [], ◌∷◌, ◌++◌, map, Option, Some, None, option_map, is_some, unwrap_or}
-use Rattle.std.specs.Option.{option_and_then}
-use Rattle.std.specs.Prelude.{IfSome, option_to_list}
-use Rattle.vt_spec.specs.Lists.{folded, is_among}
-use Rattle.vt_spec.specs.Machine.Mounts.{Mount, detached, mount_in, no_mount}
-use Rattle.vt_spec.specs.Machine.World.{World, mount_at}
-use Rattle.vt_laws_mounts.specs.Counts.OverlaysStay.{layer_count}
-use Rattle.vt_laws_mounts.specs.Counts.Using.{Exchanges, pinned_if, unpinned_if}
-use Rattle.vt_fs.specs.FilesystemsValue.{Shown, inodes_seen}
-use Rattle.vt_laws_mounts.specs.LettingGo.Counts.{mounts_showing}
-use Rattle.vt_laws_mounts.specs.LettingGo.Detaching.{detached_if}
-use Rattle.vt_laws_mounts.specs.LettingGo.Mounting.{inode_at}
-use Rattle.vt_laws_mounts.specs.LettingGo.OneByOne.{Inode}
-use Rattle.vt_laws_mounts.proofs.letting_go.Lists.{Among, all_from_among, among-from_map, among-map, among_from_all, found_in}
+use Rattle.std.proofs.Common.{◌≡◌, refl, sym, ap, subst, ◌∙◌, ℕ, nat_eq, Bool, true, false, true≢false, cond, ◌+◌, ◌||◌, List, [], ◌∷◌, ◌++◌, map, Option, Some, None, option_map, is_some, unwrap_or, option_and_then, IfSome, option_to_list}
+use Rattle.vt_spec.proofs.Common.{Mount, World, detached, folded, is_among, map_alike, map_twice, mount_at, mount_in, no_mount}
+use Rattle.vt_mounting.proofs.Common.{Among, CountsItsUses, Exchanges, Inode, MountEntry, Shown, WorldValue, all_from_among, among-from_map, among-map, among_from_all, changed, counted, detached_if, entry_numbered, found_in, inode_at, inodes_seen, is_small_node, layer_count, location_of, mounts_in, mounts_showing, number_of, pinned_if, unpinned_if, world_of}
 use Rattle.vt_location.specs.declared.locations.Location.{Location}
-use Rattle.vt_location.specs.Locations.{is_small_node, location_of, number_of}
-use Rattle.vt_location.specs.Numbers.{counted}
-use Rattle.vt_mount.specs.MountsValue.{MountEntry, changed, entry_numbered, mounts_in}
-use Rattle.vt_world.specs.Held.{CountsItsUses}
 use Rattle.vt_mounting.specs.Detach.Uses.{Kept, detached_entry, detached_use, inode_of, point_of, unpinned_at, without_attachment}
-use Rattle.vt_world.specs.WorldValue.{WorldValue, world_of}
 use Rattle.vt_mounting.proofs.detach.Keeping.{IsKeptBut, IsShownIn, append_three, detached_in, looked_at, points_lost}
 use Rattle.vt_mounting.proofs.detach.MountsGone.{mount_looked_at}
 use Rattle.vt_mounting.proofs.detach.Moving.{map_itself, swap_eq}
 use Rattle.vt_mounting.proofs.detach.Shown.{found_entry}
-use Rattle.vt_spec.proofs.Lists.{map_alike, map_twice}
 use Rattle.vt_mounting.proofs.detach.LostUses.{folded_append}
 
 -- Entries of which one is detached

@@ -1,42 +1,17 @@
 -- Where mounts begin to be detached: in the world all of them are detached at once, and code has none of them detached
 -- yet.
-use Rattle.std.proofs.Common.{◌≡◌, refl, sym, ap, subst, ◌∙◌, inl, ⊎_elim, ℕ, ◌+◌, nat_eq, eqb-true, eq-eqb, Bool, true, false, true≢false, cond, not, ◌&&◌, ◌||◌, List, [], ◌∷◌, ◌++◌, map, filter, find, Option, Some, None, option_map, is_some, unwrap_or}
-use Rattle.std.specs.Prelude.{option_to_list}
-use Rattle.std.specs.List.{list_all, list_any}
-use Rattle.std.proofs.lemmas.Bool.{or_parts}
-use Rattle.vt_spec.specs.Lists.{any_pair, folded, is_among}
-use Rattle.vt_spec.specs.Machine.Mounts.{Location as Place, Mount, detached, mount_in, no_mount}
-use Rattle.vt_spec.specs.Machine.Settled.{filesystem_lives, has_layer_on, is_mounted, mount_lives, without_dead_filesystems}
-use Rattle.vt_spec.specs.Machine.World.{Filesystem, World, all_locations, mount_at, with_mounts}
-use Rattle.vt_spec.specs.Machine.Invariants.{is_nowhere_or_attached}
-use Rattle.vt_laws_mounts.specs.Counts.OverlaysStay.{layer_count}
-use Rattle.vt_laws_mounts.specs.Counts.Using.{Exchanges}
-use Rattle.vt_laws_mounts.proofs.counts.using.Places.{exchanges_follow, mount_is_placed}
-use Rattle.vt_fs.specs.FilesystemsValue.{Shown}
-use Rattle.vt_laws_mounts.specs.LettingGo.Counts.{mounts_showing, times}
-use Rattle.vt_laws_mounts.specs.LettingGo.Detaching.{detached_if, without_place}
-use Rattle.vt_laws_mounts.specs.LettingGo.InUse.{FilesystemsInUse}
-use Rattle.vt_laws_mounts.specs.LettingGo.Keeping.{LocationsStand}
-use Rattle.vt_laws_mounts.specs.LettingGo.Leaving.{MountsStand, stands_on_attached}
-use Rattle.vt_laws_mounts.specs.LettingGo.Mounting.{inode_at}
-use Rattle.vt_laws_mounts.specs.LettingGo.OneByOne.{Inode, MountsInUseBut}
+use Rattle.std.proofs.Common.{◌≡◌, refl, sym, ap, subst, ◌∙◌, inl, ⊎_elim, ℕ, ◌+◌, nat_eq, eqb-true, eq-eqb, Bool, true, false, true≢false, cond, not, ◌&&◌, ◌||◌, List, [], ◌∷◌, ◌++◌, map, filter, find, Option, Some, None, option_map, is_some, unwrap_or, option_to_list}
+use Rattle.vt_spec.proofs.Common.{Filesystem, Location as Place, Mount, World, all_locations, any_pair, detached, filesystem_lives, folded, has_layer_on, is_among, is_mounted, is_nowhere_or_attached, list_all, list_any, map_alike, map_twice, mount_at, mount_in, mount_lives, no_mount, or_parts, shown-mapped, with_mounts, without_dead_filesystems}
+use Rattle.vt_mounting.proofs.Common.{Among, CountsItsUses, Exchanges, FilesystemsInUse, Inode, LocationsStand, MountsInUseBut, MountsStand, Shown, WorldValue, all_from_among, all_pass, among-from_filter, among-from_map, among_from_all, any-filter, any-map, any_passes, counted, detached_if, exchanges_follow, fails, filter_alike, filter_all, filter_twice, found_in, in_use_of, inode_at, layer_count, map_same, mount_is_placed, mounts_go_one_by_one, mounts_in, mounts_showing, one_passes, or_second, passes, stands_on_attached, times, world_of}
+use Rattle.vt_laws_mounts.specs.LettingGo.Detaching.{without_place}
 use Rattle.vt_laws_mounts.specs.LettingGo.OneByOne as Looks
-use Rattle.vt_laws_mounts.proofs.letting_go.Lists.{Among, all_from_among, all_pass, among-from_map, among_from_all, any-filter, any-map, any_passes, among-from_filter, fails, filter_all, filter_alike, filter_twice, map_same, one_passes, or_second, passes, found_in}
-use Rattle.vt_laws_mounts.proofs.letting_go.sweeps.OneByOne.{mounts_go_one_by_one}
-use Rattle.vt_location.specs.Numbers.{counted}
-use Rattle.vt_mount.specs.MountsValue.{mounts_in}
-use Rattle.vt_world.specs.Held.{CountsItsUses}
 use Rattle.vt_mounting.specs.Detach.Uses.{Kept}
-use Rattle.vt_world.specs.WorldValue.{WorldValue, world_of}
 use Rattle.vt_mounting.proofs.detach.BesideOverlays.{lives_alike, lives_more}
 use Rattle.vt_mounting.proofs.detach.Detached.{IsDetaching, detach_first}
 use Rattle.vt_mounting.proofs.detach.Keeping.{IsKeptBut, IsShownIn, detached_in, looked_at, no_more, points_lost, same_number}
 use Rattle.vt_mounting.proofs.detach.MountsGone.{found_mapped, none_numbered, pending_filesystem, pending_number}
 use Rattle.vt_mounting.proofs.detach.Moving.{map_itself, swap_eq}
 use Rattle.vt_mounting.proofs.detach.MountsLeave.{leaves_alike, merged_alike}
-use Rattle.vt_spec.proofs.Lists.{map_alike, map_twice}
-use Rattle.vt_spec.proofs.Worlds.{shown-mapped}
-use Rattle.vt_laws_mounts.specs.LettingGo.TreesOverlays.{in_use_of}
 
 -- the world with these mounts detached
 abbrev pub detached_world : List ℕ → World ℕ → World ℕ

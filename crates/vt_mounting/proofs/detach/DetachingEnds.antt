@@ -1,40 +1,11 @@
 -- The begin in a world with its invariants, and the end: where all mounts of a list are detached, the sweep's world is
 -- left.
-use Rattle.std.proofs.Common.{◌≡◌, refl, sym, ap, subst, ◌∙◌, inl, ℕ, ◌+◌, nat_eq, Bool, true, false, true≢false, cond, ◌&&◌, List, [], map, filter, Option, Some, None, option_map, is_some}
-use Rattle.std.specs.Prelude.{All, option_to_list}
-use Rattle.std.specs.List.{list_all}
-use Rattle.std.proofs.lemmas.Bool.{and_parts}
-use Rattle.vt_spec.specs.Language.Calls.{TaskName}
-use Rattle.vt_spec.specs.Lists.{is_among}
-use Rattle.vt_spec.specs.Machine.Detach.{after_going, mount_point_left, taken_away}
-use Rattle.vt_spec.specs.Machine.Mounts.{Location as Place, Mount, detached, mount_in}
-use Rattle.vt_spec.specs.Machine.Mounts.Propagation.{Private}
-use Rattle.vt_spec.specs.Machine.Permits.{Permit}
-use Rattle.vt_spec.specs.Machine.Receives.{regrouped}
-use Rattle.vt_spec.specs.Machine.SameWorlds.{without_changes}
-use Rattle.vt_spec.specs.Machine.Settled.{is_located, is_mounted}
-use Rattle.vt_spec.specs.Machine.World.{Filesystem, Task, World, filesystem_numbered, is_directory_at, mount_at, node_at, with_mounts}
-use Rattle.vt_spec.specs.Machine.Invariants.{has_its_root, is_located_well, is_nowhere_or_attached, is_there}
-use Rattle.vt_spec.specs.Tree.{is_directory_node}
-use Rattle.vt_laws_mounts.specs.Counts.OverlaysStay.{layer_count}
-use Rattle.vt_laws_mounts.specs.Counts.Using.{Exchanges}
+use Rattle.std.proofs.Common.{◌≡◌, refl, sym, ap, subst, ◌∙◌, inl, ℕ, ◌+◌, nat_eq, Bool, true, false, true≢false, cond, ◌&&◌, List, [], map, filter, Option, Some, None, option_map, is_some, All, option_to_list}
+use Rattle.vt_spec.proofs.Common.{Filesystem, Location as Place, Mount, Permit, Private, Task, TaskName, World, after_going, and_parts, detached, filesystem_numbered, has_its_root, is_among, is_directory_at, is_directory_node, is_located, is_located_well, is_mounted, is_nowhere_or_attached, is_there, list_all, map_alike, map_twice, mount_at, mount_in, mount_point_left, node_at, or_false_left, regrouped, taken_away, with_mounts, without_changes}
+use Rattle.vt_mounting.proofs.Common.{Among, CountsItsMounts, CountsItsUses, CountsWhatIsInIt, Exchanges, Filesystems, Inode, IsHeld, IsMountedSoOften, MountEntry, Shown, WorldValue, all_from_among, among-from_map, among-map, among_from_all, counted, directory_there, filesystem_seen, found_is_there, in_use_of, is_among_numbers, is_ungrouped, layer_count, location_of, mount_uses, mounts_in, mounts_of_worlds_stand, mounts_showing, number_found, overlays_seen, passes, shown_entry, stands_on_attached, times, world_of, worlds_are_in_use, writes_of}
 use Rattle.vt_laws_mounts.proofs.counts.using.MountRoots as Roots
-use Rattle.vt_fs.specs.FilesystemsValue.{Filesystems, Shown, filesystem_seen, shown_entry}
-use Rattle.vt_laws_mounts.specs.LettingGo.Counts.{mount_uses, mounts_showing, times}
-use Rattle.vt_laws_mounts.specs.LettingGo.Leaving.{stands_on_attached}
-use Rattle.vt_laws_mounts.specs.LettingGo.OneByOne.{Inode}
-use Rattle.vt_laws_mounts.proofs.letting_go.Lists.{Among, all_from_among, among-from_map, among-map, among_from_all, is_among_numbers, passes}
 use Rattle.vt_laws_mounts.proofs.letting_go.mounting.MountingTaken as Taken
-use Rattle.vt_laws_mounts.proofs.letting_go.sweeps.OfWorlds.{mounts_of_worlds_stand}
-use Rattle.vt_laws_mounts.proofs.letting_go.leaving.PlacesLeft.{found_is_there, number_found}
-use Rattle.vt_location.specs.Locations.{location_of}
-use Rattle.vt_location.specs.Numbers.{counted}
-use Rattle.vt_mount.specs.MountsValue.{MountEntry, mounts_in}
-use Rattle.vt_laws_worlds.proofs.RaisedInUse.{worlds_are_in_use}
-use Rattle.vt_laws_worlds.proofs.worlds.Roots.{directory_there}
-use Rattle.vt_world.specs.Held.{CountsItsMounts, CountsItsUses, CountsWhatIsInIt, IsHeld, IsMountedSoOften, writes_of}
 use Rattle.vt_mounting.specs.Detach.Uses.{Merged, kept_of, kept_with, overlays_kept}
-use Rattle.vt_world.specs.WorldValue.{WorldValue, overlays_seen, world_of}
 use Rattle.vt_mounting.proofs.detach.Bridging.{IsSwept}
 use Rattle.vt_mounting.proofs.detach.Detached.{IsDetaching}
 use Rattle.vt_mounting.proofs.detach.DetachingBegins.{HasChildrenOf, detached_world}
@@ -49,10 +20,6 @@ use Rattle.vt_mounting.proofs.detach.Overlaid.{KeepsOverlays, keeps_itself, laye
 use Rattle.vt_mounting.proofs.detach.Remaining.{remade_with}
 use Rattle.vt_mounting.proofs.detach.OverlaysRemade.{counted_kept, seen_kept}
 use Rattle.vt_mounting.proofs.detach.Staying.{IsDone}
-use Rattle.vt_spec.proofs.Lists.{map_alike, map_twice}
-use Rattle.vt_spec.proofs.Truths.{or_false_left}
-use Rattle.vt_laws_worlds.specs.Permits.Taken.{is_ungrouped}
-use Rattle.vt_laws_mounts.specs.LettingGo.TreesOverlays.{in_use_of}
 
 -- What is kept of a world with its invariants
 

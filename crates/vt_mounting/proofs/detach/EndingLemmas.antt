@@ -1,25 +1,13 @@
 -- Mounts of a namespace that are detached one after the other, and what is left where a task leaves one.
-use Rattle.std.proofs.Common.{◌≡◌, ◌≢◌, ◌<◌, ◌≤◌, refl, sym, ap, subst, ◌∙◌, ⊎_elim, inl, inr, ℕ, ◌+◌, ◌-◌, nat_eq, nat_lt, eqb-true, eq-eqb, Bool, true, false, true≢false, cond, not, ◌&&◌, ◌||◌, List, [], ◌∷◌, ◌++◌, length, map, filter, Option, Some, None, option_map, arith}
-use Rattle.std.specs.Prelude.{IfSome, nat_le, slice_get}
-use Rattle.std.specs.List.{IsDistinct, list_all, list_any}
-use Rattle.std.specs.Map.{keys_of, lookup, remove_entry, set_value}
-use Rattle.std.specs.Option.{option_and_then}
-use Rattle.std.proofs.lemmas.Bool.{and_parts}
-use Rattle.std.proofs.lemmas.Option.{same_Some}
-use Rattle.vt_spec.specs.Lists.{holds_of}
-use Rattle.vt_spec.specs.Machine.Mounts.{Mount}
-use Rattle.vt_fs.specs.FilesystemsValue.{Filesystems}
-use Rattle.vt_group.specs.Grouping.{Grouping}
-use Rattle.vt_laws_mounts.proofs.letting_go.Lists.{Among, among-from_filter, among-from_map, among-map, none_passes, passes}
+use Rattle.std.proofs.Common.{◌≡◌, ◌≢◌, ◌<◌, ◌≤◌, refl, sym, ap, subst, ◌∙◌, ⊎_elim, inl, inr, ℕ, ◌+◌, ◌-◌, nat_eq, nat_lt, eqb-true, eq-eqb, Bool, true, false, true≢false, cond, not, ◌&&◌, ◌||◌, List, [], ◌∷◌, ◌++◌, length, map, filter, Option, Some, None, option_map, arith, IfSome, nat_le, slice_get, option_and_then}
+use Rattle.vt_spec.proofs.Common.{Mount, and_parts, holds_of, keys_of, list_all, list_any, lookup, remove_entry, same_Some, set_value}
+use Rattle.std.specs.List.{IsDistinct}
+use Rattle.vt_mounting.proofs.Common.{Among, Filesystems, Grouping, MountEntry, NamespaceEntry, among-from_filter, among-from_map, among-map, are_ascending, changed, counted, entries_of, entry_numbered, is_small_node, location_of, mounts_in, none_passes, passes, without}
 use Rattle.vt_location.specs.declared.locations.Location.{Location}
 use Rattle.vt_location.specs.declared.numbers.MountId.{MountId}
-use Rattle.vt_location.specs.Locations.{is_small_node, location_of}
-use Rattle.vt_location.specs.Numbers.{counted}
-use Rattle.vt_mount.specs.MountsValue.{MountEntry, are_ascending, changed, entry_numbered, mounts_in, without}
 use Rattle.vt_world.specs.declared.namespaces.Namespace.{Namespace}
 use Rattle.vt_mounting.specs.Detach.NamespacesLeft.{AreDetached, Detached, EndsIf, IsAttached, MountsAreLeft, NamespaceIsLeft, entries_left, has_one_task, is_attached_in, left_if, namespace_entry, one_task_less, with_one_task_less}
 use Rattle.vt_mounting.specs.Detach.Uses.{Kept, Merged, detached_entry, is_unused, kept_with, let_go_entry, let_go_mount, point_of, without_attachment}
-use Rattle.vt_world.specs.WorldValue.{NamespaceEntry, entries_of}
 use Rattle.vt_mounting.proofs.detach.NamespaceEntries.{Entries, entries_removed, entries_written, entry_found, is_id, same_namespace}
 
 pub one_more_detached : (namespace : ℕ) (gone : List Detached) (one : Detached) (old now : Kept)

@@ -1,40 +1,16 @@
 -- A task enters a namespace: setns(2).
-use Rattle.std.proofs.Common.{◌≡◌, ◌<◌, refl, sym, ap, subst, ◌∙◌, inl, inr, ℕ, ◌+◌, nat_eq, Bool, true, false, true≢false, cond, not, ◌&&◌, ◌==◌, List, [], ◌∷◌, ◌++◌, length, map, filter, find, Option, Some, None, option_map, is_some, unwrap_or, arith}
-use Rattle.std.specs.Prelude.{IsSome, option_to_list}
-use Rattle.std.specs.List.{list_all}
-use Rattle.std.proofs.lemmas.Bool.{and_parts}
-use Rattle.std.proofs.lemmas.Option.{same_Some}
-use Rattle.vt_spec.specs.Language.Calls.{TaskName}
-use Rattle.vt_spec.specs.Lists.{folded, holds_of}
+use Rattle.std.proofs.Common.{◌≡◌, ◌<◌, refl, sym, ap, subst, ◌∙◌, inl, inr, ℕ, ◌+◌, nat_eq, Bool, true, false, true≢false, cond, not, ◌&&◌, ◌==◌, List, [], ◌∷◌, ◌++◌, length, map, filter, find, Option, Some, None, option_map, is_some, unwrap_or, arith, IsSome, option_to_list}
+use Rattle.vt_spec.proofs.Common.{Mount, Namespace, Task, TaskName, ToEnterNamespace, World, and_parts, entered_at, folded, has_its_root, has_one_root, has_tasks, holds_of, is_located_well, is_root_mount, list_all, mounts_of, namespace_root, namespaces_ended, numbers_in_use, root_mount, root_of, same_Some, task_called, topmost, used_by_filesystem, used_by_mount, with_task}
 use Rattle.vt_spec.specs.Machine.Mounts as meant
-use Rattle.vt_spec.specs.Machine.Mounts.{Mount, root_of, topmost}
-use Rattle.vt_spec.specs.Machine.Namespaces.{entered_at, has_tasks, namespace_root, namespaces_ended}
-use Rattle.vt_spec.specs.Machine.Permits.Permit.{ToEnterNamespace}
-use Rattle.vt_spec.specs.Machine.Run.{numbers_in_use, used_by_filesystem, used_by_mount}
-use Rattle.vt_spec.specs.Machine.World.{Namespace, Task, World, mounts_of, root_mount, task_called, with_task}
-use Rattle.vt_spec.specs.Machine.Invariants.{has_its_root, has_one_root, is_located_well, is_root_mount}
-use Rattle.vt_fs.specs.FilesystemsValue.{Filesystems}
-use Rattle.vt_group.specs.Grouping.{Grouping}
-use Rattle.vt_laws_rules.proofs.numbers.Supports.{used_numbers_are_named}
-use Rattle.vt_laws_mounts.specs.LettingGo.Counts.{times}
-use Rattle.vt_laws_mounts.proofs.letting_go.Lists.{Among, among-append_right, among-from_filter, among-from_map, among-map, among_from_all, among_numbers, is_among_numbers, passes}
-use Rattle.vt_laws_mounts.proofs.letting_go.leaving.PlacesLeft.{found_itself}
+use Rattle.vt_mounting.proofs.Common.{Among, CountsWhatIsInIt, Filesystems, Grouping, IsHeld, MountEntry, NamespaceEntry, Tasks, WorldValue, among-append_right, among-from_filter, among-from_map, among-map, among_from_all, among_numbers, called, changed_by, changed_called, counted, directory_there, found_itself, is_among_numbers, is_counted_before, is_small_node, location_of, locations_in, namespace_of, number_of, one_if, passes, replaced, times, used_numbers_are_named, world_of}
 use Rattle.vt_location.specs.declared.locations.Location.{Location}
-use Rattle.vt_location.specs.Locations.{is_small_node, location_of, number_of}
-use Rattle.vt_location.specs.Numbers.{counted}
-use Rattle.vt_mount.specs.MountsValue.{MountEntry}
-use Rattle.vt_laws_trees.specs.Runs.Handed.{is_counted_before}
-use Rattle.vt_tasks.specs.Counts.{locations_in, one_if}
 use Rattle.vt_tasks.specs.declared.task.Left.{Left}
-use Rattle.vt_tasks.specs.TasksValue.{Tasks, called, changed_by, changed_called, left_by, left_of, replaced}
+use Rattle.vt_tasks.specs.TasksValue.{left_by, left_of}
 use Rattle.vt_laws_worlds.proofs.worlds.Reached.{topmost_found}
-use Rattle.vt_laws_worlds.proofs.worlds.Roots.{directory_there}
 use Rattle.vt_mounting.specs.Detach.Events.{Permits}
 use Rattle.vt_mounting.specs.Detach.Forking.{more_tasks, with_task_more}
-use Rattle.vt_world.specs.Held.{CountsWhatIsInIt, IsHeld}
 use Rattle.vt_mounting.specs.Detach.NamespacesLeft.{MountsAreLeft, namespace_entry, with_one_task_less}
 use Rattle.vt_mounting.specs.Detach.Uses.{Kept, Merged, kept_of, kept_with, overlays_kept, with_location, with_use, without_location}
-use Rattle.vt_world.specs.WorldValue.{NamespaceEntry, WorldValue, namespace_of, world_of}
 use Rattle.vt_mounting.proofs.detach.Departing.{departs}
 use Rattle.vt_mounting.proofs.detach.Exiting.{left_so, located}
 use Rattle.vt_mounting.proofs.detach.FileEvents.{permit_fits}

@@ -1,38 +1,19 @@
 -- A task ends: _exit(2).
-use Rattle.std.proofs.Common.{◌≡◌, refl, sym, ap, subst, ◌∙◌, inl, inr, ℕ, ◌+◌, nat_eq, Bool, true, false, cond, not, List, [], ◌∷◌, ◌++◌, map, Some, arith}
-use Rattle.std.specs.Prelude.{fold}
-use Rattle.std.specs.List.{list_all, list_any}
-use Rattle.std.proofs.lemmas.Bool.{and_parts, or_parts}
-use Rattle.std.proofs.lemmas.Option.{same_Some}
-use Rattle.std.proofs.lemmas.Grind.{flat_map-append}
-use Rattle.vt_spec.specs.Language.Calls.{TaskName, opens_for_writing, same_name}
-use Rattle.vt_spec.specs.Lists.{folded}
+use Rattle.std.proofs.Common.{◌≡◌, refl, sym, ap, subst, ◌∙◌, inl, inr, ℕ, ◌+◌, nat_eq, Bool, true, false, cond, not, List, [], ◌∷◌, ◌++◌, map, Some, arith, fold}
+use Rattle.vt_spec.proofs.Common.{Descriptor, Task, TaskName, ToExit, World, all_locations, and_parts, flat_map-append, folded, has_tasks, is_located_well, list_all, list_any, locations_of, map_twice, namespaces_ended, opens_for_writing, or_parts, same_Some, same_name, task_called}
 use Rattle.vt_spec.specs.Machine.Mounts as meant
-use Rattle.vt_spec.specs.Machine.Namespaces.{has_tasks, namespaces_ended}
-use Rattle.vt_spec.specs.Machine.Permits.Permit.{ToExit}
-use Rattle.vt_spec.specs.Machine.World.{Descriptor, Task, World, all_locations, locations_of, task_called}
-use Rattle.vt_spec.specs.Machine.Invariants.{is_located_well}
-use Rattle.vt_fs.specs.FilesystemsValue.{Filesystems}
-use Rattle.vt_group.specs.Grouping.{Grouping}
-use Rattle.vt_laws_mounts.specs.LettingGo.Counts.{times}
-use Rattle.vt_laws_mounts.proofs.letting_go.Lists.{Among, among-append_left, among-append_right, among-map, among_from_all, passes}
+use Rattle.vt_mounting.proofs.Common.{Among, CountsWhatIsInIt, Filesystems, Grouping, IsHeld, MountEntry, NamespaceEntry, Tasks, WorldValue, among-append_left, among-append_right, among-map, among_from_all, called, counted, is_small_node, location_of, locations_in, namespace_of, number_of, one_if, passes, times, world_of, writes_of_task, writes_on}
 use Rattle.vt_location.specs.declared.locations.Location.{Location}
-use Rattle.vt_location.specs.Locations.{is_small_node, location_of, number_of}
-use Rattle.vt_location.specs.Numbers.{counted}
-use Rattle.vt_mount.specs.MountsValue.{MountEntry}
 use Rattle.vt_request.specs.Requests.{access_of}
-use Rattle.vt_tasks.specs.Counts.{locations_in, one_if}
 use Rattle.vt_tasks.specs.declared.descriptors.OpenFile.{OpenFile}
 use Rattle.vt_tasks.specs.declared.task.Task.{Task as Held}
 use Rattle.vt_tasks.specs.TaskValue.{task_of}
-use Rattle.vt_tasks.specs.TasksValue.{AreNamedApart, Tasks, called, without_called}
+use Rattle.vt_tasks.specs.TasksValue.{AreNamedApart, without_called}
 use Rattle.vt_tasks.proofs.GivenOnce.{name-of-called, same_names}
 use Rattle.vt_tasks.proofs.LocationLemmas.{total-without, without-nobody}
 use Rattle.vt_mounting.specs.Detach.Events.{Permits}
-use Rattle.vt_world.specs.Held.{CountsWhatIsInIt, IsHeld, writes_of_task, writes_on}
 use Rattle.vt_mounting.specs.Detach.NamespacesLeft.{MountsAreLeft, is_small_file, namespace_entry, with_one_task_less, without_file}
 use Rattle.vt_mounting.specs.Detach.Uses.{Kept, Merged, kept_of, kept_with, overlays_kept, without_location, without_use}
-use Rattle.vt_world.specs.WorldValue.{NamespaceEntry, WorldValue, namespace_of, world_of}
 use Rattle.vt_mounting.proofs.detach.Closing.{place, used_by}
 use Rattle.vt_mounting.proofs.detach.Departing.{departs}
 use Rattle.vt_mounting.proofs.detach.LocationsSeen.{seen_where_located}
@@ -43,7 +24,6 @@ use Rattle.vt_mounting.proofs.detach.Places.{standing}
 use Rattle.vt_mounting.proofs.detach.Shown.{counted_eq_back}
 use Rattle.vt_mounting.proofs.detach.Splits.{locations_around, times_total, writes_total}
 use Rattle.vt_mounting.proofs.detach.Staying.{IsDone}
-use Rattle.vt_spec.proofs.Lists.{map_twice}
 
 -- one task goes
 pub record GoesOne (task : Task ℕ) (tasks after : Tasks) : Type 0 where

@@ -1,32 +1,21 @@
 -- The events that change files and names.
 use Rattle.std.proofs.Common.{◌≡◌, refl, sym, ap, subst, ◌∙◌, ℕ, ◌<◌, ◌&&◌, Bool, true, false, nat_eq, Some}
+use Rattle.vt_spec.proofs.Common.{Change, Fits, Permit, SetAttr, SetMark, TaskName, ToChange, filesystem_at, is_overlay, tree_of}
 use Rattle.vt_spec.specs.declared.attributes.Attr.{Attr}
-use Rattle.vt_spec.specs.Language.Calls.{TaskName}
-use Rattle.vt_spec.specs.Language.Changes.{Change}
-use Rattle.vt_spec.specs.Language.Changes.Change.{SetAttr, SetMark}
 use Rattle.vt_spec.specs.Machine.Mounts as meant
-use Rattle.vt_spec.specs.Machine.Permits.{Permit}
-use Rattle.vt_spec.specs.Machine.Permits.Permit.{ToChange}
-use Rattle.vt_spec.specs.Machine.World.{filesystem_at, is_overlay}
-use Rattle.vt_spec.specs.Fits.{Fits}
-use Rattle.vt_spec.specs.Inodes.{changed, tree_of}
+use Rattle.vt_spec.specs.Inodes.{changed}
 use Rattle.vt_laws_trees.specs.Calls.Inodes.{change_of}
 use Rattle.vt_laws_mounts.specs.Counts.Changing.{LinksWhatIsThere}
-use Rattle.vt_fs.specs.FilesystemsValue.{ChangesInodes, Filesystems, inodes_at, inodes_seen}
+use Rattle.vt_mounting.proofs.Common.{ChangesInodes, Filesystems, IsHeld, WorldValue, inodes_at, inodes_seen, is_counted_before, is_own_number, location_of, number_of, world_of}
 use Rattle.vt_location.specs.declared.locations.Location.{Location}
-use Rattle.vt_location.specs.Locations.{location_of, number_of}
-use Rattle.vt_location.specs.Numbers.{is_own_number}
 use Rattle.vt_laws_worlds.specs.Permits.Named.{change_named}
 use Rattle.vt_laws_worlds.specs.Permits.Sees.{SeesToChange}
 use Rattle.vt_laws_worlds.proofs.permits.sees.SeesFit.{given_changes_fit}
 use Rattle.vt_laws_worlds.proofs.permits.sees.SeesTasks.{given_permits_are_seen_to}
 use Rattle.vt_laws_worlds.proofs.overlays_read.Changes.{plain_ones_are_changed}
-use Rattle.vt_laws_trees.specs.Runs.Handed.{is_counted_before}
 use Rattle.vt_laws_worlds.specs.Worlds.Permits.{IsFitPermit}
 use Rattle.vt_laws_worlds.proofs.worlds.FitPermitsNamed.{all_permits_fit}
 use Rattle.vt_mounting.specs.Detach.Events.{Permits, supply_of}
-use Rattle.vt_world.specs.Held.{IsHeld}
-use Rattle.vt_world.specs.WorldValue.{WorldValue, world_of}
 use Rattle.vt_mounting.proofs.detach.ChangedFiles.{IsFilesEvent, changed_by, files_are_changed, with_filesystems}
 use Rattle.vt_mounting.proofs.detach.ChangedNumbers.{MakesOther}
 use Rattle.vt_mounting.proofs.detach.FilesSeen.{IsLocated, IsPlainAt, nodes_named, located, located_filesystem, located_inodes}

@@ -1,36 +1,15 @@
 -- The filesystem that a location of the code's world is in, by what is kept of it.
-use Rattle.std.proofs.Common.{◌≡◌, refl, sym, ap, ◌∙◌, ⊎_elim, inl, inr, true≢false, ℕ, ◌<◌, ◌%◌, nat_eq, eq-eqb, eqb-true, Bool, true, false, cond, ◌||◌, ◌&&◌, List, [], ◌∷◌, ◌++◌, map, flat_map, Some, is_some, unwrap_or, arith}
-use Rattle.std.specs.Prelude.{All, nat_lt, option_to_list, ◌/◌}
-use Rattle.std.proofs.lemmas.Bool.{and_parts, or_parts}
-use Rattle.std.proofs.lemmas.List.Elements.{All-head, All-tail}
-use Rattle.std.specs.List.{list_any}
-use Rattle.vt_spec.specs.Lists.{any_pair, is_among}
-use Rattle.vt_spec.specs.Machine.Mounts.{Mount, source_of}
-use Rattle.vt_spec.specs.Machine.Run.{used_by_filesystem, used_by_mount}
-use Rattle.vt_spec.specs.Machine.World.{Filesystem, Namespace, filesystem_at, filesystem_numbered, is_overlay, mount_at}
-use Rattle.vt_spec.specs.Machine.Invariants.{is_located_well}
-use Rattle.vt_spec.specs.Inodes.{Inodes, node_in}
-use Rattle.vt_spec.specs.TreeInvariant.{IsTree}
-use Rattle.vt_fs.specs.FilesystemsValue.{FilesystemEntry, Filesystems, entry_of, files_at, filesystem_seen, filesystems_seen, inodes_at, inodes_seen, no_entry}
-use Rattle.vt_laws_rules.specs.Numbers.{location_named}
-use Rattle.vt_laws_rules.proofs.numbers.Supports.{used_numbers_are_named}
-use Rattle.vt_laws_mounts.proofs.letting_go.Lists.{Among, among_from_all, among-map, fails}
+use Rattle.std.proofs.Common.{◌≡◌, refl, sym, ap, ◌∙◌, ⊎_elim, inl, inr, true≢false, ℕ, ◌<◌, ◌%◌, nat_eq, eq-eqb, eqb-true, Bool, true, false, cond, ◌||◌, ◌&&◌, List, [], ◌∷◌, ◌++◌, map, flat_map, Some, is_some, unwrap_or, arith, All, nat_lt, option_to_list, ◌/◌}
+use Rattle.vt_spec.proofs.Common.{All-head, All-tail, Filesystem, Inodes, IsTree, Mount, Namespace, and_parts, any_pair, filesystem_at, filesystem_numbered, is_among, is_among_left, is_located_well, is_overlay, list_any, mount_at, node_in, or_parts, source_of, used_by_filesystem, used_by_mount}
+use Rattle.vt_mounting.proofs.Common.{Among, FilesystemEntry, Filesystems, HasOwnInodes, IsHeld, WorldValue, among-map, among_from_all, born_in, counted, counted_same, counted_test, entry_of, fails, filesystem_seen, filesystems_seen, inode_number, inodes_at, inodes_seen, is_counted_before, is_own_number, leaves_two, location_named, location_of, no_entry, number_of, used_numbers_are_named, world_of}
+use Rattle.vt_fs.specs.FilesystemsValue.{files_at}
 use Rattle.vt_location.specs.declared.locations.Location.{Location}
 use Rattle.vt_location.specs.declared.locations.NodeRef.{NodeRef}
 use Rattle.vt_location.specs.declared.births.Birth.TheVariants.{Here}
-use Rattle.vt_location.specs.Births.{born_in}
-use Rattle.vt_location.specs.Locations.{location_of, number_of}
-use Rattle.vt_location.specs.Numbers.{counted, inode_number, is_own_number}
 use Rattle.vt_location.proofs.NodeLemmas.{own_birth, own_count}
-use Rattle.vt_location.proofs.NumberLemmas.{counted_same, counted_test}
-use Rattle.vt_laws_trees.specs.Runs.Handed.{is_counted_before}
-use Rattle.vt_world.specs.Held.{HasOwnInodes, IsHeld}
-use Rattle.vt_world.specs.WorldValue.{WorldValue, world_of}
 use Rattle.vt_mounting.proofs.detach.Overlaid.{found_plain_one, plain_one_among}
 use Rattle.vt_mounting.proofs.detach.PlainFound.{found_where_plain}
 use Rattle.vt_mounting.proofs.detach.FilesystemsFound.{found as filesystem_found, found_if}
-use Rattle.vt_laws_worlds.proofs.permits.in_use.InUseServes.{leaves_two}
-use Rattle.vt_spec.proofs.Found.{is_among_left}
 
 -- Filesystems by their counts
 

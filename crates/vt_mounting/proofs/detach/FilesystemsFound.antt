@@ -1,8 +1,7 @@
 -- The filesystems that the definitions find by their numbers among those that are kept by their inodes.
-use Rattle.std.proofs.Common.{ℕ, nat_eq, Bool, cond, Some, unwrap_or}
-use Rattle.std.specs.Prelude.{find}
-use Rattle.vt_spec.specs.Machine.World.{Filesystem, no_filesystem}
-use Rattle.vt_fs.specs.FilesystemsValue.{FilesystemEntry, Filesystems, filesystem_seen, filesystems_seen}
+use Rattle.std.proofs.Common.{ℕ, nat_eq, Bool, cond, Some, unwrap_or, find}
+use Rattle.vt_spec.proofs.Common.{Filesystem, no_filesystem}
+use Rattle.vt_mounting.proofs.Common.{FilesystemEntry, Filesystems, filesystem_seen, filesystems_seen}
 
 -- the filesystem with a number, as the definitions find it
 abbrev pub found : Filesystems → ℕ → Filesystem ℕ

@@ -1,8 +1,6 @@
 -- A mount or a layer goes, and the filesystem goes if neither is left in it.
 use Rattle.std.proofs.Common.{◌≡◌, refl, sym, ℕ, nat_eq, Bool, true, false, cond, not, ◌||◌, List, filter}
-use Rattle.vt_fs.specs.FilesystemsValue.{Shown}
-use Rattle.vt_laws_mounts.proofs.letting_go.Lists.{filter_all}
-use Rattle.vt_location.specs.Numbers.{counted}
+use Rattle.vt_mounting.proofs.Common.{Shown, counted, filter_all}
 use Rattle.vt_mounting.specs.Detach.Uses as meant
 use Rattle.vt_mounting.specs.Detach.Uses.{mounts_shown}
 

@@ -1,38 +1,9 @@
 -- The end of an event: the world that the sweep leaves has its invariants, and counts what is in it.
-use Rattle.std.proofs.Common.{◌≡◌, refl, sym, subst, ℕ, nat_eq, Bool, true, false, cond, List, [], ◌∷◌, Some, ◌+◌}
-use Rattle.std.specs.Prelude.{All}
-use Rattle.vt_spec.specs.Language.Calls.{TaskName}
-use Rattle.vt_spec.specs.Lists.{Fresh, folded}
-use Rattle.vt_spec.specs.Machine.Apply.{apply}
-use Rattle.vt_spec.specs.Machine.Permits.{Permit}
-use Rattle.vt_spec.specs.Machine.SameWorlds.{SameWorlds}
-use Rattle.vt_spec.specs.Machine.Settled.{is_mounted, settled}
-use Rattle.vt_spec.specs.Machine.World.{Task, World, task_called}
-use Rattle.vt_spec.specs.Machine.Invariants.{IsWorld}
-use Rattle.vt_spec.specs.Inodes.{Inodes, pinned, unpinned}
-use Rattle.vt_laws_mounts.specs.Counts.OverlaysStay.{layer_count}
-use Rattle.vt_laws_mounts.specs.Counts.Using.{exchanged, pinned_if, unpinned_if}
-use Rattle.vt_fs.specs.FilesystemsValue.{FilesystemEntry, inodes_seen}
-use Rattle.vt_group.specs.Grouping.{Has}
-use Rattle.vt_laws_rules.specs.Numbers.{KeepsTo}
-use Rattle.vt_laws_mounts.specs.LettingGo.Counts.{mounts_showing}
-use Rattle.vt_laws_mounts.specs.LettingGo.OneByOne.{Inode}
-use Rattle.vt_laws_mounts.specs.LettingGo.TreesOverlays.{in_use_of}
-use Rattle.vt_laws_mounts.proofs.letting_go.Lists.{Among, all_from_among, among_from_all}
-use Rattle.vt_location.specs.Numbers.{counted}
-use Rattle.vt_laws_worlds.specs.Permits.Left.{IsGiven}
-use Rattle.vt_laws_worlds.specs.Permits.Named.{permit_named}
-use Rattle.vt_laws_worlds.proofs.permits.named.PermitsKeepTo.{permits_keep_to_numbers}
-use Rattle.vt_laws_worlds.proofs.one_text.same.SameNumbers.{any_same_worlds_keep_to_numbers}
-use Rattle.vt_laws_worlds.proofs.one_text.same.SameWhole.{any_same_worlds_are_worlds}
-use Rattle.vt_laws_worlds.proofs.overlays_stay.left.Given.{given_permits_give_no_upper}
-use Rattle.vt_laws_trees.specs.Runs.Handed.{is_counted_before}
-use Rattle.vt_laws_worlds.specs.OverlaysRead.Writers.{WritersHaveLayers}
-use Rattle.vt_laws_worlds.proofs.overlays_read.Swept.{same_worlds_have_layers_alike}
+use Rattle.std.proofs.Common.{◌≡◌, refl, sym, subst, ℕ, nat_eq, Bool, true, false, cond, List, [], ◌∷◌, Some, ◌+◌, All}
+use Rattle.vt_spec.proofs.Common.{Fresh, Inodes, IsWorld, Permit, SameWorlds, Task, TaskName, World, apply, folded, is_mounted, pinned, settled, task_called, unpinned}
+use Rattle.vt_mounting.proofs.Common.{Among, CountsItsMounts, CountsItsUses, CountsWhatIsInIt, FilesystemEntry, Has, HasOwnInodes, Inode, IsGiven, IsHeld, IsMountedSoOften, KeepsTo, WorldValue, WritersHaveLayers, all_from_among, among_from_all, any_same_worlds_are_worlds, any_same_worlds_keep_to_numbers, counted, exchanged, given_permits_give_no_upper, in_use_of, inodes_seen, is_counted_before, layer_count, mounts_showing, permit_named, permits_keep_to_numbers, pinned_if, same_worlds_have_layers_alike, unpinned_if, world_of}
 use Rattle.vt_mounting.proofs.detach.Writers.{left_writers}
 use Rattle.vt_mounting.specs.Detach.Events.{supply_of}
-use Rattle.vt_world.specs.Held.{CountsItsMounts, CountsItsUses, CountsWhatIsInIt, HasOwnInodes, IsHeld, IsMountedSoOften}
-use Rattle.vt_world.specs.WorldValue.{WorldValue, world_of}
 use Rattle.vt_mounting.proofs.detach.OwnInodesKept.{IsOwn, own_pinned, own_unpinned}
 use Rattle.vt_mounting.proofs.detach.Bridging.{IsSwept, rise_left, swept_has, swept_is_counted, swept_is_same}
 use Rattle.vt_mounting.proofs.detach.Overlaid.{fewer_overlays_hold, same_files_rise}

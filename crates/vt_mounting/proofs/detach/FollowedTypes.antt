@@ -1,22 +1,12 @@
 -- The types that the groups tell, where mounts are detached or uses change.
-use Rattle.std.proofs.Common.{◌≡◌, refl, sym, ap, subst, ◌∙◌, ℕ, nat_eq, Bool, true, false, true≢false, cond, ◌||◌, ◌⊎◌, ⊎_elim, inl, inr, List, [], ◌∷◌, Option, None, Some, eq-eqb, eqb-true}
-use Rattle.std.proofs.lemmas.Bool.{eqb-false}
-use Rattle.std.specs.Prelude.{if◌then◌else◌}
-use Rattle.vt_spec.specs.Lists.{folded, is_among}
-use Rattle.vt_spec.specs.Machine.Mounts.{Mount, Propagation, is_unbindable, source_of}
-use Rattle.vt_spec.specs.Machine.Mounts.Propagation.{Private, Shared, Slave, Unbindable}
-use Rattle.vt_spec.specs.Machine.World.{World}
-use Rattle.vt_group.specs.Grouping.{Grouping, Has, propagation_in}
-use Rattle.vt_group.specs.Laws.{shown, typed_by}
+use Rattle.std.proofs.Common.{◌≡◌, refl, sym, ap, subst, ◌∙◌, ℕ, nat_eq, Bool, true, false, true≢false, cond, ◌||◌, ◌⊎◌, ⊎_elim, inl, inr, List, [], ◌∷◌, Option, None, Some, eq-eqb, eqb-true, if◌then◌else◌}
+use Rattle.vt_spec.proofs.Common.{Mount, Private, Propagation, Shared, Slave, Unbindable, World, eqb-false, folded, is_among, is_unbindable, source_of}
+use Rattle.vt_mounting.proofs.Common.{Among, AreTyped, Grouping, Has, IsHeld, MountEntry, WorldValue, all_from_among, among-from_filter, among-from_map, among-map, among_from_all, changed, entry_numbered, held, inode_at, or_second, propagation_in, released, typed_by, typed_entry, world_of}
+use Rattle.vt_group.specs.Laws.{shown}
 use Rattle.vt_group.proofs.Showing.{shows_types}
-use Rattle.vt_laws_mounts.specs.LettingGo.Mounting.{inode_at}
-use Rattle.vt_laws_mounts.proofs.letting_go.Lists.{Among, all_from_among, among-from_filter, among-from_map, among-map, among_from_all, or_second}
-use Rattle.vt_mount.specs.MountsValue.{MountEntry, changed, entry_numbered, held, released}
 use Rattle.vt_mounting.specs.Detach.Detached.{LeaveInTurn}
-use Rattle.vt_retype.specs.Retyping.{AreTyped, AreTypedBut, HaveNoSource, typed_entry}
+use Rattle.vt_retype.specs.Retyping.{AreTypedBut, HaveNoSource}
 use Rattle.vt_mounting.specs.Detach.Uses.{Kept, detached_entry, detached_use, is_unused, let_go_entry, let_go_mount, released_use, without_attachment, without_mount}
-use Rattle.vt_world.specs.Held.{IsHeld}
-use Rattle.vt_world.specs.WorldValue.{WorldValue, world_of}
 use Rattle.vt_mounting.proofs.detach.MidwayDone.{leave_use}
 use Rattle.vt_mounting.proofs.detach.Moving.{Use, gain}
 

@@ -1,36 +1,10 @@
 -- Events of tasks after which the mount of a location that was left goes, and its filesystem with its last mount.
-use Rattle.std.proofs.Common.{◌≡◌, refl, sym, ap, subst, ◌∙◌, ⊎_elim, ℕ, ◌+◌, nat_eq, Bool, true, false, cond, not, ◌||◌, List, [], ◌∷◌, ◌++◌, map, filter, is_some}
-use Rattle.std.specs.Prelude.{nat_lt}
-use Rattle.std.proofs.lemmas.Bool.{and_parts}
-use Rattle.std.proofs.lemmas.List.{append-nil}
-use Rattle.vt_spec.specs.Language.Calls.{TaskName}
-use Rattle.vt_spec.specs.Lists.{folded, is_among}
-use Rattle.vt_spec.specs.Machine.Mounts.{Location, Mount}
-use Rattle.vt_spec.specs.Machine.Permits.{Permit}
-use Rattle.vt_spec.specs.Machine.Settled.{is_located, is_mounted, without_dead_filesystems, without_dead_mounts}
-use Rattle.vt_spec.specs.Machine.World.{Filesystem, Task, World, all_locations, is_overlay, mount_numbered}
-use Rattle.vt_spec.specs.Machine.Invariants.{is_located_well}
-use Rattle.vt_laws_mounts.specs.Counts.OverlaysStay.{layer_count, mounted_layer_count}
-use Rattle.vt_laws_mounts.specs.Counts.Using.{Exchanges, exchanged}
-use Rattle.vt_laws_mounts.proofs.counts.going.Gone.{mount_takes_its_count}
+use Rattle.std.proofs.Common.{◌≡◌, refl, sym, ap, subst, ◌∙◌, ⊎_elim, ℕ, ◌+◌, nat_eq, Bool, true, false, cond, not, ◌||◌, List, [], ◌∷◌, ◌++◌, map, filter, is_some, nat_lt, append-nil}
+use Rattle.vt_spec.proofs.Common.{Filesystem, Location, Mount, Permit, Task, TaskName, World, all_locations, and_parts, folded, is_among, is_located, is_located_well, is_mounted, is_overlay, map_alike, map_twice, mount_numbered, without_dead_filesystems, without_dead_mounts}
+use Rattle.vt_mounting.proofs.Common.{Among, CountsItsMounts, CountsItsUses, CountsWhatIsInIt, Exchanges, FilesystemEntry, Filesystems, Inode, IsHeld, IsMountedSoOften, LocationsStand, MountEntry, MountsStand, Shown, Tasks, WorldValue, all_from_among, all_pass, among-append, among-append_left, among-append_right, among-from_filter, among-from_map, among-map, among_from_all, counted, exchanged, exchanges_follow, filesystem_seen, in_use_of, inode_at, inodes_seen, is_mount_used, layer_count, located_while_counted, mount_takes_its_count, mount_uses, mounted_layer_count, mounts_in, mounts_of_worlds_stand, mounts_showing, overlays_seen, passes, shown, shown_entry, times, without, without_mount, world_of}
 use Rattle.vt_laws_mounts.proofs.counts.using.MountRoots as Roots
-use Rattle.vt_laws_mounts.proofs.counts.using.Places.{exchanges_follow}
-use Rattle.vt_fs.specs.FilesystemsValue.{FilesystemEntry, Filesystems, Shown, filesystem_seen, inodes_seen, shown, shown_entry}
-use Rattle.vt_laws_mounts.specs.LettingGo.Counts.{mount_uses, mounts_showing, times}
-use Rattle.vt_laws_mounts.specs.LettingGo.Keeping.{LocationsStand}
-use Rattle.vt_laws_mounts.specs.LettingGo.Leaving.{MountsStand}
-use Rattle.vt_laws_mounts.specs.LettingGo.Mounting.{inode_at}
-use Rattle.vt_laws_mounts.specs.LettingGo.OneByOne.{Inode, is_mount_used, without_mount}
-use Rattle.vt_laws_mounts.proofs.letting_go.Lists.{Among, all_from_among, all_pass, among-append, among-append_left, among-append_right, among-from_filter, among-from_map, among-map, among_from_all, passes}
-use Rattle.vt_laws_mounts.proofs.letting_go.sweeps.OfWorlds.{mounts_of_worlds_stand}
-use Rattle.vt_laws_mounts.proofs.letting_go.sweeps.UsesCounted.{located_while_counted}
-use Rattle.vt_location.specs.Numbers.{counted}
-use Rattle.vt_mount.specs.MountsValue.{MountEntry, mounts_in, without}
-use Rattle.vt_tasks.specs.TasksValue.{Tasks}
-use Rattle.vt_world.specs.Held.{CountsItsMounts, CountsItsUses, CountsWhatIsInIt, IsHeld, IsMountedSoOften}
 use Rattle.vt_mounting.specs.Detach.Uses as meant
 use Rattle.vt_mounting.specs.Detach.Uses.{Kept, Merged, kept_of, kept_with}
-use Rattle.vt_world.specs.WorldValue.{WorldValue, overlays_seen, world_of}
 use Rattle.vt_mounting.proofs.detach.Bridging.{IsSwept}
 use Rattle.vt_mounting.proofs.detach.Finishing.{CountsBeside, IsApplied, finished}
 use Rattle.vt_mounting.proofs.detach.Grouped.{left_has}
@@ -44,8 +18,6 @@ use Rattle.vt_mounting.proofs.detach.OverlaysGone.{layers_gone, merged_in}
 use Rattle.vt_mounting.proofs.detach.OverlaysKept.{merged_then}
 use Rattle.vt_mounting.proofs.detach.OverlaysRemade.{counted_kept, seen_kept}
 use Rattle.vt_mounting.proofs.detach.Overlaid.{KeepsOverlays, is_plain_one, keeps_itself, layers_of_fewer, overlay_apart, plain_ones_are, same_files_keep}
-use Rattle.vt_spec.proofs.Lists.{map_alike, map_twice}
-use Rattle.vt_laws_mounts.specs.LettingGo.TreesOverlays.{in_use_of}
 
 -- Lists
 

@@ -1,20 +1,11 @@
 -- Mounts in no peer group are detached: the groups stay as they are.
 use Rattle.std.proofs.Common.{◌≡◌, refl, sym, ap, subst, ◌∙◌, inl, inr, ℕ, nat_eq, Bool, true, false, cond, List, [], ◌∷◌, map}
-use Rattle.std.specs.List.{cons_option}
-use Rattle.vt_spec.specs.Lists.{is_among}
-use Rattle.vt_spec.specs.Machine.Mounts.{Mount, detached}
-use Rattle.vt_spec.specs.Machine.Receives.{regrouped}
-use Rattle.vt_spec.specs.Machine.World.{World}
-use Rattle.vt_spec.specs.Machine.Invariants.{HasLivingGroups, Lives}
-use Rattle.vt_group.specs.Grouping.{Grouping, Has, peer_of, peers_of}
-use Rattle.vt_group.proofs.Together.{regrouped_living}
-use Rattle.vt_laws_mounts.proofs.letting_go.Lists.{Among, all_from_among, among-from_map, among_from_all}
+use Rattle.vt_spec.proofs.Common.{HasLivingGroups, Lives, Mount, World, cons_option, detached, is_among, regrouped}
+use Rattle.vt_mounting.proofs.Common.{AllGroupsLive, Among, Grouping, Has, all_from_among, among-from_map, among_from_all, is_ungrouped, peer_of, peers_of, regrouped_living}
 use Rattle.vt_mounting.proofs.detach.DetachingBegins.{detached_world}
 use Rattle.vt_mounting.proofs.detach.Grouped.{alike_has, members_alike, no_peer, rising_mapped}
 use Rattle.vt_mounting.proofs.detach.Keeping.{detached_in}
 use Rattle.vt_mounting.proofs.detach.MountsGone.{pending_number}
-use Rattle.vt_laws_mounts.specs.Mounts.Receivers.{AllGroupsLive}
-use Rattle.vt_laws_worlds.specs.Permits.Taken.{is_ungrouped}
 
 module _ (world : World ℕ) (groups : Grouping) (has : Has world groups) (live : AllGroupsLive world) (gone : List ℕ)
     (free : (mount : Mount ℕ) → Among mount world.mounts → is_among nat_eq mount.number gone ≡ true

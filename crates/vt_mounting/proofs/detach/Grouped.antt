@@ -1,23 +1,10 @@
 -- The peer groups of worlds: what leaves them as they are, and that there are none where no mount is in one.
 use Rattle.std.proofs.Common.{◌≡◌, refl, sym, ap, subst, ◌∙◌, inl, inr, ℕ, nat_eq, nat_lt, Bool, true, false, true≢false, cond, not, ◌&&◌, ◌||◌, List, [], ◌∷◌, map, filter, Option, None, option_map, is_some}
-use Rattle.std.proofs.lemmas.Bool.{and_from, and_parts}
-use Rattle.std.specs.List.{cons_option, list_all, list_any}
-use Rattle.vt_spec.specs.Machine.Mounts.{Mount, Propagation, detached, source_of}
-use Rattle.vt_spec.specs.Machine.Mounts.Propagation.{Private, Shared, Slave, Unbindable}
-use Rattle.vt_spec.specs.Machine.Receives.{has_members}
-use Rattle.vt_spec.specs.Machine.Settled.{is_located, mount_lives, settled}
-use Rattle.vt_spec.specs.Machine.World.{World}
-use Rattle.vt_spec.specs.Machine.Invariants.{IsWorld, is_nowhere_or_attached, is_private}
-use Rattle.vt_group.specs.Grouping.{Grouping, Has, are_rising, master_in, peers_of}
+use Rattle.vt_spec.proofs.Common.{IsWorld, Mount, Private, Propagation, Shared, Slave, Unbindable, World, and_from, and_parts, cons_option, detached, has_members, is_located, is_nowhere_or_attached, is_private, list_all, list_any, mount_lives, or_false_left, settled, source_of}
+use Rattle.vt_mounting.proofs.Common.{Among, Grouping, Has, IsHeld, WorldValue, among-from_map, is_ungrouped, master_in, mounts_in, numbers_of, passes, peers_of, world_of}
+use Rattle.vt_group.specs.Grouping.{are_rising}
 use Rattle.vt_group.specs.Steps.{is_member}
 use Rattle.vt_group.proofs.Peers.{members-peers}
-use Rattle.vt_laws_mounts.proofs.letting_go.Lists.{Among, among-from_map, passes}
-use Rattle.vt_mount.specs.MountsValue.{mounts_in}
-use Rattle.vt_world.specs.Held.{IsHeld}
-use Rattle.vt_world.specs.WorldValue.{WorldValue, world_of}
-use Rattle.vt_spec.proofs.Truths.{or_false_left}
-use Rattle.vt_laws_mounts.specs.Mounts.Attaching.{numbers_of}
-use Rattle.vt_laws_worlds.specs.Permits.Taken.{is_ungrouped}
 
 -- The same mounts in groups
 

@@ -1,31 +1,12 @@
 -- What code keeps of a world while mounts leave their namespaces, and what it keeps once one that nothing uses has
 -- gone.
-use Rattle.std.proofs.Common.{◌≡◌, refl, sym, ap, ◌∙◌, ℕ, ◌+◌, nat_eq, eqb-true, Bool, true, false, cond, not, List, [], ◌∷◌, ◌++◌, map, filter, find, Some, None, unwrap_or}
-use Rattle.std.specs.Prelude.{All, if◌then◌else◌, option_to_list}
-use Rattle.vt_spec.specs.Lists.{is_among}
-use Rattle.vt_spec.specs.Machine.Mounts.{Location as Place, Mount, detached, mount_in, no_mount}
-use Rattle.vt_spec.specs.Machine.Settled.{without_dead_filesystems}
-use Rattle.vt_spec.specs.Machine.World.{Filesystem, World, is_overlay, mount_at}
-use Rattle.vt_laws_mounts.specs.Counts.OverlaysStay.{layer_count}
-use Rattle.vt_laws_mounts.specs.Counts.Using.{AreThere, Exchanges, exchanged}
-use Rattle.vt_fs.specs.FilesystemsValue.{FilesystemEntry, Shown, inodes_seen}
-use Rattle.vt_laws_mounts.specs.LettingGo.Counts.{mounts_showing}
-use Rattle.vt_laws_mounts.specs.LettingGo.Detaching.{detached_if}
-use Rattle.vt_laws_mounts.specs.LettingGo.InUse.{FilesystemsInUse}
-use Rattle.vt_laws_mounts.specs.LettingGo.Keeping.{LocationsStand}
-use Rattle.vt_laws_mounts.specs.LettingGo.Leaving.{MountsStand}
-use Rattle.vt_laws_mounts.specs.LettingGo.Mounting.{inode_at}
-use Rattle.vt_laws_mounts.specs.LettingGo.OneByOne.{Inode, MountsInUseBut}
+use Rattle.std.proofs.Common.{◌≡◌, refl, sym, ap, ◌∙◌, ℕ, ◌+◌, nat_eq, eqb-true, Bool, true, false, cond, not, List, [], ◌∷◌, ◌++◌, map, filter, find, Some, None, unwrap_or, All, if◌then◌else◌, option_to_list}
+use Rattle.vt_spec.proofs.Common.{Filesystem, Location as Place, Mount, World, detached, is_among, is_overlay, mount_at, mount_in, no_mount, without_dead_filesystems}
+use Rattle.vt_mounting.proofs.Common.{Among, AreThere, CountsItsUses, Exchanges, FilesystemEntry, FilesystemsInUse, Inode, IsHeld, LocationsStand, MountsInUseBut, MountsStand, Shown, WorldValue, counted, detached_if, exchanged, filter-map, inode_at, inodes_seen, is_small_node, layer_count, location_of, mounts_in, mounts_showing, world_of}
 use Rattle.vt_laws_mounts.specs.LettingGo.OneByOne as Looks
-use Rattle.vt_laws_mounts.proofs.letting_go.Lists.{Among, filter-map}
 use Rattle.vt_laws_mounts.proofs.letting_go.leaving.PlacesLeft.{found_in_filter}
 use Rattle.vt_location.specs.declared.locations.Location.{Location}
-use Rattle.vt_location.specs.Locations.{is_small_node, location_of}
-use Rattle.vt_location.specs.Numbers.{counted}
-use Rattle.vt_mount.specs.MountsValue.{mounts_in}
-use Rattle.vt_world.specs.Held.{CountsItsUses, IsHeld}
 use Rattle.vt_mounting.specs.Detach.Uses.{Kept}
-use Rattle.vt_world.specs.WorldValue.{WorldValue, world_of}
 use Rattle.vt_mounting.proofs.detach.Moving.{swap_eq}
 use Rattle.vt_mounting.proofs.detach.MountsLeave.{LeavesOverlays}
 use Rattle.vt_mounting.proofs.detach.Overlaid.{is_plain_one}

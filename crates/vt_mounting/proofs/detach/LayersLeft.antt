@@ -1,14 +1,7 @@
 -- Uses that go one by one from plain filesystems, each with a mount or a layer: what nothing is left of goes.
 use Rattle.std.proofs.Common.{◌≡◌, refl, sym, ap, ◌∙◌, ℕ, ◌+◌, ◌-◌, nat_eq, eqb-true, eq-eqb, Bool, true, false, true≢false, cond, not, ◌||◌, List, [], ◌∷◌, map, filter, arith}
-use Rattle.std.proofs.Math.Bool.{or-false, or-true}
-use Rattle.vt_spec.specs.Lists.{folded}
-use Rattle.vt_spec.proofs.Lists.{map_alike, map_twice}
-use Rattle.vt_fs.specs.FilesystemsValue.{Shown}
-use Rattle.vt_laws_mounts.specs.Counts.Using.{unpinned_if}
-use Rattle.vt_laws_mounts.specs.LettingGo.Counts.{times}
-use Rattle.vt_laws_mounts.specs.LettingGo.OneByOne.{Inode}
-use Rattle.vt_laws_mounts.proofs.letting_go.Lists.{Among, among-from_filter, among-from_map, filter-map, filter_all, filter_alike, filter_less}
-use Rattle.vt_location.specs.Numbers.{counted}
+use Rattle.vt_spec.proofs.Common.{folded, map_alike, map_twice, or-false, or-true}
+use Rattle.vt_mounting.proofs.Common.{Among, Inode, Shown, among-from_filter, among-from_map, counted, filter-map, filter_alike, filter_all, filter_less, times, unpinned_if}
 use Rattle.vt_mounting.specs.Detach.Uses.{mounts_shown, released_if, without_layer}
 use Rattle.vt_mounting.proofs.detach.FilesystemsLeft.{let_go_is, stays_at}
 use Rattle.vt_mounting.proofs.detach.LostUses.{shown_by_rule}

@@ -1,29 +1,10 @@
 -- The layers of an overlay of the code's world are directories of the plain trees that are kept, which the world shows.
-use Rattle.std.proofs.Common.{◌≡◌, ◌≤◌, ◌<◌, refl, sym, ap, subst, ◌∙◌, ⊎_elim, inl, inr, zero, ℕ, nat_eq, eqb-true, Bool, true, false, true≢false, not, ◌&&◌, List, [], ◌∷◌, length, map, Option, Some, None, unwrap_or, arith, suc}
-use Rattle.std.specs.Prelude.{All, nat_le, nat_lt, slice_get}
-use Rattle.std.specs.List.{list_all}
-use Rattle.std.proofs.Math.Bool.{and-false}
-use Rattle.std.proofs.lemmas.Bool.{and_parts, leb-true}
-use Rattle.std.proofs.lemmas.Option.{same_Some}
-use Rattle.vt_spec.proofs.Options.{none_is_some}
-use Rattle.vt_spec.proofs.Found.{found_among, found_passes}
-use Rattle.vt_spec.specs.Language.Limits.{most_lowers}
-use Rattle.vt_spec.specs.Lists.{is_empty_list}
-use Rattle.vt_spec.specs.Machine.Invariants.{has_fit_layers, is_plain_layer}
-use Rattle.vt_spec.specs.Machine.Locked.{of_overlay}
-use Rattle.vt_spec.specs.Machine.World.{Filesystem, World, filesystem_numbered, is_overlay, layers_of}
-use Rattle.vt_spec.specs.Tree.{is_directory_node}
-use Rattle.vt_spec.specs.TreeInvariant.{IsTree}
-use Rattle.vt_laws_mounts.proofs.letting_go.Lists.{Among, all_from_among, among-map, among_from_all, passes}
-use Rattle.vt_world.specs.OverlaysKept.Kept.{ShowsLayer}
-use Rattle.vt_laws_trees.proofs.trees.TreesOfWorlds.{numbered_all}
-use Rattle.vt_location.specs.Locations.{inode_of}
-use Rattle.vt_location.specs.Numbers.{counted, is_inode_of}
-use Rattle.vt_fs.specs.FilesystemsValue.{FilesystemEntry, entry_at, entry_of, filesystem_seen, inodes_at, inodes_seen, no_entry}
+use Rattle.std.proofs.Common.{◌≡◌, ◌≤◌, ◌<◌, refl, sym, ap, subst, ◌∙◌, ⊎_elim, inl, inr, zero, ℕ, nat_eq, eqb-true, Bool, true, false, true≢false, not, ◌&&◌, List, [], ◌∷◌, length, map, Option, Some, None, unwrap_or, arith, suc, All, nat_le, nat_lt, slice_get, leb-true}
+use Rattle.vt_spec.proofs.Common.{Filesystem, IsTree, World, and-false, and_parts, filesystem_numbered, found_among, found_passes, has_fit_layers, is_directory_node, is_empty_list, is_overlay, is_plain_layer, layers_of, list_all, most_lowers, none_is_some, of_overlay, same_Some}
+use Rattle.vt_mounting.proofs.Common.{Among, AreLayers, FilesystemEntry, HasOwnInodes, IsHeld, OverlayEntry, ShowsLayer, WorldValue, all_from_among, among-map, among_from_all, counted, entry_at, entry_of, filesystem_seen, inode_of, inodes_at, inodes_seen, layer_seen, no_entry, numbered_all, overlay_seen, passes, world_of}
+use Rattle.vt_location.specs.Numbers.{is_inode_of}
 use Rattle.vt_overlay.specs.declared.merge.layers.LayerRef.{LayerRef}
-use Rattle.vt_overlay.specs.MergedTree.{AreLayers, IsLayer, layer_seen}
-use Rattle.vt_world.specs.Held.{HasOwnInodes, IsHeld}
-use Rattle.vt_world.specs.WorldValue.{OverlayEntry, WorldValue, overlay_seen, world_of}
+use Rattle.vt_overlay.specs.MergedTree.{IsLayer}
 use Rattle.vt_mounting.proofs.detach.PlainFound.{counted_where_plain, overlay_among}
 
 -- inodes of a kept filesystem have its own numbers

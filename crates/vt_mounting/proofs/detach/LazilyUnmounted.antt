@@ -1,24 +1,12 @@
 -- A lazy unmount of a tree of which no mount is in a group, and whose top stands on no shared mount: each of its events
 -- detaches one mount of the tree, and in the end all of them are detached.
-use Rattle.std.proofs.Common.{◌≡◌, refl, sym, ap, subst, ◌∙◌, inl, inr, ⊎_elim, ◌⊎◌, ℕ, zero, suc, nat_eq, eqb-true, eq-eqb, Bool, true, false, true≢false, cond, not, ◌&&◌, ◌||◌, List, [], ◌∷◌, ◌++◌, map, find, length, Option, Some, None, option_map, is_some, unwrap_or}
-use Rattle.std.specs.Prelude.{nat_lt}
-use Rattle.std.proofs.lemmas.Option.{same_Some}
-use Rattle.std.specs.List.{cons_option, list_all}
-use Rattle.vt_spec.specs.Lists.{any_pair, chain, folded, holds_of, is_among, last_or}
-use Rattle.vt_spec.specs.Machine.Detach.{after_going, deepest_first, depth_of, going, insert_deepest, is_going, lazily_unmounted, mount_point_left, mount_point_of_parent, taken_away, unmounted, unmounted_if_there}
-use Rattle.vt_spec.specs.Machine.Mounts.{Location as Place, Mount, Propagation, children, detached, is_shared, mount_in, mount_tree, no_mount, stands_on, tree_from}
-use Rattle.vt_spec.specs.Machine.Mounts.Propagation.{Private, Shared, Slave, Unbindable}
-use Rattle.vt_spec.specs.Machine.Receives.{regrouped}
-use Rattle.vt_spec.specs.Machine.World.{World, mount_at, mount_numbered, with_mounts}
-use Rattle.vt_spec.specs.Machine.Invariants.{HasLivingGroups, Lives, MountInvariants, is_nowhere_or_attached, is_private}
+use Rattle.std.proofs.Common.{◌≡◌, refl, sym, ap, subst, ◌∙◌, inl, inr, ⊎_elim, ◌⊎◌, ℕ, zero, suc, nat_eq, eqb-true, eq-eqb, Bool, true, false, true≢false, cond, not, ◌&&◌, ◌||◌, List, [], ◌∷◌, ◌++◌, map, find, length, Option, Some, None, option_map, is_some, unwrap_or, nat_lt}
+use Rattle.vt_spec.proofs.Common.{HasLivingGroups, Lives, Location as Place, Mount, MountInvariants, Private, Propagation, Shared, Slave, Unbindable, World, after_going, any_pair, chain, children, cons_option, deepest_first, depth_of, detached, folded, going, holds_of, insert_deepest, is_among, is_going, is_nowhere_or_attached, is_private, is_shared, last_or, lazily_unmounted, list_all, map_alike, map_twice, mount_at, mount_in, mount_numbered, mount_point_left, mount_point_of_parent, mount_tree, no_mount, regrouped, same_Some, stands_on, taken_away, tree_from, unmounted, unmounted_if_there, with_mounts}
 use Rattle.vt_spec.proofs.Lists as Spec
-use Rattle.vt_laws_mounts.proofs.letting_go.Lists.{Among, all_from_among, among-flat_map, among_from_all, among-from_filter, among-from_flat_map, among-from_map, among-map, among_numbers, is_among_numbers, passes, found_in}
+use Rattle.vt_mounting.proofs.Common.{AllGroupsLive, Among, all_from_among, among-flat_map, among-from_filter, among-from_flat_map, among-from_map, among-map, among_from_all, among_numbers, found_in, found_is_there, found_itself, is_among_numbers, is_ungrouped, passes, peer_of, peers_of, regrouped_living}
 use Rattle.vt_laws_mounts.proofs.letting_go.mounting.MountingTaken as Taken
-use Rattle.vt_laws_mounts.proofs.letting_go.leaving.PlacesLeft.{found_is_there, found_itself}
 use Rattle.vt_laws_mounts.proofs.mounts.Standing.{standing_is_computed}
 use Rattle.vt_laws_mounts.proofs.ends.UnmountingTrees.{trees_closed}
-use Rattle.vt_group.specs.Grouping.{peer_of, peers_of}
-use Rattle.vt_group.proofs.Together.{regrouped_living}
 use Rattle.vt_mounting.proofs.detach.DetachingBegins.{HasChildrenOf, detached_world}
 use Rattle.vt_mounting.proofs.detach.Keeping.{detached_in}
 use Rattle.vt_mounting.proofs.detach.Grouped.{members_alike, no_peer, no_source}
@@ -26,9 +14,6 @@ use Rattle.vt_mounting.proofs.detach.MountsGone.{found_mapped}
 use Rattle.vt_mounting.proofs.detach.Moving.{map_itself}
 use Rattle.vt_mounting.proofs.detach.UnmountedAlone.{goes_apart}
 use Rattle.vt_laws_mounts.proofs.ends.EndingCounts.{tree_placed}
-use Rattle.vt_spec.proofs.Lists.{map_alike, map_twice}
-use Rattle.vt_laws_mounts.specs.Mounts.Receivers.{AllGroupsLive}
-use Rattle.vt_laws_worlds.specs.Permits.Taken.{is_ungrouped}
 use Rattle.vt_laws_mounts.specs.LettingGo.Unmounting.{numbers_of_trees}
 pub use Rattle.vt_laws_mounts.specs.LettingGo.Unmounting.{numbers_of_trees as trees_numbers}
 

@@ -1,30 +1,13 @@
 -- Events of tasks after which one location is left.
-use Rattle.std.proofs.Common.{◌≡◌, ◌≢◌, refl, sym, ap, subst, ◌∙◌, inl, ℕ, nat_eq, eqb-true, Bool, true, false, true≢false, cond, not, ◌&&◌, ◌||◌, List, [], ◌∷◌, ◌++◌, map, find, Option, Some, None, option_map, is_some, unwrap_or, arith}
-use Rattle.std.specs.Prelude.{nat_lt}
-use Rattle.std.proofs.lemmas.Bool.{eqb-false, lt-ltb}
-use Rattle.vt_spec.specs.Language.Calls.{TaskName}
-use Rattle.vt_spec.specs.Lists.{is_among}
-use Rattle.vt_spec.specs.Machine.Mounts.{Mount, no_mount}
-use Rattle.vt_spec.specs.Machine.Permits.{Permit}
-use Rattle.vt_spec.specs.Machine.Settled.{without_dead_mounts}
-use Rattle.vt_spec.specs.Machine.World.{Task, World, all_locations, mount_numbered}
+use Rattle.std.proofs.Common.{◌≡◌, ◌≢◌, refl, sym, ap, subst, ◌∙◌, inl, ℕ, nat_eq, eqb-true, Bool, true, false, true≢false, cond, not, ◌&&◌, ◌||◌, List, [], ◌∷◌, ◌++◌, map, find, Option, Some, None, option_map, is_some, unwrap_or, arith, nat_lt, lt-ltb}
+use Rattle.vt_spec.proofs.Common.{Mount, Permit, Task, TaskName, World, all_locations, eqb-false, is_among, mount_numbered, no_mount, without_dead_mounts}
 use Rattle.vt_laws_mounts.proofs.counts.going.Gone.{mount_goes_at_zero}
 use Rattle.vt_laws_mounts.proofs.counts.using.MountRoots as Roots
-use Rattle.vt_fs.specs.FilesystemsValue.{Filesystems}
-use Rattle.vt_laws_mounts.specs.LettingGo.Counts.{mount_uses, times}
-use Rattle.vt_laws_mounts.specs.LettingGo.OneByOne.{without_mount}
-use Rattle.vt_laws_mounts.proofs.letting_go.Lists.{Among, among-append_right, among-from_map, passes, found_in}
+use Rattle.vt_mounting.proofs.Common.{Among, CountsItsUses, Filesystems, IsHeld, MountEntry, Tasks, WorldValue, among-append_right, among-from_map, entry_numbered, found_in, mount_uses, mounts_go_one_by_one, mounts_of_worlds_stand, passes, times, without_mount, world_of, worlds_are_in_use}
 pub use Rattle.vt_laws_mounts.proofs.letting_go.Lists.{found_in as found_it}
-use Rattle.vt_laws_mounts.proofs.letting_go.sweeps.OneByOne.{mounts_go_one_by_one}
-use Rattle.vt_laws_mounts.proofs.letting_go.sweeps.OfWorlds.{mounts_of_worlds_stand}
 use Rattle.vt_laws_mounts.proofs.letting_go.leaving.PlacesLeft.{mounts_but}
-use Rattle.vt_mount.specs.MountsValue.{MountEntry, entry_numbered}
-use Rattle.vt_tasks.specs.TasksValue.{Tasks}
-use Rattle.vt_laws_worlds.proofs.RaisedInUse.{worlds_are_in_use}
-use Rattle.vt_world.specs.Held.{CountsItsUses, IsHeld}
 use Rattle.vt_mounting.specs.Detach.Uses as meant
 use Rattle.vt_mounting.specs.Detach.Uses.{Kept, Merged, kept_of, kept_with, overlays_kept}
-use Rattle.vt_world.specs.WorldValue.{WorldValue, world_of}
 use Rattle.vt_mounting.proofs.detach.Finishing.{IsApplied}
 use Rattle.vt_mounting.proofs.detach.Going.{gone_done}
 use Rattle.vt_mounting.proofs.detach.Moving.{Moves, Use, entry_counts, folded_entry, mounts_moved, moved_kept, moved_overlays, only_left, same_moved_mounts}

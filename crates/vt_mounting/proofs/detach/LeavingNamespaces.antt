@@ -1,29 +1,14 @@
 -- A task has left a namespace: what code has then is what the sweep leaves, once mounts get the types that groups tell.
 use Rattle.std.proofs.Common.{◌≡◌, refl, sym, ap, subst, ◌∙◌, ℕ, nat_eq, eq-eqb, Bool, true, false, true≢false, ◌&&◌, List, [], map, Option, Some, None, is_some}
-use Rattle.vt_spec.specs.Lists.{holds_of}
-use Rattle.vt_spec.specs.Machine.Mounts.{Location, Mount}
-use Rattle.vt_spec.specs.Machine.Receives.{regrouped}
-use Rattle.vt_spec.specs.Machine.World.{Namespace, World, mount_at}
-use Rattle.vt_spec.specs.Machine.Invariants.{MountInvariants}
-use Rattle.vt_group.specs.Grouping.{Grouping, Has}
-use Rattle.vt_group.specs.Laws.{typed_by}
-use Rattle.vt_group.specs.Together.{TakesAway}
+use Rattle.vt_spec.proofs.Common.{Location, Mount, MountInvariants, Namespace, World, and-false, holds_of, mount_at, regrouped}
+use Rattle.vt_mounting.proofs.Common.{Among, AreTyped, Grouping, Has, Inode, IsHeld, MountEntry, NamespaceEntry, TakesAway, Tasks, WorldValue, among_from_all, counted, fails, map_same, typed_by, typed_entry}
 use Rattle.vt_group.proofs.Others.{has_ordered}
-use Rattle.vt_laws_mounts.specs.LettingGo.OneByOne.{Inode}
-use Rattle.vt_laws_mounts.proofs.letting_go.Lists.{Among, among_from_all, fails, map_same}
-use Rattle.vt_location.specs.Numbers.{counted}
-use Rattle.vt_mount.specs.MountsValue.{MountEntry}
-use Rattle.vt_tasks.specs.TasksValue.{Tasks}
-use Rattle.vt_world.specs.Held.{IsHeld}
 use Rattle.vt_mounting.specs.Detach.NamespacesLeft.{EndsIf, MountsAreLeft, NamespaceIsLeft, has_one_task, is_attached_in, namespace_entry, numbers_inside}
-use Rattle.vt_retype.specs.Retyping.{AreTyped, typed_entry}
 use Rattle.vt_mounting.specs.Detach.Uses.{Kept}
-use Rattle.vt_world.specs.WorldValue.{NamespaceEntry, WorldValue}
 use Rattle.vt_mounting.proofs.detach.Midway.{Reached}
 use Rattle.vt_mounting.proofs.detach.MidwayDone.{detaches_all}
 use Rattle.vt_mounting.proofs.detach.NamespacesEnded.{CountsOneMore, ends, ends_by}
 use Rattle.vt_mounting.proofs.detach.NamespacesTyped.{gone_numbers, left_has_groups, left_has_same, left_world}
-use Rattle.std.proofs.Math.Bool.{and-false}
 pub use Rattle.std.proofs.Math.Bool.{and-false as nothing_goes_with}
 
 -- the mounts of a namespace go, if it ends

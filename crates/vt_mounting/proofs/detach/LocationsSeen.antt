@@ -1,15 +1,8 @@
 -- The filesystem that the mount of a location shows, where the location is there: the one of its node.
-use Rattle.std.specs.Prelude.{map, nat_eq, true, ℕ, ◌≡◌}
-use Rattle.std.proofs.lemmas.Bool.{and_parts}
-use Rattle.vt_spec.specs.Lists.{is_among}
+use Rattle.std.proofs.Common.{map, nat_eq, true, ℕ, ◌≡◌}
+use Rattle.vt_spec.proofs.Common.{Mount, and_parts, is_among, is_located_well, mount_at}
 use Rattle.vt_location.specs.declared.locations.Location.{Location}
-use Rattle.vt_location.specs.Locations.{is_small_node, location_of}
-use Rattle.vt_location.specs.Numbers.{counted}
-use Rattle.vt_spec.specs.Machine.Mounts.{Mount}
-use Rattle.vt_spec.specs.Machine.World.{mount_at}
-use Rattle.vt_spec.specs.Machine.Invariants.{is_located_well}
-use Rattle.vt_world.specs.Held.{IsHeld}
-use Rattle.vt_world.specs.WorldValue.{WorldValue, world_of}
+use Rattle.vt_mounting.proofs.Common.{IsHeld, WorldValue, counted, is_small_node, location_of, world_of}
 use Rattle.vt_mounting.proofs.detach.NodesFound.{at_home}
 
 pub seen_where_located : (value : WorldValue) → IsHeld value → (at : Location) → is_small_node at.node ≡ true

@@ -1,36 +1,17 @@
 -- What a world shows, by what is kept of it.
-use Rattle.std.proofs.Common.{◌≡◌, ◌≢◌, refl, sym, ap, ◌∙◌, ⊎_elim, inl, inr, true≢false, ℕ, nat_eq, eq-eqb, eqb-true, ne_eqb, Bool, true, false, cond, ◌||◌, ◌&&◌, List, [], ◌∷◌, filter, Option, Some, None, is_some}
-use Rattle.std.specs.Prelude.{option_map, option_to_list}
-use Rattle.std.specs.List.{list_all, list_any}
-use Rattle.std.proofs.lemmas.Bool.{and_parts}
-use Rattle.vt_spec.specs.FileTree.{is_directory_under, is_removed}
-use Rattle.vt_spec.specs.Lists.{holds_of, then_some}
-use Rattle.vt_spec.specs.Machine.Detach.{is_point, mounts_on, points_of, upper_points}
-use Rattle.vt_spec.specs.Machine.Locked.{of_overlay, overlay_or}
+use Rattle.std.proofs.Common.{◌≡◌, ◌≢◌, refl, sym, ap, ◌∙◌, ⊎_elim, inl, inr, true≢false, ℕ, nat_eq, eq-eqb, eqb-true, ne_eqb, Bool, true, false, cond, ◌||◌, ◌&&◌, List, [], ◌∷◌, filter, Option, Some, None, is_some, option_map, option_to_list}
+use Rattle.vt_spec.proofs.Common.{Among, Filesystem, IsTree, Layer, Overlay, among_from_list_all, and-false, and-true, and_parts, filesystem_at, filesystem_numbered, has_its_root, holds_of, is_directory_at, is_directory_node, is_directory_under, is_point, is_removed, is_removed_at, list_all, list_any, mount_at, mount_numbered, mounts_on, no_mount, node_at, of_overlay, or-false, overlay_or, points_of, then_some, upper_object, upper_points}
 use Rattle.vt_spec.specs.Machine.Mounts as meant
-use Rattle.vt_spec.specs.Machine.Mounts.{no_mount}
-use Rattle.vt_spec.specs.Machine.World.{Filesystem, Layer, Overlay, filesystem_at, filesystem_numbered, is_directory_at, is_removed_at, mount_at, mount_numbered, node_at, upper_object}
-use Rattle.vt_spec.specs.Machine.Invariants.{has_its_root}
-use Rattle.vt_spec.specs.Tree.{is_directory_node}
-use Rattle.vt_spec.specs.TreeInvariant.{IsTree}
-use Rattle.vt_spec.proofs.Lists.{Among, among_from_list_all}
-use Rattle.vt_laws_trees.proofs.trees.TreesOfWorlds.{number_numbered, numbered_all}
+use Rattle.vt_mounting.proofs.Common.{IsHeld, WorldValue, born_in, counted, counted_test, directory_there, inode_number, is_small_node, location_of, mounts_in, number_numbered, number_of, numbered_all, world_of}
 use Rattle.vt_laws_mounts.proofs.mounts.MountsFound.{found_or_none}
-use Rattle.vt_laws_worlds.proofs.worlds.Roots.{directory_there}
 use Rattle.vt_location.specs.declared.locations.Location.{Location}
 use Rattle.vt_location.specs.declared.locations.NodeRef.{NodeRef}
-use Rattle.vt_location.specs.Births.{born_in}
-use Rattle.vt_location.specs.Locations.{is_small_node, location_of, number_of}
-use Rattle.vt_location.specs.Numbers.{counted, inode_number}
-use Rattle.vt_location.proofs.NumberLemmas.{counted_inode, counted_test}
-use Rattle.vt_mount.specs.MountsValue.{mounts_in, stands_over}
+use Rattle.vt_location.proofs.NumberLemmas.{counted_inode}
+use Rattle.vt_mount.specs.MountsValue.{stands_over}
 pub use Rattle.vt_spec.proofs.Truths.{nat_eq_turned as turned}
-use Rattle.vt_world.specs.Held.{IsHeld}
 use Rattle.vt_mounting.specs.Detach.Looking.{is_seen}
-use Rattle.vt_world.specs.WorldValue.{WorldValue, world_of}
 use Rattle.vt_mounting.proofs.detach.NodesFound.{IsNodeIn, at_home, in_no_other, no_counted_inode, nodes_own}
 use Rattle.vt_fs.proofs.TreesLookedAt.{nowhere_removed, nowhere_under, under_nowhere}
-use Rattle.std.proofs.Math.Bool.{or-false, and-false, and-true}
 
 either_false : (a b : Bool) → (a && b) ≡ false → (P : Type 0) → (a ≡ false → P) → (a ≡ true → b ≡ false → P) → P
 either_false true b e P first second = second refl e

@@ -1,22 +1,8 @@
 -- Lists of what is counted: what a step takes from them.
-use Rattle.std.proofs.Common.{◌≡◌, ◌≢◌, not, refl, sym, ap, ◌∙◌, ⊎_elim, inl, inr, ℕ, ◌+◌, nat_eq, eqb-true, eq-eqb, Bool, true, false, true≢false, cond, ◌||◌, List, [], ◌∷◌, ◌++◌, filter, find, flat_map, Some, option_map, unwrap_or, arith}
-use Rattle.std.specs.List.{list_any}
-use Rattle.std.specs.Prelude.{nat_lt}
-use Rattle.std.proofs.lemmas.Bool.{eqb-false, lt-ltb, or_parts}
-use Rattle.std.proofs.lemmas.Option.{same_Some}
-use Rattle.vt_spec.specs.Lists.{any_pair, folded}
-use Rattle.vt_spec.specs.Machine.Mounts.{Mount}
-use Rattle.vt_spec.specs.Machine.World.{Filesystem, World, filesystem_numbered, no_filesystem}
-use Rattle.vt_laws_mounts.specs.Counts.Using.{Exchanges, is_inode}
-use Rattle.vt_fs.specs.FilesystemsValue.{Shown}
-use Rattle.vt_laws_mounts.specs.LettingGo.Counts.{inode_uses, times}
-use Rattle.vt_laws_mounts.specs.LettingGo.OneByOne.{Inode}
-use Rattle.vt_laws_mounts.proofs.letting_go.Lists.{Among, among-from_filter, among-map, fails, none_passes}
-use Rattle.vt_location.specs.Numbers.{counted}
-use Rattle.vt_mount.specs.MountsValue.{MountEntry, changed, entry_numbered, mounts_in}
-use Rattle.vt_laws_mounts.specs.Mounts.Attaching.{OneNumberAMount}
+use Rattle.std.proofs.Common.{◌≡◌, ◌≢◌, not, refl, sym, ap, ◌∙◌, ⊎_elim, inl, inr, ℕ, ◌+◌, nat_eq, eqb-true, eq-eqb, Bool, true, false, true≢false, cond, ◌||◌, List, [], ◌∷◌, ◌++◌, filter, find, flat_map, Some, option_map, unwrap_or, arith, nat_lt, lt-ltb}
+use Rattle.vt_spec.proofs.Common.{Filesystem, Mount, World, any_pair, eqb-false, filesystem_numbered, folded, list_any, map_alike, map_twice, no_filesystem, or_parts, same_Some}
+use Rattle.vt_mounting.proofs.Common.{Among, Exchanges, Inode, MountEntry, OneNumberAMount, Shown, among-from_filter, among-map, changed, counted, entry_numbered, fails, inode_uses, is_inode, mounts_in, none_passes, times}
 use Rattle.vt_mounting.specs.Detach.Uses.{mounts_shown}
-use Rattle.vt_spec.proofs.Lists.{map_alike, map_twice}
 
 -- a fold over two lists put together is one after the other
 pub folded_append : {A B : Type 0} (f : A → B → A) (z : A) (xs ys : List B)

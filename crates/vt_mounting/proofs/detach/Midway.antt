@@ -1,43 +1,18 @@
 -- Between the first and the last use that a task leaves: what code counts then. Uses are left and mounts are detached
 -- in
 -- whatever order; what is no longer used goes at once, and at the end that is gone which the sweep takes.
-use Rattle.std.proofs.Common.{◌≡◌, refl, sym, ap, subst, ◌∙◌, ℕ, ◌+◌, nat_eq, eqb-true, Bool, true, false, true≢false, cond, not, ◌||◌, List, [], ◌∷◌, ◌++◌, map, filter, flat_map, Option, Some, None, option_map, is_some, append_assoc, arith}
-use Rattle.std.specs.Prelude.{IfSome, option_to_list}
-use Rattle.std.specs.List.{list_all, list_any}
-use Rattle.std.proofs.lemmas.Bool.{and_parts, or_parts}
-use Rattle.std.proofs.lemmas.Option.{same_Some}
-use Rattle.vt_spec.specs.Lists.{any_pair, folded}
-use Rattle.vt_spec.specs.Machine.Mounts.{Mount, detached}
-use Rattle.vt_spec.specs.Machine.World.{Filesystem, World, is_overlay}
-use Rattle.vt_spec.specs.Machine.Invariants.{is_located_well}
-use Rattle.vt_laws_mounts.specs.Counts.OverlaysStay.{layer_count}
-use Rattle.vt_laws_mounts.specs.Counts.Using.{AreThere, Exchanges, exchanged, is_inode, pinned_if, unpinned_if}
-use Rattle.vt_fs.specs.FilesystemsValue.{FilesystemEntry, Shown, inodes_seen}
-use Rattle.vt_laws_mounts.specs.LettingGo.Counts.{mount_uses, mounts_showing, times}
-use Rattle.vt_laws_mounts.specs.LettingGo.Keeping.{LocationsStand}
-use Rattle.vt_laws_mounts.specs.LettingGo.Leaving.{MountsStand}
-use Rattle.vt_laws_mounts.specs.LettingGo.Mounting.{inode_at}
-use Rattle.vt_laws_mounts.specs.LettingGo.OneByOne.{Inode}
-use Rattle.vt_laws_mounts.proofs.letting_go.Lists.{Among, among-from_map, among-map, fails, map_same}
+use Rattle.std.proofs.Common.{◌≡◌, refl, sym, ap, subst, ◌∙◌, ℕ, ◌+◌, nat_eq, eqb-true, Bool, true, false, true≢false, cond, not, ◌||◌, List, [], ◌∷◌, ◌++◌, map, filter, flat_map, Option, Some, None, option_map, is_some, append_assoc, arith, IfSome, option_to_list}
+use Rattle.vt_spec.proofs.Common.{Filesystem, Mount, World, and_parts, any_pair, detached, folded, is_located_well, is_overlay, list_all, list_any, map_alike, map_twice, or_parts, same_Some}
+use Rattle.vt_mounting.proofs.Common.{Among, AreThere, Exchanges, FilesystemEntry, Inode, IsHeld, LocationsStand, MountEntry, MountsStand, OneNumberAMount, Shown, WorldValue, among-from_map, among-map, changed, counted, entry_numbered, exchanged, fails, in_use_of, inode_at, inodes_of_mount_point, inodes_seen, is_inode, is_small_node, layer_count, location_of, map_same, mount_uses, mounts_in, mounts_showing, number_of, pinned_if, released, times, times_append, unpinned_if, world_of, writes_of}
 use Rattle.vt_location.specs.declared.locations.Location.{Location as Place}
-use Rattle.vt_location.specs.Locations.{is_small_node, location_of, number_of}
-use Rattle.vt_location.specs.Numbers.{counted}
-use Rattle.vt_mount.specs.MountsValue.{MountEntry, changed, entry_numbered, mounts_in, released}
-use Rattle.vt_laws_mounts.proofs.letting_go.sweeps.UpperUses.{times_append}
-use Rattle.vt_laws_mounts.specs.Mounts.Attaching.{OneNumberAMount}
-use Rattle.vt_laws_mounts.specs.LettingGo.Attaching.{inodes_of_mount_point}
-use Rattle.vt_world.specs.Held.{IsHeld, writes_of}
 use Rattle.vt_mounting.specs.Detach.Uses as meant
 use Rattle.vt_mounting.specs.Detach.Uses.{Kept, detached_entry, is_unused, unpinned_at, unpinned_in}
-use Rattle.vt_world.specs.WorldValue.{WorldValue, world_of}
 use Rattle.vt_mounting.proofs.detach.LocationsSeen.{seen_where_located}
 use Rattle.vt_mounting.proofs.detach.LostUses.{entry_found_at, entry_itself, folded_append, lost_alike, mounts_unchanged}
 use Rattle.vt_mounting.proofs.detach.MountsLeave.{LeavesOverlays}
 use Rattle.vt_mounting.proofs.detach.Overlaid.{is_plain_one}
 use Rattle.vt_mounting.proofs.detach.OverlaysGone.{merged_in}
 use Rattle.vt_mounting.proofs.detach.Moving.{Use, inodes_of_uses, is_use_on, lose, release_if, released_counts, writes_on_mount}
-use Rattle.vt_spec.proofs.Lists.{map_alike, map_twice}
-use Rattle.vt_laws_mounts.specs.LettingGo.TreesOverlays.{in_use_of}
 
 -- a mount that is still to be detached, as it is afterwards
 abbrev pub gone_if : (Mount ℕ → Bool) → Mount ℕ → Mount ℕ

@@ -1,45 +1,13 @@
 -- Where tasks have left uses and a namespace, before code has taken anything away.
-use Rattle.std.proofs.Common.{◌≡◌, refl, sym, ap, subst, ◌∙◌, ⊎_elim, ℕ, ◌+◌, nat_eq, eqb-true, Bool, true, false, true≢false, cond, not, ◌&&◌, ◌||◌, List, [], ◌∷◌, ◌++◌, map, find, flat_map, Option, Some, None, is_some, unwrap_or, append_assoc, arith}
-use Rattle.std.specs.Prelude.{option_to_list}
-use Rattle.std.specs.List.{list_all, list_any}
-use Rattle.std.proofs.lemmas.Bool.{and_parts}
-use Rattle.std.proofs.lemmas.Option.{same_Some}
-use Rattle.std.proofs.lemmas.List.{append-nil}
-use Rattle.vt_spec.specs.Lists.{any_pair, folded, is_among}
-use Rattle.vt_spec.specs.Machine.Mounts.{Location, Mount, detached, mount_in, no_mount, root_of}
-use Rattle.vt_spec.specs.Machine.Settled.{is_located, mount_lives}
-use Rattle.vt_spec.specs.Machine.World.{Filesystem, Namespace, World, all_locations, is_directory_at, mount_at, mount_numbered, node_at}
-use Rattle.vt_spec.specs.Machine.Invariants.{Stands, has_its_root, is_located_well, is_nowhere_or_attached}
-use Rattle.vt_spec.specs.Machine.Invariants.Stands.{at_root, on_parent}
-use Rattle.vt_laws_mounts.specs.Counts.Using.{Exchanges, pinned_if, places_of}
+use Rattle.std.proofs.Common.{◌≡◌, refl, sym, ap, subst, ◌∙◌, ⊎_elim, ℕ, ◌+◌, nat_eq, eqb-true, Bool, true, false, true≢false, cond, not, ◌&&◌, ◌||◌, List, [], ◌∷◌, ◌++◌, map, find, flat_map, Option, Some, None, is_some, unwrap_or, append_assoc, arith, option_to_list, append-nil}
+use Rattle.vt_spec.proofs.Common.{Filesystem, Location, Mount, Namespace, Stands, World, all_locations, and_parts, any_pair, at_root, detached, folded, has_its_root, is_among, is_directory_at, is_located, is_located_well, is_nowhere_or_attached, list_all, list_any, map_alike, map_twice, mount_at, mount_in, mount_lives, mount_numbered, no_mount, node_at, on_parent, root_of, same_Some}
+use Rattle.vt_mounting.proofs.Common.{Among, CountsItsMounts, CountsItsUses, Exchanges, FilesystemEntry, Inode, IsHeld, LocationsStand, MountEntry, MountsStand, OneNumberAMount, Shown, Tasks, WorldValue, all_pass, among-append, among-append_left, among-append_right, among-filter_map, among-from_map, among-map, among_from_all, counted, directory_there, exchanges_follow, filesystem_seen, found_itself, inode_at, inodes_of_mount_point, layer_count, located_while_counted, locations_use_mounts, mount_is_placed, mount_uses, mounts_in, mounts_of_worlds_stand, passes, pinned_if, places_of, shown, shown_entry, stands_on_attached, times, world_of, worlds_are_in_use, writes_of}
 use Rattle.vt_laws_mounts.proofs.counts.using.MountRoots as Roots
-use Rattle.vt_laws_mounts.proofs.counts.using.Places.{exchanges_follow, locations_use_mounts, mount_is_placed}
-use Rattle.vt_fs.specs.FilesystemsValue.{FilesystemEntry, Shown, filesystem_seen, shown, shown_entry}
-use Rattle.vt_laws_mounts.specs.LettingGo.Counts.{mount_uses, times}
-use Rattle.vt_laws_mounts.specs.LettingGo.Keeping.{LocationsStand}
-use Rattle.vt_laws_mounts.specs.LettingGo.Leaving.{MountsStand, stands_on_attached}
-use Rattle.vt_laws_mounts.specs.LettingGo.Mounting.{inode_at}
-use Rattle.vt_laws_mounts.specs.LettingGo.OneByOne.{Inode}
-use Rattle.vt_laws_mounts.proofs.letting_go.Lists.{Among, all_pass, among-append, among-append_left, among-append_right, among-filter_map, among-from_map, among-map, among_from_all, passes}
-use Rattle.vt_laws_mounts.proofs.letting_go.sweeps.OfWorlds.{mounts_of_worlds_stand}
-use Rattle.vt_laws_mounts.proofs.letting_go.leaving.PlacesLeft.{found_itself}
-use Rattle.vt_laws_mounts.proofs.letting_go.sweeps.UsesCounted.{located_while_counted}
-use Rattle.vt_location.specs.Numbers.{counted}
-use Rattle.vt_mount.specs.MountsValue.{MountEntry, mounts_in}
-use Rattle.vt_tasks.specs.TasksValue.{Tasks}
-use Rattle.vt_laws_worlds.proofs.RaisedInUse.{worlds_are_in_use}
-use Rattle.vt_laws_worlds.proofs.worlds.Roots.{directory_there}
-use Rattle.vt_laws_mounts.specs.Mounts.Attaching.{OneNumberAMount}
-use Rattle.vt_laws_mounts.specs.LettingGo.Attaching.{inodes_of_mount_point}
-use Rattle.vt_world.specs.Held.{CountsItsMounts, CountsItsUses, IsHeld, writes_of}
 use Rattle.vt_mounting.specs.Detach.Uses.{Kept, is_unused, kept_of}
-use Rattle.vt_world.specs.WorldValue.{WorldValue, world_of}
 use Rattle.vt_mounting.proofs.detach.LostUses.{positive}
 use Rattle.vt_mounting.proofs.detach.Midway.{IsShown, Midway, NoneUnused, Reached, gone_if, gone_number, point_left, points_left}
 use Rattle.vt_mounting.proofs.detach.Moving.{Moves, Use, filesystems_gained, gain, gained_overlays, gained_there, held_counts, hold_if, inodes_of_uses, is_use_on, locations, mounts_gained, same_moved_mounts, times_mapped, uses_moved, writes_on_mount}
 use Rattle.vt_mounting.proofs.detach.Staying.{after}
-use Rattle.vt_spec.proofs.Lists.{map_alike, map_twice}
-use Rattle.vt_laws_mounts.specs.Counts.OverlaysStay.{layer_count}
 use Rattle.vt_mounting.proofs.detach.MountsLeave.{leaves_alike, leaves_at_first, merged_alike, merged_at_first, some_at_first}
 use Rattle.vt_mounting.proofs.detach.Overlaid.{plain_ones_are}
 

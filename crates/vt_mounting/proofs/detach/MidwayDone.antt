@@ -1,28 +1,11 @@
 -- The steps by which tasks leave uses and namespaces, and the world after the last of them.
-use Rattle.std.proofs.Common.{◌≡◌, refl, sym, ap, subst, ◌∙◌, ℕ, ◌+◌, nat_eq, Bool, true, false, true≢false, cond, not, ◌&&◌, ◌||◌, List, [], ◌∷◌, ◌++◌, map, filter, flat_map, Option, Some, is_some, arith}
-use Rattle.std.specs.Prelude.{All}
-use Rattle.std.proofs.lemmas.List.{append-nil}
-use Rattle.vt_spec.specs.Lists.{folded}
-use Rattle.vt_spec.specs.Machine.Mounts.{Location, Mount, detached}
-use Rattle.vt_spec.specs.Machine.SameWorlds.{without_changes}
-use Rattle.vt_spec.specs.Machine.Settled.{filesystem_lives, is_located, is_mounted, mount_lives, without_dead_filesystems, without_dead_mounts}
-use Rattle.vt_spec.specs.Machine.World.{Filesystem, Task, World, is_overlay}
-use Rattle.vt_laws_mounts.specs.Counts.OverlaysStay.{layer_count}
-use Rattle.vt_laws_mounts.specs.Counts.Using.{Exchanges}
-use Rattle.vt_fs.specs.FilesystemsValue.{FilesystemEntry, Shown, shown_entry}
-use Rattle.vt_laws_mounts.specs.LettingGo.Counts.{mount_uses, mounts_showing}
-use Rattle.vt_laws_mounts.specs.LettingGo.OneByOne.{Inode}
-use Rattle.vt_laws_mounts.specs.LettingGo.Mounting.{inode_at}
-use Rattle.vt_laws_mounts.proofs.letting_go.Lists.{Among, all_from_among, among-filter, among-from_map, among-map, among_from_all, filter_all, flat_map_none, map_same}
-use Rattle.vt_laws_mounts.proofs.letting_go.sweeps.UsesCounted.{located_while_counted}
+use Rattle.std.proofs.Common.{◌≡◌, refl, sym, ap, subst, ◌∙◌, ℕ, ◌+◌, nat_eq, Bool, true, false, true≢false, cond, not, ◌&&◌, ◌||◌, List, [], ◌∷◌, ◌++◌, map, filter, flat_map, Option, Some, is_some, arith, All, append-nil}
+use Rattle.vt_spec.proofs.Common.{Filesystem, Location, Mount, Task, World, detached, filesystem_lives, folded, is_located, is_mounted, is_overlay, map_twice, mount_lives, without_changes, without_dead_filesystems, without_dead_mounts}
+use Rattle.vt_mounting.proofs.Common.{Among, CountsItsUses, CountsWhatIsInIt, Exchanges, FilesystemEntry, Inode, IsHeld, IsMountedSoOften, MountEntry, Shown, WorldValue, all_from_among, among-filter, among-from_map, among-map, among_from_all, counted, filter_all, in_use_of, inode_at, inodes_of_mount_point, layer_count, located_while_counted, map_same, mount_uses, mounts_in, mounts_showing, overlays_seen, shown_entry, world_of, writes_of}
+use Rattle.vt_laws_mounts.proofs.letting_go.Lists.{flat_map_none}
 use Rattle.vt_location.specs.declared.locations.Location.{Location as Place}
-use Rattle.vt_location.specs.Numbers.{counted}
-use Rattle.vt_mount.specs.MountsValue.{MountEntry, mounts_in}
-use Rattle.vt_laws_mounts.specs.LettingGo.Attaching.{inodes_of_mount_point}
-use Rattle.vt_world.specs.Held.{CountsItsUses, CountsWhatIsInIt, IsHeld, IsMountedSoOften, writes_of}
 use Rattle.vt_mounting.specs.Detach.NamespacesLeft.{AreDetached, Detached}
 use Rattle.vt_mounting.specs.Detach.Uses.{Kept, Merged, kept_with, overlays_kept, without_attachment, without_use}
-use Rattle.vt_world.specs.WorldValue.{WorldValue, overlays_seen, world_of}
 use Rattle.vt_mounting.proofs.detach.Bridging.{IsSwept}
 use Rattle.vt_mounting.proofs.detach.Finishing.{CountsBeside}
 use Rattle.vt_mounting.proofs.detach.Midway.{IsGoing, Midway, Reached, gone_if, left_alone, mount_taken, point_left, points_left, taken_alone, use_left}
@@ -33,8 +16,6 @@ use Rattle.vt_mounting.proofs.detach.LostUses.{positive}
 use Rattle.vt_mounting.proofs.detach.Overlaid.{KeepsOverlays, is_plain_one, layers_of_fewer}
 use Rattle.vt_mounting.proofs.detach.OverlaysGone.{merged_in}
 use Rattle.vt_mounting.proofs.detach.OverlaysRemade.{counted_kept, seen_kept}
-use Rattle.vt_spec.proofs.Lists.{map_twice}
-use Rattle.vt_laws_mounts.specs.LettingGo.TreesOverlays.{in_use_of}
 
 -- one use less of a location of a world, as code leaves it
 abbrev pub leave_use : World ℕ → Kept → Use → Kept

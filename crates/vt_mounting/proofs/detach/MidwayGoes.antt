@@ -1,42 +1,16 @@
 -- A mount that nothing uses any more goes, and its filesystem with its last mount, between the first and the last use
 -- that a
 -- task leaves.
-use Rattle.std.proofs.Common.{◌≡◌, refl, sym, ap, subst, ◌∙◌, ℕ, ◌+◌, nat_eq, eqb-true, eq-eqb, Bool, true, false, true≢false, cond, not, ◌&&◌, ◌||◌, List, [], ◌∷◌, ◌++◌, map, filter, find, flat_map, Option, Some, None, is_some, arith}
-use Rattle.std.specs.Prelude.{nat_lt, option_to_list}
-use Rattle.std.specs.List.{list_all, list_any}
-use Rattle.std.proofs.lemmas.Bool.{and_parts, or_parts}
-use Rattle.std.proofs.lemmas.Option.{same_Some}
-use Rattle.vt_spec.specs.Lists.{folded, is_among}
-use Rattle.vt_spec.specs.Machine.Mounts.{Location, Mount, detached, mount_in}
-use Rattle.vt_spec.specs.Machine.Settled.{filesystem_lives, has_layer_on, is_located, is_mounted, mount_lives, without_dead_filesystems, without_dead_mounts}
-use Rattle.vt_spec.specs.Machine.World.{Filesystem, World, all_locations, is_overlay, mount_at, mount_numbered}
-use Rattle.vt_spec.specs.Machine.Invariants.{is_nowhere_or_attached}
-use Rattle.vt_laws_mounts.specs.Counts.OverlaysStay.{layer_count, mounted_layer_count}
-use Rattle.vt_laws_mounts.specs.Counts.Using.{Exchanges, pinned_if, unpinned_if}
-use Rattle.vt_laws_mounts.proofs.counts.going.Gone.{mount_takes_its_count}
+use Rattle.std.proofs.Common.{◌≡◌, refl, sym, ap, subst, ◌∙◌, ℕ, ◌+◌, nat_eq, eqb-true, eq-eqb, Bool, true, false, true≢false, cond, not, ◌&&◌, ◌||◌, List, [], ◌∷◌, ◌++◌, map, filter, find, flat_map, Option, Some, None, is_some, arith, nat_lt, option_to_list}
+use Rattle.vt_spec.proofs.Common.{Filesystem, Location, Mount, World, all_locations, and_parts, detached, filesystem_lives, folded, has_layer_on, is_among, is_located, is_mounted, is_nowhere_or_attached, is_overlay, list_all, list_any, mount_at, mount_in, mount_lives, mount_numbered, or_parts, same_Some, without_dead_filesystems, without_dead_mounts}
+use Rattle.vt_mounting.proofs.Common.{Among, Exchanges, Inode, IsHeld, LocationsStand, MountEntry, MountsStand, OneNumberAMount, Shown, WorldValue, all_pass, among-filter, among-from_filter, among-from_map, among-map, among_numbers, any-filter, any_passes, counted, entry_numbered, exchanges_follow, fails, filter-map, filter_alike, filter_less, found_itself, in_use_of, inodes_of_mount_point, inodes_seen, is_among_numbers, is_mount_used, layer_count, located_while_counted, mount_takes_its_count, mount_uses, mounted_layer_count, mounts_in, mounts_showing, one_passes, overlays_seen, passes, pinned_if, stands_on_attached, unpinned_if, without, without_mount, world_of}
 use Rattle.vt_laws_mounts.proofs.counts.using.MountRoots as Roots
-use Rattle.vt_laws_mounts.proofs.counts.using.Places.{exchanges_follow}
-use Rattle.vt_fs.specs.FilesystemsValue.{Shown, inodes_seen}
-use Rattle.vt_laws_mounts.specs.LettingGo.Counts.{mount_uses, mounts_showing}
-use Rattle.vt_laws_mounts.specs.LettingGo.Keeping.{LocationsStand}
-use Rattle.vt_laws_mounts.specs.LettingGo.Leaving.{MountsStand, stands_on_attached}
-use Rattle.vt_laws_mounts.specs.LettingGo.OneByOne.{Inode, is_mount_used, without_mount}
-use Rattle.vt_laws_mounts.proofs.letting_go.Lists.{Among, all_pass, among-filter, among-from_filter, among-from_map, among-map, among_numbers, any-filter, any_passes, fails, filter-map, filter_alike, filter_less, is_among_numbers, one_passes, passes}
-use Rattle.vt_laws_mounts.proofs.letting_go.leaving.PlacesLeft.{found_itself}
-use Rattle.vt_laws_mounts.proofs.letting_go.sweeps.UsesCounted.{located_while_counted}
-use Rattle.vt_location.specs.Numbers.{counted}
-use Rattle.vt_mount.specs.MountsValue.{MountEntry, entry_numbered, mounts_in, without}
-use Rattle.vt_laws_mounts.specs.Mounts.Attaching.{OneNumberAMount}
-use Rattle.vt_laws_mounts.specs.LettingGo.Attaching.{inodes_of_mount_point}
-use Rattle.vt_world.specs.Held.{IsHeld}
 use Rattle.vt_mounting.specs.Detach.Uses as meant
 use Rattle.vt_mounting.specs.Detach.Uses.{Kept, is_unused, let_go_entry}
-use Rattle.vt_world.specs.WorldValue.{WorldValue, overlays_seen, world_of}
 use Rattle.vt_mounting.proofs.detach.LayersLeft.{less}
 use Rattle.vt_mounting.proofs.detach.LostUses.{entry_found_at, entry_itself, flat_map_less, folded_append, one_number_less, positive}
 use Rattle.vt_mounting.proofs.detach.Midway.{IsShown, Midway, NoneUnused, Reached, UnusedOnly, gone_if, gone_number, one_number_kept, point_left, points_left, unused_parts}
 use Rattle.vt_mounting.proofs.detach.Moving.{Use, inodes_of_uses, swap_eq}
-use Rattle.vt_laws_mounts.specs.LettingGo.TreesOverlays.{in_use_of}
 use Rattle.vt_mounting.proofs.detach.BesideOverlays.{lives_more}
 use Rattle.vt_mounting.proofs.detach.MountsGone.{exchanges_between}
 use Rattle.vt_mounting.proofs.detach.MountsLeave.{layers_exchanged, layers_stay, leaves_then, left_counted, left_shown, numbers_are, overlay_was, overlays_apart, overlays_stay, shown_are}

@@ -1,32 +1,10 @@
 -- Events that change one mount, which stays where it is attached or gets another mount point: mount(2) with MS_REMOUNT,
 -- with
 -- MS_PRIVATE or MS_UNBINDABLE, and with MS_MOVE.
-use Rattle.std.proofs.Common.{◌≡◌, refl, sym, ap, subst, ◌∙◌, ◌+◌, ℕ, nat_eq, eqb-true, Bool, true, false, true≢false, cond, ◌||◌, ◌&&◌, List, [], ◌∷◌, ◌++◌, map, filter, find, Option, Some, None, option_map, is_some, unwrap_or}
-use Rattle.std.specs.Prelude.{option_to_list}
-use Rattle.std.specs.List.{list_any}
-use Rattle.std.proofs.lemmas.Bool.{or_parts}
-use Rattle.std.proofs.lemmas.List.{map-append}
-use Rattle.vt_spec.specs.Language.Calls.{TaskName}
-use Rattle.vt_spec.specs.Lists.{any_pair}
-use Rattle.vt_spec.specs.Machine.Mounts.{Mount, no_mount}
-use Rattle.vt_spec.specs.Machine.Permits.{Permit}
-use Rattle.vt_spec.specs.Machine.Settled.{filesystem_lives, has_layer_on, is_located, is_mounted, mount_lives, settled, without_dead_filesystems, without_dead_mounts}
-use Rattle.vt_spec.specs.Machine.World.{Filesystem, Task, World, mount_numbered, with_mounts}
-use Rattle.vt_laws_mounts.specs.Counts.OverlaysStay.{layer_count}
-use Rattle.vt_laws_mounts.specs.Counts.Using.{AreThere, Exchanges}
-use Rattle.vt_laws_mounts.proofs.counts.using.Places.{mount_is_placed}
-use Rattle.vt_fs.specs.FilesystemsValue.{FilesystemEntry, Filesystems, Shown, filesystem_seen, inodes_seen, shown, shown_entry}
-use Rattle.vt_group.specs.Grouping.{Has}
-use Rattle.vt_laws_mounts.specs.LettingGo.Counts.{mounts_showing, times}
+use Rattle.std.proofs.Common.{◌≡◌, refl, sym, ap, subst, ◌∙◌, ◌+◌, ℕ, nat_eq, eqb-true, Bool, true, false, true≢false, cond, ◌||◌, ◌&&◌, List, [], ◌∷◌, ◌++◌, map, filter, find, Option, Some, None, option_map, is_some, unwrap_or, option_to_list}
+use Rattle.vt_spec.proofs.Common.{Filesystem, Mount, Permit, Task, TaskName, World, any_pair, filesystem_lives, has_layer_on, is_located, is_mounted, list_any, map-append, map_twice, mount_lives, mount_numbered, no_mount, or_parts, settled, with_mounts, without_dead_filesystems, without_dead_mounts}
+use Rattle.vt_mounting.proofs.Common.{Among, AreThere, CountsItsMounts, CountsItsUses, CountsWhatIsInIt, Exchanges, FilesystemEntry, Filesystems, Has, Inode, IsHeld, MountEntry, Shown, WorldValue, all_from_among, among-from_map, among-map, among_from_all, any-map, changed, counted, entry_numbered, filesystem_seen, filter_all, in_use_of, inode_at, inodes_seen, layer_count, mount_is_placed, mounts_in, mounts_showing, passes, shown, shown_entry, times, world_of, worlds_are_in_use}
 use Rattle.vt_laws_mounts.specs.LettingGo.InUse.{AllInUse}
-use Rattle.vt_laws_mounts.specs.LettingGo.Mounting.{inode_at}
-use Rattle.vt_laws_mounts.specs.LettingGo.OneByOne.{Inode}
-use Rattle.vt_laws_mounts.proofs.letting_go.Lists.{Among, all_from_among, among-from_map, among-map, among_from_all, any-map, filter_all, passes}
-use Rattle.vt_location.specs.Numbers.{counted}
-use Rattle.vt_mount.specs.MountsValue.{MountEntry, changed, entry_numbered, mounts_in}
-use Rattle.vt_laws_worlds.proofs.RaisedInUse.{worlds_are_in_use}
-use Rattle.vt_world.specs.Held.{CountsItsMounts, CountsItsUses, CountsWhatIsInIt, IsHeld}
-use Rattle.vt_world.specs.WorldValue.{WorldValue, world_of}
 use Rattle.vt_mounting.proofs.detach.Bridging.{IsSwept}
 use Rattle.vt_mounting.proofs.detach.Finishing.{CountsBeside, IsApplied, finished}
 use Rattle.vt_mounting.proofs.detach.Grouped.{changed_has}
@@ -35,8 +13,6 @@ use Rattle.vt_mounting.proofs.detach.Remaining.{remade}
 use Rattle.vt_mounting.proofs.detach.Shown.{found_entry}
 use Rattle.vt_mounting.proofs.detach.Overlaid.{all_shown, is_plain_one, keeps_itself, layers_kept, overlays_counted, plain_ones_are, same_files_keep, still_mounted}
 use Rattle.vt_mounting.proofs.detach.Staying.{IsDone}
-use Rattle.vt_spec.proofs.Lists.{map_twice}
-use Rattle.vt_laws_mounts.specs.LettingGo.TreesOverlays.{in_use_of}
 
 -- the mount keeps its number, its namespace and what it shows
 pub record KeepsWhatItShows (change : Mount ℕ → Mount ℕ) : Type 0 where

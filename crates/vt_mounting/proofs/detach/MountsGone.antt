@@ -1,35 +1,15 @@
 -- A mount that has left its namespace is looked at: it goes if nothing is on it, and its filesystem with its last
 -- mount.
-use Rattle.std.proofs.Common.{◌≡◌, ◌≢◌, refl, sym, ap, subst, ◌∙◌, inl, ⊎_elim, ℕ, ◌+◌, nat_eq, eqb-true, Bool, true, false, true≢false, cond, not, ◌&&◌, ◌||◌, List, [], ◌∷◌, ◌++◌, map, filter, find, Option, Some, None, option_map, is_some, unwrap_or, arith}
-use Rattle.std.specs.Prelude.{nat_lt, option_to_list}
-use Rattle.std.proofs.lemmas.Bool.{eqb-false, lt-ltb}
-use Rattle.vt_spec.specs.Lists.{folded, is_among}
-use Rattle.vt_spec.specs.Machine.Mounts.{Location as Place, Mount, detached, no_mount}
-use Rattle.vt_spec.specs.Machine.Settled.{filesystem_lives, is_located, mount_lives, without_dead_filesystems}
-use Rattle.vt_spec.specs.Machine.World.{Filesystem, World, all_locations, is_overlay, mount_at, mount_numbered}
-use Rattle.vt_spec.specs.Machine.Invariants.{is_nowhere_or_attached}
-use Rattle.vt_laws_mounts.specs.Counts.OverlaysStay.{layer_count, mounted_layer_count}
-use Rattle.vt_laws_mounts.specs.Counts.Using.{Exchanges, is_inode, pinned_if, unpinned_if}
-use Rattle.vt_laws_mounts.proofs.counts.going.Gone.{mount_goes_at_zero, mount_takes_its_count}
+use Rattle.std.proofs.Common.{◌≡◌, ◌≢◌, refl, sym, ap, subst, ◌∙◌, inl, ⊎_elim, ℕ, ◌+◌, nat_eq, eqb-true, Bool, true, false, true≢false, cond, not, ◌&&◌, ◌||◌, List, [], ◌∷◌, ◌++◌, map, filter, find, Option, Some, None, option_map, is_some, unwrap_or, arith, nat_lt, option_to_list, lt-ltb}
+use Rattle.vt_spec.proofs.Common.{Filesystem, Location as Place, Mount, World, all_locations, detached, eqb-false, filesystem_lives, folded, is_among, is_located, is_nowhere_or_attached, is_overlay, mount_at, mount_lives, mount_numbered, no_mount, pair-filter, without_dead_filesystems}
+use Rattle.vt_mounting.proofs.Common.{Among, CountsItsUses, Exchanges, Inode, LocationsStand, MountEntry, MountsStand, Shown, WorldValue, all_from_among, all_pass, among-filter, among-from_filter, among-from_map, among-map, among_from_all, among_numbers, counted, entry_numbered, exchanges_follow, fails, filter-map, filter_all, found_in, inodes_seen, is_among_numbers, is_inode, is_mount_used, layer_count, located_while_counted, mount_takes_its_count, mount_uses, mounted_layer_count, mounts_in, mounts_showing, or_second, overlays_seen, passes, pinned_if, stands_on_attached, times_append, unpinned_if, without, without_mount, world_of}
+use Rattle.vt_laws_mounts.proofs.counts.going.Gone.{mount_goes_at_zero}
 use Rattle.vt_laws_mounts.proofs.counts.using.MountRoots as Roots
-use Rattle.vt_laws_mounts.proofs.counts.using.Places.{exchanges_follow}
-use Rattle.vt_fs.specs.FilesystemsValue.{Shown, inodes_seen}
-use Rattle.vt_laws_mounts.specs.LettingGo.Counts.{mount_uses, mounts_showing}
-use Rattle.vt_laws_mounts.specs.LettingGo.Keeping.{LocationsStand}
-use Rattle.vt_laws_mounts.specs.LettingGo.Leaving.{MountsStand, stands_on_attached}
 use Rattle.vt_laws_mounts.specs.LettingGo.Mounting.{root_inode}
-use Rattle.vt_laws_mounts.specs.LettingGo.OneByOne.{Inode, is_mount_used, without_mount}
 use Rattle.vt_laws_mounts.specs.LettingGo.OneByOne as Looks
-use Rattle.vt_laws_mounts.proofs.letting_go.Lists.{Among, all_from_among, all_pass, among-filter, among-from_filter, among-from_map, among-map, among_from_all, among_numbers, fails, filter-map, filter_all, is_among_numbers, or_second, passes, found_in}
 use Rattle.vt_laws_mounts.proofs.letting_go.leaving.PlacesLeft.{found_in_filter}
-use Rattle.vt_laws_mounts.proofs.letting_go.sweeps.UpperUses.{times_append}
-use Rattle.vt_laws_mounts.proofs.letting_go.sweeps.UsesCounted.{located_while_counted}
-use Rattle.vt_location.specs.Numbers.{counted}
-use Rattle.vt_mount.specs.MountsValue.{MountEntry, entry_numbered, mounts_in, without}
-use Rattle.vt_world.specs.Held.{CountsItsUses}
 use Rattle.vt_mounting.specs.Detach.Uses as meant
 use Rattle.vt_mounting.specs.Detach.Uses.{Kept}
-use Rattle.vt_world.specs.WorldValue.{WorldValue, overlays_seen, world_of}
 use Rattle.vt_mounting.proofs.detach.Going.{map_filtered}
 use Rattle.vt_mounting.proofs.detach.Keeping.{IsKeptBut, IsShownIn, detached_in, looked_at, points_lost, points_without}
 use Rattle.vt_mounting.proofs.detach.Moving.{swap_eq}
@@ -39,7 +19,6 @@ use Rattle.vt_mounting.proofs.detach.OverlaysGone.{layers_gone, merged_in}
 use Rattle.vt_mounting.proofs.detach.OverlaysKept.{merged_then}
 use Rattle.vt_mounting.proofs.detach.LostUses.{folded_append, positive}
 use Rattle.vt_mounting.proofs.detach.Overlaid.{is_plain_one, overlay_apart}
-use Rattle.vt_spec.proofs.Lists.{pair-filter}
 
 -- Mounts that are changed, by their numbers
 

@@ -1,28 +1,13 @@
 -- A mount goes, and the world is without what it alone showed: a plain filesystem, or an overlay and filesystems of its
 -- layers.
 use Rattle.std.proofs.Common.{◌≡◌, refl, sym, ap, subst, ◌∙◌, ℕ, ◌+◌, ◌-◌, nat_eq, nat_lt, eqb-true, eq-eqb, Bool, true, false, true≢false, cond, not, ◌&&◌, ◌||◌, List, [], ◌∷◌, map, filter, find, flat_map, Option, Some, None, is_some, unwrap_or, arith}
-use Rattle.vt_spec.specs.Lists.{any_pair, folded}
-use Rattle.vt_spec.specs.Machine.Locked.{of_overlay}
-use Rattle.vt_spec.specs.Machine.Settled.{filesystem_lives, is_mounted, without_dead_filesystems}
-use Rattle.vt_spec.specs.Machine.World.{Filesystem, World, is_overlay, no_filesystem}
-use Rattle.vt_spec.proofs.Lists.{pair-filter}
-use Rattle.vt_fs.specs.FilesystemsValue.{FilesystemEntry, Shown, filesystem_seen}
-use Rattle.vt_laws_mounts.specs.Counts.OverlaysStay.{HasNoLayerIn, layer_count, layers_among, mounted_layer_count}
-use Rattle.vt_laws_mounts.specs.Counts.Using.{Exchanges}
+use Rattle.vt_spec.proofs.Common.{Filesystem, World, any_pair, filesystem_lives, folded, is_mounted, is_overlay, map_alike, map_twice, no_filesystem, of_overlay, pair-filter, without_dead_filesystems}
+use Rattle.vt_mounting.proofs.Common.{Among, CountsItsMounts, Exchanges, FilesystemEntry, FilesystemsInUse, Inode, IsHeld, IsMountedSoOften, Shown, WorldValue, all_pass, among-filter, among-from_filter, among-from_map, among_from_all, are_rising, counted, filesystem_seen, filter-map, filter_alike, filter_all, filter_twice, flat_map_alike, found_in, layer_count, layers_among, mounted_layer_count, mounted_while_counted, mounts_showing, or_first, overlay_seen, overlays_seen, passes, times, without_mount, world_of, worlds_are_in_use}
+use Rattle.vt_laws_mounts.specs.Counts.OverlaysStay.{HasNoLayerIn}
 use Rattle.vt_laws_mounts.proofs.counts.overlays.FilesystemUses.{overlays_take_their_uses}
 use Rattle.vt_laws_mounts.proofs.counts.overlays.Living.{layers_left_are_mounted, lives_while_counted, lives_while_mounted}
-use Rattle.vt_laws_mounts.specs.LettingGo.Counts.{mounts_showing, times}
-use Rattle.vt_laws_mounts.specs.LettingGo.InUse.{FilesystemsInUse}
-use Rattle.vt_laws_mounts.specs.LettingGo.OneByOne.{Inode, without_mount}
 use Rattle.vt_laws_mounts.specs.LettingGo.Overlays.{used_by_filesystem}
-use Rattle.vt_laws_mounts.proofs.letting_go.Lists.{Among, all_pass, among-filter, among-from_filter, among-from_map, among_from_all, filter-map, filter_all, filter_alike, filter_twice, flat_map_alike, found_in, or_first, passes}
-use Rattle.vt_laws_mounts.proofs.letting_go.sweeps.UsesCounted.{mounted_while_counted}
-use Rattle.vt_laws_worlds.specs.OverlaysStay.Woven.{are_rising}
 use Rattle.vt_laws_worlds.proofs.overlays_stay.weaving.WovenLists.{rising_filtered}
-use Rattle.vt_location.specs.Numbers.{counted}
-use Rattle.vt_laws_worlds.proofs.RaisedInUse.{worlds_are_in_use}
-use Rattle.vt_world.specs.Held.{CountsItsMounts, IsHeld, IsMountedSoOften}
-use Rattle.vt_world.specs.WorldValue.{WorldValue, overlay_seen, overlays_seen, world_of}
 use Rattle.vt_mounting.specs.Detach.Uses as meant
 use Rattle.vt_mounting.specs.Detach.Uses.{Merged, let_go_filesystem, merged_at, merged_seen, shown_left_by, unpinned_in, without_layer}
 use Rattle.vt_mounting.proofs.detach.BesideOverlays.{mounted_at_first, no_layer_midway, some_of_both}
@@ -31,7 +16,6 @@ use Rattle.vt_mounting.proofs.detach.LostUses.{found_unless, positive}
 use Rattle.vt_mounting.proofs.detach.Moving.{map_itself, swap_eq}
 use Rattle.vt_mounting.proofs.detach.Overlaid.{is_plain_one, overlays_are, plain_one_among}
 use Rattle.vt_mounting.proofs.detach.OverlaysGone.{layers_go, layers_gone, layers_gone_by, layers_of_overlays, layers_parted, layers_used, merged_in, uses_layers}
-use Rattle.vt_spec.proofs.Lists.{map_alike, map_twice}
 
 -- A world midway in an event has those overlays of before that mounts show still.
 pub record LeavesOverlays (old : WorldValue) (world : World ℕ) : Type 0 where

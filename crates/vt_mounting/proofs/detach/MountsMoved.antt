@@ -1,45 +1,19 @@
 -- A mount moves, with all that is below it: mount(2) with MS_MOVE. Only the mount point of the first mount changes.
-use Rattle.std.proofs.Common.{◌≡◌, refl, sym, ap, subst, ◌∙◌, inl, inr, ℕ, nat_eq, eqb-true, eq-eqb, Bool, true, false, true≢false, cond, not, ◌||◌, ◌&&◌, List, [], ◌∷◌, ◌++◌, map, length, Option, Some, None, option_map, is_some, unwrap_or}
-use Rattle.std.specs.Prelude.{filter_map, find, option_to_list}
-use Rattle.std.specs.List.{cons_option, list_all, list_any}
-use Rattle.std.proofs.lemmas.Bool.{and_parts, or_parts}
-use Rattle.std.proofs.lemmas.List.{append-nil, map-id}
-use Rattle.vt_spec.specs.Language.Calls.{TaskName}
-use Rattle.vt_spec.specs.Lists.{Fresh, any_pair, folded}
-use Rattle.vt_spec.specs.Machine.Attach.{Copies, Twig, attach, copies_from, masters_with, twig_master}
-use Rattle.vt_spec.specs.Machine.Mounts.{Location, Mount, Propagation, group_of, is_shared, mount_tree, no_mount, replaced_if_same, with_mount}
-use Rattle.vt_spec.specs.Machine.Mounts.Propagation.{Private, Shared, Slave, Unbindable}
-use Rattle.vt_spec.specs.Machine.Permits.Permit.{ToMove}
-use Rattle.vt_spec.specs.Machine.World.{Filesystem, World, filesystem_numbered, is_directory_at, mount_at, mount_numbered, node_at}
-use Rattle.vt_spec.specs.Machine.Invariants.{has_its_root, is_located_well}
+use Rattle.std.proofs.Common.{◌≡◌, refl, sym, ap, subst, ◌∙◌, inl, inr, ℕ, nat_eq, eqb-true, eq-eqb, Bool, true, false, true≢false, cond, not, ◌||◌, ◌&&◌, List, [], ◌∷◌, ◌++◌, map, length, Option, Some, None, option_map, is_some, unwrap_or, filter_map, find, option_to_list, append-nil, map-id}
+use Rattle.vt_spec.proofs.Common.{Copies, Filesystem, Fresh, Location, Mount, Private, Propagation, Shared, Slave, TaskName, ToMove, Twig, Unbindable, World, and_parts, any_pair, attach, cons_option, copies_from, filesystem_numbered, folded, group_of, has_its_root, is_directory_at, is_directory_node, is_located_well, is_shared, list_all, list_any, map_twice, masters_with, mount_at, mount_numbered, mount_tree, no_mount, node_at, node_in, none_from_not_some, or_parts, replaced_if_same, twig_master, with_mount}
 use Rattle.vt_spec.specs.Inodes as Trees
-use Rattle.vt_spec.specs.Inodes.{node_in}
-use Rattle.vt_spec.specs.Tree.{is_directory_node}
 use Rattle.vt_spec.proofs.Lists as spec
-use Rattle.vt_laws_mounts.specs.Counts.Using.{AreThere, Exchanges}
-use Rattle.vt_fs.specs.FilesystemsValue.{FilesystemEntry, Filesystems, inodes_seen, shown}
-use Rattle.vt_laws_mounts.specs.LettingGo.Mounting.{inode_at}
-use Rattle.vt_laws_mounts.specs.LettingGo.OneByOne.{Inode}
-use Rattle.vt_laws_mounts.specs.LettingGo.Leaving.{stands_on_attached}
-use Rattle.vt_laws_mounts.proofs.letting_go.Lists.{Among, among-map, is_among_numbers, passes}
-use Rattle.vt_laws_mounts.proofs.letting_go.sweeps.OfWorlds.{mounts_of_worlds_stand}
-use Rattle.vt_laws_mounts.proofs.letting_go.leaving.PlacesLeft.{found_is_there}
+use Rattle.vt_mounting.proofs.Common.{Among, AreThere, Exchanges, FilesystemEntry, Filesystems, Inode, IsHeld, WorldValue, among-map, changed, counted, directory_there, found_is_there, inode_at, inodes_seen, is_among_numbers, is_small_node, location_of, mounts_in, mounts_of_worlds_stand, number_of, one_number_by_numbers, passes, shown, stands_on_attached, world_of}
 use Rattle.vt_location.specs.declared.locations.Location.{Location as At}
-use Rattle.vt_location.specs.Locations.{is_small_node, location_of, number_of}
-use Rattle.vt_location.specs.Numbers.{counted}
-use Rattle.vt_mount.specs.MountsValue.{changed, mounts_in}
 use Rattle.vt_laws_mounts.proofs.mounts.MountsFound.{number_found}
-use Rattle.vt_laws_mounts.proofs.mounts.MountsReplaced.{found_itself, numbers-with_mount, one_number_by_numbers}
+use Rattle.vt_laws_mounts.proofs.mounts.MountsReplaced.{found_itself, numbers-with_mount}
 use Rattle.vt_laws_mounts.proofs.moves.Moving.{tree_top}
 use Rattle.vt_laws_mounts.proofs.moves.MovingRoots.{tree_placed}
 use Rattle.vt_laws_mounts.proofs.mounts.Standing.{trees_have_each_once}
 use Rattle.vt_laws_worlds.proofs.permits.taken.TakenAttached.{at_destination, copy_by, group_by, twigs}
 use Rattle.vt_laws_worlds.specs.Worlds.Permits.{MayMoveTo}
-use Rattle.vt_laws_worlds.proofs.worlds.Roots.{directory_there}
 use Rattle.vt_mounting.specs.Detach.Events.{Permits}
-use Rattle.vt_world.specs.Held.{IsHeld}
 use Rattle.vt_mounting.specs.Detach.Uses.{inode_of, pinned_in, unpinned_at, unpinned_in}
-use Rattle.vt_world.specs.WorldValue.{WorldValue, world_of}
 use Rattle.vt_mounting.proofs.detach.Overlaid.{found_plain_one}
 use Rattle.vt_mounting.proofs.detach.FileEvents.{permit_fits}
 use Rattle.vt_mounting.proofs.detach.LocationsSeen.{seen_where_located}
@@ -51,8 +25,6 @@ use Rattle.vt_mounting.proofs.detach.Remaining.{remade}
 use Rattle.vt_mounting.proofs.detach.Staying.{IsDone}
 use Rattle.vt_mounting.proofs.detach.TypesSet.{attached_named}
 use Rattle.vt_mounting.proofs.detach.TreesInNamespaces.{in_tree}
-use Rattle.vt_spec.proofs.Options.{none_from_not_some}
-use Rattle.vt_spec.proofs.Lists.{map_twice}
 
 -- the mount of a location stands at another mount point
 abbrev pub placed_at : Location ℕ → Mount ℕ → Mount ℕ

@@ -1,14 +1,10 @@
 -- What a mount leaves when it is detached.
-use Rattle.std.proofs.Common.{◌≡◌, ◌<◌, refl, sym, ap, subst, ◌∙◌, ℕ, suc, arith, ◌+◌, nat_eq, Bool, true, false, cond, List, [], ◌∷◌, drop, find, get_or, length, map, Option, Some, None, option_map}
-use Rattle.std.specs.Prelude.{IfSome}
+use Rattle.std.proofs.Common.{◌≡◌, ◌<◌, refl, sym, ap, subst, ◌∙◌, ℕ, suc, arith, ◌+◌, nat_eq, Bool, true, false, cond, List, [], ◌∷◌, drop, find, get_or, length, map, Option, Some, None, option_map, IfSome, option_and_then}
+use Rattle.vt_spec.proofs.Common.{Mount}
 use Rattle.std.proofs.Math.Seq.{drop-cons}
 use Rattle.vt_location.specs.declared.locations.Location.{Location}
 use Rattle.vt_location.specs.declared.numbers.MountId.{MountId}
-use Rattle.vt_location.specs.Locations.{is_small_node, location_of}
-use Rattle.vt_location.specs.Numbers.{counted}
-use Rattle.std.specs.Option.{option_and_then}
-use Rattle.vt_spec.specs.Machine.Mounts.{Mount}
-use Rattle.vt_mount.specs.MountsValue.{MountEntry, changed, entry_numbered, mounts_in}
+use Rattle.vt_mounting.proofs.Common.{MountEntry, changed, counted, entry_numbered, is_small_node, location_of, mounts_in}
 use Rattle.vt_mounting.specs.Detach.Detached.{LeaveInTurn}
 use Rattle.vt_mounting.specs.Detach.Uses.{Kept, detached_entry, point_of, without_attachment}
 use Rattle.vt_mounting.proofs.detach.Shown.{found_entry, let_go_none}

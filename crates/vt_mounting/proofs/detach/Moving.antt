@@ -1,31 +1,14 @@
 -- Locations that tasks come to and leave: what code counts then.
 use Rattle.std.proofs.Common.{◌≡◌, refl, sym, ap, subst, ◌∙◌, ⊎_elim, ℕ, ◌+◌, ◌-◌, nat_eq, eqb-true, eq-eqb, Bool, true, false, cond, not, ◌&&◌, ◌||◌, List, [], ◌∷◌, ◌++◌, map, Option, Some, None, is_some, arith}
-use Rattle.std.specs.List.{list_all}
-use Rattle.std.proofs.lemmas.Bool.{and_parts}
-use Rattle.vt_spec.specs.Lists.{folded}
-use Rattle.vt_spec.specs.Machine.Mounts.{Location, Mount, same_location}
-use Rattle.vt_spec.specs.Machine.World.{Filesystem, World, all_locations, filesystem_numbered, mount_at}
-use Rattle.vt_spec.specs.Machine.Invariants.{is_located_well, is_there}
-use Rattle.vt_spec.specs.Inodes.{node_in}
+use Rattle.vt_spec.proofs.Common.{Filesystem, Location, Mount, World, all_locations, and_parts, filesystem_numbered, folded, is_located_well, is_there, list_all, map_alike, map_twice, mount_at, node_in, same_location}
 use Rattle.vt_spec.specs.Inodes as Trees
-use Rattle.vt_laws_mounts.specs.Counts.Using.{AreThere, Exchanges, exchanged, pinned_if, unpinned_if}
-use Rattle.vt_laws_mounts.proofs.counts.using.Places.{locations_are_uses, locations_use_mounts}
-use Rattle.vt_fs.specs.FilesystemsValue.{FilesystemEntry, Shown, inodes_seen}
-use Rattle.vt_laws_mounts.specs.LettingGo.Counts.{mount_uses, times}
+use Rattle.vt_mounting.proofs.Common.{Among, AreThere, CountsItsUses, Exchanges, FilesystemEntry, Inode, IsHeld, MountEntry, Shown, Tasks, WorldValue, all_pass, among-append, among-append_left, among-append_right, among-from_map, among-map, among_from_all, any_passes, counted, exchanged, held, inode_at, inodes_seen, locations_use_mounts, mount_uses, mounts_in, or_first, or_second, passes, pinned_if, released, times, unpinned_if, world_of, writes_of}
+use Rattle.vt_laws_mounts.proofs.counts.using.Places.{locations_are_uses}
 use Rattle.vt_laws_mounts.specs.LettingGo.Leaving.{is_location_among, only_these_are_left}
-use Rattle.vt_laws_mounts.specs.LettingGo.Mounting.{inode_at}
-use Rattle.vt_laws_mounts.specs.LettingGo.OneByOne.{Inode}
-use Rattle.vt_laws_mounts.proofs.letting_go.Lists.{Among, all_pass, among-append, among-append_left, among-append_right, among-from_map, among-map, among_from_all, any_passes, or_first, or_second, passes}
-use Rattle.vt_location.specs.Numbers.{counted}
-use Rattle.vt_mount.specs.MountsValue.{MountEntry, held, mounts_in, released}
-use Rattle.vt_tasks.specs.TasksValue.{Tasks}
 pub use Rattle.vt_spec.proofs.Truths.{nat_eq_turned as swap_eq}
-use Rattle.vt_world.specs.Held.{CountsItsUses, IsHeld, writes_of}
 use Rattle.vt_mounting.specs.Detach.Uses.{Kept, released_use, with_use}
-use Rattle.vt_world.specs.WorldValue.{WorldValue, world_of}
 use Rattle.vt_mounting.proofs.detach.Overlaid.{found_plain_one}
 use Rattle.vt_mounting.proofs.detach.Staying.{after}
-use Rattle.vt_spec.proofs.Lists.{map_alike, map_twice}
 
 -- a location, and whether it is a file open for writing
 pub record Use : Type 0 where

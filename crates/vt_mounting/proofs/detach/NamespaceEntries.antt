@@ -1,13 +1,12 @@
 -- Entries of namespaces, as a map keeps them and as contracts see them.
 use Rattle.std.proofs.Common.{◌≡◌, refl, sym, ap, ◌∙◌, ℕ, nat_eq, eqb-true, Bool, true, false, cond, not, List, [], ◌∷◌, map, filter, find, Option, Some, None, option_map}
-use Rattle.std.specs.List.{AllByRecursion, IsDistinct}
-use Rattle.std.specs.Map.{keys_of, lookup, remove_entry, set_value}
-use Rattle.std.proofs.lemmas.Map.Keys.{IsDistinct-head, IsDistinct-tail}
-use Rattle.std.proofs.lemmas.Option.{same_Some}
+use Rattle.vt_spec.proofs.Common.{AllByRecursion, IsDistinct-head, IsDistinct-tail, keys_of, lookup, remove_entry, same_Some, set_value}
+use Rattle.std.specs.List.{IsDistinct}
 use Rattle.vt_location.specs.declared.numbers.NamespaceId.{NamespaceId}
 pub use Rattle.vt_mount.specs.Indexes.{same_namespace}
 use Rattle.vt_world.specs.declared.namespaces.Namespace.{Namespace}
-use Rattle.vt_world.specs.WorldValue.{NamespaceEntry, entries_of, entry_of}
+use Rattle.vt_mounting.proofs.Common.{NamespaceEntry, entries_of}
+use Rattle.vt_world.specs.WorldValue.{entry_of}
 
 abbrev pub is_id : ℕ → NamespaceId → Bool
 is_id count id = nat_eq count id.count

@@ -1,16 +1,8 @@
 -- The mounts of a namespace, while tasks leave uses: a mount that goes with its last use is in no namespace.
 use Rattle.std.proofs.Common.{◌≡◌, refl, sym, ap, subst, ◌∙◌, ℕ, nat_eq, eqb-true, Bool, true, false, true≢false, cond, not, List, [], ◌∷◌, filter, Option, Some, None, is_some}
-use Rattle.std.proofs.lemmas.Option.{same_Some}
-use Rattle.vt_spec.specs.Lists.{folded}
-use Rattle.vt_spec.specs.Machine.Mounts.{Mount}
-use Rattle.vt_spec.specs.Machine.World.{World}
-use Rattle.vt_laws_mounts.specs.LettingGo.OneByOne.{Inode}
-use Rattle.vt_laws_mounts.proofs.letting_go.Lists.{among-from_map, filter_less}
-use Rattle.vt_mount.specs.MountsValue.{MountEntry, entry_numbered, mounts_in, released}
-use Rattle.vt_laws_mounts.specs.Mounts.Attaching.{OneNumberAMount}
-use Rattle.vt_world.specs.Held.{IsHeld}
+use Rattle.vt_spec.proofs.Common.{Mount, World, folded, same_Some}
+use Rattle.vt_mounting.proofs.Common.{Inode, IsHeld, MountEntry, OneNumberAMount, WorldValue, among-from_map, entry_numbered, filter_less, mounts_in, released, world_of}
 use Rattle.vt_mounting.specs.Detach.Uses.{Kept, is_unused, let_go_entry, let_go_mount, without_mount}
-use Rattle.vt_world.specs.WorldValue.{WorldValue, world_of}
 use Rattle.vt_mounting.proofs.detach.Going.{map_filtered}
 use Rattle.vt_mounting.proofs.detach.LostUses.{entry_itself, mounts_unchanged}
 use Rattle.vt_mounting.proofs.detach.Midway.{Reached, one_number_kept, unused_parts}

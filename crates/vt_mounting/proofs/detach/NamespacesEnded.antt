@@ -1,29 +1,10 @@
 -- The world in which a namespace has ended, and what its entries count.
-use Rattle.std.proofs.Common.{◌≡◌, ◌≢◌, refl, sym, ap, subst, ◌∙◌, ⊎_elim, inl, inr, ℕ, ◌+◌, ◌-◌, nat_eq, nat_lt, eqb-true, eq-eqb, Bool, true, false, true≢false, cond, not, ◌&&◌, ◌||◌, List, [], ◌∷◌, map, filter, Option, Some, None, arith}
-use Rattle.std.specs.Prelude.{All, nat_le, option_map, option_to_list}
-use Rattle.std.specs.List.{list_all, list_any}
-use Rattle.std.proofs.lemmas.Bool.{and_parts, leb-false, leb-true, lt-ltb}
-use Rattle.std.proofs.lemmas.Option.{same_Some}
-use Rattle.vt_spec.specs.Lists.{chain, holds_of, last_or}
-use Rattle.vt_spec.specs.Machine.Detach.{after_going, is_going, mount_point_left, mount_point_of_parent, taken_away}
-use Rattle.vt_spec.specs.Machine.Mounts.{Location, Mount, detached, mount_in}
-use Rattle.vt_spec.specs.Machine.Namespaces.{has_tasks, is_in_ended}
-use Rattle.vt_spec.specs.Machine.Receives.{regrouped}
-use Rattle.vt_spec.specs.Machine.World.{Namespace, Task, World, mount_at, mount_numbered, with_mounts}
-use Rattle.vt_spec.specs.Machine.Invariants.{is_listed}
-use Rattle.vt_laws_mounts.specs.LettingGo.Counts.{times}
-use Rattle.vt_laws_mounts.proofs.letting_go.Lists.{Among, all_from_among, among-from_filter, among-from_map, among-map, among_numbers, any_passes, filter_all, is_among_numbers, none_passes}
-use Rattle.vt_laws_mounts.proofs.letting_go.leaving.PlacesLeft.{found_itself}
-use Rattle.vt_location.specs.Numbers.{counted}
-use Rattle.vt_tasks.specs.TasksValue.{Tasks}
-use Rattle.vt_laws_mounts.specs.Mounts.Attaching.{OneNumberAMount}
-use Rattle.vt_world.specs.Held.{CountsWhatIsInIt}
+use Rattle.std.proofs.Common.{◌≡◌, ◌≢◌, refl, sym, ap, subst, ◌∙◌, ⊎_elim, inl, inr, ℕ, ◌+◌, ◌-◌, nat_eq, nat_lt, eqb-true, eq-eqb, Bool, true, false, true≢false, cond, not, ◌&&◌, ◌||◌, List, [], ◌∷◌, map, filter, Option, Some, None, arith, All, nat_le, option_map, option_to_list, leb-false, leb-true, lt-ltb}
+use Rattle.vt_spec.proofs.Common.{Location, Mount, Namespace, Task, World, after_going, and_parts, chain, detached, has_tasks, holds_of, is_going, is_in_ended, is_listed, last_or, list_all, list_any, map_alike, mount_at, mount_in, mount_numbered, mount_point_left, mount_point_of_parent, regrouped, same_Some, taken_away, with_mounts}
+use Rattle.vt_mounting.proofs.Common.{Among, CountsWhatIsInIt, NamespaceEntry, OneNumberAMount, Tasks, all_from_among, among-from_filter, among-from_map, among-map, among_numbers, any_passes, counted, counted_test, filter_all, found_itself, is_among_numbers, namespace_of, none_passes, times}
 use Rattle.vt_mounting.specs.Detach.NamespacesLeft.{entries_left, has_one_task, left_if, namespace_entry, one_task_less, with_one_task_less}
-use Rattle.vt_world.specs.WorldValue.{NamespaceEntry, namespace_of}
 use Rattle.vt_mounting.proofs.detach.LostUses.{positive}
 use Rattle.vt_mounting.proofs.detach.Midway.{gone_if}
-use Rattle.vt_location.proofs.NumberLemmas.{counted_test}
-use Rattle.vt_spec.proofs.Lists.{map_alike}
 
 -- Mounts that are taken away, and no mount that stays is on them
 

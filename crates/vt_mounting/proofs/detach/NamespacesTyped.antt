@@ -1,18 +1,8 @@
 -- The end of a namespace whose mounts are in peer groups: exit(2), setns(2), unshare(2). Its mounts leave their groups
 -- at once, and the others get the types that the groups then tell.
 use Rattle.std.proofs.Common.{◌≡◌, refl, sym, ap, subst, ◌∙◌, ℕ, nat_eq, Bool, true, false, cond, List, map, filter, Some, is_some}
-use Rattle.std.specs.List.{list_any}
-use Rattle.vt_spec.specs.Machine.Detach.{taken_away}
-use Rattle.vt_spec.specs.Machine.Mounts.{Location, Mount, detached}
-use Rattle.vt_spec.specs.Machine.Mounts.Propagation.{Private}
-use Rattle.vt_spec.specs.Machine.Receives.{lost_a_group, regrouped, regrouped_by}
-use Rattle.vt_spec.specs.Machine.World.{Namespace, World, mount_at, with_mounts}
-use Rattle.vt_spec.specs.Machine.Invariants.{MountInvariants, is_nowhere_or_attached}
-use Rattle.vt_group.specs.Grouping.{Grouping, Has}
-use Rattle.vt_group.specs.Together.{TakesAway}
-use Rattle.vt_group.proofs.Together.{regrouped_living}
-use Rattle.vt_laws_mounts.proofs.letting_go.Lists.{Among, among-from_map, map_same, passes}
-use Rattle.vt_tasks.specs.TasksValue.{Tasks}
+use Rattle.vt_spec.proofs.Common.{Location, Mount, MountInvariants, Namespace, Private, World, detached, is_nowhere_or_attached, list_any, lost_a_group, mount_at, regrouped, regrouped_by, taken_away, with_mounts}
+use Rattle.vt_mounting.proofs.Common.{Among, Grouping, Has, TakesAway, Tasks, among-from_map, map_same, passes, regrouped_living}
 use Rattle.vt_mounting.proofs.detach.Grouped.{same_has, stays_private}
 use Rattle.vt_mounting.proofs.detach.Midway.{gone_if}
 use Rattle.vt_mounting.proofs.detach.NamespacesEnded.{taken_regrouped}

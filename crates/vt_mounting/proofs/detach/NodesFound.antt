@@ -1,25 +1,11 @@
 -- An inode that is found in a filesystem, plain or an overlay, has the number of a node of that filesystem.
-use Rattle.std.proofs.Common.{◌≡◌, refl, sym, ap, subst, ◌∙◌, ⊎_elim, ℕ, nat_eq, nat_lt, eq-eqb, Bool, true, false, true≢false, cond, ◌&&◌, List, [], ◌∷◌, Option, Some, None, is_some}
-use Rattle.std.specs.Prelude.{All}
-use Rattle.std.proofs.lemmas.Bool.{lt-ltb}
-use Rattle.std.proofs.lemmas.List.Elements.{All-cons, All-head, All-nil, All-tail}
-use Rattle.vt_spec.specs.Inodes.{node_in}
-use Rattle.vt_spec.specs.Machine.World.{Filesystem, World, filesystem_numbered}
-use Rattle.vt_spec.specs.Tree.{Node}
-use Rattle.vt_spec.proofs.Truths.{and_true_left}
-use Rattle.vt_laws_mounts.proofs.letting_go.Lists.{all_from_among, among_from_all, among-from_map}
-use Rattle.vt_laws_worlds.specs.OverlaysStay.Woven.{put_in, woven}
-use Rattle.vt_laws_trees.proofs.trees.TreesOfWorlds.{number_numbered, numbered_all}
-use Rattle.vt_fs.specs.FilesystemsValue.{FilesystemEntry, Filesystems, filesystem_seen, filesystems_seen}
+use Rattle.std.proofs.Common.{◌≡◌, refl, sym, ap, subst, ◌∙◌, ⊎_elim, ℕ, nat_eq, nat_lt, eq-eqb, Bool, true, false, true≢false, cond, ◌&&◌, List, [], ◌∷◌, Option, Some, None, is_some, All, lt-ltb}
+use Rattle.vt_spec.proofs.Common.{All-cons, All-head, All-nil, All-tail, Filesystem, Node, World, and_true_left, filesystem_numbered, node_in}
+use Rattle.vt_mounting.proofs.Common.{FilesystemEntry, Filesystems, HasOwnInodes, HasOwnNodes, IsHeld, WorldValue, all_from_among, among-from_map, among_from_all, born_in, counted, filesystem_seen, filesystems_seen, is_own_number, is_small_node, number_numbered, number_of, numbered_all, overlays_seen, put_in, world_of, woven}
 use Rattle.vt_location.specs.declared.births.Birth.TheVariants.{Here}
 use Rattle.vt_location.specs.declared.locations.NodeRef.{NodeRef}
-use Rattle.vt_location.specs.Births.{born_in}
-use Rattle.vt_location.specs.Locations.{is_small_node, number_of}
-use Rattle.vt_location.specs.Numbers.{counted, is_own_number}
 use Rattle.vt_location.proofs.NodeLemmas.{one_to_one, small_parts}
 use Rattle.vt_location.proofs.NumberLemmas.{counted_inode, own_inode, slot_of}
-use Rattle.vt_world.specs.Held.{HasOwnInodes, HasOwnNodes, IsHeld}
-use Rattle.vt_world.specs.WorldValue.{WorldValue, overlays_seen, world_of}
 
 -- the inode with this number is a node of the filesystem with that one
 abbrev pub IsNodeIn : ℕ → ℕ → Type 0

@@ -1,31 +1,14 @@
 -- The overlays of the code's world, and of worlds midway in an event, which leaves overlays as they are.
-use Rattle.std.proofs.Common.{◌≡◌, refl, sym, ap, subst, ◌∙◌, inl, inr, ℕ, nat_eq, nat_lt, Bool, true, false, true≢false, eqb-true, cond, not, ◌&&◌, List, [], ◌∷◌, map, filter, is_some, arith}
-use Rattle.std.specs.Prelude.{All}
-use Rattle.std.specs.List.{list_all}
-use Rattle.vt_spec.specs.Lists.{any_pair}
-use Rattle.vt_spec.specs.Machine.Locked.{of_overlay}
-use Rattle.vt_spec.specs.Machine.SameWorlds.{SameFilesystems}
-use Rattle.vt_spec.specs.Machine.Settled.{filesystem_lives, is_mounted, only_used, settled, used_in, without_dead_in, without_dead_mounts}
-use Rattle.vt_spec.specs.Machine.World.{Filesystem, World, filesystem_numbered, is_overlay}
-use Rattle.vt_laws_mounts.specs.Counts.BesideOverlays.{OverlaysHaveNoUpper}
-use Rattle.vt_laws_mounts.specs.Counts.OverlaysStay.{OverlaysAreNamed, layer_count}
-use Rattle.vt_laws_mounts.proofs.counts.overlays.Living.{overlays_are_mounted, overlays_use_filesystems}
+use Rattle.std.proofs.Common.{◌≡◌, refl, sym, ap, subst, ◌∙◌, inl, inr, ℕ, nat_eq, nat_lt, Bool, true, false, true≢false, eqb-true, cond, not, ◌&&◌, List, [], ◌∷◌, map, filter, is_some, arith, All}
+use Rattle.vt_spec.proofs.Common.{Filesystem, SameFilesystems, World, any_pair, filesystem_lives, filesystem_numbered, is_mounted, is_overlay, list_all, of_overlay, only_used, pair-filter, settled, used_in, without_dead_in, without_dead_mounts}
+use Rattle.vt_mounting.proofs.Common.{Among, FilesystemEntry, Filesystems, HasOwnNodes, IsHeld, IsMountedSoOften, OverlaysAreNamed, OverlaysHaveNoUpper, WorldValue, WritersHaveLayers, all_from_among, among-filter, among-from_filter, among-from_map, among-map, among_from_all, are_rising, counted, filesystem_seen, filesystems_seen, filter_all, found_filesystem, has_only_named, in_use_of, layer_count, mounts_showing, overlays_seen, overlays_use_filesystems, put_in, world_of, woven, woven_lists_are_failing}
+use Rattle.vt_laws_mounts.proofs.counts.overlays.Living.{overlays_are_mounted}
 use Rattle.vt_laws_mounts.proofs.counts.using.Exchanged.{numbers_mapped}
-use Rattle.vt_spec.proofs.Lists.{pair-filter}
-use Rattle.vt_laws_mounts.specs.LettingGo.Counts.{mounts_showing}
-use Rattle.vt_laws_mounts.specs.LettingGo.Keeping.{has_only_named}
-use Rattle.vt_laws_mounts.specs.LettingGo.TreesOverlays.{in_use_of}
-use Rattle.vt_laws_mounts.proofs.letting_go.Lists.{Among, all_from_among, among-filter, among-from_filter, among_from_all, among-from_map, among-map, filter_all}
 use Rattle.vt_laws_mounts.proofs.letting_go.sweeps.InUse.{after_first, after_second, number-first, number-second, overlay-left}
-use Rattle.vt_laws_mounts.proofs.letting_go.sweeps.OfWorlds.{found_filesystem}
-use Rattle.vt_laws_worlds.specs.OverlaysRead.Writers.{WritersHaveLayers}
-use Rattle.vt_laws_worlds.specs.OverlaysStay.Woven.{ArePartedBy, are_rising, put_in, woven}
+use Rattle.vt_laws_worlds.specs.OverlaysStay.Woven.{ArePartedBy}
 use Rattle.vt_laws_worlds.proofs.overlays_stay.kept.OverlaysLeft.{by_overlays, no_upper_of_plain}
-use Rattle.vt_laws_worlds.proofs.overlays_stay.weaving.WovenLists.{rising_filtered, woven_lists_are_failing, woven_lists_are_passing}
-use Rattle.vt_fs.specs.FilesystemsValue.{FilesystemEntry, Filesystems, filesystem_seen, filesystems_seen}
-use Rattle.vt_location.specs.Numbers.{counted}
-use Rattle.vt_world.specs.Held.{HasOwnNodes, HoldsOverlays, IsHeld, IsMountedSoOften}
-use Rattle.vt_world.specs.WorldValue.{WorldValue, overlays_seen, world_of}
+use Rattle.vt_laws_worlds.proofs.overlays_stay.weaving.WovenLists.{rising_filtered, woven_lists_are_passing}
+use Rattle.vt_world.specs.Held.{HoldsOverlays}
 
 -- those that are no overlays
 abbrev pub is_plain_one : Filesystem ℕ → Bool

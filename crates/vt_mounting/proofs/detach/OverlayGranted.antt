@@ -1,31 +1,12 @@
 -- What the permit of a call that mounts an overlay names is there: mount(2), and the kernel's overlayfs document,
 -- "multiple lower layers".
-use Rattle.std.proofs.Common.{◌≡◌, ◌<◌, ◌≤◌, refl, sym, ap, subst, ◌∙◌, ℕ, ◌/◌, nat_eq, Bool, true, false, true≢false, not, ◌&&◌, List, ◌++◌, map, length, Option, Some, None, Ok, arith}
-use Rattle.std.specs.Prelude.{All, nat_le, option_to_list}
-use Rattle.std.specs.List.{list_all}
-use Rattle.std.proofs.lemmas.Bool.{and_parts, leb-true}
-use Rattle.std.proofs.lemmas.List.{length-map}
-use Rattle.vt_spec.specs.Language.Calls.{Call, MountFlags, OverlayWords}
-use Rattle.vt_spec.specs.Language.Calls.Call.{MountOverlay}
-use Rattle.vt_spec.specs.Language.Limits.{most_lowers}
-use Rattle.vt_spec.specs.Lists.{Fresh, is_empty_list}
-use Rattle.vt_spec.specs.Machine.Apply.{overfills}
-use Rattle.vt_spec.specs.Machine.Invariants.{has_fit_layers, is_plain_layer}
-use Rattle.vt_spec.specs.Machine.Judge.{judge_in}
-use Rattle.vt_spec.specs.Machine.Looks.{looks_of}
-use Rattle.vt_spec.specs.Machine.Mounts.{Location}
-use Rattle.vt_spec.specs.Machine.Permits.{Permit}
-use Rattle.vt_spec.specs.Machine.Permits.Permit.{ToMountOverlay}
-use Rattle.vt_spec.specs.Machine.World.{Layer, Overlay, Task, World, filesystem_numbered, is_overlay, task_called}
-use Rattle.vt_spec.specs.Machine.Rules.Mounting.{overlay_at}
-use Rattle.vt_spec.specs.Tree.{is_directory_node}
-use Rattle.vt_spec.proofs.Lists.{map_alike, map_twice}
+use Rattle.std.proofs.Common.{◌≡◌, ◌<◌, ◌≤◌, refl, sym, ap, subst, ◌∙◌, ℕ, ◌/◌, nat_eq, Bool, true, false, true≢false, not, ◌&&◌, List, ◌++◌, map, length, Option, Some, None, Ok, arith, All, nat_le, option_to_list, leb-true}
+use Rattle.vt_spec.proofs.Common.{Call, Fresh, Layer, Location, MountFlags, MountOverlay, Overlay, OverlayWords, Permit, Task, ToMountOverlay, World, and_parts, filesystem_numbered, has_fit_layers, is_directory_node, is_empty_list, is_overlay, is_plain_layer, judge_in, length-map, list_all, looks_of, map_alike, map_twice, most_lowers, overfills, overlay_at, task_called}
 use Rattle.vt_mounting.proofs.detach.Moving.{map_itself}
 use Rattle.vt_spec.proofs.Tables.{destination_walk}
 use Rattle.vt_laws_trees.specs.Layers.Layers.Mounted.{AreLayers}
 use Rattle.vt_laws_trees.proofs.layers.mounting.Walked.{are_walked, fit_layers, has_layers, shown_plain}
-use Rattle.vt_laws_mounts.proofs.letting_go.Lists.{Among, passes}
-use Rattle.vt_world.specs.OverlaysKept.Kept.{ShowsLayer}
+use Rattle.vt_mounting.proofs.Common.{Among, IsHeld, ShowsLayer, WorldValue, counted, directory_there, inode_number, layer_seen, passes, world_of}
 use Rattle.vt_laws_rules.proofs.given.GivenPermits.{permits_are_for_their_calls}
 use Rattle.vt_laws_rules.proofs.given.Inversion.{calls_are_granted}
 use Rattle.vt_laws_rules.specs.Granted.{IsGranted}
@@ -33,15 +14,11 @@ use Rattle.vt_laws_rules.specs.Granted.IsGranted.{mounts_overlayfs}
 use Rattle.vt_laws_trees.proofs.trees.TreesWalked.{at_end}
 use Rattle.vt_laws_worlds.proofs.worlds.FitPermits.{destination}
 use Rattle.vt_laws_worlds.proofs.worlds.ReachedPlaces.{IsTopmost, destination_walk_end}
-use Rattle.vt_laws_worlds.proofs.worlds.Roots.{directory_there}
 use Rattle.vt_laws_worlds.specs.Worlds.Permits.{IsDestination}
-use Rattle.vt_location.specs.Numbers.{counted, exchanged, inode_number}
+use Rattle.vt_location.specs.Numbers.{exchanged}
 use Rattle.vt_location.proofs.NumberLemmas.{exchanged_back, exchanged_slot, own_inode, slot_of}
 use Rattle.vt_overlay.specs.MergedTree as Kept
-use Rattle.vt_overlay.specs.MergedTree.{layer_seen}
 use Rattle.vt_mounting.specs.Detach.Events.{layer_kept}
-use Rattle.vt_world.specs.Held.{IsHeld}
-use Rattle.vt_world.specs.WorldValue.{WorldValue, world_of}
 use Rattle.vt_mounting.proofs.detach.FilesSeen.{IsSeenIn, seen_in, there_where_plain}
 use Rattle.vt_mounting.proofs.detach.LayersShown.{plain_layers_shown}
 

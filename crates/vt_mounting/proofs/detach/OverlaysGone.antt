@@ -1,20 +1,9 @@
 -- A mount goes, and what it alone showed with it: of overlays at most one, whose layers go with it.
-use Rattle.std.proofs.Common.{◌≡◌, refl, sym, ap, ◌∙◌, inl, inr, ℕ, ◌+◌, ◌-◌, nat_eq, nat_lt, eqb-true, Bool, true, false, true≢false, cond, not, List, [], ◌∷◌, ◌++◌, map, filter, flat_map, Option, Some, None, is_some, arith}
-use Rattle.std.specs.List.{list_any}
-use Rattle.std.proofs.lemmas.Bool.{or_parts}
-use Rattle.std.proofs.lemmas.List.{append-nil}
-use Rattle.vt_spec.specs.Lists.{any_pair}
-use Rattle.vt_spec.specs.Machine.Locked.{of_overlay, overlay_or}
-use Rattle.vt_spec.specs.Machine.Settled.{is_mounted}
-use Rattle.vt_spec.specs.Machine.World.{Filesystem, Layer, Overlay, World, is_overlay, layers_of}
-use Rattle.vt_laws_mounts.specs.Counts.OverlaysStay.{layer_count, layers_among}
-use Rattle.vt_laws_mounts.proofs.counts.overlays.Living.{overlays_use_filesystems}
-use Rattle.vt_laws_mounts.specs.LettingGo.Counts.{mounts_showing, times}
-use Rattle.vt_laws_mounts.specs.LettingGo.OneByOne.{Inode, without_mount}
+use Rattle.std.proofs.Common.{◌≡◌, refl, sym, ap, ◌∙◌, inl, inr, ℕ, ◌+◌, ◌-◌, nat_eq, nat_lt, eqb-true, Bool, true, false, true≢false, cond, not, List, [], ◌∷◌, ◌++◌, map, filter, flat_map, Option, Some, None, is_some, arith, append-nil}
+use Rattle.vt_spec.proofs.Common.{Filesystem, Layer, Overlay, World, any_pair, is_mounted, is_overlay, layers_of, list_any, of_overlay, or_parts, overlay_or}
+use Rattle.vt_mounting.proofs.Common.{Among, Inode, fails, layer_count, layers_among, mounted_while_counted, mounts_showing, overlays_use_filesystems, times, times_append, without_mount}
 use Rattle.vt_laws_mounts.specs.LettingGo.Overlays.{used_by_filesystem, uppers_in}
-use Rattle.vt_laws_mounts.proofs.letting_go.Lists.{Among, fails, flat_map_none}
-use Rattle.vt_laws_mounts.proofs.letting_go.sweeps.UpperUses.{times_append}
-use Rattle.vt_laws_mounts.proofs.letting_go.sweeps.UsesCounted.{mounted_while_counted}
+use Rattle.vt_laws_mounts.proofs.letting_go.Lists.{flat_map_none}
 use Rattle.vt_mounting.specs.Detach.Uses.{Merged, merged_at}
 use Rattle.vt_mounting.proofs.detach.LostUses.{positive}
 

@@ -1,13 +1,7 @@
 -- What code keeps of overlays where a mount goes: those that mounts show still, with a mount less of that one.
 use Rattle.std.proofs.Common.{◌≡◌, refl, sym, ap, ◌∙◌, inl, inr, ℕ, ◌+◌, ◌-◌, nat_eq, eqb-true, Bool, true, false, cond, not, List, [], ◌∷◌, map, filter, Option, Some, None, arith}
-use Rattle.std.specs.List.{list_any}
-use Rattle.std.proofs.lemmas.Bool.{or_parts}
-use Rattle.vt_spec.specs.Lists.{any_pair}
-use Rattle.vt_spec.specs.Machine.Settled.{is_mounted}
-use Rattle.vt_spec.specs.Machine.World.{Filesystem, World}
-use Rattle.vt_laws_mounts.specs.LettingGo.Counts.{mounts_showing}
-use Rattle.vt_laws_mounts.specs.LettingGo.OneByOne.{without_mount}
-use Rattle.vt_laws_mounts.proofs.letting_go.Lists.{Among, fails}
+use Rattle.vt_spec.proofs.Common.{Filesystem, World, any_pair, is_mounted, list_any, or_parts}
+use Rattle.vt_mounting.proofs.Common.{Among, fails, mounts_showing, without_mount}
 use Rattle.vt_mounting.specs.Detach.Uses.{Merged, merged_at, merged_left_by, released_merged, without_merged}
 use Rattle.vt_mounting.proofs.detach.OverlaysGone.{goes_at_one, layers_used, merged_in, others_shown}
 

@@ -1,24 +1,9 @@
 -- The overlays of a store under their counts: what is left of them, one event after the other.
 use Rattle.std.proofs.Common.{◌≡◌, refl, sym, ap, subst, ◌∙◌, inl, inr, ℕ, nat_eq, ◌-◌, eq-eqb, Bool, true, false, cond, not, ◌&&◌, List, [], ◌∷◌, map, filter, Option, Some, None, option_map}
-use Rattle.std.specs.List.{cons_option, list_any}
-use Rattle.std.proofs.lemmas.Bool.{or_parts}
-use Rattle.vt_spec.specs.Language.Calls.{TaskName}
-use Rattle.vt_spec.specs.Lists.{any_pair}
-use Rattle.vt_spec.specs.Machine.Permits.{Permit}
-use Rattle.vt_spec.specs.Machine.World.{Filesystem, is_overlay}
-use Rattle.vt_spec.proofs.Lists.{pair-filter}
-use Rattle.vt_spec.proofs.Truths.{nat_eq_turned}
-use Rattle.vt_laws_mounts.proofs.letting_go.Lists.{Among, among-from_filter, among-from_map, among-map, fails, filter-map, filter_all, filter_twice}
-use Rattle.vt_fs.specs.FilesystemsValue.{Filesystems}
-use Rattle.vt_location.specs.Numbers.{counted}
-use Rattle.vt_overlay.specs.MergedTree.{OverlayValue}
-use Rattle.vt_store.specs.Counts.{with_mounts, with_mounts_by}
-use Rattle.vt_store.specs.OverlaysValue.{OverlayEntry, Overlays, with_overlay_changed, without_overlay}
-use Rattle.vt_store.specs.StoreValue.{StoreValue, entry_in}
-use Rattle.vt_world.specs.Held.{IsHeld}
-use Rattle.vt_world.specs.StoredWorld.{overlay_of_store, overlays_of_store, with_store}
+use Rattle.vt_spec.proofs.Common.{Filesystem, Permit, TaskName, any_pair, cons_option, is_overlay, list_any, nat_eq_turned, or_parts, pair-filter}
+use Rattle.vt_mounting.proofs.Common.{Among, Filesystems, IsHeld, OverlayValue, Overlays, StoreValue, WorldValue, among-from_filter, among-from_map, among-map, counted, entry_in, fails, filter-map, filter_all, filter_twice, overlay_of_store, overlay_seen, overlays_of_store, overlays_seen, with_mounts, with_mounts_by, with_overlay_changed, with_store, without_overlay, world_of}
+use Rattle.vt_store.specs.OverlaysValue.{OverlayEntry}
 use Rattle.vt_world.specs.WorldValue as worlds
-use Rattle.vt_world.specs.WorldValue.{WorldValue, overlay_seen, overlays_seen, world_of}
 use Rattle.vt_mounting.specs.Detach.Events.{Permits}
 use Rattle.vt_mounting.specs.Detach.Stored.{OverlaysLeft, OverlaysStay, merged_of, under_counts}
 use Rattle.vt_mounting.specs.Detach.Uses.{Merged, merged_at, overlays_kept}

@@ -1,16 +1,7 @@
 -- The overlays that code keeps when mounts have gone, as entries of those of before.
-use Rattle.std.proofs.Common.{◌≡◌, refl, sym, ap, subst, ◌∙◌, inl, inr, ⊎_elim, ℕ, nat_eq, eq-eqb, Bool, true, false, cond, List, [], ◌∷◌, map, filter, Option, Some, None, option_map}
-use Rattle.std.specs.Prelude.{All}
-use Rattle.std.specs.List.{cons_option, list_any}
-use Rattle.std.proofs.lemmas.Bool.{or_parts}
-use Rattle.vt_spec.specs.Lists.{any_pair}
-use Rattle.vt_spec.specs.Machine.Settled.{is_mounted}
-use Rattle.vt_spec.specs.Machine.World.{Filesystem, World, is_overlay}
-use Rattle.vt_spec.proofs.Lists.{pair-filter}
-use Rattle.vt_laws_mounts.specs.LettingGo.Counts.{mounts_showing}
-use Rattle.vt_laws_mounts.proofs.letting_go.Lists.{Among, all_from_among, among-map, among_from_all, fails}
-use Rattle.vt_world.specs.Held.{IsHeld, IsMountedSoOften}
-use Rattle.vt_world.specs.WorldValue.{OverlayEntry, WorldValue, overlay_seen, overlays_seen, world_of}
+use Rattle.std.proofs.Common.{◌≡◌, refl, sym, ap, subst, ◌∙◌, inl, inr, ⊎_elim, ℕ, nat_eq, eq-eqb, Bool, true, false, cond, List, [], ◌∷◌, map, filter, Option, Some, None, option_map, All}
+use Rattle.vt_spec.proofs.Common.{Filesystem, World, any_pair, cons_option, is_mounted, is_overlay, list_any, or_parts, pair-filter}
+use Rattle.vt_mounting.proofs.Common.{Among, IsHeld, IsMountedSoOften, OverlayEntry, WorldValue, all_from_among, among-map, among_from_all, fails, mounts_showing, overlay_seen, overlays_seen, world_of}
 use Rattle.vt_mounting.specs.Detach.Uses.{Merged, merged_at, merged_seen, overlays_kept}
 use Rattle.vt_mounting.proofs.detach.BesideOverlays.{mounted_at_first}
 use Rattle.vt_mounting.proofs.detach.Moving.{swap_eq}

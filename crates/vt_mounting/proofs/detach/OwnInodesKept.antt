@@ -1,8 +1,8 @@
 -- Each inode keeps a number of its own filesystem, whatever changes in the filesystems.
-use Rattle.std.proofs.Common.{◌≡◌, refl, sym, ap, ◌∙◌, ℕ, nat_eq, eqb-true, Bool, true, false, Option, None}
-use Rattle.std.specs.Prelude.{if◌then◌else◌}
-use Rattle.vt_spec.specs.Inodes.{Inode, Inodes, pinned, unpinned, used_once_less, used_once_more, with_inode}
-use Rattle.vt_location.specs.Numbers.{is_own_number}
+use Rattle.std.proofs.Common.{◌≡◌, refl, sym, ap, ◌∙◌, ℕ, nat_eq, eqb-true, Bool, true, false, Option, None, if◌then◌else◌}
+use Rattle.vt_spec.proofs.Common.{Inode, Inodes, pinned, unpinned, used_once_less, used_once_more}
+use Rattle.vt_spec.specs.Inodes.{with_inode}
+use Rattle.vt_mounting.proofs.Common.{is_own_number}
 
 abbrev pub IsOwn : ℕ → Inodes ℕ → Type 0
 IsOwn count inodes = (number : ℕ) → is_own_number count number ≡ false → inodes.inode number ≡ None

@@ -1,30 +1,11 @@
 -- A task gets another working directory, or another root: chdir(2), chroot(2).
 use Rattle.std.proofs.Common.{◌≡◌, refl, sym, ap, subst, ◌∙◌, inl, inr, ℕ, ◌+◌, nat_eq, Bool, true, false, true≢false, cond, ◌&&◌, List, [], ◌∷◌, ◌++◌, map, flat_map, find, Some, option_map, is_some, unwrap_or, append_assoc, arith}
-use Rattle.std.proofs.lemmas.Bool.{and_parts}
-use Rattle.std.proofs.lemmas.Option.{same_Some}
-use Rattle.vt_spec.specs.Language.Calls.{TaskName}
-use Rattle.vt_spec.specs.Lists.{is_among}
+use Rattle.vt_spec.proofs.Common.{Filesystem, ListsNumbers, Task, TaskName, ToSetDirectory, ToSetRoot, World, all_locations, and_parts, filesystem_numbered, is_among, is_located_well, is_there, mount_at, no_filesystem, numbers_in_use, same_Some, task_called, used_by_filesystem, used_by_mount}
 use Rattle.vt_spec.specs.Machine.Mounts as meant
-use Rattle.vt_spec.specs.Machine.Permits.Permit.{ToSetDirectory, ToSetRoot}
-use Rattle.vt_spec.specs.Machine.Run.{numbers_in_use, used_by_filesystem, used_by_mount}
-use Rattle.vt_spec.specs.Machine.World.{Filesystem, Task, World, all_locations, filesystem_numbered, mount_at, no_filesystem, task_called}
-use Rattle.vt_spec.specs.Machine.Invariants.{ListsNumbers, is_located_well, is_there}
-use Rattle.vt_fs.specs.FilesystemsValue.{Filesystems}
-use Rattle.vt_laws_rules.specs.Numbers.{location_named}
-use Rattle.vt_laws_rules.proofs.numbers.Supports.{used_numbers_are_named}
-use Rattle.vt_laws_mounts.specs.LettingGo.Counts.{times}
-use Rattle.vt_laws_mounts.proofs.letting_go.Lists.{Among, among-append_left, among-append_right, among-flat_map, among-from_map, among_from_all, among_numbers, is_among_numbers, passes}
+use Rattle.vt_mounting.proofs.Common.{Among, Filesystems, IsHeld, MountEntry, Tasks, WorldValue, among-append_left, among-append_right, among-flat_map, among-from_map, among_from_all, among_numbers, called, changed_by, changed_called, counted, is_among_numbers, is_counted_before, is_small_node, location_named, location_of, locations_in, number_of, one_if, passes, replaced, times, used_numbers_are_named, world_of, writes_of, writes_of_task, writes_on}
 use Rattle.vt_location.specs.declared.locations.Location.{Location}
-use Rattle.vt_location.specs.Locations.{is_small_node, location_of, number_of}
-use Rattle.vt_location.specs.Numbers.{counted}
-use Rattle.vt_mount.specs.MountsValue.{MountEntry}
-use Rattle.vt_laws_trees.specs.Runs.Handed.{is_counted_before}
-use Rattle.vt_tasks.specs.Counts.{locations_in, one_if}
-use Rattle.vt_tasks.specs.TasksValue.{Tasks, called, changed_by, changed_called, replaced}
 use Rattle.vt_mounting.specs.Detach.Events.{Permits}
-use Rattle.vt_world.specs.Held.{IsHeld, writes_of, writes_of_task, writes_on}
 use Rattle.vt_mounting.specs.Detach.Uses.{Kept, Merged, kept_of, kept_with, let_go_mount, released_use, with_location, with_use, without_location}
-use Rattle.vt_world.specs.WorldValue.{WorldValue, world_of}
 use Rattle.vt_mounting.proofs.detach.FileEvents.{permit_fits}
 use Rattle.vt_mounting.proofs.detach.LocationsSeen.{seen_where_located}
 use Rattle.vt_mounting.proofs.detach.Leaving.{left_done}

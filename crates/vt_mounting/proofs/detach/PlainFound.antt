@@ -1,14 +1,9 @@
 -- The filesystem that the definitions find by a number, where it is no overlay: the one that is kept by its inodes.
 use Rattle.std.proofs.Common.{◌≡◌, refl, sym, ap, subst, ◌∙◌, ℕ, nat_eq, eqb-true, Bool, true, false, true≢false, unwrap_or}
-use Rattle.vt_spec.specs.Machine.World.{Filesystem, filesystem_numbered, is_overlay, no_filesystem}
-use Rattle.vt_laws_mounts.proofs.letting_go.Lists.{Among, all_from_among, among-from_filter}
-use Rattle.vt_laws_mounts.proofs.letting_go.sweeps.OfWorlds.{found_filesystem}
+use Rattle.vt_spec.proofs.Common.{Filesystem, filesystem_numbered, is_overlay, no_filesystem}
+use Rattle.vt_mounting.proofs.Common.{Among, IsHeld, WorldValue, all_from_among, among-from_filter, counted, entry_at, filesystem_seen, filesystems_seen, found_by_number, found_filesystem, overlays_seen, world_of}
 use Rattle.vt_laws_worlds.proofs.overlays_stay.weaving.WovenLists.{plain_ones_are_found}
-use Rattle.vt_fs.specs.FilesystemsValue.{entry_at, filesystem_seen, filesystems_seen}
-use Rattle.vt_fs.proofs.Numbers.{found_by_number}
-use Rattle.vt_location.specs.Numbers.{counted}
-use Rattle.vt_world.specs.Held.{HoldsOverlays, IsHeld}
-use Rattle.vt_world.specs.WorldValue.{WorldValue, overlays_seen, world_of}
+use Rattle.vt_world.specs.Held.{HoldsOverlays}
 use Rattle.vt_mounting.proofs.detach.FilesystemsFound.{found}
 use Rattle.vt_mounting.proofs.detach.Overlaid.{overlays_are}
 

@@ -1,32 +1,14 @@
 -- Events of tasks after which all mounts are still in use.
 use Rattle.std.proofs.Common.{◌≡◌, refl, sym, ap, subst, ◌∙◌, ◌+◌, ℕ, nat_eq, List, filter, map}
-use Rattle.vt_spec.specs.Language.Calls.{TaskName}
-use Rattle.vt_spec.specs.Lists.{folded}
-use Rattle.vt_spec.specs.Machine.Mounts.{Mount}
-use Rattle.vt_spec.specs.Machine.Permits.{Permit}
-use Rattle.vt_spec.specs.Machine.Settled.{filesystem_lives, is_mounted, without_dead_filesystems, without_dead_mounts}
-use Rattle.vt_spec.specs.Machine.World.{Filesystem, Task, World}
-use Rattle.vt_laws_mounts.specs.Counts.Using.{Exchanges}
-use Rattle.vt_fs.specs.FilesystemsValue.{FilesystemEntry, Filesystems, Shown, filesystem_seen, shown, shown_entry}
-use Rattle.vt_laws_mounts.specs.Counts.OverlaysStay.{layer_count}
-use Rattle.vt_laws_mounts.specs.LettingGo.Counts.{mounts_showing, times}
-use Rattle.vt_laws_mounts.specs.LettingGo.OneByOne.{Inode}
-use Rattle.vt_laws_mounts.proofs.letting_go.Lists.{Among, all_from_among, among-from_map, among-map, among_from_all, filter_all, passes}
-use Rattle.vt_location.specs.Numbers.{counted}
-use Rattle.vt_mount.specs.MountsValue.{MountEntry, mounts_in}
-use Rattle.vt_tasks.specs.TasksValue.{Tasks}
-use Rattle.vt_laws_worlds.proofs.RaisedInUse.{worlds_are_in_use}
-use Rattle.vt_world.specs.Held.{CountsItsMounts, CountsItsUses, CountsWhatIsInIt, IsHeld}
+use Rattle.vt_spec.proofs.Common.{Filesystem, Mount, Permit, Task, TaskName, World, filesystem_lives, folded, is_mounted, map_alike, map_twice, without_dead_filesystems, without_dead_mounts}
+use Rattle.vt_mounting.proofs.Common.{Among, CountsItsMounts, CountsItsUses, CountsWhatIsInIt, Exchanges, FilesystemEntry, Filesystems, Inode, IsHeld, MountEntry, Shown, Tasks, WorldValue, all_from_among, among-from_map, among-map, among_from_all, counted, filesystem_seen, filter_all, in_use_of, layer_count, mounts_in, mounts_showing, passes, shown, shown_entry, times, world_of, worlds_are_in_use}
 use Rattle.vt_mounting.specs.Detach.Uses.{Merged, kept_of, kept_with, overlays_kept}
-use Rattle.vt_world.specs.WorldValue.{WorldValue, world_of}
 use Rattle.vt_mounting.proofs.detach.Bridging.{IsSwept}
 use Rattle.vt_mounting.proofs.detach.Finishing.{CountsBeside, IsApplied, finished}
 use Rattle.vt_mounting.proofs.detach.Grouped.{left_has}
 use Rattle.vt_mounting.proofs.detach.Moving.{Moves, Use, entry_counts, exchanged_shown, filesystems_moved, gained_there, held_counts, hold_if, inodes_of_uses, mounts_moved, moved_kept, release_if, released_counts, uses_moved}
 use Rattle.vt_mounting.proofs.detach.Overlaid.{all_shown, is_plain_one, keeps_itself, layers_kept, overlays_counted, plain_ones_are, same_files_keep, still_mounted}
 use Rattle.vt_mounting.proofs.detach.Staying.{IsDone, after}
-use Rattle.vt_spec.proofs.Lists.{map_alike, map_twice}
-use Rattle.vt_laws_mounts.specs.LettingGo.TreesOverlays.{in_use_of}
 
 -- the code's world with other mounts, filesystems and tasks
 abbrev pub remade : WorldValue → List MountEntry → Filesystems → Tasks → WorldValue

@@ -1,26 +1,11 @@
 -- The code's world is one of the definitions: the same mounts, overlays, namespaces and tasks, and filesystems whose
 -- counted inodes are counted there.
-use Rattle.std.proofs.Common.{◌≡◌, refl, sym, ap, subst, ◌∙◌, inl, inr, ℕ, nat_eq, true, true≢false, List, [], ◌∷◌, map, Option, Some, None, is_some, not, filter}
-use Rattle.std.specs.Prelude.{All}
-use Rattle.vt_spec.specs.Machine.SameWorlds.{SameFilesystem, SameFilesystems, SameWorlds, without_changes}
-use Rattle.vt_spec.specs.Machine.World.{Filesystem, Overlay, World, filesystem_numbered, is_overlay}
-use Rattle.vt_spec.specs.Machine.Invariants.{IsWorld, ListsNumbers}
-use Rattle.vt_laws_mounts.specs.Counts.Counted.{IsCounted}
-use Rattle.vt_laws_mounts.proofs.counts.Alike.{any_same_worlds_count_alike}
-use Rattle.vt_laws_mounts.proofs.counts.Listed.{same_numbers_are_permuted}
-use Rattle.vt_fs.specs.FilesystemsValue.{FilesystemEntry, Filesystems, filesystem_seen, filesystems_seen, inodes_seen}
-use Rattle.vt_group.specs.Grouping.{Has}
-use Rattle.vt_laws_mounts.proofs.letting_go.Lists.{Among, all_from_among, among-from_filter, among_from_all}
-use Rattle.vt_laws_worlds.specs.OverlaysStay.Woven.{are_rising}
-use Rattle.vt_laws_worlds.proofs.overlays_stay.weaving.WovenLists.{rising_lists_are_woven, woven_lists_are_alike}
-use Rattle.vt_laws_trees.proofs.runs.answered.AlikeWorlds.{sameness_is_an_equivalence}
-use Rattle.vt_location.specs.Numbers.{counted}
-use Rattle.vt_mount.specs.MountsValue.{mounts_in}
-use Rattle.vt_world.specs.WorldValue.{WorldValue, overlays_seen, world_of}
+use Rattle.std.proofs.Common.{◌≡◌, refl, sym, ap, subst, ◌∙◌, inl, inr, ℕ, nat_eq, true, true≢false, List, [], ◌∷◌, map, Option, Some, None, is_some, not, filter, All}
+use Rattle.vt_spec.proofs.Common.{Filesystem, IsWorld, ListsNumbers, Overlay, SameFilesystem, SameFilesystems, SameWorlds, World, filesystem_numbered, is_overlay, without_changes}
+use Rattle.vt_mounting.proofs.Common.{Among, FilesystemEntry, Filesystems, Has, IsCounted, WorldValue, all_from_among, among-from_filter, among_from_all, any_same_worlds_count_alike, are_rising, counted, filesystem_seen, filesystems_seen, found_filesystem, inodes_seen, mounts_in, numbers_apart_each, numbers_listed, overlays_seen, same_numbers_are_permuted, sameness_is_an_equivalence, world_of, woven_lists_are_alike}
+use Rattle.vt_laws_worlds.proofs.overlays_stay.weaving.WovenLists.{rising_lists_are_woven}
 use Rattle.vt_mounting.proofs.detach.Grouped.{master_is, same_has}
 use Rattle.vt_mounting.proofs.detach.Overlaid.{is_plain_one, plain_one_among}
-use Rattle.vt_fs.proofs.Numbers.{numbers_apart_each, numbers_listed}
-use Rattle.vt_laws_mounts.proofs.letting_go.sweeps.OfWorlds.{found_filesystem}
 
 -- Filesystems by their numbers
 

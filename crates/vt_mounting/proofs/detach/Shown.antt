@@ -1,14 +1,9 @@
 -- Filesystems with the uses of their inodes, as contracts of vt_fs change them.
 use Rattle.std.proofs.Common.{◌≡◌, ◌≢◌, is_some, refl, sym, ap, ◌∙◌, ℕ, nat_eq, ◌-◌, eqb-true, eq-eqb, ne_eqb, Bool, true, false, true≢false, cond, not, List, [], ◌∷◌, map, find, Option, Some, None, option_map, unwrap_or}
-use Rattle.vt_fs.specs.FilesystemsValue.{ChangesInodes, Filesystems, Shown, entry_at, entry_of, no_entry, shown, shown_entry, shown_with, with_changed, without}
-use Rattle.vt_location.specs.Numbers.{counted}
-use Rattle.vt_mount.specs.MountsValue.{MountEntry, entry_numbered, mounts_in}
-use Rattle.vt_spec.specs.Machine.Mounts.{Mount}
-use Rattle.vt_spec.specs.Inodes.{Inodes, pinned, unpinned}
-use Rattle.vt_laws_mounts.specs.Counts.Using.{pinned_if, unpinned_if}
-use Rattle.vt_spec.specs.Lists.{holds_of}
+use Rattle.vt_spec.proofs.Common.{Inodes, Mount, holds_of, pinned, unpinned}
+use Rattle.vt_mounting.proofs.Common.{ChangesInodes, Filesystems, MountEntry, Shown, counted, counted_test, entry_at, entry_numbered, entry_of, mounts_in, no_entry, pinned_if, shown, shown_entry, shown_with, unpinned_if, with_changed}
+use Rattle.vt_fs.specs.FilesystemsValue.{without}
 use Rattle.vt_mounting.specs.Detach.Uses.{Kept, is_unused, let_go_entry, let_go_filesystem, let_go_mount, mounts_shown, pinned_in, released_in, unpinned_in, without_filesystem, without_mount}
-use Rattle.vt_location.proofs.NumberLemmas.{counted_test}
 
 -- a comparison of counted numbers is one of the counts, turned round
 pub counted_eq_back : (a b : ℕ) → nat_eq (counted a) (counted b) ≡ nat_eq b a

@@ -1,17 +1,11 @@
 -- A list of tasks in which one is replaced.
 use Rattle.std.proofs.Common.{◌≡◌, refl, sym, ap, ◌∙◌, ℕ, ◌+◌, Bool, true, false, cond, [], ◌∷◌, ◌++◌, Some, arith}
-use Rattle.std.specs.List.{list_any}
-use Rattle.std.proofs.lemmas.Bool.{or_parts}
-use Rattle.std.proofs.lemmas.Grind.{flat_map-append}
-use Rattle.vt_spec.specs.Language.Calls.{TaskName, same_name}
-use Rattle.vt_spec.specs.Machine.World.{Task, locations_of}
-use Rattle.vt_laws_mounts.specs.LettingGo.Counts.{times}
-use Rattle.vt_tasks.specs.Counts.{locations_in, one_if}
-use Rattle.vt_tasks.specs.TasksValue.{AreNamedApart, Tasks, called, replaced}
+use Rattle.vt_spec.proofs.Common.{Task, TaskName, flat_map-append, list_any, locations_of, or_parts, same_name}
+use Rattle.vt_mounting.proofs.Common.{Tasks, called, locations_in, one_if, replaced, times, writes_of, writes_of_task}
+use Rattle.vt_tasks.specs.TasksValue.{AreNamedApart}
 use Rattle.vt_tasks.proofs.GivenOnce.{name-of-called}
 use Rattle.vt_tasks.proofs.LocationLemmas.{nobody-behind, put-nobody, total, total-replaced}
 use Rattle.vt_tasks.proofs.TasksLemmas.{put}
-use Rattle.vt_world.specs.Held.{writes_of, writes_of_task}
 
 -- one task stands in the place of another
 pub record IsSplit (task new : Task ℕ) (tasks after : Tasks) : Type 0 where

@@ -1,39 +1,12 @@
 -- Events of tasks in which no location is left: umask(2), capset(2).
-use Rattle.std.proofs.Common.{◌≡◌, refl, sym, ap, subst, ◌∙◌, ℕ, ◌||◌, ◌&&◌, nat_eq, eq-eqb, true, [], ◌∷◌, ◌++◌, map, filter, flat_map, Some, arith}
-use Rattle.std.specs.Prelude.{filter_map, option_map, unwrap_or}
-use Rattle.vt_spec.specs.Language.Calls.{TaskName}
-use Rattle.vt_spec.specs.Lists.{Fresh}
-use Rattle.vt_spec.specs.Machine.Apply.{apply}
-use Rattle.vt_spec.specs.Machine.Mounts.{Location, root_of, same_location}
-use Rattle.vt_spec.specs.Machine.Permits.{Permit}
-use Rattle.vt_spec.specs.Machine.Permits.Permit.{ToSetCredentials, ToSetUmask}
-use Rattle.vt_spec.specs.Machine.Tasks.{with_dropped}
-use Rattle.vt_spec.specs.Rights.{Credentials}
-use Rattle.std.proofs.lemmas.Option.{same_Some}
-use Rattle.vt_spec.specs.Machine.SameWorlds.{SameWorlds}
-use Rattle.vt_spec.specs.Machine.Settled.{layers_in, located_in, named_in, objects_of_overlay, settled}
-use Rattle.vt_spec.specs.Machine.World.{Filesystem, Task, all_locations, first_credentials, locations_of, mount_at, task_called, with_task}
-use Rattle.vt_spec.specs.Machine.Invariants.{IsWorld}
-use Rattle.vt_fs.specs.FilesystemsValue.{filesystem_seen}
-use Rattle.vt_laws_rules.specs.Numbers.{KeepsTo}
-use Rattle.vt_laws_mounts.specs.LettingGo.Counts.{inode_uses, times}
+use Rattle.std.proofs.Common.{◌≡◌, refl, sym, ap, subst, ◌∙◌, ℕ, ◌||◌, ◌&&◌, nat_eq, eq-eqb, true, [], ◌∷◌, ◌++◌, map, filter, flat_map, Some, arith, filter_map, option_map, unwrap_or}
+use Rattle.vt_spec.proofs.Common.{Credentials, Filesystem, Fresh, IsWorld, Location, Permit, SameWorlds, Task, TaskName, ToSetCredentials, ToSetUmask, all_locations, apply, layers_in, located_in, locations_of, mount_at, named_in, objects_of_overlay, root_of, same_Some, same_location, settled, task_called, with_dropped, with_task}
+use Rattle.vt_spec.specs.Machine.World.{first_credentials}
+use Rattle.vt_mounting.proofs.Common.{Among, CountsItsMounts, CountsItsUses, CountsWhatIsInIt, IsGiven, IsHeld, KeepsTo, Tasks, WorldValue, WritersHaveLayers, all_from_among, all_pass, among_from_all, any_passes, changed_by, changed_called, counted, filesystem_seen, given_permits_give_no_upper, inode_uses, is_counted_before, one_if, or_first, permit_named, permits_keep_to_numbers, replaced, sameness_is_an_equivalence, times, world_of, writes_of, writes_of_task, writes_on}
 use Rattle.vt_laws_mounts.specs.LettingGo.Leaving.{is_location_among, only_these_are_left}
-use Rattle.vt_laws_mounts.proofs.letting_go.Lists.{Among, all_from_among, all_pass, among_from_all, any_passes, or_first}
-use Rattle.vt_location.specs.Numbers.{counted}
-use Rattle.vt_laws_trees.proofs.runs.answered.AlikeWorlds.{sameness_is_an_equivalence}
-use Rattle.vt_tasks.specs.Counts.{one_if}
 use Rattle.vt_laws_mounts.proofs.letting_go.sweeps.OfWorlds.{worlds_are_settled}
 use Rattle.vt_laws_mounts.proofs.letting_go.leaving.LeftWithOverlays.{staying_keeps_overlays}
-use Rattle.vt_laws_worlds.specs.Permits.Left.{IsGiven}
-use Rattle.vt_laws_worlds.specs.Permits.Named.{permit_named}
-use Rattle.vt_laws_worlds.proofs.permits.named.PermitsKeepTo.{permits_keep_to_numbers}
-use Rattle.vt_laws_worlds.specs.OverlaysRead.Writers.{WritersHaveLayers}
-use Rattle.vt_laws_worlds.proofs.overlays_stay.left.Given.{given_permits_give_no_upper}
-use Rattle.vt_laws_trees.specs.Runs.Handed.{is_counted_before}
-use Rattle.vt_tasks.specs.TasksValue.{Tasks, changed_by, changed_called, replaced}
 use Rattle.vt_mounting.specs.Detach.Events.{Becomes, Permits, credentials_called, left_by, supply_of}
-use Rattle.vt_world.specs.Held.{CountsItsMounts, CountsItsUses, CountsWhatIsInIt, IsHeld, writes_of, writes_of_task, writes_on}
-use Rattle.vt_world.specs.WorldValue.{WorldValue, world_of}
 use Rattle.vt_mounting.proofs.detach.Splits.{locations_stay, replaced_split, times_replaced, writes_replaced}
 use Rattle.vt_mounting.proofs.detach.Overlaid.{overlays_counted}
 use Rattle.vt_mounting.proofs.detach.Grouped.{same_has}

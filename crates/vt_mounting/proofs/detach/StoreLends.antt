@@ -1,32 +1,17 @@
 -- What a store lends for its nodes is what the world that holds it tells.
-use Rattle.std.proofs.Common.{◌≡◌, refl, sym, ap, ◌∙◌, inl, inr, zero, suc, ℕ, nat_eq, eqb-true, List, [], ◌∷◌, Option, Some, None, option_map, arith}
-use Rattle.std.specs.Prelude.{All, slice_get}
-use Rattle.std.proofs.lemmas.Option.{same_Some, slice_get-map}
-use Rattle.vt_spec.proofs.Found.{found_among, found_passes}
-use Rattle.vt_spec.proofs.Options.{none_is_some}
-use Rattle.vt_spec.specs.Lists.{then_some}
-use Rattle.vt_spec.specs.Machine.Layers.{at_path, node_at_path}
-use Rattle.vt_spec.specs.Machine.World.{Filesystem, Layer, Real, World, filesystem_numbered, open_layer}
-use Rattle.vt_spec.specs.Machine.World.Real.{Lower, Upper}
-use Rattle.vt_laws_mounts.proofs.letting_go.Lists.{Among, among-map, among_from_all}
-use Rattle.vt_world.proofs.overlays_kept.inodes.InodesInOrder.{inodes_have_their_objects}
+use Rattle.std.proofs.Common.{◌≡◌, refl, sym, ap, ◌∙◌, inl, inr, zero, suc, ℕ, nat_eq, eqb-true, List, [], ◌∷◌, Option, Some, None, option_map, arith, All, slice_get}
+use Rattle.vt_spec.proofs.Common.{Filesystem, Layer, Lower, Real, Upper, World, at_path, filesystem_numbered, found_among, found_passes, node_at_path, none_is_some, open_layer, same_Some, slice_get-map, then_some}
+use Rattle.vt_mounting.proofs.Common.{Among, AreLayers, IsHeld, ShowsLayer, StoreValue, WorldValue, among-map, among_from_all, counted, entry_at, entry_in, filesystem_seen, inodes_have_their_objects, layer_seen, number_numbered, overlay_of_store, with_objects, with_store, world_of}
 use Rattle.vt_world.proofs.overlays_kept.lending.ObjectsLent.{real_objects_are_lent}
-use Rattle.vt_world.specs.OverlaysKept.Kept.{ShowsLayer, with_objects}
 use Rattle.vt_world.specs.OverlaysKept.Lending.{lent_on, object_lent}
-use Rattle.vt_laws_trees.proofs.trees.TreesOfWorlds.{number_numbered}
-use Rattle.vt_location.specs.Numbers.{counted}
-use Rattle.vt_fs.specs.FilesystemsValue.{filesystem_seen, entry_at, node_seen}
+use Rattle.vt_fs.specs.FilesystemsValue.{node_seen}
 use Rattle.vt_overlay.specs.Merge.LayerValue.{layer_of}
 use Rattle.vt_overlay.specs.declared.merge.layers.LayerRef.{LayerRef}
 use Rattle.vt_overlay.specs.Alike.{lent_at, real_lent}
-use Rattle.vt_overlay.specs.MergedTree.{AreLayers, layer_seen}
 use Rattle.vt_store.specs.OverlaysValue as stored
-use Rattle.vt_store.specs.StoreValue.{StoreValue, entry_in, lent_in}
+use Rattle.vt_store.specs.StoreValue.{lent_in}
 use Rattle.vt_store.specs.StoreValue as stores
-use Rattle.vt_world.specs.Held.{IsHeld}
 use Rattle.vt_world.specs.Lent.{count_of, lent_by, lent_in_layers, lent_of_world}
-use Rattle.vt_world.specs.StoredWorld.{overlay_of_store, with_store}
-use Rattle.vt_world.specs.WorldValue.{WorldValue, world_of}
 use Rattle.vt_mounting.proofs.detach.LayersShown.{layers_shown_well}
 use Rattle.vt_mounting.proofs.detach.StoreShown.{overlay_found, plain_found}
 

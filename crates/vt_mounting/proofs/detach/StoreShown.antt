@@ -1,28 +1,13 @@
 -- The filesystems of a store are those of the world that holds it.
-use Rattle.std.proofs.Common.{◌≡◌, refl, sym, ap, subst, ◌∙◌, ⊎_elim, ℕ, nat_eq, eq-eqb, Bool, true, false, cond, not, List, [], ◌∷◌, find, Option, Some, None, unwrap_or, option_map, arith}
-use Rattle.std.specs.Prelude.{All}
-use Rattle.vt_spec.proofs.Options.{none_is_some}
-use Rattle.vt_spec.specs.Machine.World.{Filesystem, World, filesystem_numbered, no_filesystem}
-use Rattle.vt_spec.specs.Tree.{Tree}
-use Rattle.vt_spec.specs.TreeInvariant.{HasOwnParents, IsTree}
-use Rattle.vt_laws_mounts.proofs.letting_go.Lists.{Among, all_from_among, among-from_map, among-map}
-use Rattle.vt_laws_mounts.proofs.letting_go.sweeps.OfWorlds.{found_filesystem}
-use Rattle.vt_world.proofs.overlays_kept.inodes.InodesInOrder.{inodes_are_the_tree}
+use Rattle.std.proofs.Common.{◌≡◌, refl, sym, ap, subst, ◌∙◌, ⊎_elim, ℕ, nat_eq, eq-eqb, Bool, true, false, cond, not, List, [], ◌∷◌, find, Option, Some, None, unwrap_or, option_map, arith, All}
+use Rattle.vt_spec.proofs.Common.{Filesystem, HasOwnParents, IsTree, Tree, World, filesystem_numbered, no_filesystem, none_is_some}
+use Rattle.vt_mounting.proofs.Common.{Among, IsHeld, OverlayValue, StoreValue, WorldValue, all_from_among, among-from_map, among-map, counted, counted_test, entry_at, entry_in, filesystem_seen, filesystems_seen, found_by_number, found_filesystem, inodes_are_the_tree, number_numbered, numbered_all, overlay_in, overlay_of_store, overlay_seen, overlays_of_store, overlays_seen, with_store, world_of}
 use Rattle.vt_laws_worlds.proofs.overlays_stay.weaving.WovenLists.{plain_ones_are_found}
-use Rattle.vt_laws_trees.proofs.trees.TreesOfWorlds.{number_numbered, numbered_all}
-use Rattle.vt_location.specs.Numbers.{counted}
-use Rattle.vt_location.proofs.NumberLemmas.{counted_test}
-use Rattle.vt_fs.proofs.Numbers.{found_by_number}
 use Rattle.vt_fs.proofs.Parents.{parents_named}
-use Rattle.vt_fs.specs.FilesystemsValue.{entry_at, filesystem_seen, filesystems_seen}
 use Rattle.vt_fs.specs.Laws.{ParentsAreNamed}
-use Rattle.vt_overlay.specs.MergedTree.{OverlayValue}
 use Rattle.vt_store.proofs.Woven.{is_over, is_plain}
 use Rattle.vt_store.specs.OverlaysValue as stored
-use Rattle.vt_store.specs.StoreValue.{StandOnLayers, StandsOnLayers, StoreValue, entry_in, files_in, filesystems_of, overlay_in}
-use Rattle.vt_world.specs.Held.{IsHeld}
-use Rattle.vt_world.specs.StoredWorld.{overlay_of_store, overlays_of_store, with_store}
-use Rattle.vt_world.specs.WorldValue.{WorldValue, overlay_seen, overlays_seen, world_of}
+use Rattle.vt_store.specs.StoreValue.{StandOnLayers, StandsOnLayers, files_in, filesystems_of}
 use Rattle.vt_mounting.proofs.detach.LayersShown.{layers_number, layers_shown_well}
 use Rattle.vt_mounting.proofs.detach.PlainFound.{overlay_among}
 

@@ -1,28 +1,11 @@
 -- After an event, a store shows the overlays that the world after it has: as they were.
-use Rattle.std.proofs.Common.{◌≡◌, refl, sym, ap, subst, ◌∙◌, ℕ, nat_eq, true, List, map, Some, is_some}
-use Rattle.std.specs.Prelude.{All}
-use Rattle.vt_spec.specs.Machine.Permits.{Permit}
-use Rattle.vt_spec.specs.Machine.SameWorlds.{SameWorlds}
-use Rattle.vt_spec.specs.Machine.World.{Filesystem, Task, World, filesystem_numbered, is_overlay}
-use Rattle.vt_laws_mounts.proofs.letting_go.Lists.{Among, all_from_among, among-map, among_from_all}
-use Rattle.vt_laws_rules.proofs.same.SameLooks.{found_same}
-use Rattle.vt_spec.proofs.Lists.{map_alike}
-use Rattle.std.proofs.lemmas.List.Sorted.{length_permutation}
-use Rattle.vt_laws_mounts.proofs.letting_go.sweeps.OfWorlds.{found_filesystem}
+use Rattle.std.proofs.Common.{◌≡◌, refl, sym, ap, subst, ◌∙◌, ℕ, nat_eq, true, List, map, Some, is_some, All}
+use Rattle.vt_spec.proofs.Common.{Filesystem, Permit, SameWorlds, Task, World, filesystem_numbered, is_overlay, length_permutation, map_alike}
+use Rattle.vt_mounting.proofs.Common.{Among, Filesystems, IsGiven, IsHeld, IsShownAlike, OverlayValue, ShowsLayer, ShowsLayers, StoreValue, WorldValue, all_from_among, among-map, among_from_all, counted, found_filesystem, found_same, inodes_have_their_objects, inodes_stay, layer_seen, overlay_of_store, overlay_seen, with_objects, with_store, world_of}
 use Rattle.vt_world.proofs.overlays_kept.events.KeptOverlays.{kept_overlays_stay}
-use Rattle.vt_world.proofs.overlays_kept.inodes.InodesInOrder.{inodes_have_their_objects, inodes_stay}
-use Rattle.vt_world.specs.OverlaysKept.Kept.{IsShownAlike, ShowsLayer, ShowsLayers, with_objects}
-use Rattle.vt_laws_worlds.specs.Permits.Left.{IsGiven}
-use Rattle.vt_location.specs.Numbers.{counted}
-use Rattle.vt_fs.specs.FilesystemsValue.{Filesystems}
 use Rattle.vt_overlay.specs.declared.merge.layers.LayerRef.{LayerRef}
-use Rattle.vt_overlay.specs.MergedTree.{OverlayValue, layer_seen}
 use Rattle.vt_store.specs.OverlaysValue as stored
-use Rattle.vt_store.specs.StoreValue.{StoreValue}
 use Rattle.vt_mounting.specs.Detach.Events.{left_by, supply_of}
-use Rattle.vt_world.specs.Held.{IsHeld}
-use Rattle.vt_world.specs.StoredWorld.{overlay_of_store, with_store}
-use Rattle.vt_world.specs.WorldValue.{WorldValue, overlay_seen, world_of}
 use Rattle.vt_mounting.proofs.detach.LayersShown.{layers_shown_well}
 use Rattle.vt_mounting.proofs.detach.PlainFound.{overlay_among}
 use Rattle.vt_mounting.proofs.detach.StoreShown.{overlay_found}

@@ -1,23 +1,11 @@
 -- The filesystems of a store are trees with the numbers of their inodes beside them.
 use Rattle.std.proofs.Common.{◌≡◌, ◌⊎◌, refl, sym, ap, subst, ◌∙◌, ⊎_elim, inl, inr, ℕ, nat_eq, true≢false, Option, Some, None}
-use Rattle.vt_spec.specs.FileTree.{FileTree}
-use Rattle.vt_spec.specs.Machine.Invariants.{ListsNumbers}
-use Rattle.vt_spec.specs.Machine.World.{Filesystem, filesystem_numbered, is_overlay, no_filesystem}
-use Rattle.vt_spec.specs.Tree.{Tree}
-use Rattle.vt_spec.specs.TreeInvariant.{HasOwnParents, IsTree}
+use Rattle.vt_spec.proofs.Common.{FileTree, Filesystem, HasOwnParents, IsTree, ListsNumbers, Tree, filesystem_numbered, is_overlay, no_filesystem}
 use Rattle.vt_world.proofs.overlays_kept.inodes.InodesInOrder.{numbers_are_listed}
-use Rattle.vt_laws_trees.proofs.trees.TreesOfWorlds.{number_numbered, numbered_all}
+use Rattle.vt_mounting.proofs.Common.{IsHeld, OverlayValue, StoreValue, WorldValue, among_from_all, counted, entry_at, number_numbered, numbered_all, numbers_listed, overlay_in, with_store, world_of}
 use Rattle.vt_laws_trees.specs.Trees.{IsFileTree}
-use Rattle.vt_location.specs.Numbers.{counted}
-use Rattle.vt_fs.proofs.Numbers.{numbers_listed}
-use Rattle.vt_fs.specs.FilesystemsValue.{entry_at}
-use Rattle.vt_overlay.specs.MergedTree.{OverlayValue}
 use Rattle.vt_store.proofs.Woven.{is_over, is_plain}
-use Rattle.vt_store.specs.StoreValue.{StandsOnLayers, StoreValue, files_in, filesystems_of, overlay_in}
-use Rattle.vt_laws_mounts.proofs.letting_go.Lists.{among_from_all}
-use Rattle.vt_world.specs.Held.{IsHeld}
-use Rattle.vt_world.specs.StoredWorld.{with_store}
-use Rattle.vt_world.specs.WorldValue.{WorldValue, world_of}
+use Rattle.vt_store.specs.StoreValue.{StandsOnLayers, files_in, filesystems_of}
 use Rattle.vt_mounting.proofs.detach.StoreShown.{files_shown, overlay_found, plain_found, store_stands}
 
 module _ (base : WorldValue) (store : StoreValue) (held : IsHeld (with_store store base)) (count : ℕ) where

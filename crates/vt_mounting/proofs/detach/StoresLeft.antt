@@ -1,21 +1,12 @@
 -- A store in which a filesystem has one mount less, as contracts of vt_store change it.
-use Rattle.std.proofs.Common.{◌≡◌, ◌≢◌, refl, sym, ap, subst, ◌∙◌, ℕ, nat_eq, ◌-◌, eq-eqb, ne_eqb, Bool, true, false, true≢false, cond, not, List, [], ◌∷◌, map, find, Option, Some, None, is_some, option_map, unwrap_or}
-use Rattle.std.specs.Prelude.{IfSome}
-use Rattle.std.proofs.lemmas.Option.{same_Some}
-use Rattle.vt_spec.specs.Lists.{folded}
-use Rattle.vt_spec.specs.Inodes.{unpinned}
-use Rattle.vt_fs.specs.FilesystemsValue.{Shown, shown, shown_with}
-use Rattle.vt_laws_mounts.proofs.letting_go.Lists.{filter_alike}
-use Rattle.vt_location.specs.Locations.{inode_of}
-use Rattle.vt_location.specs.Numbers.{counted}
-use Rattle.vt_location.proofs.NumberLemmas.{counted_test}
+use Rattle.std.proofs.Common.{◌≡◌, ◌≢◌, refl, sym, ap, subst, ◌∙◌, ℕ, nat_eq, ◌-◌, eq-eqb, ne_eqb, Bool, true, false, true≢false, cond, not, List, [], ◌∷◌, map, find, Option, Some, None, is_some, option_map, unwrap_or, IfSome}
+use Rattle.vt_spec.proofs.Common.{folded, map_alike, same_Some, unpinned}
+use Rattle.vt_mounting.proofs.Common.{Overlays, Shown, StoreValue, counted, counted_test, entry_in, entry_kept, filter_alike, inode_of, lowers_in, shown, shown_with, with_mounts, with_mounts_by, with_overlay_changed, without_overlay}
 use Rattle.vt_overlay.specs.declared.merge.layers.LayerRef.{LayerRef}
-use Rattle.vt_spec.proofs.Lists.{map_alike}
-use Rattle.vt_store.specs.Counts.{mounts_by, mounts_in, with_mounts, with_mounts_by}
+use Rattle.vt_store.specs.Counts.{mounts_by, mounts_in}
 use Rattle.vt_store.specs.LayersHeld as Stored
-use Rattle.vt_store.specs.LayersHeld.{lowers_in, without_layers}
-use Rattle.vt_store.specs.OverlaysValue.{OverlayEntry, Overlays, entry_kept, overlay_of, with_overlay_changed, without_overlay}
-use Rattle.vt_store.specs.StoreValue.{StoreValue, entry_in}
+use Rattle.vt_store.specs.LayersHeld.{without_layers}
+use Rattle.vt_store.specs.OverlaysValue.{OverlayEntry, overlay_of}
 use Rattle.vt_mounting.specs.Detach.Stored.{kept, layer_of, merged_of}
 use Rattle.vt_mounting.specs.Detach.Uses.{leave_filesystem, let_go_filesystem, merged_at, merged_left_by, mounts_shown, released_in, released_merged, shown_left_by, without_layer, without_merged}
 use Rattle.vt_mounting.proofs.detach.Shown.{is_some_mapped, unpinned_shown}

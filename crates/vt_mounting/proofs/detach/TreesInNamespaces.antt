@@ -1,24 +1,11 @@
 -- The mounts of a tree are those of one namespace; a mount that is in no namespace is a tree by itself.
-use Rattle.std.proofs.Common.{◌≡◌, refl, sym, ap, subst, ◌∙◌, ⊎_elim, ℕ, zero, suc, nat_eq, eqb-true, Bool, true, false, true≢false, List, [], ◌∷◌, length, Option, Some, None, is_some}
-use Rattle.std.specs.Prelude.{flat_map, option_to_list}
-use Rattle.std.specs.List.{list_all}
-use Rattle.std.proofs.lemmas.Bool.{and_parts}
-use Rattle.std.proofs.lemmas.Option.{same_Some}
-use Rattle.vt_spec.specs.Lists.{holds_of}
-use Rattle.vt_spec.specs.Machine.Mounts.{Location, Mount, children, mount_tree, stands_on, tree_from}
-use Rattle.vt_spec.specs.Machine.World.{World, mount_at, mount_numbered}
-use Rattle.vt_spec.specs.Machine.Invariants.{Stands}
-use Rattle.vt_spec.specs.Machine.Invariants.Stands.{at_root, on_parent}
-use Rattle.vt_spec.proofs.Lists.{Among, among_from_list_all, filter_none, none_from_among}
-use Rattle.vt_laws_mounts.specs.LettingGo.Leaving.{stands_on_attached}
-use Rattle.vt_laws_mounts.proofs.letting_go.sweeps.OfWorlds.{mounts_of_worlds_stand}
-use Rattle.vt_mount.specs.MountsValue.{mounts_in}
+use Rattle.std.proofs.Common.{◌≡◌, refl, sym, ap, subst, ◌∙◌, ⊎_elim, ℕ, zero, suc, nat_eq, eqb-true, Bool, true, false, true≢false, List, [], ◌∷◌, length, Option, Some, None, is_some, flat_map, option_to_list}
+use Rattle.vt_spec.proofs.Common.{Among, Location, Mount, Stands, World, among_from_list_all, and_parts, at_root, children, filter_none, holds_of, list_all, mount_at, mount_numbered, mount_tree, none_from_among, on_parent, same_Some, stands_on, tree_from}
+use Rattle.vt_mounting.proofs.Common.{IsHeld, WorldValue, mounts_in, mounts_of_worlds_stand, stands_on_attached, world_of}
 use Rattle.vt_laws_mounts.proofs.mounts.MountsFound.{found_or_none, number_found}
 use Rattle.vt_laws_mounts.proofs.mounts.MountsReplaced.{found_itself, tree_among}
 use Rattle.vt_laws_mounts.proofs.mounts.Standing.{LiesIn, lies_in_tree, stand}
 use Rattle.vt_laws_mounts.proofs.mounts.Standing.LiesIn.{itself, under}
-use Rattle.vt_world.specs.Held.{IsHeld}
-use Rattle.vt_world.specs.WorldValue.{WorldValue, world_of}
 
 module _ (value : WorldValue) (held : IsHeld value) where
   abbrev world : World ℕ

@@ -1,31 +1,12 @@
 -- Events after which mounts have the types of other groups: they are done if they are but for the types.
 use Rattle.std.proofs.Common.{◌≡◌, refl, sym, ap, subst, ◌∙◌, ◌+◌, ℕ, nat_eq, false, List, filter, map, is_some}
-use Rattle.vt_spec.specs.Language.Calls.{TaskName}
-use Rattle.vt_spec.specs.Machine.Mounts.{Mount}
-use Rattle.vt_spec.specs.Machine.Mounts.Propagation.{Private}
-use Rattle.vt_spec.specs.Machine.Permits.{Permit}
-use Rattle.vt_spec.specs.Machine.Receives.{regrouped}
-use Rattle.vt_spec.specs.Machine.Settled.{is_mounted}
-use Rattle.vt_spec.specs.Machine.World.{Filesystem, Task, World}
-use Rattle.vt_laws_mounts.specs.Counts.OverlaysStay.{layer_count}
-use Rattle.vt_laws_mounts.specs.Counts.Using.{Exchanges}
-use Rattle.vt_group.specs.Grouping.{Grouping, Has}
-use Rattle.vt_group.specs.Laws.{typed_by}
-use Rattle.vt_laws_mounts.specs.LettingGo.Counts.{mounts_showing, times}
-use Rattle.vt_laws_mounts.specs.LettingGo.OneByOne.{Inode}
-use Rattle.vt_laws_mounts.proofs.letting_go.Lists.{Among, all_from_among, among-from_map, among_from_all, filter_alike}
-use Rattle.vt_location.specs.Numbers.{counted}
-use Rattle.vt_mount.specs.MountsValue.{MountEntry, mounts_in}
-use Rattle.vt_world.specs.Held.{CountsItsUses, CountsWhatIsInIt, IsHeld, IsMountedSoOften}
-use Rattle.vt_retype.specs.Retyping.{typed_entry}
-use Rattle.vt_world.specs.WorldValue.{WorldValue, overlays_seen, world_of}
+use Rattle.vt_spec.proofs.Common.{Filesystem, Mount, Permit, Private, Task, TaskName, World, is_mounted, map_twice, regrouped}
+use Rattle.vt_mounting.proofs.Common.{Among, CountsItsUses, CountsWhatIsInIt, Exchanges, Grouping, Has, Inode, IsHeld, IsMountedSoOften, MountEntry, WorldValue, all_from_among, among-from_map, among_from_all, counted, filter_alike, in_use_of, layer_count, mounts_in, mounts_showing, overlays_seen, times, typed_by, typed_entry, world_of}
 use Rattle.vt_mounting.proofs.detach.Bridging.{IsSwept}
 use Rattle.vt_mounting.proofs.detach.Finishing.{CountsBeside, IsApplied, finished_as}
 use Rattle.vt_mounting.proofs.detach.Overlaid.{is_plain_one, same_files_keep}
 use Rattle.vt_mounting.proofs.detach.Staying.{IsDone}
 use Rattle.vt_mounting.proofs.detach.TypedWorlds.{exchanges_typed, living_typed, mounted_still, mounts_showing_typed, settled_typed, settled_typed_has, typed_world}
-use Rattle.vt_spec.proofs.Lists.{map_twice}
-use Rattle.vt_laws_mounts.specs.LettingGo.TreesOverlays.{in_use_of}
 
 -- the code's world with these groups, and each mount with the type that they tell
 abbrev pub typed_value : Grouping → WorldValue → WorldValue

@@ -1,31 +1,16 @@
 -- Worlds whose mounts get the types of other groups: they are in use as before. A world from which mounts are taken
 -- away is such
 -- a world.
-use Rattle.std.proofs.Common.{◌≡◌, refl, sym, ap, subst, ◌∙◌, ℕ, ◌+◌, nat_eq, Bool, true, false, cond, ◌&&◌, ◌||◌, List, [], ◌∷◌, ◌++◌, map, filter, flat_map, Option, None, is_some}
-use Rattle.std.specs.Prelude.{filter_map}
-use Rattle.std.specs.List.{cons_option, list_any}
-use Rattle.vt_spec.specs.Machine.Mounts.{Location, Mount, is_unbindable, root_of}
-use Rattle.vt_spec.specs.Machine.Mounts.Propagation.{Private, Unbindable}
-use Rattle.vt_spec.specs.Machine.Receives.{has_members, inherited, inheriting, regrouped}
-use Rattle.vt_spec.specs.Machine.Settled.{filesystem_lives, has_layer_on, is_mounted, layers_in, located_in, mount_lives, named_in, objects_of_overlay, settled, without_dead_mounts}
-use Rattle.vt_spec.specs.Machine.World.{Filesystem, World, all_locations, filesystem_numbered}
-use Rattle.vt_laws_mounts.specs.Counts.Using.{Exchanges, is_inode}
-use Rattle.vt_group.specs.Grouping.{Grouping, Has, master_in, propagation_in}
-use Rattle.vt_group.specs.Laws.{shown, typed_by}
+use Rattle.std.proofs.Common.{◌≡◌, refl, sym, ap, subst, ◌∙◌, ℕ, ◌+◌, nat_eq, Bool, true, false, cond, ◌&&◌, ◌||◌, List, [], ◌∷◌, ◌++◌, map, filter, flat_map, Option, None, is_some, filter_map}
+use Rattle.vt_spec.proofs.Common.{Filesystem, Location, Mount, Private, Unbindable, World, all_locations, cons_option, filesystem_lives, filesystem_numbered, has_layer_on, has_members, inherited, inheriting, is_mounted, is_unbindable, layers_in, list_any, located_in, map_twice, mount_lives, named_in, objects_of_overlay, or_false_left, regrouped, root_of, settled, shown-mapped, without_dead_mounts}
+use Rattle.vt_mounting.proofs.Common.{Among, Exchanges, Grouping, Has, Inode, among-from_map, among-map, among_from_all, any-map, filter-map, filter_alike, in_use_of, inode_uses, is_inode, is_ungrouped, master_in, mounts_showing, propagation_in, times, typed_by}
+use Rattle.vt_group.specs.Laws.{shown}
 use Rattle.vt_group.proofs.Showing.{shows_types}
 use Rattle.vt_group.proofs.Typed.{regrouped_is_typed}
-use Rattle.vt_laws_mounts.specs.LettingGo.Counts.{inode_uses, mounts_showing, times}
-use Rattle.vt_laws_mounts.specs.LettingGo.OneByOne.{Inode}
-use Rattle.vt_laws_mounts.proofs.letting_go.Lists.{Among, among-from_map, among-map, among_from_all, any-map, filter-map, filter_alike}
 use Rattle.vt_mounting.proofs.detach.Grouped.{settled_has}
 use Rattle.vt_mounting.proofs.detach.MountsChanged.{times_map}
-use Rattle.vt_spec.proofs.Lists.{map_twice}
-use Rattle.vt_spec.proofs.Truths.{or_false_left}
-use Rattle.vt_spec.proofs.Worlds.{shown-mapped}
 use Rattle.vt_laws_mounts.proofs.Groups.{mounts-regrouped}
 use Rattle.vt_laws_mounts.proofs.letting_go.SweptBetween.{settled_without_groups}
-use Rattle.vt_laws_worlds.specs.Permits.Taken.{is_ungrouped}
-use Rattle.vt_laws_mounts.specs.LettingGo.TreesOverlays.{in_use_of}
 
 module _ (groups : Grouping) where
   -- the world with the types and the masters that groups tell

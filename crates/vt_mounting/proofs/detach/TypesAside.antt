@@ -1,30 +1,15 @@
 -- Mounts are detached alike whatever their types: a namespace that ends.
-use Rattle.std.proofs.Common.{◌≡◌, refl, sym, ap, subst, ◌∙◌, ℕ, nat_eq, eqb-true, eq-eqb, Bool, true, false, true≢false, cond, not, ◌||◌, List, [], ◌∷◌, ◌++◌, length, map, filter, Option, Some, None, option_map, is_some}
-use Rattle.std.proofs.lemmas.List.{length-map, map-append}
-use Rattle.std.proofs.lemmas.Option.{same_Some}
-use Rattle.std.specs.List.{list_any}
-use Rattle.std.specs.Prelude.{if◌then◌else◌}
-use Rattle.vt_spec.specs.Lists.{holds_of, is_among}
-use Rattle.vt_spec.specs.Machine.Mounts.{Mount, Propagation, is_unbindable, source_of}
-use Rattle.vt_spec.specs.Machine.Mounts.Propagation.{Private, Shared, Slave, Unbindable}
-use Rattle.vt_spec.specs.Machine.Receives.{regrouped}
-use Rattle.vt_spec.specs.Machine.World.{World}
-use Rattle.vt_fs.specs.FilesystemsValue.{Shown}
-use Rattle.vt_group.specs.Grouping.{Grouping, Has, no_groups, propagation_in}
-use Rattle.vt_group.specs.Together.{TakesAway, as_private, changed_if, with_changed}
+use Rattle.std.proofs.Common.{◌≡◌, refl, sym, ap, subst, ◌∙◌, ℕ, nat_eq, eqb-true, eq-eqb, Bool, true, false, true≢false, cond, not, ◌||◌, List, [], ◌∷◌, ◌++◌, length, map, filter, Option, Some, None, option_map, is_some, if◌then◌else◌}
+use Rattle.vt_spec.proofs.Common.{Mount, Private, Propagation, Shared, Slave, Unbindable, World, holds_of, is_among, is_unbindable, length-map, list_any, map-append, map_alike, nat_eq-swapped, regrouped, same_Some, source_of}
+use Rattle.vt_mounting.proofs.Common.{AllGroupsLive, Among, Grouping, Has, MountEntry, Shown, StillTyped, TakesAway, all_from_among, among-filter, among-from_filter, among-from_map, among-map, among_from_all, among_numbers, any-map, any_passes, as_private, changed, entry_numbered, filter-map, found_in, is_among_numbers, mounts_in, no_groups, propagation_in, typed_entry, with_kind}
+use Rattle.vt_group.specs.Together.{changed_if, with_changed}
 use Rattle.vt_group.proofs.Together.{is_among-snoc, taken_has}
-use Rattle.vt_laws_mounts.proofs.letting_go.Lists.{Among, all_from_among, among-filter, among-from_filter, among-from_map, among-map, among_from_all, among_numbers, any-map, any_passes, filter-map, found_in, is_among_numbers, is_among_right, held_number}
+use Rattle.vt_laws_mounts.proofs.letting_go.Lists.{is_among_right, held_number}
 use Rattle.vt_location.specs.declared.locations.Location.{Location}
-use Rattle.vt_mount.specs.MountsValue.{MountEntry, changed, entry_numbered, mounts_in}
 use Rattle.vt_retype.specs.Leaving.{OnlyTypesChange}
-use Rattle.vt_retype.specs.Retyping.{typed_entry, with_kind}
-use Rattle.vt_retype.proofs.Left.{StillTyped}
 use Rattle.vt_mounting.specs.Detach.NamespacesLeft.{AreDetached, Detached, IsAttached, is_attached_in, numbers_inside}
 use Rattle.vt_mounting.specs.Detach.Uses.{Kept, Merged, detached_entry, detached_use, is_unused, let_go_entry, let_go_mount, without_attachment, without_mount}
 use Rattle.vt_mounting.proofs.detach.FollowedTypes.{one_left}
-use Rattle.vt_spec.proofs.Lists.{map_alike}
-use Rattle.vt_spec.proofs.Truths.{nat_eq-swapped}
-use Rattle.vt_laws_mounts.specs.Mounts.Receivers.{AllGroupsLive}
 
 module _ (groups : Grouping) where
   abbrev told : MountEntry → MountEntry

@@ -1,47 +1,21 @@
 -- Mounts that get other types with their groups, and stay where they are: mount(2) with MS_SHARED, MS_SLAVE, MS_PRIVATE
 -- and
 -- MS_UNBINDABLE, and MS_REC. Whatever groups there are, the code's world is the one that the policy leaves.
-use Rattle.std.proofs.Common.{◌≡◌, refl, sym, ap, subst, ◌∙◌, ◌+◌, ℕ, nat_eq, Bool, true, false, cond, List, [], ◌∷◌, ◌++◌, map, filter, flat_map, Option, None}
-use Rattle.std.specs.Prelude.{filter_map}
-use Rattle.std.specs.List.{cons_option, list_any}
-use Rattle.vt_spec.specs.Language.Calls.{TaskName, TypeWord}
-use Rattle.vt_spec.specs.Machine.Invariants.{IsWorld}
-use Rattle.vt_spec.specs.Machine.Mounts.{Location, Mount, Propagation, numbers_by, root_of}
-use Rattle.vt_spec.specs.Machine.Permits.Permit.{ToSetType}
-use Rattle.vt_spec.specs.Machine.Receives.{has_members, lost_a_group, regrouped, regrouped_by}
-use Rattle.vt_spec.specs.Machine.SameWorlds.{SameWorlds}
-use Rattle.vt_spec.specs.Machine.Settled.{layers_in, located_in, named_in, objects_of_overlay, settled, without_dead_groups}
-use Rattle.vt_spec.specs.Machine.Types.{named_mounts, retyped, retyped_mount, with_new_groups}
-use Rattle.vt_spec.specs.Machine.World.{Filesystem, World, all_locations}
-use Rattle.vt_fs.specs.FilesystemsValue.{filesystem_seen}
-use Rattle.vt_group.specs.Grouping.{Grouping, Has, are_rising, master_in, peers_of}
-use Rattle.vt_laws_rules.specs.Numbers.{KeepsTo}
-use Rattle.vt_laws_mounts.specs.Counts.OverlaysStay.{layer_count}
-use Rattle.vt_laws_mounts.specs.LettingGo.Counts.{inode_uses, mounts_showing, times}
+use Rattle.std.proofs.Common.{◌≡◌, refl, sym, ap, subst, ◌∙◌, ◌+◌, ℕ, nat_eq, Bool, true, false, cond, List, [], ◌∷◌, ◌++◌, map, filter, flat_map, Option, None, filter_map}
+use Rattle.vt_spec.proofs.Common.{Filesystem, IsWorld, Location, Mount, Propagation, SameWorlds, TaskName, ToSetType, TypeWord, World, all_locations, cons_option, has_members, layers_in, list_any, located_in, lost_a_group, map_twice, named_in, named_mounts, numbers_by, objects_of_overlay, regrouped, regrouped_by, retyped, retyped_mount, root_of, settled, shown-mapped, with_new_groups, without_dead_groups}
+use Rattle.vt_mounting.proofs.Common.{CountsItsMounts, CountsItsUses, CountsWhatIsInIt, Grouping, Has, IsHeld, KeepsTo, MountEntry, WorldValue, WritersHaveLayers, all_from_among, among-from_map, among_from_all, counted, counts_from, filesystem_seen, given_permits_give_no_upper, inode_uses, is_counted_before, layer_count, master_in, mounts_in, mounts_showing, numbers_of, peers_of, sameness_is_an_equivalence, times, world_of, worlds_are_in_use}
+use Rattle.vt_group.specs.Grouping.{are_rising}
 use Rattle.vt_laws_mounts.specs.LettingGo.Detaching.{with_changed}
 use Rattle.vt_laws_mounts.specs.LettingGo.InUse.{GroupsInUse}
 use Rattle.vt_laws_mounts.specs.LettingGo.Keeping.{KeepsUses}
-use Rattle.vt_laws_mounts.proofs.letting_go.Lists.{all_from_among, among-from_map, among_from_all}
 use Rattle.vt_laws_mounts.proofs.letting_go.leaving.UsesKept.{types_keep_all}
-use Rattle.vt_location.specs.Numbers.{counted}
-use Rattle.vt_mount.specs.MountsValue.{MountEntry, mounts_in}
 use Rattle.vt_retype.specs.Retyping.{retyped as retyped_entry}
-use Rattle.vt_laws_worlds.proofs.overlays_stay.left.Given.{given_permits_give_no_upper}
-use Rattle.vt_laws_trees.specs.Runs.Handed.{counts_from, is_counted_before}
-use Rattle.vt_laws_worlds.proofs.RaisedInUse.{worlds_are_in_use}
-use Rattle.vt_laws_worlds.specs.OverlaysRead.Writers.{WritersHaveLayers}
 use Rattle.vt_mounting.proofs.detach.Writers.{left_writers}
 use Rattle.vt_mounting.specs.Detach.Events.{Permits, left_by, supply_of}
-use Rattle.vt_world.specs.Held.{CountsItsMounts, CountsItsUses, CountsWhatIsInIt, IsHeld}
-use Rattle.vt_world.specs.WorldValue.{WorldValue, world_of}
 use Rattle.vt_mounting.proofs.detach.MountsChanged.{times_map}
 use Rattle.vt_mounting.proofs.detach.Overlaid.{overlays_counted}
 use Rattle.vt_mounting.proofs.detach.Staying.{IsDone, becomes_so}
 use Rattle.vt_laws_mounts.proofs.letting_go.SweptBetween.{settled_without_groups}
-use Rattle.vt_laws_trees.proofs.runs.answered.AlikeWorlds.{sameness_is_an_equivalence}
-use Rattle.vt_spec.proofs.Lists.{map_twice}
-use Rattle.vt_spec.proofs.Worlds.{shown-mapped}
-use Rattle.vt_laws_mounts.specs.Mounts.Attaching.{numbers_of}
 
 -- Worlds in which mounts have other types, and groups other masters
 

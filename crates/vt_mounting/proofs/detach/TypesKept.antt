@@ -1,34 +1,14 @@
 -- Events that change types of mounts keep to the numbers that the world had, and to those of the groups that are made.
-use Rattle.std.proofs.Common.{◌≡◌, ◌<◌, refl, sym, ap, subst, ◌∙◌, ℕ, ◌+◌, ◌*◌, ◌%◌, ◌/◌, ◌==◌, nat_eq, nat_lt, eq-eqb, ne_eqb, ltb-true, lt-ltb, Bool, true, false, cond, ◌||◌, ◌&&◌, List, [], ◌∷◌, ◌++◌, length, map, flat_map, Option, None, Some, arith}
-use Rattle.std.specs.Prelude.{option_to_list}
-use Rattle.std.proofs.lemmas.Bool.{or_parts}
-use Rattle.std.proofs.lemmas.List.Folds.{list_any-append}
-use Rattle.vt_spec.specs.Language.Calls.{TaskName, TypeWord}
-use Rattle.vt_spec.specs.Lists.{Fresh, holds_of, is_among}
-use Rattle.vt_spec.specs.Machine.Mounts.{Mount, Propagation, group_of, index_of, numbers_by, source_of}
-use Rattle.vt_spec.specs.Machine.Mounts.Propagation.{Private, Shared, Slave, Unbindable}
-use Rattle.vt_spec.specs.Machine.Permits.Permit.{ToSetType}
-use Rattle.vt_spec.specs.Machine.Receives.{has_members}
-use Rattle.vt_spec.specs.Machine.Run.{used_by_filesystem, used_by_mount}
-use Rattle.vt_spec.specs.Machine.Settled.{settled}
-use Rattle.vt_spec.specs.Machine.Types.{named_mounts, retyped}
-use Rattle.vt_spec.specs.Machine.World.{Namespace}
-use Rattle.vt_group.specs.Grouping.{Grouping, Has, LacksGroup}
-use Rattle.vt_laws_rules.specs.Numbers.{KeepsTo}
-use Rattle.vt_mount.specs.MountsValue.{mounts_in}
+use Rattle.std.proofs.Common.{◌≡◌, ◌<◌, refl, sym, ap, subst, ◌∙◌, ℕ, ◌+◌, ◌*◌, ◌%◌, ◌/◌, ◌==◌, nat_eq, nat_lt, eq-eqb, ne_eqb, ltb-true, lt-ltb, Bool, true, false, cond, ◌||◌, ◌&&◌, List, [], ◌∷◌, ◌++◌, length, map, flat_map, Option, None, Some, arith, option_to_list}
+use Rattle.vt_spec.proofs.Common.{Fresh, Mount, Namespace, Private, Propagation, Shared, Slave, TaskName, ToSetType, TypeWord, Unbindable, group_of, has_members, holds_of, index_of, is_among, list_any-append, named_mounts, numbers_by, or-true, or_parts, retyped, settled, source_of, used_by_filesystem, used_by_mount}
+use Rattle.vt_mounting.proofs.Common.{Grouping, Has, IsHeld, KeepsTo, WorldValue, counted_later, counts_from, index_bound, is_counted_before, mounts_in, permits_keep_to_numbers, world_of}
+use Rattle.vt_group.specs.Grouping.{LacksGroup}
 use Rattle.vt_retype.specs.Retyping.{retyped as retyped_entry}
-use Rattle.vt_laws_worlds.proofs.permits.named.PermitsKeepTo.{permits_keep_to_numbers}
-use Rattle.vt_laws_worlds.proofs.permits.taken.TakenAttached.{index_bound}
-use Rattle.vt_laws_worlds.proofs.permits.taken.TakenNumbers.{counted_later}
-use Rattle.vt_laws_trees.specs.Runs.Handed.{counts_from, is_counted_before}
 use Rattle.vt_mounting.specs.Detach.Events.{Permits}
-use Rattle.vt_world.specs.Held.{IsHeld}
-use Rattle.vt_world.specs.WorldValue.{WorldValue, world_of}
 use Rattle.vt_mounting.proofs.detach.FileEvents.{permit_fits}
 use Rattle.vt_mounting.proofs.detach.Staying.{IsDone}
 use Rattle.vt_mounting.proofs.detach.TypesChanged.{retyped_value, types_are_set, types_settled}
 use Rattle.vt_mounting.proofs.detach.TypesSet.{attached_named}
-use Rattle.std.proofs.Math.Bool.{or-true}
 
 -- Numbers that are no group's
 

@@ -1,29 +1,10 @@
 -- The flags of a mount are set: mount(2) with MS_REMOUNT.
-use Rattle.std.proofs.Common.{◌≡◌, refl, sym, ap, subst, ◌∙◌, ℕ, nat_eq, true, cond, List, [], ◌∷◌, map, Some, is_some, arith}
-use Rattle.std.specs.Prelude.{option_to_list}
-use Rattle.vt_spec.specs.Language.Calls.{MountFlags, TaskName}
-use Rattle.vt_spec.specs.Lists.{Fresh}
-use Rattle.vt_spec.specs.Machine.Apply.{apply}
-use Rattle.vt_spec.specs.Machine.Mounts.{Mount}
-use Rattle.vt_spec.specs.Machine.Permits.{Permit}
-use Rattle.vt_spec.specs.Machine.Permits.Permit.{ToSetFlags}
-use Rattle.vt_spec.specs.Machine.Settled.{settled}
-use Rattle.vt_spec.specs.Machine.World.{mount_numbered, with_mounts}
-use Rattle.vt_laws_mounts.specs.Counts.Using.{Exchanges, is_inode}
-use Rattle.vt_fs.specs.FilesystemsValue.{Shown, shown}
-use Rattle.vt_group.specs.Grouping.{Has}
-use Rattle.vt_laws_mounts.specs.LettingGo.Counts.{times}
+use Rattle.std.proofs.Common.{◌≡◌, refl, sym, ap, subst, ◌∙◌, ℕ, nat_eq, true, cond, List, [], ◌∷◌, map, Some, is_some, arith, option_to_list}
+use Rattle.vt_spec.proofs.Common.{Fresh, Mount, MountFlags, Permit, TaskName, ToSetFlags, apply, map_alike, mount_numbered, settled, with_mounts}
+use Rattle.vt_mounting.proofs.Common.{Among, Exchanges, Has, IsHeld, Shown, WorldValue, among-map, changed, found_is_there, inode_at, is_among_numbers, is_counted_before, is_inode, mounts_in, number_found, permit_named, shown, times, world_of}
 use Rattle.vt_laws_mounts.specs.LettingGo.Keeping.{flags_if}
-use Rattle.vt_laws_mounts.specs.LettingGo.Mounting.{inode_at}
-use Rattle.vt_laws_mounts.proofs.letting_go.Lists.{Among, is_among_numbers, among-map}
-use Rattle.vt_laws_mounts.proofs.letting_go.leaving.PlacesLeft.{found_is_there, number_found}
 use Rattle.vt_laws_mounts.proofs.letting_go.leaving.UsesKept.{flags_are_of_one}
-use Rattle.vt_mount.specs.MountsValue.{changed, mounts_in}
-use Rattle.vt_laws_worlds.specs.Permits.Named.{permit_named}
-use Rattle.vt_laws_trees.specs.Runs.Handed.{is_counted_before}
 use Rattle.vt_mounting.specs.Detach.Events.{Permits}
-use Rattle.vt_world.specs.Held.{IsHeld}
-use Rattle.vt_world.specs.WorldValue.{WorldValue, world_of}
 use Rattle.vt_mounting.proofs.detach.FileEvents.{permit_fits}
 use Rattle.vt_mounting.proofs.detach.FilesSeen.{mount_named}
 use Rattle.vt_mounting.proofs.detach.LookLemmas.{turned}
@@ -31,7 +12,6 @@ use Rattle.vt_mounting.proofs.detach.Moving.{exchanged_shown}
 use Rattle.vt_mounting.proofs.detach.MountsChanged.{KeepsWhatItShows, attached_entry, kind_kept, mount_is_changed, mounts_changed, next_of, one_changed, places_exchanged, with_mount_changed}
 use Rattle.vt_mounting.proofs.detach.Remaining.{remade}
 use Rattle.vt_mounting.proofs.detach.Staying.{IsDone}
-use Rattle.vt_spec.proofs.Lists.{map_alike}
 
 -- A mount that keeps its mount point too
 

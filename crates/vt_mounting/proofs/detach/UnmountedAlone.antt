@@ -1,26 +1,10 @@
 -- A mount on which no other stands is unmounted: umount(2).
-use Rattle.std.proofs.Common.{◌≡◌, refl, sym, ap, subst, ◌∙◌, inl, ℕ, nat_eq, eqb-true, Bool, true, false, true≢false, ◌||◌, List, [], ◌∷◌, ◌++◌, map, flat_map, Option, Some, None, option_map, is_some, arith}
-use Rattle.std.specs.Prelude.{IfSome}
-use Rattle.std.proofs.lemmas.Bool.{or_parts}
-use Rattle.vt_spec.specs.Language.Calls.{TaskName}
-use Rattle.vt_spec.specs.Lists.{holds_of}
-use Rattle.vt_spec.specs.Machine.Detach.{going, going_at, going_from, has_child, is_used, taken_away}
-use Rattle.vt_spec.specs.Machine.Mounts.{Location as Place, Mount, is_shared, mount_in, stands_on}
-use Rattle.vt_spec.specs.Machine.Permits.Permit.{ToUnmount}
-use Rattle.vt_spec.specs.Machine.Run.{numbers_in_use, used_by_filesystem, used_by_mount}
-use Rattle.vt_spec.specs.Machine.World.{World, mount_at, mount_numbered}
-use Rattle.vt_fs.specs.FilesystemsValue.{Filesystems}
-use Rattle.vt_laws_rules.proofs.numbers.Supports.{used_numbers_are_named}
-use Rattle.vt_laws_mounts.proofs.letting_go.Lists.{Among, among-append_left, among-flat_map, fails, is_among_numbers}
-use Rattle.vt_laws_mounts.proofs.letting_go.leaving.PlacesLeft.{found_is_there, found_itself, number_found}
+use Rattle.std.proofs.Common.{◌≡◌, refl, sym, ap, subst, ◌∙◌, inl, ℕ, nat_eq, eqb-true, Bool, true, false, true≢false, ◌||◌, List, [], ◌∷◌, ◌++◌, map, flat_map, Option, Some, None, option_map, is_some, arith, IfSome}
+use Rattle.vt_spec.proofs.Common.{Location as Place, Mount, TaskName, ToUnmount, World, going, going_at, going_from, has_child, holds_of, is_shared, is_used, mount_at, mount_in, mount_numbered, numbers_in_use, or_parts, stands_on, taken_away, used_by_filesystem, used_by_mount}
+use Rattle.vt_mounting.proofs.Common.{Among, Filesystems, IsHeld, MountEntry, WorldValue, among-append_left, among-flat_map, fails, found_is_there, found_itself, in_use_of, is_among_numbers, is_counted_before, is_small_node, is_ungrouped, location_of, mounts_in, number_found, used_numbers_are_named, world_of}
 use Rattle.vt_location.specs.declared.locations.Location.{Location}
-use Rattle.vt_location.specs.Locations.{is_small_node, location_of}
-use Rattle.vt_mount.specs.MountsValue.{MountEntry, mounts_in}
-use Rattle.vt_laws_trees.specs.Runs.Handed.{is_counted_before}
 use Rattle.vt_mounting.specs.Detach.Events.{Permits}
-use Rattle.vt_world.specs.Held.{IsHeld}
 use Rattle.vt_mounting.specs.Detach.Uses.{Merged, kept_of, kept_with, point_of, without_attachment}
-use Rattle.vt_world.specs.WorldValue.{WorldValue, world_of}
 use Rattle.vt_mounting.proofs.detach.Detached.{detaching_on}
 use Rattle.vt_mounting.proofs.detach.DetachingBegins.{HasChildrenOf, detached_world, detaching_begins}
 use Rattle.vt_mounting.proofs.detach.DetachingEnds.{detached_done, held_is_kept}
@@ -28,8 +12,6 @@ use Rattle.vt_mounting.proofs.detach.FileEvents.{permit_fits}
 use Rattle.vt_mounting.proofs.detach.Moving.{swap_eq}
 use Rattle.vt_mounting.proofs.detach.Remaining.{remade_with}
 use Rattle.vt_mounting.proofs.detach.Staying.{IsDone}
-use Rattle.vt_laws_worlds.specs.Permits.Taken.{is_ungrouped}
-use Rattle.vt_laws_mounts.specs.LettingGo.TreesOverlays.{in_use_of}
 
 pub attached_is_named : (value : WorldValue) → IsHeld value → (number : ℕ)
     → is_some (mount_numbered nat_eq (world_of value) number).namespace ≡ true

@@ -1,19 +1,10 @@
 -- A mount and its descendants are unmounted: umount(2) with MNT_DETACH.
 use Rattle.std.proofs.Common.{◌≡◌, ◌∙◌, sym, ap, subst, ℕ, nat_eq, true, false, List, [], ◌∷◌, map, is_some}
-use Rattle.vt_spec.specs.Language.Calls.{TaskName}
-use Rattle.std.specs.List.{list_all}
-use Rattle.vt_spec.specs.Lists.{holds_of}
-use Rattle.vt_spec.specs.Machine.Mounts.{Location as Place, Mount, is_shared, mount_in, mount_tree}
-use Rattle.vt_spec.specs.Machine.Permits.Permit.{ToUnmountLazily}
-use Rattle.vt_spec.specs.Machine.World.{World, mount_at, mount_numbered}
-use Rattle.vt_fs.specs.FilesystemsValue.{Filesystems}
-use Rattle.vt_laws_mounts.specs.LettingGo.OneByOne.{Inode}
-use Rattle.vt_mount.specs.MountsValue.{MountEntry, mounts_in}
+use Rattle.vt_spec.proofs.Common.{Location as Place, Mount, TaskName, ToUnmountLazily, World, holds_of, is_shared, list_all, mount_at, mount_in, mount_numbered, mount_tree}
+use Rattle.vt_mounting.proofs.Common.{Filesystems, Inode, IsHeld, MountEntry, WorldValue, in_use_of, is_ungrouped, mounts_in, world_of}
 use Rattle.vt_mounting.specs.Detach.Detached.{LeaveInTurn}
 use Rattle.vt_mounting.specs.Detach.Events.{Permits}
-use Rattle.vt_world.specs.Held.{IsHeld}
 use Rattle.vt_mounting.specs.Detach.Uses.{Kept, Merged, kept_of, kept_with, without_attachment}
-use Rattle.vt_world.specs.WorldValue.{WorldValue, world_of}
 use Rattle.vt_mounting.proofs.detach.Detached.{IsDetaching, detaching_on}
 use Rattle.vt_mounting.proofs.detach.DetachingBegins.{HasChildrenOf, detached_world, detaching_begins}
 use Rattle.vt_mounting.proofs.detach.DetachingEnds.{detached_done, held_is_kept, taken_regroups}
@@ -23,8 +14,6 @@ use Rattle.vt_mounting.proofs.detach.LazilyUnmounted.{lazily_is_detached, tree_h
 use Rattle.vt_mounting.proofs.detach.Remaining.{remade_with}
 use Rattle.vt_mounting.proofs.detach.Staying.{IsDone}
 use Rattle.vt_mounting.proofs.detach.UnmountedAlone.{attached_is_named}
-use Rattle.vt_laws_worlds.specs.Permits.Taken.{is_ungrouped}
-use Rattle.vt_laws_mounts.specs.LettingGo.TreesOverlays.{in_use_of}
 
 -- where each has left in its turn, none is pending
 pub all_detached : (old : WorldValue) (gained : List Inode) (last : World ℕ) (numbers : List ℕ) (k final : Kept)

@@ -1,15 +1,9 @@
 -- Descriptors that are open for writing are in no overlay, after an event, too.
 use Rattle.std.proofs.Common.{ℕ}
-use Rattle.vt_spec.specs.Lists.{Fresh}
-use Rattle.vt_spec.specs.Machine.Permits.{Permit}
-use Rattle.vt_spec.specs.Machine.World.{Task, World}
-use Rattle.vt_laws_worlds.specs.Given.LeftWorlds.{IsGivenToTask}
-use Rattle.vt_laws_worlds.specs.OverlaysRead.Writers.{WritersHaveLayers}
+use Rattle.vt_spec.proofs.Common.{Fresh, Permit, Task, World}
+use Rattle.vt_mounting.proofs.Common.{IsGiven, IsGivenToTask, IsHeld, WorldValue, WritersHaveLayers, world_of}
 use Rattle.vt_laws_worlds.proofs.overlays_read.Kept.{permits_keep_writers}
-use Rattle.vt_laws_worlds.specs.Permits.Left.{IsGiven}
 use Rattle.vt_mounting.specs.Detach.Events.{left_by, supply_of}
-use Rattle.vt_world.specs.Held.{IsHeld}
-use Rattle.vt_world.specs.WorldValue.{WorldValue, world_of}
 
 pub to_task : (world : World ℕ) (fresh : Fresh ℕ) (task : Task ℕ) (permit : Permit ℕ)
     → IsGiven fresh world task permit → IsGivenToTask fresh world task permit

@@ -1,19 +1,12 @@
 -- The root mount of a namespace, among the mounts that are listed for it.
-use Rattle.std.proofs.Common.{◌≡◌, refl, sym, ap, ◌∙◌, ℕ, zero, suc, ◌+◌, nat_eq, Bool, true, false, cond, not, List, [], ◌∷◌, map, filter, find, take, Option, Some, None, option_map, is_some, length, get_or, ◌<◌, arith}
-use Rattle.std.specs.Prelude.{slice_get}
-use Rattle.std.proofs.lemmas.Option.{same_Some, slice_get-get_or, slice_get-map}
-use Rattle.vt_spec.specs.Lists.{holds_of}
-use Rattle.vt_spec.specs.Machine.Mounts.{Mount}
-use Rattle.vt_laws_mounts.proofs.letting_go.Lists.{among-from_filter, among-from_map}
+use Rattle.std.proofs.Common.{◌≡◌, refl, sym, ap, ◌∙◌, ℕ, zero, suc, ◌+◌, nat_eq, Bool, true, false, cond, not, List, [], ◌∷◌, map, filter, find, take, Option, Some, None, option_map, is_some, length, get_or, ◌<◌, arith, slice_get}
+use Rattle.vt_spec.proofs.Common.{Mount, holds_of, same_Some, slice_get-get_or, slice_get-map}
+use Rattle.vt_ns.proofs.Common.{MountEntry, among-from_filter, among-from_map, are_ascending, counted, is_some_mapped, location_of, mount_of, mounts_in}
 use Rattle.vt_location.specs.declared.mounts.Mount.{Mount as Attached}
 use Rattle.vt_location.specs.declared.numbers.MountId.{MountId}
-use Rattle.vt_location.specs.Locations.{location_of}
-use Rattle.vt_location.specs.MountValue.{mount_of}
-use Rattle.vt_location.specs.Numbers.{counted}
-use Rattle.vt_mount.specs.MountsValue.{MountEntry, are_ascending, mounts_in}
 use Rattle.vt_ns.specs.Entering.{root_mount_in}
 use Rattle.vt_mounting.proofs.detach.EndingLemmas.{entry_ascending, last_is_among}
-use Rattle.vt_mounting.proofs.detach.Shown.{found_entry, is_some_mapped}
+use Rattle.vt_mounting.proofs.detach.Shown.{found_entry}
 
 -- the first that passes is the next one, or none of those with it passes
 pub next_passes : {A : Type 0} (p : A → Bool) (xs : List A) (n : ℕ) (x : A) → find p (take n xs) ≡ None

@@ -1,11 +1,6 @@
 -- What is lent for a location, and what the definitions see there.
 use Rattle.std.proofs.Common.{◌≡◌, refl, sym, ap, ℕ, Option, None, Some}
-use Rattle.std.proofs.lemmas.Option.{same_Some}
-use Rattle.vt_spec.proofs.Options.{none_is_some}
-use Rattle.vt_spec.specs.Machine.Rightful.{node_allows}
-use Rattle.vt_spec.specs.Rights.{Credentials, allows}
-use Rattle.vt_spec.specs.Tree.{Content, Node, bytes_of, kind_of}
-use Rattle.vt_spec.specs.Tree.Content.{Directory, Regular, Symlink, Whiteout}
+use Rattle.vt_spec.proofs.Common.{Content, Credentials, Directory, Node, Regular, Symlink, Whiteout, allows, bytes_of, kind_of, node_allows, none_is_some, same_Some}
 use Rattle.vt_looks.specs.Looking.{front as shown_front, front_of as shown_front_of}
 use Rattle.vt_overlay.specs.Alike.{Front, front, front_of}
 use Rattle.vt_ns.specs.Lent.{as_lent, with_names}

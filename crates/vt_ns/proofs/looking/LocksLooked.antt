@@ -1,43 +1,24 @@
 -- What lies in a layer of an overlay of a store is what the world that holds it locks.
-use Rattle.std.proofs.Common.{◌≡◌, refl, sym, ap, subst, ◌∙◌, ⊎_elim, inl, inr, true≢false, ℕ, nat_eq, eq-eqb, eqb-true, Bool, true, false, cond, not, ◌&&◌, ◌||◌, List, [], ◌∷◌, ◌++◌, flat_map, map, Option, Some, None, is_some, unwrap_or}
-use Rattle.std.specs.List.{list_all, list_any}
-use Rattle.std.proofs.Math.Bool.{and-false, or-false}
-use Rattle.std.proofs.lemmas.Bool.{and_parts, ltb-true}
-use Rattle.vt_spec.proofs.Found.{found_among}
-use Rattle.vt_spec.proofs.Lists.{Among, none_from_among}
-use Rattle.vt_spec.proofs.NodeChanges.{entry_from}
-use Rattle.vt_spec.proofs.Truths.{and_true_left}
-use Rattle.vt_spec.specs.FileTree.{FileTree, has_entry_to, is_directory_under, is_file_under, is_under}
-use Rattle.vt_spec.specs.Inodes.{node_in}
-use Rattle.vt_spec.specs.Lists.{holds_of}
-use Rattle.vt_spec.specs.Machine.Invariants.{is_plain_layer}
-use Rattle.vt_spec.specs.Machine.Locked.{counts_in_layer, is_locked, is_locked_at, is_object_of, lies_in_layer, lies_or_counts_under, live_layers, of_overlay, overlay_or, overlays}
-use Rattle.vt_spec.specs.Machine.World.{Filesystem, Layer, Overlay, World, filesystem_numbered, is_overlay, layers_of, mount_at}
-use Rattle.vt_spec.specs.Tree.{Node, is_directory_node}
-use Rattle.vt_spec.specs.TreeInvariant.{HasOwnParents, IsTree}
-use Rattle.vt_laws_mounts.proofs.letting_go.Lists.{among-from_filter, among-map, among_from_all, passes}
-use Rattle.vt_laws_trees.proofs.trees.TreesOfWorlds.{numbered_all}
+use Rattle.std.proofs.Common.{◌≡◌, refl, sym, ap, subst, ◌∙◌, ⊎_elim, inl, inr, true≢false, ℕ, nat_eq, eq-eqb, eqb-true, Bool, true, false, cond, not, ◌&&◌, ◌||◌, List, [], ◌∷◌, ◌++◌, flat_map, map, Option, Some, None, is_some, unwrap_or, ltb-true}
+use Rattle.vt_spec.proofs.Common.{Among, FileTree, Filesystem, HasOwnParents, IsTree, Layer, Node, Overlay, World, and-false, and_parts, and_true_left, counts_in_layer, entry_from, filesystem_numbered, found_among, has_entry_to, holds_of, is_directory_node, is_directory_under, is_file_under, is_locked, is_locked_at, is_object_of, is_overlay, is_plain_layer, is_under, layers_of, lies_in_layer, lies_or_counts_under, list_all, list_any, live_layers, mount_at, node_in, none_from_among, of_overlay, or-false, overlay_or, overlays}
+use Rattle.vt_ns.proofs.Common.{FilesystemEntry, Filesystems, IsHeld, StoreValue, WorldValue, among-from_filter, among-map, among_from_all, counted, counted_test, entry_of, files_at, filesystem_seen, is_own_number, is_small_node, location_of, no_entry, number_of, numbered_all, overlay_of_store, overlay_seen, overlays_of_store, overlays_seen, passes, small_parts, with_store, world_of}
 use Rattle.vt_group.proofs.IndexLemmas.{any_flat}
 use Rattle.vt_location.specs.declared.births.Birth.{Birth}
 use Rattle.vt_location.specs.declared.births.Birth.TheVariants.{Below, Here}
 use Rattle.vt_location.specs.declared.locations.InodeRef.{InodeRef}
 use Rattle.vt_location.specs.declared.locations.Location.{Location}
 use Rattle.vt_location.specs.declared.locations.NodeRef.{NodeRef}
-use Rattle.vt_location.specs.Locations.{inode_of, is_small_node, location_of, number_of, plain_at}
-use Rattle.vt_location.specs.Numbers.{counted, is_own_number}
-use Rattle.vt_location.proofs.NodeLemmas.{no_inodes, small_parts}
-use Rattle.vt_location.proofs.NumberLemmas.{counted_test, own_inode, slot_of}
-use Rattle.vt_fs.specs.FilesystemsValue.{FilesystemEntry, Filesystems, entry_of, files_at, files_seen, filesystem_seen, no_entry}
+use Rattle.vt_location.specs.Locations.{inode_of, plain_at}
+use Rattle.vt_location.proofs.NodeLemmas.{no_inodes}
+use Rattle.vt_location.proofs.NumberLemmas.{own_inode, slot_of}
+use Rattle.vt_fs.specs.FilesystemsValue.{files_seen}
 use Rattle.vt_fs.specs.Laws.{ParentsAreNamed}
 use Rattle.vt_fs.proofs.Parents.{parents_named}
 use Rattle.vt_overlay.specs.declared.merge.layers.LayerRef.{LayerRef}
 use Rattle.vt_overlay.specs.MergedTree.{layer_seen}
 use Rattle.vt_store.specs.Locks.{is_in_layer, lies_in, lies_in_overlay}
 use Rattle.vt_store.specs.OverlaysValue as stored
-use Rattle.vt_store.specs.StoreValue.{StoreValue}
-use Rattle.vt_world.specs.Held.{HasOwnInodes, IsHeld}
-use Rattle.vt_world.specs.StoredWorld.{overlay_of_store, overlays_of_store, with_store}
-use Rattle.vt_world.specs.WorldValue.{WorldValue, overlay_seen, overlays_seen, world_of}
+use Rattle.vt_world.specs.Held.{HasOwnInodes}
 use Rattle.vt_mounting.specs.Detach.Looking.{is_seen}
 use Rattle.vt_mounting.proofs.detach.LookLemmas.{unseen_node}
 use Rattle.vt_mounting.proofs.detach.Overlaid.{overlays_are, plain_one_among}

@@ -1,38 +1,21 @@
 -- What code finds in what is kept of a world is what the definitions see of its value.
-use Rattle.std.proofs.Common.{◌≡◌, refl, sym, ap, subst, ◌∙◌, ℕ, nat_eq, eqb-true, true≢false, Bool, true, false, cond, is_some, not, ◌&&◌, ◌||◌, List, [], ◌∷◌, zero, suc, length, Option, Some, None, option_map, unwrap_or}
-use Rattle.std.specs.Prelude.{find}
-use Rattle.std.specs.List.{list_any}
-use Rattle.vt_spec.specs.FileTree.{is_directory_under, is_removed}
-use Rattle.vt_spec.specs.Machine.Detach.{mounts_on}
+use Rattle.std.proofs.Common.{◌≡◌, refl, sym, ap, subst, ◌∙◌, ℕ, nat_eq, eqb-true, true≢false, Bool, true, false, cond, is_some, not, ◌&&◌, ◌||◌, List, [], ◌∷◌, zero, suc, length, Option, Some, None, option_map, unwrap_or, find}
+use Rattle.vt_spec.proofs.Common.{Node, Tree, chain, child_at, filesystem_at, filesystem_numbered, holds_of, is_directory_under, is_removed, is_removed_at, last_or, list_any, mount_at, mount_numbered, mounts_on, no_mount, node_at, none_is_some, or-true, root_of, same_location, stands_on}
 use Rattle.vt_spec.specs.Machine.Mounts as meant
-use Rattle.vt_spec.specs.Lists.{chain, holds_of, last_or}
 use Rattle.vt_spec.specs.Machine.Looks.{topmost}
 use Rattle.vt_spec.specs.Machine.Walking.{is_lost}
-use Rattle.vt_spec.specs.Machine.Mounts.{child_at, no_mount, root_of, same_location, stands_on}
-use Rattle.vt_spec.specs.Machine.World.{filesystem_at, filesystem_numbered, is_removed_at, mount_at, mount_numbered, node_at}
 use Rattle.vt_location.specs.declared.locations.Location.{Location}
 use Rattle.vt_location.specs.declared.locations.NodeRef.{NodeRef}
 use Rattle.vt_location.specs.declared.mounts.Mount.{Mount}
-use Rattle.vt_location.specs.Locations.{is_small_node, location_of, number_of}
-use Rattle.vt_location.specs.MountValue.{mount_of}
-use Rattle.vt_location.specs.Numbers.{counted, mount_number}
-use Rattle.vt_location.proofs.NumberLemmas.{counted_test}
+use Rattle.vt_ns.proofs.Common.{IsHeld, StoreValue, WorldValue, counted, counted_test, files_shown, is_small_node, lent_in, lent_of_world, location_of, looks_of_value, mount_of, mounts_in, number_of, stands_over, with_store, world_of}
+use Rattle.vt_location.specs.Numbers.{mount_number}
 use Rattle.vt_looks.specs.declared.look.Ground.{Ground}
 use Rattle.vt_looks.specs.Looking.{IsGround}
 use Rattle.vt_fs.proofs.Entries.{or_first, or_second}
 use Rattle.vt_fs.specs.Laws.{is_lost_under}
-use Rattle.vt_mount.specs.MountsValue.{mounts_in, stands_over}
-use Rattle.vt_world.specs.Held.{IsHeld}
-use Rattle.std.proofs.Math.Bool.{or-true}
-use Rattle.vt_mounting.specs.Detach.Looking.{is_seen, looks_of_value}
-use Rattle.vt_world.specs.Lent.{lent_of_world}
-use Rattle.vt_world.specs.StoredWorld.{with_store}
-use Rattle.vt_world.specs.WorldValue.{WorldValue, world_of}
-use Rattle.vt_store.specs.StoreValue.{StoreValue, files_in, lent_in}
-use Rattle.vt_spec.specs.Tree.{Node, Tree}
-use Rattle.vt_spec.proofs.Options.{none_is_some}
+use Rattle.vt_mounting.specs.Detach.Looking.{is_seen}
+use Rattle.vt_store.specs.StoreValue.{files_in}
 use Rattle.vt_mounting.proofs.detach.LookLemmas.{any_point, missing_root, under_another, unseen_node, unseen_removed, unseen_root}
-use Rattle.vt_mounting.proofs.detach.StoreShown.{files_shown}
 use Rattle.vt_ns.proofs.looking.StoreLooked.{lent_shown, under_shown}
 use Rattle.vt_ns.specs.Lent.{as_lent, real_of_value}
 

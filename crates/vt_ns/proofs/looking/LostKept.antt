@@ -1,30 +1,16 @@
 -- A directory that is not removed lies under the root of its filesystem; and which directories are lost on their
 -- mounts.
 use Rattle.std.proofs.Common.{◌≡◌, refl, sym, ap, subst, ◌∙◌, ⊎_elim, true≢false, ℕ, zero, suc, nat_eq, eq-eqb, eqb-true, Bool, true, false, cond, not, ◌||◌, List, [], ◌∷◌, length, Option, Some, None, is_some}
-use Rattle.vt_spec.specs.FileTree.{FileTree, has_entry_to, is_directory_under, is_removed, named_parent, targets_in}
-use Rattle.vt_spec.specs.Lists.{chain, is_among, when}
-use Rattle.vt_spec.specs.Machine.Invariants.{ListsNumbers}
+use Rattle.vt_spec.proofs.Common.{Among, Content, Directory, FileTree, Filesystem, HasOwnParents, IsDirectory, IsTree, ListsNumbers, Node, Regular, Symlink, Tree, Whiteout, all_from_among, among_from_all, chain, chain_ends, chain_goes_on, directory_from_entry, entries_in, entry_at, entry_from, entry_named, filesystem_numbered, has_entry_to, is_among, is_directory_node, is_directory_under, is_removed, mount_at, named_parent, nat_eq_turned, no_filesystem, node_at, or_right, parent_in, reached_named, targets_in, when}
 use Rattle.vt_spec.specs.Machine.Mounts as meant
 use Rattle.vt_spec.specs.Machine.Walking.{is_lost}
-use Rattle.vt_spec.specs.Machine.World.{Filesystem, filesystem_numbered, mount_at, no_filesystem, node_at}
-use Rattle.vt_spec.specs.Tree.{Content, Node, Tree, entries_in, entry_named, is_directory_node, parent_in}
-use Rattle.vt_spec.specs.Tree.Content.{Directory, Regular, Symlink, Whiteout}
-use Rattle.vt_spec.specs.TreeInvariant.{HasOwnParents, IsDirectory, IsTree, entry_at}
-use Rattle.vt_spec.proofs.Lists.{Among, all_from_among, among_from_all, chain_ends, chain_goes_on}
-use Rattle.vt_spec.proofs.NodeChanges.{directory_from_entry, entry_from}
-use Rattle.vt_spec.proofs.Trees.{reached_named}
-use Rattle.vt_spec.proofs.Truths.{nat_eq_turned as turned}
-use Rattle.std.proofs.lemmas.Bool.{or_right}
-use Rattle.vt_laws_trees.specs.Trees.{IsFileTree}
+use Rattle.vt_ns.proofs.Common.{IsFileTree, IsHeld, WorldValue, looks_of_value, world_of}
 use Rattle.vt_laws_trees.proofs.trees.TreesAbove.{parent_named, under_seen}
 use Rattle.vt_laws_trees.proofs.trees.TreesReached.{filled_reached, not_removed_reached}
 use Rattle.vt_laws_trees.proofs.trees.TreesOfWorlds.{numbered_anyhow}
 use Rattle.vt_fs.specs.Laws.{LieUnderRoot, is_lost_under}
 use Rattle.vt_fs.proofs.TreesLookedAt.{nowhere_under}
 use Rattle.vt_looks.specs.Looking.{StaysFound}
-use Rattle.vt_mounting.specs.Detach.Looking.{looks_of_value}
-use Rattle.vt_world.specs.Held.{IsHeld}
-use Rattle.vt_world.specs.WorldValue.{WorldValue, world_of}
 
 -- what is no directory is its own parent, and has no entries
 no_directory : (number : ℕ) (o : Option (Node ℕ)) → is_directory_node o ≡ false
@@ -291,7 +277,7 @@ nowhere_ways : (files : FileTree ℕ) → ((number : ℕ) → files.tree.node nu
 nowhere_ways files none = record {
   upward = λ root directory found other. absurd (true≢false
       (sym (under (is_removed nat_eq files.tree directory) (is_directory_under nat_eq files root directory) found)
-      ∙ nowhere_under files root directory (none directory) ∙ turned root directory ∙ other));
+      ∙ nowhere_under files root directory (none directory) ∙ nat_eq_turned root directory ∙ other));
   downward = λ root directory object name found entry is.
       let wrong : None ≡ Some object = sym (ap (λ o. entry_named name (entries_in o)) (none directory)) ∙ entry in
       absurd cc;

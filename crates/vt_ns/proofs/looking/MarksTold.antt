@@ -1,18 +1,9 @@
 -- What stat(2) and read(2) tell of what is lent is what the definitions tell of the inode.
 use Rattle.std.proofs.Common.{◌≡◌, refl, sym, ℕ, nat_eq, true, false, Option, Some, None, is_some, option_map}
-use Rattle.vt_spec.proofs.Options.{none_is_some}
-use Rattle.vt_spec.specs.FileTree.{is_opaque_in}
-use Rattle.vt_spec.specs.Machine.Apply.{stat_line}
+use Rattle.vt_spec.proofs.Common.{Content, Directory, Filesystem, Node, Overlay, Regular, Symlink, Whiteout, filesystem_at, is_opaque_in, is_overlay_at, mount_at, node_at, none_is_some, stat_line}
 use Rattle.vt_spec.specs.Machine.Mounts as meant
-use Rattle.vt_spec.specs.Machine.Rules.Conditions.{is_overlay_at}
-use Rattle.vt_spec.specs.Machine.World.{Filesystem, Overlay, filesystem_at, mount_at, node_at}
-use Rattle.vt_spec.specs.Tree.{Content, Node}
-use Rattle.vt_spec.specs.Tree.Content.{Directory, Regular, Symlink, Whiteout}
-use Rattle.vt_fs.specs.FilesystemsValue.{node_seen}
-use Rattle.vt_world.specs.Held.{IsHeld}
+use Rattle.vt_ns.proofs.Common.{IsHeld, WorldValue, looks_of_value, node_seen, world_of}
 use Rattle.vt_world.specs.Lent.{count_of, lent_by}
-use Rattle.vt_world.specs.WorldValue.{WorldValue, world_of}
-use Rattle.vt_mounting.specs.Detach.Looking.{looks_of_value}
 use Rattle.vt_ns.specs.Lent.{as_lent, real_of_value, with_names}
 use Rattle.vt_ns.specs.Told.{told_by}
 

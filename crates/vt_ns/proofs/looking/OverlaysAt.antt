@@ -1,16 +1,12 @@
 -- The overlays of a store, as the world that holds it shows them.
 use Rattle.std.proofs.Common.{◌≡◌, sym, ap, ◌∙◌, ℕ, nat_eq, Some, None}
-use Rattle.vt_spec.specs.Machine.Merging.{real_of}
-use Rattle.vt_spec.specs.Machine.World.{Filesystem, Overlay, filesystem_numbered}
+use Rattle.vt_spec.proofs.Common.{Filesystem, Overlay, filesystem_numbered, real_of}
 use Rattle.vt_world.specs.OverlaysKept.Inodes.{inodes_kept}
 use Rattle.vt_laws_trees.proofs.trees.TreesOfWorlds.{number_numbered}
-use Rattle.vt_location.specs.Numbers.{counted}
-use Rattle.vt_overlay.specs.MergedTree.{OverlayValue, overlay_seen}
+use Rattle.vt_ns.proofs.Common.{IsHeld, OverlayValue, StoreValue, WorldValue, counted, overlay_in, overlay_of_store, with_store, world_of}
+use Rattle.vt_overlay.specs.MergedTree.{overlay_seen}
 use Rattle.vt_store.proofs.Woven.{is_over}
-use Rattle.vt_store.specs.StoreValue.{StoreValue, filesystems_of, overlay_in}
-use Rattle.vt_world.specs.Held.{IsHeld}
-use Rattle.vt_world.specs.StoredWorld.{overlay_of_store, with_store}
-use Rattle.vt_world.specs.WorldValue.{WorldValue, world_of}
+use Rattle.vt_store.specs.StoreValue.{filesystems_of}
 use Rattle.vt_world.specs.WorldValue as worlds
 use Rattle.vt_mounting.proofs.detach.StoreShown.{overlay_found, plain_found}
 

@@ -1,28 +1,12 @@
 -- What a world shows of the overlay at a location, by who mounted it.
-use Rattle.std.proofs.Common.{◌≡◌, refl, sym, ap, subst, ◌∙◌, true≢false, ℕ, nat_eq, Bool, true, false, not, Option, Some, None, is_some, option_copied, option_map, [], Bor}
-use Rattle.std.specs.Prelude.{IfSome}
-use Rattle.vt_spec.specs.Lists.{holds_of}
-use Rattle.vt_spec.specs.Machine.Filesystems.{lies_only_in_lowers}
-use Rattle.vt_spec.specs.Machine.Locked.{overlay_or}
+use Rattle.std.proofs.Common.{◌≡◌, refl, sym, ap, subst, ◌∙◌, true≢false, ℕ, nat_eq, Bool, true, false, not, Option, Some, None, is_some, option_copied, option_map, [], Bor, IfSome}
+use Rattle.vt_spec.proofs.Common.{Credentials, Layer, Lower, Node, Overlay, Real, Upper, filesystem_at, filesystem_numbered, has_no_upper, holds_of, is_overlay_at, lies_only_in_lowers, mount_at, mount_numbered, mounter_allows, node_allows, node_at, overlay_or, upper_object}
 use Rattle.vt_spec.specs.Machine.Looks.{mounter_may}
 use Rattle.vt_spec.specs.Machine.Mounts as meant
-use Rattle.vt_spec.specs.Machine.Rightful.{mounter_allows, node_allows}
-use Rattle.vt_spec.specs.Machine.Rules.Conditions.{has_no_upper, is_overlay_at}
-use Rattle.vt_spec.specs.Machine.World.{Layer, Overlay, Real, filesystem_at, filesystem_numbered, mount_at, mount_numbered, node_at, upper_object}
-use Rattle.vt_spec.specs.Machine.World.Real.{Lower, Upper}
-use Rattle.vt_spec.specs.Rights.{Credentials}
-use Rattle.vt_spec.specs.Tree.{Node}
-use Rattle.vt_location.specs.Numbers.{counted}
+use Rattle.vt_ns.proofs.Common.{IsHeld, OverlayValue, StoreValue, WorldValue, counted, lent_of_world, looks_of_value, overlay_in, with_store, world_of}
 use Rattle.vt_looks.specs.Looking.{is_only_below}
-use Rattle.vt_overlay.specs.MergedTree.{OverlayValue}
-use Rattle.vt_store.specs.StoreValue.{StoreValue, overlay_in}
 use Rattle.vt_store.specs.OverlaysValue.{overlay_of}
-use Rattle.vt_world.specs.Held.{IsHeld}
-use Rattle.vt_world.specs.Lent.{lent_of_world}
-use Rattle.vt_world.specs.StoredWorld.{with_store}
-use Rattle.vt_world.specs.WorldValue.{WorldValue, world_of}
 use Rattle.vt_mounting.proofs.detach.LookLemmas.{shown_counted}
-use Rattle.vt_mounting.specs.Detach.Looking.{looks_of_value}
 use Rattle.vt_ns.proofs.looking.Lending.{allows_alike}
 use Rattle.vt_ns.proofs.looking.OverlaysAt.{no_overlay_there, overlay_there}
 use Rattle.vt_ns.proofs.looking.UppersAsked.{found_without}

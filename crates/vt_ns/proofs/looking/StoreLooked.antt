@@ -1,24 +1,14 @@
 -- What a store shows is what the world that holds it shows.
 use Rattle.std.proofs.Common.{◌≡◌, refl, sym, ap, subst, ◌∙◌, ⊎_elim, inl, inr, ◌⊎◌, ℕ, nat_eq, true≢false, Option, Some, None}
-use Rattle.vt_spec.specs.FileTree.{FileTree, ancestors, is_directory_under}
-use Rattle.vt_spec.specs.Lists.{is_among}
-use Rattle.vt_spec.specs.Machine.World.{Filesystem, filesystem_numbered, is_overlay, no_filesystem}
-use Rattle.vt_spec.specs.Tree.{Tree, is_directory_node}
-use Rattle.vt_laws_mounts.proofs.letting_go.Lists.{all_from_among}
-use Rattle.vt_laws_trees.proofs.trees.TreesOfWorlds.{number_numbered, numbered_all}
-use Rattle.vt_laws_trees.specs.Trees.{IsFileTree}
-use Rattle.vt_location.specs.Numbers.{counted}
+use Rattle.vt_spec.proofs.Common.{FileTree, Filesystem, Tree, ancestors, filesystem_numbered, is_among, is_directory_node, is_directory_under, is_overlay, no_filesystem}
+use Rattle.vt_ns.proofs.Common.{IsFileTree, IsHeld, OverlayValue, StoreValue, WorldValue, all_from_among, counted, files_shown, lent_in, lent_of_world, numbered_all, overlay_in, store_stands, with_store, world_of}
+use Rattle.vt_laws_trees.proofs.trees.TreesOfWorlds.{number_numbered}
 use Rattle.vt_fs.specs.Laws.{LieUnderRoot}
-use Rattle.vt_overlay.specs.MergedTree.{OverlayValue}
 use Rattle.vt_store.proofs.NodesAlike.{nodes_are_like_objects}
 use Rattle.vt_store.proofs.Woven.{is_over, is_plain}
-use Rattle.vt_store.specs.StoreValue.{StoreValue, files_in, filesystem_in, filesystems_of, lent_in, overlay_in}
-use Rattle.vt_world.specs.Held.{IsHeld}
-use Rattle.vt_world.specs.Lent.{lent_of_world}
-use Rattle.vt_world.specs.StoredWorld.{with_store}
-use Rattle.vt_world.specs.WorldValue.{WorldValue, world_of}
+use Rattle.vt_store.specs.StoreValue.{files_in, filesystem_in, filesystems_of}
 use Rattle.vt_mounting.proofs.detach.StoreLends.{store_lends}
-use Rattle.vt_mounting.proofs.detach.StoreShown.{files_shown, overlay_found, plain_found, store_stands}
+use Rattle.vt_mounting.proofs.detach.StoreShown.{overlay_found, plain_found}
 use Rattle.vt_mounting.proofs.detach.StoreTrees.{store_tree}
 use Rattle.vt_ns.proofs.looking.Lending.{lent_as_it_is}
 use Rattle.vt_ns.proofs.looking.LostKept.{file_tree, lie_nowhere, lie_under_root}

@@ -1,16 +1,10 @@
 -- What is asked of overlays that have an upper layer alone: no overlay has one, so it is asked of plain trees.
-use Rattle.std.proofs.Common.{◌≡◌, refl, sym, ap, ◌∙◌, true≢false, ℕ, nat_eq, false, not, List, [], Option, Some, None, is_some, map}
-use Rattle.std.specs.Prelude.{option_to_list}
-use Rattle.vt_spec.specs.Language.Changes.{Change}
-use Rattle.vt_spec.specs.Machine.Filesystems.{has_lower_directory_at, mounter_rules, overlay_rules, path_of_name}
-use Rattle.vt_spec.specs.Machine.Layers.{has_lower_directory}
-use Rattle.vt_spec.specs.Machine.Locked.{of_overlay, overlay_or}
+use Rattle.std.proofs.Common.{◌≡◌, refl, sym, ap, ◌∙◌, true≢false, ℕ, nat_eq, false, not, List, [], Option, Some, None, is_some, map, option_to_list}
+use Rattle.vt_spec.proofs.Common.{Change, Filesystem, Overlay, filesystem_at, filesystem_numbered, has_lower_directory, has_lower_directory_at, has_no_upper, mount_at, mounter_rules, of_overlay, open_layer, overlay_or, overlay_rules}
+use Rattle.vt_spec.specs.Machine.Filesystems.{path_of_name}
 use Rattle.vt_spec.specs.Machine.Mounts as meant
-use Rattle.vt_spec.specs.Machine.Rules.Conditions.{has_no_upper}
-use Rattle.vt_spec.specs.Machine.World.{Filesystem, Overlay, filesystem_at, filesystem_numbered, mount_at, open_layer}
 use Rattle.vt_laws_trees.proofs.trees.TreesOfWorlds.{numbered_anyhow}
-use Rattle.vt_world.specs.WorldValue.{WorldValue, world_of}
-use Rattle.vt_mounting.specs.Detach.Looking.{looks_of_value}
+use Rattle.vt_ns.proofs.Common.{WorldValue, looks_of_value, world_of}
 use Rattle.vt_ns.proofs.WithoutUppers.{none_has_upper}
 
 -- no overlay that is found has an upper layer

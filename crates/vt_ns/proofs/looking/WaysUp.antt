@@ -1,11 +1,7 @@
 -- The directories above a directory are the same, in whatever order the numbers stand beside its tree.
 use Rattle.std.proofs.Common.{◌≡◌, refl, sym, ap, subst, ◌∙◌, ⊎_elim, true≢false, ◌+◌, ◌-◌, arith, ℕ, zero, suc, nat_eq, Bool, true, false, not, ◌||◌, List, [], ◌∷◌, length, Option, Some, None, is_some}
-use Rattle.std.proofs.lemmas.Bool.{cases_lt}
-use Rattle.vt_spec.specs.FileTree.{FileTree, ancestors, is_directory_under, is_removed, named_parent}
-use Rattle.vt_spec.specs.Lists.{chain, is_among}
-use Rattle.vt_spec.specs.Tree.{Tree}
-use Rattle.vt_spec.proofs.Lists.{chain_ends}
-use Rattle.vt_laws_trees.specs.Trees.{IsFileTree}
+use Rattle.vt_spec.proofs.Common.{FileTree, Tree, ancestors, cases_lt, chain, chain_ends, is_among, is_directory_under, is_removed, named_parent}
+use Rattle.vt_ns.proofs.Common.{IsFileTree}
 use Rattle.vt_ns.proofs.looking.LostKept.{ended, lie_under_root, root_has_none}
 
 -- where the way up ends, more steps lead to nothing more

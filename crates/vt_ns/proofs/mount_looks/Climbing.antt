@@ -1,14 +1,11 @@
 -- A mount is in the tree of another just if going up by parents meets that one.
 use Rattle.std.proofs.Common.{◌≡◌, refl, sym, ap, ◌∙◌, ⊎_elim, ℕ, zero, suc, nat_eq, eqb-true, eq-eqb, Bool, true, false, true≢false, ◌||◌, List, [], ◌∷◌, length, Option, Some, None}
-use Rattle.std.specs.List.{list_any}
-use Rattle.vt_spec.specs.Lists.{any_pair, holds_of}
-use Rattle.vt_spec.specs.Machine.Mounts.{Location, Mount, children, mount_in, mount_tree, stands_on, tree_from}
-use Rattle.vt_spec.proofs.Lists.{among-filter, among-from_filter, any_among, any_from_among, list_any-never}
-use Rattle.vt_laws_mounts.proofs.mounts.MountsFound.{found_or_none, number_found}
+use Rattle.vt_spec.proofs.Common.{Location, Mount, among-filter, among-from_filter, any_among, any_from_among, any_pair, children, holds_of, list_any, mount_in, mount_tree, nat_eq_itself, or-false, same_truth, stands_on, tree_from}
+use Rattle.vt_spec.proofs.Lists.{list_any-never}
+use Rattle.vt_ns.proofs.Common.{number_found}
+use Rattle.vt_laws_mounts.proofs.mounts.MountsFound.{found_or_none}
 use Rattle.vt_laws_mounts.proofs.mounts.MountsReplaced.{found_itself}
 use Rattle.vt_mounting.proofs.detach.LookLemmas.{turned}
-use Rattle.vt_spec.proofs.Truths.{nat_eq_itself, same_truth}
-use Rattle.std.proofs.Math.Bool.{or-false}
 use Rattle.vt_group.proofs.IndexLemmas.{any_flat}
 
 -- going up from a mount meets another, in at most so many steps

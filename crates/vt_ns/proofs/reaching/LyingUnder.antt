@@ -1,14 +1,10 @@
 -- Which directories lie under which, as a store keeps them.
 use Rattle.std.proofs.Common.{◌≡◌, ap, ◌∙◌, ◌&&◌, nat_eq, false, true}
-use Rattle.vt_spec.specs.Machine.World.{filesystem_numbered}
+use Rattle.vt_spec.proofs.Common.{filesystem_numbered}
 use Rattle.vt_location.specs.declared.locations.NodeRef.{NodeRef}
-use Rattle.vt_location.specs.Locations.{is_small_node, number_of}
+use Rattle.vt_ns.proofs.Common.{IsHeld, WorldValue, counted, counted_test, is_small_node, number_of, world_of}
 use Rattle.vt_location.specs.SameNodes.{same_birth}
-use Rattle.vt_location.specs.Numbers.{counted}
 use Rattle.vt_location.proofs.NodeLemmas.{nodes_test}
-use Rattle.vt_location.proofs.NumberLemmas.{counted_test}
-use Rattle.vt_world.specs.Held.{IsHeld}
-use Rattle.vt_world.specs.WorldValue.{WorldValue, world_of}
 use Rattle.vt_mounting.proofs.detach.LookLemmas.{turned}
 use Rattle.vt_mounting.proofs.detach.NodesFound.{in_no_other}
 use Rattle.vt_fs.proofs.TreesLookedAt.{nowhere_under}

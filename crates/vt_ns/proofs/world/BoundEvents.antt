@@ -1,25 +1,12 @@
 -- What the events that attach mounts find: the places of their permits, and the parts.
 use Rattle.std.proofs.Common.{◌≡◌, sym, ap, ◌∙◌, ℕ, nat_eq, Bool, true, map, List}
-use Rattle.std.proofs.lemmas.Bool.{and_parts}
-use Rattle.vt_spec.specs.Language.Calls.{TaskName}
-use Rattle.vt_spec.specs.Lists.{is_among}
-use Rattle.vt_spec.specs.Machine.Attach.{parts_of}
+use Rattle.vt_spec.proofs.Common.{TaskName, ToBind, World, and_parts, is_among, is_located_well, parts_of}
 use Rattle.vt_spec.specs.Machine.Mounts as meant
-use Rattle.vt_spec.specs.Machine.Permits.Permit.{ToBind}
-use Rattle.vt_spec.specs.Machine.World.{World}
-use Rattle.vt_spec.specs.Machine.Invariants.{is_located_well}
 use Rattle.vt_location.specs.declared.locations.Location.{Location}
 use Rattle.vt_location.specs.declared.mounts.Mount.{Mount}
-use Rattle.vt_location.specs.Locations.{location_of}
-use Rattle.vt_location.specs.MountValue.{mount_of}
-use Rattle.vt_location.specs.Numbers.{counted}
-use Rattle.vt_mount.specs.MountsValue.{mounts_in}
-use Rattle.vt_propagate.specs.Seen.{IsSeen, ReachesAs, is_mounted}
-use Rattle.vt_mounting.specs.Detach.Events.{Permits}
-use Rattle.vt_world.specs.Held.{IsHeld}
-use Rattle.vt_world.specs.WorldValue.{WorldValue, world_of}
-use Rattle.vt_mounting.proofs.detach.FileEvents.{permit_fits}
-use Rattle.vt_mounting.proofs.attach.Binding.{found_some, is_seen}
+use Rattle.vt_ns.proofs.Common.{IsHeld, IsSeen, Permits, WorldValue, counted, is_seen, location_of, mount_of, mounts_in, permit_fits, world_of}
+use Rattle.vt_propagate.specs.Seen.{ReachesAs, is_mounted}
+use Rattle.vt_mounting.proofs.attach.Binding.{found_some}
 use Rattle.vt_ns.specs.LyingUnder.{lies_under}
 
 -- a mount on which a location lies is there

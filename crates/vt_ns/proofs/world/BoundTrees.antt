@@ -1,14 +1,8 @@
 -- The mounts that a recursive bind copies, walked with a stack.
-use Rattle.std.proofs.Common.{◌≡◌, refl, sym, ap, ◌∙◌, inl, inr, ℕ, suc, zero, nat_eq, Bool, true, false, cond, not, ◌&&◌, List, [], ◌∷◌, ◌++◌, map, filter, append_assoc}
-use Rattle.std.specs.Prelude.{flat_map, reverse}
-use Rattle.std.proofs.lemmas.List.{append-nil, map-append, reverse-append}
-use Rattle.vt_spec.specs.Lists.{any_pair}
-use Rattle.vt_spec.specs.Machine.Attach.{bindable_children, bindable_tree}
-use Rattle.vt_spec.specs.Machine.Mounts.{Mount, children, is_unbindable, mount_in, stands_on}
-use Rattle.vt_spec.proofs.Lists.{Among, among-from_filter}
+use Rattle.std.proofs.Common.{◌≡◌, refl, sym, ap, ◌∙◌, inl, inr, ℕ, suc, zero, nat_eq, Bool, true, false, cond, not, ◌&&◌, List, [], ◌∷◌, ◌++◌, map, filter, append_assoc, flat_map, reverse, append-nil}
+use Rattle.vt_spec.proofs.Common.{Among, Mount, among-from_filter, any_pair, bindable_children, bindable_tree, children, is_unbindable, map-append, mount_in, reverse-append, stands_on}
 use Rattle.vt_location.specs.declared.numbers.MountId.{MountId}
-use Rattle.vt_location.specs.Numbers.{counted}
-use Rattle.vt_mount.proofs.PlaceLemmas.{counts, numbers}
+use Rattle.vt_ns.proofs.Common.{counted, counts, numbers}
 use Rattle.vt_laws_mounts.proofs.mounts.MountsReplaced.{found_itself}
 use Rattle.vt_ns.specs.declared.trees.Branch.{Branch}
 use Rattle.vt_ns.specs.Trees.{bindable_numbers, bindable_to_come}

@@ -1,29 +1,10 @@
 -- A tree is changed first, and then mounts are detached that stand on what is removed: rmdir(2), rename(2).
-use Rattle.std.proofs.Common.{◌≡◌, refl, sym, ap, subst, ◌∙◌, ℕ, nat_eq, eq-eqb, Bool, true, false, cond, not, ◌&&◌, List, [], ◌∷◌, ◌++◌, map, filter, flat_map, Option, None, Some, option_map, is_some}
-use Rattle.std.specs.Prelude.{filter_map}
-use Rattle.std.specs.List.{list_all, list_any}
-use Rattle.vt_spec.specs.Language.Calls.{TaskName}
-use Rattle.vt_spec.specs.Language.Changes.{Change}
+use Rattle.std.proofs.Common.{◌≡◌, refl, sym, ap, subst, ◌∙◌, ℕ, nat_eq, eq-eqb, Bool, true, false, cond, not, ◌&&◌, List, [], ◌∷◌, ◌++◌, map, filter, flat_map, Option, None, Some, option_map, is_some, filter_map}
+use Rattle.vt_spec.proofs.Common.{Change, Filesystem, Fresh, IsTree, IsWorld, ListsNumbers, Location, Mount, Overlay, OverlayInvariants, Permit, SameWorlds, TaskName, ToChange, TreeInvariants, World, all_locations, apply, filesystem_at, filesystem_changed, filesystem_numbered, has_too_many, inheriting, is_among, is_overlay, is_within_limits, layers_in, list_all, list_any, located_in, lost_a_group, mount_at, named_in, objects_of_overlay, overlay_or, regrouped, regrouped_by, replaced_if_numbered, root_of, settled, shown-mapped, with_change, with_files, with_filesystem}
 use Rattle.vt_spec.specs.Language.Changes as Trees
-use Rattle.vt_spec.specs.Lists.{Fresh, is_among}
-use Rattle.vt_spec.specs.Machine.Apply.{apply}
-use Rattle.vt_spec.specs.Machine.Attach.{has_too_many}
-use Rattle.vt_spec.specs.Machine.Filesystems.{filesystem_changed, with_change, with_files}
-use Rattle.vt_spec.specs.Machine.Mounts.{Location, Mount, root_of}
-use Rattle.vt_spec.specs.Machine.Permits.{Permit}
-use Rattle.vt_spec.specs.Machine.Permits.Permit.{ToChange}
-use Rattle.vt_spec.specs.Machine.Receives.{inheriting, lost_a_group, regrouped, regrouped_by}
-use Rattle.vt_spec.specs.Machine.SameWorlds.{SameWorlds}
-use Rattle.vt_spec.specs.Machine.Settled.{layers_in, located_in, named_in, objects_of_overlay, settled}
-use Rattle.vt_spec.specs.Machine.Locked.{overlay_or}
-use Rattle.vt_spec.specs.Machine.World.{Filesystem, Overlay, World, all_locations, filesystem_at, filesystem_numbered, is_overlay, mount_at, replaced_if_numbered, with_filesystem}
-use Rattle.vt_spec.specs.Machine.Invariants.{IsWorld, ListsNumbers, OverlayInvariants, TreeInvariants, is_within_limits}
-use Rattle.vt_spec.specs.TreeInvariant.{IsTree}
 use Rattle.vt_laws_mounts.specs.Counts.Changing.{filesystem_of}
-use Rattle.vt_fs.specs.FilesystemsValue.{Filesystems, filesystem_seen}
-use Rattle.vt_group.specs.Grouping.{Grouping, Has}
+use Rattle.vt_ns.proofs.Common.{Among, ChangesFiles, CountsWhatIsInIt, Filesystems, Grouping, Has, HasChildrenOf, Inode, IsDone, IsHeld, IsKeptBut, IsUnderWay, LeaveInTurn, LeaveTogether, Merged, MountEntry, NamesWhatIsThere, Permits, WorldValue, all_from_among, among-append_right, among-map, among_from_all, detached_world, filesystem_seen, found_plain_one, given_permits_are_under_way_without_upper, has_ordered, in_use_of, is_among_numbers, is_counted_before, keeps_itself, kept_of, kept_with, permit_named, remade_with, same_files_keep, sameness_is_an_equivalence, supply_of, taken_regroups, with_filesystems, world_of}
 use Rattle.vt_group.specs.Together.{TakesAway}
-use Rattle.vt_laws_worlds.specs.Permits.Named.{permit_named}
 use Rattle.vt_laws_worlds.proofs.permits.named.PermitsKeepTo.{permits_keep_to_numbers}
 use Rattle.vt_laws_worlds.proofs.one_text.same.SameNumbers.{any_same_worlds_keep_to_numbers}
 use Rattle.vt_laws_worlds.proofs.one_text.same.SameWhole.{any_same_worlds_are_worlds}
@@ -33,51 +14,38 @@ use Rattle.vt_laws_worlds.specs.OverlaysRead.Writers.{WritersHaveLayers}
 use Rattle.vt_laws_worlds.proofs.overlays_read.Swept.{same_worlds_have_layers_alike, sweeps_keep_writers, writers_alike}
 use Rattle.vt_mounting.proofs.detach.Writers.{left_writers}
 use Rattle.vt_laws_worlds.proofs.overlay_permits.worlds.SweptWorlds.{settling_leaves_every_world}
-use Rattle.vt_laws_worlds.proofs.overlays_stay.left.Given.{given_permits_are_under_way_without_upper, given_permits_give_no_upper}
-use Rattle.vt_laws_mounts.proofs.letting_go.Lists.{Among, all_from_among, among-append_right, among-filter, among-filter_map, among-map, among_from_all, is_among_left, is_among_numbers, is_among_right, map_same, or_second}
+use Rattle.vt_laws_worlds.proofs.overlays_stay.left.Given.{given_permits_give_no_upper}
+use Rattle.vt_laws_mounts.proofs.letting_go.Lists.{among-filter, among-filter_map, is_among_left, is_among_right, map_same, or_second}
 use Rattle.vt_laws_mounts.proofs.letting_go.leaving.NamesKept.{changes_keep_names}
 use Rattle.vt_laws_mounts.proofs.letting_go.sweeps.OfWorlds.{worlds_are_settled, worlds_have_trees}
 use Rattle.vt_laws_mounts.proofs.letting_go.leaving.TreesWithOverlays.{unnamed_go_with_overlays}
 use Rattle.vt_laws_mounts.specs.LettingGo.FileChanges.{MayChange, names_lost}
 use Rattle.vt_laws_mounts.specs.LettingGo.InUse.{IsListedTree, is_inode_used}
-use Rattle.vt_laws_mounts.specs.LettingGo.OneByOne.{Inode}
 use Rattle.vt_laws_mounts.specs.LettingGo.Overlays.{is_plain, let_go_all_inodes, let_go_in, let_go_in_of, let_go_plain, uppers_in, uppers_of_inode_in, without_inode_of}
 use Rattle.vt_laws_mounts.specs.LettingGo.TreeChanges.{ChangesTree}
-use Rattle.vt_mount.specs.MountsValue.{MountEntry}
-use Rattle.vt_laws_trees.specs.Runs.Handed.{is_counted_before}
 use Rattle.vt_laws_trees.proofs.runs.answered.AlikeMounts.{regrouped_alike}
 use Rattle.vt_laws_trees.proofs.runs.answered.AlikeSettled.{settled_alike}
-use Rattle.vt_laws_trees.proofs.runs.answered.AlikeWorlds.{alike_from_same, same_from_alike, sameness_is_an_equivalence}
-use Rattle.vt_laws_worlds.specs.Worlds.Kept.{IsUnderWay}
-use Rattle.vt_laws_worlds.specs.Worlds.Permits.{IsFitPermit, NamesWhatIsThere}
+use Rattle.vt_laws_trees.proofs.runs.answered.AlikeWorlds.{alike_from_same, same_from_alike}
+use Rattle.vt_laws_worlds.specs.Worlds.Permits.{IsFitPermit}
 use Rattle.vt_laws_worlds.proofs.kept.MountsKept.{all_mounts_kept}
 use Rattle.vt_laws_worlds.proofs.kept.NamespacesKept.{all_namespaces_kept}
 use Rattle.vt_laws_worlds.proofs.worlds.PermitsNamed.{all_permits_keep_counting_forks, all_permits_keep_names}
 use Rattle.vt_laws_worlds.proofs.worlds.PermitsPlaced.{directories_stay, locations_stay, open_files_stay}
 use Rattle.vt_laws_worlds.proofs.worlds.PermitsShow.{all_permits_keep_mounts_showing}
-use Rattle.vt_mounting.specs.Detach.Events.{Permits, supply_of}
-use Rattle.vt_mounting.specs.Detach.Detached.{LeaveInTurn, LeaveTogether}
-use Rattle.vt_world.specs.Held.{CountsWhatIsInIt, IsHeld}
-use Rattle.vt_mounting.specs.Detach.Uses.{Merged, kept_of, kept_with}
-use Rattle.vt_world.specs.WorldValue.{WorldValue, world_of}
-use Rattle.vt_mounting.proofs.detach.ChangedFiles.{ChangesFiles, change_is_held, change_is_swept, with_filesystems}
+use Rattle.vt_mounting.proofs.detach.ChangedFiles.{change_is_held, change_is_swept}
 use Rattle.vt_mounting.proofs.detach.Bridging.{swept_is_same}
-use Rattle.vt_mounting.proofs.detach.DetachingBegins.{HasChildrenOf, detached_world, detaching_begins}
-use Rattle.vt_mounting.proofs.detach.DetachingEnds.{detached_counted, detached_is_private, detached_swept, held_is_kept, taken_regroups}
-use Rattle.vt_group.proofs.Others.{has_ordered}
+use Rattle.vt_mounting.proofs.detach.DetachingBegins.{detaching_begins}
+use Rattle.vt_mounting.proofs.detach.DetachingEnds.{detached_counted, detached_is_private, detached_swept, held_is_kept}
 use Rattle.vt_mounting.proofs.detach.Finishing.{swept_held}
 use Rattle.vt_mounting.proofs.detach.FollowedTypes.{own_types}
-use Rattle.vt_mounting.proofs.detach.Overlaid.{found_plain_one, keeps_itself, plain_one_among, same_files_keep}
-use Rattle.vt_mounting.proofs.detach.Keeping.{IsKeptBut, detached_in}
+use Rattle.vt_mounting.proofs.detach.Overlaid.{plain_one_among}
+use Rattle.vt_mounting.proofs.detach.Keeping.{detached_in}
 use Rattle.vt_mounting.proofs.detach.MountsGone.{pending_filesystem, pending_number}
 use Rattle.vt_mounting.proofs.detach.Moving.{swap_eq}
-use Rattle.vt_mounting.proofs.detach.Remaining.{remade_with}
-use Rattle.vt_mounting.proofs.detach.Staying.{IsDone, becomes_so}
+use Rattle.vt_mounting.proofs.detach.Staying.{becomes_so}
 use Rattle.vt_mounting.proofs.detach.TypedEvents.{counts_typed, swept_typed, typed_value}
 use Rattle.vt_mounting.proofs.detach.TypedWorlds.{settled_typed, settled_typed_has, typed_world}
 use Rattle.vt_mounting.proofs.detach.UnmountedLazily.{all_detached}
-use Rattle.vt_spec.proofs.Worlds.{shown-mapped}
-use Rattle.vt_laws_mounts.specs.LettingGo.TreesOverlays.{in_use_of}
 
 -- whether an overlay has no upper layer is told by its layers
 

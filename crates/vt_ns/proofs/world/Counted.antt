@@ -1,12 +1,9 @@
 -- What an attachment counts, of the mounts that code lists.
 use Rattle.std.proofs.Common.{List, ap, length, map, nat_eq, sym, ℕ, ◌*◌, ◌+◌, ◌≡◌, ◌∙◌}
-use Rattle.std.proofs.lemmas.List.{length-map}
-use Rattle.vt_world.specs.WorldValue.{WorldValue, world_of}
+use Rattle.vt_spec.proofs.Common.{Location, Mount, length-map, parts_of}
+use Rattle.vt_ns.proofs.Common.{WorldValue, mount_of, world_of}
 use Rattle.vt_location.specs.declared.mounts.Mount as code
-use Rattle.vt_location.specs.MountValue.{mount_of}
 use Rattle.vt_ns.specs.Counting.{counted_for}
-use Rattle.vt_spec.specs.Machine.Attach.{parts_of}
-use Rattle.vt_spec.specs.Machine.Mounts.{Location, Mount}
 
 -- as many as the definitions have
 pub as_many_mounts : (mounts : List code.Mount) (meant : List (Mount ℕ)) → map mount_of mounts ≡ meant

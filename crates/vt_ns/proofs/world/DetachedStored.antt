@@ -1,24 +1,8 @@
 -- The store that code has after a change of a tree with which mounts go: rmdir(2), rename(2).
 use Rattle.std.proofs.Common.{◌≡◌, ◌≢◌, ◌∙◌, sym, subst, ℕ, List, [], map, length}
-use Rattle.vt_spec.specs.Language.Calls.{TaskName}
-use Rattle.vt_spec.specs.Machine.Permits.{Permit}
-use Rattle.vt_fs.specs.FilesystemsValue.{Filesystems}
-use Rattle.vt_group.specs.Grouping.{Grouping}
-use Rattle.vt_location.specs.Numbers.{counted}
+use Rattle.vt_spec.proofs.Common.{Permit, TaskName}
+use Rattle.vt_ns.proofs.Common.{Filesystems, Grouping, IsDone, IsHeld, LeaveTogether, MountEntry, OverlaysLeft, Permits, StoreValue, WorldValue, counted, done_in_store, kept, kept_of, kept_with, merged_of, remade_with, with_filesystems, with_store}
 use Rattle.vt_location.specs.declared.numbers.MountId.{MountId}
-use Rattle.vt_mount.specs.MountsValue.{MountEntry}
-use Rattle.vt_store.specs.StoreValue.{StoreValue}
-use Rattle.vt_mounting.specs.Detach.Detached.{LeaveTogether}
-use Rattle.vt_mounting.specs.Detach.Events.{Permits}
-use Rattle.vt_mounting.specs.Detach.Stored.{OverlaysLeft, kept, merged_of}
-use Rattle.vt_mounting.specs.Detach.Uses.{kept_of, kept_with}
-use Rattle.vt_world.specs.Held.{IsHeld}
-use Rattle.vt_world.specs.StoredWorld.{with_store}
-use Rattle.vt_world.specs.WorldValue.{WorldValue}
-use Rattle.vt_mounting.proofs.detach.ChangedFiles.{with_filesystems}
-use Rattle.vt_mounting.proofs.detach.OverlaysListed.{done_in_store}
-use Rattle.vt_mounting.proofs.detach.Remaining.{remade_with}
-use Rattle.vt_mounting.proofs.detach.Staying.{IsDone}
 use Rattle.vt_ns.proofs.world.MountsOn.{none_counted, some_counted}
 use Rattle.vt_ns.proofs.world.StoresKept.{kept_is}
 

@@ -1,54 +1,16 @@
 -- The event that removes a directory, with the mounts on it: rmdir(2).
-use Rattle.std.proofs.Common.{◌≡◌, ◌≢◌, refl, sym, ap, subst, ◌∙◌, ℕ, nat_eq, true, ◌&&◌, List, [], map, filter, flat_map, length}
-use Rattle.std.specs.Prelude.{option_to_list}
-use Rattle.vt_spec.specs.Language.Calls.{TaskName}
-use Rattle.vt_spec.specs.Language.Changes.{Change}
-use Rattle.vt_spec.specs.Language.Changes.Change.{Remove}
-use Rattle.vt_spec.specs.Lists.{Fresh}
-use Rattle.vt_spec.specs.Machine.Apply.{apply}
-use Rattle.vt_spec.specs.Machine.Filesystems.{with_change}
-use Rattle.vt_spec.specs.Machine.Mounts.{Mount}
-use Rattle.vt_spec.specs.Machine.Permits.{Permit}
-use Rattle.vt_spec.specs.Machine.Permits.Permit.{ToChange, ToRemoveDirectory}
-use Rattle.vt_spec.specs.Machine.Receives.{regrouped}
-use Rattle.vt_spec.specs.Machine.World.{World, mount_numbered}
-use Rattle.vt_spec.specs.Fits.{Fits}
-use Rattle.vt_spec.specs.Inodes.{Inodes, changed, tree_of}
-use Rattle.vt_fs.specs.FilesystemsValue.{ChangesInodes, Filesystems, inodes_seen}
-use Rattle.vt_group.specs.Grouping.{Grouping}
+use Rattle.std.proofs.Common.{◌≡◌, ◌≢◌, refl, sym, ap, subst, ◌∙◌, ℕ, nat_eq, true, ◌&&◌, List, [], map, filter, flat_map, length, option_to_list}
+use Rattle.vt_spec.proofs.Common.{Change, Fits, Fresh, Inodes, Mount, Permit, Remove, TaskName, ToChange, ToRemoveDirectory, World, apply, mount_numbered, regrouped, tree_of, with_change}
+use Rattle.vt_spec.specs.Inodes.{changed}
+use Rattle.vt_ns.proofs.Common.{ChangesFiles, ChangesInodes, Filesystems, Grouping, HasChildrenOf, IsDone, IsFilesEvent, IsHeld, IsLocated, IsSmall, LeaveTogether, Merged, MountEntry, NamesWhatIsThere, OverlaysLeft, Permits, SeesTo, StoreValue, WorldValue, counted, detached_world, given_changes_fit, given_permits_are_seen_to, inodes_seen, is_counted_before, is_small_node, kept, kept_of, kept_with, located_filesystem, location_of, merged_of, mounts_in, nodes_named, number_of, permit_fits, permit_named, remade_with, small_parts, stands_over, supply_of, taken_regroups, tree_numbers, trees_numbers, with_filesystems, with_store, world_of}
 use Rattle.vt_location.specs.declared.locations.Location.{Location}
 use Rattle.vt_location.specs.declared.numbers.MountId.{MountId}
-use Rattle.vt_location.specs.Locations.{is_small_node, location_of, number_of}
-use Rattle.vt_location.specs.Numbers.{counted}
-use Rattle.vt_mount.specs.MountsValue.{MountEntry, mounts_in, stands_over}
-use Rattle.vt_store.specs.StoreValue.{StoreValue}
-use Rattle.vt_laws_worlds.specs.Permits.Named.{permit_named}
-use Rattle.vt_laws_worlds.specs.Permits.Sees.{SeesTo}
-use Rattle.vt_laws_worlds.proofs.permits.sees.SeesFit.{given_changes_fit}
-use Rattle.vt_laws_worlds.proofs.permits.sees.SeesTasks.{given_permits_are_seen_to}
-use Rattle.vt_laws_trees.specs.Runs.Handed.{is_counted_before}
-use Rattle.vt_laws_worlds.specs.Worlds.Permits.{NamesWhatIsThere}
-use Rattle.vt_mounting.specs.Detach.Detached.{LeaveTogether, tree_numbers}
-use Rattle.vt_mounting.specs.Detach.Events.{Permits, supply_of}
-use Rattle.vt_world.specs.Held.{IsHeld}
-use Rattle.vt_world.specs.StoredWorld.{with_store}
-use Rattle.vt_mounting.specs.Detach.Stored.{OverlaysLeft, kept, merged_of}
-use Rattle.vt_mounting.specs.Detach.Uses.{Merged, kept_of, kept_with}
-use Rattle.vt_world.specs.WorldValue.{WorldValue, world_of}
-use Rattle.vt_mounting.proofs.detach.ChangedFiles.{ChangesFiles, IsFilesEvent, with_filesystems}
 use Rattle.vt_ns.proofs.world.ChangedWithMounts.{changed_then_detached, nothing_goes}
-use Rattle.vt_mounting.proofs.detach.DetachingBegins.{HasChildrenOf, detached_world}
-use Rattle.vt_mounting.proofs.detach.DetachingEnds.{taken_regroups}
-use Rattle.vt_mounting.proofs.detach.FileEvents.{IsSmall, permit_fits}
 use Rattle.vt_ns.proofs.world.FileRemoving as Removing
-use Rattle.vt_location.proofs.NodeLemmas.{small_parts}
-use Rattle.vt_mounting.proofs.detach.FilesSeen.{IsLocated, nodes_named, located_filesystem}
-use Rattle.vt_mounting.proofs.detach.LazilyUnmounted.{trees_have_children, trees_numbers}
+use Rattle.vt_mounting.proofs.detach.LazilyUnmounted.{trees_have_children}
 use Rattle.vt_ns.proofs.world.DetachedStored.{collected_leave, left_is_stored, none_goes, some_go}
 use Rattle.vt_ns.proofs.world.MountsOn.{none_on, one_on, tops_on, trees_collected}
 use Rattle.vt_ns.proofs.world.PlainStored.{files_stored}
-use Rattle.vt_mounting.proofs.detach.Remaining.{remade_with}
-use Rattle.vt_mounting.proofs.detach.Staying.{IsDone}
 
 module _ (value : WorldValue) (held : IsHeld value) (name : TaskName) (parent : Location) (entry : List ℕ)
     (directory : Location) (small : IsSmall parent) (small_directory : is_small_node directory.node ≡ true)

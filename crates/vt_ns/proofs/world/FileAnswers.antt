@@ -1,26 +1,13 @@
 -- What the events that change files and names answer.
-use Rattle.std.proofs.Common.{◌≡◌, sym, ap, subst, ◌∙◌, ℕ, ◌<◌, ◌&&◌, true, nat_eq, List, is_some, OnErr, OnOk}
-use Rattle.std.specs.Prelude.{Err, Ok, Result}
-use Rattle.std.specs.declared.alloc.AllocError.{AllocError}
-use Rattle.vt_spec.specs.Language.Calls.{TaskName}
-use Rattle.vt_spec.specs.Language.Changes.Change.{AddName, Remove, SetBytes}
-use Rattle.vt_spec.specs.Machine.Permits.{Permit}
-use Rattle.vt_spec.specs.Machine.Permits.Permit.{ToChange}
-use Rattle.vt_spec.specs.Machine.World.{filesystem_at}
+use Rattle.std.proofs.Common.{◌≡◌, sym, ap, subst, ◌∙◌, ℕ, ◌<◌, ◌&&◌, true, nat_eq, List, is_some, OnErr, OnOk, Err, Ok, Result}
+use Rattle.vt_spec.proofs.Common.{AddName, AllocError, OnOk_then, Permit, Remove, SetBytes, TaskName, ToChange, entry_at, filesystem_at}
 use Rattle.vt_spec.specs.Inodes.{changed}
-use Rattle.vt_spec.specs.TreeInvariant.{entry_at}
-use Rattle.vt_fs.specs.FilesystemsValue.{ChangesInodes, Filesystems, files_at, inodes_seen}
+use Rattle.vt_ns.proofs.Common.{Becomes, ChangesInodes, Filesystems, IsFilesEvent, IsHeld, IsLocated, IsSmall, Permits, WorldValue, also_there, files_at, inodes_seen, kept_there, located_filesystem, location_of, nodes_named, number_of, with_filesystems, world_of}
 use Rattle.vt_location.specs.declared.locations.Location.{Location}
 use Rattle.vt_location.specs.declared.locations.NodeRef.{NodeRef}
-use Rattle.vt_location.specs.Locations.{location_of, number_of}
-use Rattle.vt_mounting.specs.Detach.Events.{Becomes, Permits}
-use Rattle.vt_world.specs.Held.{IsHeld}
-use Rattle.vt_world.specs.WorldValue.{WorldValue, world_of}
-use Rattle.vt_mounting.proofs.detach.ChangedFiles.{IsFilesEvent, with_filesystems}
-use Rattle.vt_mounting.proofs.detach.FileEvents.{IsSmall, change_at, change_is_done, change_sees}
-use Rattle.vt_mounting.proofs.detach.FilesSeen.{IsLocated, also_there, kept_there, located_filesystem, nodes_named, tree_of_entry}
+use Rattle.vt_mounting.proofs.detach.FileEvents.{change_at, change_is_done, change_sees}
+use Rattle.vt_mounting.proofs.detach.FilesSeen.{tree_of_entry}
 use Rattle.vt_mounting.proofs.attach.AttachedWorlds.{inode_is_there}
-use Rattle.vt_spec.proofs.Options.{OnOk_then}
 
 -- what an event that is given a permit leaves, where it may be refused memory
 pub record IsAnswered (value : WorldValue) (name : TaskName) (permit : Permit ℕ) (new : WorldValue)

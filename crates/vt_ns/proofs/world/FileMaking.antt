@@ -1,42 +1,18 @@
 -- The event that makes an inode: mkdir(2), symlink(2), mknod(2).
 use Rattle.std.proofs.Common.{◌≡◌, refl, sym, ap, subst, ◌∙◌, ⊎_elim, inl, inr, true≢false, ℕ, ◌<◌, ◌/◌, ◌&&◌, Bool, true, false, nat_eq, List, [], ◌∷◌, map, Some, option_map, unwrap_or, arith}
-use Rattle.vt_spec.specs.Language.Calls.{TaskName}
-use Rattle.vt_spec.specs.Language.Changes.{Change}
-use Rattle.vt_spec.specs.Language.Changes.Change.{Make}
-use Rattle.vt_spec.specs.Laws.Trees.{IsNewIn}
-use Rattle.vt_spec.specs.Lists.{odds}
-use Rattle.vt_spec.specs.Machine.Filesystems.{with_change}
-use Rattle.vt_spec.specs.Machine.Permits.{Permit}
+use Rattle.vt_spec.proofs.Common.{Change, Content, Directory, Entries, Fits, Inodes, IsNewIn, Make, Node, Permit, Regular, Symlink, TaskName, ToMake, Whiteout, is_directory, kind_of, mount_at, odds, renamed_entry, renamed_node, tree_of, with_change}
 use Rattle.vt_spec.specs.Machine.Mounts as meant
-use Rattle.vt_spec.specs.Machine.World.{mount_at}
-use Rattle.vt_spec.specs.Machine.Permits.Permit.{ToMake}
-use Rattle.vt_spec.specs.Machine.Renaming.{renamed_entry}
-use Rattle.vt_spec.specs.Fits.{Fits}
-use Rattle.vt_spec.specs.Inodes.{Inodes, changed, tree_of}
-use Rattle.vt_spec.specs.Rights.{is_directory}
-use Rattle.vt_spec.specs.Tree.{Content, Entries, Node, kind_of}
-use Rattle.vt_spec.specs.Tree.Content.{Directory, Regular, Symlink, Whiteout}
-use Rattle.vt_fs.specs.FilesystemsValue.{ChangesInodes, FilesystemEntry, Filesystems, entry_at, entry_of, inodes_at, inodes_seen, next_seen, no_entry, node_seen}
+use Rattle.vt_spec.specs.Inodes.{changed}
+use Rattle.vt_ns.proofs.Common.{ChangesInodes, FilesystemEntry, Filesystems, IsFilesEvent, IsHeld, IsLocated, IsPlainAt, IsSmall, Permits, WorldValue, changed_is_plain, counted, entry_of, files_are_changed, given_changes_fit, given_permits_are_seen_to, here_number, inode_number, inodes_at, inodes_seen, is_counted_before, is_own_number, located, located_filesystem, located_inodes, location_of, next_inode, next_seen, no_entry, node_seen, nodes_named, number_of, permit_fits, supply_of, with_filesystems, world_of}
+use Rattle.vt_fs.specs.FilesystemsValue.{entry_at}
 use Rattle.vt_laws_rules.specs.Numbers.{content_named}
 use Rattle.vt_location.specs.declared.births.Birth.TheVariants.{Here}
 use Rattle.vt_location.specs.declared.locations.Location.{Location}
 use Rattle.vt_location.specs.declared.locations.NodeRef.{NodeRef}
-use Rattle.vt_location.specs.Locations.{location_of, number_of}
-use Rattle.vt_location.specs.Numbers.{counted, exchanged, inode_number, is_own_number}
+use Rattle.vt_location.specs.Numbers.{exchanged}
 use Rattle.vt_location.proofs.NumberLemmas.{exchanged_same, exchanged_slot}
-use Rattle.vt_location.proofs.NodeLemmas.{here_number}
 use Rattle.vt_permits.specs.GrantValue.{node_in, number_beside}
-use Rattle.vt_spec.specs.Machine.Renaming.{renamed_node}
 use Rattle.vt_laws_worlds.specs.Permits.Sees.{MayBeMade}
-use Rattle.vt_laws_worlds.proofs.permits.sees.SeesFit.{given_changes_fit}
-use Rattle.vt_laws_worlds.proofs.permits.sees.SeesTasks.{given_permits_are_seen_to}
-use Rattle.vt_laws_trees.specs.Runs.Handed.{is_counted_before}
-use Rattle.vt_mounting.specs.Detach.Events.{Permits, next_inode, supply_of}
-use Rattle.vt_world.specs.Held.{IsHeld}
-use Rattle.vt_world.specs.WorldValue.{WorldValue, world_of}
-use Rattle.vt_mounting.proofs.detach.ChangedFiles.{IsFilesEvent, files_are_changed, with_filesystems}
-use Rattle.vt_mounting.proofs.detach.FileEvents.{IsSmall, changed_is_plain, permit_fits}
-use Rattle.vt_mounting.proofs.detach.FilesSeen.{IsLocated, IsPlainAt, nodes_named, located, located_filesystem, located_inodes}
 
 -- what is made in a directory of a tree has its slots
 pub made_in_tree : (directory : Location) → directory.node.birth ≡ Here → (node : Node ℕ)

@@ -1,39 +1,14 @@
 -- The event that writes a part of a file: pwrite(2).
-use Rattle.std.proofs.Common.{◌≡◌, refl, sym, ap, subst, ◌∙◌, inr, true≢false, ℕ, ◌+◌, ◌≤◌, Bool, true, false, nat_eq, List, [], ◌∷◌, map, length, OnErr, OnOk, ltb-false, eqb-true, eq-eqb, arith}
-use Rattle.std.specs.Prelude.{Result, ◌==◌}
-use Rattle.std.specs.declared.alloc.AllocError.{AllocError}
-use Rattle.vt_spec.specs.Language.Calls.{TaskName, same_name}
-use Rattle.vt_spec.specs.Language.Changes.{Change}
-use Rattle.vt_spec.specs.Language.Changes.Change.{SetBytes}
-use Rattle.vt_spec.specs.Language.Limits.{largest_file}
+use Rattle.std.proofs.Common.{◌≡◌, refl, sym, ap, subst, ◌∙◌, inr, true≢false, ℕ, ◌+◌, ◌≤◌, Bool, true, false, nat_eq, List, [], ◌∷◌, map, length, OnErr, OnOk, ltb-false, eqb-true, eq-eqb, arith, Result, ◌==◌}
+use Rattle.vt_spec.proofs.Common.{AllocError, Change, Descriptor, Fits, Inodes, OnOk_then, Permit, SameWorlds, SetBytes, Task, TaskName, ToWritePart, all_locations, among_from_list_all, bytes_in, is_directory_node, is_located_well, largest_file, locations_of, node_at, overwritten, same_name, tree_of}
 use Rattle.vt_spec.specs.Machine.Mounts as meant
-use Rattle.vt_spec.specs.Machine.Descriptors.{overwritten}
-use Rattle.vt_spec.specs.Machine.Permits.{Permit}
-use Rattle.vt_spec.specs.Machine.Permits.Permit.{ToWritePart}
-use Rattle.vt_spec.specs.Machine.SameWorlds.{SameWorlds}
-use Rattle.vt_spec.specs.Machine.World.{Descriptor, Task, all_locations, locations_of, node_at}
-use Rattle.vt_spec.specs.Machine.Invariants.{is_located_well}
-use Rattle.vt_spec.specs.Fits.{Fits}
-use Rattle.vt_spec.specs.Inodes.{Inodes, changed, tree_of}
-use Rattle.vt_spec.specs.Tree.{bytes_in, is_directory_node}
-use Rattle.vt_fs.specs.FilesystemsValue.{ChangesInodes, Filesystems, files_at, inodes_at, inodes_seen}
-use Rattle.vt_laws_mounts.proofs.letting_go.Lists.{Among, among-flat_map, among-map}
-use Rattle.vt_spec.proofs.Lists.{among_from_list_all}
+use Rattle.vt_spec.specs.Inodes.{changed}
+use Rattle.vt_ns.proofs.Common.{Among, Becomes, ChangesInodes, Filesystems, IsHeld, IsLocated, IsSmall, Permits, SeesTo, WorldValue, among-map, changed_is_plain, files_are_changed, files_at, given_changes_fit, given_permits_are_seen_to, inodes_at, inodes_seen, located, located_filesystem, located_inodes, location_of, number_of, sameness_is_an_equivalence, supply_of, with_filesystems, world_of}
+use Rattle.vt_laws_mounts.proofs.letting_go.Lists.{among-flat_map}
 use Rattle.vt_location.specs.declared.locations.Location.{Location}
-use Rattle.vt_location.specs.Locations.{location_of, number_of}
-use Rattle.vt_laws_worlds.specs.Permits.Sees.{HasOpen, SeesTo}
-use Rattle.vt_laws_worlds.proofs.permits.sees.SeesFit.{given_changes_fit}
-use Rattle.vt_laws_worlds.proofs.permits.sees.SeesTasks.{given_permits_are_seen_to}
-use Rattle.vt_laws_trees.proofs.runs.answered.AlikeWorlds.{sameness_is_an_equivalence}
+use Rattle.vt_laws_worlds.specs.Permits.Sees.{HasOpen}
 use Rattle.vt_laws_worlds.proofs.worlds.ReachedWalks.{found_among}
-use Rattle.vt_mounting.specs.Detach.Events.{Becomes, Permits, supply_of}
-use Rattle.vt_world.specs.Held.{IsHeld}
-use Rattle.vt_world.specs.WorldValue.{WorldValue, world_of}
-use Rattle.vt_mounting.proofs.detach.ChangedFiles.{files_are_changed, with_filesystems}
 use Rattle.vt_ns.proofs.world.FileAnswers.{IsAnswered, answered}
-use Rattle.vt_mounting.proofs.detach.FileEvents.{IsSmall, changed_is_plain}
-use Rattle.vt_mounting.proofs.detach.FilesSeen.{IsLocated, located, located_filesystem, located_inodes}
-use Rattle.vt_spec.proofs.Options.{OnOk_then}
 
 -- what a task has open is there
 pub open_there : (value : WorldValue) → IsHeld value

@@ -1,31 +1,14 @@
 -- The event that removes a directory on which no mount stands: rmdir(2).
 use Rattle.std.proofs.Common.{◌≡◌, refl, sym, ap, subst, ◌∙◌, ℕ, ◌&&◌, nat_eq, List, [], is_some, true}
-use Rattle.vt_spec.specs.Language.Calls.{TaskName}
-use Rattle.vt_spec.specs.Language.Changes.{Change}
-use Rattle.vt_spec.specs.Language.Changes.Change.{Remove}
-use Rattle.vt_spec.specs.Machine.Detach.{mounts_on, trees_taken_away, without_mounts_on}
-use Rattle.vt_spec.specs.Machine.Filesystems.{with_change}
+use Rattle.vt_spec.proofs.Common.{Change, Fits, Inodes, Permit, Remove, TaskName, ToRemoveDirectory, entry_at, filesystem_at, filesystem_numbered, is_overlay, mount_numbered, mounts_on, tree_of, with_change, without_mounts_on}
+use Rattle.vt_spec.specs.Machine.Detach.{trees_taken_away}
 use Rattle.vt_spec.specs.Machine.Mounts as meant
-use Rattle.vt_spec.specs.Machine.World.{filesystem_at, filesystem_numbered, is_overlay, mount_numbered}
-use Rattle.vt_spec.specs.Machine.Permits.{Permit}
-use Rattle.vt_spec.specs.Machine.Permits.Permit.{ToRemoveDirectory}
-use Rattle.vt_spec.specs.Fits.{Fits}
-use Rattle.vt_spec.specs.Inodes.{Inodes, changed, tree_of}
-use Rattle.vt_spec.specs.TreeInvariant.{entry_at}
-use Rattle.vt_fs.specs.FilesystemsValue.{ChangesInodes, Filesystems, files_at, inodes_at, inodes_seen}
+use Rattle.vt_spec.specs.Inodes.{changed}
+use Rattle.vt_ns.proofs.Common.{ChangesInodes, Filesystems, IsFilesEvent, IsHeld, IsLocated, IsPlainAt, IsSmall, Permits, SeesTo, WorldValue, also_there, changed_is_plain, files_are_changed, files_at, given_changes_fit, given_permits_are_seen_to, inodes_at, inodes_seen, kept_there, located, located_filesystem, located_inodes, location_of, number_of, permit_fits, supply_of, with_filesystems, world_of}
 use Rattle.vt_group.proofs.Together.{regrouped_living}
 use Rattle.vt_laws_mounts.proofs.letting_go.ends.NamespacesEnd.{nothing_taken}
 use Rattle.vt_location.specs.declared.locations.Location.{Location}
-use Rattle.vt_location.specs.Locations.{location_of, number_of}
-use Rattle.vt_laws_worlds.specs.Permits.Sees.{SeesTo}
-use Rattle.vt_laws_worlds.proofs.permits.sees.SeesFit.{given_changes_fit}
-use Rattle.vt_laws_worlds.proofs.permits.sees.SeesTasks.{given_permits_are_seen_to}
-use Rattle.vt_mounting.specs.Detach.Events.{Permits, supply_of}
-use Rattle.vt_world.specs.Held.{IsHeld}
-use Rattle.vt_world.specs.WorldValue.{WorldValue, world_of}
-use Rattle.vt_mounting.proofs.detach.ChangedFiles.{IsFilesEvent, files_are_changed, with_filesystems}
-use Rattle.vt_mounting.proofs.detach.FileEvents.{IsSmall, changed_is_plain, permit_fits}
-use Rattle.vt_mounting.proofs.detach.FilesSeen.{IsLocated, IsPlainAt, also_there, kept_there, located, located_filesystem, located_inodes, tree_of_entry}
+use Rattle.vt_mounting.proofs.detach.FilesSeen.{tree_of_entry}
 
 -- Where no mount stands nothing is detached
 

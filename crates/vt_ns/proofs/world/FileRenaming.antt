@@ -1,38 +1,14 @@
 -- The event that renames, where no mount stands on what is replaced: rename(2).
-use Rattle.std.proofs.Common.{◌≡◌, refl, sym, ap, subst, ◌∙◌, ℕ, ◌&&◌, true, nat_eq, List, [], map, Option, None, Some, option_map, is_some}
-use Rattle.std.specs.Prelude.{IfSome}
-use Rattle.std.proofs.lemmas.Bool.{and_parts}
-use Rattle.vt_spec.specs.Language.Calls.{TaskName}
-use Rattle.vt_spec.specs.Language.Changes.{Change}
-use Rattle.vt_spec.specs.Language.Changes.Change.{Move}
-use Rattle.vt_spec.specs.Lists.{is_among}
-use Rattle.vt_spec.specs.Machine.Detach.{mounts_on, without_replaced}
-use Rattle.vt_spec.specs.Machine.Filesystems.{with_change}
+use Rattle.std.proofs.Common.{◌≡◌, refl, sym, ap, subst, ◌∙◌, ℕ, ◌&&◌, true, nat_eq, List, [], map, Option, None, Some, option_map, is_some, IfSome}
+use Rattle.vt_spec.proofs.Common.{Change, Fits, Inodes, Move, Permit, TaskName, ToRename, and_parts, filesystem_at, filesystem_numbered, is_among, is_located_well, is_overlay, is_there, mount_at, mount_numbered, mounts_on, tree_of, with_change, without_replaced}
 use Rattle.vt_spec.specs.Machine.Mounts as meant
-use Rattle.vt_spec.specs.Machine.Permits.{Permit}
-use Rattle.vt_spec.specs.Machine.Permits.Permit.{ToRename}
-use Rattle.vt_spec.specs.Machine.World.{filesystem_at, filesystem_numbered, is_overlay, mount_at, mount_numbered}
-use Rattle.vt_spec.specs.Machine.Invariants.{is_located_well, is_there}
-use Rattle.vt_spec.specs.Fits.{Fits}
-use Rattle.vt_spec.specs.Inodes.{Inodes, changed, tree_of}
-use Rattle.vt_fs.specs.FilesystemsValue.{ChangesInodes, Filesystems, files_at, inodes_at, inodes_seen}
+use Rattle.vt_spec.specs.Inodes.{changed}
+use Rattle.vt_ns.proofs.Common.{ChangesInodes, Filesystems, IsFilesEvent, IsHeld, IsLocated, IsPlainAt, IsSmall, NamesWhatIsThere, Permits, WorldValue, also_there, changed_is_plain, files_are_changed, files_at, given_changes_fit, given_permits_are_seen_to, inodes_at, inodes_seen, is_counted_before, kept_there, located, located_filesystem, located_inodes, located_is_named, location_of, number_of, permit_fits, permit_named, supply_of, with_filesystems, world_of}
 use Rattle.vt_laws_rules.specs.Numbers.{location_named, none_or}
 use Rattle.vt_location.specs.declared.locations.Location.{Location}
-use Rattle.vt_location.specs.Locations.{location_of, number_of}
-use Rattle.vt_laws_worlds.specs.Permits.Named.{permit_named}
 use Rattle.vt_laws_worlds.specs.Permits.Sees.{MayBeRenamed}
-use Rattle.vt_laws_worlds.proofs.permits.sees.SeesFit.{given_changes_fit}
-use Rattle.vt_laws_worlds.proofs.permits.sees.SeesTasks.{given_permits_are_seen_to}
-use Rattle.vt_laws_trees.specs.Runs.Handed.{is_counted_before}
-use Rattle.vt_laws_worlds.specs.Worlds.Permits.{IsReached, NamesWhatIsThere}
-use Rattle.vt_mounting.specs.Detach.Events.{Permits, supply_of}
-use Rattle.vt_world.specs.Held.{IsHeld}
-use Rattle.vt_world.specs.WorldValue.{WorldValue, world_of}
-use Rattle.vt_mounting.proofs.detach.ChangedFiles.{IsFilesEvent, files_are_changed, with_filesystems}
-use Rattle.vt_mounting.proofs.detach.FileEvents.{IsSmall, changed_is_plain, permit_fits}
+use Rattle.vt_laws_worlds.specs.Worlds.Permits.{IsReached}
 use Rattle.vt_ns.proofs.world.FileRemoving.{nothing_detached}
-use Rattle.vt_mounting.proofs.detach.Places.{located_is_named}
-use Rattle.vt_mounting.proofs.detach.FilesSeen.{IsLocated, IsPlainAt, also_there, kept_there, located, located_filesystem, located_inodes}
 
 module _ (value : WorldValue) (held : IsHeld value) (name : TaskName) (from : Location) (old : List ℕ) (to : Location)
     (new : List ℕ) (object : Location) (replaced : Option Location) (small : IsSmall from) (small_to : IsSmall to)

@@ -1,43 +1,20 @@
 -- A task opens a file: open(2).
-use Rattle.std.proofs.Common.{◌≡◌, refl, sym, ap, subst, ◌∙◌, ℕ, ◌+◌, nat_eq, Bool, true, false, cond, ◌&&◌, List, [], ◌∷◌, ◌++◌, map, Some, arith}
-use Rattle.std.specs.Prelude.{nat_lt}
-use Rattle.std.proofs.lemmas.Bool.{leb-false}
-use Rattle.std.proofs.lemmas.List.{map-append}
-use Rattle.vt_spec.specs.Language.Calls.{TaskName, opens_for_reading, opens_for_writing}
+use Rattle.std.proofs.Common.{◌≡◌, refl, sym, ap, subst, ◌∙◌, ℕ, ◌+◌, nat_eq, Bool, true, false, cond, ◌&&◌, List, [], ◌∷◌, ◌++◌, map, Some, arith, nat_lt, leb-false}
+use Rattle.vt_spec.proofs.Common.{Descriptor, Task, TaskName, ToOpen, free_number, inserted, is_located_well, map-append, opens_for_reading, opens_for_writing, task_called, with_copy, with_descriptor, with_task, without_dead_mounts}
 use Rattle.vt_spec.specs.Language.Calls as spoken
 use Rattle.vt_spec.specs.Machine.Mounts as meant
-use Rattle.vt_spec.specs.Machine.Descriptors.{free_number, inserted, with_copy, with_descriptor}
-use Rattle.vt_spec.specs.Machine.Permits.Permit.{ToOpen}
-use Rattle.vt_spec.specs.Machine.Settled.{without_dead_mounts}
-use Rattle.vt_spec.specs.Machine.World.{Descriptor, Task, task_called, with_task}
-use Rattle.vt_spec.specs.Machine.Invariants.{is_located_well}
-use Rattle.vt_fs.specs.FilesystemsValue.{Filesystems}
-use Rattle.vt_laws_mounts.specs.LettingGo.Counts.{times}
+use Rattle.vt_ns.proofs.Common.{Filesystems, IsDone, IsHeld, Merged, MountEntry, Moves, Permits, Tasks, WorldValue, access_of, after, called, changed_called, counted, given_permits_are_seen_to, is_small_node, kept_of, kept_with, located_is_named, location_of, mounts_of_worlds_stand, number_of, permit_fits, remade, replaced, replaced_split, seen_where_located, supply_of, times, with_location, with_use, world_of, worlds_are_in_use, writes_of_task}
 use Rattle.vt_laws_mounts.proofs.letting_go.sweeps.OneByOne.{mounts_go_one_by_one}
-use Rattle.vt_laws_mounts.proofs.letting_go.sweeps.OfWorlds.{mounts_of_worlds_stand}
 use Rattle.vt_laws_mounts.proofs.letting_go.leaving.PlacesLeft.{mounts_but}
-use Rattle.vt_location.specs.Locations.{is_small_node, location_of, number_of}
-use Rattle.vt_location.specs.Numbers.{counted}
-use Rattle.vt_mount.specs.MountsValue.{MountEntry}
-use Rattle.vt_request.specs.Requests.{access_of}
 use Rattle.vt_tasks.specs.Counts.{locations_in}
 use Rattle.vt_tasks.specs.declared.descriptors.OpenFile.{OpenFile}
-use Rattle.vt_tasks.specs.TasksValue.{MayOpenMore, Tasks, called, changed_by, changed_called, replaced, with_open}
-use Rattle.vt_laws_worlds.proofs.RaisedInUse.{worlds_are_in_use}
-use Rattle.vt_mounting.specs.Detach.Events.{Permits, supply_of}
-use Rattle.vt_world.specs.Held.{IsHeld, writes_of_task, writes_on}
-use Rattle.vt_mounting.specs.Detach.Uses.{Merged, kept_of, kept_with, with_location, with_use}
-use Rattle.vt_world.specs.WorldValue.{WorldValue, world_of}
+use Rattle.vt_tasks.specs.TasksValue.{MayOpenMore, changed_by, with_open}
+use Rattle.vt_world.specs.Held.{writes_on}
 use Rattle.vt_laws_worlds.proofs.overlays_read.Changes.{opens_copy_nothing}
-use Rattle.vt_laws_worlds.proofs.permits.sees.SeesTasks.{given_permits_are_seen_to}
-use Rattle.vt_mounting.proofs.detach.FileEvents.{permit_fits}
-use Rattle.vt_mounting.proofs.detach.LocationsSeen.{seen_where_located}
 use Rattle.vt_mounting.proofs.detach.Closing.{Goes, around, place, used_by}
-use Rattle.vt_mounting.proofs.detach.Moving.{Moves, only_left}
-use Rattle.vt_mounting.proofs.detach.Places.{located_is_named}
-use Rattle.vt_mounting.proofs.detach.Remaining.{remade, remains_done}
-use Rattle.vt_mounting.proofs.detach.Splits.{IsSplit, locations_around, replaced_split, times_replaced, writes_replaced}
-use Rattle.vt_mounting.proofs.detach.Staying.{IsDone, after}
+use Rattle.vt_mounting.proofs.detach.Moving.{only_left}
+use Rattle.vt_mounting.proofs.detach.Remaining.{remains_done}
+use Rattle.vt_mounting.proofs.detach.Splits.{IsSplit, locations_around, times_replaced, writes_replaced}
 use Rattle.vt_laws_mounts.proofs.letting_go.Lists.{times_around}
 
 -- a descriptor that is put in can be taken out

@@ -1,48 +1,21 @@
 -- A task forks: fork(2).
-use Rattle.std.proofs.Common.{◌≡◌, refl, sym, ap, subst, ◌∙◌, inl, inr, ℕ, ◌+◌, nat_eq, Bool, true, false, cond, ◌&&◌, List, [], ◌∷◌, ◌++◌, Some, arith}
-use Rattle.std.proofs.lemmas.Bool.{leb-false}
-use Rattle.std.proofs.lemmas.Grind.{flat_map-append}
-use Rattle.std.proofs.lemmas.List.{append-nil}
-use Rattle.std.proofs.lemmas.Option.{same_Some}
-use Rattle.vt_spec.specs.Language.Calls.{TaskName}
+use Rattle.std.proofs.Common.{◌≡◌, refl, sym, ap, subst, ◌∙◌, inl, inr, ℕ, ◌+◌, nat_eq, Bool, true, false, cond, ◌&&◌, List, [], ◌∷◌, ◌++◌, Some, arith, leb-false, append-nil}
+use Rattle.vt_spec.proofs.Common.{Credentials, Task, TaskName, ToFork, all_locations, child_of, flat_map-append, is_located_well, locations_of, map_alike, map_twice, mount_at, same_Some, task_called, without_dead_mounts}
 use Rattle.vt_spec.specs.Machine.Mounts as meant
-use Rattle.vt_spec.specs.Machine.Tasks.{child_of}
-use Rattle.vt_spec.specs.Machine.Permits.Permit.{ToFork}
-use Rattle.vt_spec.specs.Machine.Settled.{without_dead_mounts}
-use Rattle.vt_spec.specs.Machine.World.{Task, all_locations, locations_of, mount_at, task_called}
-use Rattle.vt_spec.specs.Machine.Invariants.{is_located_well}
-use Rattle.vt_spec.specs.Rights.{Credentials}
-use Rattle.vt_location.proofs.NumberLemmas.{counted_test}
-use Rattle.vt_fs.specs.FilesystemsValue.{Filesystems}
-use Rattle.vt_laws_mounts.specs.LettingGo.Counts.{times}
-use Rattle.vt_laws_mounts.proofs.letting_go.Lists.{Among, among-append_left, among-append_right, among-from_map, among_from_all, passes}
+use Rattle.vt_ns.proofs.Common.{Among, CountsWhatIsInIt, Filesystems, IsDone, IsHeld, Kept, Merged, MountEntry, Moves, NamespaceEntry, Permits, Tasks, WorldValue, after, among-append_right, among-from_map, among_from_all, called, counted, counted_test, given_permits_are_seen_to, is_small_node, kept_of, kept_with, location_of, mounts_of_worlds_stand, namespace_of, number_of, passes, replaced, replaced_split, seen_where_located, standing, supply_of, task_of, times, with_location, with_use, world_of, worlds_are_in_use, writes_of, writes_of_task}
+use Rattle.vt_laws_mounts.proofs.letting_go.Lists.{among-append_left}
 use Rattle.vt_laws_mounts.proofs.letting_go.sweeps.OneByOne.{mounts_go_one_by_one}
-use Rattle.vt_laws_mounts.proofs.letting_go.sweeps.OfWorlds.{mounts_of_worlds_stand}
 use Rattle.vt_laws_mounts.proofs.letting_go.leaving.PlacesLeft.{mounts_but}
 use Rattle.vt_location.specs.declared.locations.Location.{Location}
-use Rattle.vt_location.specs.Locations.{is_small_node, location_of, number_of}
-use Rattle.vt_location.specs.Numbers.{counted}
-use Rattle.vt_mount.specs.MountsValue.{MountEntry}
 use Rattle.vt_laws_worlds.specs.Permits.Left.{IsGiven}
-use Rattle.vt_laws_worlds.proofs.permits.sees.SeesTasks.{given_permits_are_seen_to}
 use Rattle.vt_tasks.specs.Counts.{locations_in, one_if}
 use Rattle.vt_tasks.specs.declared.task.Task.{Task as Own}
-use Rattle.vt_tasks.specs.TaskValue.{task_of}
-use Rattle.vt_tasks.specs.TasksValue.{MayFork, Tasks, called, forked, forked_by, forked_once, replaced, with_child_behind}
-use Rattle.vt_laws_worlds.proofs.RaisedInUse.{worlds_are_in_use}
+use Rattle.vt_tasks.specs.TasksValue.{MayFork, forked, forked_by, forked_once, with_child_behind}
 use Rattle.vt_laws_mounts.proofs.letting_go.sweeps.UpperUses.{times_append}
-use Rattle.vt_mounting.specs.Detach.Events.{Permits, supply_of}
 use Rattle.vt_mounting.specs.Detach.Forking.{more_tasks, with_task_more}
-use Rattle.vt_world.specs.Held.{CountsWhatIsInIt, IsHeld, writes_of, writes_of_task}
-use Rattle.vt_mounting.specs.Detach.Uses.{Kept, Merged, kept_of, kept_with, with_location, with_use}
-use Rattle.vt_world.specs.WorldValue.{NamespaceEntry, WorldValue, namespace_of, world_of}
-use Rattle.vt_mounting.proofs.detach.LocationsSeen.{seen_where_located}
-use Rattle.vt_mounting.proofs.detach.Moving.{Moves, only_left, swap_eq}
-use Rattle.vt_mounting.proofs.detach.Places.{standing}
+use Rattle.vt_mounting.proofs.detach.Moving.{only_left, swap_eq}
 use Rattle.vt_ns.proofs.world.RemainingTasks.{CountsTasks, remade_in, remains_done_in}
-use Rattle.vt_mounting.proofs.detach.Splits.{IsSplit, locations_around, locations_stay, replaced_split, times_replaced, writes_replaced}
-use Rattle.vt_mounting.proofs.detach.Staying.{IsDone, after}
-use Rattle.vt_spec.proofs.Lists.{map_alike, map_twice}
+use Rattle.vt_mounting.proofs.detach.Splits.{IsSplit, locations_around, locations_stay, times_replaced, writes_replaced}
 
 writes_append : (mount : ℕ) (xs ys : Tasks) → writes_of mount (xs ++ ys) ≡ writes_of mount xs + writes_of mount ys
 writes_append mount [] ys = omega arith

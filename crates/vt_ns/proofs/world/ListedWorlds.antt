@@ -1,25 +1,11 @@
 -- What lists of mounts and of peer groups find in a world.
 use Rattle.std.proofs.Common.{◌≡◌, refl, sym, ap, subst, true, true≢false, ⊎_elim, ℕ, nat_eq, List, [], ◌∷◌, is_some, map}
-use Rattle.std.specs.Map.{keys_of}
-use Rattle.vt_spec.specs.Language.Calls.{TaskName}
+use Rattle.vt_spec.proofs.Common.{Filesystem, IsTree, Namespace, TaskName, ToList, Tree, keys_of, node_at}
 use Rattle.vt_spec.specs.Machine.Mounts as meant
-use Rattle.vt_spec.specs.Machine.Permits.Permit.{ToList}
-use Rattle.vt_spec.specs.Machine.World.{Filesystem, Namespace, node_at}
-use Rattle.vt_spec.specs.Tree.{Tree}
-use Rattle.vt_spec.specs.TreeInvariant.{IsTree}
-use Rattle.vt_laws_worlds.proofs.permits.sees.SeesTasks.{given_permits_are_seen_to}
-use Rattle.vt_laws_trees.proofs.trees.TreesOfWorlds.{numbered_all}
-use Rattle.vt_laws_worlds.proofs.worlds.Roots.{directory_there}
+use Rattle.vt_ns.proofs.Common.{IsHeld, Permits, StoreValue, WorldValue, counted, directory_there, entries_of, files_shown, given_permits_are_seen_to, namespace_of, numbered_all, supply_of, with_store, world_of}
 use Rattle.vt_location.specs.declared.numbers.NamespaceId.{NamespaceId}
-use Rattle.vt_location.specs.Numbers.{counted}
 use Rattle.vt_fs.specs.Trees.Paths.{NamesDirectoriesOnce}
-use Rattle.vt_store.specs.StoreValue.{StoreValue}
 use Rattle.vt_world.specs.declared.namespaces.Namespace.{Namespace as Kept}
-use Rattle.vt_world.specs.Held.{IsHeld}
-use Rattle.vt_world.specs.StoredWorld.{with_store}
-use Rattle.vt_world.specs.WorldValue.{WorldValue, entries_of, namespace_of, world_of}
-use Rattle.vt_mounting.specs.Detach.Events.{Permits, supply_of}
-use Rattle.vt_mounting.proofs.detach.StoreShown.{files_shown}
 use Rattle.vt_listing.specs.Shown.{NameDirectoriesOnce}
 
 -- in each tree a directory has one name

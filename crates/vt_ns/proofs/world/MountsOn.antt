@@ -1,28 +1,13 @@
 -- The mounts on a directory that goes, with all that stands on them.
 use Rattle.std.proofs.Common.{◌≡◌, ◌≢◌, refl, sym, ap, subst, ◌∙◌, inl, inr, true≢false, ℕ, zero, suc, nat_eq, eq-eqb, eqb-true, Bool, true, ◌&&◌, List, [], ◌∷◌, ◌++◌, map, filter, flat_map, length, Option, None, Some}
-use Rattle.std.specs.List.{list_any}
-use Rattle.std.proofs.lemmas.Bool.{and_parts}
-use Rattle.std.proofs.lemmas.List.{map-append}
-use Rattle.vt_spec.specs.Lists.{holds_of}
-use Rattle.vt_spec.specs.Machine.Detach.{is_point, mounts_on, points_of}
+use Rattle.vt_spec.proofs.Common.{Mount, World, and_parts, holds_of, is_located_well, is_point, list_any, map-append, mount_at, mount_in, mount_tree, mounts_on, or-false, points_of, tree_from}
 use Rattle.vt_spec.specs.Machine.Mounts as meant
-use Rattle.vt_spec.specs.Machine.Mounts.{Mount, mount_in, mount_tree, tree_from}
-use Rattle.vt_spec.specs.Machine.World.{World, mount_at}
-use Rattle.vt_spec.specs.Machine.Invariants.{is_located_well}
-use Rattle.vt_laws_mounts.proofs.letting_go.Lists.{Among, among-from_filter, filter_alike}
-use Rattle.vt_laws_mounts.proofs.letting_go.leaving.PlacesLeft.{found_itself}
+use Rattle.vt_ns.proofs.Common.{Among, IsHeld, WorldValue, among-from_filter, counted, found_itself, is_small_node, location_of, mounts_in, number_of, seen_where_located, stands_over, tree_numbers, trees_numbers, world_of}
+use Rattle.vt_laws_mounts.proofs.letting_go.Lists.{filter_alike}
 use Rattle.vt_location.specs.declared.locations.Location.{Location}
 use Rattle.vt_location.specs.declared.numbers.MountId.{MountId}
-use Rattle.vt_location.specs.Locations.{is_small_node, location_of, number_of}
-use Rattle.vt_location.specs.Numbers.{counted}
-use Rattle.vt_mount.specs.MountsValue.{mounts_in, stands_over}
-use Rattle.vt_mounting.specs.Detach.Detached.{tree_numbers}
-use Rattle.vt_world.specs.Held.{IsHeld}
-use Rattle.vt_world.specs.WorldValue.{WorldValue, world_of}
-use Rattle.vt_mounting.proofs.detach.LazilyUnmounted.{to_spec, trees_numbers}
-use Rattle.vt_mounting.proofs.detach.LocationsSeen.{seen_where_located}
+use Rattle.vt_mounting.proofs.detach.LazilyUnmounted.{to_spec}
 use Rattle.vt_mounting.proofs.detach.LookLemmas.{point_seen, points_are}
-use Rattle.std.proofs.Math.Bool.{or-false}
 
 -- Trees by the numbers of their mounts
 

@@ -1,36 +1,18 @@
 -- What the event that moves mounts finds: its place, and the tree that moves.
 use Rattle.std.proofs.Common.{◌≡◌, refl, sym, ap, subst, ◌∙◌, ℕ, nat_eq, eqb-true, Bool, true, false, cond, List, find, Option, Some, is_some, option_map, unwrap_or}
-use Rattle.vt_fs.specs.FilesystemsValue.{Filesystems, shown}
+use Rattle.vt_spec.proofs.Common.{Mount, TaskName, ToMove, is_located_well, is_shared, mount_at, mount_numbered, mount_tree, no_mount}
+use Rattle.vt_ns.proofs.Common.{Among, AreOf, Filesystems, IsDone, IsHeld, MountEntry, Permits, StoreValue, WorldValue, are_ascending, changed, counted, found_is_there, inode_of, is_small_node, location_of, mount_of, mounts_in, number_of, permit_fits, pinned_in, remade, shown, with_store, world_of}
 use Rattle.vt_laws_mounts.proofs.letting_go.mounting.AttachedSwept.{of_tree}
-use Rattle.vt_laws_mounts.proofs.letting_go.Lists.{Among, map_same}
-use Rattle.vt_laws_mounts.proofs.letting_go.leaving.PlacesLeft.{found_is_there}
+use Rattle.vt_laws_mounts.proofs.letting_go.Lists.{map_same}
 use Rattle.vt_location.specs.declared.locations.Location.{Location}
 use Rattle.vt_location.specs.declared.mounts.Mount.{Mount as Code}
 use Rattle.vt_location.specs.declared.numbers.MountId.{MountId}
-use Rattle.vt_location.specs.Locations.{is_small_node, location_of, number_of}
-use Rattle.vt_location.specs.MountValue.{mount_of}
-use Rattle.vt_location.specs.Numbers.{counted}
-use Rattle.vt_mount.specs.MountsValue.{MountEntry, are_ascending, changed, mounts_in}
-use Rattle.vt_spec.specs.Language.Calls.{TaskName}
-use Rattle.vt_spec.specs.Machine.Mounts.{Mount, is_shared, mount_tree, no_mount}
-use Rattle.vt_spec.specs.Machine.Permits.Permit.{ToMove}
-use Rattle.vt_spec.specs.Machine.World.{mount_at, mount_numbered}
-use Rattle.vt_spec.specs.Machine.Invariants.{is_located_well}
 use Rattle.vt_mounting.specs.Attach.BoundMounts.{bound_mounts, rooted_at}
-use Rattle.vt_mount.specs.Attached.{AreOf}
 use Rattle.vt_mount.proofs.AttachedLemmas.{ascending_found, picked}
 use Rattle.vt_mounting.proofs.attach.MovesAscend.{ascending_once}
 use Rattle.vt_mounting.proofs.attach.TypedMounts.{same_numbered}
-use Rattle.vt_mounting.specs.Detach.Events.{Permits}
-use Rattle.vt_world.specs.Held.{IsHeld}
-use Rattle.vt_world.specs.WorldValue.{WorldValue, world_of}
-use Rattle.vt_mounting.specs.Detach.Uses.{inode_of, pinned_in, unpinned_at}
-use Rattle.vt_mounting.proofs.detach.FileEvents.{permit_fits}
+use Rattle.vt_mounting.specs.Detach.Uses.{unpinned_at}
 use Rattle.vt_mounting.proofs.detach.MountsMoved.{mount_is_moved}
-use Rattle.vt_mounting.proofs.detach.Remaining.{remade}
-use Rattle.vt_mounting.proofs.detach.Staying.{IsDone}
-use Rattle.vt_store.specs.StoreValue.{StoreValue}
-use Rattle.vt_world.specs.StoredWorld.{with_store}
 use Rattle.vt_ns.proofs.world.StoresKept.{same_in_store}
 
 module _ (value : WorldValue) (whole : IsHeld value) (name : TaskName) (number : ℕ) (place : Location)

@@ -1,41 +1,17 @@
 -- A new file is made in a directory, and opened: open(2) with O_CREAT.
-use Rattle.std.proofs.Common.{◌≡◌, refl, sym, ap, subst, ◌∙◌, inl, inr, true≢false, ℕ, ◌&&◌, true, cond, nat_eq, eq-eqb, List, [], ◌∷◌, map, Option, Some, is_some, option_map, unwrap_or}
-use Rattle.std.specs.List.{list_all}
-use Rattle.std.proofs.lemmas.Bool.{leb-false}
-use Rattle.std.proofs.lemmas.Option.{same_Some}
-use Rattle.vt_spec.specs.Language.Calls.{TaskName, opens_for_reading, opens_for_writing}
+use Rattle.std.proofs.Common.{◌≡◌, refl, sym, ap, subst, ◌∙◌, inl, inr, true≢false, ℕ, ◌&&◌, true, cond, nat_eq, eq-eqb, List, [], ◌∷◌, map, Option, Some, is_some, option_map, unwrap_or, leb-false}
+use Rattle.vt_spec.proofs.Common.{Change, Descriptor, Fits, Fresh, Inodes, IsNewIn, IsWorld, Make, Node, OverlayInvariants, Permit, SameWorlds, Task, TaskName, ToMake, ToOpenNew, World, all_locations, among_from_list_all, apply, free_number, is_located_well, is_within_limits, list_all, locations_of, node_with_entry, odds, opens_for_reading, opens_for_writing, replaced_if_called, same_Some, settled, tree_of, uses_in, with_change, with_changed, with_descriptor, with_task, without_dead_mounts}
 use Rattle.vt_spec.specs.Language.Calls as spoken
-use Rattle.vt_spec.specs.Language.Changes.{Change}
-use Rattle.vt_spec.specs.Language.Changes.Change.{Make}
-use Rattle.vt_spec.specs.Laws.Trees.{IsNewIn}
-use Rattle.vt_spec.specs.Lists.{Fresh, odds}
-use Rattle.vt_spec.specs.Machine.Apply.{apply}
-use Rattle.vt_spec.specs.Machine.Filesystems.{with_change}
-use Rattle.vt_spec.specs.Machine.Descriptors.{free_number, with_descriptor}
-use Rattle.vt_spec.specs.Machine.Permits.{Permit}
-use Rattle.vt_spec.specs.Machine.Permits.Permit.{ToMake, ToOpenNew}
-use Rattle.vt_spec.specs.Machine.SameWorlds.{SameWorlds}
-use Rattle.vt_spec.specs.Machine.Settled.{settled, without_dead_mounts}
-use Rattle.vt_spec.specs.Machine.World.{Descriptor, Task, World, all_locations, locations_of, replaced_if_called, with_task}
-use Rattle.vt_spec.specs.Machine.Invariants.{IsWorld, OverlayInvariants, is_located_well, is_within_limits}
-use Rattle.vt_spec.specs.Fits.{Fits}
-use Rattle.vt_spec.specs.Inodes.{Inodes, changed, tree_of, uses_in, with_changed}
-use Rattle.vt_spec.specs.Tree.{Node, node_with_entry}
+use Rattle.vt_spec.specs.Inodes.{changed}
 use Rattle.vt_laws_mounts.proofs.counts.changing.Changes.{only_files_change_beside_overlays}
 use Rattle.vt_laws_mounts.proofs.counts.changing.KeptAll.{names_keep_all_beside_overlays}
-use Rattle.vt_fs.specs.FilesystemsValue.{ChangesInodes, Filesystems, entry_at, entry_of, inodes_at, inodes_seen, next_seen, no_entry, node_seen}
-use Rattle.vt_laws_mounts.proofs.letting_go.Lists.{Among, among-append_right, among-flat_map, among-map}
-use Rattle.vt_laws_mounts.specs.LettingGo.Mounting.{inode_at}
-use Rattle.vt_spec.proofs.Lists.{among_from_list_all}
+use Rattle.vt_ns.proofs.Common.{Among, ChangesFiles, ChangesInodes, Filesystems, Has, IsDone, IsHeld, IsLocated, IsPlainAt, IsSmall, IsSwept, IsUnderWay, Merged, MountEntry, Moves, Permits, Tasks, WorldValue, after, among-append_right, among-map, called, changed_called, changed_is_plain, counted, entry_of, given_changes_fit, given_permits_are_seen_to, given_permits_are_under_way_without_upper, here_number, inode_at, inodes_at, inodes_seen, is_counted_before, is_own_number, is_small_node, is_some_mapped, kept_of, kept_with, located, located_filesystem, located_inodes, location_of, next_inode, next_seen, no_entry, node_seen, nodes_named, number_of, permit_fits, permit_named, remade, replaced, replaced_split, sameness_is_an_equivalence, seen_where_located, supply_of, with_filesystems, with_location, with_use, world_of}
+use Rattle.vt_fs.specs.FilesystemsValue.{entry_at}
+use Rattle.vt_laws_mounts.proofs.letting_go.Lists.{among-flat_map}
 use Rattle.vt_location.specs.declared.births.Birth.TheVariants.{Here}
 use Rattle.vt_location.specs.declared.locations.Location.{Location}
 use Rattle.vt_location.specs.declared.locations.NodeRef.{NodeRef}
-use Rattle.vt_location.specs.Locations.{is_small_node, location_of, number_of}
-use Rattle.vt_location.specs.Numbers.{counted, is_own_number}
-use Rattle.vt_location.proofs.NodeLemmas.{here_number}
 use Rattle.vt_permits.specs.GrantValue.{node_in}
-use Rattle.vt_mount.specs.MountsValue.{MountEntry}
-use Rattle.vt_laws_worlds.specs.Permits.Named.{permit_named}
 use Rattle.vt_laws_worlds.specs.Permits.Sees.{HasRoom, MayBeMade}
 use Rattle.vt_laws_worlds.proofs.permits.named.PermitsKeepTo.{permits_keep_to_numbers}
 use Rattle.vt_laws_worlds.proofs.one_text.answered.AlikeAnswered.{any_same_worlds_are_swept_alike}
@@ -47,40 +23,25 @@ use Rattle.vt_laws_worlds.proofs.overlays_read.Swept.{same_worlds_have_layers_al
 use Rattle.vt_mounting.proofs.detach.Writers.{left_writers}
 use Rattle.vt_ns.proofs.world.ChangedWithMounts.{change_keeps_writers}
 use Rattle.vt_laws_worlds.proofs.overlay_permits.worlds.SweptWorlds.{settling_leaves_every_world}
-use Rattle.vt_laws_worlds.proofs.overlays_stay.left.Given.{given_permits_are_under_way_without_upper, given_permits_give_no_upper}
-use Rattle.vt_laws_worlds.proofs.permits.sees.SeesFit.{given_changes_fit}
-use Rattle.vt_laws_worlds.proofs.permits.sees.SeesTasks.{given_permits_are_seen_to}
-use Rattle.vt_laws_trees.specs.Runs.Handed.{is_counted_before}
-use Rattle.vt_laws_trees.proofs.runs.answered.AlikeWorlds.{sameness_is_an_equivalence}
-use Rattle.vt_tasks.specs.TasksValue.{MayOpenMore, Tasks, called, changed_by, changed_called, replaced}
-use Rattle.vt_laws_worlds.specs.Worlds.Kept.{IsUnderWay}
+use Rattle.vt_laws_worlds.proofs.overlays_stay.left.Given.{given_permits_give_no_upper}
+use Rattle.vt_tasks.specs.TasksValue.{MayOpenMore, changed_by}
 use Rattle.vt_laws_worlds.specs.Worlds.Permits.{IsFitPermit}
 use Rattle.vt_laws_worlds.proofs.kept.MountsKept.{all_mounts_kept}
 use Rattle.vt_laws_worlds.proofs.kept.NamespacesKept.{all_namespaces_kept}
 use Rattle.vt_laws_worlds.proofs.worlds.PermitsNamed.{all_permits_keep_counting_forks, all_permits_keep_names}
 use Rattle.vt_laws_worlds.proofs.worlds.PermitsPlaced.{directories_stay, locations_stay, open_files_stay}
 use Rattle.vt_laws_worlds.proofs.worlds.PermitsShow.{all_permits_keep_mounts_showing}
-use Rattle.vt_mounting.specs.Detach.Events.{Permits, next_inode, supply_of}
-use Rattle.vt_world.specs.Held.{IsHeld}
-use Rattle.vt_mounting.specs.Detach.Uses.{Merged, kept_of, kept_with, with_location, with_use}
-use Rattle.vt_world.specs.WorldValue.{WorldValue, world_of}
-use Rattle.vt_mounting.proofs.detach.Bridging.{IsSwept, swept_is_same}
+use Rattle.vt_mounting.proofs.detach.Bridging.{swept_is_same}
 use Rattle.vt_mounting.proofs.detach.Grouped.{left_has}
-use Rattle.vt_group.specs.Grouping.{Has}
-use Rattle.vt_mounting.proofs.detach.ChangedFiles.{ChangesFiles, change_is_held, change_is_swept, inodes_after, is_change, partner, with_filesystems}
-use Rattle.vt_mounting.proofs.detach.FileEvents.{IsSmall, changed_is_plain, permit_fits}
+use Rattle.vt_mounting.proofs.detach.ChangedFiles.{change_is_held, change_is_swept, inodes_after, is_change, partner}
 use Rattle.vt_ns.proofs.world.FileMaking.{made_in_tree, new_in_slot, new_is_named, next_of_entry}
 use Rattle.vt_ns.proofs.world.FilesOpened.{inserted_goes, opened_moves, opened_stays, opened_tasks}
-use Rattle.vt_mounting.proofs.detach.FilesSeen.{IsLocated, IsPlainAt, nodes_named, located, located_filesystem, located_inodes, one_entry}
+use Rattle.vt_mounting.proofs.detach.FilesSeen.{one_entry}
 use Rattle.vt_mounting.proofs.detach.Overlaid.{plain_ones_apart}
 use Rattle.vt_mounting.proofs.detach.Finishing.{swept_held}
-use Rattle.vt_mounting.proofs.detach.LocationsSeen.{seen_where_located}
 use Rattle.vt_mounting.proofs.detach.Closing.{used_by}
-use Rattle.vt_mounting.proofs.detach.Moving.{Moves}
-use Rattle.vt_mounting.proofs.detach.Remaining.{remade, remains_counted, remains_swept}
-use Rattle.vt_mounting.proofs.detach.Shown.{is_some_mapped}
-use Rattle.vt_mounting.proofs.detach.Splits.{replaced_split}
-use Rattle.vt_mounting.proofs.detach.Staying.{IsDone, after, becomes_so}
+use Rattle.vt_mounting.proofs.detach.Remaining.{remains_counted, remains_swept}
+use Rattle.vt_mounting.proofs.detach.Staying.{becomes_so}
 
 -- a new inode has one use
 used_when_made : (inodes : Inodes ℕ) (directory : ℕ) (name : List ℕ) (number : ℕ) (node : Node ℕ)

@@ -1,35 +1,22 @@
 -- The event that mounts an overlay: what its permit names, and what is kept of it.
-use Rattle.std.proofs.Common.{◌≡◌, ◌<◌, ◌∙◌, refl, sym, ap, subst, true, true≢false, not, nat_lt, lt-ltb, ◌&&◌, ◌/◌, List, [], ◌∷◌, length, map, Some, arith}
-use Rattle.std.specs.Prelude.{All, nat_le, slice_get}
-use Rattle.std.specs.List.{list_all}
-use Rattle.std.proofs.lemmas.Bool.{and_parts}
-use Rattle.std.proofs.lemmas.List.{length-map}
-use Rattle.vt_spec.specs.Language.Calls.{TaskName}
-use Rattle.vt_spec.specs.Language.Limits.{most_lowers}
-use Rattle.vt_spec.specs.Lists.{is_empty_list}
-use Rattle.vt_spec.specs.Rights.{Credentials}
-use Rattle.vt_spec.proofs.Lists.{map_twice}
-use Rattle.vt_cred.specs.MountFlags.{flags_of}
-use Rattle.vt_laws_mounts.proofs.letting_go.Lists.{Among, all_from_among, all_pass, among-map}
+use Rattle.std.proofs.Common.{◌≡◌, ◌<◌, ◌∙◌, refl, sym, ap, subst, true, true≢false, not, nat_lt, lt-ltb, ◌&&◌, ◌/◌, List, [], ◌∷◌, length, map, Some, arith, All, nat_le, slice_get}
+use Rattle.vt_spec.proofs.Common.{Credentials, TaskName, and_parts, is_empty_list, length-map, list_all, map_twice, most_lowers}
+use Rattle.vt_ns.proofs.Common.{Among, IsHeld, OverlayValue, StoreValue, WorldValue, all_from_among, among-map, counted, flags_of, here_number, inode_number, is_own_number, layer_kept, layer_of, location_of, number_of, overlay_of_store, overlay_seen, overlays_of_store, supply_of, with_store, world_of}
+use Rattle.vt_laws_mounts.proofs.letting_go.Lists.{all_pass}
 use Rattle.vt_laws_worlds.specs.OverlaysGranted.Granted.{MayBeMounted}
 use Rattle.vt_laws_worlds.proofs.overlays_granted.Mounts.{given_overlays_may_be_mounted}
-use Rattle.vt_location.specs.Locations.{location_of, number_of}
-use Rattle.vt_location.specs.Numbers.{counted, exchanged, inode_number, is_own_number}
-use Rattle.vt_location.proofs.NodeLemmas.{here_number, own_birth, own_count}
+use Rattle.vt_location.specs.Numbers.{exchanged}
+use Rattle.vt_location.proofs.NodeLemmas.{own_birth, own_count}
 use Rattle.vt_location.proofs.NumberLemmas.{counted_same, exchanged_number}
 use Rattle.vt_overlay.specs.declared.merge.layers.LayerRef.{LayerRef}
-use Rattle.vt_overlay.specs.MergedTree.{AreLayers, OverlayValue, merged_tree}
+use Rattle.vt_overlay.specs.MergedTree.{AreLayers, merged_tree}
 use Rattle.vt_overlay.proofs.RootFound.{root_number_is}
-use Rattle.vt_permits.specs.GrantValue.{layer_of, overlay_of, overlay_permit}
+use Rattle.vt_permits.specs.GrantValue.{overlay_of, overlay_permit}
 use Rattle.vt_permits.specs.declared.grant.LowerLayer.{LowerLayer}
 use Rattle.vt_permits.specs.declared.grant.ToMountOverlay.{ToMountOverlay}
 use Rattle.vt_propagate.specs.Seen.{is_mounted}
 use Rattle.vt_store.specs.OverlaysValue as stored
-use Rattle.vt_store.specs.StoreValue.{StoreValue}
-use Rattle.vt_mounting.specs.Detach.Events.{layer_kept, overlay_kept, supply_of}
-use Rattle.vt_world.specs.Held.{IsHeld}
-use Rattle.vt_world.specs.StoredWorld.{overlay_of_store, overlays_of_store, with_store}
-use Rattle.vt_world.specs.WorldValue.{WorldValue, overlay_seen, world_of}
+use Rattle.vt_mounting.specs.Detach.Events.{overlay_kept}
 use Rattle.vt_mounting.proofs.detach.FilesSeen.{IsSeenIn}
 use Rattle.vt_mounting.proofs.detach.OverlayGranted.{kept_layers, layer_in}
 use Rattle.vt_mounting.proofs.detach.PlainFound.{overlay_among}

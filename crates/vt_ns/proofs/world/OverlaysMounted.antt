@@ -1,39 +1,21 @@
 -- The event that mounts an overlay, as code does it: what it attaches, and the world that it leaves.
-use Rattle.std.proofs.Common.{◌≡◌, ◌<◌, ◌∙◌, refl, sym, ap, subst, ℕ, nat_eq, true, false, ◌+◌, ◌*◌, ◌%◌, ◌==◌, List, [], ◌∷◌, ◌++◌, length, map, Some}
-use Rattle.std.specs.Prelude.{slice_get}
-use Rattle.std.specs.List.{list_all}
-use Rattle.std.proofs.lemmas.Option.{same_Some}
-use Rattle.vt_spec.specs.Language.Calls.{TaskName}
-use Rattle.vt_spec.specs.Machine.Attach.{parts_of}
+use Rattle.std.proofs.Common.{◌≡◌, ◌<◌, ◌∙◌, refl, sym, ap, subst, ℕ, nat_eq, true, false, ◌+◌, ◌*◌, ◌%◌, ◌==◌, List, [], ◌∷◌, ◌++◌, length, map, Some, slice_get}
+use Rattle.vt_spec.proofs.Common.{Credentials, SameWorlds, Task, TaskName, ToMountOverlay as MeansToMerge, list_all, new_mount, parts_of, same_Some}
 use Rattle.vt_spec.specs.Machine.Mounts as meant
-use Rattle.vt_spec.specs.Machine.NewMounts.{new_mount}
-use Rattle.vt_spec.specs.Machine.Permits.Permit.{ToMountOverlay as MeansToMerge}
-use Rattle.vt_spec.specs.Machine.SameWorlds.{SameWorlds}
-use Rattle.vt_spec.specs.Machine.World.{Task}
-use Rattle.vt_spec.specs.Rights.{Credentials}
-use Rattle.vt_cred.specs.MountFlags.{flags_of}
-use Rattle.vt_group.specs.Grouping.{Grouping}
+use Rattle.vt_ns.proofs.Common.{Grouping, IsGrafted, IsHeld, MountEntry, StoreValue, WorldValue, are_ascending, counted, flags_of, inode_number, kept, layer_kept, layer_of, location_of, mount_of, mounts_in, overlay_of_store, supply_of, with_store, world_of}
 use Rattle.vt_laws_worlds.specs.Given.LeftWorlds.{IsGivenToTask}
 use Rattle.vt_location.specs.declared.locations.Location.{Location}
 use Rattle.vt_location.specs.declared.mounts.Mount.{Mount}
-use Rattle.vt_location.specs.Locations.{location_of}
-use Rattle.vt_location.specs.MountValue.{mount_of}
-use Rattle.vt_location.specs.Numbers.{counted, inode_number}
 use Rattle.vt_overlay.specs.declared.merge.layers.LayerRef.{LayerRef}
-use Rattle.vt_mount.specs.MountsValue.{MountEntry, are_ascending, mounts_in}
-use Rattle.vt_permits.specs.GrantValue.{layer_of, overlay_of, overlay_permit}
+use Rattle.vt_permits.specs.GrantValue.{overlay_of, overlay_permit}
 use Rattle.vt_permits.specs.declared.grant.ToMountOverlay.{ToMountOverlay}
 use Rattle.vt_propagate.specs.declared.copying.Counts.{Counts}
 use Rattle.vt_propagate.specs.declared.copying.Graft.{Graft}
 use Rattle.vt_store.specs.LayersHeld.{new_overlay}
 use Rattle.vt_store.specs.OverlaysValue.{OverlayEntry}
-use Rattle.vt_store.specs.StoreValue.{StoreValue}
-use Rattle.vt_world.specs.Held.{IsHeld}
-use Rattle.vt_world.specs.StoredWorld.{overlay_of_store, with_store}
-use Rattle.vt_world.specs.WorldValue.{WorldValue, world_of}
-use Rattle.vt_mounting.specs.Detach.Events.{layer_kept, left_by, supply_of}
-use Rattle.vt_mounting.specs.Detach.Stored.{OverlaysStay, kept}
-use Rattle.vt_mounting.specs.Attach.Grafted.{IsGrafted, MayGraft}
+use Rattle.vt_mounting.specs.Detach.Events.{left_by}
+use Rattle.vt_mounting.specs.Detach.Stored.{OverlaysStay}
+use Rattle.vt_mounting.specs.Attach.Grafted.{MayGraft}
 use Rattle.vt_mounting.specs.Attach.Overlaid.{IsWithOverlay}
 use Rattle.vt_mounting.proofs.attach.NewOverlayDone.{may_mount_overlay as may_graft}
 use Rattle.vt_mounting.proofs.attach.OverlayMounted.{overlay_is_mounted}

@@ -1,34 +1,13 @@
 -- A mount becomes the root mount, as code does it: pivot_root(2).
 use Rattle.std.proofs.Common.{◌≡◌, refl, sym, ap, subst, ◌∙◌, ℕ, ◌+◌, zero, suc, nat_eq, true, true≢false, List, [], ◌∷◌, find, map, Option, Some, None, is_some, unwrap_or}
-use Rattle.std.specs.List.{list_any}
-use Rattle.std.proofs.lemmas.Option.{same_Some}
-use Rattle.vt_spec.specs.Language.Calls.{TaskName}
-use Rattle.vt_spec.specs.Lists.{chain, rest_of}
+use Rattle.vt_spec.proofs.Common.{Location, Mount, Task, TaskName, ToPivot, chain, list_any, looks_of, mount_at, mount_numbered, no_mount, pivoted_task, rest_of, root_of, same_Some}
 use Rattle.vt_spec.specs.Machine.Looks as Looks
-use Rattle.vt_spec.specs.Machine.Looks.{looks_of}
-use Rattle.vt_spec.specs.Machine.Mounts.{Location, Mount, no_mount, root_of}
-use Rattle.vt_spec.specs.Machine.Namespaces.{pivoted_task}
-use Rattle.vt_spec.specs.Machine.Permits.Permit.{ToPivot}
-use Rattle.vt_spec.specs.Machine.World.{Task, mount_at, mount_numbered}
-use Rattle.vt_fs.specs.FilesystemsValue.{Filesystems, shown}
+use Rattle.vt_ns.proofs.Common.{Filesystems, HasRoom, IsDone, IsHeld, Merged, MountEntry, Permits, Tasks, WorldValue, called, counted, inode_of, is_small_node, kept_with, location_of, merged_seen, mount_of, mounts_in, pinned_in, remade, shown, task_of, unpinned_in, uses_of, world_of, writers_of}
 use Rattle.vt_location.specs.declared.locations.Location.{Location as At}
 use Rattle.vt_location.specs.declared.mounts.Mount.{Mount as Attached}
-use Rattle.vt_location.specs.Locations.{is_small_node, location_of}
-use Rattle.vt_location.specs.MountValue.{mount_of}
-use Rattle.vt_location.specs.Numbers.{counted}
 use Rattle.vt_mount.specs.Moving.{pivoted_entry}
-use Rattle.vt_mount.specs.MountsValue.{MountEntry, mounts_in, uses_of, writers_of}
 use Rattle.vt_tasks.specs.Counts.{all_places_at}
 use Rattle.vt_tasks.specs.declared.task.Task.{Task as Held}
-use Rattle.vt_tasks.specs.TasksValue.{Tasks, called}
-use Rattle.vt_tasks.specs.TaskValue.{task_of}
-use Rattle.vt_world.specs.Held.{IsHeld}
-use Rattle.vt_world.specs.WorldValue.{WorldValue, world_of}
-use Rattle.vt_mounting.specs.Detach.Events.{Permits}
-use Rattle.vt_mounting.specs.Detach.Forking.{HasRoom}
-use Rattle.vt_mounting.specs.Detach.Uses.{Merged, inode_of, kept_with, merged_seen, pinned_in, unpinned_in}
-use Rattle.vt_mounting.proofs.detach.Remaining.{remade}
-use Rattle.vt_mounting.proofs.detach.Staying.{IsDone}
 use Rattle.vt_ns.specs.Pivoting.{with_uses, without_uses}
 use Rattle.vt_ns.proofs.CountingLemmas.{counts_kept, room_pinned}
 use Rattle.vt_ns.proofs.world.PivotedUses.{kept_number}

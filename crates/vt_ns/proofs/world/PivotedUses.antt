@@ -1,31 +1,17 @@
 -- Where two mounts change places and tasks go from the root of one to that of the other, what is used more and less:
 -- pivot_root(2).
-use Rattle.std.proofs.Common.{◌≡◌, refl, sym, ap, ◌∙◌, ⊎_elim, ℕ, ◌+◌, zero, suc, nat_eq, eqb-true, eq-eqb, Bool, true, false, true≢false, cond, List, [], ◌∷◌, ◌++◌, map, filter, flat_map, Option, Some, None, arith}
-use Rattle.std.specs.Prelude.{filter_map, option_to_list, replicate}
-use Rattle.std.specs.List.{cons_option, list_any}
-use Rattle.std.proofs.lemmas.Bool.{or_parts}
-use Rattle.vt_spec.specs.Lists.{any_pair}
-use Rattle.vt_spec.specs.Machine.Mounts.{Location, Mount, mount_in, root_of}
-use Rattle.vt_spec.specs.Machine.Namespaces.{pivoted, pivoted_location, pivoted_mount, pivoted_task}
-use Rattle.vt_spec.specs.Machine.Settled.{located_in}
-use Rattle.vt_spec.specs.Machine.World.{Task, World, all_locations, locations_of}
-use Rattle.vt_spec.proofs.Truths.{nat_eq_turned}
-use Rattle.vt_spec.proofs.Worlds.{shown-mapped}
-use Rattle.vt_laws_mounts.specs.Counts.Using.{Exchanges, is_inode}
+use Rattle.std.proofs.Common.{◌≡◌, refl, sym, ap, ◌∙◌, ⊎_elim, ℕ, ◌+◌, zero, suc, nat_eq, eqb-true, eq-eqb, Bool, true, false, true≢false, cond, List, [], ◌∷◌, ◌++◌, map, filter, flat_map, Option, Some, None, arith, filter_map, option_to_list, replicate}
+use Rattle.vt_spec.proofs.Common.{Location, Mount, Task, World, all_locations, any_pair, cons_option, list_any, located_in, locations_of, mount_in, nat_eq_turned, or_parts, pivoted, pivoted_location, pivoted_mount, pivoted_task, root_of, shown-mapped}
+use Rattle.vt_ns.proofs.Common.{Among, Exchanges, Inode, Tasks, Use, inode_at, inodes_of_uses, mount_uses, standing, times, writes_of, writes_of_task}
+use Rattle.vt_laws_mounts.specs.Counts.Using.{is_inode}
 use Rattle.vt_laws_mounts.proofs.counts.using.Places.{count_append, count_in, count_places, located_uses, same_found}
-use Rattle.vt_laws_mounts.specs.LettingGo.Counts.{mount_uses, times}
-use Rattle.vt_laws_mounts.specs.LettingGo.Mounting.{inode_at}
-use Rattle.vt_laws_mounts.specs.LettingGo.OneByOne.{Inode}
-use Rattle.vt_laws_mounts.proofs.letting_go.Lists.{Among, fails}
+use Rattle.vt_laws_mounts.proofs.letting_go.Lists.{fails}
 use Rattle.vt_laws_mounts.proofs.letting_go.sweeps.UpperUses.{times_append}
 use Rattle.vt_tasks.specs.Counts as counted_uses
 use Rattle.vt_tasks.specs.Counts.{all_places_at, uses}
-use Rattle.vt_tasks.specs.TasksValue.{Tasks}
 use Rattle.vt_tasks.proofs.PivotCounts.{pivoted_uses}
-use Rattle.vt_world.specs.Held.{writes_of, writes_of_task}
-use Rattle.vt_mounting.proofs.detach.Moving.{Use, inodes_of_uses, is_use_on, writes_on_mount}
+use Rattle.vt_mounting.proofs.detach.Moving.{is_use_on, writes_on_mount}
 use Rattle.vt_mounting.proofs.detach.MountsChanged.{times_map}
-use Rattle.vt_mounting.proofs.detach.Places.{standing}
 
 -- Lists
 

@@ -1,54 +1,21 @@
 -- The root mount changes, and roots and working directories go along: pivot_root(2).
-use Rattle.std.proofs.Common.{◌≡◌, refl, sym, ap, subst, ◌∙◌, ⊎_elim, ℕ, ◌+◌, ◌-◌, zero, suc, nat_eq, true, false, ◌||◌, ◌&&◌, List, [], ◌∷◌, ◌++◌, map, filter, Some, is_some, arith}
-use Rattle.std.specs.Prelude.{option_to_list, replicate}
-use Rattle.std.specs.List.{list_any}
-use Rattle.std.proofs.lemmas.Bool.{and_parts}
-use Rattle.vt_spec.specs.Language.Calls.{TaskName}
-use Rattle.vt_spec.specs.Lists.{any_pair, folded}
-use Rattle.vt_spec.specs.Machine.Mounts.{Location, Mount, root_of}
-use Rattle.vt_spec.specs.Machine.Namespaces.{pivoted_task}
-use Rattle.vt_spec.specs.Machine.Permits.Permit.{ToPivot}
-use Rattle.vt_spec.specs.Machine.Settled.{filesystem_lives, has_layer_on, is_mounted, mount_lives, settled, without_dead_filesystems, without_dead_mounts}
-use Rattle.vt_spec.specs.Machine.World.{Filesystem, World, filesystem_numbered, mount_at, mount_numbered, with_mounts}
-use Rattle.vt_spec.specs.Machine.Invariants.{has_its_root, is_located_well}
-use Rattle.vt_spec.proofs.Lists.{map_alike, map_twice}
-use Rattle.vt_laws_mounts.specs.Counts.Using.{AreThere, Exchanges, pinned_if, unpinned_if}
-use Rattle.vt_laws_mounts.specs.Counts.OverlaysStay.{layer_count}
-use Rattle.vt_fs.specs.FilesystemsValue.{FilesystemEntry, Filesystems, Shown, filesystem_seen, filesystems_seen, inodes_seen, shown, shown_entry}
-use Rattle.vt_group.specs.Grouping.{Has}
-use Rattle.vt_laws_mounts.specs.LettingGo.Counts.{mount_uses, mounts_showing, times}
+use Rattle.std.proofs.Common.{◌≡◌, refl, sym, ap, subst, ◌∙◌, ⊎_elim, ℕ, ◌+◌, ◌-◌, zero, suc, nat_eq, true, false, ◌||◌, ◌&&◌, List, [], ◌∷◌, ◌++◌, map, filter, Some, is_some, arith, option_to_list, replicate}
+use Rattle.vt_spec.proofs.Common.{Filesystem, Location, Mount, TaskName, ToPivot, World, and_parts, any_pair, filesystem_lives, filesystem_numbered, folded, has_its_root, has_layer_on, is_located_well, is_mounted, list_any, map_alike, map_twice, mount_at, mount_lives, mount_numbered, pivoted_task, root_of, settled, with_mounts, without_dead_filesystems, without_dead_mounts}
+use Rattle.vt_ns.proofs.Common.{Among, CountsItsMounts, CountsItsUses, CountsWhatIsInIt, Exchanges, FilesystemEntry, Filesystems, Has, Inode, IsApplied, IsDone, IsHeld, IsSwept, Kept, Merged, MountEntry, Permits, Shown, Use, WorldValue, all_from_among, among-from_map, among-map, among_from_all, counted, directory_there, filesystem_seen, found_is_there, found_itself, in_use_of, inode_at, inode_of, inodes_of_uses, inodes_seen, is_among_numbers, is_small_node, keeps_itself, kept_with, layer_count, located_is_named, location_of, merged_seen, mount_uses, mounts_in, mounts_of_worlds_stand, mounts_showing, number_found, number_of, passes, permit_fits, pinned_in, remade, same_files_keep, seen_where_located, shown, shown_entry, standing, times, unpinned_in, with_use, world_of, worlds_are_in_use, writes_of}
+use Rattle.vt_laws_mounts.specs.Counts.Using.{AreThere, pinned_if, unpinned_if}
+use Rattle.vt_fs.specs.FilesystemsValue.{filesystems_seen}
 use Rattle.vt_laws_mounts.specs.LettingGo.InUse.{AllInUse}
-use Rattle.vt_laws_mounts.specs.LettingGo.Mounting.{inode_at}
-use Rattle.vt_laws_mounts.specs.LettingGo.OneByOne.{Inode}
-use Rattle.vt_laws_mounts.specs.LettingGo.TreesOverlays.{in_use_of}
-use Rattle.vt_laws_mounts.proofs.letting_go.Lists.{Among, all_from_among, among-from_map, among-map, among_from_all, any-map, filter_all, is_among_numbers, passes}
-use Rattle.vt_laws_mounts.proofs.letting_go.leaving.PlacesLeft.{found_is_there, found_itself}
+use Rattle.vt_laws_mounts.proofs.letting_go.Lists.{any-map, filter_all}
 use Rattle.vt_laws_mounts.proofs.letting_go.mounting.Pivoted.{loses}
-use Rattle.vt_laws_mounts.proofs.letting_go.sweeps.OfWorlds.{mounts_of_worlds_stand}
-use Rattle.vt_laws_mounts.proofs.mounts.MountsFound.{number_found}
 use Rattle.vt_laws_worlds.specs.Worlds.Permits.{MayPivot}
-use Rattle.vt_laws_worlds.proofs.RaisedInUse.{worlds_are_in_use}
-use Rattle.vt_laws_worlds.proofs.worlds.Roots.{directory_there}
 use Rattle.vt_location.specs.declared.locations.Location.{Location as At}
-use Rattle.vt_location.specs.Locations.{is_small_node, location_of, number_of}
-use Rattle.vt_location.specs.Numbers.{counted}
 use Rattle.vt_mount.specs.Moving.{pivoted_entry}
-use Rattle.vt_mount.specs.MountsValue.{MountEntry, mounts_in}
-use Rattle.vt_world.specs.Held.{CountsItsMounts, CountsItsUses, CountsWhatIsInIt, IsHeld, writes_of}
-use Rattle.vt_world.specs.WorldValue.{WorldValue, world_of}
-use Rattle.vt_mounting.specs.Detach.Events.{Permits}
-use Rattle.vt_mounting.specs.Detach.Uses.{Kept, Merged, inode_of, kept_with, merged_seen, pinned_in, released_use, unpinned_in, with_use}
-use Rattle.vt_mounting.proofs.detach.Bridging.{IsSwept}
-use Rattle.vt_mounting.proofs.detach.FileEvents.{permit_fits}
-use Rattle.vt_mounting.proofs.detach.Finishing.{CountsBeside, IsApplied, finished}
+use Rattle.vt_mounting.specs.Detach.Uses.{released_use}
+use Rattle.vt_mounting.proofs.detach.Finishing.{CountsBeside, finished}
 use Rattle.vt_mounting.proofs.detach.Grouped.{changed_has}
-use Rattle.vt_mounting.proofs.detach.LocationsSeen.{seen_where_located}
 use Rattle.vt_mounting.proofs.detach.MountsMoved.{mount_point_located}
-use Rattle.vt_mounting.proofs.detach.Moving.{Use, exchanged_shown, filesystems_moved, folded_entry, gain, held_counts, hold_if, inodes_of_uses, is_use_on, locations, lose, mounts_moved, moved_kept, released_counts, same_moved_mounts, writes_on_mount}
-use Rattle.vt_mounting.proofs.detach.Overlaid.{all_shown, is_plain_one, keeps_itself, layers_kept, overlays_counted, plain_ones_are, same_files_keep, still_mounted}
-use Rattle.vt_mounting.proofs.detach.Places.{located_is_named, standing}
-use Rattle.vt_mounting.proofs.detach.Remaining.{remade}
-use Rattle.vt_mounting.proofs.detach.Staying.{IsDone}
+use Rattle.vt_mounting.proofs.detach.Moving.{exchanged_shown, filesystems_moved, folded_entry, gain, held_counts, hold_if, is_use_on, locations, lose, mounts_moved, moved_kept, released_counts, same_moved_mounts, writes_on_mount}
+use Rattle.vt_mounting.proofs.detach.Overlaid.{all_shown, is_plain_one, layers_kept, overlays_counted, plain_ones_are, still_mounted}
 use Rattle.vt_mounting.proofs.detach.TypesSet.{attached_named}
 use Rattle.vt_ns.specs.Pivoting.{with_uses, without_uses}
 use Rattle.vt_ns.proofs.world.PivotedUses.{coming, gained, inside_pivot, kept_filesystem, kept_number, kept_part, kept_showing, leaving, lost, mount_uses_pivot, moved, none_writes, pivoted_world, pivoting, uses_pivot, writes_pivot}

@@ -1,18 +1,8 @@
 -- Where plain filesystems change alone, the store that code has then shows its overlays as they were: what lies in a
 -- layer is not changed.
-use Rattle.std.proofs.Common.{◌≡◌, refl, sym, subst, ℕ, OnErr}
-use Rattle.std.specs.Prelude.{Err, Ok, Result}
-use Rattle.std.specs.declared.alloc.AllocError.{AllocError}
-use Rattle.vt_spec.specs.Language.Calls.{TaskName}
-use Rattle.vt_spec.specs.Machine.Permits.{Permit}
-use Rattle.vt_fs.specs.FilesystemsValue.{Filesystems}
-use Rattle.vt_store.specs.StoreValue.{StoreValue}
-use Rattle.vt_mounting.specs.Detach.Events.{Becomes, Permits}
-use Rattle.vt_world.specs.Held.{IsHeld}
-use Rattle.vt_world.specs.StoredWorld.{overlays_of_store, with_store}
-use Rattle.vt_world.specs.WorldValue.{WorldValue}
-use Rattle.vt_mounting.proofs.detach.ChangedFiles.{IsFilesEvent, with_filesystems}
-use Rattle.vt_mounting.proofs.detach.Staying.{IsDone}
+use Rattle.std.proofs.Common.{◌≡◌, refl, sym, subst, ℕ, OnErr, Err, Ok, Result}
+use Rattle.vt_spec.proofs.Common.{AllocError, Permit, TaskName}
+use Rattle.vt_ns.proofs.Common.{Becomes, Filesystems, IsDone, IsFilesEvent, IsHeld, Permits, StoreValue, WorldValue, overlays_of_store, with_filesystems, with_store}
 use Rattle.vt_mounting.proofs.detach.StoreStays.{store_stays}
 use Rattle.vt_ns.proofs.world.FileAnswers.{IsAnswered}
 

@@ -1,59 +1,31 @@
 -- Mounts that get other mount points: what is kept of the world then.
-use Rattle.std.proofs.Common.{◌≡◌, refl, sym, ap, subst, ◌∙◌, ⊎_elim, inl, inr, ℕ, ◌+◌, nat_eq, eqb-true, Bool, true, false, true≢false, cond, not, ◌&&◌, ◌||◌, List, [], ◌∷◌, ◌++◌, filter, map, find, Option, Some, None, option_map, is_some, unwrap_or}
-use Rattle.std.specs.Map.{lookup}
-use Rattle.std.specs.Option.{option_and_then}
-use Rattle.std.specs.Prelude.{option_to_list}
-use Rattle.std.specs.List.{list_all}
-use Rattle.std.proofs.lemmas.Bool.{and_parts}
-use Rattle.std.proofs.lemmas.List.{append-nil}
-use Rattle.std.proofs.lemmas.Option.{same_Some}
-use Rattle.vt_spec.specs.Lists.{is_among, or_else}
-use Rattle.vt_spec.specs.Machine.Mounts.{Location, Mount, mount_in, no_mount}
-use Rattle.vt_spec.specs.Machine.Settled.{filesystem_lives, is_mounted, mount_lives}
-use Rattle.vt_spec.specs.Machine.World.{Filesystem, World, all_locations, filesystem_numbered, is_overlay, mount_at, with_mounts}
-use Rattle.vt_spec.specs.Machine.Invariants.{is_located_well, is_nowhere_or_attached, is_private, is_there}
+use Rattle.std.proofs.Common.{◌≡◌, refl, sym, ap, subst, ◌∙◌, ⊎_elim, inl, inr, ℕ, ◌+◌, nat_eq, eqb-true, Bool, true, false, true≢false, cond, not, ◌&&◌, ◌||◌, List, [], ◌∷◌, ◌++◌, filter, map, find, Option, Some, None, option_map, is_some, unwrap_or, option_and_then, option_to_list, append-nil}
+use Rattle.vt_spec.proofs.Common.{Filesystem, Location, Mount, World, all_locations, and_parts, filesystem_lives, filesystem_numbered, is_among, is_located_well, is_mounted, is_nowhere_or_attached, is_overlay, is_private, is_there, list_all, lookup, map_alike, map_twice, mount_at, mount_in, mount_lives, no_mount, node_in, or_else, same_Some, shown-mapped, with_mounts}
 use Rattle.vt_spec.specs.Inodes as Trees
-use Rattle.vt_spec.specs.Inodes.{node_in}
-use Rattle.vt_laws_mounts.specs.Counts.Using.{AreThere, Exchanges, exchanged}
+use Rattle.vt_ns.proofs.Common.{Among, CountsItsMounts, CountsItsUses, Exchanges, FilesystemEntry, Filesystems, Inode, IsHeld, IsKeptBut, Kept, Merged, MountEntry, Point, Shown, WorldValue, all_from_among, among-from_map, among-map, among_from_all, counted, entry_numbered, filesystem_seen, found_mapped, found_plain_one, inode_at, inodes_seen, is_small, kept_of, kept_with, layer_count, location_of, merged_seen, mounts_in, mounts_showing, moved_by, number_of, overlays_seen, passes, point_seen, points_left, points_taken, seen_where_located, shown, shown_entry, with_planned, world_of, worlds_are_in_use}
+use Rattle.vt_laws_mounts.specs.Counts.Using.{AreThere, exchanged}
 use Rattle.vt_laws_mounts.proofs.counts.using.MountRoots as Roots
-use Rattle.vt_laws_mounts.specs.Counts.OverlaysStay.{layer_count}
-use Rattle.vt_fs.specs.FilesystemsValue.{FilesystemEntry, Filesystems, Shown, filesystem_seen, inodes_seen, shown, shown_entry}
-use Rattle.vt_laws_mounts.specs.LettingGo.Counts.{mounts_showing}
 use Rattle.vt_laws_mounts.specs.LettingGo.Keeping.{LocationsStand}
 use Rattle.vt_laws_mounts.specs.LettingGo.InUse.{FilesystemsInUse}
 use Rattle.vt_laws_mounts.specs.LettingGo.Leaving.{MountsStand, stands_on_attached}
-use Rattle.vt_laws_mounts.specs.LettingGo.Mounting.{inode_at}
-use Rattle.vt_laws_mounts.specs.LettingGo.OneByOne.{Inode, MountsInUseBut}
-use Rattle.vt_laws_mounts.proofs.letting_go.Lists.{Among, all_from_among, all_pass, among-append, among-from_map, among-map, among_from_all, any-map, filter_alike, passes}
+use Rattle.vt_laws_mounts.specs.LettingGo.OneByOne.{MountsInUseBut}
+use Rattle.vt_laws_mounts.proofs.letting_go.Lists.{all_pass, among-append, any-map, filter_alike}
 use Rattle.vt_location.specs.declared.locations.Location.{Location as At}
-use Rattle.vt_location.specs.Locations.{location_of, number_of}
-use Rattle.vt_location.specs.Numbers.{counted}
-use Rattle.vt_mount.specs.MountsValue.{MountEntry, entry_numbered, mounts_in}
-use Rattle.vt_propagate.specs.Falling.{moved_by}
-use Rattle.vt_laws_worlds.proofs.RaisedInUse.{worlds_are_in_use}
-use Rattle.vt_mounting.specs.Attach.Planned.{Point, is_small, left_at, points_left, points_taken, taken_at, with_planned, with_points}
-use Rattle.vt_mounting.specs.Attach.PlannedUses.{point_seen}
+use Rattle.vt_mounting.specs.Attach.Planned.{left_at, taken_at, with_points}
 use Rattle.vt_mounting.proofs.attach.MovedPoints.{points_are_moved}
 use Rattle.vt_mounting.proofs.attach.PlacedUses.{points_are_uses}
 use Rattle.vt_mounting.proofs.attach.PlannedCounts.{exchanged_on, inodes_of_points, planned_shown}
 use Rattle.vt_mounting.proofs.attach.PointsCounted.{points_count}
-use Rattle.vt_world.specs.Held.{CountsItsMounts, CountsItsUses, IsHeld}
-use Rattle.vt_mounting.specs.Detach.Uses.{Kept, Merged, kept_of, kept_with, merged_seen}
-use Rattle.vt_world.specs.WorldValue.{WorldValue, overlays_seen, world_of}
 use Rattle.vt_mounting.proofs.detach.BesideOverlays.{lives_alike}
 use Rattle.vt_mounting.proofs.detach.DetachingBegins.{pair_mapped}
 use Rattle.vt_mounting.proofs.detach.DetachingEnds.{held_is_kept, point_located}
 use Rattle.vt_mounting.proofs.detach.Grouped.{stays_private}
-use Rattle.vt_mounting.proofs.detach.Keeping.{IsKeptBut, IsShownIn}
-use Rattle.vt_mounting.proofs.detach.LocationsSeen.{seen_where_located}
+use Rattle.vt_mounting.proofs.detach.Keeping.{IsShownIn}
 use Rattle.vt_mounting.proofs.detach.LostUses.{entry_found_at}
 use Rattle.vt_mounting.proofs.detach.MountsChanged.{times_map}
-use Rattle.vt_mounting.proofs.detach.MountsGone.{found_mapped}
 use Rattle.vt_mounting.proofs.detach.Moving.{map_itself}
-use Rattle.vt_mounting.proofs.detach.Overlaid.{found_plain_one, plain_ones_are}
+use Rattle.vt_mounting.proofs.detach.Overlaid.{plain_ones_are}
 use Rattle.vt_mounting.proofs.detach.OverlaysGone.{layers_used, merged_in}
-use Rattle.vt_spec.proofs.Lists.{map_alike, map_twice}
-use Rattle.vt_spec.proofs.Worlds.{shown-mapped}
 
 -- what is looked up in a list stands there
 pub looked_up : {B : Type 0} (number : ℕ) (pairs : List (ℕ × B)) (b : B) → lookup (nat_eq number) pairs ≡ Some b

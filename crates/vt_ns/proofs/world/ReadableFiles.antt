@@ -1,26 +1,15 @@
 -- A file that may be read is there, and so is its real object.
 use Rattle.std.proofs.Common.{None, Option, Some, is_some, nat_eq, refl, sym, true, true≢false, ℕ, ◌∙◌, ◌≡◌}
+use Rattle.vt_spec.proofs.Common.{Call, Credentials, Fresh, Node, Permit, Task, TaskName, ToRead, World, is_kind_in, looks_of, may, node_allows, node_at, overfills, read_right}
 use Rattle.vt_spec.specs.declared.attributes.Kind.{Kind}
 use Rattle.vt_spec.specs.declared.attributes.Kind.TheVariants.{Symlink as SymlinkKind}
-use Rattle.vt_spec.specs.FileTree.{is_kind_in}
-use Rattle.vt_spec.specs.Language.Calls.{Call, TaskName}
-use Rattle.vt_spec.specs.Machine.Apply.{overfills}
-use Rattle.vt_spec.specs.Machine.Looks.{looks_of, may}
 use Rattle.vt_spec.specs.Machine.Mounts as meant
-use Rattle.vt_spec.specs.Machine.Permits.{Permit}
-use Rattle.vt_spec.specs.Machine.Permits.Permit.{ToRead}
-use Rattle.vt_spec.specs.Machine.Rightful.{node_allows}
 use Rattle.vt_spec.specs.Machine.Rules.Conditions.{kind_at}
-use Rattle.vt_spec.specs.Machine.World.{Task, World, node_at}
-use Rattle.vt_spec.specs.Lists.{Fresh}
-use Rattle.vt_spec.specs.Rights.{Credentials, read_right}
-use Rattle.vt_spec.specs.Tree.{Node}
 use Rattle.vt_laws_rules.proofs.given.Inversion.{calls_are_granted}
 use Rattle.vt_laws_rules.specs.Granted.{IsGranted}
 use Rattle.vt_laws_rules.specs.Granted.IsGranted.{reads_file, reads_symlink}
 use Rattle.vt_laws_trees.proofs.trees.TreesWalked.{not_true}
-use Rattle.vt_world.specs.WorldValue.{WorldValue, world_of}
-use Rattle.vt_mounting.specs.Detach.Events.{Permits, supply_of}
+use Rattle.vt_ns.proofs.Common.{Permits, WorldValue, supply_of, world_of}
 use Rattle.vt_ns.specs.Lent.{as_lent}
 
 kind_there : (kind : Kind) (o : Option (Node ℕ)) → is_kind_in kind o ≡ true → is_some o ≡ true

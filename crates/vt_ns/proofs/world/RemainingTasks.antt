@@ -1,28 +1,13 @@
 -- Events of tasks after which all mounts are still in use, and in which tasks come to namespaces: fork(2).
 use Rattle.std.proofs.Common.{◌≡◌, refl, sym, ap, subst, ◌∙◌, ℕ, ◌+◌, nat_eq, List, map}
-use Rattle.vt_spec.specs.Language.Calls.{TaskName}
-use Rattle.vt_spec.specs.Machine.Mounts.{Mount}
-use Rattle.vt_spec.specs.Machine.Permits.{Permit}
-use Rattle.vt_spec.specs.Machine.Settled.{without_dead_mounts}
+use Rattle.vt_spec.proofs.Common.{Mount, Permit, Task, TaskName, World, without_dead_mounts}
 use Rattle.vt_spec.specs.Machine.World as meant
-use Rattle.vt_spec.specs.Machine.World.{Task, World}
-use Rattle.vt_laws_mounts.specs.Counts.OverlaysStay.{layer_count}
-use Rattle.vt_fs.specs.FilesystemsValue.{Filesystems, Shown}
-use Rattle.vt_laws_mounts.specs.LettingGo.Counts.{mounts_showing, times}
-use Rattle.vt_laws_mounts.proofs.letting_go.Lists.{Among, all_from_among, among_from_all}
-use Rattle.vt_location.specs.Numbers.{counted}
-use Rattle.vt_mount.specs.MountsValue.{MountEntry}
-use Rattle.vt_tasks.specs.TasksValue.{Tasks}
-use Rattle.vt_world.specs.Held.{CountsItsMounts, CountsItsUses, CountsWhatIsInIt, IsHeld}
-use Rattle.vt_mounting.specs.Detach.Uses.{Merged, kept_of, kept_with}
-use Rattle.vt_world.specs.WorldValue.{NamespaceEntry, WorldValue, namespace_of, world_of}
-use Rattle.vt_mounting.proofs.detach.Bridging.{IsSwept}
-use Rattle.vt_mounting.proofs.detach.Finishing.{CountsBeside, IsApplied, finished}
+use Rattle.vt_ns.proofs.Common.{Among, CountsItsMounts, CountsItsUses, CountsWhatIsInIt, Filesystems, IsApplied, IsDone, IsHeld, IsSwept, Merged, MountEntry, Moves, NamespaceEntry, Shown, Tasks, Use, WorldValue, after, all_from_among, among_from_all, counted, inodes_of_uses, kept_of, kept_with, layer_count, mounts_showing, namespace_of, remade, times, world_of}
+use Rattle.vt_mounting.proofs.detach.Finishing.{CountsBeside, finished}
 use Rattle.vt_mounting.proofs.detach.Grouped.{left_has}
-use Rattle.vt_mounting.proofs.detach.Moving.{Moves, Use, entry_counts, inodes_of_uses, moved_kept}
+use Rattle.vt_mounting.proofs.detach.Moving.{entry_counts, moved_kept}
 use Rattle.vt_mounting.proofs.detach.Overlaid.{layers_kept, overlays_counted}
-use Rattle.vt_mounting.proofs.detach.Remaining.{entry_was, remade, remains_swept, same_mounts, shown_was}
-use Rattle.vt_mounting.proofs.detach.Staying.{IsDone, after}
+use Rattle.vt_mounting.proofs.detach.Remaining.{entry_was, remains_swept, same_mounts, shown_was}
 
 -- the code's world with other mounts, filesystems, namespaces and tasks
 abbrev pub remade_in : WorldValue → List MountEntry → Filesystems → List NamespaceEntry → Tasks → WorldValue

@@ -1,58 +1,23 @@
 -- The event that renames, with the mounts on what is replaced: rename(2).
-use Rattle.std.proofs.Common.{◌≡◌, ◌≢◌, refl, sym, ap, subst, ◌∙◌, true, ℕ, nat_eq, ◌&&◌, List, [], ◌∷◌, Option, None, Some, option_map, map, length}
-use Rattle.std.specs.Prelude.{IfSome, option_to_list}
-use Rattle.std.proofs.lemmas.Option.{same_Some}
-use Rattle.vt_spec.specs.Language.Calls.{TaskName}
-use Rattle.vt_spec.specs.Language.Changes.{Change}
-use Rattle.vt_spec.specs.Language.Changes.Change.{Move}
-use Rattle.vt_spec.specs.Lists.{Fresh}
-use Rattle.vt_spec.specs.Machine.Apply.{apply}
-use Rattle.vt_spec.specs.Machine.Detach.{mounts_on, without_replaced}
-use Rattle.vt_spec.specs.Machine.Filesystems.{with_change}
+use Rattle.std.proofs.Common.{◌≡◌, ◌≢◌, refl, sym, ap, subst, ◌∙◌, true, ℕ, nat_eq, ◌&&◌, List, [], ◌∷◌, Option, None, Some, option_map, map, length, IfSome, option_to_list}
+use Rattle.vt_spec.proofs.Common.{Change, Fresh, Mount, Move, Permit, TaskName, ToChange, ToRename, World, apply, entry_at, filesystem_at, filesystem_numbered, mount_at, mount_numbered, mounts_on, regrouped, same_Some, with_change, with_mounts, without_replaced}
 use Rattle.vt_spec.specs.Machine.Mounts as meant
-use Rattle.vt_spec.specs.Machine.Mounts.{Mount}
-use Rattle.vt_spec.specs.Machine.Permits.{Permit}
-use Rattle.vt_spec.specs.Machine.Permits.Permit.{ToChange, ToRename}
-use Rattle.vt_spec.specs.Machine.Receives.{regrouped}
-use Rattle.vt_spec.specs.Machine.World.{World, filesystem_at, filesystem_numbered, mount_at, mount_numbered, with_mounts}
-use Rattle.vt_spec.specs.TreeInvariant.{entry_at}
-use Rattle.vt_fs.specs.FilesystemsValue.{ChangesInodes, Filesystems, inodes_seen}
+use Rattle.vt_ns.proofs.Common.{Among, ChangesFiles, ChangesInodes, Filesystems, Grouping, HasChildrenOf, IsDone, IsFilesEvent, IsHeld, IsSmall, LeaveTogether, Merged, MountEntry, NamesWhatIsThere, OverlaysLeft, Permits, StoreValue, WorldValue, counted, detached_world, inodes_seen, is_counted_before, is_small_node, kept, kept_of, kept_with, location_of, merged_of, mounts_in, nodes_named, number_of, permit_named, remade_with, taken_regroups, trees_numbers, with_filesystems, with_store, world_of}
 use Rattle.vt_spec.specs.Inodes.{changed}
-use Rattle.vt_group.specs.Grouping.{Grouping}
 use Rattle.vt_group.proofs.Together.{regrouped_living}
 use Rattle.vt_laws_mounts.specs.LettingGo.FileChanges.{names_lost}
-use Rattle.vt_laws_mounts.proofs.letting_go.Lists.{Among}
 use Rattle.vt_location.specs.declared.locations.Location.{Location}
 use Rattle.vt_location.specs.declared.numbers.MountId.{MountId}
-use Rattle.vt_location.specs.Locations.{is_small_node, location_of, number_of}
-use Rattle.vt_location.specs.Numbers.{counted}
-use Rattle.vt_mount.specs.MountsValue.{MountEntry, mounts_in}
-use Rattle.vt_store.specs.StoreValue.{StoreValue}
-use Rattle.vt_laws_worlds.specs.Permits.Named.{permit_named}
 use Rattle.vt_laws_worlds.specs.Permits.Sees.{MayBeRenamed}
-use Rattle.vt_laws_trees.specs.Runs.Handed.{is_counted_before}
-use Rattle.vt_laws_worlds.specs.Worlds.Permits.{IsReached, NamesWhatIsThere}
-use Rattle.vt_mounting.specs.Detach.Detached.{LeaveTogether, trees_of_replaced}
-use Rattle.vt_mounting.specs.Detach.Events.{Permits}
-use Rattle.vt_world.specs.Held.{IsHeld}
-use Rattle.vt_world.specs.StoredWorld.{with_store}
-use Rattle.vt_mounting.specs.Detach.Stored.{OverlaysLeft, kept, merged_of}
-use Rattle.vt_mounting.specs.Detach.Uses.{Merged, kept_of, kept_with}
-use Rattle.vt_world.specs.WorldValue.{WorldValue, world_of}
-use Rattle.vt_mounting.proofs.detach.ChangedFiles.{ChangesFiles, IsFilesEvent, with_filesystems}
+use Rattle.vt_laws_worlds.specs.Worlds.Permits.{IsReached}
+use Rattle.vt_mounting.specs.Detach.Detached.{trees_of_replaced}
 use Rattle.vt_ns.proofs.world.ChangedWithMounts.{changed_then_detached, nothing_goes}
-use Rattle.vt_mounting.proofs.detach.DetachingBegins.{HasChildrenOf, detached_world}
-use Rattle.vt_mounting.proofs.detach.DetachingEnds.{taken_regroups}
-use Rattle.vt_mounting.proofs.detach.FileEvents.{IsSmall}
 use Rattle.vt_ns.proofs.world.FileRenaming as Renaming
-use Rattle.vt_mounting.proofs.detach.FilesSeen.{nodes_named}
-use Rattle.vt_mounting.proofs.detach.LazilyUnmounted.{trees_have_children, trees_numbers}
+use Rattle.vt_mounting.proofs.detach.LazilyUnmounted.{trees_have_children}
 use Rattle.vt_ns.proofs.world.DetachedStored.{collected_leave, left_is_stored, none_goes, some_go}
 use Rattle.vt_ns.proofs.world.MountsOn.{none_on, one_on, tops_on, trees_collected}
 use Rattle.vt_ns.proofs.world.PlainStored.{files_stored}
 use Rattle.vt_mounting.proofs.detach.Moving.{map_itself}
-use Rattle.vt_mounting.proofs.detach.Remaining.{remade_with}
-use Rattle.vt_mounting.proofs.detach.Staying.{IsDone}
 
 -- the mounts on what is replaced
 abbrev pub tops_on_replaced : WorldValue → Option Location → List (Mount ℕ)

@@ -1,20 +1,10 @@
 -- The store of a world, and an event that leaves all its overlays.
 use Rattle.std.proofs.Common.{◌≡◌, sym, ap, subst, ◌∙◌, ℕ, map}
-use Rattle.vt_spec.specs.Language.Calls.{TaskName}
-use Rattle.vt_spec.specs.Machine.Permits.{Permit}
-use Rattle.vt_spec.specs.Machine.World.{Layer}
-use Rattle.vt_spec.proofs.Lists.{map_alike, map_twice}
+use Rattle.vt_spec.proofs.Common.{Layer, Permit, TaskName, map_alike, map_twice}
 use Rattle.vt_overlay.specs.MergedTree.{layer_seen}
 use Rattle.vt_store.specs.OverlaysValue.{Overlays}
-use Rattle.vt_store.specs.StoreValue.{StoreValue}
-use Rattle.vt_world.specs.Held.{IsHeld}
-use Rattle.vt_world.specs.StoredWorld.{overlay_of_store, overlays_of_store, with_store}
-use Rattle.vt_world.specs.WorldValue.{WorldValue}
-use Rattle.vt_mounting.specs.Detach.Events.{Permits}
-use Rattle.vt_mounting.specs.Detach.Stored.{kept, merged_of}
-use Rattle.vt_mounting.specs.Detach.Uses.{kept_of, merged_seen}
-use Rattle.vt_mounting.proofs.detach.OverlaysListed.{left_itself, were_there}
-use Rattle.vt_mounting.proofs.detach.Staying.{IsDone}
+use Rattle.vt_ns.proofs.Common.{IsDone, IsHeld, Permits, StoreValue, WorldValue, kept, kept_of, left_itself, merged_of, merged_seen, overlay_of_store, overlays_of_store, with_store}
+use Rattle.vt_mounting.proofs.detach.OverlaysListed.{were_there}
 use Rattle.vt_mounting.proofs.detach.StoreStays.{store_stays}
 
 -- what a store keeps is what its world has

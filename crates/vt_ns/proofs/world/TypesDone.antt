@@ -1,33 +1,15 @@
 -- The event of a change of types, as code does it.
-use Rattle.std.proofs.Common.{◌≡◌, ◌<◌, refl, sym, ap, subst, ◌∙◌, ⊎_elim, ℕ, ◌+◌, nat_eq, Bool, true, false, List, [], ◌∷◌, length, map, Some, is_some, arith}
-use Rattle.std.specs.Prelude.{All, Contains}
-use Rattle.std.proofs.lemmas.List.{length-map}
-use Rattle.vt_spec.specs.Language.Calls.{TaskName, TypeWord}
-use Rattle.vt_spec.specs.Language.Calls.TypeWord.{ToPrivate, ToShared, ToSlave, ToUnbindable}
-use Rattle.vt_spec.specs.Machine.Mounts.{Mount, Propagation, index_of, numbers_by}
-use Rattle.vt_spec.specs.Machine.Permits.Permit.{ToSetType}
-use Rattle.vt_spec.specs.Machine.Types.{named_mounts, retyped as policy_retyped}
-use Rattle.vt_spec.specs.Machine.World.{World, mount_numbered}
-use Rattle.vt_spec.proofs.Lists.{contains_from_among, map_twice}
-use Rattle.vt_group.specs.Grouping.{Grouping, Has, LacksGroup}
-use Rattle.vt_laws_mounts.proofs.letting_go.Lists.{Among, all_from_among}
-use Rattle.vt_laws_mounts.proofs.letting_go.leaving.PlacesLeft.{found_is_there}
-use Rattle.vt_mount.specs.MountsValue.{MountEntry, mounts_in}
-use Rattle.vt_retype.specs.Retyping.{retyped as retyped_entry}
+use Rattle.std.proofs.Common.{◌≡◌, ◌<◌, refl, sym, ap, subst, ◌∙◌, ⊎_elim, ℕ, ◌+◌, nat_eq, Bool, true, false, List, [], ◌∷◌, length, map, Some, is_some, arith, All, Contains}
+use Rattle.vt_spec.proofs.Common.{Mount, Propagation, TaskName, ToPrivate, ToSetType, ToShared, ToSlave, ToUnbindable, TypeWord, World, contains_from_among, index_of, length-map, map_twice, mount_numbered, named_mounts, numbers_by, retyped as policy_retyped}
+use Rattle.vt_ns.proofs.Common.{Among, Grouping, Has, IsDone, IsHeld, MountEntry, Permits, WorldValue, all_from_among, counts_from, found_is_there, is_seen, mounts_in, numbers_of, permit_fits, retyped as retyped_entry, world_of}
+use Rattle.vt_group.specs.Grouping.{LacksGroup}
 use Rattle.vt_laws_mounts.proofs.mounts.Standing.{trees_have_each_once}
-use Rattle.vt_laws_trees.specs.Runs.Handed.{counts_from}
-use Rattle.vt_mounting.specs.Detach.Events.{Permits}
-use Rattle.vt_world.specs.Held.{IsHeld}
-use Rattle.vt_world.specs.WorldValue.{WorldValue, world_of}
-use Rattle.vt_mounting.proofs.detach.FileEvents.{permit_fits}
-use Rattle.vt_mounting.proofs.detach.Staying.{IsDone}
 use Rattle.vt_mounting.proofs.detach.TypesKept.{counts_lack, group, types_are_changed, types_are_shared}
 use Rattle.vt_mounting.proofs.detach.TreesInNamespaces.{in_tree}
 use Rattle.vt_ns.specs.Retyped.{IsRetyped, NumbersGroups, counted_after, with_counts}
 use Rattle.vt_ns.proofs.RetypedMounts.{places_are_counted}
 use Rattle.vt_laws_worlds.proofs.permits.taken.TakenFirst.{tree_some}
-use Rattle.vt_laws_mounts.specs.Mounts.Attaching.{numbers_of, OneNumberAMount}
-use Rattle.vt_mounting.proofs.attach.Binding.{is_seen}
+use Rattle.vt_laws_mounts.specs.Mounts.Attaching.{OneNumberAMount}
 
 module _ (value : WorldValue) (whole : IsHeld value) (name : TaskName) (number : ℕ) (word : TypeWord) (recursive : Bool)
     (permits : Permits value name (ToSetType number word recursive)) where

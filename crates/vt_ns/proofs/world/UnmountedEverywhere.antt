@@ -1,51 +1,21 @@
 -- Mounts are unmounted, with the mounts at the receivers of their parents: umount(2).
-use Rattle.std.proofs.Common.{◌∷◌, ◌≡◌, refl, sym, ap, subst, ◌∙◌, ℕ, nat_eq, eqb-true, Bool, true, false, true≢false, cond, List, [], map, find, Option, Some, None, option_map, is_some, unwrap_or, length, if◌then◌else◌}
-use Rattle.std.proofs.lemmas.List.{append-nil}
-use Rattle.std.proofs.lemmas.List.Sorted.{list_any-IsPermutation}
-use Rattle.std.specs.List.{list_any}
-use Rattle.std.specs.List.Sorted.{IsPermutation}
-use Rattle.std.specs.Prelude.{All}
-use Rattle.vt_spec.specs.Language.Calls.{TaskName}
-use Rattle.vt_spec.specs.Lists.{chain, last_or}
-use Rattle.vt_spec.specs.Machine.Detach.{after_going, going, is_going, lazily_unmounted, mount_point_left, taken_away, unmounted}
-use Rattle.vt_spec.specs.Machine.Mounts.{Location, Mount, detached, no_mount}
-use Rattle.vt_spec.specs.Machine.Permits.{Permit}
-use Rattle.vt_spec.specs.Machine.Permits.Permit.{ToUnmount, ToUnmountLazily}
-use Rattle.vt_spec.specs.Machine.Receives.{inheriting, lost_a_group, regrouped, regrouped_by}
-use Rattle.vt_spec.specs.Machine.Settled.{without_dead_groups}
-use Rattle.vt_spec.specs.Machine.World.{Task, World, mount_at, mount_numbered, with_mounts}
-use Rattle.vt_fs.specs.FilesystemsValue.{Filesystems}
-use Rattle.vt_group.specs.Grouping.{Grouping, Has, HasGroup, are_rising, peers_of}
+use Rattle.std.proofs.Common.{◌∷◌, ◌≡◌, refl, sym, ap, subst, ◌∙◌, ℕ, nat_eq, eqb-true, Bool, true, false, true≢false, cond, List, [], map, find, Option, Some, None, option_map, is_some, unwrap_or, length, if◌then◌else◌, append-nil, IsPermutation, All}
+use Rattle.vt_spec.proofs.Common.{Location, Mount, Permit, Task, TaskName, ToUnmount, ToUnmountLazily, World, after_going, chain, detached, going, inheriting, is_going, last_or, lazily_unmounted, list_any, list_any-IsPermutation, lost_a_group, mount_at, mount_numbered, mount_point_left, no_mount, regrouped, regrouped_by, taken_away, unmounted, with_mounts, without_dead_groups}
+use Rattle.vt_ns.proofs.Common.{Filesystems, Grouping, Has, IsApplied, IsDone, IsHeld, Kept, LeaveTogether, Merged, MountEntry, Permits, Point, WorldValue, all_from_among, among-map, among_from_all, counted, found_mapped, has_ordered, kept_of, kept_with, location_of, moved_by, numbers_of, permit_fits, point_seen, remade_with, world_of}
+use Rattle.vt_group.specs.Grouping.{HasGroup, are_rising, peers_of}
 use Rattle.vt_group.specs.Together.{GrowsTo}
 use Rattle.vt_group.proofs.Showing.{has_one_grouping}
 use Rattle.vt_group.proofs.Typed.{regrouped_is_typed}
-use Rattle.vt_laws_mounts.proofs.letting_go.Lists.{all_from_among, among-map, among_from_all}
-use Rattle.vt_location.specs.Locations.{location_of}
-use Rattle.vt_location.specs.Numbers.{counted}
-use Rattle.vt_mount.specs.MountsValue.{MountEntry}
-use Rattle.vt_propagate.specs.Falling.{FallsTo, LeavesBy, left_by, moved_by}
+use Rattle.vt_propagate.specs.Falling.{FallsTo, LeavesBy, left_by}
 use Rattle.vt_propagate.specs.LazyUnmounts.{gone_lazily}
 use Rattle.vt_propagate.proofs.LazyUnmounts.{lazy_unmounts_are_at_once}
-use Rattle.vt_mounting.specs.Attach.Planned.{Point, placed_entry, with_points}
-use Rattle.vt_mounting.specs.Attach.PlannedUses.{point_seen}
-use Rattle.vt_mounting.specs.Detach.Detached.{LeaveTogether}
-use Rattle.vt_mounting.specs.Detach.Events.{Permits}
-use Rattle.vt_world.specs.Held.{IsHeld}
+use Rattle.vt_mounting.specs.Attach.Planned.{placed_entry, with_points}
 use Rattle.vt_retype.specs.Retyping.{AreTyped}
-use Rattle.vt_mounting.specs.Detach.Uses.{Kept, Merged, kept_of, kept_with}
 use Rattle.vt_mounting.proofs.detach.FollowedTypes.{changed_typed, own_types}
-use Rattle.vt_group.proofs.Others.{has_ordered}
-use Rattle.vt_world.specs.WorldValue.{WorldValue, world_of}
-use Rattle.vt_mounting.proofs.detach.FileEvents.{permit_fits}
-use Rattle.vt_mounting.proofs.detach.Finishing.{IsApplied}
 use Rattle.vt_mounting.proofs.detach.Leaving.{found_it}
-use Rattle.vt_mounting.proofs.detach.MountsGone.{found_mapped}
-use Rattle.vt_mounting.proofs.detach.Remaining.{remade_with}
-use Rattle.vt_mounting.proofs.detach.Staying.{IsDone}
 use Rattle.vt_mounting.proofs.detach.UnmountedAlone.{attached_is_named}
 use Rattle.vt_ns.specs.Unmounting.{GoTogether}
 use Rattle.vt_ns.proofs.world.UnmountedWorlds.{moved_then_detached}
-use Rattle.vt_laws_mounts.specs.Mounts.Attaching.{numbers_of}
 
 -- groups that end leave mounts where they are
 pub regrouped_places : (world : World ℕ) (number : ℕ)

@@ -1,64 +1,27 @@
 -- Mounts get other mount points, and then others are detached and leave their groups: an unmount at all receivers.
-use Rattle.std.proofs.Common.{◌≡◌, refl, sym, ap, subst, ◌∙◌, inl, ℕ, nat_eq, eqb-true, Bool, true, false, true≢false, cond, not, ◌&&◌, ◌||◌, List, [], map, find, Option, Some, None, option_map, is_some, unwrap_or}
-use Rattle.std.specs.Map.{lookup}
-use Rattle.std.specs.Prelude.{option_to_list}
-use Rattle.std.specs.List.{list_all}
-use Rattle.std.proofs.lemmas.Bool.{and_parts}
+use Rattle.std.proofs.Common.{◌≡◌, refl, sym, ap, subst, ◌∙◌, inl, ℕ, nat_eq, eqb-true, Bool, true, false, true≢false, cond, not, ◌&&◌, ◌||◌, List, [], map, find, Option, Some, None, option_map, is_some, unwrap_or, option_to_list}
+use Rattle.vt_spec.proofs.Common.{Location, Mount, Permit, Stands, Task, TaskName, World, and_parts, detached, filesystem_numbered, has_its_root, has_members, is_among, is_directory_at, is_directory_node, is_going, is_located, is_located_well, is_nowhere_or_attached, is_private, is_there, list_all, lookup, map_alike, map_twice, mount_at, mount_in, mount_numbered, no_mount, node_at, or_else, or_false_left, settled, shown-mapped, with_mounts, without_dead_groups}
 use Rattle.std.proofs.lemmas.Option.{none-some}
-use Rattle.vt_spec.specs.Language.Calls.{TaskName}
-use Rattle.vt_spec.specs.Lists.{is_among, or_else}
-use Rattle.vt_spec.specs.Machine.Detach.{is_going}
-use Rattle.vt_spec.specs.Machine.Mounts.{Location, Mount, detached, mount_in, no_mount}
-use Rattle.vt_spec.specs.Machine.Permits.{Permit}
-use Rattle.vt_spec.specs.Machine.Receives.{has_members}
-use Rattle.vt_spec.specs.Machine.Settled.{is_located, settled, without_dead_groups}
-use Rattle.vt_spec.specs.Machine.World.{Task, World, filesystem_numbered, is_directory_at, mount_at, mount_numbered, node_at, with_mounts}
-use Rattle.vt_spec.specs.Machine.Invariants.{Stands, has_its_root, is_located_well, is_nowhere_or_attached, is_private, is_there}
-use Rattle.vt_spec.specs.Tree.{is_directory_node}
-use Rattle.vt_fs.specs.FilesystemsValue.{Filesystems}
-use Rattle.vt_group.specs.Grouping.{Grouping, Has}
+use Rattle.vt_ns.proofs.Common.{Among, CountsWhatIsInIt, Filesystems, Grouping, Has, HasChildrenOf, IsApplied, IsDone, IsHeld, IsKeptBut, IsUnderWay, LeaveInTurn, Merged, MountEntry, Point, WorldValue, all_from_among, among-from_map, among-map, among_from_all, counted, detached_world, directory_there, found_is_there, found_itself, found_mapped, given_permits_are_under_way_without_upper, in_use_of, is_among_numbers, is_small, keeps_itself, kept_of, kept_with, location_of, mounts_of_worlds_stand, moved_by, passes, point_seen, points_left, points_taken, remade_with, same_files_keep, supply_of, with_planned, world_of}
 use Rattle.vt_group.specs.Laws.{typed_by}
 use Rattle.vt_laws_mounts.specs.LettingGo.Leaving.{stands_on_attached}
-use Rattle.vt_laws_mounts.proofs.letting_go.Lists.{Among, all_from_among, among-from_map, among-map, among_from_all, is_among_numbers, passes}
-use Rattle.vt_laws_mounts.proofs.letting_go.sweeps.OfWorlds.{mounts_of_worlds_stand}
-use Rattle.vt_laws_mounts.proofs.letting_go.leaving.PlacesLeft.{found_is_there, found_itself, number_found}
+use Rattle.vt_laws_mounts.proofs.letting_go.leaving.PlacesLeft.{number_found}
 use Rattle.vt_location.specs.declared.locations.Location.{Location as At}
-use Rattle.vt_location.specs.Locations.{location_of}
-use Rattle.vt_location.specs.Numbers.{counted}
-use Rattle.vt_mount.specs.MountsValue.{MountEntry}
-use Rattle.vt_laws_worlds.proofs.overlays_stay.left.Given.{given_permits_are_under_way_without_upper}
-use Rattle.vt_propagate.specs.Falling.{left_by, moved_by}
-use Rattle.vt_laws_worlds.specs.Worlds.Kept.{IsUnderWay}
-use Rattle.vt_laws_worlds.proofs.worlds.Roots.{directory_there}
-use Rattle.vt_mounting.specs.Attach.Planned.{Point, is_small, points_left, points_taken, with_planned}
-use Rattle.vt_mounting.specs.Attach.PlannedUses.{point_seen}
-use Rattle.vt_mounting.specs.Detach.Detached.{LeaveInTurn}
-use Rattle.vt_mounting.specs.Detach.Events.{supply_of}
-use Rattle.vt_world.specs.Held.{CountsWhatIsInIt, IsHeld}
-use Rattle.vt_mounting.specs.Detach.Uses.{Merged, kept_of, kept_with}
-use Rattle.vt_world.specs.WorldValue.{WorldValue, world_of}
-use Rattle.vt_mounting.proofs.detach.DetachingBegins.{HasChildrenOf, detached_world, detaching_begins}
+use Rattle.vt_propagate.specs.Falling.{left_by}
+use Rattle.vt_mounting.proofs.detach.DetachingBegins.{detaching_begins}
 use Rattle.vt_mounting.proofs.detach.DetachingEnds.{detached_counted, detached_swept}
-use Rattle.vt_mounting.proofs.detach.Finishing.{IsApplied, finished_as}
+use Rattle.vt_mounting.proofs.detach.Finishing.{finished_as}
 use Rattle.vt_mounting.proofs.detach.Grouped.{settled_has, stays_private}
-use Rattle.vt_mounting.proofs.detach.Keeping.{IsKeptBut, detached_in}
+use Rattle.vt_mounting.proofs.detach.Keeping.{detached_in}
 use Rattle.vt_mounting.proofs.detach.Leaving.{found_it}
 use Rattle.vt_mounting.proofs.detach.MidwayBegins.{parent_inside}
-use Rattle.vt_mounting.proofs.detach.MountsGone.{found_mapped}
-use Rattle.vt_mounting.proofs.detach.Overlaid.{keeps_itself, same_files_keep}
-use Rattle.vt_mounting.proofs.detach.Remaining.{remade_with}
-use Rattle.vt_mounting.proofs.detach.Staying.{IsDone}
 use Rattle.vt_mounting.proofs.detach.TypedEvents.{counts_typed, swept_typed, typed_value}
 use Rattle.vt_mounting.proofs.detach.TypedWorlds.{typed_world}
 use Rattle.vt_laws_mounts.proofs.letting_go.SweptBetween.{settled_without_groups}
 use Rattle.vt_mounting.proofs.detach.UnmountedLazily.{all_detached}
 use Rattle.vt_laws_mounts.proofs.mounts.MountsFound.{placed_among}
 use Rattle.vt_ns.proofs.world.PointsMoved.{MayMove, gained, looked_up, lost, moved_is_kept, moved_world}
-use Rattle.vt_spec.proofs.Lists.{map_alike, map_twice}
-use Rattle.vt_spec.proofs.Truths.{or_false_left}
-use Rattle.vt_spec.proofs.Worlds.{shown-mapped}
 use Rattle.vt_laws_worlds.specs.Permits.Taken.{is_ungrouped}
-use Rattle.vt_laws_mounts.specs.LettingGo.TreesOverlays.{in_use_of}
 
 -- a mount with a mount point is in a namespace
 placed_is_attached : (mount : Mount ℕ) → is_nowhere_or_attached mount ≡ true → is_some mount.mount_point ≡ true

@@ -1,43 +1,24 @@
 -- The number of an inode that its filesystem does not have is not in use.
 use Rattle.std.proofs.Common.{◌≡◌, refl, sym, ap, subst, ◌∙◌, inl, inr, ℕ, ◌+◌, ◌*◌, ◌<◌, ◌≤◌, ◌%◌, ◌/◌, ◌==◌, nat_eq, ne_eqb, eqb-true, lt-ltb, Bool, true, false, ◌&&◌, ◌||◌, List, [], ◌∷◌, ◌++◌, map, flat_map, Option, Some, None, is_some, option_map, unwrap_or, option_to_list, arith}
-use Rattle.std.specs.List.{list_all}
-use Rattle.std.proofs.lemmas.Bool.{and_parts}
-use Rattle.std.proofs.lemmas.List.Folds.{list_any-append}
-use Rattle.vt_spec.specs.Lists.{is_among}
-use Rattle.vt_spec.specs.Machine.Invariants.{ListsNumbers}
-use Rattle.vt_spec.specs.Machine.Mounts.{Propagation, source_of}
-use Rattle.vt_spec.specs.Machine.Mounts.Propagation.{Private, Shared, Slave, Unbindable}
-use Rattle.vt_spec.specs.Machine.Run.{used_by_filesystem, used_by_mount}
+use Rattle.vt_spec.proofs.Common.{Filesystem, IsTree, ListsNumbers, Namespace, Node, Private, Propagation, Shared, Slave, Unbindable, and_parts, filesystem_numbered, is_among, list_all, list_any-append, mount_at, node_in, source_of, used_by_filesystem, used_by_mount}
 use Rattle.vt_spec.specs.Machine.Mounts as meant
-use Rattle.vt_spec.specs.Machine.World.{Filesystem, Namespace, filesystem_numbered, mount_at}
-use Rattle.vt_spec.specs.Inodes.{node_in}
-use Rattle.vt_spec.specs.Tree.{Node}
-use Rattle.vt_spec.specs.TreeInvariant.{IsTree}
-use Rattle.vt_fs.specs.FilesystemsValue.{FilesystemEntry, entry_of, inodes_at, inodes_seen, next_seen, no_entry}
-use Rattle.vt_laws_mounts.proofs.letting_go.Lists.{Among, among_from_all, found_in}
+use Rattle.vt_ns.proofs.Common.{Among, FilesystemEntry, IsHeld, MountEntry, NamespaceEntry, WorldValue, among_from_all, counted, directory_there, entry_of, found_plain_one, inode_number, inodes_at, inodes_seen, is_counted_before, is_small_node, mounts_in, namespace_of, next_inode, next_seen, no_entry, number_of, small_parts, world_of}
+use Rattle.vt_laws_mounts.proofs.letting_go.Lists.{found_in}
 use Rattle.vt_laws_mounts.proofs.letting_go.sweeps.OfWorlds.{found_filesystem}
-use Rattle.vt_laws_worlds.proofs.worlds.Roots.{directory_there}
 use Rattle.vt_location.specs.declared.births.Birth.{Birth}
 use Rattle.vt_location.specs.declared.births.Birth.TheVariants.{Below, Here}
 use Rattle.vt_location.specs.declared.locations.NodeRef.{NodeRef}
 use Rattle.vt_location.specs.Births.{IsSmallBirth, born_in, is_small_birth}
-use Rattle.vt_location.specs.Locations.{is_small_node, number_of}
 use Rattle.vt_location.specs.NodeNumbers.{IsSmall}
-use Rattle.vt_location.proofs.NodeLemmas.{small_parts}
-use Rattle.vt_location.specs.Numbers.{counted, inode_number}
-use Rattle.vt_mount.specs.MountsValue.{MountEntry, mounts_in}
 use Rattle.vt_mount.specs.Sources.{has_counted_source}
 use Rattle.vt_world.specs.OverlaysMade.Made.{IsNew}
 use Rattle.vt_laws_worlds.proofs.permits.in_use.InUseServes.{leaves_two}
 use Rattle.vt_laws_worlds.specs.Permits.InUse.{is_in_use}
 use Rattle.vt_laws_rules.proofs.numbers.Supports.{used_numbers_are_named}
-use Rattle.vt_laws_trees.specs.Runs.Handed.{is_counted_before}
-use Rattle.vt_mounting.specs.Detach.Events.{filesystem_count, next_inode}
-use Rattle.vt_world.specs.Held.{HasOwnNodes, IsHeld}
+use Rattle.vt_mounting.specs.Detach.Events.{filesystem_count}
+use Rattle.vt_world.specs.Held.{HasOwnNodes}
 use Rattle.vt_ns.specs.Vacancy.{IsVacant}
-use Rattle.vt_world.specs.WorldValue.{NamespaceEntry, WorldValue, namespace_of, world_of}
 use Rattle.vt_mounting.proofs.detach.NodesFound.{in_no_other, own_nodes}
-use Rattle.vt_mounting.proofs.detach.Overlaid.{found_plain_one}
 use Rattle.vt_mounting.proofs.attach.NewFilesystems.{filesystem_counted, found_below}
 
 module _ (count slot : ℕ) (small : slot < 18446744073709551616) where

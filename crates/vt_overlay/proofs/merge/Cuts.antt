@@ -1,11 +1,6 @@
 -- A layer cuts at a path if something hides on the way.
 use Rattle.std.proofs.Common.{◌≡◌, ◌∷◌, ◌||◌, ◌∙◌, [], Bool, List, None, Option, Some, ap, false, map, refl, ℕ}
-use Rattle.std.specs.List.{list_any}
-use Rattle.vt_spec.specs.Lists.{prefixes}
-use Rattle.vt_spec.specs.Machine.Layers.{OpenLayer, view_of}
-use Rattle.vt_spec.specs.Machine.Views.{cuts, hides, node_led}
-use Rattle.vt_spec.specs.Tree.{Tree}
-use Rattle.vt_spec.specs.TreeInvariant.{entry_at}
+use Rattle.vt_spec.proofs.Common.{OpenLayer, Tree, cuts, entry_at, hides, list_any, node_led, prefixes, view_of}
 use Rattle.vt_overlay.specs.Merge.LayerValue.{cut_on}
 
 abbrev pub layer_in : Tree ℕ → ℕ → OpenLayer ℕ

@@ -1,14 +1,8 @@
 -- What directories of layers have under a name, and where those lie that are merged under it.
-use Rattle.std.proofs.Common.{◌≡◌, ◌≢◌, ◌∙◌, ◌++◌, ◌∷◌, ◌+◌, ◌<◌, [], All, Bool, Contains, List, None, Option, Some, ap, drop, false, get_or, is_some, length, not, option_map, subst, sym, true, ℕ}
-use Rattle.std.proofs.lemmas.List.{drop_more}
+use Rattle.std.proofs.Common.{◌≡◌, ◌≢◌, ◌∙◌, ◌++◌, ◌∷◌, ◌+◌, ◌<◌, [], All, Bool, Contains, List, None, Option, Some, ap, drop, false, get_or, is_some, length, not, option_map, subst, sym, true, ℕ, IfSome, if◌then◌else◌}
+use Rattle.vt_spec.proofs.Common.{Shown, drop_more, entry_at, is_kind_in, led-append, shown, then_some, view_of}
 use Rattle.std.proofs.lemmas.List.Elements.{All-contains}
-use Rattle.std.specs.Prelude.{IfSome, if◌then◌else◌}
-use Rattle.vt_spec.proofs.Trees.{led-append}
 use Rattle.vt_spec.specs.declared.attributes.Kind.TheVariants.{White}
-use Rattle.vt_spec.specs.FileTree.{is_kind_in}
-use Rattle.vt_spec.specs.Lists.{then_some}
-use Rattle.vt_spec.specs.Machine.Layers.{Shown, shown, view_of}
-use Rattle.vt_spec.specs.TreeInvariant.{entry_at}
 use Rattle.vt_laws_trees.specs.Layers.Layers.Directories.{shown_in}
 use Rattle.vt_location.specs.declared.locations.InodeRef.{InodeRef}
 use Rattle.vt_location.specs.declared.numbers.FilesystemId.{FilesystemId}

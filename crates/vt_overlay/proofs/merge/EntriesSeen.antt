@@ -1,7 +1,6 @@
 -- Entries by slots are entries by the numbers of inodes.
 use Rattle.std.proofs.Common.{◌≡◌, ◌∙◌, ap, sym, List, Option, Some, option_map, ℕ}
-use Rattle.vt_spec.specs.Tree.{Node, entries_in, entries_of, entry_named}
-use Rattle.vt_spec.specs.TreeInvariant.{entry_at}
+use Rattle.vt_spec.proofs.Common.{Node, entries_in, entries_of, entry_at, entry_named}
 use Rattle.vt_location.specs.Numbers.{exchanged}
 use Rattle.vt_fs.specs.Trees.TreeValue.{TreeValue, inodes_of, tree_of}
 use Rattle.vt_fs.proofs.Renamed.{entry_by_numbers}

@@ -1,20 +1,6 @@
 -- Going up in a tree whose inodes are found by slots, as its directories are seen by numbers.
-use Rattle.std.proofs.Common.{◌≡◌, ◌≢◌, ◌∙◌, ◌+◌, ◌<◌, ◌≤◌, ◌∷◌, [], Bool, Bor, List, None, Option, Some, ap, arith, false, length, map, nat_eq, option_and_then, option_map, refl, subst, suc, sym, true, true≢false, zero, ℕ, ⊎_elim, slice_get}
-use Rattle.std.proofs.lemmas.Bool.{cases_lt}
-use Rattle.std.proofs.lemmas.Grind.{common_steps}
-use Rattle.std.proofs.lemmas.Option.{same_Some}
-use Rattle.std.specs.FinMap.Entries.{is_sorted}
-use Rattle.std.specs.List.{find, list_any}
-use Rattle.std.specs.Prelude.{is_some, option_copied, unwrap_or}
-use Rattle.vt_spec.proofs.NodeChanges.{entry_to, found_is_named}
-use Rattle.vt_spec.proofs.Nodes.{directory_used}
-use Rattle.vt_spec.proofs.Options.{none_is_some}
-use Rattle.vt_spec.proofs.Trees.{found}
-use Rattle.vt_spec.specs.Lists.{is_among}
-use Rattle.vt_spec.specs.Machine.Renaming.{renamed_node}
-use Rattle.vt_spec.specs.Tree.{Content, Entries, Node, Tree, entries_in, is_directory_node, name_cmp, parent_in}
-use Rattle.vt_spec.specs.Tree.Content.{Directory, Regular, Symlink, Whiteout}
-use Rattle.vt_spec.specs.TreeInvariant.{IsDirectory, IsTree, entry_at, led}
+use Rattle.std.proofs.Common.{◌≡◌, ◌≢◌, ◌∙◌, ◌+◌, ◌<◌, ◌≤◌, ◌∷◌, [], Bool, Bor, List, None, Option, Some, ap, arith, false, length, map, nat_eq, option_and_then, option_map, refl, subst, suc, sym, true, true≢false, zero, ℕ, ⊎_elim, slice_get, find, is_some, option_copied, unwrap_or}
+use Rattle.vt_spec.proofs.Common.{Content, Directory, Entries, IsDirectory, IsTree, Node, Regular, Symlink, Tree, Whiteout, cases_lt, common_steps, directory_used, entries_in, entry_at, entry_to, found, found_is_named, is_among, is_directory_node, is_sorted, led, list_any, name_cmp, none_is_some, parent_in, renamed_node, same_Some}
 use Rattle.vt_laws_trees.proofs.layers.layers.ShownDirectories.{last_of}
 use Rattle.vt_laws_trees.proofs.layers.layers.ShownNames.{last_name}
 use Rattle.vt_laws_trees.proofs.layers.layers.ShownPaths.{depth_of_led, length_longer, not_empty}

@@ -1,10 +1,7 @@
 -- What layers show that are looked through one after the other.
-use Rattle.std.proofs.Common.{◌≡◌, ◌∙◌, ◌+◌, ◌<◌, Bool, List, None, Option, Some, ap, drop, false, get_or, length, map, option_map, subst, sym, true, ℕ}
-use Rattle.std.proofs.lemmas.List.{drop_more}
-use Rattle.std.proofs.lemmas.Option.{slice_get-get_or}
-use Rattle.std.specs.Prelude.{IfSome, slice_get}
-use Rattle.vt_spec.specs.Machine.Layers.{at_path, view_of}
-use Rattle.vt_spec.specs.Machine.Views.{Shown, View, cuts, shown_from, shown_over, visible}
+use Rattle.std.proofs.Common.{◌≡◌, ◌∙◌, ◌+◌, ◌<◌, Bool, List, None, Option, Some, ap, drop, false, get_or, length, map, option_map, subst, sym, true, ℕ, IfSome, slice_get}
+use Rattle.vt_spec.proofs.Common.{View, at_path, cuts, drop_more, shown_from, shown_over, slice_get-get_or, view_of}
+use Rattle.vt_spec.specs.Machine.Views.{Shown, visible}
 use Rattle.vt_location.specs.declared.locations.InodeRef.{InodeRef}
 use Rattle.vt_location.specs.declared.numbers.FilesystemId.{FilesystemId}
 use Rattle.vt_location.specs.Locations.{inode_of}

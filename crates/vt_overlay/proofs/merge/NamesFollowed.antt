@@ -1,9 +1,6 @@
 -- Names followed one after the other.
-use Rattle.std.proofs.Common.{◌≡◌, ◌∙◌, ◌+◌, ◌||◌, Bool, List, None, Some, ap, drop, false, option_and_then, refl, sym, true, ℕ}
-use Rattle.std.specs.Prelude.{slice_get}
-use Rattle.vt_spec.specs.Machine.Views.{hides}
-use Rattle.vt_spec.specs.Tree.{Tree}
-use Rattle.vt_spec.specs.TreeInvariant.{entry_at, led}
+use Rattle.std.proofs.Common.{◌≡◌, ◌∙◌, ◌+◌, ◌||◌, Bool, List, None, Some, ap, drop, false, option_and_then, refl, sym, true, ℕ, slice_get}
+use Rattle.vt_spec.proofs.Common.{Tree, entry_at, hides, led}
 use Rattle.vt_overlay.specs.Merge.LayerValue.{cut_by, cut_on}
 use Rattle.vt_overlay.proofs.merge.NamesTaken.{drop_named}
 

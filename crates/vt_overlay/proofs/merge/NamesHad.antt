@@ -1,18 +1,7 @@
 -- The names of directories that are merged, and what they show under a name.
-use Rattle.std.proofs.Common.{◌≡◌, ◌∙◌, ◌+◌, ◌++◌, ◌∷◌, ◌<◌, ◌||◌, [], Bool, List, None, Option, Some, ap, append_assoc, drop, false, get_or, is_some, length, map, option_and_then, refl, subst, sym, true, true≢false, ℕ}
-use Rattle.std.proofs.lemmas.List.{drop_more}
-use Rattle.std.proofs.lemmas.List.Sorted.{IsPermutation-append_left, IsPermutation-append_right, IsPermutation-trans}
-use Rattle.std.specs.FinMap.Entries.{is_some-find}
-use Rattle.std.specs.List.{list_any}
-use Rattle.std.specs.List.Sorted.{IsPermutation}
-use Rattle.std.specs.Ordering.{eq_by_cmp}
-use Rattle.vt_spec.specs.Lists.{then_some, when}
-use Rattle.vt_spec.specs.Machine.Layers.{view_of}
-use Rattle.vt_spec.specs.Machine.Renaming.{renamed_entry, renamed_node}
-use Rattle.vt_spec.specs.Machine.Views.{Shown, View, hides, shown_over}
-use Rattle.vt_spec.specs.Tree.{Content, Entries, Node, entries_in, name_cmp, names_in}
-use Rattle.vt_spec.specs.Tree.Content.{Directory, Regular, Symlink, Whiteout}
-use Rattle.vt_spec.specs.TreeInvariant.{entry_at}
+use Rattle.std.proofs.Common.{◌≡◌, ◌∙◌, ◌+◌, ◌++◌, ◌∷◌, ◌<◌, ◌||◌, [], Bool, List, None, Option, Some, ap, append_assoc, drop, false, get_or, is_some, length, map, option_and_then, refl, subst, sym, true, true≢false, ℕ, IsPermutation}
+use Rattle.vt_spec.proofs.Common.{Content, Directory, Entries, IsPermutation-append_left, IsPermutation-append_right, IsPermutation-trans, Node, Regular, Symlink, View, Whiteout, drop_more, entries_in, entry_at, eq_by_cmp, hides, is_some-find, list_any, name_cmp, names_in, renamed_entry, renamed_node, shown_over, then_some, view_of, when}
+use Rattle.vt_spec.specs.Machine.Views.{Shown}
 use Rattle.vt_laws_trees.specs.Layers.Layers.Directories.{shown_in}
 use Rattle.vt_location.specs.Locations.{inode_of}
 use Rattle.vt_location.specs.Numbers.{exchanged}

@@ -1,22 +1,10 @@
 -- The names of merged directories under which these show something: those that pass, and all where there is no whiteout.
-use Rattle.std.proofs.Common.{◌≡◌, ◌∙◌, ◌++◌, ◌∷◌, ◌+◌, ◌<◌, ◌&&◌, ◌||◌, Bor, get_or, length, nat_eq, take, [], Bool, List, None, Option, Some, Vec, ap, false, filter, is_some, map, not, refl, sym, true, true≢false, ℕ}
-use Rattle.std.proofs.lemmas.List.Folds.{list_any-append, list_any_more}
-use Rattle.std.proofs.lemmas.List.Sorted.{list_any-IsPermutation}
-use Rattle.std.proofs.lemmas.Map.Views.{any-filter_same}
-use Rattle.std.specs.Cmp.Lexicographic.{pointwise, texts_ties}
-use Rattle.std.specs.FinMap.Entries.{is_some-find}
-use Rattle.std.specs.List.{list_any}
-use Rattle.std.specs.List.Sorted.{IsPermutation}
-use Rattle.std.specs.Prelude.{if◌then◌else◌}
+use Rattle.std.proofs.Common.{◌≡◌, ◌∙◌, ◌++◌, ◌∷◌, ◌+◌, ◌<◌, ◌&&◌, ◌||◌, Bor, get_or, length, nat_eq, take, [], Bool, List, None, Option, Some, Vec, ap, false, filter, is_some, map, not, refl, sym, true, true≢false, ℕ, IsPermutation, if◌then◌else◌}
+use Rattle.vt_spec.proofs.Common.{any-filter_same, entries_in, entry_at, holds_of, is_kind_in, is_some-find, list_any, list_any-IsPermutation, list_any-append, name_cmp, or_false_left, or_false_right, pointwise, texts_ties, view_of}
+use Rattle.std.proofs.lemmas.List.Folds.{list_any_more}
 use Rattle.indexmap.specs.IndexSet.{insert_key}
 use Rattle.vt_spec.proofs.Nodes.{same_name}
-use Rattle.vt_spec.proofs.Truths.{or_false_left, or_false_right}
 use Rattle.vt_spec.specs.declared.attributes.Kind.TheVariants.{White}
-use Rattle.vt_spec.specs.FileTree.{is_kind_in}
-use Rattle.vt_spec.specs.Lists.{holds_of}
-use Rattle.vt_spec.specs.Machine.Layers.{view_of}
-use Rattle.vt_spec.specs.Tree.{entries_in, name_cmp}
-use Rattle.vt_spec.specs.TreeInvariant.{entry_at}
 use Rattle.vt_laws_trees.specs.Layers.Layers.Directories.{shown_in}
 use Rattle.vt_laws_trees.proofs.layers.layers.ShownFronts.{list_any_of_map}
 use Rattle.vt_location.specs.Locations.{inode_of}

@@ -1,24 +1,15 @@
 -- Names that are sorted, each once, are those that layers show.
-use Rattle.std.proofs.Common.{◌≡◌, ◌∙◌, ◌++◌, ◌∷◌, ◌||◌, [], Bool, List, None, Option, Ordering, Some, T, ap, cond, false, is_some, map, nat_eq, refl, subst, sym, true, true≢false, ℕ}
-use Rattle.std.specs.declared.cmp.Ordering.TheVariants.{Less}
+use Rattle.std.proofs.Common.{◌≡◌, ◌∙◌, ◌++◌, ◌∷◌, ◌||◌, [], Bool, List, None, Option, Ordering, Some, T, ap, cond, false, is_some, map, nat_eq, refl, subst, sym, true, true≢false, ℕ, Less, filter, IsPermutation, IsSorted, is_lt, nat_cmp}
+use Rattle.vt_spec.proofs.Common.{AllByRecursion, Entries, IsTotalOrder, OpenLayer, Shown, T_and, below_all, is_some-find, is_sorted, is_sorted-where_key, list_any, list_any-IsPermutation, name_cmp, names_at, names_shown, pointwise, same_entries, same_name-Equal, same_truth, shown, sorted_head, sorted_tail, texts_ties, view_of}
 use Rattle.std.specs.declared.vec.Vec.{Vec}
-use Rattle.std.specs.Cmp.{IsTotalOrder}
-use Rattle.std.specs.Cmp.Lexicographic.{pointwise, slice_cmp, texts_ties}
+use Rattle.std.specs.Cmp.Lexicographic.{slice_cmp}
 use Rattle.std.proofs.lemmas.Cmp.{nat_list_cmp_total}
 use Rattle.std.proofs.lemmas.List.Kept.{IsStrictlySortedBy-dedup}
-use Rattle.std.proofs.lemmas.List.Sorted.{list_any-IsPermutation}
-use Rattle.std.proofs.lemmas.Map.Keys.{sorted_head, sorted_tail}
 use Rattle.std.proofs.lemmas.Map.Views.{Contains-from_any}
-use Rattle.std.specs.FinMap.Entries.{below_all, is_some-find, is_sorted, is_sorted-where_key, same_entries, where_key}
-use Rattle.std.specs.List.{AllByRecursion, dedup, dedup_from, filter, list_any}
-use Rattle.std.specs.List.Sorted.{IsPermutation, IsSorted, IsStrictlySortedBy}
-use Rattle.std.specs.Ordering.{is_lt, nat_cmp}
-use Rattle.vt_spec.proofs.NodeChanges.{same_name-Equal}
+use Rattle.std.specs.FinMap.Entries.{where_key}
+use Rattle.std.specs.List.{dedup, dedup_from}
+use Rattle.std.specs.List.Sorted.{IsStrictlySortedBy}
 use Rattle.vt_spec.proofs.Nodes.{same_name}
-use Rattle.vt_spec.proofs.Truths.{T_and, same_truth}
-use Rattle.vt_spec.specs.Machine.Layers.{OpenLayer, Shown, names_shown, shown, view_of}
-use Rattle.vt_spec.specs.Machine.Views.{names_at}
-use Rattle.vt_spec.specs.Tree.{Entries, name_cmp}
 use Rattle.vt_laws_trees.specs.Layers.Layers.Directories.{shown_in}
 use Rattle.vt_laws_trees.proofs.layers.directories.Order.{names_sorted}
 use Rattle.vt_laws_trees.proofs.layers.layers.ShownAtPath.{computed}

@@ -1,8 +1,6 @@
 -- Names that are taken one after the other.
-use Rattle.std.proofs.Common.{◌≡◌, ◌∙◌, ◌∷◌, ◌+◌, ◌++◌, [], ap, append_assoc, drop, List, Some, sym, take, ℕ}
-use Rattle.std.proofs.lemmas.List.{drop_more, take_more}
-use Rattle.std.proofs.lemmas.Option.{get_or_from_slice_get, slice_get_within}
-use Rattle.std.specs.Prelude.{slice_get}
+use Rattle.std.proofs.Common.{◌≡◌, ◌∙◌, ◌∷◌, ◌+◌, ◌++◌, [], ap, append_assoc, drop, List, Some, sym, take, ℕ, slice_get}
+use Rattle.vt_spec.proofs.Common.{drop_more, get_or_from_slice_get, slice_get_within, take_more}
 
 module _ (names : List (List ℕ)) (index : ℕ) (name : List ℕ) (is : slice_get names index ≡ Some name) where
   pub drop_named : drop index names ≡ name ∷ drop (index + 1) names

@@ -1,13 +1,7 @@
 -- Whether layers show a name: whether merged directories show something under one that they have.
-use Rattle.std.proofs.Common.{◌≡◌, ◌∙◌, ◌++◌, ◌∷◌, ◌||◌, [], Bool, List, ap, false, flat_map, is_some, not, refl, sym, true, true≢false, ℕ}
-use Rattle.std.proofs.lemmas.List.Folds.{list_any-append}
-use Rattle.std.specs.Cmp.{tied_itself}
-use Rattle.std.specs.Cmp.Lexicographic.{nat_list_cmp_total}
-use Rattle.std.specs.List.{list_any}
-use Rattle.std.specs.Ordering.{is_eq}
+use Rattle.std.proofs.Common.{◌≡◌, ◌∙◌, ◌++◌, ◌∷◌, ◌||◌, [], Bool, List, ap, false, flat_map, is_some, not, refl, sym, true, true≢false, ℕ, is_eq}
+use Rattle.vt_spec.proofs.Common.{OpenLayer, is_empty_list, list_any, list_any-append, names_shown, nat_list_cmp_total, shown, tied_itself}
 use Rattle.vt_spec.proofs.Nodes.{same_name}
-use Rattle.vt_spec.specs.Lists.{is_empty_list}
-use Rattle.vt_spec.specs.Machine.Layers.{OpenLayer, names_shown, shown}
 use Rattle.vt_laws_trees.specs.Layers.Layers.Directories.{shown_in}
 use Rattle.vt_fs.specs.FilesystemsValue.{Filesystems}
 use Rattle.vt_overlay.specs.Merge.LayerValue.{names_had, own_names, placed_views}

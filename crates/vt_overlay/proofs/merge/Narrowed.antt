@@ -1,12 +1,7 @@
 -- Directories that are merged: those of all layers, and those under a name, moved to the front of a list.
-use Rattle.std.proofs.Common.{◌≡◌, ◌∙◌, ◌+◌, ◌++◌, ◌∷◌, ◌<◌, ◌≤◌, [], All, Bool, List, None, Option, Some, ap, append_assoc, arith, drop, false, get_or, length, map, refl, sym, subst, take, true, ℕ}
-use Rattle.std.proofs.lemmas.List.{drop_more, get_or-drop, map-append, take-append-le, take_all}
-use Rattle.std.proofs.lemmas.List.Elements.{All-append, All-cons, All-nil}
-use Rattle.std.proofs.lemmas.Option.{slice_get-get_or}
+use Rattle.std.proofs.Common.{◌≡◌, ◌∙◌, ◌+◌, ◌++◌, ◌∷◌, ◌<◌, ◌≤◌, [], All, Bool, List, None, Option, Some, ap, append_assoc, arith, drop, false, get_or, length, map, refl, sym, subst, take, true, ℕ, get_or-drop, take_all, IfSome, if◌then◌else◌, option_to_list}
+use Rattle.vt_spec.proofs.Common.{All-append, All-cons, All-nil, drop_more, entry_at, map-append, slice_get-get_or, take-append-le, view_of}
 use Rattle.std.specs.List.{refill}
-use Rattle.std.specs.Prelude.{IfSome, if◌then◌else◌, option_to_list}
-use Rattle.vt_spec.specs.Machine.Layers.{view_of}
-use Rattle.vt_spec.specs.TreeInvariant.{entry_at}
 use Rattle.vt_fs.specs.FilesystemsValue.{Filesystems}
 use Rattle.vt_laws_trees.specs.Layers.Layers.Directories.{PlacedLayer, PlacedView, directories_under, directory_over, placed_from, placed_view}
 use Rattle.vt_overlay.specs.Merge.EntryValue.{IsMergedAt}

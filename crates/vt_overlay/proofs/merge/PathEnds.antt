@@ -1,7 +1,6 @@
 -- Paths with one more name, and without their last.
-use Rattle.std.proofs.Common.{◌≡◌, ◌<◌, ◌-◌, ◌++◌, ◌∷◌, [], arith, length, List, refl, Some, suc, zero, ℕ}
-use Rattle.std.specs.Prelude.{slice_get}
-use Rattle.vt_spec.specs.Lists.{without_last}
+use Rattle.std.proofs.Common.{◌≡◌, ◌<◌, ◌-◌, ◌++◌, ◌∷◌, [], arith, length, List, refl, Some, suc, zero, ℕ, slice_get}
+use Rattle.vt_spec.proofs.Common.{without_last}
 
 pub before_end : (names : List (List ℕ)) (name : List ℕ) (i : ℕ) → i < length names
     → slice_get (names ++ name ∷ []) i ≡ slice_get names i

@@ -1,10 +1,6 @@
 -- The tree of a filesystem, as it is lent, and what a merged directory has in it under a name.
-use Rattle.std.proofs.Common.{◌≡◌, ◌∙◌, ◌++◌, ◌∷◌, [], Bool, List, None, Option, Some, ap, false, option_map, refl, sym, true, ℕ}
-use Rattle.std.specs.Prelude.{if◌then◌else◌, option_to_list}
-use Rattle.vt_spec.specs.Machine.Views.{hides}
-use Rattle.vt_spec.specs.Tree.{Node, Tree, is_directory_node}
-use Rattle.vt_spec.specs.TreeInvariant.{entry_at}
-use Rattle.vt_spec.specs.Inodes.{tree_of}
+use Rattle.std.proofs.Common.{◌≡◌, ◌∙◌, ◌++◌, ◌∷◌, [], Bool, List, None, Option, Some, ap, false, option_map, refl, sym, true, ℕ, if◌then◌else◌, option_to_list}
+use Rattle.vt_spec.proofs.Common.{Node, Tree, entry_at, hides, is_directory_node, tree_of}
 use Rattle.vt_location.specs.declared.locations.InodeRef.{InodeRef}
 use Rattle.vt_location.specs.Locations.{inode_of}
 use Rattle.vt_fs.specs.Trees.TreeValue.{TreeValue}

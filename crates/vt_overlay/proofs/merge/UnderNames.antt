@@ -1,13 +1,8 @@
 -- What layers show under a name is what the directories show that are merged under it, in whatever trees.
-use Rattle.std.proofs.Common.{◌≡◌, ◌≢◌, ◌∙◌, ◌+◌, ◌++◌, ◌∷◌, ◌<◌, ◌≤◌, ◌||◌, [], Bool, List, None, Option, Some, ap, append_assoc, drop, false, get_or, length, map, option_and_then, refl, sym, true, ℕ}
-use Rattle.std.proofs.lemmas.List.{append-nil, at_drop_all, drop_more, map-append}
-use Rattle.std.specs.Prelude.{if◌then◌else◌, option_to_list}
+use Rattle.std.proofs.Common.{◌≡◌, ◌≢◌, ◌∙◌, ◌+◌, ◌++◌, ◌∷◌, ◌<◌, ◌≤◌, ◌||◌, [], Bool, List, None, Option, Some, ap, append_assoc, drop, false, get_or, length, map, option_and_then, refl, sym, true, ℕ, append-nil, if◌then◌else◌, option_to_list}
+use Rattle.vt_spec.proofs.Common.{Content, Directory, Node, Regular, Symlink, Tree, Whiteout, at_drop_all, cuts, drop_more, entries_in, entry_at, entry_named, hides, is_directory_node, led, map-append, shown_over, view_of}
 use Rattle.vt_spec.specs.declared.attributes.Attr.{Attr}
-use Rattle.vt_spec.specs.Machine.Layers.{view_of}
-use Rattle.vt_spec.specs.Machine.Views.{Shown, cuts, hides, shown_over}
-use Rattle.vt_spec.specs.Tree.{Content, Node, Tree, entries_in, entry_named, is_directory_node}
-use Rattle.vt_spec.specs.Tree.Content.{Directory, Regular, Symlink, Whiteout}
-use Rattle.vt_spec.specs.TreeInvariant.{entry_at, led}
+use Rattle.vt_spec.specs.Machine.Views.{Shown}
 use Rattle.vt_fs.specs.FilesystemsValue.{Filesystems}
 use Rattle.vt_laws_trees.specs.Layers.Layers.Directories.{PlacedLayer, PlacedView, directories_under, directory_over, placed_view, shown_in}
 use Rattle.vt_overlay.specs.Merge.LayerValue.{cut_by, cut_on, placed_layers, placed_of}

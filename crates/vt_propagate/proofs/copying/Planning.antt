@@ -1,18 +1,7 @@
 -- What is made by the masters that are kept is what is made in the world.
-use Rattle.std.proofs.Common.{◌≡◌, ℕ, Bool, true, false, cond, suc, zero, List, [], ◌∷◌, map, length, nat_eq, Option, None, Some, option_map, flat_map, is_some, refl, sym, ap, ◌∙◌, true≢false, ⊎_elim, subst}
-use Rattle.std.specs.Prelude.{find as seek, filter_map, if◌then◌else◌, not, slice_get, unwrap_or}
-use Rattle.std.specs.List.{cons_option}
-use Rattle.std.proofs.lemmas.Option.{same_Some}
-use Rattle.vt_spec.specs.Lists.{chain, then_some, when}
+use Rattle.std.proofs.Common.{◌≡◌, ℕ, Bool, true, false, cond, suc, zero, List, [], ◌∷◌, map, length, nat_eq, Option, None, Some, option_map, flat_map, is_some, refl, sym, ap, ◌∙◌, true≢false, ⊎_elim, subst, find, filter_map, if◌then◌else◌, not, slice_get, unwrap_or}
+use Rattle.vt_spec.proofs.Common.{Among, Copies, HasLivingGroups, Lives, Location, Mount, Private, Propagation, Shared, Slave, Twig, Unbindable, World, all_groups_made, among-from_filter, among_from_all, chain, chain_ends, chain_goes_on, cons_option, copies_at, copies_from, copy_at, copy_mount_point, copy_number, copy_type, graft_of, group_made, group_of, groups_up, has_master, has_members, has_no_master, image, is_destination, is_member_of, map_twice, mount_at, nearest_image, no_mount, parts_of, receivers_of, same_Some, slave_of_heir, source_of, takes_part, then_some, twig_master, twig_of, when}
 use Rattle.vt_spec.specs.Machine.Attach as meant
-use Rattle.vt_spec.specs.Machine.Attach.{Copies, Twig, all_groups_made, copies_at, copies_from, copy_at, copy_number, copy_mount_point, copy_type, graft_of, group_made, image, is_destination, nearest_image, parts_of, receivers_of, takes_part, twig_master, twig_of}
-use Rattle.vt_spec.specs.Machine.Mounts.{Location, Mount, Propagation, group_of, no_mount, source_of}
-use Rattle.vt_spec.specs.Machine.Mounts.Propagation.{Private, Shared, Slave, Unbindable}
-use Rattle.vt_spec.specs.Machine.Receives.{groups_up, has_members, is_member_of, slave_of_heir}
-use Rattle.vt_spec.specs.Machine.World.{World, mount_at}
-use Rattle.vt_spec.specs.Machine.Invariants.{HasLivingGroups, Lives}
-use Rattle.vt_spec.specs.Machine.Invariants.Lives.{has_master, has_no_master}
-use Rattle.vt_spec.proofs.Lists.{Among, among-from_filter, among_from_all, chain_ends, chain_goes_on, map_twice}
 use Rattle.vt_group.specs.Grouping.{Grouping, master_in}
 use Rattle.vt_location.specs.Locations.{location_of}
 use Rattle.vt_location.specs.MountValue.{mount_of}
@@ -130,7 +119,7 @@ module _ (world : World ℕ) (kept : List MountEntry) (grouping : Grouping) (see
         → nearest_image nat_eq (as_kept kept grouping) new parts destination one (Some group)
         ≡ nearest_image nat_eq world new parts destination one (Some group)
     nearest_alike group life = ap (λ groups.
-        option_map (image nat_eq new destination one) (seek (has_members nat_eq parts) groups)) (up_alike group life)
+        option_map (image nat_eq new destination one) (find (has_members nat_eq parts) groups)) (up_alike group life)
 
     type_alike : (kind : Propagation ℕ) → ((group : ℕ) → source_of kind ≡ Some group → Lives members world.master group)
         → copy_type nat_eq (as_kept kept grouping) new parts destination one kind

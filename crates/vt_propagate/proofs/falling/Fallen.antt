@@ -1,15 +1,6 @@
 -- The mounts that stay where others are detached, by a list of their new mount points.
-use Rattle.std.proofs.Common.{◌≡◌, ℕ, Bool, true, false, cond, List, [], ◌∷◌, map, nat_eq, Option, None, Some, option_map, is_some, refl, sym, ap, subst, ◌∙◌, inl, inr, ⊎_elim, eq-eqb, true≢false, length}
-use Rattle.std.proofs.lemmas.Bool.{eqb-true}
-use Rattle.std.proofs.lemmas.Option.{same_Some}
-use Rattle.std.specs.Prelude.{All, if◌then◌else◌, unwrap_or}
-use Rattle.std.specs.Map.{lookup}
-use Rattle.vt_spec.specs.Lists.{holds_of, or_else, then_some}
-use Rattle.vt_spec.specs.Machine.Detach.{after_going, is_going, mount_point_left, mount_point_of_parent}
-use Rattle.vt_spec.specs.Machine.Mounts.{Location, Mount, children, detached, mount_in, no_mount, stands_on}
-use Rattle.vt_spec.specs.Machine.Receives.{regrouped}
-use Rattle.vt_spec.specs.Machine.World.{World, with_mounts}
-use Rattle.vt_spec.proofs.Lists.{Among, all_from_among, among-filter, among-map, among_numbers, among-from_filter_map, among-filter_map, among-from_flat_map, among-flat_map}
+use Rattle.std.proofs.Common.{◌≡◌, ℕ, Bool, true, false, cond, List, [], ◌∷◌, map, nat_eq, Option, None, Some, option_map, is_some, refl, sym, ap, subst, ◌∙◌, inl, inr, ⊎_elim, eq-eqb, true≢false, length, eqb-true, All, if◌then◌else◌, unwrap_or}
+use Rattle.vt_spec.proofs.Common.{Among, Location, Mount, World, after_going, all_from_among, among-filter, among-filter_map, among-flat_map, among-from_filter_map, among-from_flat_map, among-map, among_numbers, children, detached, holds_of, is_going, lookup, mount_in, mount_point_left, mount_point_of_parent, no_mount, or_else, regrouped, same_Some, stands_on, then_some, with_mounts}
 use Rattle.vt_mount.proofs.PointLemmas.{end-here}
 use Rattle.vt_mount.specs.MountsValue.{are_ascending}
 use Rattle.vt_propagate.specs.Falling.{FallsTo, LeavesBy, all_points_left, left_by, moved_by, of_mounts, point_left, point_left_of, points_left_on}

@@ -1,12 +1,6 @@
 -- A set of the mounts that go.
-use Rattle.std.proofs.Common.{◌≡◌, ℕ, Bool, true, false, cond, List, [], ◌∷◌, ◌+◌, ◌<◌, ◌||◌, ◌++◌, flat_map, map, nat_eq, refl, sym, ap, ◌∙◌, get_or, length, take}
-use Rattle.std.specs.List.{list_any}
-use Rattle.std.specs.Prelude.{filter_map}
-use Rattle.std.proofs.lemmas.List.{map-append, take_more}
-use Rattle.std.proofs.lemmas.List.Folds.{list_any-append}
-use Rattle.vt_spec.specs.Machine.Mounts.{Mount, stands_on}
-use Rattle.vt_spec.proofs.Lists.{filter_none}
-use Rattle.vt_spec.proofs.Truths.{or_false_left, or_false_right}
+use Rattle.std.proofs.Common.{◌≡◌, ℕ, Bool, true, false, cond, List, [], ◌∷◌, ◌+◌, ◌<◌, ◌||◌, ◌++◌, flat_map, map, nat_eq, refl, sym, ap, ◌∙◌, get_or, length, take, filter_map}
+use Rattle.vt_spec.proofs.Common.{Mount, filter_none, list_any, list_any-append, map-append, or_false_left, or_false_right, stands_on, take_more}
 use Rattle.vt_location.specs.declared.numbers.MountId.{MountId}
 use Rattle.vt_location.specs.Numbers.{counted}
 use Rattle.vt_propagate.specs.Falling.{point_left_of, points_left_on}

@@ -1,18 +1,6 @@
 -- Namespaces that end: their mounts are detached one after the other, with a sweep after each, or all at once.
-use Rattle.std.proofs.Common.{◌≡◌, refl, sym, ap, subst, ◌∙◌, ℕ, zero, suc, nat_eq, Bool, true, false, true≢false, not, ◌&&◌, ◌||◌, List, [], ◌∷◌, ◌++◌, filter, flat_map, map, Option, None, Some, is_some, option_map, length}
-use Rattle.std.specs.List.{list_any}
-use Rattle.std.proofs.lemmas.Bool.{or_parts}
-use Rattle.std.specs.Prelude.{if◌then◌else◌}
-use Rattle.vt_spec.specs.Lists.{chain, holds_of, is_among, last_or}
-use Rattle.vt_spec.specs.Machine.Detach.{after_going, has_child, taken_away}
-use Rattle.vt_spec.specs.Machine.Invariants.{MountInvariants, is_nowhere_or_attached, is_private}
-use Rattle.vt_spec.specs.Machine.Mounts.{Location, Mount, detached, stands_on, tree_from}
-use Rattle.vt_spec.specs.Machine.Namespaces.{has_tasks}
-use Rattle.vt_spec.specs.Machine.Receives.{lost_a_group, regrouped, regrouped_by}
-use Rattle.vt_spec.specs.Machine.Settled.{is_located, mount_lives, settled}
-use Rattle.vt_spec.specs.Machine.World.{Namespace, World, mount_at, mount_numbered, with_mounts}
-use Rattle.vt_spec.proofs.Lists.{among_from_list_all, filter_none}
-use Rattle.vt_spec.proofs.Worlds.{filesystems-taken_away}
+use Rattle.std.proofs.Common.{◌≡◌, refl, sym, ap, subst, ◌∙◌, ℕ, zero, suc, nat_eq, Bool, true, false, true≢false, not, ◌&&◌, ◌||◌, List, [], ◌∷◌, ◌++◌, filter, flat_map, map, Option, None, Some, is_some, option_map, length, if◌then◌else◌}
+use Rattle.vt_spec.proofs.Common.{Location, Mount, MountInvariants, Namespace, World, after_going, among_from_list_all, chain, detached, filesystems-taken_away, filter_none, has_child, has_tasks, holds_of, is_among, is_located, is_nowhere_or_attached, is_private, last_or, list_any, lost_a_group, mount_at, mount_lives, mount_numbered, or_parts, regrouped, regrouped_by, settled, stands_on, taken_away, tree_from, with_mounts}
 use Rattle.vt_laws_mounts.specs.LettingGo.InUse.{HasTrees, UppersArePlain}
 use Rattle.vt_laws_mounts.specs.LettingGo.Leaving.{with_sweeps}
 use Rattle.vt_laws_mounts.specs.LettingGo.Mounting.{ended_mounts}

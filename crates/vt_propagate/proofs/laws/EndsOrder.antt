@@ -1,13 +1,6 @@
 -- Of the mounts of namespaces that end, the deepest first: nothing stands on a mount any more when its turn comes.
 use Rattle.std.proofs.Common.{◌≡◌, refl, sym, ap, subst, ◌∙◌, ◌≤◌, ◌⊎◌, arith, ℕ, suc, nat_eq, Bool, true, false, true≢false, eqb-true, is_some, List, [], ◌∷◌, filter, Option, None, Some, inl, inr, ⊎_elim}
-use Rattle.std.proofs.lemmas.Bool.{false_from_ne_true}
-use Rattle.vt_spec.specs.Lists.{holds_of, is_among}
-use Rattle.vt_spec.specs.Machine.Detach.{deepest_first, depth_of, has_child, is_going}
-use Rattle.vt_spec.specs.Machine.Invariants.{MountInvariants}
-use Rattle.vt_spec.specs.Machine.Mounts.{Location, Mount, stands_on}
-use Rattle.vt_spec.specs.Machine.Namespaces.{is_in_ended}
-use Rattle.vt_spec.specs.Machine.World.{World, mount_numbered}
-use Rattle.vt_spec.proofs.Lists.{Among, among-from_filter, among-from_map, among-map, among_cases, among_numbers, head_among, is_among_numbers, none_from_among}
+use Rattle.vt_spec.proofs.Common.{Among, Location, Mount, MountInvariants, World, among-from_filter, among-from_map, among-map, among_cases, among_numbers, deepest_first, depth_of, false_from_ne_true, has_child, head_among, holds_of, is_among, is_among_numbers, is_going, is_in_ended, mount_numbered, none_from_among, stands_on}
 use Rattle.vt_laws_mounts.specs.LettingGo.Mounting.{ended_mounts}
 use Rattle.vt_laws_mounts.specs.Mounts.Attaching.{numbers_of}
 use Rattle.vt_laws_mounts.proofs.ends.Ending.{none_stands}

@@ -1,18 +1,6 @@
 -- Tasks that end one after the other, the last ones of their namespaces too, or all at once.
 use Rattle.std.proofs.Common.{◌≡◌, refl, sym, ap, subst, ◌∙◌, ⊎_elim, ℕ, nat_eq, Bool, true, false, true≢false, not, ◌&&◌, ◌||◌, List, [], ◌∷◌, ◌++◌, filter, map, Option, None, Some}
-use Rattle.std.specs.List.{list_any}
-use Rattle.std.proofs.lemmas.List.Folds.{list_any-append}
-use Rattle.vt_spec.specs.Language.Calls.{TaskName, same_name}
-use Rattle.vt_spec.specs.Lists.{folded, holds_of, is_among}
-use Rattle.vt_spec.specs.Machine.Detach.{after_going, taken_away}
-use Rattle.vt_spec.specs.Machine.Invariants.{MountInvariants, Stands}
-use Rattle.vt_spec.specs.Machine.Mounts.{Mount}
-use Rattle.vt_spec.specs.Machine.Namespaces.{has_tasks, is_in_ended, namespaces_ended}
-use Rattle.vt_spec.specs.Machine.Receives.{lost_a_group, regrouped_by}
-use Rattle.vt_spec.specs.Machine.Settled.{settled, without_dead_groups}
-use Rattle.vt_spec.specs.Machine.World.{Namespace, Task, World, mount_numbered, with_mounts, without_task}
-use Rattle.vt_spec.proofs.Lists.{Among, all_from_among, among-filter, among-from_filter, among-from_map, among-map, among_from_all, among_numbers, is_among_numbers, none_among, none_from_among}
-use Rattle.vt_spec.proofs.Worlds.{found_or_none, stands_alike, tasks-taken_away}
+use Rattle.vt_spec.proofs.Common.{Among, Mount, MountInvariants, Namespace, Stands, Task, TaskName, World, after_going, all_from_among, among-filter, among-from_filter, among-from_map, among-map, among_from_all, among_numbers, folded, found_or_none, has_tasks, holds_of, is_among, is_among_numbers, is_in_ended, list_any, list_any-append, lost_a_group, mount_numbered, namespaces_ended, none_among, none_from_among, regrouped_by, same_name, settled, stands_alike, taken_away, tasks-taken_away, with_mounts, without_dead_groups, without_task}
 use Rattle.vt_laws_mounts.specs.LettingGo.Mounting.{ended_mounts}
 use Rattle.vt_laws_mounts.specs.LettingGo.Several.{KeepsMounts, ended_task}
 use Rattle.vt_laws_mounts.proofs.letting_go.Lists.{any-filter, filter_twice}

@@ -1,17 +1,6 @@
 -- The events of a lazy unmount in order: the levels of the tree, turned round.
-use Rattle.std.proofs.Common.{◌≡◌, ◌<◌, ◌≤◌, refl, sym, ap, subst, ◌∙◌, arith, ℕ, zero, suc, nat_eq, nat_lt, eq-eqb, eqb-true, ne_eqb, Bool, true, false, true≢false, cond, List, [], ◌∷◌, ◌++◌, filter, flat_map, length, reverse, Option, None, Some, inl, inr, ⊎_elim}
-use Rattle.std.proofs.lemmas.Bool.{ltb-true}
-use Rattle.std.proofs.lemmas.Grind.{flat_map-append}
-use Rattle.std.proofs.lemmas.List.{append-nil, append_assoc, map-append, reverse-append}
-use Rattle.std.proofs.lemmas.List.Elements.{filter-append}
-use Rattle.std.specs.Prelude.{⊤}
-use Rattle.vt_spec.specs.Lists.{folded, holds_of}
-use Rattle.vt_spec.specs.Machine.Detach.{depth_of, insert_deepest}
-use Rattle.vt_spec.specs.Machine.Invariants.{MountInvariants}
-use Rattle.vt_spec.specs.Machine.Mounts.{Location, Mount, children, mount_in, mount_tree, stands_on, tree_from}
-use Rattle.vt_spec.specs.Machine.World.{World, mount_numbered}
-use Rattle.vt_spec.proofs.Lists.{Among, among-append, among-from_filter, among-from_flat_map, among-from_map, filter_here, filter_none, none_from_among}
-use Rattle.vt_spec.proofs.Worlds.{tree_among}
+use Rattle.std.proofs.Common.{◌≡◌, ◌<◌, ◌≤◌, refl, sym, ap, subst, ◌∙◌, arith, ℕ, zero, suc, nat_eq, nat_lt, eq-eqb, eqb-true, ne_eqb, Bool, true, false, true≢false, cond, List, [], ◌∷◌, ◌++◌, filter, flat_map, length, reverse, Option, None, Some, inl, inr, ⊎_elim, ltb-true, append-nil, append_assoc}
+use Rattle.vt_spec.proofs.Common.{Among, Location, Mount, MountInvariants, World, among-append, among-from_filter, among-from_flat_map, among-from_map, children, depth_of, filter-append, filter_here, filter_none, flat_map-append, folded, holds_of, insert_deepest, map-append, mount_in, mount_numbered, mount_tree, none_from_among, reverse-append, stands_on, tree_among, tree_from, ⊤}
 use Rattle.vt_location.specs.declared.numbers.MountId.{MountId}
 use Rattle.vt_location.specs.Numbers.{counted}
 use Rattle.vt_laws_mounts.proofs.ends.EndingOrder.{AreDeepestFirst, among_inserted, in_order, is_itself, taken_in_turn}

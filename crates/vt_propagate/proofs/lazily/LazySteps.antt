@@ -1,16 +1,6 @@
 -- The events of a lazy unmount in turn, each seen through the mounts that those before it detached.
-use Rattle.std.proofs.Common.{◌≡◌, ◌<◌, ◌≤◌, ◌+◌, refl, sym, ap, subst, ◌∙◌, ℕ, nat_eq, Bool, true, false, true≢false, cond, ◌||◌, ◌&&◌, not, List, [], ◌∷◌, ◌++◌, drop, filter, get_or, length, Some, is_some, option_map, ⊎_elim}
-use Rattle.std.proofs.lemmas.List.{append-nil, append_assoc, drop_all, drop_more}
-use Rattle.std.proofs.lemmas.List.Folds.{list_any-append}
-use Rattle.std.proofs.lemmas.Option.{same_Some}
-use Rattle.std.specs.Prelude.{if◌then◌else◌}
-use Rattle.vt_spec.specs.Machine.Detach.{after_going, going, is_going, may_go, mount_point_left, taken_away, unmounted, unmounted_if_there}
-use Rattle.vt_spec.specs.Machine.Invariants.{MountInvariants}
-use Rattle.vt_spec.specs.Machine.Mounts.{Location, Mount, children, detached, mount_in, root_of, stands_on}
-use Rattle.vt_spec.specs.Machine.Receives.{has_members, is_member_of, receivers}
-use Rattle.vt_spec.specs.Machine.Settled.{without_dead_groups}
-use Rattle.vt_spec.specs.Machine.World.{World, mount_numbered}
-use Rattle.vt_spec.proofs.Lists.{among-filter, among-from_map, any_among, any_from_among, none_among}
+use Rattle.std.proofs.Common.{◌≡◌, ◌<◌, ◌≤◌, ◌+◌, refl, sym, ap, subst, ◌∙◌, ℕ, nat_eq, Bool, true, false, true≢false, cond, ◌||◌, ◌&&◌, not, List, [], ◌∷◌, ◌++◌, drop, filter, get_or, length, Some, is_some, option_map, ⊎_elim, append-nil, append_assoc, if◌then◌else◌}
+use Rattle.vt_spec.proofs.Common.{Location, Mount, MountInvariants, World, after_going, among-filter, among-from_map, any_among, any_from_among, children, detached, drop_all, drop_more, going, has_members, is_going, is_member_of, list_any-append, may_go, mount_in, mount_numbered, mount_point_left, none_among, receivers, root_of, same_Some, stands_on, taken_away, unmounted, unmounted_if_there, without_dead_groups}
 use Rattle.vt_location.specs.declared.numbers.MountId.{MountId}
 use Rattle.vt_location.specs.Numbers.{counted}
 use Rattle.vt_laws_mounts.proofs.ends.EndingLazy.{IsUnderWay, begun, childless, next}

@@ -1,18 +1,7 @@
 -- Mounts as earlier events left them, seen through those that are gone: which mounts the next event detaches.
-use Rattle.std.proofs.Common.{◌≡◌, refl, sym, ap, subst, ◌∙◌, ℕ, nat_eq, eq-eqb, eqb-true, Bool, true, false, true≢false, cond, ◌||◌, not, List, [], ◌∷◌, filter, Option, None, Some, is_some, option_map, inl, inr, ⊎_elim}
-use Rattle.std.proofs.lemmas.Bool.{false_from_ne_true, or_parts}
-use Rattle.std.proofs.lemmas.Option.{same_Some}
-use Rattle.std.specs.List.{cons_option}
-use Rattle.std.specs.Prelude.{filter_map, find, if◌then◌else◌, unwrap_or}
-use Rattle.vt_spec.specs.Lists.{any_pair, holds_of, then_some, when}
-use Rattle.vt_spec.specs.Machine.Detach.{after_going, covers_root, going, going_at, going_from, goes_at, is_going, may_go, mount_point_left, only_cover, taken_away}
-use Rattle.vt_spec.specs.Machine.Invariants.{MountInvariants, share_a_mount_point}
-use Rattle.vt_spec.specs.Machine.Mounts.{Location, Mount, child_at, children, detached, group_of, is_shared, mount_in, no_mount, root_of, stands_at, stands_on}
-use Rattle.vt_spec.specs.Machine.Receives.{has_members, is_member_of, receivers}
-use Rattle.vt_spec.specs.Machine.World.{World, mount_at, mount_numbered}
-use Rattle.vt_spec.proofs.Lists.{Among, among-filter, among-from_filter, among-map, among_from_list_all, any_from_among, list_all_from_among, none_among, pair-filter}
-use Rattle.vt_spec.proofs.Truths.{same_truth}
-use Rattle.vt_spec.proofs.Worlds.{found_or_none}
+use Rattle.std.proofs.Common.{◌≡◌, refl, sym, ap, subst, ◌∙◌, ℕ, nat_eq, eq-eqb, eqb-true, Bool, true, false, true≢false, cond, ◌||◌, not, List, [], ◌∷◌, filter, Option, None, Some, is_some, option_map, inl, inr, ⊎_elim, filter_map, find, if◌then◌else◌, unwrap_or}
+use Rattle.vt_spec.proofs.Common.{Among, Location, Mount, MountInvariants, World, after_going, among-filter, among-from_filter, among-map, among_from_list_all, any_from_among, any_pair, child_at, children, cons_option, detached, false_from_ne_true, found_or_none, goes_at, going, going_at, going_from, group_of, has_members, holds_of, is_going, is_member_of, is_shared, list_all_from_among, may_go, mount_at, mount_in, mount_numbered, mount_point_left, no_mount, none_among, only_cover, or_parts, pair-filter, receivers, root_of, same_Some, same_truth, share_a_mount_point, stands_at, stands_on, taken_away, then_some, when}
+use Rattle.vt_spec.specs.Machine.Detach.{covers_root}
 use Rattle.vt_laws_mounts.specs.Mounts.Unmounting.{KeepsAllButMountPointAndType}
 use Rattle.vt_laws_mounts.specs.Mounts.Unmounting.FallsTo.{rests}
 use Rattle.vt_laws_mounts.proofs.mounts.MountsFound.{found_in, number_found, placed_among}

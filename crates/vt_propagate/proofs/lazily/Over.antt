@@ -1,12 +1,6 @@
 -- What stands over a place, seen through mounts that are gone.
-use Rattle.std.proofs.Common.{◌≡◌, refl, sym, ap, subst, ◌∙◌, arith, ℕ, zero, suc, ◌+◌, ◌<◌, ◌≤◌, nat_eq, Bool, true, false, true≢false, List, length, Option, None, Some, is_some}
-use Rattle.std.proofs.lemmas.Option.{same_Some}
-use Rattle.std.specs.Prelude.{if◌then◌else◌}
-use Rattle.vt_spec.specs.Lists.{then_some}
-use Rattle.vt_spec.specs.Machine.Detach.{is_going}
-use Rattle.vt_spec.specs.Machine.Invariants.{MountInvariants}
-use Rattle.vt_spec.specs.Machine.Mounts.{Location, Mount, child_at, root_of, stands_at}
-use Rattle.vt_spec.specs.Machine.World.{World, mount_numbered}
+use Rattle.std.proofs.Common.{◌≡◌, refl, sym, ap, subst, ◌∙◌, arith, ℕ, zero, suc, ◌+◌, ◌<◌, ◌≤◌, nat_eq, Bool, true, false, true≢false, List, length, Option, None, Some, is_some, if◌then◌else◌}
+use Rattle.vt_spec.proofs.Common.{Location, Mount, MountInvariants, World, child_at, is_going, mount_numbered, root_of, same_Some, stands_at, then_some}
 use Rattle.vt_laws_mounts.specs.Mounts.Unmounting.{FallsTo}
 use Rattle.vt_laws_mounts.specs.Mounts.Unmounting.FallsTo.{falls}
 use Rattle.vt_laws_mounts.proofs.mounts.MountsFound.{found_in, number_found, placed_among}

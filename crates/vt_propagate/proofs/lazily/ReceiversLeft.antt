@@ -1,16 +1,6 @@
 -- Who receives from a group once mounts are gone: those that did before, but for these.
-use Rattle.std.proofs.Common.{◌≡◌, refl, sym, ap, subst, ◌∙◌, arith, ℕ, zero, suc, nat_eq, eq-eqb, ne_eqb, option_map, Bool, true, false, true≢false, ◌||◌, ◌&&◌, not, List, [], ◌∷◌, cond, filter, map, length, Option, None, Some, is_some, inl, inr}
-use Rattle.std.proofs.lemmas.List.{length-map}
-use Rattle.std.specs.Prelude.{if◌then◌else◌}
-use Rattle.vt_spec.specs.Lists.{chain, holds_of, is_among, last_or}
-use Rattle.vt_spec.specs.Machine.Detach.{after_going, is_going, mount_point_left, taken_away}
-use Rattle.vt_spec.specs.Machine.Invariants.{HasLivingGroups, Lives}
-use Rattle.vt_spec.specs.Machine.Invariants.Lives.{has_master, has_no_master}
-use Rattle.vt_spec.specs.Machine.Mounts.{Mount, Propagation, detached, group_of, source_of}
-use Rattle.vt_spec.specs.Machine.Mounts.Propagation.{Private, Shared, Slave, Unbindable}
-use Rattle.vt_spec.specs.Machine.Receives.{groups_up, has_members, heir, inherited, inheriting, is_member_of, receivers, receives, slave_of_heir}
-use Rattle.vt_spec.specs.Machine.World.{World}
-use Rattle.vt_spec.proofs.Lists.{Among, among-map, among_from_all, any_from_among, chain_ends, chain_goes_on, last_of_chain, map_twice}
+use Rattle.std.proofs.Common.{◌≡◌, refl, sym, ap, subst, ◌∙◌, arith, ℕ, zero, suc, nat_eq, eq-eqb, ne_eqb, option_map, Bool, true, false, true≢false, ◌||◌, ◌&&◌, not, List, [], ◌∷◌, cond, filter, map, length, Option, None, Some, is_some, inl, inr, if◌then◌else◌}
+use Rattle.vt_spec.proofs.Common.{Among, HasLivingGroups, Lives, Mount, Private, Propagation, Shared, Slave, Unbindable, World, after_going, among-map, among_from_all, any_from_among, chain, chain_ends, chain_goes_on, detached, group_of, groups_up, has_master, has_members, has_no_master, heir, holds_of, inherited, inheriting, is_among, is_going, is_member_of, last_of_chain, last_or, length-map, map_twice, mount_point_left, receivers, receives, slave_of_heir, source_of, taken_away}
 use Rattle.vt_group.proofs.Heirs.{heir_above, heir_itself, master_inherited}
 use Rattle.vt_group.proofs.Living.{group_lives}
 use Rattle.vt_group.proofs.Receiving.{Ends, chain_same, living_ends}

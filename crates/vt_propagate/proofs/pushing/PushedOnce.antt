@@ -1,17 +1,9 @@
 -- The mounts that move onto copied trees are there, and each moves once.
-use Rattle.std.proofs.Common.{◌≡◌, refl, sym, ap, subst, ◌∙◌, ⊎_elim, inl, inr, true≢false, ℕ, nat_eq, eq-eqb, Bool, true, false, ◌||◌, List, [], ◌∷◌, map, take, drop, Option, None, Some, option_map}
-use Rattle.std.specs.Prelude.{if◌then◌else◌}
-use Rattle.std.specs.List.{cons_option, list_any}
-use Rattle.std.proofs.lemmas.Bool.{and_parts, eqb-true, ne_eqb, or_parts}
-use Rattle.std.proofs.lemmas.Option.{same_Some}
-use Rattle.vt_spec.specs.Lists.{any_pair, holds_of, is_among, then_some}
-use Rattle.vt_spec.specs.Machine.Attach.{top_of_copies}
-use Rattle.vt_spec.specs.Machine.Mounts.{Location, Mount, child_at, same_location, stands_at}
-use Rattle.vt_spec.proofs.Lists.{Among, among-map, is_among_numbers, list_all_from_among, none_among, none_from_among}
+use Rattle.std.proofs.Common.{◌≡◌, refl, sym, ap, subst, ◌∙◌, ⊎_elim, inl, inr, true≢false, ℕ, nat_eq, eq-eqb, Bool, true, false, ◌||◌, List, [], ◌∷◌, map, take, drop, Option, None, Some, option_map, if◌then◌else◌, eqb-true, ne_eqb}
+use Rattle.vt_spec.proofs.Common.{Among, Location, Mount, among-map, and_parts, any_pair, child_at, cons_option, holds_of, is_among, is_among_numbers, list_all_from_among, list_any, none_among, none_from_among, none_is_some, or_parts, same_Some, same_location, stands_at, then_some, top_of_copies}
 use Rattle.vt_mount.specs.MountsValue.{are_ascending}
 use Rattle.vt_propagate.specs.Pushing.{MovesOnce, pushed_at, pushes_from, stander}
 use Rattle.vt_propagate.proofs.Found.{numbered, numbered_among}
-use Rattle.vt_spec.proofs.Options.{none_is_some}
 use Rattle.vt_laws_mounts.proofs.letting_go.Lists.{found_in}
 use Rattle.vt_laws_mounts.specs.Mounts.Attaching.{OneNumberAMount}
 

@@ -1,13 +1,6 @@
 -- What stands where once mounts are gone, as code finds it out.
-use Rattle.std.proofs.Common.{◌≡◌, ◌<◌, ◌≤◌, ◌+◌, refl, sym, ap, ◌∙◌, ℕ, suc, nat_eq, Bool, true, false, true≢false, ◌&&◌, List, [], ◌∷◌, drop, get_or, length, Option, None, Some, is_some, option_map, inl, inr}
-use Rattle.std.proofs.lemmas.Option.{same_Some}
-use Rattle.std.proofs.lemmas.List.{drop_all, drop_more}
-use Rattle.std.specs.List.{list_all}
-use Rattle.std.specs.Prelude.{if◌then◌else◌}
-use Rattle.vt_spec.specs.Lists.{holds_of, then_some}
-use Rattle.vt_spec.specs.Machine.Detach.{is_going}
-use Rattle.vt_spec.specs.Machine.Mounts.{Location, Mount, child_at, children, root_of, stands_at, stands_on}
-use Rattle.vt_spec.proofs.Lists.{Among, among-from_filter}
+use Rattle.std.proofs.Common.{◌≡◌, ◌<◌, ◌≤◌, ◌+◌, refl, sym, ap, ◌∙◌, ℕ, suc, nat_eq, Bool, true, false, true≢false, ◌&&◌, List, [], ◌∷◌, drop, get_or, length, Option, None, Some, is_some, option_map, inl, inr, if◌then◌else◌}
+use Rattle.vt_spec.proofs.Common.{Among, Location, Mount, among-from_filter, child_at, children, drop_all, drop_more, holds_of, is_going, list_all, root_of, same_Some, stands_at, stands_on, then_some}
 use Rattle.vt_location.specs.declared.numbers.MountId.{MountId}
 use Rattle.vt_location.specs.Numbers.{counted}
 use Rattle.vt_mount.specs.MountsValue.{are_ascending}

@@ -1,7 +1,6 @@
 -- What is shown at two paths was born at two places, so it has two numbers.
-use Rattle.std.proofs.Common.{Bool, List, Some, [], ap, arith, false, length, refl, subst, sym, true, true≢false, ℕ, ◌++◌, ◌∙◌, ◌∷◌, ◌≡◌, ◌≤◌}
-use Rattle.std.proofs.lemmas.Option.{same_Some, slice_get_within}
-use Rattle.std.specs.Prelude.{if◌then◌else◌}
+use Rattle.std.proofs.Common.{Bool, List, Some, [], ap, arith, false, length, refl, subst, sym, true, true≢false, ℕ, ◌++◌, ◌∙◌, ◌∷◌, ◌≡◌, ◌≤◌, if◌then◌else◌}
+use Rattle.vt_spec.proofs.Common.{IsTree, entries_in, is_root_path, same_Some, slice_get_within, without_last}
 use Rattle.vt_fs.specs.FilesystemsValue.{Filesystems}
 use Rattle.vt_laws_trees.proofs.layers.layers.ShownPaths.{one_path}
 use Rattle.vt_laws_trees.proofs.layers.layers.UpperLine.{has_entries}
@@ -15,10 +14,6 @@ use Rattle.vt_overlay.proofs.BirthsFound.{Birthplace, IsBorn, has_last, in_slot,
 use Rattle.vt_overlay.proofs.BornNamed.{IsNamed, above, files, is_named, number, object, start}
 use Rattle.vt_overlay.proofs.TreeFound.{IsAt}
 use Rattle.vt_overlay.specs.MergedTree.{AreLayers, OverlayValue, node_born, rank_at, slot_at}
-use Rattle.vt_spec.specs.Lists.{without_last}
-use Rattle.vt_spec.specs.Machine.Merging.{is_root_path}
-use Rattle.vt_spec.specs.Tree.{entries_in}
-use Rattle.vt_spec.specs.TreeInvariant.{IsTree}
 
 root_is : (path : List (List ℕ)) → is_root_path path ≡ true → path ≡ []
 root_is [] e = refl

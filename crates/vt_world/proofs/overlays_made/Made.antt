@@ -1,7 +1,6 @@
 -- The overlay that is made is the one that its layers show.
-use Rattle.std.proofs.Common.{List, None, Option, Some, ap, arith, map, nat_eq, option_map, refl, slice_get, subst, sym, unwrap_or, ⊎_elim, ℕ, ◌∙◌, ◌≡◌, ◌≢◌, false}
-use Rattle.std.specs.Prelude.{get_or}
-use Rattle.std.proofs.lemmas.Option.{same_Some}
+use Rattle.std.proofs.Common.{List, None, Option, Some, ap, arith, map, nat_eq, option_map, refl, slice_get, subst, sym, unwrap_or, ⊎_elim, ℕ, ◌∙◌, ◌≡◌, ◌≢◌, false, get_or}
+use Rattle.vt_spec.proofs.Common.{Filesystem, Fresh, HasName, IsWorld, ListsNumbers, Merged, MergedInode, OpenLayer, Overlay, Real, World, evens, evens-distinct, filesystem_numbered, inode_count, inode_of, is_one_inode, led, merged_objects, none_is_some, odds, odds-distinct, reached_named, real_object, real_of, same_Some, shown}
 use Rattle.vt_fs.specs.FilesystemsValue.{Filesystems}
 use Rattle.vt_laws_trees.proofs.layers.directories.Fit.{new_overlay_has_own_parents, new_overlay_is_tree, new_overlay_lists_numbers}
 use Rattle.vt_laws_trees.proofs.layers.layers.ShownDirectories.{AreOpen}
@@ -21,16 +20,6 @@ use Rattle.vt_laws_trees.specs.Overlays.TreesSeen.{real_seen, tree_seen}
 use Rattle.vt_laws_trees.proofs.trees.TreesOfWorlds.{numbered_anyhow}
 use Rattle.vt_overlay.specs.Merge.LayerValue.{layers_of}
 use Rattle.vt_overlay.specs.MergedTree.{OverlayValue, layer_seen, longest, merged_tree, overlay_seen, real_number}
-use Rattle.vt_spec.proofs.FreshNumbers.{evens-distinct, odds-distinct}
-use Rattle.vt_spec.proofs.Options.{none_is_some}
-use Rattle.vt_spec.proofs.Trees.{reached_named}
-use Rattle.vt_spec.specs.Lists.{Fresh, evens, odds}
-use Rattle.vt_spec.specs.Machine.Invariants.{IsWorld, ListsNumbers}
-use Rattle.vt_spec.specs.Machine.Layers.{OpenLayer, shown}
-use Rattle.vt_spec.specs.Machine.Merging.{Merged, MergedInode, inode_of, is_one_inode, merged_objects, real_object, real_of}
-use Rattle.vt_spec.specs.Machine.NewMounts.{inode_count}
-use Rattle.vt_spec.specs.Machine.World.{Filesystem, Overlay, Real, World, filesystem_numbered}
-use Rattle.vt_spec.specs.TreeInvariant.{HasName, led}
 
 module _ (world : World ℕ) (trees : Filesystems) (overlay : OverlayValue) (is : IsWorld nat_eq world)
     (layered : AreLayers world (overlay_seen overlay)) (shows : ShowsLayers world trees overlay)

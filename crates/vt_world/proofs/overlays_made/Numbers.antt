@@ -1,8 +1,6 @@
 -- The numbers beside the tree that is made are those beside the one that the layers show.
-use Rattle.std.proofs.Common.{Bool, List, None, Option, Some, [], ap, cond, inl, inr, length, ne_eqb, false, filter, is_some, map, nat_eq, not, option_map, refl, sym, true, ℕ, ◌||◌, ◌∙◌, ◌∷◌, ◌≡◌, ◌≢◌, ◌≤◌}
-use Rattle.std.proofs.lemmas.Option.{same_Some}
-use Rattle.std.specs.List.{list_any}
-use Rattle.std.specs.List.Sorted.{IsPermutation}
+use Rattle.std.proofs.Common.{Bool, List, None, Option, Some, [], ap, cond, inl, inr, length, ne_eqb, false, filter, is_some, map, nat_eq, not, option_map, refl, sym, true, ℕ, ◌||◌, ◌∙◌, ◌∷◌, ◌≡◌, ◌≢◌, ◌≤◌, IsPermutation}
+use Rattle.vt_spec.proofs.Common.{Filesystem, Fresh, IsWorld, Lower, Merged, MergedInode, OpenLayer, Real, Shown, Tree, Upper, World, any_pair, each_once, evens, evens-distinct, inode_count, list_any, merged_objects, none_is_some, odds, odds-distinct, pair-filter, same_Some, shown, view_of}
 use Rattle.vt_fs.specs.FilesystemsValue.{Filesystems}
 use Rattle.vt_laws_mounts.proofs.counts.Listed.{same_numbers_are_permuted}
 use Rattle.vt_laws_trees.proofs.layers.directories.Order.{Pairwise, pairwise_filter_map}
@@ -21,17 +19,6 @@ use Rattle.vt_world.specs.OverlaysMade.Made.{MadeOverlaysAreSame, handed_in, ove
 use Rattle.vt_overlay.specs.Merge.LayerValue.{layers_of}
 use Rattle.vt_overlay.proofs.TreeFound.{real_is}
 use Rattle.vt_overlay.specs.MergedTree.{OverlayValue, longest, number_at, numbers_shown, overlay_seen, plain_world, real_number}
-use Rattle.vt_spec.proofs.FreshNumbers.{evens-distinct, odds-distinct}
-use Rattle.vt_spec.proofs.Lists.{pair-filter}
-use Rattle.vt_spec.proofs.Options.{none_is_some}
-use Rattle.vt_spec.specs.Lists.{Fresh, any_pair, each_once, evens, odds}
-use Rattle.vt_spec.specs.Machine.Invariants.{IsWorld}
-use Rattle.vt_spec.specs.Machine.Layers.{OpenLayer, Shown, shown, view_of}
-use Rattle.vt_spec.specs.Machine.Merging.{Merged, MergedInode, merged_objects}
-use Rattle.vt_spec.specs.Machine.NewMounts.{inode_count}
-use Rattle.vt_spec.specs.Machine.World.{Filesystem, Real, World}
-use Rattle.vt_spec.specs.Machine.World.Real.{Lower, Upper}
-use Rattle.vt_spec.specs.Tree.{Tree}
 
 -- lists without repeats
 

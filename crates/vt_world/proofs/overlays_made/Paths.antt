@@ -1,14 +1,10 @@
 -- Each path at which something may be shown is gone through once.
-use Rattle.std.proofs.Common.{List, T, [], ap, arith, drop, flat_map, inl, inr, length, map, refl, subst, suc, sym, zero, ℕ, ◌+◌, ◌++◌, ◌∙◌, ◌∷◌, ◌≡◌, ◌≢◌}
-use Rattle.std.proofs.lemmas.List.{append-nil, length-append}
-use Rattle.std.specs.Cmp.{tied_itself}
-use Rattle.std.specs.Cmp.Lexicographic.{nat_list_cmp_total}
-use Rattle.std.specs.Ordering.{is_lt}
-use Rattle.std.specs.Prelude.{get_or}
+use Rattle.std.proofs.Common.{List, T, [], ap, arith, drop, flat_map, inl, inr, length, map, refl, subst, suc, sym, zero, ℕ, ◌+◌, ◌++◌, ◌∙◌, ◌∷◌, ◌≡◌, ◌≢◌, append-nil, length-append, is_lt, get_or}
+use Rattle.vt_spec.proofs.Common.{View, names_at, nat_list_cmp_total, tied_itself}
 use Rattle.vt_laws_trees.proofs.layers.directories.Order.{NameBelow, Pairwise, from_flat_map, names_rise, names_sorted, pairwise_append, pairwise_filter}
 use Rattle.vt_laws_trees.proofs.layers.layers.ShownDirectories.{append_assoc}
 use Rattle.vt_laws_trees.proofs.layers.layers.ShownObjects.{Among}
-use Rattle.vt_spec.specs.Machine.Views.{View, names_at, names_shown, paths_from}
+use Rattle.vt_spec.specs.Machine.Views.{names_shown, paths_from}
 
 pub pairwise_so : {A : Type 0} (R S : A → A → Type 0) → ((a b : A) → R a b → S a b) → (list : List A) → Pairwise R list
     → Pairwise S list

@@ -1,7 +1,6 @@
 -- The supply for an overlay serves a world.
 use Rattle.std.proofs.Common.{Bool, List, None, Option, Some, [], ap, arith, eq-eqb, false, inl, inr, length, map, ne_eqb, option_map, refl, subst, sym, true, ℕ, ◌%◌, ◌&&◌, ◌+◌, ◌<◌, ◌==◌, ◌||◌, ◌∙◌, ◌∷◌, ◌≡◌, ◌≢◌, ◌≤◌}
-use Rattle.std.proofs.lemmas.Option.{same_Some, slice_get_within}
-use Rattle.std.specs.List.{list_all, list_any}
+use Rattle.vt_spec.proofs.Common.{Fresh, Merged, OpenLayer, Real, Shown, World, any_pair, inode_count, list_all, list_any, merged_at, none_is_some, paths_from, real_object, same_Some, shown, slice_get_within, view_of}
 use Rattle.vt_fs.specs.FilesystemsValue.{Filesystems}
 use Rattle.vt_laws_worlds.specs.Given.NumbersHanded.{AreApart, Placed}
 use Rattle.vt_laws_trees.proofs.layers.directories.Order.{Pairwise, pairwise_filter_map}
@@ -23,12 +22,6 @@ use Rattle.vt_overlay.specs.Merge.LayerValue.{layers_of}
 use Rattle.vt_overlay.proofs.BirthsFound.{in_slot, small_birth}
 use Rattle.vt_overlay.proofs.TreeFound.{IsAt, numbered_is_at, real_is, real_of}
 use Rattle.vt_overlay.specs.MergedTree.{AreLayers, OverlayValue, node_born, real_number}
-use Rattle.vt_spec.proofs.Options.{none_is_some}
-use Rattle.vt_spec.specs.Lists.{Fresh, any_pair}
-use Rattle.vt_spec.specs.Machine.Layers.{OpenLayer, Shown, paths_from, shown, view_of}
-use Rattle.vt_spec.specs.Machine.Merging.{Merged, merged_at, real_object}
-use Rattle.vt_spec.specs.Machine.NewMounts.{inode_count}
-use Rattle.vt_spec.specs.Machine.World.{Real, World}
 
 -- Lists of placed numbers, by their objects
 module _ (number_of_real : Real ℕ → ℕ) where

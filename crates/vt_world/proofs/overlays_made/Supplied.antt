@@ -1,13 +1,10 @@
 -- The numbers at the places of a supply for an overlay.
 use Rattle.std.proofs.Common.{List, Some, [], ap, arith, cond, eq-eqb, false, ne_eqb, refl, zero, suc, slice_get, ℕ, ◌*◌, ◌+◌, ◌∙◌, ◌∷◌, ◌≡◌, ◌≢◌}
-use Rattle.std.proofs.lemmas.Option.{same_Some}
+use Rattle.vt_spec.proofs.Common.{Merged, Real, none_is_some, real_object, same_Some}
 use Rattle.vt_laws_worlds.specs.Given.NumbersHanded.{handed_at}
 use Rattle.vt_world.specs.OverlaysMade.Made.{InodesGetTheirNumbers, MountsGetCounts, OverlaysGetTheirCount, handed_for, objects_shown, placed_from}
 use Rattle.vt_laws_trees.specs.Runs.Handed.{counts_from}
 use Rattle.vt_overlay.specs.MergedTree.{real_number}
-use Rattle.vt_spec.proofs.Options.{none_is_some}
-use Rattle.vt_spec.specs.Machine.Merging.{Merged, real_object}
-use Rattle.vt_spec.specs.Machine.World.{Real}
 
 module _ (number_of : Real ℕ → ℕ) (next : ℕ) where
   -- the object at each place

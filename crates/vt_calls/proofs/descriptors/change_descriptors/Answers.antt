@@ -1,5 +1,5 @@
 use Rattle.std.proofs.Common.{ap, refl}
-use Rattle.std.proofs.lemmas.Result.{err_from_is_err_and}
+use Rattle.vt_spec.proofs.Common.{err_from_is_err_and}
 use Rattle.vt_permits.specs.GrantValue.{descriptor_permit}
 use Rattle.vt_permits.specs.declared.grant.Grant.TheVariants.{Descriptor}
 use Rattle.vt_permits.specs.declared.grant.DescriptorGrant.TheVariants as granted

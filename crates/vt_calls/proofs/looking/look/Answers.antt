@@ -1,6 +1,5 @@
 use Rattle.std.proofs.Common.{ap, Ok, refl, sym}
-use Rattle.std.proofs.lemmas.Result.{err_from_is_err_and}
-use Rattle.vt_spec.specs.Language.Answers.Answer.{Bytes, MountList, Names, Told}
+use Rattle.vt_spec.proofs.Common.{Bytes, MountList, Names, Told, err_from_is_err_and}
 use Rattle.vt_permits.specs.GrantValue.{look_permit}
 use Rattle.vt_permits.specs.declared.grant.Grant.TheVariants.{Look}
 use Rattle.vt_permits.specs.declared.grant.LookGrant.TheVariants as granted

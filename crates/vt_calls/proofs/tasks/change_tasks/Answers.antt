@@ -1,12 +1,10 @@
 use Rattle.std.proofs.Common.{ap, option_map, refl, sym, unwrap_or, ◌∙◌}
-use Rattle.std.proofs.lemmas.Result.{err_from_is_err_and}
+use Rattle.vt_spec.proofs.Common.{ToEnterNamespace, ToExit, ToFork, ToSetCredentials, ToSetDirectory, ToSetRoot, ToSetUmask, ToUnshare, err_from_is_err_and, with_dropped}
 use Rattle.vt_cred.specs.Caps.{capability_bits}
 use Rattle.vt_location.specs.Locations.{location_of}
 use Rattle.vt_location.specs.Numbers.{counted}
 use Rattle.vt_permits.specs.GrantValue.{task_permit}
 use Rattle.vt_permits.specs.declared.grant.Grant.TheVariants.{Task}
-use Rattle.vt_spec.specs.Machine.Tasks.{with_dropped}
-use Rattle.vt_spec.specs.Machine.Permits.Permit.{ToEnterNamespace, ToExit, ToFork, ToSetCredentials, ToSetDirectory, ToSetRoot, ToSetUmask, ToUnshare}
 use Rattle.vt_spec.specs.Machine.World.{first_credentials}
 use Rattle.vt_mounting.specs.Detach.Events.{credentials_called}
 use Rattle.vt_calls.proofs.Endings.{changed, made, permitted, short}

@@ -1,6 +1,5 @@
 use Rattle.std.proofs.Common.{rules}
-use Rattle.std.proofs.lemmas.Bool.Decides.{Decides-at}
-use Rattle.vt_spec.specs.Rights.{allows}
+use Rattle.vt_spec.proofs.Common.{Decides-at, allows}
 use Rattle.vt_cred.specs.Rights.{right_bits}
 use Rattle.vt_cred.proofs.AccessLemmas.{Decides-allows}
 use Rattle.vt_cred.proofs.access.allows.Goals as goal

@@ -1,5 +1,4 @@
-use Rattle.std.proofs.Common.{arith, ◌≡◌, ◌-◌, sym, ◌∙◌, subst}
-use Rattle.std.specs.Prelude.{ℕ, bit_and}
+use Rattle.std.proofs.Common.{arith, ◌≡◌, ◌-◌, sym, ◌∙◌, subst, ℕ, bit_and}
 use Rattle.vt_spec.specs.Rights.{masked}
 use Rattle.vt_cred.specs.Access.{IsWithout}
 use Rattle.vt_cred.proofs.BitLemmas.{and-not_umask, IsWithout-and}

@@ -1,5 +1,5 @@
 use Rattle.std.proofs.Common.{rules}
-use Rattle.std.proofs.lemmas.Bool.Decides.{Decides-at}
+use Rattle.vt_spec.proofs.Common.{Decides-at}
 use Rattle.vt_spec.specs.Rights.{may_delete_sticky}
 use Rattle.vt_cred.proofs.AccessLemmas.{Decides-may_delete_sticky}
 use Rattle.vt_cred.proofs.access.may_delete_sticky.Goals as goal

@@ -1,5 +1,4 @@
-use Rattle.std.proofs.Common.{All, arith, subst, ◌∙◌}
-use Rattle.std.proofs.lemmas.List.{take_all}
+use Rattle.std.proofs.Common.{All, arith, subst, ◌∙◌, take_all}
 use Rattle.std.proofs.lemmas.List.Elements.{All-more}
 use Rattle.vt_group.specs.Additions.{FitsType}
 use Rattle.vt_group.proofs.additions.reserve_types.Goals as goal

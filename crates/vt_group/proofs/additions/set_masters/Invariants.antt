@@ -1,5 +1,5 @@
 use Rattle.std.proofs.Common.{◌≡◌, ℕ, map, take, true}
-use Rattle.vt_spec.specs.Lists.{folded}
+use Rattle.vt_spec.proofs.Common.{folded}
 use Rattle.vt_group.specs.ByNumber.{IsAscending, has_room}
 use Rattle.vt_group.specs.Steps.{numbered_master}
 use Rattle.vt_group.specs.Together.{new_group, with_master_of}

@@ -1,7 +1,5 @@
 use Rattle.std.proofs.Common.{◌≡◌, ◌<◌, ◌+◌, ◌∷◌, List, [], ap, get_or, length, map, sym, take, ℕ, ◌∙◌}
-use Rattle.std.proofs.lemmas.List.{map-append, take_more}
-use Rattle.vt_spec.proofs.Lists.{folded-snoc}
-use Rattle.vt_spec.specs.Lists.{folded}
+use Rattle.vt_spec.proofs.Common.{folded, folded-snoc, map-append, take_more}
 use Rattle.vt_group.specs.Additions.{typed_pair}
 use Rattle.vt_group.specs.Steps.{numbered_peer}
 use Rattle.vt_group.specs.Together.{with_type_of}

@@ -1,5 +1,5 @@
 use Rattle.std.proofs.Common.{◌≡◌, map, take}
-use Rattle.vt_spec.specs.Lists.{folded}
+use Rattle.vt_spec.proofs.Common.{folded}
 use Rattle.vt_group.specs.Additions.{typed_pair}
 use Rattle.vt_group.specs.ByNumber.{IsAscending}
 use Rattle.vt_group.specs.Steps.{numbered_peer}

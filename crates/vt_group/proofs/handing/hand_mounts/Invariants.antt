@@ -1,7 +1,5 @@
-use Rattle.std.proofs.Common.{◌≡◌, ℕ, nat_eq}
-use Rattle.std.specs.List.{list_any}
-use Rattle.std.specs.Prelude.{if◌then◌else◌}
-use Rattle.vt_spec.specs.Lists.{then_some}
+use Rattle.std.proofs.Common.{◌≡◌, ℕ, nat_eq, if◌then◌else◌}
+use Rattle.vt_spec.proofs.Common.{list_any, then_some}
 use Rattle.vt_group.specs.ByNumber.{IsAscending, value_at}
 use Rattle.vt_group.specs.Handing.{kind_handed}
 use Rattle.vt_group.proofs.handing.hand_mounts.Given as goal

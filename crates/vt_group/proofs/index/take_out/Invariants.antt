@@ -1,5 +1,5 @@
 use Rattle.std.proofs.Common.{◌≡◌, false, true}
-use Rattle.std.specs.List.{list_any}
+use Rattle.vt_spec.proofs.Common.{list_any}
 use Rattle.vt_location.specs.declared.numbers.GroupId.{GroupId}
 use Rattle.vt_group.specs.Sets.{has, same_group}
 use Rattle.vt_group.proofs.index.take_out.Given as goal

@@ -1,5 +1,4 @@
-use Rattle.std.proofs.Common.{ap, sym, ◌∙◌}
-use Rattle.std.specs.Prelude.{◌&&◌}
+use Rattle.std.proofs.Common.{ap, sym, ◌∙◌, ◌&&◌}
 use Rattle.vt_group.specs.Sets.{same_group}
 use Rattle.vt_group.proofs.IndexLemmas.{apart_from_each}
 use Rattle.vt_group.proofs.index.take_out_of.Goals as goal

@@ -1,6 +1,5 @@
-use Rattle.std.proofs.Common.{ap, arith, drop, length, length-append, take, ◌++◌, ◌∙◌}
-use Rattle.std.proofs.lemmas.List.{take-append-drop}
-use Rattle.std.specs.List.{list_any}
+use Rattle.std.proofs.Common.{ap, arith, drop, length, length-append, take, ◌++◌, ◌∙◌, take-append-drop}
+use Rattle.vt_spec.proofs.Common.{list_any}
 use Rattle.vt_group.proofs.names.NamesLemmas.{all_of_both, any_turned}
 use Rattle.vt_group.proofs.names.turn.Goals as goal
 

@@ -1,5 +1,5 @@
 use Rattle.std.proofs.Common.{ap, ◌∙◌, nat_eq}
-use Rattle.vt_spec.specs.Lists.{holds_of}
+use Rattle.vt_spec.proofs.Common.{holds_of}
 use Rattle.vt_location.specs.Numbers.{counted}
 use Rattle.vt_group.proofs.Handed.{option_eq-counted}
 use Rattle.vt_group.proofs.propagation.is_in.Goals as goal

@@ -1,6 +1,5 @@
-use Rattle.std.proofs.Common.{Some, ap, option_map, ◌∙◌}
-use Rattle.std.specs.Prelude.{unwrap_or}
-use Rattle.vt_spec.specs.Machine.Mounts.Propagation.{Private}
+use Rattle.std.proofs.Common.{Some, ap, option_map, ◌∙◌, unwrap_or}
+use Rattle.vt_spec.proofs.Common.{Private}
 use Rattle.vt_location.specs.MountValue.{propagation_of}
 use Rattle.vt_location.specs.Numbers.{counted, group_number}
 use Rattle.vt_group.proofs.EndedTypes.{once_ended}

@@ -1,6 +1,5 @@
 use Rattle.std.proofs.Common.{ap, subst, ◌∙◌, ◌≡◌, true}
-use Rattle.std.proofs.lemmas.List.Folds.{list_any_at}
-use Rattle.std.specs.List.{list_any}
+use Rattle.vt_spec.proofs.Common.{list_any, list_any_at}
 use Rattle.vt_group.proofs.FewLemmas.{any-beside, any-put}
 use Rattle.vt_group.proofs.set.add.Goals as goal
 

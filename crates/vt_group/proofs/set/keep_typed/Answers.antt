@@ -1,6 +1,5 @@
 use Rattle.std.proofs.Common.{ap, is_some, rules, sym, ◌∙◌}
-use Rattle.std.proofs.lemmas.Fn.{filter_same}
-use Rattle.std.specs.List.{list_any}
+use Rattle.vt_spec.proofs.Common.{filter_same, list_any}
 use Rattle.vt_location.specs.declared.numbers.MountId.{MountId}
 use Rattle.vt_group.specs.ByNumber.{value_at}
 use Rattle.vt_group.specs.Sets.{elements, same_id}

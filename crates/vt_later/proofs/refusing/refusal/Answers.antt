@@ -1,5 +1,5 @@
 use Rattle.std.proofs.Common.{◌∙◌, ◌≡◌, ap, false, nat_eq, sym, true, true≢false}
-use Rattle.vt_spec.specs.Machine.Judge.{judge}
+use Rattle.vt_spec.proofs.Common.{judge}
 use Rattle.vt_request.specs.Requests.{call_of}
 use Rattle.vt_tasks.specs.TaskValue.{task_of}
 use Rattle.vt_later.specs.Lenience.{lenient_looks, lenient_overfills, refused_by}

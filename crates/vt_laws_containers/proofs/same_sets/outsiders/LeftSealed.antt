@@ -1,5 +1,6 @@
 -- Calls of others leave a sealed set sealed and its part the same, in all worlds that are the same as the policy's.
 use Rattle.std.proofs.Common.{◌≡◌, refl, sym, ap, subst, ◌∙◌, ℕ, nat_eq, true, List, [], ◌∷◌, Option, Some, None, is_some}
+use Rattle.vt_spec.proofs.Common.{IsWorld, SameFilesystem, SameWorlds, Task, TaskName, World, among_from_contains, among_from_list_all, any_from_among, contains_from_among, list_all_from_among, part_of, policy, same_name, same_name_itself, sealed, task_called, used_alone}
 use Rattle.vt_laws_members.proofs.judging.AllJudged.{called_alike}
 use Rattle.vt_laws_trees.proofs.runs.answered.AlikeChanges.{task_alike}
 use Rattle.vt_laws_trees.proofs.runs.answered.AlikeWorlds.{alike_from_same, SameTask, sameness_is_an_equivalence}
@@ -12,14 +13,6 @@ use Rattle.vt_laws_containers.proofs.same_sets.sets.SealedAlike.{same_worlds_are
 use Rattle.vt_laws_containers.specs.SameSets.Outsiders.{OutsidersLeadTo, OutsidersLeadToSealedWorlds, OutsidersLeaveSameWorldsSealed}
 use Rattle.vt_laws_sealed.proofs.outsiders.EveryPermit.{outsiders_leave_a_sealed_set}
 use Rattle.vt_laws_sealed.specs.Outsiders.{IsOutsidersCall, OneCall, are_all_called}
-use Rattle.vt_spec.proofs.Lists.{among_from_contains, among_from_list_all, any_from_among, contains_from_among, list_all_from_among}
-use Rattle.vt_spec.proofs.Worlds.{same_name_itself}
-use Rattle.vt_spec.specs.Language.Calls.{TaskName, same_name}
-use Rattle.vt_spec.specs.Machine.Invariants.{IsWorld}
-use Rattle.vt_spec.specs.Machine.Policy.{policy}
-use Rattle.vt_spec.specs.Machine.SameWorlds.{SameFilesystem, SameWorlds}
-use Rattle.vt_spec.specs.Machine.Sealed.{part_of, sealed, used_alone}
-use Rattle.vt_spec.specs.Machine.World.{Task, World, task_called}
 
 pub outsiders_leave_same_worlds_sealed : OutsidersLeaveSameWorldsSealed
 outsiders_leave_same_worlds_sealed world other same fresh names name call outsider later left =

@@ -1,8 +1,6 @@
 -- The parts of a set of tasks in two worlds that are alike.
-use Rattle.std.proofs.Common.{◌≡◌, ap, subst, ◌∙◌, ℕ, nat_eq, Bool, true, false, cond, ◌&&◌, ◌||◌, List, [], ◌∷◌, filter, filter_map, flat_map, Option, Some, None}
-use Rattle.std.specs.List.{cons_option, list_any}
-use Rattle.std.specs.List.Sorted.{IsPermutation}
-use Rattle.std.proofs.lemmas.List.Sorted.{list_any-IsPermutation}
+use Rattle.std.proofs.Common.{◌≡◌, ap, subst, ◌∙◌, ℕ, nat_eq, Bool, true, false, cond, ◌&&◌, ◌||◌, List, [], ◌∷◌, filter, filter_map, flat_map, Option, Some, None, IsPermutation}
+use Rattle.vt_spec.proofs.Common.{FileTree, Filesystem, Layer, Mount, Namespace, Overlay, SameFiles, SameFilesystem, Task, TaskName, World, cons_option, filesystem_numbered, holds_of, is_among, is_at, is_member_of, is_own_namespace, lies_in_layer, lies_in_own_lower, list_any, list_any-IsPermutation, locations, members, only_among, overlay_or, own_lowers, part_of, part_of_filesystem, part_of_lower, part_of_master, part_of_mount, roots_and_directories, seen_by_descriptor, used_filesystems, when}
 use Rattle.vt_laws_trees.proofs.runs.answered.AlikeChanges.{found_alike}
 use Rattle.vt_laws_trees.proofs.runs.answered.AlikeWorlds.{Alike, alike_from_same, mounts_of_one, same_from_alike, SameNamespace, SameTask, with_mounts_of}
 use Rattle.vt_laws_rules.proofs.same.SameFiles.{under_same}
@@ -10,16 +8,6 @@ use Rattle.vt_laws_trees.proofs.runs.Each.{Each, IfAny, each_filter, each_flat}
 use Rattle.vt_laws_trees.proofs.runs.Permuted.{IsPermutation-filter}
 use Rattle.vt_laws_trees.proofs.runs.answered.AlikeDirected.{directly_same, members_alike, own_same, places_same, used_same}
 use Rattle.vt_laws_containers.specs.SameSets.Sets.{SameWorldsHaveSameParts}
-use Rattle.vt_spec.specs.FileTree.{FileTree}
-use Rattle.vt_spec.specs.Language.Calls.{TaskName}
-use Rattle.vt_spec.specs.Lists.{holds_of, is_among, when}
-use Rattle.vt_spec.specs.Machine.Locked.{lies_in_layer, overlay_or}
-use Rattle.vt_spec.specs.Machine.Mounts.{Mount}
-use Rattle.vt_spec.specs.Machine.Receives.{is_member_of}
-use Rattle.vt_spec.specs.Machine.SameWorlds.{SameFiles, SameFilesystem}
-use Rattle.vt_spec.specs.Machine.Sealed.{is_at, is_own_namespace, lies_in_own_lower, locations, members, own_lowers, part_of, part_of_filesystem, part_of_lower, part_of_master, part_of_mount, roots_and_directories, seen_by_descriptor, used_filesystems}
-use Rattle.vt_spec.specs.Machine.Settled.{only_among}
-use Rattle.vt_spec.specs.Machine.World.{Filesystem, Layer, Namespace, Overlay, Task, World, filesystem_numbered}
 
 -- what is kept of each of two lists, where of each two elements the like is kept
 module _ {A B : Type 0} (R : A → A → Type 0) (S : B → B → Type 0) (f g : A → Option B)

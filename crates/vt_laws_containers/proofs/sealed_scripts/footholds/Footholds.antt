@@ -1,6 +1,6 @@
 -- No call of theirs gives others a foothold.
 use Rattle.std.proofs.Common.{refl}
-use Rattle.vt_spec.specs.Language.Calls.Call.{Bind, MountOverlay, MountPlain, MoveMount, SetType, Unshare}
+use Rattle.vt_spec.proofs.Common.{Bind, MountOverlay, MountPlain, MoveMount, SetType, Unshare}
 use Rattle.vt_laws_containers.proofs.scripts.CallsAlike.{calls_give_no_foothold}
 use Rattle.vt_laws_containers.proofs.attached_apart.Binding.{binds_give_no_foothold}
 use Rattle.vt_laws_containers.proofs.attached_apart.Mounting.{plain_mounts_give_no_foothold}

@@ -1,19 +1,8 @@
 -- A turn of theirs that answers a call which ends alike in the part is a turn of their part.
 use Rattle.std.proofs.Common.{arith, ◌≡◌, refl, sym, ap, subst, ◌∙◌, ℕ, nat_eq, Bool, true, false, true≢false, not, List, [], ◌∷◌, Some, None, Ok, Err, Result, filter, is_ok, is_some, map}
-use Rattle.std.proofs.lemmas.Grind.{common_steps}
+use Rattle.vt_spec.proofs.Common.{Among, Answer, Call, Calls, Fresh, Progress, Queue, Queued, Reply, Sched, Someone, TaskName, Turned, World, among-from_filter, common_steps, contains_from_among, first_of_list, is_among, none_is_some, part_of, policy, queue_of, same_name, shortened, turn, without_progress}
 use Rattle.vt_laws_worlds.proofs.overlays_stay.weaving.WovenLists.{filters_swapped}
 use Rattle.vt_spec.specs.declared.errors.Deny.{Deny}
-use Rattle.vt_spec.specs.Language.Answers.{Answer}
-use Rattle.vt_spec.specs.Language.Calls.{Call, TaskName, same_name}
-use Rattle.vt_spec.specs.Language.Script.Who.{Someone}
-use Rattle.vt_spec.specs.Lists.{Fresh, first_of_list, is_among}
-use Rattle.vt_spec.specs.Machine.Policy.{policy}
-use Rattle.vt_spec.specs.Machine.Sealed.{part_of}
-use Rattle.vt_spec.specs.Machine.Turns.{Progress, Queue, Queued, Reply, Sched, Turned, queue_of, shortened, turn, without_progress}
-use Rattle.vt_spec.specs.Machine.Turns.Item.{Calls}
-use Rattle.vt_spec.specs.Machine.World.{World}
-use Rattle.vt_spec.proofs.Lists.{Among, among-from_filter, contains_from_among}
-use Rattle.vt_spec.proofs.Options.{none_is_some}
 use Rattle.vt_laws_members.specs.Changes.Changes.{grown}
 use Rattle.vt_laws_members.proofs.changes.tasks.Denied.{denials_end_alike}
 use Rattle.vt_laws_turns.proofs.TurnShapes.{Shape, is_task_call, turn_shape}

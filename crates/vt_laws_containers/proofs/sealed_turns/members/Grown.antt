@@ -1,25 +1,7 @@
 -- Of the tasks in a world, those of the set that a call leaves were of the set before it.
-use Rattle.std.proofs.lemmas.Grind.{common_steps}
 use Rattle.std.proofs.Common.{◌≡◌, refl, sym, ◌∙◌, ℕ, nat_eq, Bool, true, false, not, List, [], ◌+◌, ◌||◌, Option, Some, None, Ok, Err, Result, is_ok, is_some, arith}
-use Rattle.std.specs.Prelude.{⊤}
-use Rattle.std.proofs.lemmas.Bool.{or_cases}
+use Rattle.vt_spec.proofs.Common.{Answer, Call, Child, Fresh, IsWorld, Judgement, Outcome, Permit, Task, TaskName, World, after, among-from_filter, any_among, any_from_among, apply, child_name, common_steps, contains_from_among, filesystems_changed_by, finished_by, found_among, is_among, judge_in, only_looks, or_cases, policy, same_name, same_task_name, some_from_is_some, task_called, ⊤}
 use Rattle.vt_spec.specs.declared.errors.Deny.{Deny}
-use Rattle.vt_spec.specs.Language.Answers.{Answer}
-use Rattle.vt_spec.specs.Language.Answers.Answer.{Child}
-use Rattle.vt_spec.specs.Language.Calls.{Call, TaskName, same_name}
-use Rattle.vt_spec.specs.Lists.{Fresh, is_among}
-use Rattle.vt_spec.specs.Machine.Apply.{apply}
-use Rattle.vt_spec.specs.Machine.Invariants.{IsWorld}
-use Rattle.vt_spec.specs.Machine.Judge.{Judgement, judge_in}
-use Rattle.vt_spec.specs.Machine.Outcomes.{Outcome, after}
-use Rattle.vt_spec.specs.Machine.Permits.{Permit}
-use Rattle.vt_spec.specs.Machine.Policy.{filesystems_changed_by, finished_by, only_looks, policy}
-use Rattle.vt_spec.specs.Machine.Tasks.{child_name}
-use Rattle.vt_spec.specs.Machine.World.{Task, World, task_called}
-use Rattle.vt_spec.proofs.Found.{found_among}
-use Rattle.vt_spec.proofs.Lists.{among-from_filter, any_among, any_from_among, contains_from_among}
-use Rattle.vt_spec.proofs.Options.{some_from_is_some}
-use Rattle.vt_spec.proofs.Worlds.{same_task_name}
 use Rattle.vt_laws_members.specs.Changes.Changes.{grown, left}
 use Rattle.vt_laws_members.proofs.changes.looks.Told.{ran}
 use Rattle.vt_laws_worlds.proofs.worlds.CallsKept.{name_found}

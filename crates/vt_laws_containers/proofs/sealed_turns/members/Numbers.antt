@@ -1,16 +1,6 @@
 -- The change numbers that calls of theirs hold are those of the part.
 use Rattle.std.proofs.Common.{arith, ◌≡◌, refl, ap, ◌∙◌, inl, inr, ⊎_elim, ℕ, nat_eq, Bool, true, false, true≢false, List, [], ◌∷◌, ◌||◌, filter, find, map, eqb-true, eq-eqb}
-use Rattle.std.proofs.lemmas.Grind.{common_steps}
-use Rattle.std.specs.List.{list_any}
-use Rattle.std.proofs.lemmas.Bool.{or_cases}
-use Rattle.vt_spec.specs.Language.Calls.{TaskName}
-use Rattle.vt_spec.specs.Lists.{first_of_list, holds_of, is_among}
-use Rattle.vt_spec.specs.Machine.Invariants.{IsWorld}
-use Rattle.vt_spec.specs.Machine.Mounts.{Location, Mount}
-use Rattle.vt_spec.specs.Machine.Sealed.{is_own_mount, members, own_mounts, part_of, used_filesystems}
-use Rattle.vt_spec.specs.Machine.Turns.{Progress, filesystem_change_of, is_overtaken, is_stale, namespace_change_of}
-use Rattle.vt_spec.specs.Machine.World.{Task, World, locations_of, mount_at, mounts_of}
-use Rattle.vt_spec.proofs.Lists.{Among, among-append_left, among-filter, among-flat_map, among-from_filter, among-map, any_among, any_from_among}
+use Rattle.vt_spec.proofs.Common.{Among, IsWorld, Location, Mount, Progress, Task, TaskName, World, among-append_left, among-filter, among-flat_map, among-from_filter, among-map, any_among, any_from_among, common_steps, filesystem_change_of, first_of_list, holds_of, is_among, is_overtaken, is_own_mount, is_stale, list_any, locations_of, members, mount_at, mounts_of, namespace_change_of, or_cases, own_mounts, part_of, used_filesystems}
 use Rattle.vt_laws_members.proofs.judging.JudgedOverlays.{any_same}
 use Rattle.vt_laws_members.proofs.judging.MountPoints.{in_own}
 use Rattle.vt_laws_members.proofs.judging.SeenInPart.{located_used}

@@ -1,16 +1,6 @@
 -- Turns of theirs that answer a fork or an exit are of their part, of the set that is left.
-use Rattle.std.proofs.Common.{◌≡◌, refl, sym, ap, ◌∙◌, ℕ, nat_eq, List, Option, Some, None, Ok, Err}
-use Rattle.std.specs.Prelude.{is_ok}
-use Rattle.vt_spec.specs.Language.Calls.{ForkWords, TaskName}
-use Rattle.vt_spec.specs.Language.Calls.Call.{Exit, Fork}
-use Rattle.vt_spec.specs.Lists.{Fresh}
-use Rattle.vt_spec.specs.Machine.Judge.{Judgement, fork_permit, judge_in}
-use Rattle.vt_spec.specs.Machine.Permits.{Permit}
-use Rattle.vt_spec.specs.Machine.Permits.Permit.{ToFork}
-use Rattle.vt_spec.specs.Machine.Rules.Tasks.{fork_rules}
-use Rattle.vt_spec.specs.Machine.Tasks.{child_credentials}
-use Rattle.vt_spec.specs.Machine.World.{Task, World, task_called}
-use Rattle.vt_spec.proofs.Refusals.{passing}
+use Rattle.std.proofs.Common.{◌≡◌, refl, sym, ap, ◌∙◌, ℕ, nat_eq, List, Option, Some, None, Ok, Err, is_ok}
+use Rattle.vt_spec.proofs.Common.{Exit, Fork, ForkWords, Fresh, Judgement, Permit, Task, TaskName, ToFork, World, child_credentials, fork_permit, fork_rules, judge_in, passing, task_called}
 use Rattle.vt_laws_members.specs.Changes.Changes.{EndsAlike, IsCallOfTheirs}
 use Rattle.vt_laws_members.proofs.changes.looks.Told.{ran}
 use Rattle.vt_laws_members.proofs.changes.tasks.Denied.{denials_end_alike, run_by, unnamed_ends_alike}

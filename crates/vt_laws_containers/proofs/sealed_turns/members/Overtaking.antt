@@ -1,13 +1,6 @@
 -- Turns of outsiders overtake no call of theirs.
 use Rattle.std.proofs.Common.{arith, ◌≡◌, sym, ap, subst, ◌∙◌, ℕ, nat_eq, List, [], ◌∷◌}
-use Rattle.std.proofs.lemmas.Grind.{common_steps}
-use Rattle.vt_spec.specs.Language.Calls.{TaskName, same_name}
-use Rattle.vt_spec.specs.Lists.{is_among}
-use Rattle.vt_spec.specs.Machine.Sealed.{is_member_task}
-use Rattle.vt_spec.specs.Machine.Turns.{Progress, Sched, is_overtaken, turn}
-use Rattle.vt_spec.specs.Machine.World.{World}
-use Rattle.vt_spec.proofs.Found.{found_among}
-use Rattle.vt_spec.proofs.Lists.{Among, among-filter, among-from_filter, among_from_contains, contains_from_among}
+use Rattle.vt_spec.proofs.Common.{Among, Progress, Sched, TaskName, World, among-filter, among-from_filter, among_from_contains, common_steps, contains_from_among, found_among, is_among, is_member_task, is_overtaken, same_name, turn}
 use Rattle.vt_laws_turns.specs.Commits.{Turn, left_by}
 use Rattle.vt_laws_turns.specs.Holds.Held.{AreFitTurns, IsUnderWayOf}
 use Rattle.vt_laws_turns.proofs.holds.Holding.{schedules_hold_what_is_seen}

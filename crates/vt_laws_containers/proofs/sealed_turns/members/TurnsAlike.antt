@@ -1,29 +1,14 @@
 -- A turn of a task of theirs goes in their part as it goes in the world, as long as it answers nothing.
-use Rattle.std.proofs.Common.{arith, ◌≡◌, refl, sym, ap, subst, ◌∙◌, ◌⊎◌, inl, inr, ⊎_elim, ℕ, nat_eq, Bool, true, false, true≢false, cond, not, List, [], ◌∷◌, ◌++◌, ◌+◌, Option, Some, None, Ok, Err, Result, find, is_some}
-use Rattle.std.proofs.lemmas.Grind.{common_steps}
-use Rattle.std.specs.Prelude.{nat_le, slice_get}
-use Rattle.std.specs.List.{list_any}
+use Rattle.std.proofs.Common.{arith, ◌≡◌, refl, sym, ap, subst, ◌∙◌, ◌⊎◌, inl, inr, ⊎_elim, ℕ, nat_eq, Bool, true, false, true≢false, cond, not, List, [], ◌∷◌, ◌++◌, ◌+◌, Option, Some, None, Ok, Err, Result, find, is_some, nat_le, slice_get}
+use Rattle.vt_spec.proofs.Common.{Among, Asks, Call, Calls, Filesystem, Fresh, Item, Progress, Queued, Refused, Route, Sched, Someone, Task, TaskName, Turned, World, among-filter, call_turn, call_turn_of, common_steps, contains_from_among, entry_rules, first_progress, first_turn, first_turn_by, folded, found_among, found_passes, further, is_among, is_failing, is_member_task, is_overtaken, is_removed, item_turn, later_turn, list_any, looks_of, members, most_restarts, next_word, one_further, queue_of, queue_turn, restarted, routes, same_name, same_task_name, task_called, turn, turn_under_way, unless, used_filesystems, without_progress, word_walked_by, words_of}
 use Rattle.vt_laws_worlds.proofs.overlays_stay.weaving.WovenLists.{filters_swapped}
 use Rattle.vt_spec.specs.declared.errors.Deny.{Deny}
-use Rattle.vt_spec.specs.Errors.{unless}
-use Rattle.vt_spec.specs.Language.Calls.{Call, TaskName, same_name}
-use Rattle.vt_spec.specs.Language.Limits.{most_restarts}
-use Rattle.vt_spec.specs.Language.Script.Who.{Someone}
-use Rattle.vt_spec.specs.Lists.{Fresh, folded, is_among}
-use Rattle.vt_spec.specs.Machine.Looks.{looks_of}
-use Rattle.vt_spec.specs.Machine.Sealed.{is_member_task, members, used_filesystems}
-use Rattle.vt_spec.specs.Machine.Turns.{Item, Progress, Queued, Route, Sched, Turned, call_turn, call_turn_of, entry_rules, first_progress, first_turn, first_turn_by, further, hold_one, is_failing, is_overtaken, item_turn, later_turn, next_word, one_further, queue_of, queue_turn, restarted, routes, turn, turn_under_way, went_on, without_progress, word_walked_by, words_of}
-use Rattle.vt_spec.specs.Machine.Turns.Item.{Asks, Calls, Refused}
-use Rattle.vt_spec.specs.Machine.World.{Task, World, task_called, Filesystem}
-use Rattle.vt_spec.proofs.Found.{found_among, found_passes}
-use Rattle.vt_spec.proofs.Lists.{Among, among-filter, contains_from_among}
-use Rattle.vt_spec.proofs.Worlds.{same_task_name}
+use Rattle.vt_spec.specs.Machine.Turns.{hold_one, went_on}
 use Rattle.vt_laws_members.specs.Judging.{is_theirs}
 use Rattle.vt_laws_members.proofs.judging.AllJudged.{called_alike}
 use Rattle.vt_laws_members.proofs.judging.Grounds.{theirs_from, theirs_test}
 use Rattle.vt_laws_members.proofs.judging.SeenInPart.{directory_theirs, filesystem_alike, members_see_alike}
 use Rattle.vt_laws_sealed.proofs.part.walks.WalksAgree.{Alike, each_from}
-use Rattle.vt_spec.specs.FileTree.{is_removed}
 use Rattle.vt_laws_turns.proofs.holds.Holding.{nth_among, word_seen}
 use Rattle.vt_laws_worlds.proofs.worlds.CallsKept.{name_found}
 use Rattle.vt_laws_containers.specs.SealedTurns.MembersTurns.{HasCallsUnderWay, TheirTurnsAnswerAlike, TheirWordsAreOfTheirPart, part_of_sched}

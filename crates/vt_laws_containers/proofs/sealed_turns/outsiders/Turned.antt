@@ -1,14 +1,7 @@
 -- A turn of an outsider changes the world by a call of the outsider, and no queue and no call under way of theirs.
 use Rattle.std.proofs.Common.{◌≡◌, refl, sym, ap, subst, ◌∙◌, ℕ, nat_eq, Bool, true, false, true≢false, cond, not, List, [], ◌∷◌, Some, find, map}
+use Rattle.vt_spec.proofs.Common.{Call, Fresh, IsWorld, Progress, Sched, Someone, Task, TaskName, Turned, World, is_among, members, one_further, policy, queue_of, rest_of, same_name, same_who, shortened, task_called, turn, without_progress}
 use Rattle.vt_laws_sealed.proofs.outsiders.InTurn.{still_called}
-use Rattle.vt_spec.specs.Language.Calls.{Call, TaskName, same_name}
-use Rattle.vt_spec.specs.Language.Script.Who.{Someone}
-use Rattle.vt_spec.specs.Lists.{Fresh, is_among, rest_of}
-use Rattle.vt_spec.specs.Machine.Invariants.{IsWorld}
-use Rattle.vt_spec.specs.Machine.Policy.{policy}
-use Rattle.vt_spec.specs.Machine.Sealed.{members}
-use Rattle.vt_spec.specs.Machine.Turns.{Progress, Sched, Turned, one_further, queue_of, same_who, shortened, turn, without_progress}
-use Rattle.vt_spec.specs.Machine.World.{Task, World, task_called}
 use Rattle.vt_laws_members.proofs.judging.AllJudged.{called_alike}
 use Rattle.vt_laws_worlds.proofs.overlay_permits.worlds.EveryCall.{every_call_keeps_worlds}
 use Rattle.vt_laws_sealed.specs.Outsiders.{LeavesItSealed}

@@ -1,18 +1,8 @@
 -- A script that stacks mounts on a directory of the first tree.
-use Rattle.std.proofs.Common.{◌≡◌, refl, sym, ap, ◌∙◌, ℕ, zero, suc, nat_eq, ◌+◌, ◌≤◌, List, [], ◌∷◌, ◌++◌, None, append_assoc, arith}
+use Rattle.std.proofs.Common.{◌≡◌, refl, sym, ap, ◌∙◌, ℕ, zero, suc, nat_eq, ◌+◌, ◌≤◌, List, [], ◌∷◌, ◌++◌, None, append_assoc, arith, codes, decimal, append-nil}
+use Rattle.vt_spec.proofs.Common.{Call, Done, Mkdir, MountPlain, One, Two, Version, World, everything, first_task, first_world, granted, lines_of, most_mounts, numbers_for, plain_flags, policy, request_of, text_from, whole}
 use Rattle.std.specs.Fmt.{digits}
-use Rattle.std.specs.Prelude.{codes, decimal}
-use Rattle.std.proofs.lemmas.List.{append-nil}
-use Rattle.vt_spec.specs.Language.Answers.Answer.{Done}
-use Rattle.vt_spec.specs.Language.Calls.{Call, plain_flags}
-use Rattle.vt_spec.specs.Language.Calls.Call.{Mkdir, MountPlain}
-use Rattle.vt_spec.specs.Language.Limits.{most_mounts}
-use Rattle.vt_spec.specs.Language.Script.{Version, lines_of, request_of, whole}
-use Rattle.vt_spec.specs.Language.Script.Version.{One, Two}
-use Rattle.vt_spec.specs.Machine.Outcomes.{granted}
-use Rattle.vt_spec.specs.Machine.Policy.{policy}
-use Rattle.vt_spec.specs.Machine.Run.{everything, first_world, machine_text, numbers_for, text_from}
-use Rattle.vt_spec.specs.Machine.World.{World, first_task}
+use Rattle.vt_spec.specs.Machine.Run.{machine_text}
 use Rattle.vt_laws_worlds.proofs.opening.OpeningWorld.{opening_is_a_world}
 use Rattle.vt_laws_worlds.proofs.worlds.CallsKept.{Kept, calls_keep_worlds}
 use Rattle.vt_laws_later_calls.specs.Limits.FullNamespaces.{FillsItsNamespace, FullNamespaceRefuses, LastOfManyMountsIsRefused, numbered, repeated, stacking_script}

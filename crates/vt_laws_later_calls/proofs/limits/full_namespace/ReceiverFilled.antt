@@ -1,20 +1,8 @@
 -- The second task fills its namespace, and unmounts one mount.
-use Rattle.std.proofs.Common.{◌≡◌, refl, ap, subst, ◌∙◌, ℕ, suc, nat_eq, nat_lt, Bool, true, false, ◌&&◌, ◌+◌, ◌<◌, [], ◌∷◌, ◌++◌, Some, Ok, append_assoc}
-use Rattle.std.specs.Prelude.{codes}
-use Rattle.std.proofs.lemmas.List.Folds.{list_all-append}
+use Rattle.std.proofs.Common.{◌≡◌, refl, ap, subst, ◌∙◌, ℕ, suc, nat_eq, nat_lt, Bool, true, false, ◌&&◌, ◌+◌, ◌<◌, [], ◌∷◌, ◌++◌, Some, Ok, append_assoc, codes}
+use Rattle.vt_spec.proofs.Common.{Done, Filesystem, Fresh, Mount, MountPlain, Serves, Umount, World, denial, denied, holds_of, list_all-append, most_mounts, most_symlinks, plain_flags, policy}
 use Rattle.vt_laws_mounts.specs.LettingGo.Ends.{mount_count}
 use Rattle.vt_spec.specs.declared.errors.Rule.TheVariants.{M9}
-use Rattle.vt_spec.specs.Errors.{denial}
-use Rattle.vt_spec.specs.Language.Answers.Answer.{Done}
-use Rattle.vt_spec.specs.Language.Calls.{plain_flags}
-use Rattle.vt_spec.specs.Language.Calls.Call.{MountPlain, Umount}
-use Rattle.vt_spec.specs.Language.Limits.{most_mounts, most_symlinks}
-use Rattle.vt_spec.specs.Lists.{Fresh, holds_of}
-use Rattle.vt_spec.specs.Machine.Mounts.{Mount}
-use Rattle.vt_spec.specs.Machine.Outcomes.{denied}
-use Rattle.vt_spec.specs.Machine.Policy.{policy}
-use Rattle.vt_spec.specs.Machine.Run.{Serves}
-use Rattle.vt_spec.specs.Machine.World.{Filesystem, World}
 use Rattle.vt_laws_worlds.proofs.worlds.CallsKept.{Kept, calls_keep_worlds}
 use Rattle.vt_laws_later_calls.proofs.Granted.{called_raised}
 use Rattle.vt_laws_later_calls.specs.Limits.Room.{NeedsRoom, lacks_room}

@@ -1,31 +1,12 @@
 -- Whether a mount in the first namespace has room: it comes to the shared mount, and to its peer in the other
 -- namespace.
-use Rattle.std.proofs.Common.{arith, ◌≡◌, refl, sym, ap, subst, ◌∙◌, true≢false, ℕ, suc, nat_eq, nat_lt, eqb-true, Bool, true, false, cond, not, ◌&&◌, ◌||◌, ◌+◌, ◌*◌, List, [], ◌∷◌, ◌++◌, Option, None, Some, Ok, filter, is_some, length, map}
-use Rattle.std.proofs.lemmas.Grind.{common_steps}
-use Rattle.std.proofs.Math.Bool.{or-false}
-use Rattle.std.specs.Prelude.{codes, option_to_list}
-use Rattle.std.specs.List.{list_all, list_any}
-use Rattle.std.proofs.lemmas.Bool.{and_parts}
+use Rattle.std.proofs.Common.{arith, ◌≡◌, refl, sym, ap, subst, ◌∙◌, true≢false, ℕ, suc, nat_eq, nat_lt, eqb-true, Bool, true, false, cond, not, ◌&&◌, ◌||◌, ◌+◌, ◌*◌, List, [], ◌∷◌, ◌++◌, Option, None, Some, Ok, filter, is_some, length, map, codes, option_to_list}
+use Rattle.vt_spec.proofs.Common.{Among, Directory, Filesystem, IsWorld, Location, Mount, Namespace, Task, World, among-append_right, and_parts, chain_ends, chain_goes_on, child_at, common_steps, entries_in, entry_named, execute_right, filesystem_numbered, groups_up, holds_of, is_among, is_directory_node, is_directory_under, is_removed, is_removed_at, list_all, list_any, looks_of, most_mounts, most_symlinks, mount_in, mount_numbered, new_mount_rules, node_allows, node_at, or-false, parts_of, receivers_of, receives, root_attr, root_of, source_of, stands_at, takes_part, task_called, topmost}
 use Rattle.vt_laws_mounts.specs.LettingGo.Ends.{is_in, mount_count}
 use Rattle.vt_laws_mounts.proofs.letting_go.Lists.{any-map, nothing_passes, passes, find_none}
 use Rattle.vt_laws_mounts.proofs.mounts.MountsPlaces.{stands_there}
 use Rattle.vt_laws_mounts.proofs.mounts.Receivers.{start_among}
-use Rattle.vt_spec.specs.FileTree.{is_directory_under, is_removed}
-use Rattle.vt_spec.specs.Language.Limits.{most_mounts, most_symlinks}
-use Rattle.vt_spec.specs.Lists.{holds_of, is_among}
-use Rattle.vt_spec.specs.Machine.Attach.{parts_of, receivers_of, takes_part}
-use Rattle.vt_spec.specs.Machine.Invariants.{IsWorld}
-use Rattle.vt_spec.specs.Machine.Looks.{looks_of}
-use Rattle.vt_spec.specs.Machine.Mounts.{Location, Mount, child_at, mount_in, root_of, source_of, stands_at, topmost}
 use Rattle.vt_spec.proofs.Tables.{destination_walk}
-use Rattle.vt_spec.specs.Machine.Receives.{groups_up, receives}
-use Rattle.vt_spec.specs.Machine.Rules.Mounting.{new_mount_rules}
-use Rattle.vt_spec.specs.Machine.World.{Filesystem, Namespace, Task, World, filesystem_numbered, is_removed_at, mount_numbered, node_at, root_attr, task_called}
-use Rattle.vt_spec.specs.Machine.Rightful.{node_allows}
-use Rattle.vt_spec.specs.Rights.{execute_right}
-use Rattle.vt_spec.specs.Tree.{entries_in, entry_named, is_directory_node}
-use Rattle.vt_spec.specs.Tree.Content.{Directory}
-use Rattle.vt_spec.proofs.Lists.{Among, among-append_right, chain_ends, chain_goes_on}
 use Rattle.vt_laws_worlds.specs.Worlds.Kept.{IsPlain}
 use Rattle.vt_laws_worlds.proofs.Plain.{plain_numbered}
 use Rattle.vt_laws_worlds.proofs.worlds.Roots.{child_in}

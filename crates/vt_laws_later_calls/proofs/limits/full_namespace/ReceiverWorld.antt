@@ -1,22 +1,6 @@
 -- The world in which a namespace is filled that has a receiver of another's shared mount.
-use Rattle.std.proofs.Common.{◌≡◌, refl, ap, ℕ, suc, nat_eq, true, false, List, [], ◌∷◌, None, Some, filter, length, map, arith}
-use Rattle.std.specs.Prelude.{codes, unwrap_or}
-use Rattle.vt_spec.specs.Language.Calls.{Call, TaskName, plain_flags}
-use Rattle.vt_spec.specs.Language.Calls.Call.{Fork, Mkdir, MountPlain, SetType, Unshare}
-use Rattle.vt_spec.specs.Language.Calls.TypeWord.{ToShared}
-use Rattle.vt_spec.specs.Lists.{first_of_list, holds_of, rest_of}
-use Rattle.vt_spec.specs.Machine.Mounts.{Mount, mount_in, topmost}
-use Rattle.vt_spec.specs.Machine.Mounts.Propagation.{Private, Shared}
-use Rattle.vt_spec.specs.Machine.Policy.{policy}
-use Rattle.vt_spec.specs.Machine.Run.{everything, first_world, numbers_for}
-use Rattle.vt_spec.specs.Machine.World.{Filesystem, Namespace, Task, World, first_task, is_directory_at, is_removed_at, no_filesystem, node_at, root_attr, task_called}
-use Rattle.vt_spec.specs.FileTree.{is_directory_under, is_removed}
-use Rattle.vt_spec.specs.Language.Script.{request_of, whole}
-use Rattle.vt_spec.specs.Language.Script.Version.{One}
-use Rattle.vt_spec.specs.Machine.Rightful.{node_allows}
-use Rattle.vt_spec.specs.Rights.{execute_right}
-use Rattle.vt_spec.specs.Tree.{entries_in, entry_named, is_directory_node}
-use Rattle.vt_spec.specs.Tree.Content.{Directory}
+use Rattle.std.proofs.Common.{◌≡◌, refl, ap, ℕ, suc, nat_eq, true, false, List, [], ◌∷◌, None, Some, filter, length, map, arith, codes, unwrap_or}
+use Rattle.vt_spec.proofs.Common.{Call, Directory, Filesystem, Fork, Mkdir, Mount, MountPlain, Namespace, One, Private, SetType, Shared, Task, TaskName, ToShared, Unshare, World, entries_in, entry_named, everything, execute_right, first_of_list, first_task, first_world, holds_of, is_directory_at, is_directory_node, is_directory_under, is_removed, is_removed_at, mount_in, no_filesystem, node_allows, node_at, numbers_for, plain_flags, policy, request_of, rest_of, root_attr, task_called, topmost, whole}
 use Rattle.vt_laws_trees.specs.Trees.Calls.{mounts_overlay}
 use Rattle.vt_laws_trees.specs.Trees.Limits.{names_few_groups}
 use Rattle.vt_laws_worlds.proofs.opening.OpeningWorld.{opening_is_a_world}

@@ -1,27 +1,10 @@
 -- An attachment without room is refused by M9, and one with room is granted, where no other rule refuses it.
-use Rattle.std.proofs.Common.{arith, ◌≡◌, refl, sym, ap, subst, ◌∙◌, true≢false, ℕ, nat_eq, Bool, true, false, [], ◌∷◌, ◌++◌, Some, Result, Ok, Err, length}
-use Rattle.std.proofs.lemmas.Grind.{common_steps}
-use Rattle.std.specs.Prelude.{drop, take}
+use Rattle.std.proofs.Common.{arith, ◌≡◌, refl, sym, ap, subst, ◌∙◌, true≢false, ℕ, nat_eq, Bool, true, false, [], ◌∷◌, ◌++◌, Some, Result, Ok, Err, length, drop, take}
+use Rattle.vt_spec.proofs.Common.{Bind, Call, Done, Fresh, Here, Judgement, MountPlain, MoveMount, Permit, Rules, Task, TaskName, ToBind, ToMountPlain, ToMove, World, and_then, answer-finished_by, apply, attach_permit, bind_permit, bind_rules, bind_tree, common_steps, denial, judge_in, looks_of, mount_plain_permit, move_permit, move_rules, new_mount_rules, only_looks, overfills, policy, task_called, unless, walk_end}
 use Rattle.vt_spec.specs.declared.errors.Deny.{Deny}
 use Rattle.vt_spec.specs.declared.errors.Rule.TheVariants.{K1, M9}
-use Rattle.vt_spec.specs.Errors.{Rules, and_then, denial, unless}
-use Rattle.vt_spec.specs.Language.Answers.Answer.{Done}
-use Rattle.vt_spec.specs.Language.Calls.{Call, TaskName}
-use Rattle.vt_spec.specs.Language.Calls.Call.{Bind, MountPlain, MoveMount}
-use Rattle.vt_spec.specs.Lists.{Fresh}
-use Rattle.vt_spec.specs.Machine.Apply.{apply, overfills}
-use Rattle.vt_spec.specs.Machine.Attach.{bind_tree}
-use Rattle.vt_spec.specs.Machine.Judge.{Judgement, attach_permit, bind_permit, judge_in, mount_plain_permit, move_permit}
-use Rattle.vt_spec.specs.Machine.Looks.{looks_of}
 use Rattle.vt_spec.proofs.Tables.{destination_walk, source_walk}
-use Rattle.vt_spec.specs.Machine.Permits.{Permit}
-use Rattle.vt_spec.specs.Machine.Permits.Permit.{ToBind, ToMountPlain, ToMove}
-use Rattle.vt_spec.specs.Machine.Policy.{only_looks, policy}
-use Rattle.vt_spec.specs.Machine.Rules.Mounting.{bind_rules, move_rules, new_mount_rules}
-use Rattle.vt_spec.specs.Machine.Walking.{Here, walk_end}
-use Rattle.vt_spec.specs.Machine.World.{Task, World, task_called}
 use Rattle.vt_laws_mounts.specs.Mounts.Attaching.{is_mount}
-use Rattle.vt_spec.proofs.Worlds.{answer-finished_by}
 use Rattle.vt_laws_trees.proofs.trees.TreesWalked.{Ends}
 use Rattle.vt_laws_worlds.proofs.worlds.ReachedPlaces.{HereDirectory, source_walk_end}
 use Rattle.vt_laws_later_calls.specs.Limits.Room.{BindNeedsRoom, MoveNeedsRoom, NeedsRoom, NewMountNeedsRoom, lacks_room, lacks_room_for_moved, none_fails, tree_of}

@@ -1,36 +1,8 @@
 -- What calls that write and that set attributes are granted: an edit of a file on a mount of theirs.
-use Rattle.std.proofs.Common.{arith, ◌≡◌, refl, ℕ, nat_eq, eqb-true, Bool, true, List, [], ◌∷◌, Option, Some, None, Ok, flat_map, length}
-use Rattle.std.proofs.lemmas.Grind.{common_steps}
-use Rattle.std.specs.Prelude.{⊤, IfOk, nat_lt}
+use Rattle.std.proofs.Common.{arith, ◌≡◌, refl, ℕ, nat_eq, eqb-true, Bool, true, List, [], ◌∷◌, Option, Some, None, Ok, flat_map, length, IfOk, nat_lt}
+use Rattle.vt_spec.proofs.Common.{Among, Change, FileTree, Here, IsWorld, Location, Looks, Node, Permit, Place, SetAttr, SetBytes, SetMark, Task, TaskName, ToChange, World, admin_rules, and_then, attr_at, attr_permit, attr_rules, attr_with_mode, attr_with_owner, changed, changed_node, chmod_permit, chown_permit, common_steps, directory_walk, entries-node_with_attr, entries-node_with_bytes, entries-node_with_mark, entries_in, file_mode, file_walk, file_word_rules, is_among, largest_file, looks_of, make_permit, make_rules, may_chown, members, named_in, new_file, object_walk, opaque_permit, opaque_rules, owns, part_of, rewrite_rules, sealed, targets_in, unless, unnumbered, used_filesystems, walk_end, write_permit, written_permit, ⊤}
 use Rattle.vt_spec.specs.declared.attributes.Attr.{Attr}
 use Rattle.vt_spec.specs.declared.errors.Rule.TheVariants.{E6}
-use Rattle.vt_spec.specs.Errors.{and_then, unless}
-use Rattle.vt_spec.specs.FileTree.{FileTree, targets_in}
-use Rattle.vt_spec.specs.Language.Calls.{TaskName}
-use Rattle.vt_spec.specs.Language.Changes.{Change, changed, changed_node}
-use Rattle.vt_spec.specs.Language.Changes.Change.{SetAttr, SetBytes, SetMark}
-use Rattle.vt_spec.specs.Language.Limits.{largest_file}
-use Rattle.vt_spec.specs.Lists.{is_among}
-use Rattle.vt_spec.specs.Machine.Attributes.{attr_with_mode, attr_with_owner, may_chown}
-use Rattle.vt_spec.specs.Machine.Invariants.{IsWorld}
-use Rattle.vt_spec.specs.Machine.Judge.{attr_permit, chmod_permit, chown_permit, make_permit, opaque_permit, unnumbered, write_permit, written_permit}
-use Rattle.vt_spec.specs.Machine.Looks.{Looks, looks_of}
-use Rattle.vt_spec.specs.Machine.Mounts.{Location}
-use Rattle.vt_spec.specs.Machine.Permits.{Permit}
-use Rattle.vt_spec.specs.Machine.Permits.Permit.{ToChange}
-use Rattle.vt_spec.specs.Machine.Rows.{file_mode, new_file}
-use Rattle.vt_spec.specs.Machine.Rules.Attributes.{attr_at, attr_rules, opaque_rules}
-use Rattle.vt_spec.specs.Machine.Rules.Making.{file_word_rules, make_rules, rewrite_rules}
-use Rattle.vt_spec.specs.Machine.Rules.Mounting.{admin_rules}
-use Rattle.vt_spec.specs.Machine.Sealed.{members, part_of, sealed, used_filesystems}
-use Rattle.vt_spec.specs.Machine.Settled.{named_in}
-use Rattle.vt_spec.specs.Machine.Walking.{Here, Place, directory_walk, file_walk, object_walk, walk_end}
-use Rattle.vt_spec.specs.Machine.World.{Task, World}
-use Rattle.vt_spec.specs.Rights.{owns}
-use Rattle.vt_spec.specs.Tree.{Node, entries_in}
-use Rattle.vt_spec.proofs.Lists.{Among}
-use Rattle.vt_spec.proofs.NodeChanges.{entries-node_with_attr, entries-node_with_mark}
-use Rattle.vt_spec.proofs.Nodes.{entries-node_with_bytes}
 use Rattle.vt_laws_members.specs.Judging.{is_theirs}
 use Rattle.vt_laws_members.proofs.judging.AllJudged.{judges}
 use Rattle.vt_laws_members.proofs.judging.Judged.{JudgesAlike}

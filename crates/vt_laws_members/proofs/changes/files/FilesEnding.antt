@@ -1,24 +1,7 @@
 -- An edit of a file on a plain filesystem ends in the part as in the world.
-use Rattle.std.proofs.Common.{arith, ◌≡◌, refl, sym, ap, subst, ◌∙◌, ℕ, nat_eq, true, false, true≢false, List, [], ◌∷◌, Option, Some, None, Ok, filter, is_some, map, ◌||◌}
-use Rattle.std.proofs.lemmas.Grind.{common_steps}
-use Rattle.std.specs.Prelude.{IfOk}
-use Rattle.vt_spec.specs.FileTree.{FileTree}
-use Rattle.vt_spec.specs.Language.Answers.Answer.{Done}
-use Rattle.vt_spec.specs.Language.Calls.{Call, TaskName}
-use Rattle.vt_spec.specs.Language.Calls.Call.{Chmod, Chown, Opaque, Write}
+use Rattle.std.proofs.Common.{arith, ◌≡◌, refl, sym, ap, subst, ◌∙◌, ℕ, nat_eq, true, false, true≢false, List, [], ◌∷◌, Option, Some, None, Ok, filter, is_some, map, ◌||◌, IfOk}
+use Rattle.vt_spec.proofs.Common.{Among, Call, Change, Chmod, Chown, Done, FileTree, Filesystem, Fresh, Location, Opaque, Overlay, Task, TaskName, ToChange, World, Write, changed_at, common_steps, filesystem_at, filesystem_changed, finished_by, granted, is_among, is_member_task, is_overlay, judge_in, mount_at, numbers_of_change, numbers_raised, only_looks, part_of, policy, raised_task, settled, task_called, used_filesystems, with_change}
 use Rattle.vt_spec.specs.Language.Changes as Changes
-use Rattle.vt_spec.specs.Language.Changes.{Change}
-use Rattle.vt_spec.specs.Lists.{Fresh, is_among}
-use Rattle.vt_spec.specs.Machine.Filesystems.{changed_at, filesystem_changed, numbers_of_change, with_change}
-use Rattle.vt_spec.specs.Machine.Judge.{judge_in}
-use Rattle.vt_spec.specs.Machine.Mounts.{Location}
-use Rattle.vt_spec.specs.Machine.Outcomes.{granted}
-use Rattle.vt_spec.specs.Machine.Permits.Permit.{ToChange}
-use Rattle.vt_spec.specs.Machine.Policy.{finished_by, numbers_raised, only_looks, policy, raised_task}
-use Rattle.vt_spec.specs.Machine.Sealed.{is_member_task, part_of, used_filesystems}
-use Rattle.vt_spec.specs.Machine.Settled.{settled}
-use Rattle.vt_spec.specs.Machine.World.{Filesystem, Overlay, Task, World, filesystem_at, is_overlay, mount_at, task_called}
-use Rattle.vt_spec.proofs.Lists.{Among}
 use Rattle.vt_laws_mounts.specs.LettingGo.InUse.{AllInUse}
 use Rattle.vt_laws_mounts.specs.LettingGo.TreesOverlays.{with_filesystems}
 use Rattle.vt_laws_mounts.proofs.letting_go.Lists.{filter-map}

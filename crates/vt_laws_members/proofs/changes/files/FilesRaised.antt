@@ -1,15 +1,6 @@
 -- Where the tree of a filesystem of theirs changes, and nothing goes: the world that a call leaves, and its part.
 use Rattle.std.proofs.Common.{arith, ◌≡◌, refl, ap, ◌∙◌, ℕ, nat_eq, eqb-true, Bool, true, false, true≢false, List, [], ◌∷◌, filter, map}
-use Rattle.std.proofs.lemmas.Grind.{common_steps}
-use Rattle.vt_spec.specs.FileTree.{FileTree}
-use Rattle.vt_spec.specs.Language.Calls.{TaskName}
-use Rattle.vt_spec.specs.Lists.{is_among}
-use Rattle.vt_spec.specs.Machine.Filesystems.{raised, raised_if_changed, with_files}
-use Rattle.vt_spec.specs.Machine.Policy.{numbers_raised, raised_task}
-use Rattle.vt_spec.specs.Machine.Sealed.{is_member_task, part_of, used_filesystems}
-use Rattle.vt_spec.specs.Machine.Settled.{settled}
-use Rattle.vt_spec.specs.Machine.World.{Filesystem, Task, World, locations_of, replaced_if_numbered}
-use Rattle.vt_spec.proofs.Lists.{Among, map_twice}
+use Rattle.vt_spec.proofs.Common.{Among, FileTree, Filesystem, Task, TaskName, World, common_steps, is_among, is_member_task, locations_of, map_twice, numbers_raised, part_of, raised, raised_if_changed, raised_task, replaced_if_numbered, settled, used_filesystems, with_files}
 use Rattle.vt_laws_mounts.specs.LettingGo.InUse.{AllInUse}
 use Rattle.vt_laws_mounts.specs.LettingGo.TreesOverlays.{with_filesystems}
 use Rattle.vt_laws_mounts.proofs.letting_go.sweeps.InUse.{nothing_goes}

@@ -1,14 +1,6 @@
 -- A filesystem that a set uses, by its number: it is one in the world, and the same one in the part.
-use Rattle.std.proofs.Common.{arith, ◌≡◌, refl, sym, ap, ◌∙◌, ⊎_elim, ℕ, nat_eq, eqb-true, true, cond, true≢false, List, [], ◌∷◌, Some, find}
-use Rattle.std.proofs.lemmas.Grind.{common_steps}
-use Rattle.std.specs.Prelude.{unwrap_or}
-use Rattle.vt_spec.specs.Language.Calls.{TaskName}
-use Rattle.std.specs.List.{list_any}
-use Rattle.vt_spec.specs.Lists.{is_among, when}
-use Rattle.vt_spec.specs.Machine.Invariants.{IsWorld}
-use Rattle.vt_spec.specs.Machine.Sealed.{own_lowers, part_of, part_of_filesystem, part_of_lower, used_filesystems}
-use Rattle.vt_spec.specs.Machine.World.{Filesystem, World, filesystem_numbered, no_filesystem}
-use Rattle.vt_spec.proofs.Lists.{Among, among-filter_map, among-from_filter_map}
+use Rattle.std.proofs.Common.{arith, ◌≡◌, refl, sym, ap, ◌∙◌, ⊎_elim, ℕ, nat_eq, eqb-true, true, cond, true≢false, List, [], ◌∷◌, Some, find, unwrap_or}
+use Rattle.vt_spec.proofs.Common.{Among, Filesystem, IsWorld, TaskName, World, among-filter_map, among-from_filter_map, common_steps, filesystem_numbered, is_among, list_any, no_filesystem, own_lowers, part_of, part_of_filesystem, part_of_lower, used_filesystems, when}
 use Rattle.vt_laws_mounts.proofs.letting_go.sweeps.OfWorlds.{found_filesystem}
 use Rattle.vt_laws_sealed.proofs.part.part.PartOfPart.{shown_how}
 

@@ -1,24 +1,7 @@
 -- A write of bytes at an offset of an open file ends in the part as in the world.
-use Rattle.std.proofs.Common.{◌≡◌, refl, sym, ap, subst, ◌∙◌, ℕ, nat_eq, Bool, true, false, cond, find, List, ◌∷◌, Option, Some, None, Ok}
-use Rattle.std.specs.Prelude.{⊤, IfOk, ok_or, option_to_list, ◌==◌}
+use Rattle.std.proofs.Common.{◌≡◌, refl, sym, ap, subst, ◌∙◌, ℕ, nat_eq, Bool, true, false, cond, find, List, ◌∷◌, Option, Some, None, Ok, IfOk, ok_or, option_to_list, ◌==◌}
+use Rattle.vt_spec.proofs.Common.{Among, Call, Descriptor, IsWorld, Location, Looks, Permit, Pwrite, SetBytes, Task, TaskName, ToChange, ToWritePart, World, and_then, bytes_in, denial, descriptor_numbered, filesystem_numbered, found_among, judge_in, locations, looks_of, members, mount_at, node_at, overwritten, part_of, pwrite_permit, pwrite_rules, sealed, unless, ⊤}
 use Rattle.vt_spec.specs.declared.errors.Rule.TheVariants.{S4}
-use Rattle.vt_spec.specs.Errors.{and_then, denial, unless}
-use Rattle.vt_spec.specs.Language.Calls.{Call, TaskName}
-use Rattle.vt_spec.specs.Language.Calls.Call.{Pwrite}
-use Rattle.vt_spec.specs.Language.Changes.Change.{SetBytes}
-use Rattle.vt_spec.specs.Machine.Descriptors.{overwritten}
-use Rattle.vt_spec.specs.Machine.Invariants.{IsWorld}
-use Rattle.vt_spec.specs.Machine.Judge.{judge_in, pwrite_permit}
-use Rattle.vt_spec.specs.Machine.Looks.{Looks, looks_of}
-use Rattle.vt_spec.specs.Machine.Mounts.{Location}
-use Rattle.vt_spec.specs.Machine.Permits.{Permit}
-use Rattle.vt_spec.specs.Machine.Permits.Permit.{ToChange, ToWritePart}
-use Rattle.vt_spec.specs.Machine.Rules.Descriptors.{descriptor_numbered, pwrite_rules}
-use Rattle.vt_spec.specs.Machine.Sealed.{locations, members, part_of, sealed}
-use Rattle.vt_spec.specs.Machine.World.{Descriptor, Task, World, filesystem_numbered, mount_at, node_at}
-use Rattle.vt_spec.specs.Tree.{bytes_in}
-use Rattle.vt_spec.proofs.Found.{found_among}
-use Rattle.vt_spec.proofs.Lists.{Among}
 use Rattle.vt_laws_sealed.proofs.part.part.PartOfPart.{found, located}
 use Rattle.vt_laws_members.proofs.judging.SeenInPart.{located_used}
 use Rattle.vt_laws_members.specs.Changes.Changes.{PartWritesEndAlike}

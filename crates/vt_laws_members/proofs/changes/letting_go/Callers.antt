@@ -1,15 +1,6 @@
 -- The caller gets other locations: some that it had, and others where members get.
 use Rattle.std.proofs.Common.{◌≡◌, refl, sym, ap, subst, ◌∙◌, ◌⊎◌, inl, inr, ⊎_elim, ℕ, nat_eq, Bool, true, false, cond, true≢false, List, [], ◌∷◌, Some, Ok, filter, map, not}
-use Rattle.std.specs.List.{list_any}
-use Rattle.vt_spec.specs.Language.Answers.Answer.{Done}
-use Rattle.vt_spec.specs.Language.Calls.{Call, TaskName, same_name}
-use Rattle.vt_spec.specs.Lists.{Fresh, is_among}
-use Rattle.vt_spec.specs.Machine.Mounts.{Location}
-use Rattle.vt_spec.specs.Machine.Sealed.{is_member_task, locations, members, outsiders, part_of, roots_and_directories}
-use Rattle.vt_spec.specs.Machine.World.{Task, World, locations_of, replaced_if_called, task_called}
-use Rattle.vt_spec.proofs.Found.{found_among}
-use Rattle.vt_spec.proofs.Lists.{Among, among-flat_map, among-from_filter, among-from_flat_map, among-from_map}
-use Rattle.vt_spec.proofs.Worlds.{name-replaced_if_called, same_task_name}
+use Rattle.vt_spec.proofs.Common.{Among, Call, Done, Fresh, Location, Task, TaskName, World, among-flat_map, among-from_filter, among-from_flat_map, among-from_map, found_among, is_among, is_member_task, list_any, locations, locations_of, members, name-replaced_if_called, outsiders, part_of, replaced_if_called, roots_and_directories, same_name, same_task_name, task_called}
 use Rattle.vt_laws_mounts.proofs.letting_go.Lists.{filter-map}
 use Rattle.vt_laws_sealed.proofs.part.part.PartOfPart.{same_members}
 use Rattle.vt_laws_members.proofs.judging.Grounds.{IsTheirs}

@@ -1,18 +1,7 @@
 -- Where tasks of a set let locations go, the world and the part are ready to be swept.
 use Rattle.std.proofs.Common.{arith, ◌≡◌, refl, sym, ap, subst, ◌∙◌, ◌⊎◌, inl, inr, ⊎_elim, ℕ, nat_eq, Bool, true, true≢false, List, [], Option, Some, None, filter, map, not, ◌||◌, eqb-true}
-use Rattle.std.proofs.lemmas.Grind.{common_steps}
-use Rattle.std.specs.List.{list_any}
-use Rattle.std.proofs.lemmas.Bool.{or_cases, or_left, or_parts, or_right}
+use Rattle.vt_spec.proofs.Common.{Among, IsWorld, Location, Mount, MountInvariants, Stands, Task, TaskName, World, all_locations, among-append, among-append_left, among-append_right, among-flat_map, among-from_filter, among-from_flat_map, among-from_map, among-map, among_from_all, any_among, any_from_among, common_steps, found_or_none, holds_of, is_at, is_member_task, list_any, locations, locations_of, members, mount_at, mount_numbered, none_is_some, number-mount_in, or_cases, or_left, or_parts, or_right, outsiders, roots_and_directories, sealed, seen_by_descriptor, then_some, used_directly}
 use Rattle.vt_laws_sealed.proofs.part.part.MountsOver.{nowhere_stands, numbered}
-use Rattle.vt_spec.specs.Language.Calls.{TaskName}
-use Rattle.vt_spec.specs.Lists.{holds_of, then_some}
-use Rattle.vt_spec.specs.Machine.Invariants.{IsWorld, MountInvariants, Stands}
-use Rattle.vt_spec.specs.Machine.Mounts.{Location, Mount}
-use Rattle.vt_spec.specs.Machine.Sealed.{is_at, is_member_task, locations, members, outsiders, roots_and_directories, sealed, seen_by_descriptor, used_directly}
-use Rattle.vt_spec.specs.Machine.World.{Task, World, all_locations, locations_of, mount_at, mount_numbered}
-use Rattle.vt_spec.proofs.Lists.{Among, among-append, among-append_left, among-append_right, among-flat_map, among-from_filter, among-from_flat_map, among-from_map, among-map, among_from_all, any_among, any_from_among}
-use Rattle.vt_spec.proofs.Options.{none_is_some}
-use Rattle.vt_spec.proofs.Worlds.{found_or_none, number-mount_in}
 use Rattle.vt_laws_mounts.proofs.mounts.MountsReplaced.{found_itself}
 use Rattle.vt_laws_worlds.proofs.worlds.Reached.{namespace_below}
 use Rattle.vt_laws_sealed.proofs.part.part.PartOfPart.{is_own, keep, located}

@@ -1,19 +1,6 @@
 -- What lies under lower layers is cut out of a tree alike, once the tree is cut to more than that.
-use Rattle.std.proofs.lemmas.Grind.{common_steps}
 use Rattle.std.proofs.Common.{◌≡◌, refl, sym, ap, ◌∙◌, ◌⊎◌, inl, inr, ⊎_elim, ℕ, zero, suc, nat_eq, Bool, true, false, cond, true≢false, List, [], ◌∷◌, Option, Some, None, filter, is_some, length, not, ◌&&◌, arith, eqb-true}
-use Rattle.std.specs.List.{list_any}
-use Rattle.std.proofs.lemmas.Bool.{and_from, and_parts, or_cases, or_left, or_right}
-use Rattle.std.proofs.lemmas.List.Filters.{length-filter_both}
-use Rattle.vt_spec.specs.FileTree.{FileTree, has_entry_to, is_directory_under, is_file_under, is_under, named_parent, targets_in}
-use Rattle.vt_spec.specs.Lists.{chain, is_among, when}
-use Rattle.vt_spec.specs.Machine.Invariants.{ListsNumbers}
-use Rattle.vt_spec.specs.Machine.Settled.{named_in, only_among}
-use Rattle.vt_spec.specs.Machine.World.{Layer}
-use Rattle.vt_spec.specs.Tree.{is_directory_node, parent_in}
-use Rattle.vt_spec.specs.TreeInvariant.{IsTree}
-use Rattle.vt_spec.proofs.Lists.{Among, among-filter, among-from_filter, among_numbers, any_among, any_from_among, is_among_numbers}
-use Rattle.vt_spec.proofs.Options.{none_is_some}
-use Rattle.vt_spec.proofs.Truths.{same_truth}
+use Rattle.vt_spec.proofs.Common.{Among, FileTree, IsTree, Layer, ListsNumbers, among-filter, among-from_filter, among_numbers, and_from, and_parts, any_among, any_from_among, chain, common_steps, has_entry_to, is_among, is_among_numbers, is_directory_node, is_directory_under, is_file_under, is_under, length-filter_both, list_any, named_in, named_parent, none_is_some, only_among, or_cases, or_left, or_right, parent_in, same_truth, targets_in, when}
 use Rattle.vt_laws_members.proofs.changes.part.PartAgain.{filter_all}
 use Rattle.vt_laws_members.proofs.changes.part.CutTrees.{at_head, more, named_in_cut, reaches, under_in_cut}
 

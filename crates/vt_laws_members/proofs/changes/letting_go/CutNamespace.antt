@@ -1,11 +1,6 @@
 -- The mounts of a namespace, by their numbers.
 use Rattle.std.proofs.Common.{◌≡◌, sym, ap, ◌∙◌, ℕ, nat_eq, Bool, List, map}
-use Rattle.vt_spec.specs.Lists.{holds_of}
-use Rattle.vt_spec.specs.Machine.Detach.{is_going}
-use Rattle.vt_spec.specs.Machine.Mounts.{Mount}
-use Rattle.vt_spec.specs.Machine.World.{World, mount_numbered, mounts_of}
-use Rattle.vt_spec.proofs.Lists.{Among, among-filter, among-from_filter, among-from_map, among-map, among_numbers, is_among_numbers}
-use Rattle.vt_spec.proofs.Truths.{same_truth}
+use Rattle.vt_spec.proofs.Common.{Among, Mount, World, among-filter, among-from_filter, among-from_map, among-map, among_numbers, holds_of, is_among_numbers, is_going, mount_numbered, mounts_of, same_truth}
 use Rattle.vt_laws_mounts.specs.Mounts.Invariants.{OneNumberEach}
 use Rattle.vt_laws_mounts.proofs.mounts.MountsReplaced.{found_itself}
 

@@ -1,16 +1,7 @@
 -- Where mounts of theirs are detached, and the rest is swept and raised, the part is what is left of the part.
 use Rattle.std.proofs.Common.{◌≡◌, sym, ap, ◌∙◌, ℕ, nat_eq, Bool, true, false, List, [], filter, map, not}
-use Rattle.std.specs.List.{list_any}
+use Rattle.vt_spec.proofs.Common.{Among, IsWorld, Location, Mount, MountInvariants, Namespace, Task, TaskName, World, is_going, is_member_task, list_any, locations, members, numbers_raised, outsiders, own_lowers, part_of, raised_namespace, raised_task, sealed, settled, used_filesystems}
 use Rattle.vt_laws_members.proofs.namespaces.RemadeParts.{raised_part}
-use Rattle.vt_spec.specs.Language.Calls.{TaskName}
-use Rattle.vt_spec.specs.Machine.Detach.{is_going}
-use Rattle.vt_spec.specs.Machine.Invariants.{IsWorld, MountInvariants}
-use Rattle.vt_spec.specs.Machine.Mounts.{Location, Mount}
-use Rattle.vt_spec.specs.Machine.Policy.{numbers_raised, raised_namespace, raised_task}
-use Rattle.vt_spec.specs.Machine.Sealed.{is_member_task, locations, members, outsiders, own_lowers, part_of, sealed, used_filesystems}
-use Rattle.vt_spec.specs.Machine.Settled.{settled}
-use Rattle.vt_spec.specs.Machine.World.{Namespace, Task, World}
-use Rattle.vt_spec.proofs.Lists.{Among}
 use Rattle.vt_laws_sealed.proofs.part.part.PartOfPart.{is_own}
 use Rattle.vt_laws_members.proofs.changes.letting_go.EndedPartReady.{ended_part_ready}
 use Rattle.vt_laws_members.proofs.changes.letting_go.EndedRaised.{raised_alike}

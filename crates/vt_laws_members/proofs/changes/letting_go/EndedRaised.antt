@@ -1,27 +1,7 @@
 -- Where mounts of theirs are detached, the change numbers of namespaces are raised alike.
-use Rattle.std.proofs.Common.{arith, ◌≡◌, refl, sym, ap, subst, ◌∙◌, inl, inr, ⊎_elim, ℕ, nat_eq, Bool, true, false, cond, true≢false, List, [], ◌∷◌, Option, Some, None, filter, is_some, map, ◌&&◌}
-use Rattle.std.proofs.lemmas.Grind.{common_steps}
-use Rattle.std.specs.List.{cons_option, filter_map, list_any}
-use Rattle.std.proofs.lemmas.Bool.{or_left}
-use Rattle.std.proofs.lemmas.List.{length-map}
-use Rattle.std.proofs.lemmas.Option.{same_Some}
+use Rattle.std.proofs.Common.{arith, ◌≡◌, refl, sym, ap, subst, ◌∙◌, inl, inr, ⊎_elim, ℕ, nat_eq, Bool, true, false, cond, true≢false, List, [], ◌∷◌, Option, Some, None, filter, is_some, map, ◌&&◌, filter_map}
+use Rattle.vt_spec.proofs.Common.{Among, IsWorld, Mount, Namespace, Private, Propagation, Shared, Slave, Task, TaskName, Unbindable, World, after_going, among-filter, among-filter_map, among-from_filter, among-from_map, among-map, any_among, any_from_among, chain, common_steps, cons_option, found_among, groups_up, has_members, heir, holds_of, inherited, is_going, is_located, is_member_of, is_member_task, is_own_mount, length-map, list_any, map_alike, master_above, members, mount_lives, mounts_of, none_is_some, or_left, own_mounts, part_of, raised, raised_namespace, same_Some, same_flags, same_list, same_location, same_mount, same_mounts_in, same_option, same_propagation, same_truth, sealed, settled, slave_of_heir, source_of, then_some}
 use Rattle.vt_laws_mounts.proofs.GroupsUp.{source_from_group}
-use Rattle.vt_spec.specs.Language.Calls.{TaskName}
-use Rattle.vt_spec.specs.Lists.{chain, holds_of, same_list, same_option, then_some}
-use Rattle.vt_spec.specs.Machine.Detach.{after_going, is_going}
-use Rattle.vt_spec.specs.Machine.Filesystems.{raised}
-use Rattle.vt_spec.specs.Machine.Invariants.{IsWorld}
-use Rattle.vt_spec.specs.Machine.Mounts.{Mount, Propagation, same_location, source_of}
-use Rattle.vt_spec.specs.Machine.Mounts.Propagation.{Private, Shared, Slave, Unbindable}
-use Rattle.vt_spec.specs.Machine.Policy.{master_above, raised_namespace, same_flags, same_mount, same_mounts_in, same_propagation}
-use Rattle.vt_spec.specs.Machine.Receives.{groups_up, has_members, heir, inherited, is_member_of, slave_of_heir}
-use Rattle.vt_spec.specs.Machine.Sealed.{is_member_task, is_own_mount, members, own_mounts, part_of, sealed}
-use Rattle.vt_spec.specs.Machine.Settled.{is_located, mount_lives, settled}
-use Rattle.vt_spec.specs.Machine.World.{Namespace, Task, World, mounts_of}
-use Rattle.vt_spec.proofs.Found.{found_among}
-use Rattle.vt_spec.proofs.Lists.{Among, among-filter, among-filter_map, among-from_filter, among-from_map, among-map, any_among, any_from_among, map_alike}
-use Rattle.vt_spec.proofs.Options.{none_is_some}
-use Rattle.vt_spec.proofs.Truths.{same_truth}
 use Rattle.vt_laws_mounts.proofs.letting_go.Lists.{filter-map}
 use Rattle.vt_laws_sealed.proofs.part.groups.EventsApart.{none_hears, sides}
 use Rattle.vt_laws_sealed.proofs.part.groups.ReceiversAlike.{member_group}

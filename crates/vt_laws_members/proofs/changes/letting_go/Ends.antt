@@ -1,18 +1,6 @@
 -- A call by which tasks of a sealed set let locations go ends in the part as in the world.
 use Rattle.std.proofs.Common.{◌≡◌, refl, sym, ap, subst, ◌∙◌, ⊎_elim, ℕ, nat_eq, true, List, [], ◌∷◌, Some, Ok, filter, is_some, map, not, ◌&&◌, ◌||◌}
-use Rattle.std.proofs.lemmas.Bool.{and_parts}
-use Rattle.vt_spec.specs.Language.Answers.{Answer}
-use Rattle.vt_spec.specs.Language.Calls.{Call, TaskName, same_name}
-use Rattle.vt_spec.specs.Lists.{Fresh, is_among}
-use Rattle.vt_spec.specs.Machine.Filesystems.{raised}
-use Rattle.vt_spec.specs.Machine.Invariants.{IsWorld, is_nowhere_or_attached, is_private}
-use Rattle.vt_spec.specs.Machine.Mounts.{Mount}
-use Rattle.vt_spec.specs.Machine.Outcomes.{granted}
-use Rattle.vt_spec.specs.Machine.Policy.{policy, raised_task}
-use Rattle.vt_spec.specs.Machine.Sealed.{is_member_task, members, part_of}
-use Rattle.vt_spec.specs.Machine.Settled.{settled}
-use Rattle.vt_spec.specs.Machine.World.{Task, World, locations_of, task_called}
-use Rattle.vt_spec.proofs.Lists.{Among, among-from_filter_map, among_from_list_all}
+use Rattle.vt_spec.proofs.Common.{Among, Answer, Call, Fresh, IsWorld, Mount, Task, TaskName, World, among-from_filter_map, among_from_list_all, and_parts, granted, is_among, is_member_task, is_nowhere_or_attached, is_private, locations_of, members, part_of, policy, raised, raised_task, same_name, settled, task_called}
 use Rattle.vt_laws_mounts.specs.LettingGo.InUse.{AllInUse}
 use Rattle.vt_laws_mounts.proofs.letting_go.Lists.{filter-map}
 use Rattle.vt_laws_mounts.proofs.letting_go.sweeps.OfWorlds.{all_in_use}

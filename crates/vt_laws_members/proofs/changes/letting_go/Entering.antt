@@ -1,30 +1,7 @@
 -- A setns(2) that ends no namespace ends in the part as in the world.
-use Rattle.std.proofs.Common.{arith, ◌≡◌, refl, sym, ap, ◌∙◌, ⊎_elim, ℕ, nat_eq, Bool, true, false, true≢false, List, [], ◌∷◌, Option, Some, None, Ok, map, not, ◌||◌, eq-eqb}
-use Rattle.std.proofs.lemmas.Grind.{common_steps}
-use Rattle.std.specs.Prelude.{IfOk, is_some, ok_or, option_map, unwrap_or}
-use Rattle.std.specs.List.{list_any}
+use Rattle.std.proofs.Common.{arith, ◌≡◌, refl, sym, ap, ◌∙◌, ⊎_elim, ℕ, nat_eq, Bool, true, false, true≢false, List, [], ◌∷◌, Option, Some, None, Ok, map, not, ◌||◌, eq-eqb, IfOk, is_some, ok_or, option_map, unwrap_or}
+use Rattle.vt_spec.proofs.Common.{Among, Call, Done, Exit, Fresh, IsWorld, Location, Mount, Namespace, Permit, Setns, Task, TaskName, ToEnterNamespace, World, among-from_filter, among-from_map, among-map, among_from_list_all, and_then, any_among, any_from_among, cap_sys_admin, cap_sys_chroot, common_steps, denial, entered_at, found_among, granted, has_tasks, holds_of, is_among, is_own_namespace, judge_in, lacks, list_all_from_among, list_any, members, mounts_of, namespace_root, namespaces_ended, numbers_raised, part_of, replaced_if_called, root_mount, root_of, same_name, same_truth, sealed, setns_permit, settled, task_called, topmost, unless}
 use Rattle.vt_spec.specs.declared.errors.Rule.TheVariants.{K1, S2}
-use Rattle.vt_spec.specs.Errors.{and_then, denial, unless}
-use Rattle.vt_spec.specs.Language.Answers.Answer.{Done}
-use Rattle.vt_spec.specs.Language.Calls.{Call, TaskName, same_name}
-use Rattle.vt_spec.specs.Language.Calls.Call.{Exit, Setns}
-use Rattle.vt_spec.specs.Lists.{Fresh, holds_of, is_among}
-use Rattle.vt_spec.specs.Machine.Judge.{judge_in, setns_permit}
-use Rattle.vt_spec.specs.Machine.Mounts.{Location, Mount, root_of, topmost}
-use Rattle.vt_spec.specs.Machine.Namespaces.{entered_at, has_tasks, namespace_root, namespaces_ended}
-use Rattle.vt_spec.specs.Machine.Outcomes.{granted}
-use Rattle.vt_spec.specs.Machine.Permits.{Permit}
-use Rattle.vt_spec.specs.Machine.Permits.Permit.{ToEnterNamespace}
-use Rattle.vt_spec.specs.Machine.Policy.{numbers_raised}
-use Rattle.vt_spec.specs.Machine.Rules.Conditions.{lacks}
-use Rattle.vt_spec.specs.Machine.Sealed.{is_own_namespace, members, part_of, sealed}
-use Rattle.vt_spec.specs.Machine.Settled.{settled}
-use Rattle.vt_spec.specs.Machine.World.{Namespace, Task, World, mounts_of, replaced_if_called, root_mount, task_called}
-use Rattle.vt_spec.specs.Machine.Invariants.{IsWorld}
-use Rattle.vt_spec.specs.Rights.{cap_sys_admin, cap_sys_chroot}
-use Rattle.vt_spec.proofs.Found.{found_among}
-use Rattle.vt_spec.proofs.Lists.{Among, among-from_filter, among-from_map, among-map, among_from_list_all, any_among, any_from_among, list_all_from_among}
-use Rattle.vt_spec.proofs.Truths.{same_truth}
 use Rattle.vt_laws_later_calls.proofs.last_use.Groups.{none_lost}
 use Rattle.vt_laws_members.proofs.judging.Grounds.{IsTheirs, theirs_from, theirs_test}
 use Rattle.vt_laws_members.proofs.judging.MountTrees.{own_theirs}

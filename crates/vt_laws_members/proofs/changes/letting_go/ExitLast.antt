@@ -1,23 +1,6 @@
 -- An exit of the last task of its namespace ends in the part as in the world: the mounts of the namespace are detached.
 use Rattle.std.proofs.Common.{arith, ◌≡◌, refl, sym, ap, subst, ◌∙◌, ℕ, nat_eq, Bool, true, false, true≢false, List, [], Option, Some, None, filter, map, not, ◌||◌, eq-eqb, eqb-true}
-use Rattle.std.proofs.lemmas.Grind.{common_steps}
-use Rattle.std.specs.List.{list_all, list_any}
-use Rattle.std.proofs.lemmas.Bool.{or_left, or_right}
-use Rattle.vt_spec.specs.Language.Answers.Answer.{Done}
-use Rattle.vt_spec.specs.Language.Calls.{TaskName, same_name}
-use Rattle.vt_spec.specs.Language.Calls.Call.{Exit}
-use Rattle.vt_spec.specs.Lists.{Fresh, holds_of}
-use Rattle.vt_spec.specs.Machine.Detach.{after_going, is_going, taken_away}
-use Rattle.vt_spec.specs.Machine.Invariants.{MountInvariants}
-use Rattle.vt_spec.specs.Machine.Mounts.{Mount}
-use Rattle.vt_spec.specs.Machine.Namespaces.{has_tasks, namespaces_ended}
-use Rattle.vt_spec.specs.Machine.Outcomes.{granted}
-use Rattle.vt_spec.specs.Machine.Policy.{numbers_raised, policy}
-use Rattle.vt_spec.specs.Machine.Receives.{lost_a_group, regrouped_by}
-use Rattle.vt_spec.specs.Machine.Sealed.{is_member_task, is_own_namespace, members, part_of}
-use Rattle.vt_spec.specs.Machine.Settled.{settled}
-use Rattle.vt_spec.specs.Machine.World.{Namespace, Task, World, task_called}
-use Rattle.vt_spec.proofs.Lists.{Among, among-filter, among-from_filter, among_from_list_all, any_among, any_from_among, list_all_from_among, map_twice, none_among, none_from_among}
+use Rattle.vt_spec.proofs.Common.{Among, Done, Exit, Fresh, Mount, MountInvariants, Namespace, Task, TaskName, World, after_going, among-filter, among-from_filter, among_from_list_all, any_among, any_from_among, common_steps, granted, has_tasks, holds_of, is_going, is_member_task, is_own_namespace, list_all, list_all_from_among, list_any, lost_a_group, map_twice, members, namespaces_ended, none_among, none_from_among, numbers_raised, or_left, or_right, part_of, policy, regrouped_by, same_name, settled, taken_away, task_called}
 use Rattle.vt_laws_mounts.specs.LettingGo.Ends.{MountsAreListed}
 use Rattle.vt_laws_mounts.proofs.letting_go.ends.NamespacesEnd.{one_namespace_ends}
 use Rattle.vt_laws_mounts.proofs.ends.Ending.{ended_namespaces_keep_mounts}

@@ -1,24 +1,6 @@
 -- Each exit ends in the part as in the world.
 use Rattle.std.proofs.Common.{arith, ◌≡◌, refl, sym, ap, subst, ◌∙◌, inl, ⊎_elim, ℕ, nat_eq, Bool, true, false, cond, true≢false, List, [], ◌∷◌, Option, Some, None, filter, not, ◌||◌, eq-eqb, eqb-true}
-use Rattle.std.proofs.lemmas.Grind.{common_steps}
-use Rattle.std.specs.List.{list_all, list_any}
-use Rattle.std.proofs.lemmas.Bool.{not-true}
-use Rattle.vt_spec.specs.Language.Answers.Answer.{Done}
-use Rattle.vt_spec.specs.Language.Calls.{TaskName, same_name}
-use Rattle.vt_spec.specs.Language.Calls.Call.{Exit}
-use Rattle.vt_spec.specs.Lists.{Fresh, then_some}
-use Rattle.vt_spec.specs.Machine.Invariants.{HasLivingGroups, is_private}
-use Rattle.vt_spec.specs.Machine.Mounts.{Location, Mount, Propagation, source_of}
-use Rattle.vt_spec.specs.Machine.Namespaces.{has_tasks, namespaces_ended}
-use Rattle.vt_spec.specs.Machine.Policy.{numbers_raised}
-use Rattle.vt_spec.specs.Machine.Outcomes.{granted}
-use Rattle.vt_spec.specs.Machine.Receives.{has_members, is_lost_group, is_member_of, lost_a_group}
-use Rattle.vt_spec.specs.Machine.Sealed.{is_member_task, is_own_mount, members, own_mounts, part_of}
-use Rattle.vt_spec.specs.Machine.Settled.{settled}
-use Rattle.vt_spec.specs.Machine.World.{Namespace, Task, World, locations_of, task_called}
-use Rattle.vt_spec.proofs.Lists.{Among, among-filter, among-filter_map, among-flat_map, among-from_filter, among-from_flat_map, among_from_all, among_from_list_all, any_among, any_from_among, list_all_from_among, none_from_among}
-use Rattle.vt_spec.proofs.Options.{none_is_some}
-use Rattle.vt_spec.proofs.Truths.{same_truth}
+use Rattle.vt_spec.proofs.Common.{Among, Done, Exit, Fresh, HasLivingGroups, Location, Mount, Namespace, Propagation, Task, TaskName, World, among-filter, among-filter_map, among-flat_map, among-from_filter, among-from_flat_map, among_from_all, among_from_list_all, any_among, any_from_among, common_steps, granted, has_members, has_tasks, is_lost_group, is_member_of, is_member_task, is_own_mount, is_private, list_all, list_all_from_among, list_any, locations_of, lost_a_group, members, namespaces_ended, none_from_among, none_is_some, not-true, numbers_raised, own_mounts, part_of, same_name, same_truth, settled, source_of, task_called, then_some}
 use Rattle.vt_laws_mounts.specs.LettingGo.Ends.{MountsAreListed}
 use Rattle.vt_laws_mounts.proofs.letting_go.ends.NamespacesEnd.{no_namespace_ends}
 use Rattle.vt_laws_later_calls.proofs.last_use.Groups.{none_lost}

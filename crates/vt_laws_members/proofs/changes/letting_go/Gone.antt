@@ -1,17 +1,7 @@
 -- The filesystems that nothing uses are in no part.
-use Rattle.std.proofs.Common.{arith, ◌≡◌, refl, sym, ap, ◌∙◌, inl, inr, ⊎_elim, ℕ, nat_eq, Bool, true, false, cond, true≢false, List, [], ◌∷◌, ◌++◌, Some, None, filter, find, flat_map, ◌&&◌, ◌||◌, eq-eqb, eqb-true}
-use Rattle.std.proofs.lemmas.Grind.{common_steps}
-use Rattle.std.specs.Prelude.{unwrap_or}
-use Rattle.std.specs.List.{list_any}
-use Rattle.std.proofs.lemmas.Bool.{and_from, and_parts, false_from_ne_true, or_cases, or_left, or_right}
+use Rattle.std.proofs.Common.{arith, ◌≡◌, refl, sym, ap, ◌∙◌, inl, inr, ⊎_elim, ℕ, nat_eq, Bool, true, false, cond, true≢false, List, [], ◌∷◌, ◌++◌, Some, None, filter, find, flat_map, ◌&&◌, ◌||◌, eq-eqb, eqb-true, unwrap_or}
+use Rattle.vt_spec.proofs.Common.{Among, FileTree, Filesystem, Layer, TaskName, World, among-append, among-from_filter, among_from_contains, among_numbers, and_from, and_parts, any_among, any_from_among, change_layers, common_steps, false_from_ne_true, filesystem_lives, filesystem_numbered, has_layer_on, is_among, is_mounted, list_any, no_filesystem, only_among, or_cases, or_left, or_right, own_lowers, pair-filter, part_of, used_directly, used_filesystems, when, without_dead_filesystems}
 use Rattle.vt_laws_sealed.proofs.outsiders.FilesystemsSwept.{filter_map_filtered}
-use Rattle.vt_spec.specs.FileTree.{FileTree}
-use Rattle.vt_spec.specs.Language.Calls.{TaskName}
-use Rattle.vt_spec.specs.Lists.{is_among, when}
-use Rattle.vt_spec.specs.Machine.Sealed.{change_layers, own_lowers, part_of, used_directly, used_filesystems}
-use Rattle.vt_spec.specs.Machine.Settled.{filesystem_lives, has_layer_on, is_mounted, only_among, without_dead_filesystems}
-use Rattle.vt_spec.specs.Machine.World.{Filesystem, Layer, World, filesystem_numbered, no_filesystem}
-use Rattle.vt_spec.proofs.Lists.{Among, among-append, among-from_filter, among_from_contains, among_numbers, any_among, any_from_among, pair-filter}
 use Rattle.vt_laws_sealed.specs.Part.Parts.{SeesTheSame, shown_of}
 use Rattle.vt_laws_sealed.proofs.part.Kept.{among-from_each_once}
 use Rattle.vt_laws_sealed.proofs.part.part.Observed.{lowers_same, part_same, used_same}

@@ -1,17 +1,6 @@
 -- The groups that a sealed set hears are in its part, with their masters.
 use Rattle.std.proofs.Common.{arith, ◌≡◌, sym, ap, subst, ◌∙◌, ⊎_elim, ℕ, nat_eq, Bool, true, cond, true≢false, List, Some, None, is_some, length, not, ◌||◌, ◌&&◌, eqb-true}
-use Rattle.std.proofs.lemmas.Grind.{common_steps}
-use Rattle.std.specs.List.{list_any}
-use Rattle.std.proofs.lemmas.Bool.{and_parts, or_left}
-use Rattle.vt_spec.specs.Language.Calls.{TaskName}
-use Rattle.vt_spec.specs.Lists.{holds_of}
-use Rattle.vt_spec.specs.Machine.Invariants.{HasLivingGroups, IsWorld, is_nowhere_or_attached, is_private}
-use Rattle.vt_spec.specs.Machine.Mounts.{Mount, Propagation, source_of}
-use Rattle.vt_spec.specs.Machine.Receives.{groups_up, is_member_of}
-use Rattle.vt_spec.specs.Machine.Sealed.{is_at, is_own_mount, members, own_mounts, part_of, roots_and_directories, sealed}
-use Rattle.vt_spec.specs.Machine.World.{Task, World, mounts_of}
-use Rattle.vt_spec.proofs.Lists.{Among, among-filter, among-filter_map, among-from_filter, among-from_filter_map, among_from_all, among_from_list_all, any_from_among, is_among_numbers}
-use Rattle.vt_spec.proofs.Options.{none_is_some}
+use Rattle.vt_spec.proofs.Common.{Among, HasLivingGroups, IsWorld, Mount, Propagation, Task, TaskName, World, among-filter, among-filter_map, among-from_filter, among-from_filter_map, among_from_all, among_from_list_all, and_parts, any_from_among, common_steps, groups_up, holds_of, is_among_numbers, is_at, is_member_of, is_nowhere_or_attached, is_own_mount, is_private, list_any, members, mounts_of, none_is_some, or_left, own_mounts, part_of, roots_and_directories, sealed, source_of}
 use Rattle.vt_laws_mounts.proofs.mounts.Receivers.{along_chain}
 use Rattle.vt_laws_sealed.specs.Part.Seals.{IsApart}
 use Rattle.vt_laws_sealed.proofs.part.Kept.{filter_both}

@@ -1,20 +1,6 @@
 -- A task of a set exits: the set, the tasks and the namespaces that are left.
-use Rattle.std.proofs.Common.{arith, ◌≡◌, refl, sym, ap, subst, ◌∙◌, ⊎_elim, ℕ, nat_eq, Bool, true, false, true≢false, List, [], ◌∷◌, Option, Some, None, filter, map, not, cond}
-use Rattle.std.proofs.lemmas.Grind.{common_steps}
-use Rattle.std.specs.Prelude.{option_to_list}
-use Rattle.std.specs.List.{list_all, list_any}
-use Rattle.std.proofs.lemmas.Bool.{and_parts}
-use Rattle.vt_spec.specs.Language.Calls.{TaskName, same_name}
-use Rattle.vt_spec.specs.Language.Calls.Call.{Exit}
-use Rattle.vt_spec.specs.Lists.{holds_of}
-use Rattle.vt_spec.specs.Machine.Invariants.{is_listed}
-use Rattle.vt_spec.specs.Machine.Mounts.{Location, Mount}
-use Rattle.vt_spec.specs.Machine.Sealed.{is_member_task, locations, members, outsiders, part_of}
-use Rattle.vt_spec.specs.Machine.World.{Namespace, Task, World, locations_of, task_called}
-use Rattle.vt_spec.proofs.Found.{found_among, found_passes}
-use Rattle.vt_spec.proofs.Lists.{Among, among-filter, among-flat_map, among-from_filter, among-from_filter_map, among-from_flat_map, among-from_map, among-map, among_from_list_all, among_numbers, any_among, any_from_among, is_among_numbers, list_all_from_among}
-use Rattle.vt_spec.proofs.Options.{none_is_some}
-use Rattle.vt_spec.proofs.Worlds.{same_task_name}
+use Rattle.std.proofs.Common.{arith, ◌≡◌, refl, sym, ap, subst, ◌∙◌, ⊎_elim, ℕ, nat_eq, Bool, true, false, true≢false, List, [], ◌∷◌, Option, Some, None, filter, map, not, cond, option_to_list}
+use Rattle.vt_spec.proofs.Common.{Among, Exit, Location, Mount, Namespace, Task, TaskName, World, among-filter, among-flat_map, among-from_filter, among-from_filter_map, among-from_flat_map, among-from_map, among-map, among_from_list_all, among_numbers, and_parts, any_among, any_from_among, common_steps, found_among, found_passes, holds_of, is_among_numbers, is_listed, is_member_task, list_all, list_all_from_among, list_any, locations, locations_of, members, none_is_some, outsiders, part_of, same_name, same_task_name, task_called}
 use Rattle.vt_laws_mounts.specs.LettingGo.Ends.{MountsAreListed}
 use Rattle.vt_laws_sealed.proofs.part.part.PartOfPart.{is_own, keep, kept_how}
 use Rattle.vt_laws_members.proofs.judging.MountPoints.{part_mount}

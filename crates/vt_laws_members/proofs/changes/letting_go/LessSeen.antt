@@ -1,20 +1,6 @@
 -- In worlds with the filesystems of a world and of its part, a set that sees less has one part.
-use Rattle.std.proofs.Common.{arith, ◌≡◌, refl, sym, ap, subst, ◌∙◌, ⊎_elim, ℕ, nat_eq, Bool, true, false, cond, true≢false, List, [], ◌∷◌, ◌++◌, Option, Some, None, filter, flat_map, map, ◌&&◌}
-use Rattle.std.proofs.lemmas.Grind.{common_steps}
-use Rattle.std.specs.List.{filter_map, list_any}
-use Rattle.std.proofs.lemmas.Bool.{and_parts}
-use Rattle.vt_spec.specs.FileTree.{FileTree, is_under}
-use Rattle.vt_spec.specs.Language.Calls.{TaskName}
-use Rattle.vt_spec.specs.Lists.{is_among, then_some, when}
-use Rattle.vt_spec.specs.Machine.Invariants.{IsWorld}
-use Rattle.vt_spec.specs.Machine.Locked.{of_overlay}
-use Rattle.vt_spec.specs.Machine.Mounts.{Location, Mount, mount_in}
-use Rattle.vt_spec.specs.Machine.Receives.{is_member_of}
-use Rattle.vt_spec.specs.Machine.Sealed.{change_layers, locations, members, own_lowers, own_mounts, part_of, part_of_filesystem, part_of_lower, lies_in_own_lower, used_directly, used_filesystems}
-use Rattle.vt_spec.specs.Machine.Settled.{only_among}
-use Rattle.vt_spec.specs.Machine.World.{Filesystem, Layer, Overlay, Task, World, filesystem_numbered}
-use Rattle.vt_spec.proofs.Lists.{Among, among-append, among-append_left, among-append_right, among-flat_map, among-from_flat_map, among_numbers, any_among, any_from_among, is_among_numbers}
-use Rattle.vt_spec.proofs.Options.{none_is_some}
+use Rattle.std.proofs.Common.{arith, ◌≡◌, refl, sym, ap, subst, ◌∙◌, ⊎_elim, ℕ, nat_eq, Bool, true, false, cond, true≢false, List, [], ◌∷◌, ◌++◌, Option, Some, None, filter, flat_map, map, ◌&&◌, filter_map}
+use Rattle.vt_spec.proofs.Common.{Among, FileTree, Filesystem, IsWorld, Layer, Location, Mount, Overlay, Task, TaskName, World, among-append, among-append_left, among-append_right, among-flat_map, among-from_flat_map, among_numbers, and_parts, any_among, any_from_among, change_layers, common_steps, filesystem_numbered, is_among, is_among_numbers, is_member_of, is_under, lies_in_own_lower, list_any, locations, members, mount_in, none_is_some, of_overlay, only_among, own_lowers, own_mounts, part_of, part_of_filesystem, part_of_lower, then_some, used_directly, used_filesystems, when}
 use Rattle.vt_laws_mounts.proofs.letting_go.Lists.{flat_map_alike}
 use Rattle.vt_laws_sealed.proofs.part.Kept.{among-each_once, among-from_each_once, filter_map_same}
 use Rattle.vt_laws_sealed.proofs.part.part.PartOfPart.{found, is_own, same_directly, same_members, same_own, shown_how, used_directly_used}

@@ -1,26 +1,8 @@
 -- Calls of close(2), chdir(2) and chroot(2) end in the part as in the world.
-use Rattle.std.proofs.Common.{◌≡◌, refl, sym, ap, subst, ◌∙◌, inl, inr, ⊎_elim, ℕ, nat_eq, true, List, [], ◌∷◌, Option, Some, None, Ok, Err, Result, filter, map, not}
-use Rattle.std.specs.Prelude.{IfOk, is_ok, ◌==◌}
+use Rattle.std.proofs.Common.{◌≡◌, refl, sym, ap, subst, ◌∙◌, inl, inr, ⊎_elim, ℕ, nat_eq, true, List, [], ◌∷◌, Option, Some, None, Ok, Err, Result, filter, map, not, IfOk, is_ok, ◌==◌}
+use Rattle.vt_spec.proofs.Common.{Among, Chdir, Chroot, Close, Descriptor, Here, IsWorld, Judgement, Location, Looks, Permit, Task, TaskName, ToClose, ToSetDirectory, ToSetRoot, World, among-from_filter, among-from_map, among-map, and_then, cap_sys_chroot, chdir_permit, chroot_permit, close_permit, descriptor_at, directory_walk, enter_rules, is_among, judge_in, lacks, looks_of, members, part_of, sealed, task_called, unless, used_filesystems}
 use Rattle.vt_spec.specs.declared.errors.Deny.{Deny}
 use Rattle.vt_spec.specs.declared.errors.Rule.TheVariants.{K1}
-use Rattle.vt_spec.specs.Errors.{and_then, unless}
-use Rattle.vt_spec.specs.Language.Calls.{TaskName}
-use Rattle.vt_spec.specs.Language.Calls.Call.{Chdir, Chroot, Close}
-use Rattle.vt_spec.specs.Lists.{is_among}
-use Rattle.vt_spec.specs.Machine.Invariants.{IsWorld}
-use Rattle.vt_spec.specs.Machine.Judge.{Judgement, chdir_permit, chroot_permit, close_permit, judge_in}
-use Rattle.vt_spec.specs.Machine.Looks.{Looks, looks_of}
-use Rattle.vt_spec.specs.Machine.Mounts.{Location}
-use Rattle.vt_spec.specs.Machine.Permits.{Permit}
-use Rattle.vt_spec.specs.Machine.Permits.Permit.{ToClose, ToSetDirectory, ToSetRoot}
-use Rattle.vt_spec.specs.Machine.Rules.Conditions.{lacks}
-use Rattle.vt_spec.specs.Machine.Rules.Descriptors.{descriptor_at}
-use Rattle.vt_spec.specs.Machine.Rules.Tasks.{enter_rules}
-use Rattle.vt_spec.specs.Rights.{cap_sys_chroot}
-use Rattle.vt_spec.specs.Machine.Sealed.{members, part_of, sealed, used_filesystems}
-use Rattle.vt_spec.specs.Machine.Walking.{Here, directory_walk}
-use Rattle.vt_spec.specs.Machine.World.{Descriptor, Task, World, task_called}
-use Rattle.vt_spec.proofs.Lists.{Among, among-from_filter, among-from_map, among-map}
 use Rattle.vt_laws_members.specs.Judging.{is_theirs}
 use Rattle.vt_laws_members.proofs.judging.AllJudged.{judges}
 use Rattle.vt_laws_members.proofs.judging.Grounds.{IsTheirs, theirs_from}

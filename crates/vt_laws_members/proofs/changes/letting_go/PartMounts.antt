@@ -1,16 +1,6 @@
 -- The part of a sealed set has the invariants of mounts.
-use Rattle.std.proofs.Common.{◌≡◌, refl, sym, ap, subst, ◌∙◌, ⊎_elim, ℕ, nat_eq, true, false, List, [], ◌∷◌, Option, Some, None, is_some, ◌&&◌}
-use Rattle.std.specs.List.{cons_option, filter_map, list_any}
-use Rattle.std.proofs.lemmas.Bool.{or_from, or_parts}
-use Rattle.vt_spec.specs.Language.Calls.{TaskName}
-use Rattle.vt_spec.specs.Lists.{any_pair, same_option}
-use Rattle.vt_spec.specs.Machine.Invariants.{HasLivingGroups, IsWorld, Lives, MountInvariants, is_nowhere_or_attached, share_a_mount_point}
-use Rattle.vt_spec.specs.Machine.Invariants.Lives.{has_master, has_no_master}
-use Rattle.vt_spec.specs.Machine.Mounts.{Location, Mount, same_location}
-use Rattle.vt_spec.specs.Machine.Receives.{has_members, is_member_of}
-use Rattle.vt_spec.specs.Machine.Sealed.{members, part_of, sealed}
-use Rattle.vt_spec.specs.Machine.World.{World}
-use Rattle.vt_spec.proofs.Lists.{all_from_among, among-from_filter_map, among_from_list_all, any_from_among, list_all_from_among, none_among, none_from_among}
+use Rattle.std.proofs.Common.{◌≡◌, refl, sym, ap, subst, ◌∙◌, ⊎_elim, ℕ, nat_eq, true, false, List, [], ◌∷◌, Option, Some, None, is_some, ◌&&◌, filter_map}
+use Rattle.vt_spec.proofs.Common.{HasLivingGroups, IsWorld, Lives, Location, Mount, MountInvariants, TaskName, World, all_from_among, among-from_filter_map, among_from_list_all, any_from_among, any_pair, cons_option, has_master, has_members, has_no_master, is_member_of, is_nowhere_or_attached, list_all_from_among, list_any, members, none_among, none_from_among, or_from, or_parts, part_of, same_location, same_option, sealed, share_a_mount_point}
 use Rattle.vt_laws_sealed.proofs.part.groups.EventsApart.{Hears}
 use Rattle.vt_laws_sealed.proofs.part.groups.ReceiversAlike.{Living, own_member}
 use Rattle.vt_laws_sealed.proofs.part.part.PartOfPart.{keep, kept_how}

@@ -1,17 +1,6 @@
 -- Where tasks change alone and the rest is swept, change numbers of tasks and of the world are raised, and no others.
 use Rattle.std.proofs.Common.{arith, ◌≡◌, refl, ◌∙◌, ℕ, nat_eq, Bool, true, false, true≢false, List, [], Option, Some, None, is_some, map}
-use Rattle.std.proofs.lemmas.Grind.{common_steps}
-use Rattle.std.proofs.lemmas.Bool.{or_left}
-use Rattle.vt_spec.specs.Language.Calls.{TaskName}
-use Rattle.vt_spec.specs.Lists.{holds_of, same_list}
-use Rattle.vt_spec.specs.Machine.Filesystems.{raised, raised_if_changed}
-use Rattle.vt_spec.specs.Machine.Invariants.{is_private}
-use Rattle.vt_spec.specs.Machine.Mounts.{Mount, Propagation, group_of}
-use Rattle.vt_spec.specs.Machine.Policy.{numbers_raised, raised_namespace, raised_task, same_mount, same_mounts_in}
-use Rattle.vt_spec.specs.Machine.Receives.{has_members}
-use Rattle.vt_spec.specs.Machine.Settled.{is_located, mount_lives, settled}
-use Rattle.vt_spec.specs.Machine.World.{Namespace, Task, World, mounts_of}
-use Rattle.vt_spec.proofs.Lists.{Among, among-filter, any_among, any_from_among, map_same}
+use Rattle.vt_spec.proofs.Common.{Among, Mount, Namespace, Propagation, Task, TaskName, World, among-filter, any_among, any_from_among, common_steps, group_of, has_members, holds_of, is_located, is_private, map_same, mount_lives, mounts_of, numbers_raised, or_left, raised, raised_if_changed, raised_namespace, raised_task, same_list, same_mount, same_mounts_in, settled}
 use Rattle.vt_laws_mounts.specs.LettingGo.InUse.{AllInUse}
 use Rattle.vt_laws_members.proofs.changes.letting_go.SeeLess.{filter_less}
 use Rattle.vt_laws_members.proofs.changes.tasks.RaisedTasks.{all_themselves}

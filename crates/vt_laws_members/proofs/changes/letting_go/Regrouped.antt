@@ -1,24 +1,8 @@
 -- Where mounts of a sealed set are detached, groups and masters are left in the part as in the world.
-use Rattle.std.proofs.Common.{arith, ◌≡◌, refl, sym, ap, ◌∙◌, inl, inr, ⊎_elim, ℕ, nat_eq, Bool, true, false, cond, true≢false, List, [], ◌∷◌, Option, Some, None, find, is_some, map, not, ◌||◌, ◌&&◌}
-use Rattle.std.proofs.lemmas.Grind.{common_steps}
-use Rattle.std.specs.Prelude.{option_map}
-use Rattle.std.specs.List.{list_any}
-use Rattle.std.proofs.lemmas.Bool.{and_parts, false_from_ne_true}
-use Rattle.std.proofs.lemmas.List.{length-map}
+use Rattle.std.proofs.Common.{arith, ◌≡◌, refl, sym, ap, ◌∙◌, inl, inr, ⊎_elim, ℕ, nat_eq, Bool, true, false, cond, true≢false, List, [], ◌∷◌, Option, Some, None, find, is_some, map, not, ◌||◌, ◌&&◌, option_map}
+use Rattle.vt_spec.proofs.Common.{Among, HasLivingGroups, IsWorld, Location, Mount, Private, Propagation, Shared, Slave, TaskName, Unbindable, World, after_going, among-filter, among-from_filter, among-from_map, among-map, among_from_all, among_from_list_all, and_parts, any_among, any_from_among, common_steps, detached, false_from_ne_true, groups_up, has_members, heir, holds_of, inherited, inheriting, is_going, is_lost_group, is_member_of, is_nowhere_or_attached, is_own_mount, is_own_namespace, is_private, length-map, list_any, lost_a_group, members, mount_numbered, mount_point_left, mount_point_of_parent, none_is_some, other_mounts, own_mounts, part_of, regrouped_by, same_truth, sealed, shares_no_events, source_of, then_some}
 use Rattle.vt_laws_mounts.proofs.GroupsUp.{source_from_group}
 use Rattle.vt_laws_sealed.proofs.part.part.MountsOver.{numbered}
-use Rattle.vt_spec.specs.Language.Calls.{TaskName}
-use Rattle.vt_spec.specs.Lists.{holds_of, then_some}
-use Rattle.vt_spec.specs.Machine.Detach.{after_going, is_going, mount_point_left, mount_point_of_parent}
-use Rattle.vt_spec.specs.Machine.Invariants.{HasLivingGroups, IsWorld, is_nowhere_or_attached, is_private}
-use Rattle.vt_spec.specs.Machine.Mounts.{Location, Mount, Propagation, detached, source_of}
-use Rattle.vt_spec.specs.Machine.Mounts.Propagation.{Private, Shared, Slave, Unbindable}
-use Rattle.vt_spec.specs.Machine.Receives.{groups_up, has_members, heir, inherited, inheriting, is_lost_group, is_member_of, lost_a_group, regrouped_by}
-use Rattle.vt_spec.specs.Machine.Sealed.{shares_no_events, is_own_mount, is_own_namespace, members, other_mounts, own_mounts, part_of, sealed}
-use Rattle.vt_spec.specs.Machine.World.{World, mount_numbered}
-use Rattle.vt_spec.proofs.Lists.{Among, among-filter, among-from_filter, among-from_map, among-map, among_from_all, among_from_list_all, any_among, any_from_among}
-use Rattle.vt_spec.proofs.Options.{none_is_some}
-use Rattle.vt_spec.proofs.Truths.{same_truth}
 use Rattle.vt_laws_sealed.proofs.part.groups.EventsApart.{members_of, none_hears, sides}
 use Rattle.vt_laws_sealed.proofs.part.groups.ReceiversAlike.{OtherLives, member_group, none_other, other_above, same_up, start_hears}
 use Rattle.vt_laws_sealed.proofs.part.part.PartOfPart.{is_own}

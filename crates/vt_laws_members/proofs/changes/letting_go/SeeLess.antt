@@ -1,15 +1,6 @@
 -- A set of tasks that sees less of a world has the part of its part.
-use Rattle.std.proofs.Common.{arith, ◌≡◌, refl, ap, ◌∙◌, ℕ, nat_eq, Bool, true, true≢false, List, [], ◌∷◌, Option, Some, None, filter}
-use Rattle.std.proofs.lemmas.Grind.{common_steps}
-use Rattle.std.specs.List.{filter_map, list_any}
-use Rattle.vt_spec.specs.Language.Calls.{TaskName}
-use Rattle.vt_spec.specs.Lists.{holds_of, then_some}
-use Rattle.vt_spec.specs.Machine.Invariants.{IsWorld}
-use Rattle.vt_spec.specs.Machine.Mounts.{Location, Mount}
-use Rattle.vt_spec.specs.Machine.Receives.{is_member_of}
-use Rattle.vt_spec.specs.Machine.Sealed.{is_member_task, locations, members, own_mounts, part_of, used_directly}
-use Rattle.vt_spec.specs.Machine.World.{Namespace, Task, World, mount_at}
-use Rattle.vt_spec.proofs.Lists.{Among, among-filter, among-from_filter, any_among, any_from_among}
+use Rattle.std.proofs.Common.{arith, ◌≡◌, refl, ap, ◌∙◌, ℕ, nat_eq, Bool, true, true≢false, List, [], ◌∷◌, Option, Some, None, filter, filter_map}
+use Rattle.vt_spec.proofs.Common.{Among, IsWorld, Location, Mount, Namespace, Task, TaskName, World, among-filter, among-from_filter, any_among, any_from_among, common_steps, holds_of, is_member_of, is_member_task, list_any, locations, members, mount_at, own_mounts, part_of, then_some, used_directly}
 use Rattle.vt_laws_sealed.proofs.part.Kept.{filter_map_same}
 use Rattle.vt_laws_sealed.proofs.part.part.PartOfPart.{is_own, keep}
 use Rattle.vt_laws_members.proofs.changes.letting_go.LessSeen.{AreLess, filter_map_then, one_part}

@@ -1,13 +1,6 @@
 -- What nothing uses goes, and what a set of tasks sees of that is made from its part alone.
 use Rattle.std.proofs.Common.{arith, ◌≡◌, refl, sym, ap, subst, ℕ, nat_eq, Bool, false, cond, List, None, is_some, not}
-use Rattle.std.proofs.lemmas.Grind.{common_steps}
-use Rattle.std.specs.List.{list_any}
-use Rattle.vt_spec.specs.Language.Calls.{TaskName}
-use Rattle.vt_spec.specs.Machine.Receives.{has_members, is_member_of}
-use Rattle.vt_spec.specs.Machine.Sealed.{own_mounts, part_of, used_filesystems}
-use Rattle.vt_spec.specs.Machine.Settled.{settled, without_dead_filesystems, without_dead_groups, without_dead_in, without_dead_inodes, without_dead_mounts}
-use Rattle.vt_spec.specs.Machine.World.{Filesystem, Layer, World, is_overlay}
-use Rattle.vt_spec.proofs.Lists.{among-from_filter, any_among, any_from_among}
+use Rattle.vt_spec.proofs.Common.{Filesystem, Layer, TaskName, World, among-from_filter, any_among, any_from_among, common_steps, has_members, is_member_of, is_overlay, list_any, own_mounts, part_of, settled, used_filesystems, without_dead_filesystems, without_dead_groups, without_dead_in, without_dead_inodes, without_dead_mounts}
 use Rattle.vt_laws_mounts.specs.Mounts.Invariants.{OneNumberEach}
 use Rattle.vt_laws_sealed.proofs.part.part.DeadMounts.{dead_mounts_are_in_no_part}
 use Rattle.vt_laws_members.proofs.changes.letting_go.Gone.{living_mounted, living_part, living_ready}

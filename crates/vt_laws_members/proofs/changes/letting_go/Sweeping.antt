@@ -1,11 +1,6 @@
 -- The sweep of a part is the part of the sweep, where the tasks of a sealed set use no more than before.
 use Rattle.std.proofs.Common.{◌≡◌, sym, subst, inl, ⊎_elim, ℕ, nat_eq, true, List, [], ◌∷◌, filter, not}
-use Rattle.vt_spec.specs.Language.Calls.{TaskName}
-use Rattle.vt_spec.specs.Machine.Invariants.{IsWorld}
-use Rattle.vt_spec.specs.Machine.Mounts.{Location}
-use Rattle.vt_spec.specs.Machine.Sealed.{is_member_task, locations, members, outsiders, part_of, roots_and_directories, sealed}
-use Rattle.vt_spec.specs.Machine.World.{Task, World}
-use Rattle.vt_spec.proofs.Lists.{Among, among-from_filter, among-from_flat_map, among_from_contains, contains_from_among}
+use Rattle.vt_spec.proofs.Common.{Among, IsWorld, Location, Task, TaskName, World, among-from_filter, among-from_flat_map, among_from_contains, contains_from_among, is_member_task, locations, members, outsiders, part_of, roots_and_directories, sealed}
 use Rattle.vt_laws_sealed.proofs.part.Kept.{filter_again}
 use Rattle.vt_laws_members.proofs.judging.Grounds.{IsTheirs}
 use Rattle.vt_laws_members.proofs.judging.SeenInPart.{directory_theirs, root_theirs}

@@ -1,11 +1,6 @@
 -- The sweep leaves a set one part in the world and in the part of a sealed set, where tasks let locations go.
 use Rattle.std.proofs.Common.{◌≡◌, ℕ, nat_eq, true, List, filter}
-use Rattle.vt_spec.specs.Language.Calls.{TaskName}
-use Rattle.vt_spec.specs.Machine.Invariants.{IsWorld}
-use Rattle.vt_spec.specs.Machine.Sealed.{is_member_task, own_lowers, part_of, sealed, used_filesystems}
-use Rattle.vt_spec.specs.Machine.Settled.{settled}
-use Rattle.vt_spec.specs.Machine.World.{Task, World}
-use Rattle.vt_spec.proofs.Lists.{Among}
+use Rattle.vt_spec.proofs.Common.{Among, IsWorld, Task, TaskName, World, is_member_task, own_lowers, part_of, sealed, settled, used_filesystems}
 use Rattle.vt_laws_members.proofs.changes.letting_go.Changed.{LetsGo, sees_less}
 use Rattle.vt_laws_members.proofs.changes.letting_go.PartReady.{part_ready}
 use Rattle.vt_laws_members.proofs.changes.letting_go.SeeLess.{part_of_less}

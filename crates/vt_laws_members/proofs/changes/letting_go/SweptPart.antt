@@ -1,16 +1,6 @@
 -- The part of a world whose unused inodes go is made from the part alone.
-use Rattle.std.proofs.Common.{arith, ◌≡◌, refl, sym, ap, subst, ◌∙◌, ◌⊎◌, inl, inr, ⊎_elim, ℕ, nat_eq, Bool, true, false, cond, List, [], ◌∷◌, ◌++◌, Option, Some, None, filter, find, map}
-use Rattle.std.proofs.lemmas.Grind.{common_steps}
-use Rattle.std.specs.Prelude.{option_map, unwrap_or}
-use Rattle.std.specs.List.{filter_map, list_all, list_any}
-use Rattle.vt_spec.specs.FileTree.{FileTree}
-use Rattle.vt_spec.specs.Language.Calls.{TaskName}
-use Rattle.vt_spec.specs.Lists.{any_pair, each_once, is_among, when}
-use Rattle.vt_spec.specs.Machine.Locked.{of_overlay}
-use Rattle.vt_spec.specs.Machine.Sealed.{change_layers, own_lowers, part_of, part_of_filesystem, used_directly, used_filesystems}
-use Rattle.vt_spec.specs.Machine.Settled.{has_layer_on, named_in, only_among, only_used, only_used_by, only_used_of, used_in, without_dead_in}
-use Rattle.vt_spec.specs.Machine.World.{Filesystem, Layer, Overlay, World, filesystem_numbered, no_filesystem}
-use Rattle.vt_spec.proofs.Lists.{Among, among-from_map, among-map, is_among_numbers, list_all_from_among, pair-map}
+use Rattle.std.proofs.Common.{arith, ◌≡◌, refl, sym, ap, subst, ◌∙◌, ◌⊎◌, inl, inr, ⊎_elim, ℕ, nat_eq, Bool, true, false, cond, List, [], ◌∷◌, ◌++◌, Option, Some, None, filter, find, map, option_map, unwrap_or, filter_map}
+use Rattle.vt_spec.proofs.Common.{Among, FileTree, Filesystem, Layer, Overlay, TaskName, World, among-from_map, among-map, any_pair, change_layers, common_steps, each_once, filesystem_numbered, has_layer_on, is_among, is_among_numbers, list_all, list_all_from_among, list_any, named_in, no_filesystem, number-only_used, of_overlay, only_among, only_used, only_used_by, only_used_of, own_lowers, pair-map, part_of, part_of_filesystem, used_directly, used_filesystems, used_in, when, without_dead_in}
 use Rattle.vt_laws_mounts.proofs.letting_go.Lists.{flat_map_alike}
 use Rattle.vt_laws_mounts.proofs.letting_go.sweeps.OfWorlds.{found_filesystem}
 use Rattle.vt_laws_mounts.specs.Mounts.Invariants.{OneNumberEach}
@@ -23,7 +13,6 @@ use Rattle.vt_laws_members.proofs.changes.letting_go.Gone.{sees_itself}
 use Rattle.vt_laws_members.proofs.changes.letting_go.Ready.{AllNamed, Alone, IsCut, OverlaysMounted, Ready}
 use Rattle.vt_laws_members.proofs.changes.letting_go.UsedAlike.{lower_plain, used, used_alike}
 use Rattle.vt_laws_members.proofs.changes.letting_go.UsedAlike.IsUsed.{as_root, by_layer, by_name}
-use Rattle.vt_spec.proofs.Worlds.{number-only_used}
 
 -- The inodes that pass a test
 abbrev only_by : Bool → (ℕ → Bool) → Filesystem ℕ → Filesystem ℕ

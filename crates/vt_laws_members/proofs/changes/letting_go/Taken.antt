@@ -1,16 +1,6 @@
 -- Where mounts of theirs go, in the world and in the part, the part is what is left of the part.
 use Rattle.std.proofs.Common.{◌≡◌, refl, sym, ap, subst, ◌∙◌, ℕ, nat_eq, Bool, true, List, [], ◌∷◌, filter, map}
-use Rattle.std.specs.List.{list_any}
-use Rattle.vt_spec.specs.Language.Calls.{TaskName}
-use Rattle.vt_spec.specs.Machine.Detach.{after_going, is_going, taken_away}
-use Rattle.vt_spec.specs.Machine.Invariants.{IsWorld, MountInvariants}
-use Rattle.vt_spec.specs.Machine.Mounts.{Mount}
-use Rattle.vt_spec.specs.Machine.Policy.{numbers_raised}
-use Rattle.vt_spec.specs.Machine.Receives.{lost_a_group, regrouped_by}
-use Rattle.vt_spec.specs.Machine.Sealed.{is_member_task, members, part_of, sealed}
-use Rattle.vt_spec.specs.Machine.Settled.{settled}
-use Rattle.vt_spec.specs.Machine.World.{Namespace, World}
-use Rattle.vt_spec.proofs.Lists.{Among, among-from_filter, map_twice}
+use Rattle.vt_spec.proofs.Common.{Among, IsWorld, Mount, MountInvariants, Namespace, TaskName, World, after_going, among-from_filter, is_going, is_member_task, list_any, lost_a_group, map_twice, members, numbers_raised, part_of, regrouped_by, sealed, settled, taken_away}
 use Rattle.vt_laws_sealed.proofs.part.part.PartOfPart.{is_own, same_members}
 use Rattle.vt_laws_members.proofs.changes.letting_go.Detached.{detached_parts}
 use Rattle.vt_laws_members.proofs.changes.letting_go.NamespaceLess.{SetIsLess, ended, ended_part, less_of_fewer}

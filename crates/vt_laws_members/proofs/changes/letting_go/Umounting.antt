@@ -1,29 +1,8 @@
 -- Each umount(2) ends in the part as in the world.
-use Rattle.std.proofs.Common.{arith, ◌≡◌, refl, sym, ap, subst, ◌∙◌, ⊎_elim, ℕ, nat_eq, Bool, true, false, true≢false, List, [], ◌∷◌, Option, Some, None, Ok, Err, is_some, not}
-use Rattle.std.proofs.lemmas.Grind.{common_steps}
-use Rattle.std.specs.Prelude.{⊤, IfOk, is_ok}
-use Rattle.std.proofs.lemmas.Bool.{or_parts}
+use Rattle.std.proofs.Common.{arith, ◌≡◌, refl, sym, ap, subst, ◌∙◌, ⊎_elim, ℕ, nat_eq, Bool, true, false, true≢false, List, [], ◌∷◌, Option, Some, None, Ok, Err, is_some, not, IfOk, is_ok}
+use Rattle.vt_spec.proofs.Common.{Among, Call, Done, Fresh, IsWorld, Judgement, Location, Mount, MountInvariants, Outcome, Permit, Rules, Task, TaskName, ToUnmount, Umount, World, admin_rules, among-from_filter_map, among_numbers, common_steps, directory_walk, going, granted, has_child, is_going, judge_in, members, mount_at, mount_numbered, none_among, none_from_among, numbers_raised, or_parts, part_of, policy, sealed, settled, stands_on, taken_away, task_called, umount_permit, umount_rules, unless, unmounted, ⊤}
 use Rattle.vt_laws_members.proofs.detached.lazily.GoingAlike.{going_alike, going_own}
 use Rattle.vt_laws_sealed.proofs.part.part.MountsOver.{nowhere_stands, numbered}
-use Rattle.vt_spec.specs.Errors.{Rules, unless}
-use Rattle.vt_spec.specs.Language.Answers.Answer.{Done}
-use Rattle.vt_spec.specs.Language.Calls.{Call, TaskName}
-use Rattle.vt_spec.specs.Language.Calls.Call.{Umount}
-use Rattle.vt_spec.specs.Lists.{Fresh}
-use Rattle.vt_spec.specs.Machine.Detach.{going, has_child, is_going, taken_away, unmounted}
-use Rattle.vt_spec.specs.Machine.Invariants.{IsWorld, MountInvariants}
-use Rattle.vt_spec.specs.Machine.Judge.{Judgement, judge_in, umount_permit}
-use Rattle.vt_spec.specs.Machine.Mounts.{Location, Mount, stands_on}
-use Rattle.vt_spec.specs.Machine.Outcomes.{Outcome, granted}
-use Rattle.vt_spec.specs.Machine.Permits.{Permit}
-use Rattle.vt_spec.specs.Machine.Permits.Permit.{ToUnmount}
-use Rattle.vt_spec.specs.Machine.Policy.{numbers_raised, policy}
-use Rattle.vt_spec.specs.Machine.Rules.Mounting.{admin_rules, umount_rules}
-use Rattle.vt_spec.specs.Machine.Sealed.{members, part_of, sealed}
-use Rattle.vt_spec.specs.Machine.Settled.{settled}
-use Rattle.vt_spec.specs.Machine.Walking.{directory_walk}
-use Rattle.vt_spec.specs.Machine.World.{Task, World, mount_at, mount_numbered, task_called}
-use Rattle.vt_spec.proofs.Lists.{Among, among-from_filter_map, among_numbers, none_among, none_from_among}
 use Rattle.vt_laws_mounts.proofs.ends.Ending.{unmount_keeps_mounts}
 use Rattle.vt_laws_sealed.proofs.part.part.PartOfPart.{is_own, keep, kept_how}
 use Rattle.vt_laws_members.specs.Judging.{is_theirs}

@@ -1,25 +1,7 @@
 -- What a call of theirs that only looks is granted: to look at what is on mounts of theirs, or at an open file.
-use Rattle.std.proofs.Common.{◌≡◌, refl, sym, inr, ℕ, nat_eq, Bool, true, false, cond, find, true≢false, List, [], ◌∷◌, Option, Some, None, Ok, Err, Result}
-use Rattle.std.specs.Prelude.{⊤, IfOk, ok_or, option_to_list, ◌==◌}
+use Rattle.std.proofs.Common.{◌≡◌, refl, sym, inr, ℕ, nat_eq, Bool, true, false, cond, find, true≢false, List, [], ◌∷◌, Option, Some, None, Ok, Err, Result, IfOk, ok_or, option_to_list, ◌==◌}
+use Rattle.vt_spec.proofs.Common.{Allowed, Among, Bind, Call, Chdir, Chmod, Chown, Chroot, Close, Descriptor, Drop, Exec, Exit, Fork, Here, IsWorld, Judgement, Lazy, LinkTo, ListMounts, Location, Looks, Ls, Lstat, MakeWhiteout, Mkdir, MountOverlay, MountPlain, MoveMount, Opaque, OpenFile, Permit, PivotRoot, Pread, Pwrite, Read, Readlink, Remount, Rename, Rmdir, Rules, SetType, Setns, Stat, Stop, SymlinkAt, Task, TaskName, ToList, ToListMounts, ToRead, ToReadPart, ToStat, Umask, Umount, Unlink, Unshare, World, Write, among-flat_map, among-map, and_then, denial, descriptor_numbered, directory_walk, exec_permit, exec_rules, found_among, is_among, judge, list_permit, list_rules, locations, locations_of, looks_of, lstat_permit, members, object_walk, only_looks, part_of, pread_permit, read_permit, read_rules, readlink_permit, readlink_rules, sealed, stat_permit, symlink_walk, unless, used_filesystems, walk_end, ⊤}
 use Rattle.vt_spec.specs.declared.errors.Rule.TheVariants.{S4}
-use Rattle.vt_spec.specs.Errors.{Rules, and_then, denial, unless}
-use Rattle.vt_spec.specs.Language.Calls.{Call, TaskName}
-use Rattle.vt_spec.specs.Language.Calls.Call.{Bind, Chdir, Chmod, Chown, Chroot, Close, Drop, Exec, Exit, Fork, Lazy, LinkTo, ListMounts, Ls, Lstat, MakeWhiteout, Mkdir, MountOverlay, MountPlain, MoveMount, Opaque, OpenFile, PivotRoot, Pread, Pwrite, Read, Readlink, Remount, Rename, Rmdir, SetType, Setns, Stat, SymlinkAt, Umask, Umount, Unlink, Unshare, Write}
-use Rattle.vt_spec.specs.Lists.{is_among}
-use Rattle.vt_spec.specs.Machine.Invariants.{IsWorld}
-use Rattle.vt_spec.specs.Machine.Judge.{Judgement, exec_permit, judge, list_permit, lstat_permit, pread_permit, read_permit, readlink_permit, stat_permit}
-use Rattle.vt_spec.specs.Machine.Looks.{Looks, looks_of}
-use Rattle.vt_spec.specs.Machine.Mounts.{Location}
-use Rattle.vt_spec.specs.Machine.Permits.{Permit}
-use Rattle.vt_spec.specs.Machine.Permits.Permit.{Allowed, ToList, ToListMounts, ToRead, ToReadPart, ToStat}
-use Rattle.vt_spec.specs.Machine.Policy.{only_looks}
-use Rattle.vt_spec.specs.Machine.Rules.Descriptors.{descriptor_numbered}
-use Rattle.vt_spec.specs.Machine.Rules.Looking.{exec_rules, list_rules, read_rules, readlink_rules}
-use Rattle.vt_spec.specs.Machine.Sealed.{locations, members, part_of, sealed, used_filesystems}
-use Rattle.vt_spec.specs.Machine.Walking.{Here, Stop, directory_walk, object_walk, symlink_walk, walk_end}
-use Rattle.vt_spec.specs.Machine.World.{Descriptor, Task, World, locations_of}
-use Rattle.vt_spec.proofs.Found.{found_among}
-use Rattle.vt_spec.proofs.Lists.{Among, among-flat_map, among-map}
 use Rattle.vt_laws_members.specs.Changes.Changes.{left}
 use Rattle.vt_laws_members.specs.Judging.{is_theirs}
 use Rattle.vt_laws_members.proofs.judging.AllJudged.{judges}

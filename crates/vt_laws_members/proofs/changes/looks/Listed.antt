@@ -1,19 +1,7 @@
 -- The list of mounts of a namespace of theirs is the same in the part.
-use Rattle.std.proofs.Common.{arith, ◌≡◌, refl, sym, ap, ◌∙◌, ⊎_elim, ℕ, nat_eq, Bool, true, List, ◌∷◌, Option, Some, None, map, eq-eqb}
-use Rattle.std.proofs.lemmas.Grind.{common_steps}
-use Rattle.std.specs.Prelude.{option_map, option_to_list}
+use Rattle.std.proofs.Common.{arith, ◌≡◌, refl, sym, ap, ◌∙◌, ⊎_elim, ℕ, nat_eq, Bool, true, List, ◌∷◌, Option, Some, None, map, eq-eqb, option_map, option_to_list}
+use Rattle.vt_spec.proofs.Common.{Among, IsWorld, Location, Mount, Private, Propagation, Shared, Slave, Spot, Task, TaskName, Unbindable, World, among-filter, among-from_filter, any_from_among, common_steps, each_once, filesystem_numbered, filesystems_seen, groups_in_type, groups_seen, groups_shown, holds_of, is_among, is_overlay, map_alike, members, mount_line, mount_lines, mount_point_spot, mounts_of, number_among, part_of, path_down, spot_of, type_line, used_filesystems}
 use Rattle.vt_laws_sealed.proofs.part.part.MountsOver.{numbered}
-use Rattle.vt_spec.specs.Language.Answers.{Spot}
-use Rattle.vt_spec.specs.Language.Calls.{TaskName}
-use Rattle.vt_spec.specs.Lists.{each_once, holds_of, is_among}
-use Rattle.vt_spec.specs.Machine.Invariants.{IsWorld}
-use Rattle.vt_spec.specs.Machine.Listing.{filesystems_seen, groups_in_type, groups_seen, groups_shown, mount_line, mount_lines, mount_point_spot, number_among, spot_of, type_line}
-use Rattle.vt_spec.specs.FileTree.{path_down}
-use Rattle.vt_spec.specs.Machine.Mounts.{Location, Mount, Propagation}
-use Rattle.vt_spec.specs.Machine.Mounts.Propagation.{Private, Shared, Slave, Unbindable}
-use Rattle.vt_spec.specs.Machine.Sealed.{members, part_of, used_filesystems}
-use Rattle.vt_spec.specs.Machine.World.{Task, World, filesystem_numbered, is_overlay, mounts_of}
-use Rattle.vt_spec.proofs.Lists.{Among, among-filter, among-from_filter, any_from_among, map_alike}
 use Rattle.vt_laws_mounts.proofs.letting_go.Lists.{flat_map_alike}
 use Rattle.vt_laws_sealed.proofs.part.Kept.{filter_kept}
 use Rattle.vt_laws_sealed.proofs.part.part.PartOfPart.{found, is_own, keep, kept_how}

@@ -1,26 +1,7 @@
 -- Calls of theirs that only look are answered in the part as in the world.
-use Rattle.std.proofs.Common.{arith, ◌≡◌, refl, sym, ap, subst, ◌∙◌, ℕ, nat_eq, true, List, Option, Some, None, Ok, Err, not, drop, ◌||◌}
-use Rattle.std.proofs.lemmas.Grind.{common_steps}
-use Rattle.std.specs.Prelude.{IfOk, is_ok, ok_or, take}
+use Rattle.std.proofs.Common.{arith, ◌≡◌, refl, sym, ap, subst, ◌∙◌, ℕ, nat_eq, true, List, Option, Some, None, Ok, Err, not, drop, ◌||◌, IfOk, is_ok, ok_or, take}
+use Rattle.vt_spec.proofs.Common.{Allowed, Among, Bytes, Call, Fresh, IsWorld, Judgement, Location, MountList, Names, Outcome, Permit, Task, TaskName, ToList, ToListMounts, ToRead, ToReadPart, ToStat, Told, World, after, among-filter, apply, bytes_in, call_outcome, common_steps, contains_from_among, denial, filesystems_changed_by, finished, finished_by, found_among, found_passes, is_among, is_member_task, judge_in, locations, members, mount_at, names_in, node_at, overfills, part_of, policy, same_name, same_task_name, sealed, stat_line, task_called}
 use Rattle.vt_spec.specs.declared.errors.Rule.TheVariants.{S2}
-use Rattle.vt_spec.specs.Errors.{denial}
-use Rattle.vt_spec.specs.Language.Answers.Answer.{Bytes, MountList, Names, Told}
-use Rattle.vt_spec.specs.Language.Calls.{Call, TaskName, same_name}
-use Rattle.vt_spec.specs.Lists.{Fresh, is_among}
-use Rattle.vt_spec.specs.Machine.Apply.{apply, overfills, stat_line}
-use Rattle.vt_spec.specs.Machine.Invariants.{IsWorld}
-use Rattle.vt_spec.specs.Machine.Judge.{Judgement, judge_in}
-use Rattle.vt_spec.specs.Machine.Mounts.{Location}
-use Rattle.vt_spec.specs.Machine.Outcomes.{Outcome, after}
-use Rattle.vt_spec.specs.Machine.Permits.{Permit}
-use Rattle.vt_spec.specs.Machine.Permits.Permit.{Allowed, ToList, ToListMounts, ToRead, ToReadPart, ToStat}
-use Rattle.vt_spec.specs.Machine.Policy.{call_outcome, filesystems_changed_by, finished, finished_by, policy}
-use Rattle.vt_spec.specs.Machine.Sealed.{is_member_task, locations, members, part_of, sealed}
-use Rattle.vt_spec.specs.Machine.World.{Task, World, mount_at, node_at, task_called}
-use Rattle.vt_spec.specs.Tree.{bytes_in, names_in}
-use Rattle.vt_spec.proofs.Found.{found_among, found_passes}
-use Rattle.vt_spec.proofs.Lists.{Among, among-filter, contains_from_among}
-use Rattle.vt_spec.proofs.Worlds.{same_task_name}
 use Rattle.vt_laws_sealed.proofs.part.part.PartOfPart.{found, located}
 use Rattle.vt_laws_members.specs.Judging.{is_theirs}
 use Rattle.vt_laws_members.proofs.judging.AllJudged.{called_alike, walks}

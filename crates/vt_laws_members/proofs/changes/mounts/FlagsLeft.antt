@@ -1,12 +1,6 @@
 -- Where a mount of theirs has other flags, and nothing goes: the world that a call leaves, and its part.
 use Rattle.std.proofs.Common.{◌≡◌, sym, ap, subst, ◌∙◌, ℕ, nat_eq, Bool, true, false, cond, List, [], map}
-use Rattle.vt_spec.specs.Language.Calls.{MountFlags, TaskName}
-use Rattle.vt_spec.specs.Machine.Invariants.{IsWorld}
-use Rattle.vt_spec.specs.Machine.Mounts.{Mount, replaced_if_same}
-use Rattle.vt_spec.specs.Machine.Policy.{master_above, numbers_raised}
-use Rattle.vt_spec.specs.Machine.Sealed.{is_own_mount, members, own_mounts, part_of, sealed}
-use Rattle.vt_spec.specs.Machine.World.{Task, World, with_mounts}
-use Rattle.vt_spec.proofs.Lists.{Among, among-filter, among-from_map}
+use Rattle.vt_spec.proofs.Common.{Among, IsWorld, Mount, MountFlags, Task, TaskName, World, among-filter, among-from_map, is_own_mount, master_above, members, numbers_raised, own_mounts, part_of, replaced_if_same, sealed, with_mounts}
 use Rattle.vt_laws_sealed.proofs.part.part.FlagsInPart.{part_with_flags}
 use Rattle.vt_laws_sealed.proofs.part.part.PartOfPart.{is_own, same_members}
 use Rattle.vt_laws_members.proofs.attached.RaisedAlike.{above_in_part, parts_left}

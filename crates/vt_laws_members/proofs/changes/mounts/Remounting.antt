@@ -1,23 +1,6 @@
 -- Each mount(2) with MS_REMOUNT and MS_BIND ends in the part as in the world.
-use Rattle.std.proofs.Common.{◌≡◌, refl, sym, ap, subst, ◌∙◌, ℕ, nat_eq, Bool, true, false, List, [], Option, Some, None, Ok, Err, not}
-use Rattle.std.specs.Prelude.{IfOk, is_ok}
-use Rattle.vt_spec.specs.Errors.{unless}
-use Rattle.vt_spec.specs.Language.Answers.Answer.{Done}
-use Rattle.vt_spec.specs.Language.Calls.{MountFlags, TaskName}
-use Rattle.vt_spec.specs.Language.Calls.Call.{Remount}
-use Rattle.vt_spec.specs.Lists.{Fresh, holds_of}
-use Rattle.vt_spec.specs.Machine.Invariants.{IsWorld}
-use Rattle.vt_spec.specs.Machine.Judge.{Judgement, judge_in, remount_permit}
-use Rattle.vt_spec.specs.Machine.Mounts.{Location, Mount, with_mount}
-use Rattle.vt_spec.specs.Machine.Outcomes.{granted}
-use Rattle.vt_spec.specs.Machine.Permits.{Permit}
-use Rattle.vt_spec.specs.Machine.Permits.Permit.{ToSetFlags}
-use Rattle.vt_spec.specs.Machine.Policy.{numbers_raised, policy}
-use Rattle.vt_spec.specs.Machine.Rules.Mounting.{admin_rules, remount_rules}
-use Rattle.vt_spec.specs.Machine.Sealed.{members, part_of, sealed}
-use Rattle.vt_spec.specs.Machine.Walking.{directory_walk}
-use Rattle.vt_spec.specs.Machine.World.{Task, World, mount_at, mount_numbered, task_called, with_mounts}
-use Rattle.vt_spec.proofs.Lists.{Among}
+use Rattle.std.proofs.Common.{◌≡◌, refl, sym, ap, subst, ◌∙◌, ℕ, nat_eq, Bool, true, false, List, [], Option, Some, None, Ok, Err, not, IfOk, is_ok}
+use Rattle.vt_spec.proofs.Common.{Among, Done, Fresh, IsWorld, Judgement, Location, Mount, MountFlags, Permit, Remount, Task, TaskName, ToSetFlags, World, admin_rules, directory_walk, granted, holds_of, judge_in, members, mount_at, mount_numbered, numbers_raised, part_of, policy, remount_permit, remount_rules, sealed, task_called, unless, with_mount, with_mounts}
 use Rattle.vt_laws_mounts.proofs.letting_go.leaving.UsesKept.{set_flags_keep_all}
 use Rattle.vt_laws_mounts.proofs.letting_go.sweeps.OfWorlds.{all_in_use}
 use Rattle.vt_laws_sealed.proofs.part.part.PartOfPart.{is_own}

@@ -1,18 +1,6 @@
 -- On filesystems that a set uses alone, only mounts of its own namespaces stand on directories.
 use Rattle.std.proofs.Common.{arith, ◌≡◌, refl, sym, ap, ◌∙◌, ⊎_elim, ℕ, nat_eq, eqb-true, eq-eqb, Bool, true, false, true≢false, List, Option, Some, None, not, ◌&&◌}
-use Rattle.std.proofs.lemmas.Grind.{common_steps}
-use Rattle.std.specs.List.{list_any}
-use Rattle.std.proofs.lemmas.Bool.{and_parts, not-true}
-use Rattle.vt_spec.specs.Language.Calls.{TaskName}
-use Rattle.vt_spec.specs.Lists.{holds_of}
-use Rattle.vt_spec.specs.Machine.Detach.{is_point, mounts_on, points_of}
-use Rattle.vt_spec.specs.Machine.Invariants.{IsWorld, Stands}
-use Rattle.vt_spec.specs.Machine.Mounts.{Location, Mount}
-use Rattle.vt_spec.specs.Machine.Sealed.{is_own_namespace, no_outsider_on, other_mounts, used_alone}
-use Rattle.vt_spec.specs.Machine.World.{World, filesystem_at, mount_at, mount_numbered}
-use Rattle.vt_spec.proofs.Lists.{Among, among-filter, among-from_filter, among_from_all, any_among, any_from_among}
-use Rattle.vt_spec.proofs.Options.{none_is_some}
-use Rattle.vt_spec.proofs.Worlds.{found_or_none}
+use Rattle.vt_spec.proofs.Common.{Among, IsWorld, Location, Mount, Stands, TaskName, World, among-filter, among-from_filter, among_from_all, and_parts, any_among, any_from_among, common_steps, filesystem_at, found_or_none, holds_of, is_own_namespace, is_point, list_any, mount_at, mount_numbered, mounts_on, no_outsider_on, none_is_some, not-true, other_mounts, points_of, used_alone}
 use Rattle.vt_laws_mounts.proofs.mounts.MountsReplaced.{found_itself}
 use Rattle.vt_laws_worlds.proofs.worlds.Reached.{namespace_below}
 

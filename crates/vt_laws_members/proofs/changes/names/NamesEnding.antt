@@ -1,25 +1,6 @@
 -- Calls of theirs by which a name comes or goes on a plain filesystem end in the part as in the world.
-use Rattle.std.proofs.lemmas.Grind.{common_steps}
 use Rattle.std.proofs.Common.{◌≡◌, refl, sym, ap, subst, ◌∙◌, ℕ, suc, nat_eq, eqb-true, arith, true, false, List, [], ◌∷◌, Some, Ok, ◌+◌, ◌≤◌}
-use Rattle.std.specs.Prelude.{⊤}
-use Rattle.vt_spec.specs.Language.Answers.Answer.{Done}
-use Rattle.vt_spec.specs.Language.Calls.{Call, TaskName}
-use Rattle.vt_spec.specs.Language.Calls.Call.{LinkTo, MakeWhiteout, Mkdir, SymlinkAt, Unlink, Write}
-use Rattle.vt_spec.specs.Language.Changes.{Change, changed}
-use Rattle.vt_spec.specs.Language.Changes.Change.{AddName, Make, Remove}
-use Rattle.vt_spec.specs.Lists.{Fresh, evens, is_among, odds}
-use Rattle.vt_spec.specs.Machine.Apply.{overfills}
-use Rattle.vt_spec.specs.Machine.Judge.{judge_in}
-use Rattle.vt_spec.specs.Machine.Looks.{looks_of}
-use Rattle.vt_spec.specs.Machine.Mounts.{Location}
-use Rattle.vt_spec.specs.Machine.Permits.{Permit}
-use Rattle.vt_spec.specs.Machine.Permits.Permit.{ToChange, ToMake}
-use Rattle.vt_spec.specs.Machine.Policy.{only_looks}
-use Rattle.vt_spec.specs.Machine.Rows.{linking}
-use Rattle.vt_spec.specs.Machine.Rules.Removing.{object_there, removing}
-use Rattle.vt_spec.specs.Machine.Run.{Serves, numbers_in_use}
-use Rattle.vt_spec.specs.Machine.Sealed.{part_of, used_alone, used_filesystems}
-use Rattle.vt_spec.specs.Machine.World.{Filesystem, Task, World, filesystem_at, is_overlay, mount_at, task_called}
+use Rattle.vt_spec.proofs.Common.{AddName, Call, Change, Done, Filesystem, Fresh, LinkTo, Location, Make, MakeWhiteout, Mkdir, Permit, Remove, Serves, SymlinkAt, Task, TaskName, ToChange, ToMake, Unlink, World, Write, changed, common_steps, evens, filesystem_at, is_among, is_overlay, judge_in, linking, looks_of, mount_at, numbers_in_use, object_there, odds, only_looks, overfills, part_of, removing, task_called, used_alone, used_filesystems, ⊤}
 use Rattle.vt_laws_rules.specs.Granted.{IsGranted}
 use Rattle.vt_laws_rules.specs.Granted.IsGranted.{makes_hard_link, unlinks}
 use Rattle.vt_laws_rules.proofs.given.Inversion.{calls_are_granted}

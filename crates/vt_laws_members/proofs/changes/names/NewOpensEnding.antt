@@ -1,23 +1,6 @@
 -- An open of theirs that makes the file, on a plain filesystem, ends in the part as in the world.
-use Rattle.std.proofs.Common.{◌≡◌, refl, sym, ap, subst, ◌∙◌, ℕ, nat_eq, eqb-true, Bool, true, false, true≢false, List, [], ◌∷◌}
-use Rattle.std.specs.Prelude.{option_to_list}
-use Rattle.vt_spec.specs.FileTree.{FileTree}
-use Rattle.vt_spec.specs.Language.Answers.Answer.{Opened}
-use Rattle.vt_spec.specs.Language.Calls.{Access, Call, Creation, TaskName}
-use Rattle.vt_spec.specs.Language.Calls.Call.{OpenFile}
-use Rattle.vt_spec.specs.Language.Changes.{Change, changed}
-use Rattle.vt_spec.specs.Language.Changes.Change.{Make}
-use Rattle.vt_spec.specs.Lists.{Fresh, evens, is_among, odds}
-use Rattle.vt_spec.specs.Machine.Descriptors.{free_number, opened, with_descriptor}
-use Rattle.vt_spec.specs.Machine.Filesystems.{changed_at, filesystem_changed, numbers_of_change, with_change}
-use Rattle.vt_spec.specs.Machine.Mounts.{Location}
-use Rattle.vt_spec.specs.Machine.Outcomes.{granted}
-use Rattle.vt_spec.specs.Machine.Permits.Permit.{ToOpenNew}
-use Rattle.vt_spec.specs.Machine.Policy.{finished, numbers_raised}
-use Rattle.vt_spec.specs.Machine.Sealed.{part_of, used_filesystems}
-use Rattle.vt_spec.specs.Machine.Settled.{settled}
-use Rattle.vt_spec.specs.Machine.World.{Filesystem, Task, World, filesystem_at, is_overlay, mount_at, with_task}
-use Rattle.vt_spec.proofs.Lists.{Among}
+use Rattle.std.proofs.Common.{◌≡◌, refl, sym, ap, subst, ◌∙◌, ℕ, nat_eq, eqb-true, Bool, true, false, true≢false, List, [], ◌∷◌, option_to_list}
+use Rattle.vt_spec.proofs.Common.{Access, Among, Call, Change, Creation, FileTree, Filesystem, Fresh, Location, Make, OpenFile, Opened, Task, TaskName, ToOpenNew, World, changed, changed_at, evens, filesystem_at, filesystem_changed, finished, free_number, granted, is_among, is_overlay, mount_at, numbers_of_change, numbers_raised, odds, opened, part_of, settled, used_filesystems, with_change, with_descriptor, with_task}
 use Rattle.vt_laws_mounts.specs.LettingGo.InUse.{AllInUse}
 use Rattle.vt_laws_mounts.specs.LettingGo.TreeChanges.{ChangesTree}
 use Rattle.vt_laws_mounts.proofs.letting_go.sweeps.OfWorlds.{all_in_use}

@@ -1,33 +1,7 @@
 -- A call of theirs that removes a directory, or that renames, ends in the part as in the world, if no mount of another
 -- namespace of theirs is on what goes.
-use Rattle.std.proofs.Common.{arith, ◌≡◌, refl, sym, ap, subst, ◌∙◌, ℕ, nat_eq, eqb-true, true, false, List, Option, Some, None, Ok}
-use Rattle.std.proofs.lemmas.Grind.{common_steps}
-use Rattle.std.specs.Prelude.{IfOk, option_map, option_to_list}
-use Rattle.std.specs.List.{list_any}
-use Rattle.std.proofs.lemmas.Bool.{or_parts}
-use Rattle.std.proofs.lemmas.Option.{same_Some}
-use Rattle.vt_spec.specs.Language.Calls.{Call, TaskName}
-use Rattle.vt_spec.specs.Language.Calls.Call.{Rename}
-use Rattle.vt_spec.specs.Language.Changes.{Change}
-use Rattle.vt_spec.specs.Language.Changes.Change.{Move}
-use Rattle.vt_spec.specs.Lists.{Fresh, holds_of, is_among}
-use Rattle.vt_spec.specs.Machine.Apply.{overfills}
-use Rattle.vt_spec.specs.Machine.Invariants.{IsWorld}
-use Rattle.vt_spec.specs.Machine.Judge.{judge_in}
-use Rattle.vt_spec.specs.Machine.Locked.{is_locked_at}
-use Rattle.vt_spec.specs.Machine.Looks.{Looks, looks_of}
-use Rattle.vt_spec.specs.Machine.Mounts.{Location}
-use Rattle.vt_spec.specs.Machine.Permits.{Permit}
-use Rattle.vt_spec.specs.Machine.Permits.Permit.{ToRemoveDirectory, ToRename}
-use Rattle.vt_spec.specs.Machine.Rules.Conditions.{is_mount_point_anywhere, is_mount_point_in}
-use Rattle.vt_spec.specs.Machine.Rules.Removing.{object_there}
-use Rattle.vt_spec.specs.Machine.Sealed.{members, part_of, sealed, used_filesystems}
-use Rattle.vt_spec.specs.Machine.Walking.{Place, is_directory_there, name_of}
-use Rattle.vt_spec.specs.Machine.World.{Task, World, files_at, filesystem_at, is_overlay, task_called}
-use Rattle.vt_spec.specs.TreeInvariant.{entry_at}
-use Rattle.vt_spec.proofs.Lists.{Among}
-use Rattle.vt_spec.proofs.Options.{none_is_some}
-use Rattle.vt_spec.proofs.Worlds.{special_word}
+use Rattle.std.proofs.Common.{arith, ◌≡◌, refl, sym, ap, subst, ◌∙◌, ℕ, nat_eq, eqb-true, true, false, List, Option, Some, None, Ok, IfOk, option_map, option_to_list}
+use Rattle.vt_spec.proofs.Common.{Among, Call, Change, Fresh, IsWorld, Location, Looks, Move, Permit, Place, Rename, Task, TaskName, ToRemoveDirectory, ToRename, World, common_steps, entry_at, files_at, filesystem_at, holds_of, is_among, is_directory_there, is_locked_at, is_mount_point_anywhere, is_mount_point_in, is_overlay, judge_in, list_any, looks_of, members, name_of, none_is_some, object_there, or_parts, overfills, part_of, same_Some, sealed, special_word, task_called, used_filesystems}
 use Rattle.vt_laws_rules.specs.Granted.{IsGranted}
 use Rattle.vt_laws_rules.specs.Granted.IsGranted.{removes_directory, renames}
 use Rattle.vt_laws_trees.proofs.trees.PlacesReached.{old_is, rename_new_is}

@@ -1,9 +1,6 @@
 -- A world in which one plain tree changed: its other filesystems are as they were.
 use Rattle.std.proofs.Common.{◌≡◌, refl, sym, subst, ℕ, nat_eq, Bool, true, false, cond, List}
-use Rattle.vt_spec.specs.FileTree.{FileTree}
-use Rattle.vt_spec.specs.Machine.Filesystems.{with_files}
-use Rattle.vt_spec.specs.Machine.World.{Filesystem, World}
-use Rattle.vt_spec.proofs.Lists.{Among}
+use Rattle.vt_spec.proofs.Common.{Among, FileTree, Filesystem, World, with_files}
 use Rattle.vt_laws_mounts.specs.LettingGo.OneByOne.{Inode}
 use Rattle.vt_laws_mounts.specs.LettingGo.TreesOverlays.{ChangesFilesystem}
 use Rattle.vt_laws_mounts.proofs.letting_go.leaving.TreesWithOverlays.{unchanged}

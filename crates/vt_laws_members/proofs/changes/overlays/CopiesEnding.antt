@@ -1,17 +1,6 @@
 -- A call of theirs that edits a file through an overlay with an upper layer ends in the part as in the world.
 use Rattle.std.proofs.Common.{arith, ◌≡◌, refl, sym, ap, subst, ◌∙◌, ℕ, nat_eq, false, List, [], ◌∷◌, Some, Ok, filter, map}
-use Rattle.std.proofs.lemmas.Grind.{common_steps}
-use Rattle.vt_spec.specs.Language.Answers.Answer.{Done}
-use Rattle.vt_spec.specs.Language.Calls.{Call, TaskName, same_name}
-use Rattle.vt_spec.specs.Language.Changes.{Change}
-use Rattle.vt_spec.specs.Lists.{Fresh, is_among}
-use Rattle.vt_spec.specs.Machine.Filesystems.{changed_at, raised, raised_if_changed, with_change}
-use Rattle.vt_spec.specs.Machine.Mounts.{Location}
-use Rattle.vt_spec.specs.Machine.Outcomes.{granted}
-use Rattle.vt_spec.specs.Machine.Policy.{finished, numbers_raised, only_looks, policy, raised_task}
-use Rattle.vt_spec.specs.Machine.Sealed.{is_member_task, part_of, used_directly, used_filesystems}
-use Rattle.vt_spec.specs.Machine.World.{Filesystem, Layer, Overlay, Task, World, filesystem_at, locations_of, mount_at, task_called}
-use Rattle.vt_spec.proofs.Lists.{Among, map_twice}
+use Rattle.vt_spec.proofs.Common.{Among, Call, Change, Done, Filesystem, Fresh, Layer, Location, Overlay, Task, TaskName, World, changed_at, common_steps, filesystem_at, finished, granted, is_among, is_member_task, locations_of, map_twice, mount_at, numbers_raised, only_looks, part_of, policy, raised, raised_if_changed, raised_task, same_name, task_called, used_directly, used_filesystems, with_change}
 use Rattle.vt_laws_mounts.specs.LettingGo.InUse.{AllInUse}
 use Rattle.vt_laws_mounts.specs.LettingGo.TreesOverlays.{ChangesFilesystem, with_filesystems}
 use Rattle.vt_laws_mounts.proofs.letting_go.Lists.{filter-map}

@@ -1,21 +1,7 @@
 -- A change of an overlay by which inodes are copied up, and edited: the two filesystems that it changes, in the world and
 -- in the part.
-use Rattle.std.proofs.Common.{arith, ◌≡◌, refl, sym, ap, subst, ◌∙◌, inl, ⊎_elim, ℕ, nat_eq, eqb-true, Bool, true, false, cond, true≢false, List, [], ◌∷◌, ◌++◌, Some, flat_map, map}
-use Rattle.std.proofs.lemmas.Grind.{common_steps}
-use Rattle.std.specs.Prelude.{⊤, All, option_to_list}
-use Rattle.std.specs.List.{list_all, list_any}
-use Rattle.vt_spec.specs.Language.Calls.{TaskName}
-use Rattle.vt_spec.specs.Language.Changes.{Change}
-use Rattle.vt_spec.specs.Language.Changes.Change.{AddName, CopyUp, Make, Move, Remove, SetAttr, SetBytes, SetMark}
-use Rattle.vt_spec.specs.Lists.{Fresh, is_among}
-use Rattle.vt_spec.specs.Machine.CopyUp.{Merge, Stack, merge_changed}
-use Rattle.vt_spec.specs.Machine.Filesystems.{changed_at, raised, raised_if_changed, filesystem_changed, overlay_changed, stack_of, with_change, with_files}
-use Rattle.vt_spec.specs.Machine.Invariants.{IsWorld}
-use Rattle.vt_spec.specs.Machine.Locked.{of_overlay, overlay_or}
-use Rattle.vt_spec.specs.Machine.Mounts.{Location}
-use Rattle.vt_spec.specs.Machine.Sealed.{change_layers, part_of, part_of_filesystem, used_directly, used_filesystems}
-use Rattle.vt_spec.specs.Machine.World.{Filesystem, Layer, Overlay, World, filesystem_at, filesystem_numbered, mount_at, replaced_if_numbered}
-use Rattle.vt_spec.proofs.Lists.{Among, among-append_left, among-append_right, among-flat_map, among-from_filter_map, among-map, among_from_all, is_among_numbers, map_twice}
+use Rattle.std.proofs.Common.{arith, ◌≡◌, refl, sym, ap, subst, ◌∙◌, inl, ⊎_elim, ℕ, nat_eq, eqb-true, Bool, true, false, cond, true≢false, List, [], ◌∷◌, ◌++◌, Some, flat_map, map, All, option_to_list}
+use Rattle.vt_spec.proofs.Common.{AddName, Among, Change, CopyUp, Filesystem, Fresh, IsWorld, Layer, Location, Make, Merge, Move, Overlay, Remove, SetAttr, SetBytes, SetMark, Stack, TaskName, World, among-append_left, among-append_right, among-flat_map, among-from_filter_map, among-map, among_from_all, change_layers, changed_at, common_steps, filesystem_at, filesystem_changed, filesystem_numbered, is_among, is_among_numbers, list_all, list_any, map_twice, merge_changed, mount_at, of_overlay, overlay_changed, overlay_or, part_of, part_of_filesystem, raised, raised_if_changed, replaced_if_numbered, stack_of, used_directly, used_filesystems, with_change, with_files, ⊤}
 use Rattle.vt_laws_mounts.specs.LettingGo.OneByOne.{Inode}
 use Rattle.vt_laws_mounts.specs.LettingGo.TreesOverlays.{ChangesFilesystem, with_filesystems}
 use Rattle.vt_laws_mounts.proofs.letting_go.leaving.TreesWithOverlays.{unchanged}

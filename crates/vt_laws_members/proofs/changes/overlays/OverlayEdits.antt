@@ -1,25 +1,6 @@
 -- Calls of theirs that edit a file through an overlay: write(2), chmod(2), chown(2), pwrite(2).
-use Rattle.std.proofs.Common.{arith, ◌≡◌, refl, sym, ap, subst, ◌∙◌, ℕ, nat_eq, true, false, true≢false, List, ◌∷◌, Option, Some, None, Ok, is_some}
-use Rattle.std.proofs.lemmas.Grind.{common_steps}
-use Rattle.std.specs.Prelude.{IfOk}
-use Rattle.vt_spec.specs.Language.Answers.Answer.{Done}
-use Rattle.vt_spec.specs.Language.Calls.{Call, TaskName}
-use Rattle.vt_spec.specs.Language.Calls.Call.{Chmod, Chown, Pwrite, Write}
-use Rattle.vt_spec.specs.Language.Changes.{Change}
-use Rattle.vt_spec.specs.Language.Changes.Change.{AddName, CopyUp, Make, Move, Remove, SetAttr, SetBytes, SetMark}
-use Rattle.vt_spec.specs.Lists.{Fresh}
-use Rattle.vt_spec.specs.Machine.Descriptors.{overwritten}
-use Rattle.vt_spec.specs.Machine.Filesystems.{changed_at, with_change}
-use Rattle.vt_spec.specs.Machine.Judge.{judge_in}
-use Rattle.vt_spec.specs.Machine.Mounts.{Location}
-use Rattle.vt_spec.specs.Machine.Outcomes.{granted}
-use Rattle.vt_spec.specs.Machine.Permits.Permit.{ToChange, ToWritePart}
-use Rattle.vt_spec.specs.Machine.Policy.{finished, only_looks}
-use Rattle.vt_spec.specs.Machine.Run.{Serves}
-use Rattle.vt_spec.specs.Machine.Sealed.{locations, members, part_of, used_directly}
-use Rattle.vt_spec.specs.Machine.World.{Filesystem, Layer, Overlay, Task, World, filesystem_at, filesystem_numbered, is_overlay, mount_at, node_at, task_called}
-use Rattle.vt_spec.specs.Tree.{bytes_in}
-use Rattle.vt_spec.proofs.Lists.{Among, among-append_right, among-map}
+use Rattle.std.proofs.Common.{arith, ◌≡◌, refl, sym, ap, subst, ◌∙◌, ℕ, nat_eq, true, false, true≢false, List, ◌∷◌, Option, Some, None, Ok, is_some, IfOk}
+use Rattle.vt_spec.proofs.Common.{AddName, Among, Call, Change, Chmod, Chown, CopyUp, Done, Filesystem, Fresh, Layer, Location, Make, Move, Overlay, Pwrite, Remove, Serves, SetAttr, SetBytes, SetMark, Task, TaskName, ToChange, ToWritePart, World, Write, among-append_right, among-map, bytes_in, changed_at, common_steps, filesystem_at, filesystem_numbered, finished, granted, is_overlay, judge_in, locations, members, mount_at, node_at, only_looks, overwritten, part_of, task_called, used_directly, with_change}
 use Rattle.vt_laws_worlds.proofs.worlds.CallsKept.{name_found}
 use Rattle.vt_laws_worlds.specs.OverlayPermits.Asked.{AsksWell}
 use Rattle.vt_laws_worlds.proofs.overlay_permits.asked.Asked.{permits_ask_well}

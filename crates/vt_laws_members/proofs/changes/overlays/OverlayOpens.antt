@@ -1,28 +1,6 @@
 -- An open of theirs that copies the file up ends in the part as in the world.
-use Rattle.std.proofs.Common.{◌≡◌, refl, sym, ap, subst, ◌∙◌, ℕ, nat_eq, Bool, true, false, true≢false, List, Option, Some, None, Ok, is_some, not, ◌&&◌}
-use Rattle.std.specs.Prelude.{IfOk}
-use Rattle.std.proofs.lemmas.Bool.{and_parts}
-use Rattle.vt_spec.specs.Language.Answers.Answer.{Opened}
-use Rattle.vt_spec.specs.Language.Calls.{Access, Call, Creation, TaskName, opens_for_writing}
-use Rattle.vt_spec.specs.Language.Calls.Call.{OpenFile}
-use Rattle.vt_spec.specs.Language.Changes.Change.{CopyUp}
-use Rattle.vt_spec.specs.Lists.{Fresh, is_among, when}
-use Rattle.vt_spec.specs.Machine.Apply.{changed_if, overfills}
-use Rattle.vt_spec.specs.Machine.Descriptors.{free_number, is_copied_up, opened, with_copy, with_descriptor}
-use Rattle.vt_spec.specs.Machine.Filesystems.{changed_at, lies_only_in_lowers, with_change}
-use Rattle.vt_spec.specs.Machine.Judge.{judge_in}
-use Rattle.vt_spec.specs.Machine.Locked.{overlay_or}
-use Rattle.vt_spec.specs.Machine.Looks.{looks_of}
-use Rattle.vt_spec.specs.Machine.Mounts.{Location}
-use Rattle.vt_spec.specs.Machine.Outcomes.{Outcome, granted}
-use Rattle.vt_spec.specs.Machine.Permits.{Permit}
-use Rattle.vt_spec.specs.Machine.Permits.Permit.{ToOpen}
-use Rattle.vt_spec.specs.Machine.Policy.{finished, numbers_raised}
-use Rattle.vt_spec.specs.Machine.Rules.Conditions.{has_no_upper}
-use Rattle.vt_spec.specs.Machine.Sealed.{part_of, used_directly}
-use Rattle.vt_spec.specs.Machine.Settled.{settled}
-use Rattle.vt_spec.specs.Machine.World.{Filesystem, Layer, Overlay, Task, World, filesystem_at, mount_at, task_called, with_task}
-use Rattle.vt_spec.proofs.Lists.{Among}
+use Rattle.std.proofs.Common.{◌≡◌, refl, sym, ap, subst, ◌∙◌, ℕ, nat_eq, Bool, true, false, true≢false, List, Option, Some, None, Ok, is_some, not, ◌&&◌, IfOk}
+use Rattle.vt_spec.proofs.Common.{Access, Among, Call, CopyUp, Creation, Filesystem, Fresh, Layer, Location, OpenFile, Opened, Outcome, Overlay, Permit, Task, TaskName, ToOpen, World, and_parts, changed_at, changed_if, filesystem_at, finished, free_number, granted, has_no_upper, is_among, is_copied_up, judge_in, lies_only_in_lowers, looks_of, mount_at, numbers_raised, opened, opens_for_writing, overfills, overlay_or, part_of, settled, task_called, used_directly, when, with_change, with_copy, with_descriptor, with_task}
 use Rattle.vt_laws_rules.specs.Granted.{IsGranted}
 use Rattle.vt_laws_rules.specs.Granted.IsGranted.{opens, opens_existing}
 use Rattle.vt_laws_rules.proofs.given.Inversion.{calls_are_granted}

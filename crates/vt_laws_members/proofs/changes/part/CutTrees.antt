@@ -1,19 +1,6 @@
 -- What lies under a directory of a tree lies there, too, in the tree of what lies under it and under others.
-use Rattle.std.proofs.lemmas.Grind.{common_steps}
 use Rattle.std.proofs.Common.{◌≡◌, refl, sym, ap, subst, ◌∙◌, ⊎_elim, ℕ, zero, suc, nat_eq, Bool, true, false, cond, true≢false, List, [], ◌∷◌, Option, Some, None, is_some, length, not, ◌&&◌, ◌||◌, ◌≤◌, arith}
-use Rattle.std.proofs.lemmas.Bool.{and_from, and_parts, or_cases, or_left, or_right}
-use Rattle.std.proofs.lemmas.List.Filters.{length-filter_both}
-use Rattle.std.proofs.lemmas.Option.{same_Some}
-use Rattle.vt_spec.specs.FileTree.{FileTree, has_entry_to, is_directory_under, is_file_under, is_under, named_parent, targets_in}
-use Rattle.vt_spec.specs.Lists.{chain, is_among, when}
-use Rattle.vt_spec.specs.Machine.Invariants.{ListsNumbers}
-use Rattle.vt_spec.specs.Machine.Settled.{named_in, only_among}
-use Rattle.vt_spec.specs.Tree.{Node, is_directory_node, parent_in}
-use Rattle.vt_spec.specs.TreeInvariant.{IsDirectory, IsTree}
-use Rattle.vt_spec.proofs.Lists.{Among, among-filter, among-flat_map, among_numbers, any_among, any_from_among}
-use Rattle.vt_spec.proofs.NodeChanges.{entry_from}
-use Rattle.vt_spec.proofs.Nodes.{directory_used}
-use Rattle.vt_spec.proofs.Options.{none_is_some}
+use Rattle.vt_spec.proofs.Common.{Among, FileTree, IsDirectory, IsTree, ListsNumbers, Node, among-filter, among-flat_map, among_numbers, and_from, and_parts, any_among, any_from_among, chain, common_steps, directory_used, entry_from, has_entry_to, is_among, is_directory_node, is_directory_under, is_file_under, is_under, length-filter_both, named_in, named_parent, none_is_some, only_among, or_cases, or_left, or_right, parent_in, same_Some, targets_in, when}
 use Rattle.vt_laws_trees.proofs.layers.layers.UpperLine.{has_entries}
 use Rattle.vt_laws_mounts.proofs.letting_go.Chains.{Way, chains_alike}
 use Rattle.vt_laws_mounts.proofs.letting_go.Chains.Way.{ends, goes_on}

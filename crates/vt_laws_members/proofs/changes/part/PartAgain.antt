@@ -1,21 +1,6 @@
 -- The part of the part is the part, with the trees that it has by lower layers alone.
-use Rattle.std.proofs.Common.{arith, ◌≡◌, refl, sym, ap, subst, ◌∙◌, inl, inr, ⊎_elim, ℕ, nat_eq, Bool, true, false, cond, true≢false, List, [], ◌∷◌, Option, Some, None, filter, find, is_some, eq-eqb, eqb-true}
-use Rattle.std.proofs.lemmas.Grind.{common_steps}
-use Rattle.std.specs.Prelude.{unwrap_or}
-use Rattle.std.specs.List.{cons_option, filter_map, list_any}
-use Rattle.std.proofs.lemmas.Bool.{and_from, and_parts}
-use Rattle.vt_spec.specs.FileTree.{FileTree, is_under}
-use Rattle.vt_spec.specs.Language.Calls.{TaskName}
-use Rattle.vt_spec.specs.Lists.{is_among, when}
-use Rattle.vt_spec.specs.Machine.Invariants.{IsWorld, ListsNumbers}
-use Rattle.vt_spec.specs.Machine.Locked.{lies_in_layer}
-use Rattle.vt_spec.specs.Machine.Mounts.{Mount}
-use Rattle.vt_spec.specs.Machine.Sealed.{is_at, lies_in_own_lower, locations, members, own_lowers, part_of, part_of_filesystem, part_of_lower, part_of_master, part_of_mount, seen_by_descriptor, used_filesystems}
-use Rattle.vt_spec.specs.Machine.Settled.{only_among}
-use Rattle.vt_spec.specs.Machine.World.{Filesystem, Layer, Namespace, Task, World, filesystem_numbered, no_filesystem}
-use Rattle.vt_spec.specs.Tree.{Node}
-use Rattle.vt_spec.specs.TreeInvariant.{IsTree}
-use Rattle.vt_spec.proofs.Lists.{Among, among-filter, among-from_filter, among_from_all, among_numbers, any_among, any_from_among, is_among_numbers}
+use Rattle.std.proofs.Common.{arith, ◌≡◌, refl, sym, ap, subst, ◌∙◌, inl, inr, ⊎_elim, ℕ, nat_eq, Bool, true, false, cond, true≢false, List, [], ◌∷◌, Option, Some, None, filter, find, is_some, eq-eqb, eqb-true, unwrap_or, filter_map}
+use Rattle.vt_spec.proofs.Common.{Among, FileTree, Filesystem, IsTree, IsWorld, Layer, ListsNumbers, Mount, Namespace, Node, Task, TaskName, World, among-filter, among-from_filter, among_from_all, among_numbers, and_from, and_parts, any_among, any_from_among, common_steps, cons_option, filesystem_numbered, is_among, is_among_numbers, is_at, is_under, lies_in_layer, lies_in_own_lower, list_any, locations, members, no_filesystem, only_among, own_lowers, part_of, part_of_filesystem, part_of_lower, part_of_master, part_of_mount, seen_by_descriptor, used_filesystems, when}
 use Rattle.vt_laws_mounts.proofs.letting_go.sweeps.OfWorlds.{found_filesystem}
 use Rattle.vt_laws_sealed.proofs.part.Kept.{filter_again, kept_again}
 use Rattle.vt_laws_sealed.proofs.part.part.PartOfPart.{keep, kept_how, same_lowers, same_members, same_own, same_used, shown_how}

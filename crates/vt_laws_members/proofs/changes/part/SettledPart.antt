@@ -1,18 +1,6 @@
 -- Nothing of the part of a sealed set is unused in it.
-use Rattle.std.proofs.lemmas.Grind.{common_steps}
-use Rattle.std.proofs.Common.{◌≡◌, refl, sym, ap, subst, ◌∙◌, inr, ⊎_elim, ℕ, nat_eq, Bool, true, false, cond, true≢false, List, [], ◌∷◌, ◌++◌, Option, None, filter, flat_map, length, ◌≤◌, arith, eqb-true}
-use Rattle.std.specs.List.{filter_map, list_all, list_any}
-use Rattle.std.proofs.lemmas.Bool.{and_parts}
-use Rattle.vt_spec.specs.FileTree.{is_under}
-use Rattle.vt_spec.specs.Language.Calls.{TaskName}
-use Rattle.vt_spec.specs.Lists.{is_among}
-use Rattle.vt_spec.specs.Machine.Invariants.{IsWorld}
-use Rattle.vt_spec.specs.Machine.Locked.{lies_in_layer, of_overlay}
-use Rattle.vt_spec.specs.Machine.Receives.{has_members, is_member_of}
-use Rattle.vt_spec.specs.Machine.Sealed.{is_own_mount, lies_in_own_lower, members, own_lowers, own_mounts, part_of, part_of_filesystem, part_of_lower, part_of_mount, sealed, used_directly, used_filesystems}
-use Rattle.vt_spec.specs.Machine.Settled.{filesystem_lives, layers_in, located_in, mount_lives, named_in, objects_of_overlay, only_used, only_used_of, settled, used_in, without_dead_filesystems, without_dead_groups, without_dead_in, without_dead_mounts}
-use Rattle.vt_spec.specs.Machine.World.{Filesystem, Layer, World, filesystem_numbered, layers_of}
-use Rattle.vt_spec.proofs.Lists.{Among, all_from_among, among-append_left, among-filter, among-filter_map, among-flat_map, among-from_filter, among-from_filter_map, among-map, among_from_contains, among_numbers, any_among, any_from_among, is_among_numbers, list_all_from_among, map_same}
+use Rattle.std.proofs.Common.{◌≡◌, refl, sym, ap, subst, ◌∙◌, inr, ⊎_elim, ℕ, nat_eq, Bool, true, false, cond, true≢false, List, [], ◌∷◌, ◌++◌, Option, None, filter, flat_map, length, ◌≤◌, arith, eqb-true, filter_map}
+use Rattle.vt_spec.proofs.Common.{Among, Filesystem, IsWorld, Layer, TaskName, World, all_from_among, among-append_left, among-filter, among-filter_map, among-flat_map, among-from_filter, among-from_filter_map, among-map, among_from_contains, among_numbers, and_parts, any_among, any_from_among, common_steps, filesystem_lives, filesystem_numbered, has_members, is_among, is_among_numbers, is_member_of, is_own_mount, is_under, layers_in, layers_of, lies_in_layer, lies_in_own_lower, list_all, list_all_from_among, list_any, located_in, map_same, members, mount_lives, named_in, objects_of_overlay, of_overlay, only_used, only_used_of, own_lowers, own_mounts, part_of, part_of_filesystem, part_of_lower, part_of_mount, sealed, settled, used_directly, used_filesystems, used_in, without_dead_filesystems, without_dead_groups, without_dead_in, without_dead_mounts}
 use Rattle.vt_laws_mounts.specs.LettingGo.InUse.{AllInUse, is_inode_used}
 use Rattle.vt_laws_sealed.specs.Part.Parts.{SeesTheSame, shown_of}
 use Rattle.vt_laws_sealed.specs.Part.Seals.{IsApart}

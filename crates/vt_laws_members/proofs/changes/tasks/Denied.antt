@@ -1,18 +1,7 @@
 -- A call of theirs that is refused leaves their part, and is refused alike.
-use Rattle.std.proofs.Common.{arith, ◌≡◌, refl, sym, ap, subst, ◌∙◌, ℕ, nat_eq, Bool, true, false, true≢false, not, List, Option, Some, None, Ok, Err, ◌||◌}
-use Rattle.std.proofs.lemmas.Grind.{common_steps}
-use Rattle.std.specs.Prelude.{is_ok}
+use Rattle.std.proofs.Common.{arith, ◌≡◌, refl, sym, ap, subst, ◌∙◌, ℕ, nat_eq, Bool, true, false, true≢false, not, List, Option, Some, None, Ok, Err, ◌||◌, is_ok}
+use Rattle.vt_spec.proofs.Common.{Call, Fresh, Judgement, Outcome, Permit, Task, TaskName, World, after, apply, common_steps, contains_from_among, denied, filesystems_changed_by, finished, finished_by, judge_in, members, only_looks, part_of, policy, task_called}
 use Rattle.vt_spec.specs.declared.errors.Deny.{Deny}
-use Rattle.vt_spec.specs.Language.Calls.{Call, TaskName}
-use Rattle.vt_spec.specs.Lists.{Fresh}
-use Rattle.vt_spec.specs.Machine.Apply.{apply}
-use Rattle.vt_spec.specs.Machine.Judge.{Judgement, judge_in}
-use Rattle.vt_spec.specs.Machine.Outcomes.{Outcome, after, denied}
-use Rattle.vt_spec.specs.Machine.Permits.{Permit}
-use Rattle.vt_spec.specs.Machine.Policy.{filesystems_changed_by, finished, finished_by, only_looks, policy}
-use Rattle.vt_spec.specs.Machine.Sealed.{members, part_of}
-use Rattle.vt_spec.specs.Machine.World.{Task, World, task_called}
-use Rattle.vt_spec.proofs.Lists.{contains_from_among}
 use Rattle.vt_laws_members.proofs.judging.ByPart.{members_are_judged_by_their_part}
 use Rattle.vt_laws_members.specs.Changes.Changes.{DenialsEndAlike, EndAlike, EndsAlike, IsCallOfTheirs, grown}
 use Rattle.vt_laws_members.proofs.changes.looks.Told.{member_called, ran, same_caller}

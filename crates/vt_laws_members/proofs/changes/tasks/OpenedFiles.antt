@@ -1,18 +1,6 @@
 -- An open of theirs by which filesystems change, and nothing goes, ends in the part as in the world.
 use Rattle.std.proofs.Common.{◌≡◌, refl, sym, ap, subst, ◌∙◌, ℕ, nat_eq, true, List, Some, filter, map, ◌||◌}
-use Rattle.vt_spec.specs.Language.Answers.Answer.{Opened}
-use Rattle.vt_spec.specs.Language.Calls.{Access, Call, Creation, TaskName, same_name}
-use Rattle.vt_spec.specs.Language.Calls.Call.{OpenFile}
-use Rattle.vt_spec.specs.Lists.{Fresh, is_among}
-use Rattle.vt_spec.specs.Machine.Descriptors.{free_number, with_descriptor}
-use Rattle.vt_spec.specs.Machine.Filesystems.{raised, raised_if_changed}
-use Rattle.vt_spec.specs.Machine.Mounts.{Location, Mount}
-use Rattle.vt_spec.specs.Machine.Outcomes.{Outcome, granted}
-use Rattle.vt_spec.specs.Machine.Policy.{numbers_raised, policy, raised_task}
-use Rattle.vt_spec.specs.Machine.Sealed.{is_at, is_member_task, members, part_of, roots_and_directories, used_directly}
-use Rattle.vt_spec.specs.Machine.Settled.{settled}
-use Rattle.vt_spec.specs.Machine.World.{Filesystem, Task, World, mount_at, replaced_if_called, task_called, with_task}
-use Rattle.vt_spec.proofs.Lists.{Among, among-from_filter, map_twice}
+use Rattle.vt_spec.proofs.Common.{Access, Among, Call, Creation, Filesystem, Fresh, Location, Mount, OpenFile, Opened, Outcome, Task, TaskName, World, among-from_filter, free_number, granted, is_among, is_at, is_member_task, map_twice, members, mount_at, numbers_raised, part_of, policy, raised, raised_if_changed, raised_task, replaced_if_called, roots_and_directories, same_name, settled, task_called, used_directly, with_descriptor, with_task}
 use Rattle.vt_laws_mounts.specs.LettingGo.InUse.{AllInUse}
 use Rattle.vt_laws_mounts.specs.LettingGo.TreesOverlays.{with_filesystems}
 use Rattle.vt_laws_mounts.proofs.letting_go.Lists.{filter-map}

@@ -1,35 +1,6 @@
 -- An open of a file that is there, and is not copied up, ends in the part as in the world.
-use Rattle.std.proofs.Common.{arith, ◌≡◌, refl, sym, ap, subst, ◌∙◌, ◌⊎◌, inl, inr, ⊎_elim, ℕ, nat_eq, Bool, true, false, cond, true≢false, List, [], ◌∷◌, ◌++◌, Option, Some, None, Ok, filter, map, ◌||◌}
-use Rattle.std.proofs.lemmas.Grind.{common_steps}
-use Rattle.std.specs.Prelude.{⊤, IfOk}
-use Rattle.std.specs.List.{list_any}
-use Rattle.vt_spec.specs.Errors.{unless}
-use Rattle.vt_spec.specs.Language.Answers.Answer.{Opened}
-use Rattle.vt_spec.specs.Language.Calls.{Access, Creation, TaskName, opens_for_reading, opens_for_writing, same_name}
-use Rattle.vt_spec.specs.Language.Calls.Call.{OpenFile}
-use Rattle.vt_spec.specs.Language.Calls.Creation.{Exclusive, NoCreation, OrCreate}
-use Rattle.vt_spec.specs.Lists.{Fresh, holds_of, is_among, when}
-use Rattle.vt_spec.specs.Machine.Apply.{changed_if}
-use Rattle.vt_spec.specs.Machine.Descriptors.{free_number, inserted, is_copied_up, opened, with_copy, with_descriptor}
-use Rattle.vt_spec.specs.Machine.Filesystems.{raised}
-use Rattle.vt_spec.specs.Machine.Invariants.{IsWorld}
-use Rattle.vt_spec.specs.Machine.Judge.{create_file_permit, open_by_permit, open_file_permit, open_new_permit, open_permit, opened_or_created_permit, unnumbered}
-use Rattle.vt_spec.specs.Machine.Looks.{Looks, looks_of}
-use Rattle.vt_spec.specs.Machine.Mounts.{Location, Mount}
-use Rattle.vt_spec.specs.Machine.Outcomes.{Outcome}
-use Rattle.vt_spec.specs.Machine.Permits.{Permit}
-use Rattle.vt_spec.specs.Machine.Permits.Permit.{ToOpen}
-use Rattle.vt_spec.specs.Machine.Policy.{finished, raised_task}
-use Rattle.vt_spec.specs.Machine.Rows.{new_file}
-use Rattle.vt_spec.specs.Machine.Rules.Descriptors.{descriptor_rules, exclusive_word_rules, open_rules}
-use Rattle.vt_spec.specs.Machine.Rules.Making.{file_word_rules, make_rules}
-use Rattle.vt_spec.specs.Machine.Sealed.{is_at, is_member_task, locations, members, part_of, roots_and_directories, seen_by_descriptor, sealed, used_directly, used_filesystems}
-use Rattle.vt_spec.specs.Machine.Walking.{Here, Place, file_walk, new_walk, object_walk}
-use Rattle.vt_spec.specs.Machine.World.{Descriptor, Task, World, locations_of, mount_at, replaced_if_called, task_called}
-use Rattle.vt_spec.proofs.Found.{found_among}
-use Rattle.vt_spec.proofs.Lists.{Among, among-append, among-append_left, among-append_right, among-flat_map, among-from_filter, among-from_flat_map, among-from_map, among-map, any_among, any_from_among, map_twice}
-use Rattle.vt_spec.proofs.Truths.{same_truth}
-use Rattle.vt_spec.proofs.Worlds.{name-replaced_if_called, same_task_name}
+use Rattle.std.proofs.Common.{arith, ◌≡◌, refl, sym, ap, subst, ◌∙◌, ◌⊎◌, inl, inr, ⊎_elim, ℕ, nat_eq, Bool, true, false, cond, true≢false, List, [], ◌∷◌, ◌++◌, Option, Some, None, Ok, filter, map, ◌||◌, IfOk}
+use Rattle.vt_spec.proofs.Common.{Access, Among, Creation, Descriptor, Exclusive, Fresh, Here, IsWorld, Location, Looks, Mount, NoCreation, OpenFile, Opened, OrCreate, Outcome, Permit, Place, Task, TaskName, ToOpen, World, among-append, among-append_left, among-append_right, among-flat_map, among-from_filter, among-from_flat_map, among-from_map, among-map, any_among, any_from_among, changed_if, common_steps, create_file_permit, descriptor_rules, exclusive_word_rules, file_walk, file_word_rules, finished, found_among, free_number, holds_of, inserted, is_among, is_at, is_copied_up, is_member_task, list_any, locations, locations_of, looks_of, make_rules, map_twice, members, mount_at, name-replaced_if_called, new_file, new_walk, object_walk, open_by_permit, open_file_permit, open_new_permit, open_permit, open_rules, opened, opened_or_created_permit, opens_for_reading, opens_for_writing, part_of, raised, raised_task, replaced_if_called, roots_and_directories, same_name, same_task_name, same_truth, sealed, seen_by_descriptor, task_called, unless, unnumbered, used_directly, used_filesystems, when, with_copy, with_descriptor, ⊤}
 use Rattle.vt_laws_mounts.proofs.letting_go.Lists.{filter-map}
 use Rattle.vt_laws_sealed.proofs.part.part.PartOfPart.{is_own, keep, same_members}
 use Rattle.vt_laws_members.specs.Judging.{is_theirs}

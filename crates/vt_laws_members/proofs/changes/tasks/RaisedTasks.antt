@@ -1,15 +1,7 @@
 -- Where tasks change alone, the change numbers of the caller and of the world are raised, and no others.
 use Rattle.std.proofs.Common.{arith, ◌≡◌, refl, ℕ, nat_eq, true, List, [], ◌∷◌, map, eq-eqb}
-use Rattle.std.proofs.lemmas.Grind.{common_steps}
-use Rattle.std.proofs.lemmas.Bool.{and_from}
+use Rattle.vt_spec.proofs.Common.{Mount, Namespace, Task, TaskName, World, and_from, common_steps, map_same, mounts_of, numbers_raised, raised, raised_if_changed, raised_namespace, raised_task, same_list, same_mount}
 use Rattle.vt_laws_sealed.proofs.outsiders.Masters.{same_flags_itself, same_point_itself, same_group_itself, same_propagation_itself}
-use Rattle.vt_spec.specs.Language.Calls.{TaskName}
-use Rattle.vt_spec.specs.Lists.{same_list}
-use Rattle.vt_spec.specs.Machine.Filesystems.{raised, raised_if_changed}
-use Rattle.vt_spec.specs.Machine.Mounts.{Mount}
-use Rattle.vt_spec.specs.Machine.Policy.{numbers_raised, raised_namespace, raised_task, same_mount}
-use Rattle.vt_spec.specs.Machine.World.{Namespace, Task, World, mounts_of}
-use Rattle.vt_spec.proofs.Lists.{map_same}
 
 module _ (before : World ℕ) (name : TaskName) (tasks : List (Task ℕ)) where
   abbrev left : World ℕ

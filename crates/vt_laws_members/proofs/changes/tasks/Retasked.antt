@@ -1,17 +1,6 @@
 -- The part of a world in which tasks change alone, and the tasks of a set see what they saw.
 use Rattle.std.proofs.Common.{arith, ◌≡◌, refl, sym, ap, ◌∙◌, ℕ, nat_eq, Bool, cond, List, [], ◌∷◌, ◌++◌, Some, None, filter, flat_map, ◌||◌}
-use Rattle.std.proofs.lemmas.Grind.{common_steps}
-use Rattle.std.specs.List.{list_any}
-use Rattle.vt_spec.specs.Language.Calls.{TaskName}
-use Rattle.vt_spec.specs.Lists.{each_once, holds_of, is_among, when}
-use Rattle.vt_spec.specs.Machine.Locked.{lies_in_layer, of_overlay}
-use Rattle.vt_spec.specs.Machine.Mounts.{Mount}
-use Rattle.vt_spec.specs.Machine.Receives.{is_member_of}
-use Rattle.vt_spec.specs.Machine.Sealed.{change_layers, members, own_lowers, own_mounts, part_of, part_of_filesystem, used_directly, used_filesystems}
-use Rattle.vt_spec.specs.Machine.Settled.{only_among}
-use Rattle.vt_spec.specs.Machine.World.{Filesystem, Layer, Namespace, Overlay, Task, World, filesystem_numbered}
-use Rattle.vt_spec.proofs.Lists.{Among, any_among, any_from_among}
-use Rattle.vt_spec.proofs.Truths.{same_truth}
+use Rattle.vt_spec.proofs.Common.{Among, Filesystem, Layer, Mount, Namespace, Overlay, Task, TaskName, World, any_among, any_from_among, change_layers, common_steps, each_once, filesystem_numbered, holds_of, is_among, is_member_of, lies_in_layer, list_any, members, of_overlay, only_among, own_lowers, own_mounts, part_of, part_of_filesystem, same_truth, used_directly, used_filesystems, when}
 use Rattle.vt_laws_sealed.proofs.part.Kept.{among-each_once, among-from_each_once, filter_map_same}
 use Rattle.vt_laws_sealed.proofs.part.part.PartOfPart.{keep}
 

@@ -1,21 +1,7 @@
 -- Calls that change a task's rights alone end in the part as in the world.
 use Rattle.std.proofs.Common.{◌≡◌, refl, sym, ap, subst, ◌∙◌, inl, inr, ⊎_elim, ℕ, nat_eq, Bool, true, false, cond, true≢false, List, [], ◌∷◌, ◌++◌, Option, Some, None, Ok, filter, map, ◌||◌}
-use Rattle.std.specs.List.{list_any}
-use Rattle.std.proofs.lemmas.Bool.{or_parts}
-use Rattle.vt_spec.specs.Language.Answers.{Answer}
-use Rattle.vt_spec.specs.Language.Answers.Answer.{Done}
-use Rattle.vt_spec.specs.Language.Calls.{Call, TaskName, same_name}
-use Rattle.vt_spec.specs.Language.Calls.Call.{Drop, Pwrite, Rename, Umask}
-use Rattle.vt_spec.specs.Lists.{Fresh, any_pair, holds_of, is_among, when}
-use Rattle.vt_spec.specs.Machine.Filesystems.{raised}
-use Rattle.vt_spec.specs.Machine.Mounts.{Location, Mount}
-use Rattle.vt_spec.specs.Machine.Policy.{raised_task}
-use Rattle.vt_spec.specs.Machine.Sealed.{is_at, is_member_task, locations, members, part_of, roots_and_directories, seen_by_descriptor}
-use Rattle.vt_spec.specs.Machine.Tasks.{capabilities_of, permission_bits, with_dropped}
-use Rattle.vt_spec.specs.Machine.World.{Task, World, locations_of, mount_at, replaced_if_called, task_called}
-use Rattle.vt_spec.proofs.Found.{found_among}
-use Rattle.vt_spec.proofs.Lists.{Among, among-from_filter, map_same, map_twice, none_among}
-use Rattle.vt_spec.proofs.Worlds.{name-replaced_if_called, same_name_itself, same_task_name}
+use Rattle.vt_spec.proofs.Common.{Among, Answer, Call, Done, Drop, Fresh, Location, Mount, Pwrite, Rename, Task, TaskName, Umask, World, among-from_filter, any_pair, found_among, holds_of, is_among, is_at, is_member_task, list_any, locations, locations_of, map_same, map_twice, members, mount_at, name-replaced_if_called, none_among, or_parts, part_of, raised, raised_task, replaced_if_called, roots_and_directories, same_name, same_name_itself, same_task_name, seen_by_descriptor, task_called, when, with_dropped}
+use Rattle.vt_spec.specs.Machine.Tasks.{capabilities_of, permission_bits}
 use Rattle.vt_laws_mounts.proofs.letting_go.Lists.{filter-map, flat_map-step}
 use Rattle.vt_laws_sealed.proofs.part.part.PartOfPart.{same_members}
 use Rattle.vt_laws_members.specs.Changes.Changes.{DropsEndAlike, EmptyWritesEndAlike, EndsAlike, IsCallOfTheirs, RenamesOfOneEndAlike, UmasksEndAlike, grown}

@@ -1,15 +1,7 @@
 -- A mount of theirs is whole in the part.
 use Rattle.std.proofs.Common.{arith, ◌≡◌, sym, ap, subst, ◌∙◌, ⊎_elim, ℕ, nat_eq, eqb-true, true, List, Some, ◌||◌}
-use Rattle.std.proofs.lemmas.Grind.{common_steps}
-use Rattle.std.proofs.lemmas.Bool.{or_left, or_right}
-use Rattle.std.proofs.lemmas.Option.{same_Some}
+use Rattle.vt_spec.proofs.Common.{Among, IsWorld, Location, Mount, TaskName, World, among-from_filter_map, common_steps, is_at, members, mount_at, or_left, or_right, part_of, roots_and_directories, same_Some, used_directly}
 use Rattle.vt_laws_sealed.proofs.part.part.MountsOver.{numbered}
-use Rattle.vt_spec.specs.Language.Calls.{TaskName}
-use Rattle.vt_spec.specs.Machine.Invariants.{IsWorld}
-use Rattle.vt_spec.specs.Machine.Mounts.{Location, Mount}
-use Rattle.vt_spec.specs.Machine.Sealed.{is_at, members, part_of, roots_and_directories, used_directly}
-use Rattle.vt_spec.specs.Machine.World.{World, mount_at}
-use Rattle.vt_spec.proofs.Lists.{Among, among-from_filter_map}
 use Rattle.vt_laws_sealed.proofs.part.part.PartOfPart.{is_own, keep, kept_how, kept_whole, same_directly, same_members}
 use Rattle.vt_laws_members.proofs.judging.Grounds.{IsTheirs, same_mount}
 use Rattle.vt_laws_members.proofs.judging.SeenInPart.{theirs_directly}

@@ -1,22 +1,8 @@
 -- Where mounts of a sealed set are detached, its mounts share no events with others, neither in the world nor in
 -- the part.
 use Rattle.std.proofs.Common.{arith, ◌≡◌, refl, sym, ap, ◌∙◌, ⊎_elim, ℕ, nat_eq, eq-eqb, Bool, true, false, cond, true≢false, List, Option, Some, None, length, not}
-use Rattle.std.proofs.lemmas.Grind.{common_steps}
-use Rattle.std.specs.List.{list_all, list_any}
-use Rattle.std.proofs.lemmas.Bool.{false_from_ne_true, or_from}
+use Rattle.vt_spec.proofs.Common.{Among, HasLivingGroups, IsWorld, Mount, Private, Propagation, Shared, Slave, Task, TaskName, Unbindable, World, among-filter, among-from_filter, among-from_filter_map, among-from_map, among_from_all, common_steps, false_from_ne_true, filter_none, found_among, group_of, groups_up, has_members, heir, holds_of, inherited, is_among_numbers, is_going, is_member_of, is_own_mount, is_own_namespace, list_all, list_all_from_among, list_any, master_of, members, none_from_among, none_is_some, or_from, other_mounts, own_mounts, part_of, receives_events_of, sealed, share_events, shares_no_events, slave_of_heir, source_of}
 use Rattle.vt_laws_mounts.proofs.GroupsUp.{source_from_group}
-use Rattle.vt_spec.specs.Language.Calls.{TaskName}
-use Rattle.vt_spec.specs.Lists.{holds_of}
-use Rattle.vt_spec.specs.Machine.Detach.{is_going}
-use Rattle.vt_spec.specs.Machine.Invariants.{HasLivingGroups, IsWorld}
-use Rattle.vt_spec.specs.Machine.Mounts.{Mount, Propagation, group_of, source_of}
-use Rattle.vt_spec.specs.Machine.Mounts.Propagation.{Private, Shared, Slave, Unbindable}
-use Rattle.vt_spec.specs.Machine.Receives.{groups_up, has_members, heir, inherited, is_member_of, slave_of_heir}
-use Rattle.vt_spec.specs.Machine.Sealed.{is_own_mount, is_own_namespace, master_of, members, other_mounts, own_mounts, part_of, receives_events_of, sealed, share_events, shares_no_events}
-use Rattle.vt_spec.specs.Machine.World.{Task, World}
-use Rattle.vt_spec.proofs.Found.{found_among}
-use Rattle.vt_spec.proofs.Lists.{Among, among-filter, among-from_filter, among-from_filter_map, among-from_map, among_from_all, filter_none, is_among_numbers, list_all_from_among, none_from_among}
-use Rattle.vt_spec.proofs.Options.{none_is_some}
 use Rattle.vt_laws_mounts.proofs.mounts.Receivers.{along_chain}
 use Rattle.vt_laws_sealed.proofs.part.groups.EventsApart.{none_hears}
 use Rattle.vt_laws_sealed.proofs.part.groups.ReceiversAlike.{OtherLives, member_group, none_other, other_above, start_hears}

@@ -1,18 +1,6 @@
 -- Worlds that differ in the masters of groups without members have the same invariants of mounts, and the same goes.
 use Rattle.std.proofs.Common.{arith, ◌≡◌, refl, sym, ap, ◌∙◌, ℕ, zero, suc, nat_eq, Bool, true, false, cond, Option, Some, None, length}
-use Rattle.std.proofs.lemmas.Grind.{common_steps}
-use Rattle.vt_spec.specs.Lists.{chain, holds_of, is_among}
-use Rattle.vt_spec.specs.Machine.Attach.{receivers_of}
-use Rattle.vt_spec.specs.Machine.Detach.{going, going_at, going_from}
-use Rattle.vt_spec.specs.Machine.Invariants.{HasLivingGroups, Lives, MountInvariants}
-use Rattle.vt_spec.specs.Machine.Invariants.Lives.{has_master, has_no_master}
-use Rattle.vt_spec.specs.Machine.Mounts.{Location, Mount, is_shared, source_of}
-use Rattle.vt_spec.specs.Machine.Receives.{groups_up, has_members, receives}
-use Rattle.vt_spec.specs.Machine.Settled.{without_dead_groups}
-use Rattle.vt_spec.specs.Machine.World.{World, mount_at}
-use Rattle.vt_spec.proofs.Found.{filter_alike}
-use Rattle.vt_spec.proofs.Lists.{Among, all_from_among, among_from_all, chain_ends, chain_goes_on}
-use Rattle.vt_spec.proofs.Worlds.{stands_alike}
+use Rattle.vt_spec.proofs.Common.{Among, HasLivingGroups, Lives, Location, Mount, MountInvariants, World, all_from_among, among_from_all, chain, chain_ends, chain_goes_on, common_steps, filter_alike, going, going_at, going_from, groups_up, has_master, has_members, has_no_master, holds_of, is_among, is_shared, mount_at, receivers_of, receives, source_of, stands_alike, without_dead_groups}
 
 module _ (w : World ℕ) where
   abbrev cleared : World ℕ

@@ -1,26 +1,6 @@
 -- Each umount(2) with MNT_DETACH ends in the part as in the world.
-use Rattle.std.proofs.Common.{◌≡◌, refl, sym, ap, subst, ◌∙◌, ⊎_elim, ℕ, nat_eq, eq-eqb, true, true≢false, List, [], Option, Some, None, Ok, Err}
-use Rattle.std.specs.Prelude.{is_ok}
-use Rattle.vt_spec.specs.Language.Answers.Answer.{Done}
-use Rattle.vt_spec.specs.Language.Calls.{Call, TaskName}
-use Rattle.vt_spec.specs.Language.Calls.Call.{Lazy}
-use Rattle.vt_spec.specs.Lists.{Fresh, folded, holds_of}
-use Rattle.vt_spec.specs.Machine.Apply.{overfills}
-use Rattle.vt_spec.specs.Machine.Detach.{is_going, lazily_unmounted, taken_away, unmounted_if_there}
-use Rattle.vt_spec.specs.Machine.Invariants.{IsWorld, MountInvariants}
-use Rattle.vt_spec.specs.Machine.Judge.{Judgement, judge_in}
-use Rattle.vt_spec.specs.Machine.Looks.{looks_of}
-use Rattle.vt_spec.specs.Machine.Mounts.{Mount}
-use Rattle.vt_spec.specs.Machine.Outcomes.{Outcome, granted}
-use Rattle.vt_spec.specs.Machine.Permits.{Permit}
-use Rattle.vt_spec.specs.Machine.Permits.Permit.{ToUnmountLazily}
-use Rattle.vt_spec.specs.Machine.Policy.{numbers_raised, policy}
-use Rattle.vt_spec.specs.Machine.Sealed.{members, part_of, sealed}
-use Rattle.vt_spec.specs.Machine.Settled.{settled}
-use Rattle.vt_spec.specs.Machine.World.{Task, World, mount_numbered, task_called}
-use Rattle.vt_spec.proofs.Lists.{Among}
-use Rattle.vt_spec.proofs.Options.{none_is_some}
-use Rattle.vt_spec.proofs.Worlds.{found_or_none}
+use Rattle.std.proofs.Common.{◌≡◌, refl, sym, ap, subst, ◌∙◌, ⊎_elim, ℕ, nat_eq, eq-eqb, true, true≢false, List, [], Option, Some, None, Ok, Err, is_ok}
+use Rattle.vt_spec.proofs.Common.{Among, Call, Done, Fresh, IsWorld, Judgement, Lazy, Mount, MountInvariants, Outcome, Permit, Task, TaskName, ToUnmountLazily, World, folded, found_or_none, granted, holds_of, is_going, judge_in, lazily_unmounted, looks_of, members, mount_numbered, none_is_some, numbers_raised, overfills, part_of, policy, sealed, settled, taken_away, task_called, unmounted_if_there}
 use Rattle.vt_laws_rules.specs.Granted.{IsGranted}
 use Rattle.vt_laws_rules.specs.Granted.IsGranted.{unmounts_lazily}
 use Rattle.vt_laws_rules.proofs.given.Inversion.{calls_are_granted}

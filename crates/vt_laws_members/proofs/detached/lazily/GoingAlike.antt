@@ -1,23 +1,7 @@
 -- What an unmount event of a mount of theirs detaches is theirs, and the same in the part, as soon as mounts have their
 -- invariants and share no events with others.
-use Rattle.std.proofs.Common.{arith, ◌≡◌, refl, sym, ap, subst, ◌∙◌, ⊎_elim, inl, ℕ, nat_eq, Bool, true, false, true≢false, not, List, [], ◌∷◌, Option, Some, None, map}
-use Rattle.std.proofs.lemmas.Grind.{common_steps}
-use Rattle.std.specs.Prelude.{option_map, unwrap_or}
-use Rattle.std.specs.List.{filter_map}
-use Rattle.std.proofs.lemmas.Bool.{and_parts, or_left}
-use Rattle.std.proofs.lemmas.Option.{same_Some}
-use Rattle.vt_spec.specs.Language.Calls.{TaskName}
-use Rattle.vt_spec.specs.Lists.{holds_of, is_among, then_some, when}
-use Rattle.vt_spec.specs.Machine.Attach.{receivers_of}
-use Rattle.vt_spec.specs.Machine.Detach.{going, going_at, going_from, goes_at, may_go}
-use Rattle.vt_spec.specs.Machine.Invariants.{MountInvariants}
-use Rattle.vt_spec.specs.Machine.Mounts.{Location, Mount, child_at, children, group_of, is_shared, source_of, stands_at, stands_on}
-use Rattle.vt_spec.specs.Machine.Receives.{groups_up, receivers, receives}
-use Rattle.vt_spec.specs.Machine.Sealed.{is_at, is_own_mount, is_own_namespace, members, other_mounts, own_mounts, part_of, roots_and_directories, shares_no_events}
-use Rattle.vt_spec.specs.Machine.World.{Task, World, mount_at, mount_numbered}
-use Rattle.vt_spec.proofs.Found.{found_among, found_passes}
-use Rattle.vt_spec.proofs.Lists.{Among, among-filter, among-from_filter, among-from_filter_map, among-from_map, among_from_list_all, contains_from_among}
-use Rattle.vt_spec.proofs.Options.{none_is_some}
+use Rattle.std.proofs.Common.{arith, ◌≡◌, refl, sym, ap, subst, ◌∙◌, ⊎_elim, inl, ℕ, nat_eq, Bool, true, false, true≢false, not, List, [], ◌∷◌, Option, Some, None, map, option_map, unwrap_or, filter_map}
+use Rattle.vt_spec.proofs.Common.{Among, Location, Mount, MountInvariants, Task, TaskName, World, among-filter, among-from_filter, among-from_filter_map, among-from_map, among_from_list_all, and_parts, child_at, children, common_steps, contains_from_among, found_among, found_passes, goes_at, going, going_at, going_from, group_of, groups_up, holds_of, is_among, is_at, is_own_mount, is_own_namespace, is_shared, may_go, members, mount_at, mount_numbered, none_is_some, or_left, other_mounts, own_mounts, part_of, receivers, receivers_of, receives, roots_and_directories, same_Some, shares_no_events, source_of, stands_at, stands_on, then_some, when}
 use Rattle.vt_laws_mounts.proofs.mounts.MountsPlaces.{stands_there}
 use Rattle.vt_laws_worlds.proofs.worlds.Reached.{namespace_below}
 use Rattle.vt_laws_sealed.specs.Part.Groups.{SharesNoEvents}

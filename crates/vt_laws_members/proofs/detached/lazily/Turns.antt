@@ -1,20 +1,7 @@
 -- The events of a lazy unmount of a mount of theirs detach the same mounts in the part, and all of them are theirs.
-use Rattle.std.proofs.Common.{◌≡◌, refl, sym, ap, subst, ◌∙◌, ⊎_elim, inl, inr, ℕ, nat_eq, Bool, true, false, cond, true≢false, List, [], ◌∷◌, ◌++◌, is_some}
-use Rattle.std.specs.List.{list_any}
-use Rattle.std.proofs.lemmas.Bool.{or_cases}
-use Rattle.std.proofs.lemmas.List.{append-nil, append_assoc}
-use Rattle.std.proofs.lemmas.List.Folds.{list_any-append}
+use Rattle.std.proofs.Common.{◌≡◌, refl, sym, ap, subst, ◌∙◌, ⊎_elim, inl, inr, ℕ, nat_eq, Bool, true, false, cond, true≢false, List, [], ◌∷◌, ◌++◌, is_some, append-nil, append_assoc}
+use Rattle.vt_spec.proofs.Common.{Among, IsWorld, Mount, MountInvariants, Task, TaskName, World, among-filter, among-from_map, among-map, among_numbers, folded, going, holds_of, is_going, is_own_mount, list_any, list_any-append, members, mount_numbered, or_cases, own_mounts, part_of, regrouped_by, sealed, taken_away, unmounted_if_there, without_dead_groups}
 use Rattle.vt_laws_sealed.proofs.part.part.MountsOver.{numbered}
-use Rattle.vt_spec.specs.Language.Calls.{TaskName}
-use Rattle.vt_spec.specs.Lists.{folded, holds_of}
-use Rattle.vt_spec.specs.Machine.Detach.{going, is_going, taken_away, unmounted_if_there}
-use Rattle.vt_spec.specs.Machine.Invariants.{IsWorld, MountInvariants}
-use Rattle.vt_spec.specs.Machine.Mounts.{Mount}
-use Rattle.vt_spec.specs.Machine.Receives.{regrouped_by}
-use Rattle.vt_spec.specs.Machine.Sealed.{is_own_mount, members, own_mounts, part_of, sealed}
-use Rattle.vt_spec.specs.Machine.Settled.{without_dead_groups}
-use Rattle.vt_spec.specs.Machine.World.{Task, World, mount_numbered}
-use Rattle.vt_spec.proofs.Lists.{Among, among-filter, among-from_map, among-map, among_numbers}
 use Rattle.vt_laws_mounts.proofs.letting_go.ends.NamespacesEnd.{nothing_taken}
 use Rattle.vt_laws_mounts.proofs.ends.EndingLazy.{IsUnderWay, next}
 use Rattle.vt_laws_mounts.proofs.mounts.MountsReplaced.{found_itself}

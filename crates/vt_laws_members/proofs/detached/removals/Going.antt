@@ -1,19 +1,7 @@
 -- What stands on a directory of theirs goes with it: the same mounts in the world and in the part, all of them theirs.
 use Rattle.std.proofs.Common.{arith, ◌≡◌, refl, sym, ap, subst, ◌∙◌, ⊎_elim, inl, ℕ, nat_eq, eq-eqb, Bool, true, false, true≢false, List, Option, Some, None, filter, flat_map, length, map, ◌&&◌}
-use Rattle.std.proofs.lemmas.Grind.{common_steps}
-use Rattle.std.specs.List.{list_any}
+use Rattle.vt_spec.proofs.Common.{Among, IsWorld, Location, Mount, Task, TaskName, World, among-filter, among-from_filter, among-from_flat_map, among-from_map, among_numbers, any_among, any_from_among, common_steps, holds_of, is_going, is_mount_point_in, is_own_namespace, is_point, list_any, looks_of, members, mount_at, mount_numbered, mount_tree, mounts_on, none_is_some, part_of, points_of}
 use Rattle.vt_laws_sealed.proofs.part.part.MountsOver.{nowhere_stands, numbered}
-use Rattle.vt_spec.specs.Language.Calls.{TaskName}
-use Rattle.vt_spec.specs.Lists.{holds_of}
-use Rattle.vt_spec.specs.Machine.Detach.{is_going, is_point, mounts_on, points_of}
-use Rattle.vt_spec.specs.Machine.Invariants.{IsWorld}
-use Rattle.vt_spec.specs.Machine.Looks.{looks_of}
-use Rattle.vt_spec.specs.Machine.Mounts.{Location, Mount, mount_tree}
-use Rattle.vt_spec.specs.Machine.Rules.Conditions.{is_mount_point_in}
-use Rattle.vt_spec.specs.Machine.Sealed.{is_own_namespace, members, part_of}
-use Rattle.vt_spec.specs.Machine.World.{Task, World, mount_at, mount_numbered}
-use Rattle.vt_spec.proofs.Lists.{Among, among-filter, among-from_filter, among-from_flat_map, among-from_map, among_numbers, any_among, any_from_among}
-use Rattle.vt_spec.proofs.Options.{none_is_some}
 use Rattle.vt_laws_mounts.proofs.letting_go.Lists.{flat_map_alike}
 use Rattle.vt_laws_mounts.proofs.mounts.Standing.{LiesIn, lies_in_tree, stand}
 use Rattle.vt_laws_mounts.proofs.mounts.Standing.LiesIn.{itself, under}

@@ -1,33 +1,7 @@
 -- A call of theirs that removes or replaces a directory, with the mounts on it, ends in the part as in the world.
-use Rattle.std.proofs.Common.{◌≡◌, refl, sym, ap, subst, ◌∙◌, ℕ, nat_eq, eqb-true, true, false, true≢false, List, [], ◌∷◌, Option, Some, None, Ok, ◌||◌}
-use Rattle.std.specs.Prelude.{option_to_list}
-use Rattle.std.specs.List.{list_all}
-use Rattle.std.proofs.lemmas.Bool.{and_parts}
-use Rattle.vt_spec.specs.FileTree.{FileTree}
-use Rattle.vt_spec.specs.Language.Answers.Answer.{Done}
-use Rattle.vt_spec.specs.Language.Calls.{Call, TaskName}
-use Rattle.vt_spec.specs.Language.Calls.Call.{Rename, Rmdir}
+use Rattle.std.proofs.Common.{◌≡◌, refl, sym, ap, subst, ◌∙◌, ℕ, nat_eq, eqb-true, true, false, true≢false, List, [], ◌∷◌, Option, Some, None, Ok, ◌||◌, option_to_list}
+use Rattle.vt_spec.proofs.Common.{Among, Call, Change, Done, FileTree, Filesystem, Fresh, Location, Mount, MountInvariants, Move, Outcome, Permit, Remove, Rename, Rmdir, Task, TaskName, ToRemoveDirectory, ToRename, World, and_parts, changed_at, filesystem_at, filesystem_changed, filesystem_numbered, finished, finished_by, granted, holds_of, is_going, is_locked_at, is_mount_point_in, is_overlay, is_own_namespace, judge_in, list_all, looks_of, members, mount_at, mount_numbered, mounts_on, numbers_of_change, numbers_raised, only_looks, overfills, part_of, policy, settled, taken_away, task_called, used_alone, with_change, without_mounts_on}
 use Rattle.vt_spec.specs.Language.Changes as Changes
-use Rattle.vt_spec.specs.Language.Changes.{Change}
-use Rattle.vt_spec.specs.Language.Changes.Change.{Move, Remove}
-use Rattle.vt_spec.specs.Lists.{Fresh, holds_of}
-use Rattle.vt_spec.specs.Machine.Apply.{overfills}
-use Rattle.vt_spec.specs.Machine.Detach.{is_going, mounts_on, taken_away, without_mounts_on}
-use Rattle.vt_spec.specs.Machine.Filesystems.{changed_at, filesystem_changed, numbers_of_change, with_change}
-use Rattle.vt_spec.specs.Machine.Invariants.{MountInvariants}
-use Rattle.vt_spec.specs.Machine.Judge.{judge_in}
-use Rattle.vt_spec.specs.Machine.Locked.{is_locked_at}
-use Rattle.vt_spec.specs.Machine.Looks.{looks_of}
-use Rattle.vt_spec.specs.Machine.Mounts.{Location, Mount}
-use Rattle.vt_spec.specs.Machine.Outcomes.{Outcome, granted}
-use Rattle.vt_spec.specs.Machine.Permits.{Permit}
-use Rattle.vt_spec.specs.Machine.Permits.Permit.{ToRemoveDirectory, ToRename}
-use Rattle.vt_spec.specs.Machine.Policy.{finished, finished_by, numbers_raised, only_looks, policy}
-use Rattle.vt_spec.specs.Machine.Rules.Conditions.{is_mount_point_in}
-use Rattle.vt_spec.specs.Machine.Sealed.{is_own_namespace, members, part_of, used_alone}
-use Rattle.vt_spec.specs.Machine.Settled.{settled}
-use Rattle.vt_spec.specs.Machine.World.{Filesystem, Task, World, filesystem_at, filesystem_numbered, is_overlay, mount_at, mount_numbered, task_called}
-use Rattle.vt_spec.proofs.Lists.{Among}
 use Rattle.vt_laws_rules.proofs.given.Inversion.{calls_are_granted}
 use Rattle.vt_laws_trees.specs.Trees.Calls.{mounts_overlay}
 use Rattle.vt_laws_mounts.specs.LettingGo.TreesOverlays.{with_filesystems}

@@ -1,16 +1,6 @@
 -- Where mounts of theirs go, but not the one of a location, its filesystem is used still, and it is seen as it was.
-use Rattle.std.proofs.Common.{arith, ◌≡◌, refl, sym, ap, subst, ◌∙◌, inl, inr, ⊎_elim, ℕ, nat_eq, eqb-true, Bool, true, false, true≢false, List, [], ◌∷◌, find, map}
-use Rattle.std.proofs.lemmas.Grind.{common_steps}
-use Rattle.std.specs.Prelude.{unwrap_or}
-use Rattle.std.specs.List.{list_any}
-use Rattle.vt_spec.specs.Language.Calls.{TaskName}
-use Rattle.vt_spec.specs.Lists.{holds_of, is_among}
-use Rattle.vt_spec.specs.Machine.Detach.{is_going}
-use Rattle.vt_spec.specs.Machine.Invariants.{IsWorld}
-use Rattle.vt_spec.specs.Machine.Mounts.{Location, Mount, no_mount}
-use Rattle.vt_spec.specs.Machine.Sealed.{is_own_mount, locations, members, own_mounts, part_of, roots_and_directories, sealed, used_directly, used_filesystems}
-use Rattle.vt_spec.specs.Machine.World.{Task, World, filesystem_at, filesystem_numbered, locations_of, mount_at, mount_numbered}
-use Rattle.vt_spec.proofs.Lists.{Among, among-append_left, among-append_right, among-filter, among-flat_map, among-from_flat_map, among-map, any_among}
+use Rattle.std.proofs.Common.{arith, ◌≡◌, refl, sym, ap, subst, ◌∙◌, inl, inr, ⊎_elim, ℕ, nat_eq, eqb-true, Bool, true, false, true≢false, List, [], ◌∷◌, find, map, unwrap_or}
+use Rattle.vt_spec.proofs.Common.{Among, IsWorld, Location, Mount, Task, TaskName, World, among-append_left, among-append_right, among-filter, among-flat_map, among-from_flat_map, among-map, any_among, common_steps, filesystem_at, filesystem_numbered, holds_of, is_among, is_going, is_own_mount, list_any, locations, locations_of, members, mount_at, mount_numbered, no_mount, own_mounts, part_of, roots_and_directories, sealed, used_directly, used_filesystems}
 use Rattle.vt_laws_sealed.proofs.part.part.PartOfPart.{is_own, same_members, used_directly_used}
 use Rattle.vt_laws_members.proofs.judging.Grounds.{IsTheirs, its_mount}
 use Rattle.vt_laws_members.proofs.changes.letting_go.NamespaceLess.{ended_mount, filesystem_after, placed_so, shape_kept}

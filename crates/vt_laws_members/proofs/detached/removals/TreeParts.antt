@@ -1,17 +1,7 @@
 -- Where mounts of theirs go, and one plain tree that they use alone is another one, the part is what is left of the
 -- part.
 use Rattle.std.proofs.Common.{◌≡◌, ap, ◌∙◌, ⊎_elim, ℕ, nat_eq, true, List, [], ◌∷◌}
-use Rattle.vt_spec.specs.FileTree.{FileTree}
-use Rattle.vt_spec.specs.Language.Calls.{TaskName}
-use Rattle.vt_spec.specs.Lists.{is_among}
-use Rattle.vt_spec.specs.Machine.Detach.{is_going, taken_away}
-use Rattle.vt_spec.specs.Machine.Invariants.{IsWorld, MountInvariants}
-use Rattle.vt_spec.specs.Machine.Mounts.{Location, Mount}
-use Rattle.vt_spec.specs.Machine.Policy.{numbers_raised}
-use Rattle.vt_spec.specs.Machine.Sealed.{members, part_of, sealed, used_alone, used_filesystems}
-use Rattle.vt_spec.specs.Machine.Settled.{settled}
-use Rattle.vt_spec.specs.Machine.World.{Filesystem, World, filesystem_at, mount_at}
-use Rattle.vt_spec.proofs.Lists.{Among}
+use Rattle.vt_spec.proofs.Common.{Among, FileTree, Filesystem, IsWorld, Location, Mount, MountInvariants, TaskName, World, filesystem_at, is_among, is_going, members, mount_at, numbers_raised, part_of, sealed, settled, taken_away, used_alone, used_filesystems}
 use Rattle.vt_laws_mounts.specs.LettingGo.TreesOverlays.{with_filesystems}
 use Rattle.vt_laws_sealed.proofs.part.part.PartOfPart.{is_own}
 use Rattle.vt_laws_members.proofs.changes.files.FilesRaised.{swap}

@@ -1,15 +1,6 @@
 -- A filesystem that a sealed set uses alone gets another tree: its layers stay, and the others are as they were.
-use Rattle.std.proofs.Common.{arith, ◌≡◌, refl, sym, ap, subst, ◌∙◌, ◌⊎◌, inl, inr, ℕ, nat_eq, eqb-true, Bool, true, false, cond, true≢false, List, [], ◌++◌, map, is_some}
-use Rattle.std.proofs.lemmas.Grind.{common_steps}
-use Rattle.std.specs.Prelude.{option_to_list}
-use Rattle.std.proofs.lemmas.Bool.{false_from_ne_true}
-use Rattle.vt_spec.specs.FileTree.{FileTree}
-use Rattle.vt_spec.specs.Language.Calls.{TaskName}
-use Rattle.vt_spec.specs.Lists.{is_among}
-use Rattle.vt_spec.specs.Machine.Filesystems.{with_files}
-use Rattle.vt_spec.specs.Machine.Locked.{overlay_or}
-use Rattle.vt_spec.specs.Machine.World.{Filesystem, Layer, Overlay, World, layers_of}
-use Rattle.vt_spec.proofs.Lists.{Among}
+use Rattle.std.proofs.Common.{arith, ◌≡◌, refl, sym, ap, subst, ◌∙◌, ◌⊎◌, inl, inr, ℕ, nat_eq, eqb-true, Bool, true, false, cond, true≢false, List, [], ◌++◌, map, is_some, option_to_list}
+use Rattle.vt_spec.proofs.Common.{Among, FileTree, Filesystem, Layer, Overlay, TaskName, World, common_steps, false_from_ne_true, is_among, layers_of, overlay_or, with_files}
 use Rattle.vt_laws_members.proofs.changes.files.FilesRaised.{swap}
 use Rattle.vt_laws_members.proofs.changes.letting_go.Ready.{Alone}
 use Rattle.vt_laws_members.proofs.overlay_names.names.SteppedReady.{ChangesTheirs}

@@ -1,18 +1,6 @@
 -- Each call of theirs on files, granted or refused, ends in the part as in the world.
 use Rattle.std.proofs.Common.{◌≡◌, refl, ap, ◌∙◌, ℕ, nat_eq, Bool, true, false, List, [], ◌∷◌, Some, Ok}
-use Rattle.std.specs.Prelude.{⊤}
-use Rattle.vt_spec.specs.Language.Calls.{Call, TaskName}
-use Rattle.vt_spec.specs.Language.Calls.Call.{Chmod, Chown, LinkTo, Mkdir, OpenFile, Pwrite, SymlinkAt, Unlink, Write}
-use Rattle.vt_spec.specs.Lists.{Fresh}
-use Rattle.vt_spec.specs.Machine.Apply.{overfills}
-use Rattle.vt_spec.specs.Machine.Descriptors.{is_copied_up}
-use Rattle.vt_spec.specs.Machine.Judge.{judge_in}
-use Rattle.vt_spec.specs.Machine.Looks.{looks_of}
-use Rattle.vt_spec.specs.Machine.Permits.{Permit}
-use Rattle.vt_spec.specs.Machine.Permits.Permit.{ToChange, ToMake, ToOpen, ToOpenNew, ToWritePart}
-use Rattle.vt_spec.specs.Machine.Policy.{only_looks}
-use Rattle.vt_spec.specs.Machine.Run.{Serves}
-use Rattle.vt_spec.specs.Machine.World.{Task, World, filesystem_at, is_overlay, task_called}
+use Rattle.vt_spec.proofs.Common.{Call, Chmod, Chown, Fresh, LinkTo, Mkdir, OpenFile, Permit, Pwrite, Serves, SymlinkAt, Task, TaskName, ToChange, ToMake, ToOpen, ToOpenNew, ToWritePart, Unlink, World, Write, filesystem_at, is_copied_up, is_overlay, judge_in, looks_of, only_looks, overfills, task_called, ⊤}
 use Rattle.vt_laws_rules.specs.Granted.{IsGranted}
 use Rattle.vt_laws_rules.specs.Granted.IsGranted.{writes_part}
 use Rattle.vt_laws_rules.proofs.given.Inversion.{calls_are_granted}

@@ -1,13 +1,6 @@
 -- A call of theirs that ends in the part as in the world if it is granted does so if it is refused.
-use Rattle.std.proofs.Common.{◌≡◌, refl, ap, ◌∙◌, ℕ, nat_eq, true, false, [], List, Option, Some, None, Ok, Err, ◌||◌}
-use Rattle.std.specs.Prelude.{is_ok}
-use Rattle.vt_spec.specs.Language.Calls.{Call, TaskName}
-use Rattle.vt_spec.specs.Lists.{Fresh}
-use Rattle.vt_spec.specs.Machine.Judge.{Judgement, judge_in}
-use Rattle.vt_spec.specs.Machine.Outcomes.{denied}
-use Rattle.vt_spec.specs.Machine.Permits.{Permit}
-use Rattle.vt_spec.specs.Machine.Policy.{finished_by, only_looks}
-use Rattle.vt_spec.specs.Machine.World.{Task, World, task_called}
+use Rattle.std.proofs.Common.{◌≡◌, refl, ap, ◌∙◌, ℕ, nat_eq, true, false, [], List, Option, Some, None, Ok, Err, ◌||◌, is_ok}
+use Rattle.vt_spec.proofs.Common.{Call, Fresh, Judgement, Permit, Task, TaskName, World, denied, finished_by, judge_in, only_looks, task_called}
 use Rattle.vt_laws_members.specs.Changes.Changes.{EndsAlike, IsCallOfTheirs}
 use Rattle.vt_laws_members.proofs.changes.looks.Told.{ran}
 use Rattle.vt_laws_members.proofs.changes.tasks.Denied.{denial_ends_alike, run_by, unnamed_ends_alike}

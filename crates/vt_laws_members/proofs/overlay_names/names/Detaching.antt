@@ -1,17 +1,6 @@
 -- Where mounts of theirs go, and filesystems change that a sealed set uses alone, the part is what is left of the part.
 use Rattle.std.proofs.Common.{◌≡◌, sym, ap, subst, ◌∙◌, ℕ, nat_eq, Bool, true, List, filter, map}
-use Rattle.std.specs.List.{list_any}
-use Rattle.vt_spec.specs.Language.Calls.{TaskName}
-use Rattle.vt_spec.specs.Lists.{is_among}
-use Rattle.vt_spec.specs.Machine.Detach.{is_going, taken_away}
-use Rattle.vt_spec.specs.Machine.Filesystems.{raised_if_changed}
-use Rattle.vt_spec.specs.Machine.Invariants.{IsWorld, MountInvariants}
-use Rattle.vt_spec.specs.Machine.Mounts.{Mount}
-use Rattle.vt_spec.specs.Machine.Policy.{numbers_raised, raised_namespace, raised_task}
-use Rattle.vt_spec.specs.Machine.Sealed.{is_member_task, members, own_lowers, part_of, sealed, used_alone, used_filesystems}
-use Rattle.vt_spec.specs.Machine.Settled.{settled, without_dead_mounts}
-use Rattle.vt_spec.specs.Machine.World.{Filesystem, Layer, Namespace, Task, World}
-use Rattle.vt_spec.proofs.Lists.{Among, among-from_filter}
+use Rattle.vt_spec.proofs.Common.{Among, Filesystem, IsWorld, Layer, Mount, MountInvariants, Namespace, Task, TaskName, World, among-from_filter, is_among, is_going, is_member_task, list_any, members, numbers_raised, own_lowers, part_of, raised_if_changed, raised_namespace, raised_task, sealed, settled, taken_away, used_alone, used_filesystems, without_dead_mounts}
 use Rattle.vt_laws_mounts.specs.LettingGo.TreesOverlays.{with_filesystems}
 use Rattle.vt_laws_sealed.proofs.part.part.PartOfPart.{is_own, same_members}
 use Rattle.vt_laws_members.proofs.changes.files.FilesChanged.{part_with_layers}

@@ -1,21 +1,7 @@
 -- Calls of theirs that set the opaque mark or make a whiteout end in the part as in the world.
 use Rattle.std.proofs.Common.{◌≡◌, refl, sym, ap, ◌∙◌, ℕ, nat_eq, Bool, true, false, true≢false, List, Some, Ok}
-use Rattle.std.specs.Prelude.{⊤}
+use Rattle.vt_spec.proofs.Common.{Call, Change, Fresh, Location, MakeWhiteout, Node, Opaque, Permit, SetMark, Task, ToChange, ToMake, World, filesystem_at, is_kind, is_overlay, judge_in, kind_of, looks_of, overfills, task_called, ⊤}
 use Rattle.vt_spec.specs.declared.attributes.Kind.TheVariants.{White}
-use Rattle.vt_spec.specs.FileTree.{is_kind}
-use Rattle.vt_spec.specs.Language.Calls.{Call}
-use Rattle.vt_spec.specs.Language.Calls.Call.{MakeWhiteout, Opaque}
-use Rattle.vt_spec.specs.Language.Changes.{Change}
-use Rattle.vt_spec.specs.Language.Changes.Change.{SetMark}
-use Rattle.vt_spec.specs.Lists.{Fresh}
-use Rattle.vt_spec.specs.Machine.Apply.{overfills}
-use Rattle.vt_spec.specs.Machine.Judge.{judge_in}
-use Rattle.vt_spec.specs.Machine.Looks.{looks_of}
-use Rattle.vt_spec.specs.Machine.Mounts.{Location}
-use Rattle.vt_spec.specs.Machine.Permits.{Permit}
-use Rattle.vt_spec.specs.Machine.Permits.Permit.{ToChange, ToMake}
-use Rattle.vt_spec.specs.Machine.World.{Task, World, filesystem_at, is_overlay, task_called}
-use Rattle.vt_spec.specs.Tree.{Node, kind_of}
 use Rattle.vt_laws_rules.specs.Granted.{IsGranted}
 use Rattle.vt_laws_rules.specs.Granted.IsGranted.{changes_mark, makes_whiteout}
 use Rattle.vt_laws_rules.proofs.given.Inversion.{calls_are_granted}

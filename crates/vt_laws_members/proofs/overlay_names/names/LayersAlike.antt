@@ -1,23 +1,9 @@
 -- A change through an overlay makes the same in the part: lower layers of theirs show there what they show in the
 -- world.
-use Rattle.std.proofs.lemmas.Grind.{common_steps}
-use Rattle.std.proofs.Common.{◌≡◌, refl, sym, ap, ◌∙◌, ℕ, suc, nat_eq, arith, Bool, true, false, cond, List, [], ◌∷◌, ◌++◌, Option, Some, None, map, not, option_and_then, ◌+◌}
-use Rattle.std.specs.List.{list_any, slice_get}
-use Rattle.std.specs.Prelude.{⊤}
-use Rattle.std.proofs.lemmas.Option.{same_Some}
+use Rattle.std.proofs.Common.{◌≡◌, refl, sym, ap, ◌∙◌, ℕ, suc, nat_eq, arith, Bool, true, false, cond, List, [], ◌∷◌, ◌++◌, Option, Some, None, map, not, option_and_then, ◌+◌, slice_get}
+use Rattle.vt_spec.proofs.Common.{AddName, Change, CopyUp, FileTree, Fresh, Make, Merge, Move, OpenLayer, Remove, SetAttr, SetBytes, SetMark, Stack, Upper, changed, common_steps, content_with_parent, copied_up, cuts, entries_in, entry_at, entry_named, evens, hides, hides_directory, holds_of, is_directory_node, is_directory_shown, is_kind_in, led, led-append, list_any, merge_changed, name_left, node_led, none_is_some, odds, path_to, prefixes, same_Some, shown_from, shown_in_lowers_at, shown_over, then_some, upper_directory_named, upper_of, view_of, when, with_inode, with_mark, with_moved, with_name, with_real, without_contents, without_last, ⊤}
 use Rattle.vt_spec.specs.declared.attributes.Kind.TheVariants.{White}
-use Rattle.vt_spec.specs.FileTree.{FileTree, is_kind_in}
-use Rattle.vt_spec.specs.Language.Changes.{Change, changed, content_with_parent, with_inode, with_moved, with_name}
-use Rattle.vt_spec.specs.Language.Changes.Change.{AddName, CopyUp, Make, Move, Remove, SetAttr, SetBytes, SetMark}
-use Rattle.vt_spec.specs.Lists.{Fresh, evens, holds_of, odds, prefixes, then_some, when, without_last}
-use Rattle.vt_spec.specs.Machine.CopyUp.{Merge, Stack, copied_up, hides_directory, is_directory_shown, merge_changed, name_left, path_to, shown_in_lowers_at, upper_directory_named, upper_of, with_mark, with_real, without_contents}
-use Rattle.vt_spec.specs.Machine.Layers.{OpenLayer, view_of}
-use Rattle.vt_spec.specs.Machine.Views.{Shown, cuts, hides, node_led, shown_from, shown_over}
-use Rattle.vt_spec.specs.Machine.World.Real.{Upper}
-use Rattle.vt_spec.specs.Tree.{entries_in, entry_named, is_directory_node}
-use Rattle.vt_spec.specs.TreeInvariant.{entry_at, led}
-use Rattle.vt_spec.proofs.Options.{none_is_some}
-use Rattle.vt_spec.proofs.Trees.{led-append}
+use Rattle.vt_spec.specs.Machine.Views.{Shown}
 
 -- two layers have the same inode at each path
 abbrev pub ViewsAlike : OpenLayer ℕ → OpenLayer ℕ → Type 0

@@ -1,28 +1,6 @@
 -- Calls of theirs that make, give and take names through overlays end in the part as in the world.
 use Rattle.std.proofs.Common.{◌≡◌, refl, sym, ap, subst, ◌∙◌, inl, ⊎_elim, ℕ, nat_eq, true, false, true≢false, List, [], ◌∷◌, Option, Some, None, Ok, is_some, ◌||◌}
-use Rattle.vt_spec.specs.Language.Answers.Answer.{Done}
-use Rattle.vt_spec.specs.Language.Calls.{Call, TaskName}
-use Rattle.vt_spec.specs.Language.Calls.Call.{LinkTo, Mkdir, SymlinkAt, Unlink, Write}
-use Rattle.vt_spec.specs.Language.Changes.{Change}
-use Rattle.vt_spec.specs.Language.Changes.Change.{Make}
-use Rattle.vt_spec.specs.Lists.{Fresh, evens}
-use Rattle.vt_spec.specs.Machine.Apply.{overfills}
-use Rattle.vt_spec.specs.Machine.Filesystems.{changed_at, with_change}
-use Rattle.vt_spec.specs.Machine.Invariants.{IsWorld}
-use Rattle.vt_spec.specs.Machine.Judge.{judge_in}
-use Rattle.vt_spec.specs.Machine.Looks.{looks_of}
-use Rattle.vt_spec.specs.Machine.Mounts.{Location}
-use Rattle.vt_spec.specs.Machine.Outcomes.{granted}
-use Rattle.vt_spec.specs.Machine.Permits.{Permit}
-use Rattle.vt_spec.specs.Machine.Permits.Permit.{ToChange, ToMake}
-use Rattle.vt_spec.specs.Machine.Policy.{finished, finished_by, numbers_raised, only_looks}
-use Rattle.vt_spec.specs.Machine.Rows.{linking}
-use Rattle.vt_spec.specs.Machine.Rules.Removing.{object_there, removing}
-use Rattle.vt_spec.specs.Machine.Run.{Serves}
-use Rattle.vt_spec.specs.Machine.Sealed.{is_member_task, members, part_of, sealed, used_directly}
-use Rattle.vt_spec.specs.Machine.Settled.{settled}
-use Rattle.vt_spec.specs.Machine.World.{Filesystem, Layer, Overlay, Task, World, filesystem_at, is_overlay, mount_at, task_called}
-use Rattle.vt_spec.proofs.Lists.{Among, among-from_filter, among-from_flat_map}
+use Rattle.vt_spec.proofs.Common.{Among, Call, Change, Done, Filesystem, Fresh, IsWorld, Layer, LinkTo, Location, Make, Mkdir, Overlay, Permit, Serves, SymlinkAt, Task, TaskName, ToChange, ToMake, Unlink, World, Write, among-from_filter, among-from_flat_map, changed_at, evens, filesystem_at, finished, finished_by, granted, is_member_task, is_overlay, judge_in, linking, looks_of, members, mount_at, numbers_raised, object_there, only_looks, overfills, part_of, removing, sealed, settled, task_called, used_directly, with_change}
 use Rattle.vt_laws_rules.specs.Granted.{IsGranted}
 use Rattle.vt_laws_rules.specs.Granted.IsGranted.{makes_hard_link, unlinks}
 use Rattle.vt_laws_rules.proofs.given.Inversion.{calls_are_granted}

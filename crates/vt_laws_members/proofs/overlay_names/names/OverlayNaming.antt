@@ -1,22 +1,6 @@
 -- A granted call of theirs by which a name comes or goes through an overlay ends in the part as in the world.
-use Rattle.std.proofs.Common.{arith, ◌≡◌, refl, sym, ap, subst, ◌∙◌, ◌⊎◌, inl, inr, ⊎_elim, ℕ, nat_eq, eqb-true, Bool, true, false, true≢false, List, [], ◌∷◌, ◌++◌, Option, Some, Ok, is_some, map, filter}
-use Rattle.std.proofs.lemmas.Grind.{common_steps}
-use Rattle.std.specs.Prelude.{option_to_list}
-use Rattle.std.proofs.lemmas.Bool.{or_cases}
-use Rattle.vt_spec.specs.Language.Answers.{Answer}
-use Rattle.vt_spec.specs.Language.Calls.{Call, TaskName}
-use Rattle.vt_spec.specs.Language.Changes.{Change}
-use Rattle.vt_spec.specs.Lists.{Fresh, is_among}
-use Rattle.vt_spec.specs.Machine.Filesystems.{changed_at, stack_of, with_change}
-use Rattle.vt_spec.specs.Machine.Invariants.{IsWorld}
-use Rattle.vt_spec.specs.Machine.Locked.{of_overlay, overlay_or}
-use Rattle.vt_spec.specs.Machine.Mounts.{Location}
-use Rattle.vt_spec.specs.Machine.Outcomes.{granted}
-use Rattle.vt_spec.specs.Machine.Policy.{numbers_raised}
-use Rattle.vt_spec.specs.Machine.Sealed.{is_member_task, part_of, sealed, used_alone, used_directly, used_filesystems, wholly_locked}
-use Rattle.vt_spec.specs.Machine.Settled.{settled}
-use Rattle.vt_spec.specs.Machine.World.{Filesystem, Layer, Overlay, Real, Task, World, filesystem_at, filesystem_numbered, is_overlay, layers_of, mount_at, open_layer, task_called}
-use Rattle.vt_spec.proofs.Lists.{Among, among-append_left, among-append_right, among-flat_map, among-from_filter, among_numbers}
+use Rattle.std.proofs.Common.{arith, ◌≡◌, refl, sym, ap, subst, ◌∙◌, ◌⊎◌, inl, inr, ⊎_elim, ℕ, nat_eq, eqb-true, Bool, true, false, true≢false, List, [], ◌∷◌, ◌++◌, Option, Some, Ok, is_some, map, filter, option_to_list}
+use Rattle.vt_spec.proofs.Common.{Among, Answer, Call, Change, Filesystem, Fresh, IsWorld, Layer, Location, Overlay, Real, Task, TaskName, World, among-append_left, among-append_right, among-flat_map, among-from_filter, among_numbers, changed_at, common_steps, filesystem_at, filesystem_numbered, granted, is_among, is_member_task, is_overlay, layers_of, mount_at, numbers_raised, of_overlay, open_layer, or_cases, overlay_or, part_of, sealed, settled, stack_of, task_called, used_alone, used_directly, used_filesystems, wholly_locked, with_change}
 use Rattle.vt_laws_mounts.specs.LettingGo.TreesOverlays.{with_filesystems}
 use Rattle.vt_laws_worlds.specs.OverlaysLetGo.OverlayChanges.{CanChange}
 use Rattle.vt_laws_sealed.proofs.part.part.PartOfPart.{used_directly_used}

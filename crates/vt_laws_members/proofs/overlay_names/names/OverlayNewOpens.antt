@@ -1,25 +1,6 @@
 -- An open of theirs that makes the file through an overlay ends in the part as in the world.
 use Rattle.std.proofs.Common.{arith, ◌≡◌, refl, sym, ap, subst, ◌∙◌, inl, inr, ⊎_elim, ℕ, nat_eq, false, cond, true≢false, List, [], ◌∷◌, Option, Some, None, is_some, map, not}
-use Rattle.std.proofs.lemmas.Grind.{common_steps}
-use Rattle.std.specs.List.{list_any}
-use Rattle.vt_spec.specs.Language.Answers.Answer.{Opened}
-use Rattle.vt_spec.specs.Language.Calls.{Access, Call, Creation, TaskName}
-use Rattle.vt_spec.specs.Language.Calls.Call.{OpenFile}
-use Rattle.vt_spec.specs.Language.Changes.{Change}
-use Rattle.vt_spec.specs.Language.Changes.Change.{Make}
-use Rattle.vt_spec.specs.Lists.{Fresh, evens, odds}
-use Rattle.vt_spec.specs.Machine.Descriptors.{free_number, inserted, opened, with_descriptor}
-use Rattle.vt_spec.specs.Machine.Filesystems.{changed_at, with_change}
-use Rattle.vt_spec.specs.Machine.Locked.{overlay_or}
-use Rattle.vt_spec.specs.Machine.Mounts.{Location}
-use Rattle.vt_spec.specs.Machine.Outcomes.{granted}
-use Rattle.vt_spec.specs.Machine.Permits.Permit.{ToOpenNew}
-use Rattle.vt_spec.specs.Machine.Policy.{finished, numbers_raised}
-use Rattle.vt_spec.specs.Machine.Sealed.{locations, members, own_mounts, part_of, used_directly}
-use Rattle.vt_spec.specs.Machine.Settled.{settled}
-use Rattle.vt_spec.specs.Machine.World.{Descriptor, Filesystem, Layer, Overlay, Task, World, filesystem_at, locations_of, mount_at, replaced_if_called, task_called, with_task}
-use Rattle.vt_spec.proofs.Lists.{Among, among-append_right, among-flat_map, among-from_map, among-map}
-use Rattle.vt_spec.proofs.Worlds.{same_name_itself}
+use Rattle.vt_spec.proofs.Common.{Access, Among, Call, Change, Creation, Descriptor, Filesystem, Fresh, Layer, Location, Make, OpenFile, Opened, Overlay, Task, TaskName, ToOpenNew, World, among-append_right, among-flat_map, among-from_map, among-map, changed_at, common_steps, evens, filesystem_at, finished, free_number, granted, inserted, list_any, locations, locations_of, members, mount_at, numbers_raised, odds, opened, overlay_or, own_mounts, part_of, replaced_if_called, same_name_itself, settled, task_called, used_directly, with_change, with_descriptor, with_task}
 use Rattle.vt_laws_mounts.specs.LettingGo.TreesOverlays.{with_filesystems}
 use Rattle.vt_laws_worlds.proofs.worlds.CallsKept.{name_found}
 use Rattle.vt_laws_worlds.proofs.worlds.Placed.{among-inserted}

@@ -1,34 +1,7 @@
 -- A call of theirs that removes a directory, or that renames, through an overlay ends in the part as in the world, with
 -- the mounts on what goes.
-use Rattle.std.proofs.Common.{arith, ◌≡◌, refl, sym, ap, subst, ◌∙◌, ⊎_elim, ℕ, nat_eq, eqb-true, true, false, true≢false, List, [], Option, Some, None, Ok, is_some}
-use Rattle.std.proofs.lemmas.Grind.{common_steps}
-use Rattle.std.specs.Prelude.{option_map, option_to_list}
-use Rattle.std.specs.List.{list_all}
-use Rattle.std.proofs.lemmas.Bool.{and_parts}
-use Rattle.vt_spec.specs.Language.Answers.Answer.{Done}
-use Rattle.vt_spec.specs.Language.Calls.{Call, TaskName}
-use Rattle.vt_spec.specs.Language.Calls.Call.{Rename, Rmdir}
-use Rattle.vt_spec.specs.Language.Changes.{Change}
-use Rattle.vt_spec.specs.Language.Changes.Change.{Move, Remove}
-use Rattle.vt_spec.specs.Lists.{Fresh, holds_of, is_among, then_some}
-use Rattle.vt_spec.specs.Machine.Apply.{overfills}
-use Rattle.vt_spec.specs.Machine.Detach.{is_going, mounts_on, points_of, taken_away, upper_points, without_mounts_on}
-use Rattle.vt_spec.specs.Machine.Filesystems.{changed_at, with_change}
-use Rattle.vt_spec.specs.Machine.Invariants.{IsWorld, MountInvariants}
-use Rattle.vt_spec.specs.Machine.Judge.{judge_in}
-use Rattle.vt_spec.specs.Machine.Locked.{is_locked_at, overlay_or}
-use Rattle.vt_spec.specs.Machine.Looks.{looks_of}
-use Rattle.vt_spec.specs.Machine.Mounts.{Location, Mount}
-use Rattle.vt_spec.specs.Machine.Outcomes.{granted}
-use Rattle.vt_spec.specs.Machine.Permits.{Permit}
-use Rattle.vt_spec.specs.Machine.Permits.Permit.{ToRemoveDirectory, ToRename}
-use Rattle.vt_spec.specs.Machine.Policy.{finished, numbers_raised, only_looks}
-use Rattle.vt_spec.specs.Machine.Rules.Conditions.{is_mount_point_in}
-use Rattle.vt_spec.specs.Machine.Run.{Serves}
-use Rattle.vt_spec.specs.Machine.Sealed.{is_own_namespace, members, part_of, sealed, used_alone, used_directly, used_filesystems}
-use Rattle.vt_spec.specs.Machine.Settled.{settled}
-use Rattle.vt_spec.specs.Machine.World.{Filesystem, Layer, Overlay, Task, World, filesystem_at, filesystem_numbered, is_overlay, mount_at, mount_numbered, task_called, upper_object}
-use Rattle.vt_spec.proofs.Lists.{Among}
+use Rattle.std.proofs.Common.{arith, ◌≡◌, refl, sym, ap, subst, ◌∙◌, ⊎_elim, ℕ, nat_eq, eqb-true, true, false, true≢false, List, [], Option, Some, None, Ok, is_some, option_map, option_to_list}
+use Rattle.vt_spec.proofs.Common.{Among, Call, Change, Done, Filesystem, Fresh, IsWorld, Layer, Location, Mount, MountInvariants, Move, Overlay, Permit, Remove, Rename, Rmdir, Serves, Task, TaskName, ToRemoveDirectory, ToRename, World, and_parts, changed_at, common_steps, filesystem_at, filesystem_numbered, finished, granted, holds_of, is_among, is_going, is_locked_at, is_mount_point_in, is_overlay, is_own_namespace, judge_in, list_all, looks_of, members, mount_at, mount_numbered, mounts_on, numbers_raised, only_looks, overfills, overlay_or, part_of, points_of, sealed, settled, taken_away, task_called, then_some, upper_object, upper_points, used_alone, used_directly, used_filesystems, with_change, without_mounts_on}
 use Rattle.vt_laws_rules.proofs.given.Inversion.{calls_are_granted}
 use Rattle.vt_laws_mounts.proofs.ends.Ending.{points_keep_mounts}
 use Rattle.vt_laws_mounts.specs.LettingGo.TreesOverlays.{with_filesystems}

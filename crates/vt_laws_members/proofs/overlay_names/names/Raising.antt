@@ -1,15 +1,6 @@
 -- Where the change numbers of filesystems of a set are raised last, the part has them raised.
 use Rattle.std.proofs.Common.{arith, ◌≡◌, refl, sym, ap, ◌∙◌, ℕ, nat_eq, eqb-true, Bool, true, false, cond, true≢false, List, filter, map}
-use Rattle.std.proofs.lemmas.Grind.{common_steps}
-use Rattle.std.specs.List.{list_any}
-use Rattle.vt_spec.specs.Language.Calls.{TaskName}
-use Rattle.vt_spec.specs.Lists.{is_among}
-use Rattle.vt_spec.specs.Machine.Filesystems.{raised, raised_if_changed}
-use Rattle.vt_spec.specs.Machine.Policy.{numbers_raised, raised_namespace, raised_task}
-use Rattle.vt_spec.specs.Machine.Sealed.{change_layers, is_member_task, is_own_namespace, part_of, used_filesystems}
-use Rattle.vt_spec.specs.Machine.Settled.{settled, without_dead_mounts}
-use Rattle.vt_spec.specs.Machine.World.{Filesystem, Layer, Namespace, World}
-use Rattle.vt_spec.proofs.Lists.{Among, any_among}
+use Rattle.vt_spec.proofs.Common.{Among, Filesystem, Layer, Namespace, TaskName, World, any_among, change_layers, common_steps, is_among, is_member_task, is_own_namespace, list_any, numbers_raised, part_of, raised, raised_if_changed, raised_namespace, raised_task, settled, used_filesystems, without_dead_mounts}
 use Rattle.vt_laws_mounts.specs.LettingGo.TreesOverlays.{with_filesystems}
 use Rattle.vt_laws_members.proofs.changes.files.FilesChanged.{lowers_in, part_with_layers}
 use Rattle.vt_laws_members.proofs.changes.letting_go.Ends.{raised_sees}

@@ -1,16 +1,6 @@
 -- Where filesystems change that a sealed set uses alone, the world and the part leave it one part.
 use Rattle.std.proofs.Common.{arith, ◌≡◌, sym, ap, ◌∙◌, ℕ, nat_eq, true, List, Some, Ok, filter, map}
-use Rattle.std.proofs.lemmas.Grind.{common_steps}
-use Rattle.vt_spec.specs.Language.Answers.{Answer}
-use Rattle.vt_spec.specs.Language.Calls.{Call, TaskName}
-use Rattle.vt_spec.specs.Lists.{Fresh, is_among}
-use Rattle.vt_spec.specs.Machine.Filesystems.{raised_if_changed}
-use Rattle.vt_spec.specs.Machine.Outcomes.{granted}
-use Rattle.vt_spec.specs.Machine.Policy.{numbers_raised, raised_task}
-use Rattle.vt_spec.specs.Machine.Sealed.{is_member_task, is_own_namespace, own_lowers, part_of, used_filesystems}
-use Rattle.vt_spec.specs.Machine.Settled.{settled, without_dead_mounts}
-use Rattle.vt_spec.specs.Machine.World.{Filesystem, Layer, Namespace, Task, World, task_called}
-use Rattle.vt_spec.proofs.Lists.{Among}
+use Rattle.vt_spec.proofs.Common.{Among, Answer, Call, Filesystem, Fresh, Layer, Namespace, Task, TaskName, World, common_steps, granted, is_among, is_member_task, is_own_namespace, numbers_raised, own_lowers, part_of, raised_if_changed, raised_task, settled, task_called, used_filesystems, without_dead_mounts}
 use Rattle.vt_laws_mounts.specs.LettingGo.InUse.{AllInUse}
 use Rattle.vt_laws_mounts.specs.LettingGo.TreesOverlays.{with_filesystems}
 use Rattle.vt_laws_mounts.proofs.letting_go.sweeps.OfWorlds.{all_in_use}

@@ -1,20 +1,8 @@
 -- Each change that fits, with the sweep after it.
-use Rattle.std.proofs.lemmas.Grind.{common_steps}
 use Rattle.std.proofs.Common.{◌≡◌, ◌≢◌, refl, sym, ap, subst, ◌∙◌, ⊎_elim, ℕ, nat_eq, true, false, cond, List, [], map, Option, Some, None, is_some, arith}
-use Rattle.std.proofs.lemmas.Bool.Decides.{eqb_tells}
-use Rattle.std.specs.List.{list_all}
-use Rattle.vt_spec.specs.FileTree.{FileTree}
+use Rattle.vt_spec.proofs.Common.{AddName, Change, CopyUp, FileTree, Filesystem, Fits, Fresh, Inodes, Location, Make, MayReplace, Move, Node, Remove, SetAttr, SetBytes, SetMark, World, any_pair, common_steps, entries-node_with_attr, entries-node_with_bytes, entries-node_with_mark, entries_in, entry_named, eqb_tells, filesystem_at, filesystem_numbered, is_among, is_directory_node, is_overlay, list_all, node_in, node_with_attr, node_with_bytes, node_with_entry, node_with_mark, node_with_parent, settled, tree_of, with_change, with_changed, with_files}
 use Rattle.vt_spec.specs.Language.Changes as Changes
-use Rattle.vt_spec.specs.Language.Changes.{Change, node_with_attr, node_with_mark, node_with_parent}
-use Rattle.vt_spec.specs.Language.Changes.Change.{AddName, CopyUp, Make, Move, Remove, SetAttr, SetBytes, SetMark}
-use Rattle.vt_spec.specs.Lists.{Fresh, any_pair, is_among}
-use Rattle.vt_spec.specs.Machine.Filesystems.{with_change, with_files}
-use Rattle.vt_spec.specs.Machine.Mounts.{Location}
-use Rattle.vt_spec.specs.Machine.Settled.{settled}
-use Rattle.vt_spec.specs.Machine.World.{Filesystem, World, filesystem_at, filesystem_numbered, is_overlay}
-use Rattle.vt_spec.specs.Fits.{Fits, MayReplace}
-use Rattle.vt_spec.specs.Inodes.{Inodes, changed, node_in, tree_of, with_changed, without_replaced}
-use Rattle.vt_spec.specs.Tree.{Node, entries_in, entry_named, is_directory_node, node_with_bytes, node_with_entry}
+use Rattle.vt_spec.specs.Inodes.{changed, without_replaced}
 use Rattle.vt_laws_mounts.specs.LettingGo.InUse.{AllInUse, IsListedTree, is_inode_used}
 use Rattle.vt_laws_mounts.specs.LettingGo.TreeChanges.{with_tree}
 use Rattle.vt_laws_mounts.proofs.letting_go.Lists.{Among, among_from_all}
@@ -29,8 +17,6 @@ use Rattle.vt_laws_mounts.proofs.counts.changing.NameCounts as Names
 use Rattle.vt_laws_mounts.proofs.counts.using.Swept as Swept
 use Rattle.vt_laws_mounts.proofs.counts.using.Swept.{base_of, counted_start, found_is, there_if_counted}
 use Rattle.vt_laws_mounts.proofs.counts.changing.TreeCounts.{IsStart, IsTallied, linked, rewritten}
-use Rattle.vt_spec.proofs.NodeChanges.{entries-node_with_attr, entries-node_with_mark}
-use Rattle.vt_spec.proofs.Nodes.{entries-node_with_bytes}
 
 -- The tree and the counted inodes after a change, before the sweep
 module _ (base : ℕ → ℕ) (files : FileTree ℕ) (inodes : Inodes ℕ) (root : inodes.root ≡ files.tree.root)

@@ -1,15 +1,8 @@
 -- Changes by which no name goes leave all.
-use Rattle.std.proofs.lemmas.Grind.{common_steps}
 use Rattle.std.proofs.Common.{◌≡◌, refl, sym, ap, ◌∙◌, ℕ, ◌≤◌, nat_eq, Bool, true, false, cond, is_some, arith}
-use Rattle.std.proofs.lemmas.Bool.Decides.{eqb_tells}
-use Rattle.std.specs.List.{list_all}
-use Rattle.vt_spec.specs.FileTree.{FileTree}
+use Rattle.vt_spec.proofs.Common.{Change, FileTree, Filesystem, Fits, Inodes, any_pair, common_steps, eqb_tells, is_among, is_some-node_in, list_all, node_in, pinned}
 use Rattle.vt_spec.specs.Language.Changes as Changes
-use Rattle.vt_spec.specs.Language.Changes.{Change}
-use Rattle.vt_spec.specs.Lists.{any_pair, is_among}
-use Rattle.vt_spec.specs.Machine.World.{Filesystem}
-use Rattle.vt_spec.specs.Fits.{Fits}
-use Rattle.vt_spec.specs.Inodes.{Inodes, changed, node_in, pinned}
+use Rattle.vt_spec.specs.Inodes.{changed}
 use Rattle.vt_laws_mounts.specs.LettingGo.TreeChanges.{with_tree}
 use Rattle.vt_laws_mounts.proofs.letting_go.Lists.{all_pass, is_among_numbers}
 use Rattle.vt_laws_mounts.proofs.counts.counting.Times.{among_times, times_in}
@@ -19,7 +12,6 @@ use Rattle.vt_laws_mounts.proofs.counts.changing.Changes as After
 use Rattle.vt_laws_mounts.proofs.counts.using.Swept as Swept
 use Rattle.vt_laws_mounts.proofs.counts.using.Swept.{base_of}
 use Rattle.vt_laws_mounts.proofs.counts.changing.TreeCounts.{IsStart, changed_same}
-use Rattle.vt_spec.proofs.Inodes.{is_some-node_in}
 
 -- a use more leaves the node
 pinned_same : (inodes : Inodes ℕ) (object n : ℕ)

@@ -1,16 +1,12 @@
 -- The counts of a tree's inodes after each change of the tree, before anything is swept.
-use Rattle.std.proofs.lemmas.Grind.{common_steps}
 use Rattle.std.proofs.Common.{◌≡◌, ◌≢◌, refl, sym, ap, subst, ◌∙◌, ⊎_elim, ℕ, suc, ◌+◌, ◌-◌, ◌≤◌, nat_eq, Bool, true, false, cond, List, [], ◌∷◌, ◌++◌, length, Option, Some, None, is_some, arith}
-use Rattle.std.specs.FinMap.Entries.{is_sorted}
-use Rattle.std.proofs.lemmas.Bool.Decides.{eqb_tells, leb_tells}
-use Rattle.vt_spec.specs.FileTree.{targets_in}
-use Rattle.vt_spec.specs.Inodes.{Inode, Inodes, count_after, inode_with_node, node_in, unpinned, used_once_less, uses_in, with_changed, with_inode, with_name}
-use Rattle.vt_spec.specs.Tree.{Node, entries_in, entry_named, is_directory_node, name_cmp, node_with_entry, with_entry}
+use Rattle.vt_spec.proofs.Common.{Inode, Inodes, Node, common_steps, count_after, directory_is_there, entries-node_with_entry, entries_in, entry_named, eqb_tells, inode_with_node, is_directory_node, is_some-node_with_entry, is_sorted, name_cmp, node_in, node_with_entry, targets_in, unpinned, used_once_less, uses_in, with_changed, with_entry}
+use Rattle.std.proofs.lemmas.Bool.Decides.{leb_tells}
+use Rattle.vt_spec.specs.Inodes.{with_inode, with_name}
 use Rattle.vt_laws_mounts.proofs.counts.counting.Counts as Counts
 use Rattle.vt_laws_mounts.proofs.counts.counting.Counts.{at_or, counted_changed, counted_pinned, counted_some, one_if-itself, other_if, some_inode}
 use Rattle.vt_laws_mounts.proofs.counts.counting.Entries.{at_place, named_by, named_changed, one_if, one_if_some, part_at, targets, times_put}
 use Rattle.vt_laws_mounts.proofs.counts.counting.Times.{length_removed, removed, times_in, times_removed}
-use Rattle.vt_spec.proofs.Nodes.{directory_is_there, entries-node_with_entry, is_some-node_with_entry}
 
 abbrev pub uses_of : (ℕ → ℕ) → (ℕ → Option (Node ℕ)) → List ℕ → ℕ → ℕ
 uses_of base node numbers n = base n + times_in n (named_by node numbers)

@@ -1,10 +1,7 @@
 -- Inodes that count their uses, after each step of a change.
-use Rattle.std.proofs.lemmas.Grind.{common_steps}
 use Rattle.std.proofs.Common.{◌≡◌, ◌≢◌, refl, sym, ap, subst, ◌∙◌, ⊎_elim, ℕ, ◌+◌, ◌≤◌, nat_eq, eq-eqb, ne_eqb, true, false, cond, List, [], ◌∷◌, length, Option, Some, None, is_some, arith}
-use Rattle.std.proofs.lemmas.Bool.Decides.{eqb_tells}
-use Rattle.vt_spec.specs.FileTree.{targets_in}
-use Rattle.vt_spec.specs.Inodes.{Inode, Inodes, node_in, pinned, uses_in, with_changed, with_inode}
-use Rattle.vt_spec.specs.Tree.{Node}
+use Rattle.vt_spec.proofs.Common.{Inode, Inodes, Node, common_steps, eqb_tells, node_in, pinned, targets_in, uses_in, with_changed}
+use Rattle.vt_spec.specs.Inodes.{with_inode}
 use Rattle.vt_laws_mounts.proofs.counts.counting.Entries.{changed_at, one_if}
 use Rattle.vt_laws_mounts.proofs.counts.counting.Times.{times_in}
 

@@ -1,22 +1,6 @@
 -- How often the entries of directories lead to an inode, after each change of entries.
-use Rattle.std.proofs.lemmas.Grind.{common_steps}
-use Rattle.std.proofs.Common.{◌≡◌, ◌≢◌, refl, sym, ap, subst, ◌∙◌, ⊎_elim, inl, inr, ◌⊎◌, ℕ, ◌+◌, ◌≤◌, nat_eq, eq-eqb, ne_eqb, Bool, true, false, true≢false, cond, not, ◌&&◌, List, [], ◌∷◌, map, flat_map, Option, Some, None, arith}
-use Rattle.std.proofs.lemmas.Bool.Decides.{eqb_tells}
-use Rattle.std.proofs.lemmas.Bool.{and_parts}
-use Rattle.std.proofs.lemmas.Float.{T_from_true}
-use Rattle.std.specs.Cmp.Lexicographic.{nat_list_cmp_total, texts_ties, bytes_decides}
-use Rattle.std.specs.FinMap.Entries.{below_all, by_order, is_sorted, is_sorted-where_key, find-where_key}
-use Rattle.std.specs.Ordering.{is_eq, is_lt}
-use Rattle.std.specs.Str.{bytes_eq}
-use Rattle.std.specs.declared.cmp.Ordering.{Ordering}
-use Rattle.std.specs.declared.cmp.Ordering.TheVariants.{Less, Equal, Greater}
-use Rattle.vt_spec.specs.Language.Changes.{without_entry}
-use Rattle.vt_spec.specs.FileTree.{targets_in}
-use Rattle.vt_spec.specs.Tree.{Entries, Node, entries_in, entry_named, name_cmp, with_entry, Content, entries_of, kind_of, new_directory}
-use Rattle.vt_spec.proofs.Nodes.{passes}
-use Rattle.vt_spec.proofs.NodeChanges.{entry_named-below}
-use Rattle.vt_spec.specs.Rights.{is_directory}
-use Rattle.vt_spec.specs.Tree.Content.{Directory, Regular, Symlink, Whiteout}
+use Rattle.std.proofs.Common.{◌≡◌, ◌≢◌, refl, sym, ap, subst, ◌∙◌, ⊎_elim, inl, inr, ◌⊎◌, ℕ, ◌+◌, ◌≤◌, nat_eq, eq-eqb, ne_eqb, Bool, true, false, true≢false, cond, not, ◌&&◌, List, [], ◌∷◌, map, flat_map, Option, Some, None, arith, is_eq, is_lt, bytes_eq, Ordering, Less, Equal, Greater}
+use Rattle.vt_spec.proofs.Common.{Content, Directory, Entries, Node, Regular, Symlink, T_from_true, Whiteout, and_parts, below_all, by_order, bytes_decides, common_steps, entries_in, entries_of, entry_named, entry_named-below, eqb_tells, find-where_key, is_directory, is_sorted, is_sorted-where_key, kind_of, name_cmp, nat_list_cmp_total, new_directory, passes, targets_in, texts_ties, with_entry, without_entry}
 use Rattle.vt_laws_mounts.proofs.counts.counting.Times.{times_append, times_in}
 
 abbrev pub targets : Entries ℕ → List ℕ

@@ -1,9 +1,6 @@
 -- How often a number stands in a list.
-use Rattle.std.proofs.lemmas.Grind.{common_steps}
 use Rattle.std.proofs.Common.{◌≡◌, refl, ap, subst, ℕ, suc, ◌+◌, ◌≤◌, nat_eq, eq-eqb, Bool, true, false, cond, ◌&&◌, ◌||◌, List, [], ◌∷◌, ◌++◌, length, filter, arith}
-use Rattle.std.specs.List.{list_all}
-use Rattle.std.proofs.lemmas.Bool.Decides.{eqb_tells}
-use Rattle.vt_spec.specs.Lists.{is_among}
+use Rattle.vt_spec.proofs.Common.{common_steps, eqb_tells, is_among, list_all}
 use Rattle.vt_laws_mounts.specs.LettingGo.Counts.{times}
 
 -- how often this number stands in a list

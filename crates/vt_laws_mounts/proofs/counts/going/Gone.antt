@@ -1,12 +1,6 @@
 -- Mounts and filesystems that go at zero.
-use Rattle.std.proofs.lemmas.Grind.{common_steps}
 use Rattle.std.proofs.Common.{◌≡◌, refl, sym, ap, ◌∙◌, ℕ, ◌+◌, nat_eq, eqb-true, Bool, true, false, true≢false, cond, not, ◌||◌, List, [], ◌∷◌, map, filter, find, Some, is_some, unwrap_or, arith}
-use Rattle.std.specs.List.{list_any}
-use Rattle.std.proofs.lemmas.Bool.{or_parts}
-use Rattle.vt_spec.specs.Lists.{any_pair, is_among}
-use Rattle.vt_spec.specs.Machine.Mounts.{Mount, mount_in, no_mount}
-use Rattle.vt_spec.specs.Machine.Settled.{is_mounted}
-use Rattle.vt_spec.specs.Machine.World.{mount_numbered}
+use Rattle.vt_spec.proofs.Common.{Mount, any_pair, common_steps, filter_all, is_among, is_mounted, list_any, mount_in, mount_numbered, nat_eq-swapped, no_mount, or-false, or_parts}
 use Rattle.vt_laws_mounts.specs.LettingGo.Counts.{times}
 use Rattle.vt_laws_mounts.specs.LettingGo.OneByOne.{without_filesystem, without_mount}
 use Rattle.vt_laws_mounts.proofs.letting_go.Lists.{fails}
@@ -15,9 +9,6 @@ use Rattle.vt_laws_mounts.proofs.letting_go.leaving.PlacesLeft.{no_layers}
 use Rattle.vt_laws_mounts.proofs.letting_go.sweeps.UsesCounted.{located_while_counted, mounted_while_counted}
 use Rattle.vt_laws_mounts.specs.Counts.Going.{FilesystemGoesAtZero, MountGoesAtZero, MountTakesItsCount}
 use Rattle.vt_laws_mounts.proofs.counts.using.Swept.{plain_of}
-use Rattle.std.proofs.Math.Bool.{or-false}
-use Rattle.vt_spec.proofs.Found.{filter_all}
-use Rattle.vt_spec.proofs.Truths.{nat_eq-swapped}
 
 pub mount_goes_at_zero : MountGoesAtZero
 mount_goes_at_zero world number one = mount_is_looked_up world number one

@@ -1,14 +1,6 @@
 -- What filesystems use: directories of layers, and upper objects.
-use Rattle.std.proofs.lemmas.Grind.{common_steps}
-use Rattle.std.proofs.Common.{◌≡◌, refl, sym, ap, ◌∙◌, ℕ, ◌+◌, nat_eq, Bool, true, false, true≢false, cond, not, List, [], ◌∷◌, ◌++◌, map, filter, flat_map, Option, Some, None, arith}
-use Rattle.std.specs.Prelude.{All, filter_map, option_to_list}
-use Rattle.std.proofs.lemmas.Bool.{or_parts}
-use Rattle.vt_spec.specs.Lists.{holds_of}
-use Rattle.vt_spec.specs.Machine.Locked.{of_overlay, overlay_or}
-use Rattle.vt_spec.specs.Machine.Mounts.{root_of}
-use Rattle.vt_spec.specs.Machine.Settled.{has_layer_on, layers_in, located_in, named_in, objects_of_overlay}
-use Rattle.vt_spec.specs.Machine.World.{Filesystem, Layer, Overlay, World, all_locations, filesystem_numbered, is_overlay, layers_of, upper_object}
-use Rattle.vt_spec.proofs.Lists.{filter_none}
+use Rattle.std.proofs.Common.{◌≡◌, refl, sym, ap, ◌∙◌, ℕ, ◌+◌, nat_eq, Bool, true, false, true≢false, cond, not, List, [], ◌∷◌, ◌++◌, map, filter, flat_map, Option, Some, None, arith, All, filter_map, option_to_list}
+use Rattle.vt_spec.proofs.Common.{Filesystem, Layer, Overlay, World, all_locations, common_steps, filesystem_numbered, filter_none, has_layer_on, holds_of, is_overlay, layers_in, layers_of, located_in, named_in, objects_of_overlay, of_overlay, or_parts, overlay_or, root_of, upper_object}
 use Rattle.vt_laws_mounts.specs.LettingGo.Counts.{inode_uses, times}
 use Rattle.vt_laws_mounts.specs.LettingGo.OneByOne.{Inode}
 use Rattle.vt_laws_mounts.specs.LettingGo.Overlays.{uppers_in, used_by_filesystem}

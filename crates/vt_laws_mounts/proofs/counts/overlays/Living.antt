@@ -1,14 +1,6 @@
 -- Which filesystems live, overlays among them.
-use Rattle.std.proofs.lemmas.Grind.{common_steps}
 use Rattle.std.proofs.Common.{◌≡◌, refl, sym, ap, ◌∙◌, ⊎_elim, inl, inr, ℕ, ◌+◌, nat_eq, nat_lt, eqb-true, Bool, true, false, true≢false, cond, not, ◌&&◌, ◌||◌, List, [], ◌∷◌, ◌++◌, filter, flat_map, Option, Some, None, is_some, arith}
-use Rattle.std.specs.List.{list_all, list_any}
-use Rattle.std.proofs.lemmas.Bool.{and_parts, not-true, or_cases}
-use Rattle.std.proofs.lemmas.List.Folds.{list_any-append}
-use Rattle.std.proofs.Math.Bool.{or-false}
-use Rattle.vt_spec.specs.Machine.Invariants.{is_plain_layer}
-use Rattle.vt_spec.specs.Machine.Locked.{of_overlay, overlay_or}
-use Rattle.vt_spec.specs.Machine.Settled.{filesystem_lives, has_layer_on, is_mounted}
-use Rattle.vt_spec.specs.Machine.World.{Filesystem, Layer, Overlay, World, filesystem_numbered, is_overlay, layers_of}
+use Rattle.vt_spec.proofs.Common.{Filesystem, Layer, Overlay, World, and_parts, common_steps, filesystem_lives, filesystem_numbered, has_layer_on, is_mounted, is_overlay, is_plain_layer, layers_of, list_all, list_any, list_any-append, not-true, of_overlay, or-false, or_cases, overlay_or}
 use Rattle.vt_laws_mounts.specs.LettingGo.Counts.{times}
 use Rattle.vt_laws_mounts.specs.LettingGo.OneByOne.{without_filesystem}
 use Rattle.vt_laws_mounts.proofs.letting_go.Lists.{Among, all_from_among, any_counted, among_from_all, flat_map-filter, none_passes, passes}

@@ -1,13 +1,6 @@
 -- The sweep leaves overlays whose inodes have names.
 use Rattle.std.proofs.Common.{arith, ◌≡◌, refl, sym, ap, ◌∙◌, ⊎_elim, ℕ, nat_eq, Bool, true, false, true≢false, ◌||◌, List, [], ◌∷◌, ◌++◌, map, filter, flat_map}
-use Rattle.std.proofs.lemmas.Grind.{common_steps}
-use Rattle.std.specs.List.{list_all}
-use Rattle.std.proofs.lemmas.Bool.{or_cases}
-use Rattle.vt_spec.specs.Lists.{is_among}
-use Rattle.vt_spec.specs.Machine.Settled.{filesystem_lives, layers_in, located_in, named_in, objects_of_overlay, only_used, only_used_by, used_in, without_dead_mounts, settled}
-use Rattle.vt_spec.specs.Machine.World.{Filesystem, World, filesystem_numbered, is_overlay}
-use Rattle.vt_spec.proofs.Found.{is_among_left}
-use Rattle.vt_spec.proofs.Lists.{map_twice}
+use Rattle.vt_spec.proofs.Common.{Filesystem, World, common_steps, filesystem_lives, filesystem_numbered, is_among, is_among_left, is_overlay, layers_in, list_all, located_in, map_twice, named_in, objects_of_overlay, only_used, only_used_by, or_cases, settled, used_in, without_dead_mounts}
 use Rattle.vt_laws_mounts.specs.LettingGo.Keeping.{has_only_named}
 use Rattle.vt_laws_mounts.specs.LettingGo.TreesOverlays.{in_use_of}
 use Rattle.vt_laws_mounts.proofs.letting_go.Lists.{Among, all_pass, among-from_filter, among_from_all, or_first, or_second, passes}

@@ -1,17 +1,7 @@
 -- Inodes that get some uses and lose some.
-use Rattle.std.proofs.lemmas.Grind.{common_steps}
 use Rattle.std.proofs.Common.{◌≡◌, refl, sym, ap, subst, ◌∙◌, ⊎_elim, inl, inr, ℕ, ◌+◌, ◌≤◌, nat_eq, eqb-true, Bool, true, false, true≢false, cond, not, ◌&&◌, ◌||◌, List, [], ◌∷◌, ◌++◌, map, filter, find, flat_map, Option, None, is_some, unwrap_or, arith}
-use Rattle.std.specs.List.{list_all}
-use Rattle.std.proofs.lemmas.Bool.{and_parts}
-use Rattle.std.proofs.lemmas.Bool.Decides.{eqb_tells}
-use Rattle.vt_spec.specs.FileTree.{targets_in}
-use Rattle.vt_spec.specs.Lists.{folded, holds_of, is_among}
-use Rattle.vt_spec.specs.Machine.Locked.{of_overlay, overlay_or}
-use Rattle.vt_spec.specs.Machine.Settled.{layers_in, located_in, named_in, objects_of_overlay, used_in}
-use Rattle.vt_spec.specs.Machine.World.{Filesystem, World, filesystem_numbered, layers_of, no_filesystem}
-use Rattle.vt_spec.specs.Inodes.{Inodes, node_in}
+use Rattle.vt_spec.proofs.Common.{Filesystem, Inodes, Node, World, and_parts, common_steps, eqb_tells, filesystem_numbered, folded, holds_of, is_among, is_some-node_in, layers_in, layers_of, list_all, located_in, named_in, no_filesystem, node_in, node_in-none, objects_of_overlay, of_overlay, or-false, overlay_or, targets_in, used_in, uses_in-none}
 use Rattle.vt_spec.specs.Inodes as Trees
-use Rattle.vt_spec.specs.Tree.{Node}
 use Rattle.vt_laws_mounts.specs.LettingGo.Counts.{inode_uses, times}
 use Rattle.vt_laws_mounts.specs.LettingGo.InUse.{HasTrees, InodesInUse, IsListedTree, has_upper_in, is_inode_used}
 use Rattle.vt_laws_mounts.specs.LettingGo.OneByOne.{Inode, is_inode_among, let_go_inode, let_go_inode_of, let_go_inodes, without_inode}
@@ -27,8 +17,6 @@ use Rattle.vt_laws_mounts.specs.Counts.Using.{AreThere, Exchanges, ExchangesTurn
 use Rattle.vt_laws_mounts.proofs.counts.Listed.{no_repeats}
 use Rattle.vt_laws_mounts.proofs.counts.using.Swept.{found_is, found_number, no_objects_in, start_counts, there_if_counted, there_if_some}
 use Rattle.vt_laws_mounts.proofs.counts.changing.TreeCounts.{other_uses, unpinned_counts}
-use Rattle.std.proofs.Math.Bool.{or-false}
-use Rattle.vt_spec.proofs.Inodes.{is_some-node_in, node_in-none, uses_in-none}
 
 -- one if the test passes
 abbrev pub one_when : Bool → ℕ

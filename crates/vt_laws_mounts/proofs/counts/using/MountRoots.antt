@@ -1,14 +1,6 @@
 -- Mounts and the locations on them.
-use Rattle.std.proofs.Common.{arith, ◌≡◌, refl, sym, ap, subst, ◌∙◌, ⊎_elim, inl, ℕ, nat_eq, eqb-true, Bool, true, false, true≢false, cond, not, ◌||◌, List, [], ◌∷◌, ◌++◌, map, filter, Option, Some, None, is_some}
-use Rattle.std.proofs.lemmas.Grind.{common_steps}
-use Rattle.std.specs.Prelude.{filter_map}
-use Rattle.std.specs.List.{cons_option, list_all, list_any}
-use Rattle.std.proofs.lemmas.Bool.{or_parts}
-use Rattle.vt_spec.specs.Lists.{any_pair, is_among}
-use Rattle.vt_spec.specs.Machine.Mounts.{Location, Mount, mount_in, root_of}
-use Rattle.vt_spec.specs.Machine.Settled.{is_located}
-use Rattle.vt_spec.specs.Machine.World.{World, all_locations, mount_at, mount_numbered}
-use Rattle.vt_spec.specs.Machine.Invariants.{is_nowhere_or_attached}
+use Rattle.std.proofs.Common.{arith, ◌≡◌, refl, sym, ap, subst, ◌∙◌, ⊎_elim, inl, ℕ, nat_eq, eqb-true, Bool, true, false, true≢false, cond, not, ◌||◌, List, [], ◌∷◌, ◌++◌, map, filter, Option, Some, None, is_some, filter_map}
+use Rattle.vt_spec.proofs.Common.{Location, Mount, World, all_locations, any_pair, common_steps, cons_option, filter_all, is_among, is_located, is_nowhere_or_attached, list_all, list_any, mount_at, mount_in, mount_numbered, nat_eq-swapped, or_parts, root_of}
 use Rattle.vt_laws_mounts.specs.LettingGo.Leaving.{MountsStand}
 use Rattle.vt_laws_mounts.specs.LettingGo.Mounting.{inode_at, root_inode}
 use Rattle.vt_laws_mounts.specs.LettingGo.OneByOne.{is_mount_used, without_mount}
@@ -18,8 +10,6 @@ pub use Rattle.vt_laws_mounts.proofs.letting_go.sweeps.OfWorlds.{locations_of_wo
 use Rattle.vt_laws_mounts.specs.Counts.Using.{MountsLeaveTheirRoots, PlacesStand, is_on, places_of, Exchanges}
 use Rattle.vt_laws_mounts.proofs.counts.using.Exchanged.{exchanges_turn}
 use Rattle.vt_laws_mounts.proofs.counts.using.Places.{mounts_are_uses}
-use Rattle.vt_spec.proofs.Found.{filter_all}
-use Rattle.vt_spec.proofs.Truths.{nat_eq-swapped}
 
 -- a mount in a namespace is there
 attached_is : (mounts : List (Mount ℕ)) (number : ℕ) → is_some (mount_in nat_eq mounts number).namespace ≡ true

@@ -1,18 +1,6 @@
 -- Locations and mounts as uses of inodes.
-use Rattle.std.proofs.lemmas.Grind.{common_steps}
-use Rattle.std.proofs.Common.{◌≡◌, refl, sym, ap, subst, ◌∙◌, ⊎_elim, inl, inr, ℕ, ◌+◌, nat_eq, eqb-true, eq-eqb, Bool, true, false, true≢false, cond, not, ◌||◌, List, [], ◌∷◌, ◌++◌, map, filter, find, flat_map, Some, None, unwrap_or, arith}
-use Rattle.std.specs.Prelude.{filter_map, option_to_list}
-use Rattle.std.specs.List.{list_all}
-use Rattle.std.proofs.lemmas.Bool.{and_parts}
-use Rattle.std.proofs.lemmas.List.{append_assoc}
-use Rattle.vt_spec.specs.FileTree.{targets_in}
-use Rattle.vt_spec.specs.Lists.{any_pair, is_among}
-use Rattle.vt_spec.specs.Machine.Locked.{of_overlay}
-use Rattle.vt_spec.specs.Machine.Mounts.{Location, Mount, mount_in, root_of}
-use Rattle.vt_spec.specs.Machine.Settled.{layers_in, located_in, named_in, objects_of_overlay}
-use Rattle.vt_spec.specs.Machine.World.{Filesystem, World, all_locations, filesystem_numbered, layers_of, new_plain, no_filesystem, root_attr}
-use Rattle.vt_spec.specs.Inodes.{node_in, uses_in}
-use Rattle.vt_spec.specs.Tree.{new_directory}
+use Rattle.std.proofs.Common.{◌≡◌, refl, sym, ap, subst, ◌∙◌, ⊎_elim, inl, inr, ℕ, ◌+◌, nat_eq, eqb-true, eq-eqb, Bool, true, false, true≢false, cond, not, ◌||◌, List, [], ◌∷◌, ◌++◌, map, filter, find, flat_map, Some, None, unwrap_or, arith, filter_map, option_to_list, append_assoc}
+use Rattle.vt_spec.proofs.Common.{Filesystem, Location, Mount, World, all_locations, and_parts, any_pair, common_steps, filesystem_numbered, filter_alike, is_among, layers_in, layers_of, list_all, located_in, mount_in, named_in, new_directory, new_plain, no_filesystem, node_in, number-mount_in, objects_of_overlay, of_overlay, root_attr, root_of, targets_in, uses_in}
 use Rattle.vt_laws_mounts.specs.LettingGo.Counts.{inode_uses, mounts_showing, times}
 use Rattle.vt_laws_mounts.specs.LettingGo.Mounting.{inode_at}
 use Rattle.vt_laws_mounts.specs.LettingGo.OneByOne.{Inode}
@@ -25,9 +13,8 @@ use Rattle.vt_laws_mounts.specs.Counts.Going.{LocationsUseMounts, MountsUseFiles
 use Rattle.vt_laws_mounts.specs.Counts.Using.{ExchangesFollow, MountIsPlaced, OthersUseNothing, LocationsAreUses, MountsAreUses, NewTreeIsCounted, OpeningIsCounted, is_inode, is_on, is_outside, one_counted, places_of}
 use Rattle.vt_laws_mounts.proofs.counts.using.Swept.{found_number, plain_of, uses_split}
 use Rattle.vt_laws_mounts.proofs.letting_go.sweeps.UpperUses.{times_append}
-use Rattle.vt_spec.proofs.Worlds.{mount_in-among, number-mount_in}
+use Rattle.vt_spec.proofs.Worlds.{mount_in-among}
 use Rattle.vt_laws_mounts.proofs.letting_go.sweeps.Inodes.{no_objects_of}
-use Rattle.vt_spec.proofs.Found.{filter_alike}
 
 -- how many of some locations are at an inode
 module _ (mounts : List (Mount ℕ)) (k n : ℕ) where

@@ -1,13 +1,6 @@
 -- Counted inodes after the sweep at the end of a call.
-use Rattle.std.proofs.lemmas.Grind.{common_steps}
 use Rattle.std.proofs.Common.{◌≡◌, refl, sym, ap, subst, ◌∙◌, ℕ, ◌≤◌, nat_eq, Bool, true, false, cond, not, List, [], ◌∷◌, ◌++◌, length, map, filter, flat_map, None, is_some, arith}
-use Rattle.std.specs.List.{list_all}
-use Rattle.vt_spec.specs.FileTree.{targets_in}
-use Rattle.vt_spec.specs.Lists.{any_pair, is_among}
-use Rattle.vt_spec.specs.Machine.Locked.{of_overlay}
-use Rattle.vt_spec.specs.Machine.Settled.{filesystem_lives, layers_in, located_in, named_in, objects_of_overlay, only_used, only_used_by, only_used_of, settled, used_in, without_dead_groups, without_dead_in, without_dead_mounts}
-use Rattle.vt_spec.specs.Machine.World.{Filesystem, World, filesystem_numbered, is_overlay, layers_of}
-use Rattle.vt_spec.specs.Inodes.{Inodes, node_in, uses_in}
+use Rattle.vt_spec.proofs.Common.{Filesystem, Inodes, World, any_pair, common_steps, filesystem_lives, filesystem_numbered, is_among, is_overlay, layers_in, layers_of, list_all, located_in, named_in, node_in, node_in-none, objects_of_overlay, of_overlay, only_used, only_used_by, only_used_of, settled, targets_in, used_in, uses_in, uses_in-none, without_dead_groups, without_dead_in, without_dead_mounts}
 use Rattle.vt_laws_mounts.specs.LettingGo.Counts.{inode_uses, times}
 use Rattle.vt_laws_mounts.specs.LettingGo.InUse.{HasTrees, InodesInUse, has_upper_in}
 use Rattle.vt_laws_mounts.specs.LettingGo.OneByOne.{Inode}
@@ -23,7 +16,7 @@ use Rattle.vt_laws_mounts.proofs.counts.using.Exchanged as Exchanged
 use Rattle.vt_laws_mounts.proofs.counts.using.Exchanged.{found_mapped, numbers_mapped, root_pinned, root_unpinned}
 use Rattle.vt_laws_mounts.proofs.counts.Listed.{no_repeats}
 use Rattle.vt_laws_mounts.proofs.counts.using.Swept.{found_number, no_objects_in}
-use Rattle.vt_spec.proofs.Inodes.{node_in-none, node_in_is_there, uses_in-none}
+use Rattle.vt_spec.proofs.Inodes.{node_in_is_there}
 use Rattle.vt_laws_mounts.specs.LettingGo.TreesOverlays.{in_use_of}
 
 module _ (world after : World ℕ) (gained lost : List Inode) (k : ℕ) (inodes : Inodes ℕ) (trees : HasTrees world)

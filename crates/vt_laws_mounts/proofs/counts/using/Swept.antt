@@ -1,16 +1,6 @@
 -- The sweep after a change of one plain tree, where inodes count their uses.
-use Rattle.std.proofs.lemmas.Grind.{common_steps}
 use Rattle.std.proofs.Common.{◌≡◌, ◌≢◌, refl, sym, ap, subst, ◌∙◌, ⊎_elim, inl, inr, ℕ, ◌+◌, ◌≤◌, nat_eq, eqb-true, eq-eqb, ne_eqb, Bool, true, false, true≢false, cond, not, List, [], ◌∷◌, ◌++◌, map, filter, find, flat_map, Option, Some, None, is_some, unwrap_or, arith}
-use Rattle.std.specs.List.{list_all}
-use Rattle.std.proofs.lemmas.Bool.{or_cases}
-use Rattle.vt_spec.specs.FileTree.{FileTree, targets_in}
-use Rattle.vt_spec.specs.Lists.{any_pair, is_among}
-use Rattle.vt_spec.specs.Machine.Filesystems.{with_files}
-use Rattle.vt_spec.specs.Machine.Locked.{of_overlay, overlay_or}
-use Rattle.vt_spec.specs.Machine.Settled.{filesystem_lives, layers_in, located_in, named_in, objects_of_overlay, only_among, only_used, only_used_by, settled, used_in, without_dead_filesystems, without_dead_groups, without_dead_in, without_dead_inodes, without_dead_mounts}
-use Rattle.vt_spec.specs.Machine.World.{Filesystem, World, filesystem_numbered, is_overlay, layers_of, no_filesystem, replaced_if_numbered}
-use Rattle.vt_spec.specs.Inodes.{Inode, Inodes, node_in, uses_in}
-use Rattle.vt_spec.specs.Tree.{Node}
+use Rattle.vt_spec.proofs.Common.{FileTree, Filesystem, Inode, Inodes, Node, World, any_pair, common_steps, filesystem_lives, filesystem_numbered, is_among, is_overlay, is_some-node_in, layers_in, layers_of, list_all, located_in, map_alike, map_twice, named_in, no_filesystem, node_in, node_in-none, objects_of_overlay, of_overlay, only_among, only_used, only_used_by, or_cases, overlay_or, replaced_if_numbered, settled, targets_in, used_in, uses_in, uses_in-none, with_files, without_dead_filesystems, without_dead_groups, without_dead_in, without_dead_inodes, without_dead_mounts}
 use Rattle.vt_laws_mounts.specs.LettingGo.Counts.{inode_uses, times}
 use Rattle.vt_laws_mounts.specs.LettingGo.InUse.{AllInUse, IsListedTree, has_upper_in, is_inode_used}
 use Rattle.vt_laws_mounts.specs.LettingGo.OneByOne as LettingGo
@@ -25,8 +15,7 @@ use Rattle.vt_laws_mounts.specs.Counts.Counted.{IsCounted, IsPlain}
 use Rattle.vt_laws_mounts.specs.Counts.BesideOverlays.{HasNoUpperIn}
 use Rattle.vt_laws_mounts.proofs.counts.Listed.{no_repeats, once_or_none}
 use Rattle.vt_laws_mounts.proofs.counts.changing.TreeCounts.{IsStart, IsTallied, other_uses, uses_of}
-use Rattle.vt_spec.proofs.Inodes.{is_some-node_in, node_in-none, node_in_is_there, uses_in-none}
-use Rattle.vt_spec.proofs.Lists.{map_alike, map_twice}
+use Rattle.vt_spec.proofs.Inodes.{node_in_is_there}
 use Rattle.vt_laws_mounts.proofs.letting_go.leaving.TreesWithOverlays.{lives_alike}
 use Rattle.vt_laws_mounts.proofs.letting_go.sweeps.OfWorlds.{found_filesystem}
 

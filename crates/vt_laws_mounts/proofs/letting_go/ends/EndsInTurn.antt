@@ -1,16 +1,6 @@
 -- Namespaces that end with their last tasks, in a world that was swept before, or that was not.
 use Rattle.std.proofs.Common.{arith, ◌≡◌, refl, sym, ap, subst, ◌∙◌, ⊎_elim, ℕ, nat_eq, Bool, true, false, true≢false, not, ◌&&◌, List, filter, flat_map, map, Option, Some, None, is_some, option_map, option_to_list}
-use Rattle.std.proofs.lemmas.Grind.{common_steps}
-use Rattle.std.specs.List.{list_all}
-use Rattle.std.proofs.lemmas.Bool.{cases_Bool}
-use Rattle.std.proofs.lemmas.Option.{same_Some}
-use Rattle.vt_spec.specs.Language.Calls.{same_name}
-use Rattle.vt_spec.specs.Machine.Detach.{is_going, mount_point_left, taken_away}
-use Rattle.vt_spec.specs.Machine.Invariants.{MountInvariants, is_nowhere_or_attached}
-use Rattle.vt_spec.specs.Machine.Mounts.{Location, Mount, mount_in}
-use Rattle.vt_spec.specs.Machine.Namespaces.{has_tasks, is_in_ended}
-use Rattle.vt_spec.specs.Machine.Settled.{settled}
-use Rattle.vt_spec.specs.Machine.World.{Namespace, Task, World, all_locations, locations_of, mount_at, without_task}
+use Rattle.vt_spec.proofs.Common.{Location, Mount, MountInvariants, Namespace, Task, World, all_locations, cases_Bool, common_steps, filesystems-taken_away, has_tasks, is_going, is_in_ended, is_nowhere_or_attached, list_all, locations_of, mount_at, mount_in, mount_point_left, number-mount_in, pair-map, same_Some, same_name, settled, taken_away, without_task}
 use Rattle.vt_laws_mounts.specs.LettingGo.Leaving.{MountsStand, comes_nowhere, is_location_among, stands_on_attached, with_tasks}
 use Rattle.vt_laws_mounts.specs.LettingGo.Mounting.{ended_mounts}
 use Rattle.vt_laws_mounts.specs.LettingGo.Several.{OneSweepForAllExits, OneSweepForAllExitsWithOverlays, OneSweepForEnds, OneSweepForEndsWithOverlays, OneSweepForExits, OneSweepForExitsWithOverlays, ended_task}
@@ -24,8 +14,6 @@ use Rattle.vt_laws_mounts.proofs.letting_go.mounting.MountingTaken.{hands_on, is
 use Rattle.vt_laws_mounts.proofs.letting_go.mounting.TakenBetween.{one_sweep_between}
 use Rattle.vt_laws_mounts.proofs.letting_go.mounting.MountsSwept.{beside_parent}
 use Rattle.vt_laws_mounts.proofs.letting_go.mounting.Unmounted.{does_not_go}
-use Rattle.vt_spec.proofs.Lists.{pair-map}
-use Rattle.vt_spec.proofs.Worlds.{filesystems-taken_away, number-mount_in}
 use Rattle.vt_laws_mounts.proofs.letting_go.mounting.TakenInTurn.{one_sweep_in_turn}
 
 module _ (world : World ℕ) (tasks : List (Task ℕ)) (kept : MountInvariants nat_eq world) where

@@ -1,23 +1,8 @@
 -- A namespace ends with its last task, and how many mounts a namespace has.
-use Rattle.std.proofs.lemmas.Grind.{common_steps}
-use Rattle.std.proofs.Common.{◌≡◌, refl, sym, ap, ◌∙◌, ⊎_elim, ℕ, nat_eq, eqb-true, eq-eqb, Bool, true, false, not, ◌||◌, ◌&&◌, ◌+◌, ◌++◌, ◌≤◌, List, [], ◌∷◌, filter, length, map, Option, Some, None, option_map, option_to_list, arith}
-use Rattle.std.specs.Prelude.{nat_lt}
-use Rattle.std.specs.List.{list_all, list_any}
-use Rattle.std.proofs.Math.Bool.{or-false}
-use Rattle.std.proofs.lemmas.Bool.{and_parts, cases_Bool}
-use Rattle.std.proofs.lemmas.Bool.Decides.{nat_tests}
-use Rattle.vt_spec.specs.Language.Limits.{most_mounts}
-use Rattle.vt_spec.specs.Machine.Detach.{after_going, mount_point_left, taken_away}
-use Rattle.vt_spec.specs.Lists.{holds_of, is_among}
-use Rattle.vt_spec.specs.Machine.Mounts.{Location, Mount}
-use Rattle.vt_spec.specs.Machine.Namespaces.{has_tasks, is_in_ended}
-use Rattle.vt_spec.specs.Machine.Receives.{regrouped}
-use Rattle.vt_spec.specs.Machine.World.{Namespace, World, mounts_of, with_mounts}
-use Rattle.vt_spec.specs.Machine.Invariants.{is_listed}
+use Rattle.std.proofs.Common.{◌≡◌, refl, sym, ap, ◌∙◌, ⊎_elim, ℕ, nat_eq, eqb-true, eq-eqb, Bool, true, false, not, ◌||◌, ◌&&◌, ◌+◌, ◌++◌, ◌≤◌, List, [], ◌∷◌, filter, length, map, Option, Some, None, option_map, option_to_list, arith, nat_lt}
+use Rattle.vt_spec.proofs.Common.{Location, Mount, Namespace, World, after_going, and_parts, cases_Bool, common_steps, filter_alike, filter_all, has_tasks, holds_of, is_among, is_in_ended, is_listed, list_all, list_any, most_mounts, mount_point_left, mounts_of, nat_tests, or-false, or_false_left, regrouped, taken_away, with_mounts}
 use Rattle.vt_laws_mounts.specs.LettingGo.Ends.{AddedMountsCount, AddedMountsCountInNoOther, AddedMountsCountInTheirOwn, MountsAreListed, NoNamespaceEnds, OneNamespaceEnds, TooManyIsOfOne, TooManyIsOfSome, is_in, mount_count}
 use Rattle.vt_laws_mounts.proofs.letting_go.Lists.{Among, among-from_map, among_numbers, any_passes, fails, map_same, none_passes, nothing_passes, one_passes, passes}
-use Rattle.vt_spec.proofs.Found.{filter_alike, filter_all}
-use Rattle.vt_spec.proofs.Truths.{or_false_left}
 
 -- Where nothing is taken away, places stay.
 module _ (world : World ℕ) where

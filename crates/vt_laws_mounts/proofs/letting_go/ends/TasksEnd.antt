@@ -1,18 +1,6 @@
 -- What goes when tasks leave locations and namespaces at once.
 use Rattle.std.proofs.Common.{arith, ◌≡◌, refl, sym, ap, subst, ◌∙◌, ◌⊎◌, inl, inr, ⊎_elim, ℕ, nat_eq, eqb-true, Bool, true, false, cond, not, List, filter, map, true≢false, flat_map, ◌++◌, Some, is_some}
-use Rattle.std.proofs.lemmas.Grind.{common_steps}
-use Rattle.std.specs.List.{list_any}
-use Rattle.std.proofs.lemmas.Bool.{or_cases, or_parts, cases_Bool}
-use Rattle.std.proofs.lemmas.List.Folds.{list_any-append}
-use Rattle.vt_spec.specs.Language.Calls.{TaskName, same_name}
-use Rattle.vt_spec.specs.Lists.{Fresh, evens, holds_of, is_among, odds}
-use Rattle.vt_spec.specs.Machine.Detach.{is_going}
-use Rattle.vt_spec.specs.Machine.Mounts.{Location, Mount, mount_in, numbers_by}
-use Rattle.vt_spec.specs.Machine.Namespaces.{copied_mount, has_tasks, namespace_entered, namespaces_ended, unshared}
-use Rattle.vt_spec.specs.Machine.Receives.{is_member_of, lost_a_group}
-use Rattle.vt_spec.specs.Machine.Settled.{is_located, mount_lives, settled}
-use Rattle.vt_spec.specs.Machine.World.{Namespace, Task, World, all_locations, locations_of, mount_at, mount_numbered, mounts_of, replaced_if_called, without_task}
-use Rattle.vt_spec.specs.Machine.Invariants.{is_nowhere_or_attached}
+use Rattle.vt_spec.proofs.Common.{Fresh, Location, Mount, Namespace, Task, TaskName, World, all_locations, cases_Bool, common_steps, copied_mount, evens, has_tasks, holds_of, is_among, is_going, is_located, is_member_of, is_nowhere_or_attached, list_any, list_any-append, locations_of, lost_a_group, mount_at, mount_in, mount_lives, mount_numbered, mounts_of, namespace_entered, namespaces_ended, numbers_by, odds, or_cases, or_parts, replaced_if_called, same_name, settled, unshared, without_task}
 use Rattle.vt_laws_mounts.specs.LettingGo.EndingTasks.{EntersLetGo, EntersWithOverlaysLetGo, ExitsLetGo, ExitsWithOverlaysLetGo, LeavingNamespacesLetsGo, LeavingNamespacesWithOverlaysLetsGo, UnsharesLetGo, UnsharesWithOverlaysLetGo, gone_with, locations_of_named, used_by_ended, used_by_ended_with_layers}
 use Rattle.vt_laws_mounts.specs.LettingGo.InUse.{AllInUse, GroupsInUse}
 use Rattle.vt_laws_mounts.specs.LettingGo.Keeping.{LocationsStand}

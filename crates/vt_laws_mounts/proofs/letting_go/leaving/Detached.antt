@@ -1,16 +1,8 @@
 -- What goes when a mount leaves its place.
 use Rattle.std.proofs.Common.{arith, ◌≡◌, refl, ap, ◌∙◌, ◌⊎◌, inl, ℕ, nat_eq, eqb-true, eq-eqb, Bool, true, false, cond, not, List, [], ◌∷◌, find, map, true≢false, Option, Some, None, option_to_list, unwrap_or}
-use Rattle.std.proofs.lemmas.Grind.{common_steps}
-use Rattle.std.specs.List.{list_all}
-use Rattle.std.proofs.lemmas.Bool.{and_parts, not-true}
-use Rattle.vt_spec.specs.Machine.Detach.{after_going, going_at, going_from, has_child, mount_point_left, taken_away, unmounted}
-use Rattle.vt_spec.specs.Machine.Mounts.{Location, Mount, is_shared, mount_in, no_mount}
-use Rattle.vt_spec.specs.Machine.Receives.{regrouped}
-use Rattle.vt_spec.specs.Machine.World.{World, mount_at, mount_numbered, with_mounts}
+use Rattle.vt_spec.proofs.Common.{Location, Mount, World, after_going, and_parts, common_steps, going_at, going_from, has_child, is_shared, list_all, map_alike, mount_at, mount_in, mount_numbered, mount_point_left, no_mount, not-true, number-mount_in, regrouped, taken_away, unmounted, with_mounts}
 use Rattle.vt_laws_mounts.specs.LettingGo.Detaching.{StandsUnshared, UnmountIsOfOne, detached_if, without_place}
 use Rattle.vt_laws_mounts.proofs.letting_go.Lists.{Among, fails}
-use Rattle.vt_spec.proofs.Worlds.{number-mount_in}
-use Rattle.vt_spec.proofs.Lists.{map_alike}
 
 -- The unmount of one mount
 module _ (world : World ℕ) (number : ℕ) (alone : has_child nat_eq world number ≡ false) where

@@ -1,24 +1,8 @@
 -- What calls that change plain trees let go of.
 use Rattle.std.proofs.Common.{arith, ◌≡◌, refl, sym, ap, subst, ◌∙◌, ◌⊎◌, inl, inr, ⊎_elim, ℕ, nat_eq, true, false, ◌||◌, List, [], ◌∷◌, flat_map, map, true≢false, Option, Some, None, is_some, option_to_list}
-use Rattle.std.proofs.lemmas.Grind.{common_steps}
-use Rattle.std.proofs.lemmas.Bool.{or_parts}
-use Rattle.std.specs.Cmp.Lexicographic.{bytes_decides}
-use Rattle.std.specs.List.{list_any}
-use Rattle.vt_spec.proofs.Lists.{among_from_contains}
+use Rattle.vt_spec.proofs.Common.{Access, Change, Descriptor, FileTree, Filesystem, Fresh, Location, Make, Move, Overlay, Remove, SetBytes, Task, World, all_locations, among_from_contains, any_pair, bytes_decides, bytes_in, changed, common_steps, evens, files_at, filesystem_at, filesystem_changed, filesystem_numbered, inserted, is_among, is_overlay, list_any, locations_of, mount_at, mounts_on, node_at, odds, or_parts, overwritten, replaced_if_called, replaced_if_numbered, same_name, settled, taken_away, with_change, with_descriptor, with_files, with_task}
 use Rattle.vt_spec.proofs.Nodes.{is_some-node_with_bytes}
 use Rattle.vt_spec.proofs.Trees.{is_tree-with_file_bytes, same_part}
-use Rattle.vt_spec.specs.FileTree.{FileTree}
-use Rattle.vt_spec.specs.Language.Changes.{Change, changed}
-use Rattle.vt_spec.specs.Language.Changes.Change.{Make, Move, Remove, SetBytes}
-use Rattle.vt_spec.specs.Lists.{Fresh, any_pair, evens, is_among, odds}
-use Rattle.vt_spec.specs.Machine.Detach.{mounts_on, taken_away}
-use Rattle.vt_spec.specs.Machine.Filesystems.{filesystem_changed, with_change, with_files}
-use Rattle.vt_spec.specs.Machine.Mounts.{Location}
-use Rattle.vt_spec.specs.Machine.Descriptors.{inserted, overwritten, with_descriptor}
-use Rattle.vt_spec.specs.Machine.Settled.{settled}
-use Rattle.vt_spec.specs.Machine.World.{Descriptor, Filesystem, Overlay, Task, World, all_locations, filesystem_at, filesystem_numbered, files_at, is_overlay, locations_of, mount_at, node_at, replaced_if_called, replaced_if_numbered, with_task}
-use Rattle.vt_spec.specs.Language.Calls.{Access, same_name}
-use Rattle.vt_spec.specs.Tree.{bytes_in}
 use Rattle.vt_laws_mounts.specs.LettingGo.Leaving.{is_location_among, only_these_are_left}
 use Rattle.vt_laws_mounts.specs.LettingGo.FileChanges.{FileChangesLetGo, MadeKeepsAll, MayChange, OpenedNewKeepsAll, RemovedDirectoriesLetGo, ReplacingLetsGo, TakenAndFileChangesLetGo, WrittenPartsKeepAll, inodes_lost, names_lost}
 use Rattle.vt_laws_mounts.specs.LettingGo.InUse.{HasTrees, IsListedTree, UppersArePlain}

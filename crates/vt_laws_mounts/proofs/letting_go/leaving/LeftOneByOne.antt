@@ -1,11 +1,6 @@
 -- Places that are left one by one, each with a sweep, or all at once.
-use Rattle.std.proofs.Common.{◌≡◌, refl, sym, ap, subst, ◌∙◌, ⊎_elim, ℕ, nat_eq, eqb-true, eq-eqb, true, false, cond, List, [], ◌∷◌, filter, map, true≢false, ◌++◌, None, is_some}
-use Rattle.std.specs.Prelude.{All, filter_map}
-use Rattle.std.proofs.lemmas.Bool.{and_parts, or_cases}
-use Rattle.vt_spec.specs.Machine.Mounts.{Location, Mount, mount_in, root_of}
-use Rattle.vt_spec.specs.Machine.Receives.{has_members, is_member_of}
-use Rattle.vt_spec.specs.Machine.Settled.{is_located, is_mounted, located_in, mount_lives, settled, without_dead_mounts}
-use Rattle.vt_spec.specs.Machine.World.{Task, World, all_locations, is_overlay, mount_at}
+use Rattle.std.proofs.Common.{◌≡◌, refl, sym, ap, subst, ◌∙◌, ⊎_elim, ℕ, nat_eq, eqb-true, eq-eqb, true, false, cond, List, [], ◌∷◌, filter, map, true≢false, ◌++◌, None, is_some, All, filter_map}
+use Rattle.vt_spec.proofs.Common.{Location, Mount, Task, World, all_locations, and_parts, has_members, is_located, is_member_of, is_mounted, is_overlay, located_in, mount_at, mount_in, mount_lives, number-mount_in, or_cases, root_of, settled, without_dead_mounts}
 use Rattle.vt_laws_mounts.specs.LettingGo.InUse.{UppersArePlain, has_upper_in}
 use Rattle.vt_laws_mounts.specs.LettingGo.Leaving.{MountsStand, OneSweepForAll, OneSweepForSeveral, comes_nowhere, each_comes_nowhere, with_sweeps, with_tasks}
 use Rattle.vt_laws_mounts.specs.LettingGo.LeavingOverlays.{OneSweepForAllWithOverlays, OneSweepForSeveralWithOverlays}
@@ -15,7 +10,6 @@ use Rattle.vt_laws_mounts.proofs.letting_go.Lists.{Among, all_from_among, among-
 use Rattle.vt_laws_mounts.proofs.letting_go.sweeps.Merged.{HasReals}
 use Rattle.vt_laws_mounts.proofs.letting_go.leaving.PlacesLeft.{found_in_filter, found_is_there, found_itself, place_attached, was_located}
 use Rattle.vt_laws_mounts.proofs.letting_go.leaving.TreesWithOverlays.{no_real}
-use Rattle.vt_spec.proofs.Worlds.{number-mount_in}
 use Rattle.vt_laws_mounts.proofs.letting_go.SweptBetween.{SameUses, follows, one_sweep_after_both}
 
 module _ (world : World ℕ) (tasks : List (Task ℕ)) (stand : MountsStand world)

@@ -1,13 +1,6 @@
 -- What tasks leave goes, in worlds with overlays.
 use Rattle.std.proofs.Common.{◌≡◌, sym, ap, subst, ◌∙◌, ⊎_elim, inl, inr, ◌⊎◌, ℕ, nat_eq, eqb-true, eq-eqb, true, cond, ◌||◌, ◌&&◌, List, [], ◌∷◌, map, flat_map, ◌++◌}
-use Rattle.std.specs.List.{list_all}
-use Rattle.std.proofs.lemmas.Bool.{and_parts, or_cases, cases_Bool}
-use Rattle.std.proofs.lemmas.List.Folds.{list_any-append}
-use Rattle.vt_spec.specs.Lists.{is_among}
-use Rattle.vt_spec.specs.Machine.Locked.{of_overlay}
-use Rattle.vt_spec.specs.Machine.Mounts.{Location}
-use Rattle.vt_spec.specs.Machine.Settled.{filesystem_lives, has_layer_on, is_mounted, layers_in, located_in, mount_lives, named_in, objects_of_overlay}
-use Rattle.vt_spec.specs.Machine.World.{Filesystem, Layer, Task, World, layers_of, mount_at}
+use Rattle.vt_spec.proofs.Common.{Filesystem, Layer, Location, Task, World, and_parts, cases_Bool, filesystem_lives, has_layer_on, is_among, is_among_left, is_among_right, is_mounted, layers_in, layers_of, list_all, list_any-append, located_in, mount_at, mount_lives, named_in, objects_of_overlay, of_overlay, or_cases}
 use Rattle.vt_laws_mounts.specs.LettingGo.InUse.{AllInUse, is_inode_used}
 use Rattle.vt_laws_mounts.specs.LettingGo.Leaving.{MountsStand, inodes_of_location, only_these_are_left, with_tasks}
 use Rattle.vt_laws_mounts.specs.LettingGo.LeavingOverlays.{LeavingOverlaysLetsGo, StayingKeepsOverlays, filesystems_of_layers, filesystems_of_location, used_with_layers}
@@ -17,7 +10,6 @@ use Rattle.vt_laws_mounts.proofs.letting_go.Lists.{Among, all_from_among, all_pa
 use Rattle.vt_laws_mounts.proofs.letting_go.sweeps.OverlaysGone.{filesystems_take_their_uses}
 use Rattle.vt_laws_mounts.proofs.letting_go.leaving.PlacesLeft.{after, by_located, dead_was_left, filesystem_left, groups_but, mounted, mounts_but}
 use Rattle.vt_laws_mounts.proofs.letting_go.sweeps.WithOverlays.{with_overlays_all_goes}
-use Rattle.vt_spec.proofs.Found.{is_among_left, is_among_right}
 
 -- the filesystem of a layer is among those of its overlay
 pub in_layers : (world : World ℕ) (number : ℕ) (merged : Filesystem ℕ) → Among merged world.filesystems

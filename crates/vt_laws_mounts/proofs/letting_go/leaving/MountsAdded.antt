@@ -1,12 +1,6 @@
 -- Mounts and filesystems that are added.
 use Rattle.std.proofs.Common.{arith, ◌≡◌, refl, sym, ap, inl, inr, ⊎_elim, ℕ, nat_eq, true, List, [], ◌∷◌, map, true≢false, ◌++◌, Option, is_some}
-use Rattle.std.proofs.lemmas.Grind.{common_steps}
-use Rattle.std.specs.List.{list_all}
-use Rattle.vt_spec.specs.Lists.{is_among}
-use Rattle.vt_spec.specs.Machine.Mounts.{Mount, mount_in}
-use Rattle.vt_spec.specs.Machine.Settled.{is_located, is_mounted, mount_lives}
-use Rattle.vt_spec.specs.Machine.Invariants.{is_nowhere_or_attached}
-use Rattle.vt_spec.specs.Machine.World.{Filesystem, World}
+use Rattle.vt_spec.proofs.Common.{Filesystem, Mount, World, common_steps, is_among, is_located, is_mounted, is_nowhere_or_attached, list_all, mount_in, mount_lives}
 use Rattle.vt_laws_mounts.specs.LettingGo.InUse.{AllInUse}
 use Rattle.vt_laws_mounts.specs.LettingGo.Keeping.{LocationsStand, NewMountsKeepAll, has_only_named, with_new}
 use Rattle.vt_laws_mounts.specs.LettingGo.Leaving.{MountsStand}

@@ -1,33 +1,12 @@
 -- What changes of a tree do to names.
-use Rattle.std.proofs.Common.{arith, ◌≡◌, refl, sym, ap, subst, ◌∙◌, ◌⊎◌, inl, inr, ⊎_elim, ℕ, nat_eq, true, false, cond, not, ◌||◌, List, [], ◌∷◌, true≢false, Option, Some, None, is_some, option_to_list}
-use Rattle.std.proofs.lemmas.Grind.{common_steps}
-use Rattle.std.specs.List.{list_all}
-use Rattle.std.proofs.lemmas.Bool.{and_parts, false_from_ne_true, cases_Bool}
-use Rattle.std.proofs.lemmas.Bool.Decides.{eqb_tells}
-use Rattle.std.specs.Cmp.{tied_itself}
-use Rattle.std.specs.Cmp.Lexicographic.{bytes_decides, nat_list_cmp_total}
-use Rattle.std.specs.declared.cmp.Ordering.{Ordering}
-use Rattle.std.specs.declared.cmp.Ordering.TheVariants.{Equal, Greater, Less}
-use Rattle.std.specs.FinMap.Entries.{below_all, by_order, is_sorted, is_sorted-where_key}
-use Rattle.std.specs.Ordering.{eq_by_cmp, is_eq, is_lt}
-use Rattle.std.specs.Str.{bytes_eq}
-use Rattle.vt_spec.proofs.Nodes.{directory_used, entry_named-without_entry, none_is_not, node_other, node_set, part_kept, passes, same_name, entries-node_with_bytes}
-use Rattle.std.proofs.lemmas.Float.{T_from_true}
-use Rattle.std.proofs.lemmas.Option.{same_Some}
-use Rattle.vt_spec.specs.FileTree.{FileTree, targets_in}
-use Rattle.vt_spec.specs.Language.Changes.{changed, changed_node, node_with_attr, node_with_mark, node_with_parent, node_without_entry, with_inode, with_name, without_entry, without_name, without_parent}
-use Rattle.vt_spec.specs.Language.Changes.Change.{AddName, CopyUp, Make, Move, Remove, SetAttr, SetBytes, SetMark}
-use Rattle.vt_spec.specs.Lists.{is_among}
-use Rattle.vt_spec.specs.Machine.Settled.{named_in}
-use Rattle.vt_spec.specs.Tree.{Content, Entries, Node, entries_in, entry_named, is_directory_node, name_cmp, node_with_bytes, node_with_entry, with_entry}
-use Rattle.vt_spec.specs.Tree.Content.{Directory, Regular, Symlink, Whiteout}
-use Rattle.vt_spec.specs.TreeInvariant.{entry_at}
+use Rattle.std.proofs.Common.{arith, ◌≡◌, refl, sym, ap, subst, ◌∙◌, ◌⊎◌, inl, inr, ⊎_elim, ℕ, nat_eq, true, false, cond, not, ◌||◌, List, [], ◌∷◌, true≢false, Option, Some, None, is_some, option_to_list, Ordering, Equal, Greater, Less, is_eq, is_lt, bytes_eq}
+use Rattle.vt_spec.proofs.Common.{AddName, Content, CopyUp, Directory, Entries, FileTree, Make, Move, Node, Regular, Remove, SetAttr, SetBytes, SetMark, Symlink, T_from_true, Whiteout, and_parts, below_all, by_order, bytes_decides, cases_Bool, changed, changed_node, common_steps, directory_used, entries-node_with_attr, entries-node_with_bytes, entries-node_with_mark, entries-node_with_parent, entries_in, entry_at, entry_named, entry_named-without_entry, eq_by_cmp, eqb_tells, false_from_ne_true, is_among, is_directory-node_with_parent, is_directory-node_without_entry, is_directory_node, is_sorted, is_sorted-where_key, list_all, name_cmp, named_in, nat_list_cmp_total, node_other, node_set, node_with_attr, node_with_bytes, node_with_entry, node_with_mark, node_with_parent, node_without_entry, none_is_not, part_kept, passes, root-without_parent, same_Some, targets_in, tied_itself, with_entry, with_inode, with_name, without_entry, without_name, without_parent}
+use Rattle.vt_spec.proofs.Nodes.{same_name}
 use Rattle.vt_laws_mounts.specs.LettingGo.FileChanges.{ChangesKeepNames, IsMade, IsMoved}
 use Rattle.vt_laws_mounts.specs.LettingGo.InUse.{IsListedTree}
 use Rattle.vt_laws_mounts.specs.LettingGo.TreeChanges.{ChangesTree}
 use Rattle.vt_laws_mounts.proofs.letting_go.Lists.{Among, all_pass, among-filter, among-flat_map, among-from_flat_map, among-from_map, among-map, among_numbers, is_among_numbers, or_first, or_second}
-use Rattle.vt_spec.proofs.NodeChanges.{entries-node_with_attr, entries-node_with_mark, entries-node_with_parent, is_directory-node_with_parent, is_directory-node_without_entry}
-use Rattle.vt_spec.proofs.Worlds.{root-without_parent, numbers-without_parent}
+use Rattle.vt_spec.proofs.Worlds.{numbers-without_parent}
 
 abbrev Entry : Type 0
 Entry = List ℕ × ℕ

@@ -1,18 +1,6 @@
 -- What goes when types of mounts change.
 use Rattle.std.proofs.Common.{arith, ◌≡◌, refl, sym, ap, subst, ◌∙◌, inl, inr, ⊎_elim, ℕ, zero, suc, nat_eq, eqb-true, Bool, true, false, cond, List, [], ◌∷◌, map, true≢false, Option, None, is_some}
-use Rattle.std.proofs.lemmas.Grind.{common_steps}
-use Rattle.std.specs.List.{list_any}
-use Rattle.std.proofs.lemmas.Bool.{false_from_ne_true, or_parts, cases_Bool}
-use Rattle.std.proofs.lemmas.List.Folds.{list_any-append}
-use Rattle.vt_spec.specs.Language.Calls.{TypeWord}
-use Rattle.vt_spec.specs.Lists.{Fresh, is_among}
-use Rattle.vt_spec.specs.Machine.Mounts.{Mount, Propagation, children, mount_in, numbers_by, root_of, stands_on, tree_from}
-use Rattle.vt_spec.specs.Machine.Mounts.Propagation.{Private, Shared, Slave, Unbindable}
-use Rattle.vt_spec.specs.Machine.Receives.{heir, inherited, inheriting, is_member_of, lost_a_group, regrouped_by}
-use Rattle.vt_spec.specs.Machine.Settled.{mount_lives, settled}
-use Rattle.vt_spec.specs.Machine.Types.{named_mounts, retyped_mount, type_after, with_master, master_after, with_new_groups}
-use Rattle.vt_spec.specs.Machine.World.{World}
-use Rattle.vt_spec.specs.Machine.Invariants.{is_nowhere_or_attached, is_private}
+use Rattle.vt_spec.proofs.Common.{Fresh, Mount, Private, Propagation, Shared, Slave, TypeWord, Unbindable, World, cases_Bool, children, common_steps, false_from_ne_true, heir, inherited, inheriting, is_among, is_member_of, is_nowhere_or_attached, is_private, list_any, list_any-append, lost_a_group, map_twice, master_after, mount_in, mount_lives, named_mounts, numbers_by, or_parts, regrouped_by, retyped_mount, root_of, settled, stands_on, tree_from, type_after, with_master, with_new_groups}
 use Rattle.vt_laws_mounts.specs.LettingGo.Attaching.{is_attached}
 use Rattle.vt_laws_mounts.specs.LettingGo.InUse.{AllInUse}
 use Rattle.vt_laws_mounts.specs.LettingGo.Unmounting.{groups_of_mounts}
@@ -26,7 +14,6 @@ use Rattle.vt_laws_mounts.proofs.letting_go.Lists.{Among, all_pass, among-from_f
 use Rattle.vt_laws_mounts.proofs.letting_go.mounting.MountingLosers.{Loses, changed}
 use Rattle.vt_laws_mounts.proofs.letting_go.mounting.MountingOverlays.{only_groups_go}
 use Rattle.vt_laws_mounts.proofs.letting_go.leaving.PlacesLeft.{found_is_there, found_itself, nowhere_parts}
-use Rattle.vt_spec.proofs.Lists.{map_twice}
 
 -- the masters of groups that are not new stay
 old_masters : (group : ℕ → ℕ) (mounts : List (Mount ℕ)) (master : ℕ → Option ℕ) (one : ℕ)

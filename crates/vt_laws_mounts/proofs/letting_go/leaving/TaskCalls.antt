@@ -1,19 +1,12 @@
 -- What calls of tasks let go of.
 use Rattle.std.proofs.Common.{arith, ◌≡◌, refl, sym, append_assoc, true≢false, ◌+◌, subst, ◌⊎◌, inl, inr, ℕ, nat_eq, true, List, [], ◌∷◌, ◌++◌}
-use Rattle.std.proofs.lemmas.Grind.{common_steps}
-use Rattle.vt_spec.proofs.Lists.{among_from_contains}
-use Rattle.vt_spec.specs.Machine.Mounts.{Location}
-use Rattle.vt_spec.specs.Machine.Descriptors.{opened, with_copy, with_descriptor, without_descriptor}
-use Rattle.vt_spec.specs.Machine.Tasks.{child_of, with_child}
-use Rattle.vt_spec.specs.Machine.Settled.{settled}
-use Rattle.vt_spec.specs.Machine.World.{Task, World, locations_of, with_task}
+use Rattle.vt_spec.proofs.Common.{Location, Task, World, among_from_contains, cases_Bool, child_of, common_steps, list_any-append, locations_of, opened, settled, with_copy, with_descriptor, with_task, without_descriptor}
+use Rattle.vt_spec.specs.Machine.Tasks.{with_child}
 use Rattle.vt_laws_mounts.specs.LettingGo.Leaving.{only_these_are_left}
 use Rattle.vt_laws_mounts.specs.LettingGo.TaskCalls.{ChangedDirectoriesLetGo, ChangedRootsLetGo, ClosesLetGo, ForksKeepAll, NewCredentialsKeepAll, NewUmasksKeepAll, OpenedFilesKeepAll, locations_closed}
 use Rattle.vt_laws_mounts.proofs.letting_go.leaving.FilesChanged.{none_left, replaced_leaves}
 use Rattle.vt_laws_mounts.proofs.letting_go.leaving.LeftWithOverlays.{leaving_overlays_lets_go, staying_keeps_overlays}
 use Rattle.vt_laws_mounts.proofs.letting_go.Lists.{Among, all_pass, among-filter, among-from_map, among-map, passes}
-use Rattle.std.proofs.lemmas.List.Folds.{list_any-append}
-use Rattle.std.proofs.lemmas.Bool.{cases_Bool}
 
 -- a descriptor is closed, or is there still
 closed_or_still : (task : Task ℕ) (number : ℕ) (location : Location ℕ) → Among location (locations_of task)

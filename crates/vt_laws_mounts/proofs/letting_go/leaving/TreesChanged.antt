@@ -1,13 +1,6 @@
 -- What goes when a plain tree changes.
 use Rattle.std.proofs.Common.{arith, ◌≡◌, refl, sym, ap, subst, ◌∙◌, ◌⊎◌, inl, inr, ⊎_elim, ℕ, nat_eq, eqb-true, eq-eqb, true, false, ◌||◌, ◌&&◌, List, [], ◌∷◌, find, map, true≢false, unwrap_or}
-use Rattle.std.proofs.lemmas.Grind.{common_steps}
-use Rattle.std.specs.List.{list_all}
-use Rattle.std.proofs.lemmas.Bool.{or_cases}
-use Rattle.vt_spec.specs.FileTree.{FileTree}
-use Rattle.vt_spec.specs.Machine.Filesystems.{with_files}
-use Rattle.vt_spec.specs.Lists.{is_among}
-use Rattle.vt_spec.specs.Machine.Settled.{filesystem_lives, is_mounted, located_in, named_in, settled, without_dead_filesystems, without_dead_mounts}
-use Rattle.vt_spec.specs.Machine.World.{Filesystem, World, filesystem_numbered, is_overlay, no_filesystem, replaced_if_numbered}
+use Rattle.vt_spec.proofs.Common.{FileTree, Filesystem, World, common_steps, filesystem_lives, filesystem_numbered, is_among, is_among_left, is_among_right, is_mounted, is_overlay, list_all, located_in, named_in, no_filesystem, or_cases, replaced_if_numbered, settled, with_files, without_dead_filesystems, without_dead_mounts}
 use Rattle.vt_laws_mounts.specs.LettingGo.InUse.{FilesystemsInUse, HasTrees, IsListedTree, is_inode_used, AllInUse}
 use Rattle.vt_laws_mounts.specs.LettingGo.Leaving.{IsSettledPlain}
 use Rattle.vt_laws_mounts.specs.LettingGo.OneByOne.{FilesystemsInUseBut, GroupsInUseBut, InodesInUseBut, IsPlain, Losers, is_inode_among, is_used_or_among, let_go}
@@ -16,7 +9,6 @@ use Rattle.vt_laws_mounts.proofs.letting_go.sweeps.InUse.{filesystems_stay, moun
 use Rattle.vt_laws_mounts.proofs.letting_go.sweeps.Inodes.{all_goes_one_by_one}
 use Rattle.vt_laws_mounts.proofs.letting_go.Lists.{Among, all_from_among, all_pass, among-from_map, among-map, among_from_all, among_numbers, any_passes, fails, is_among_numbers, none_passes, or_first, or_second, passes}
 use Rattle.vt_laws_mounts.proofs.letting_go.leaving.PlacesLeft.{no_layers, plain_uses}
-use Rattle.vt_spec.proofs.Found.{is_among_left, is_among_right}
 
 -- a filesystem that is there is found
 found_filesystem : (filesystems : List (Filesystem ℕ)) (number : ℕ)

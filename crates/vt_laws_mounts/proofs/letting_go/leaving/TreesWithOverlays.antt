@@ -1,17 +1,6 @@
 -- What goes when trees change, in worlds with overlays.
-use Rattle.std.proofs.Common.{arith, ◌≡◌, None, refl, sym, ap, subst, ◌∙◌, ◌⊎◌, inl, inr, ⊎_elim, ℕ, nat_eq, eqb-true, eq-eqb, Bool, true, false, cond, ◌||◌, ◌&&◌, List, [], ◌∷◌, map, ◌++◌, true≢false}
-use Rattle.std.proofs.lemmas.Grind.{common_steps}
-use Rattle.std.specs.List.{list_all, list_any}
-use Rattle.std.specs.Prelude.{All}
-use Rattle.std.proofs.lemmas.Bool.{or_cases}
-use Rattle.std.proofs.lemmas.List.Folds.{list_any-append}
-use Rattle.vt_spec.specs.FileTree.{FileTree}
-use Rattle.vt_spec.specs.Lists.{any_pair, is_among}
-use Rattle.vt_spec.specs.Machine.Detach.{taken_away}
-use Rattle.vt_spec.specs.Machine.Filesystems.{with_files}
-use Rattle.vt_spec.specs.Machine.Locked.{of_overlay}
-use Rattle.vt_spec.specs.Machine.Settled.{filesystem_lives, has_layer_on, layers_in, located_in, named_in, objects_of_overlay, settled, without_dead_filesystems, without_dead_mounts}
-use Rattle.vt_spec.specs.Machine.World.{Filesystem, World, filesystem_numbered, is_overlay, layers_of, replaced_if_numbered}
+use Rattle.std.proofs.Common.{arith, ◌≡◌, None, refl, sym, ap, subst, ◌∙◌, ◌⊎◌, inl, inr, ⊎_elim, ℕ, nat_eq, eqb-true, eq-eqb, Bool, true, false, cond, ◌||◌, ◌&&◌, List, [], ◌∷◌, map, ◌++◌, true≢false, All}
+use Rattle.vt_spec.proofs.Common.{FileTree, Filesystem, World, any_pair, common_steps, filesystem_lives, filesystem_numbered, has_layer_on, is_among, is_among_left, is_among_right, is_overlay, layers_in, layers_of, list_all, list_any, list_any-append, located_in, named_in, objects_of_overlay, of_overlay, or_cases, replaced_if_numbered, settled, taken_away, with_files, without_dead_filesystems, without_dead_mounts}
 use Rattle.vt_laws_mounts.specs.LettingGo.InUse.{FilesystemsInUse, HasTrees, IsListedTree, UppersArePlain, has_upper_in, is_inode_used}
 use Rattle.vt_laws_mounts.specs.LettingGo.LeavingOverlays.{IsSettled, used_with_layers}
 use Rattle.vt_laws_mounts.specs.LettingGo.Leaving.{with_tasks}
@@ -31,7 +20,6 @@ use Rattle.vt_laws_mounts.proofs.letting_go.mounting.MountingTaken
 use Rattle.vt_laws_mounts.proofs.letting_go.mounting.MountingTaken.{hands_on, loses, taken_is}
 use Rattle.vt_laws_mounts.proofs.letting_go.sweeps.OfWorlds.{found_filesystem}
 use Rattle.vt_laws_mounts.proofs.letting_go.sweeps.WithOverlays.{with_overlays_all_goes}
-use Rattle.vt_spec.proofs.Found.{is_among_left, is_among_right}
 
 -- a test of what is changed
 pub any_changed : {A : Type 0} (change : A → A) (p q : A → Bool) (list : List A)

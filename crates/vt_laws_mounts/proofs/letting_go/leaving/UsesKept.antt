@@ -1,14 +1,6 @@
 -- Changes of mounts that take no use away.
-use Rattle.std.proofs.Common.{arith, ◌≡◌, refl, sym, ap, subst, ◌∙◌, ⊎_elim, ℕ, nat_eq, eqb-true, eq-eqb, Bool, true, cond, ◌||◌, ◌&&◌, List, [], ◌∷◌, filter, map, true≢false, flat_map, ◌++◌, Option, is_some}
-use Rattle.std.proofs.lemmas.Grind.{common_steps}
-use Rattle.std.specs.Prelude.{filter_map}
-use Rattle.std.specs.List.{cons_option, list_all, list_any}
-use Rattle.vt_spec.specs.Lists.{is_among}
-use Rattle.vt_spec.specs.Machine.Mounts.{Mount, mount_in, replaced_if_same, root_of}
-use Rattle.vt_spec.specs.Language.Calls.{MountFlags}
-use Rattle.vt_spec.specs.Machine.Receives.{has_members}
-use Rattle.vt_spec.specs.Machine.Settled.{filesystem_lives, has_layer_on, is_located, is_mounted, layers_in, located_in, mount_lives, named_in, objects_of_overlay, settled}
-use Rattle.vt_spec.specs.Machine.World.{Filesystem, World, all_locations, mount_at, with_mounts}
+use Rattle.std.proofs.Common.{arith, ◌≡◌, refl, sym, ap, subst, ◌∙◌, ⊎_elim, ℕ, nat_eq, eqb-true, eq-eqb, Bool, true, cond, ◌||◌, ◌&&◌, List, [], ◌∷◌, filter, map, true≢false, flat_map, ◌++◌, Option, is_some, filter_map}
+use Rattle.vt_spec.proofs.Common.{Filesystem, Mount, MountFlags, World, all_locations, common_steps, cons_option, filesystem_lives, has_layer_on, has_members, is_among, is_located, is_mounted, layers_in, list_all, list_any, located_in, map_alike, map_twice, mount_at, mount_in, mount_lives, named_in, number-mount_in, objects_of_overlay, replaced_if_same, root_of, settled, with_mounts}
 use Rattle.vt_laws_mounts.specs.LettingGo.Detaching.{with_changed}
 use Rattle.vt_laws_mounts.specs.LettingGo.InUse.{AllInUse, GroupsInUse, is_inode_used}
 use Rattle.vt_laws_mounts.specs.LettingGo.Keeping.{FlagsAreOfOne, FlagsKeepAll, KeepsUses, SetFlagsKeepAll, TypesKeepAll, flags_if}
@@ -16,8 +8,6 @@ use Rattle.vt_laws_mounts.proofs.letting_go.leaving.Detached.{found-map, not_fou
 use Rattle.vt_laws_mounts.proofs.letting_go.sweeps.InUse.{nothing_goes}
 use Rattle.vt_laws_mounts.proofs.letting_go.Lists.{Among, all_from_among, all_pass, among-from_map, among_from_all, any-map, passes}
 use Rattle.vt_laws_mounts.proofs.letting_go.leaving.PlacesLeft.{found_itself}
-use Rattle.vt_spec.proofs.Worlds.{number-mount_in}
-use Rattle.vt_spec.proofs.Lists.{map_alike, map_twice}
 
 module _ (world : World ℕ) (change : Mount ℕ → Mount ℕ) (master : ℕ → Option ℕ) (keeps : KeepsUses change) where
   abbrev after : World ℕ

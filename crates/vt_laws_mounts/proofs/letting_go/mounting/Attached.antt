@@ -1,25 +1,12 @@
 -- What mounts are after a tree of mounts is attached, and what they used.
-use Rattle.std.proofs.Common.{arith, ◌≡◌, refl, sym, ap, subst, ◌∙◌, ◌⊎◌, inl, inr, ⊎_elim, ℕ, nat_eq, append_assoc, eqb-true, eq-eqb, Bool, true, false, cond, ◌||◌, ◌&&◌, List, [], ◌∷◌, find, map, true≢false, flat_map, ◌++◌, Option, Some, None, is_some, option_map, option_to_list, unwrap_or}
-use Rattle.std.proofs.lemmas.Grind.{common_steps}
-use Rattle.std.specs.Prelude.{filter_map}
-use Rattle.std.specs.List.{list_all, list_any}
-use Rattle.std.proofs.lemmas.Bool.{false_from_ne_true}
-use Rattle.vt_spec.specs.Lists.{folded, holds_of, is_among, rest_of}
-use Rattle.vt_spec.specs.Machine.Attach.{Copies, Graft, Twig, added_mounts, all_groups_made, attached_by, copies_at, copy_at, graft_of, group_made, is_destination, masters_with, parts_of, mount_point_on_copy, pushed_onto, pushed_up, receiver_stood_on, receivers_of, takes_part, twig_of, with_moved_mounts}
-use Rattle.vt_spec.specs.Machine.Mounts.{Location, Mount, group_of, mount_in, no_mount, replaced_if_same, stands_at, with_mount}
-use Rattle.vt_spec.specs.Machine.Receives.{is_member_of}
-use Rattle.vt_spec.specs.Machine.Settled.{mount_lives}
-use Rattle.vt_spec.specs.Machine.World.{Filesystem, World, mount_at}
-use Rattle.vt_spec.specs.Machine.Invariants.{is_nowhere_or_attached}
+use Rattle.std.proofs.Common.{arith, ◌≡◌, refl, sym, ap, subst, ◌∙◌, ◌⊎◌, inl, inr, ⊎_elim, ℕ, nat_eq, append_assoc, eqb-true, eq-eqb, Bool, true, false, cond, ◌||◌, ◌&&◌, List, [], ◌∷◌, find, map, true≢false, flat_map, ◌++◌, Option, Some, None, is_some, option_map, option_to_list, unwrap_or, filter_map, map-id}
+use Rattle.vt_spec.proofs.Common.{Copies, Filesystem, Graft, Location, Mount, Twig, World, added_mounts, all_groups_made, attached_by, common_steps, copies_at, copy_at, false_from_ne_true, folded, graft_of, group_made, group_of, holds_of, is_among, is_destination, is_member_of, is_nowhere_or_attached, list_all, list_any, map_twice, masters_with, mount_at, mount_in, mount_lives, mount_point_on_copy, no_mount, number-mount_in, parts_of, pushed_onto, pushed_up, receiver_stood_on, receivers_of, replaced_if_same, rest_of, same_location_is, stands_at, takes_part, twig_of, with_mount, with_moved_mounts}
 use Rattle.vt_laws_mounts.specs.LettingGo.InUse.{AllInUse, GroupsInUse}
 use Rattle.vt_laws_mounts.specs.LettingGo.Keeping.{LocationsStand}
 use Rattle.vt_laws_mounts.specs.LettingGo.Leaving.{MountsStand}
 use Rattle.vt_laws_mounts.proofs.letting_go.Lists.{Among, all_pass, among-append, among-append_left, among-append_right, among-flat_map, among-from_filter, among-from_filter_map, among-from_flat_map, among-from_map, among-map, any_passes, found_in, none_passes, or_first, passes}
 use Rattle.vt_laws_mounts.proofs.letting_go.mounting.MountingLosers.{Loses, StillAPlace, places_of, places_stand}
 use Rattle.vt_laws_mounts.proofs.letting_go.leaving.PlacesLeft.{found_itself, nowhere_parts}
-use Rattle.vt_spec.proofs.Worlds.{number-mount_in, same_location_is}
-use Rattle.std.proofs.lemmas.List.{map-id}
-use Rattle.vt_spec.proofs.Lists.{map_twice}
 
 -- Mounts that are replaced by those of their numbers
 abbrev pub swapped : List (Mount ℕ) → Mount ℕ → Mount ℕ

@@ -1,13 +1,6 @@
 -- What goes when mounts are attached.
-use Rattle.std.proofs.Common.{◌≡◌, refl, sym, ap, subst, inl, inr, ⊎_elim, ℕ, nat_eq, eq-eqb, true, false, List, [], ◌∷◌, filter, flat_map, length, suc, zero, true≢false, ◌++◌, ◌&&◌, option_to_list}
-use Rattle.std.specs.Prelude.{All, Contains}
-use Rattle.vt_spec.specs.Lists.{evens, odds}
-use Rattle.vt_spec.specs.Machine.Attach.{Copies, attach, attached_by, bind_tree, bindable_tree, bound, copies_from, parts_of, stands_under, bindable_children}
-use Rattle.vt_spec.specs.Machine.Mounts.{Location, Mount, children, tree_from}
-use Rattle.vt_spec.specs.Machine.Settled.{mount_lives, settled}
-use Rattle.vt_spec.specs.Machine.World.{Filesystem, World, mount_numbered}
-use Rattle.vt_spec.specs.Machine.NewMounts.{new_mount, plain_filesystem, with_new_filesystem}
-use Rattle.vt_spec.proofs.Lists.{among_from_contains, contains_from_among}
+use Rattle.std.proofs.Common.{◌≡◌, refl, sym, ap, subst, inl, inr, ⊎_elim, ℕ, nat_eq, eq-eqb, true, false, List, [], ◌∷◌, filter, flat_map, length, suc, zero, true≢false, ◌++◌, ◌&&◌, option_to_list, All, Contains}
+use Rattle.vt_spec.proofs.Common.{Copies, Filesystem, Location, Mount, World, among_from_contains, attach, attached_by, bind_tree, bindable_children, bindable_tree, bound, children, contains_from_among, copies_from, evens, mount_lives, mount_numbered, new_mount, odds, parts_of, plain_filesystem, settled, stands_under, tree_among, tree_from, with_new_filesystem}
 use Rattle.vt_laws_mounts.specs.LettingGo.Attaching.{BindsKeepAll, CopiesKeepAll, MovedTreesLetGo, MovesLetGo, NewFilesystemsKeepAll, NewMountsOfTreesKeepAll, inodes_of_mount_point, is_attached}
 use Rattle.vt_laws_mounts.specs.LettingGo.Keeping.{LocationsStand}
 use Rattle.vt_laws_mounts.specs.LettingGo.Leaving.{MountsStand}
@@ -18,7 +11,6 @@ use Rattle.vt_laws_mounts.proofs.letting_go.Lists.{Among, all_from_among, among-
 use Rattle.vt_laws_mounts.proofs.letting_go.mounting.MountingLosers.{Comes, IsNew, losers_go}
 use Rattle.vt_laws_mounts.proofs.letting_go.mounting.MountingOverlays.{nothing_lost}
 use Rattle.vt_laws_mounts.proofs.letting_go.leaving.PlacesLeft.{found_is_there}
-use Rattle.vt_spec.proofs.Worlds.{tree_among}
 
 -- the mounts of the tree of a mount in a namespace are those of the world
 pub of_tree : (world : World ℕ) (number : ℕ) → is_attached world number ≡ true → (depth : ℕ) (mount : Mount ℕ)

@@ -1,20 +1,6 @@
 -- Unmount events in a world that was swept before, or that was not.
-use Rattle.std.proofs.lemmas.Grind.{common_steps}
 use Rattle.std.proofs.Common.{◌≡◌, refl, sym, ap, subst, ◌∙◌, ⊎_elim, ℕ, nat_eq, Bool, true, false, true≢false, cond, List, [], ◌∷◌, filter, find, Option, Some, None, is_some, arith}
-use Rattle.std.proofs.lemmas.Bool.{cases_Bool, or_parts}
-use Rattle.std.proofs.lemmas.List.{length-map}
-use Rattle.vt_spec.specs.Lists.{holds_of, is_among}
-use Rattle.vt_spec.specs.Machine.Attach.{receivers_of}
-use Rattle.vt_spec.specs.Machine.Detach.{going, going_at, going_from, goes_at, taken_away, unmounted, unmounted_if_there}
-use Rattle.vt_spec.specs.Machine.Invariants.{HasLivingGroups, MountInvariants, is_nowhere_or_attached, is_private}
-use Rattle.vt_spec.specs.Machine.Mounts.{Location, Mount, Propagation, child_at, children, mount_in, source_of, stands_at, stands_on}
-use Rattle.vt_spec.specs.Machine.Mounts.Propagation.{Private, Shared, Slave, Unbindable}
-use Rattle.vt_spec.specs.Machine.Receives.{groups_up, receivers, receives}
-use Rattle.vt_spec.specs.Machine.Settled.{is_located, mount_lives, settled}
-use Rattle.vt_spec.specs.Machine.World.{World, mount_numbered}
-use Rattle.vt_spec.proofs.Found.{filter_alike}
-use Rattle.vt_spec.proofs.Options.{none_from_not_some}
-use Rattle.vt_spec.proofs.Worlds.{filesystems-taken_away, found_or_none, number-mount_in}
+use Rattle.vt_spec.proofs.Common.{HasLivingGroups, Location, Mount, MountInvariants, Private, Propagation, Shared, Slave, Unbindable, World, cases_Bool, child_at, children, common_steps, filesystems-taken_away, filter_alike, found_or_none, goes_at, going, going_at, going_from, groups_up, holds_of, is_among, is_located, is_nowhere_or_attached, is_private, length-map, mount_in, mount_lives, mount_numbered, none_from_not_some, number-mount_in, or_parts, receivers, receivers_of, receives, settled, source_of, stands_at, stands_on, taken_away, unmounted, unmounted_if_there}
 use Rattle.vt_laws_mounts.specs.LettingGo.Leaving.{MountsStand}
 use Rattle.vt_laws_mounts.specs.LettingGo.Several.{GoingIsNotSwept, OneSweepForAllEvents, OneSweepForAllEventsWithOverlays, OneSweepForEvents, OneSweepForEventsWithOverlays}
 use Rattle.vt_laws_mounts.proofs.letting_go.Chains.{chains_alike}

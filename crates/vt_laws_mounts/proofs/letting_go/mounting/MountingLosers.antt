@@ -1,15 +1,6 @@
 -- Which things may have lost a use after a change of mounts and tasks.
-use Rattle.std.proofs.Common.{arith, ◌≡◌, refl, sym, ap, subst, ◌∙◌, ◌⊎◌, inl, inr, ⊎_elim, ℕ, nat_eq, eqb-true, eq-eqb, Bool, true, false, ◌||◌, ◌&&◌, List, filter, map, true≢false, flat_map, ◌++◌, Option, Some, is_some}
-use Rattle.std.proofs.lemmas.Grind.{common_steps}
-use Rattle.std.specs.Prelude.{filter_map}
-use Rattle.std.specs.List.{list_all}
-use Rattle.std.proofs.lemmas.Bool.{or_cases, or_parts, cases_Bool}
-use Rattle.vt_spec.specs.Lists.{is_among}
-use Rattle.vt_spec.specs.Machine.Mounts.{Location, Mount, mount_in, root_of}
-use Rattle.vt_spec.specs.Machine.Receives.{is_member_of}
-use Rattle.vt_spec.specs.Machine.Settled.{filesystem_lives, is_located, is_mounted, layers_in, located_in, mount_lives, named_in, objects_of_overlay, settled, without_dead_filesystems, without_dead_mounts}
-use Rattle.vt_spec.specs.Machine.World.{Filesystem, Namespace, Task, World, all_locations, mount_at, mount_numbered}
-use Rattle.vt_spec.specs.Machine.Invariants.{is_nowhere_or_attached}
+use Rattle.std.proofs.Common.{arith, ◌≡◌, refl, sym, ap, subst, ◌∙◌, ◌⊎◌, inl, inr, ⊎_elim, ℕ, nat_eq, eqb-true, eq-eqb, Bool, true, false, ◌||◌, ◌&&◌, List, filter, map, true≢false, flat_map, ◌++◌, Option, Some, is_some, filter_map}
+use Rattle.vt_spec.proofs.Common.{Filesystem, Location, Mount, Namespace, Task, World, all_locations, cases_Bool, common_steps, filesystem_lives, is_among, is_among_left, is_located, is_member_of, is_mounted, is_nowhere_or_attached, layers_in, list_all, located_in, mount_at, mount_in, mount_lives, mount_numbered, named_in, number-mount_in, objects_of_overlay, or_cases, or_parts, root_of, settled, without_dead_filesystems, without_dead_mounts}
 use Rattle.vt_laws_mounts.specs.LettingGo.InUse.{AllInUse, is_inode_used}
 use Rattle.vt_laws_mounts.specs.LettingGo.Keeping.{LocationsStand, has_only_named}
 use Rattle.vt_laws_mounts.specs.LettingGo.Leaving.{IsSettledPlain, MountsStand}
@@ -19,8 +10,6 @@ use Rattle.vt_laws_mounts.proofs.letting_go.sweeps.Inodes.{all_goes_one_by_one}
 use Rattle.vt_laws_mounts.proofs.letting_go.sweeps.InUse.{used_at}
 use Rattle.vt_laws_mounts.proofs.letting_go.Lists.{Among, all_from_among, all_pass, among-append, among-append_left, among-append_right, among-filter, among-filter_map, among-from_filter, among-from_filter_map, among-from_map, among-map, among_from_all, among_numbers, any-filter, any_passes, is_among_numbers, one_passes, or_first, or_second, passes}
 use Rattle.vt_laws_mounts.proofs.letting_go.leaving.PlacesLeft.{found_in_filter, found_is_there, found_itself, no_layers, nowhere_parts, plain_uses, private_is_no_member, place_attached}
-use Rattle.vt_spec.proofs.Found.{is_among_left}
-use Rattle.vt_spec.proofs.Worlds.{number-mount_in}
 
 -- the roots, working directories and descriptors, the roots of mounts and the places of a world
 abbrev pub places_of : World ℕ → List (Location ℕ)

@@ -1,13 +1,6 @@
 -- What goes when mounts get other places.
 use Rattle.std.proofs.Common.{◌≡◌, refl, sym, ap, subst, ◌∙◌, inl, inr, ⊎_elim, ℕ, nat_eq, eqb-true, eq-eqb, true, false, true≢false, List, [], ◌∷◌, filter, map, Option, Some, is_some, option_to_list, ◌||◌}
-use Rattle.std.proofs.lemmas.Bool.{false_from_ne_true, or_parts, cases_Bool}
-use Rattle.std.specs.List.{list_all}
-use Rattle.vt_spec.specs.Lists.{any_pair, holds_of, is_among}
-use Rattle.vt_spec.specs.Machine.Detach.{has_child}
-use Rattle.vt_spec.specs.Machine.Mounts.{Location, Mount, mount_in, stands_on}
-use Rattle.vt_spec.specs.Machine.Settled.{is_located, mount_lives}
-use Rattle.vt_spec.specs.Machine.World.{World, mount_numbered}
-use Rattle.vt_spec.specs.Machine.Invariants.{is_nowhere_or_attached}
+use Rattle.vt_spec.proofs.Common.{Location, Mount, World, any_pair, cases_Bool, false_from_ne_true, has_child, holds_of, is_among, is_located, is_nowhere_or_attached, list_all, mount_in, mount_lives, mount_numbered, or_parts, stands_on}
 use Rattle.vt_laws_mounts.specs.LettingGo.Detaching.{DetachingLetsGo, MovesOne, with_changed}
 use Rattle.vt_laws_mounts.specs.LettingGo.InUse.{AllInUse}
 use Rattle.vt_laws_mounts.specs.LettingGo.Mounting.{MovesSome, MovingLetsGo, places_moved}

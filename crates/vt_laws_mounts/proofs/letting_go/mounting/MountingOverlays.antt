@@ -1,12 +1,6 @@
 -- What goes after a change of mounts in worlds with overlays.
 use Rattle.std.proofs.Common.{not, refl, ◌≡◌, sym, ap, subst, ◌∙◌, inl, inr, ⊎_elim, ℕ, nat_eq, true, ◌||◌, ◌&&◌, List, [], ◌∷◌, flat_map, ◌++◌, Option}
-use Rattle.std.specs.List.{list_all}
-use Rattle.std.proofs.lemmas.Bool.{and_parts, or_cases}
-use Rattle.std.proofs.lemmas.List.Folds.{list_any-append}
-use Rattle.vt_spec.specs.Lists.{is_among}
-use Rattle.vt_spec.specs.Machine.Mounts.{Location, Mount}
-use Rattle.vt_spec.specs.Machine.Settled.{filesystem_lives, has_layer_on, is_mounted, layers_in, located_in, named_in, objects_of_overlay, settled, without_dead_filesystems, without_dead_groups, without_dead_in, without_dead_inodes, without_dead_mounts}
-use Rattle.vt_spec.specs.Machine.World.{Filesystem, Namespace, Task, World, is_overlay, mount_numbered}
+use Rattle.vt_spec.proofs.Common.{Filesystem, Location, Mount, Namespace, Task, World, and_parts, filesystem_lives, has_layer_on, is_among, is_among_left, is_among_right, is_mounted, is_overlay, layers_in, list_all, list_any-append, located_in, mount_numbered, named_in, objects_of_overlay, or_cases, settled, without_dead_filesystems, without_dead_groups, without_dead_in, without_dead_inodes, without_dead_mounts}
 use Rattle.vt_laws_mounts.specs.LettingGo.InUse.{AllInUse, GroupsInUse, InodesInUse, is_inode_used}
 use Rattle.vt_laws_mounts.specs.LettingGo.Leaving.{MountsStand}
 use Rattle.vt_laws_mounts.specs.LettingGo.LeavingOverlays.{IsSettled}
@@ -20,7 +14,6 @@ use Rattle.vt_laws_mounts.proofs.letting_go.Lists.{Among, all_from_among, all_pa
 use Rattle.vt_laws_mounts.proofs.letting_go.mounting.MountingLosers.{Comes, Loses, by_a_name, by_located, changed, changed_with, groups_but, inodes, mounts_but, shown_is_mounted, still_mounted}
 use Rattle.vt_laws_mounts.proofs.letting_go.sweeps.OverlaysGone.{filesystems_take_their_uses}
 use Rattle.vt_laws_mounts.proofs.letting_go.sweeps.WithOverlays.{with_overlays_all_goes}
-use Rattle.vt_spec.proofs.Found.{is_among_left, is_among_right}
 
 module _ (world : World ℕ) (mounts : List (Mount ℕ)) (master : ℕ → Option ℕ) (filesystems : List (Filesystem ℕ))
     (namespaces : List (Namespace ℕ)) (tasks : List (Task ℕ)) (gone : List ℕ) (left : List (Location ℕ))

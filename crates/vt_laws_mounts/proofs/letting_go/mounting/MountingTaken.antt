@@ -1,17 +1,6 @@
 -- What goes when mounts are taken away.
 use Rattle.std.proofs.Common.{arith, ◌≡◌, refl, sym, ap, subst, ◌∙◌, inl, inr, ⊎_elim, ℕ, nat_eq, Bool, true, false, cond, ◌||◌, List, filter, map, Option, Some, is_some, option_map, true≢false}
-use Rattle.std.proofs.lemmas.Grind.{common_steps}
-use Rattle.std.specs.List.{list_any}
-use Rattle.std.proofs.lemmas.Bool.{or_parts, cases_Bool}
-use Rattle.vt_spec.specs.Machine.Detach.{after_going, is_going, mount_point_left, taken_away}
-use Rattle.vt_spec.specs.Lists.{holds_of, is_among}
-use Rattle.vt_spec.specs.Machine.Mounts.{Location, Mount, Propagation, detached, mount_in, root_of}
-use Rattle.vt_spec.specs.Machine.Mounts.Propagation.{Private, Shared, Slave, Unbindable}
-use Rattle.vt_spec.specs.Machine.Namespaces.{has_tasks}
-use Rattle.vt_spec.specs.Machine.Receives.{heir, inherited, inheriting, lost_a_group, regrouped_by}
-use Rattle.vt_spec.specs.Machine.Settled.{is_located, mount_lives, settled}
-use Rattle.vt_spec.specs.Machine.World.{Namespace, World, with_mounts}
-use Rattle.vt_spec.specs.Machine.Invariants.{is_nowhere_or_attached, is_private}
+use Rattle.vt_spec.proofs.Common.{Location, Mount, Namespace, Private, Propagation, Shared, Slave, Unbindable, World, after_going, cases_Bool, common_steps, detached, has_tasks, heir, holds_of, inherited, inheriting, is_among, is_going, is_located, is_nowhere_or_attached, is_private, list_any, lost_a_group, map_twice, mount_in, mount_lives, mount_point_left, or_parts, regrouped_by, root_of, settled, taken_away, with_mounts}
 use Rattle.vt_laws_mounts.specs.LettingGo.InUse.{AllInUse}
 use Rattle.vt_laws_mounts.specs.LettingGo.Leaving.{IsSettledPlain, MountsStand}
 use Rattle.vt_laws_mounts.specs.LettingGo.Mounting.{EndingLetsGo, TakingAwayLetsGo, ended_mounts, loses_its_place, places_lost, used_by_mounts}
@@ -20,7 +9,6 @@ use Rattle.vt_laws_mounts.proofs.letting_go.leaving.Detached.{found-map, not_fou
 use Rattle.vt_laws_mounts.proofs.letting_go.Lists.{all_pass, among-filter, among-filter_map, among-from_map, among-map, passes}
 use Rattle.vt_laws_mounts.proofs.letting_go.mounting.MountingLosers.{Loses, changed, losers_go}
 use Rattle.vt_laws_mounts.proofs.letting_go.leaving.PlacesLeft.{nowhere_parts}
-use Rattle.vt_spec.proofs.Lists.{map_twice}
 
 module _ (world : World ℕ) (gone : List ℕ) (namespaces : List (Namespace ℕ)) where
   abbrev pub without : World ℕ

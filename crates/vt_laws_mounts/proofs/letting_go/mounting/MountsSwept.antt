@@ -1,24 +1,11 @@
 -- What the sweep leaves of mounts: those in namespaces stay, with all their groups, and those outside are private.
-use Rattle.std.proofs.lemmas.Grind.{common_steps}
-use Rattle.std.proofs.Common.{◌≡◌, refl, sym, ap, subst, ◌∙◌, ℕ, nat_eq, true, false, cond, not, ◌&&◌, List, ◌≤◌, filter, length, map, true≢false, Option, Some, None, is_some, unwrap_or, arith}
-use Rattle.std.specs.Prelude.{option_to_list}
-use Rattle.std.specs.List.{list_all}
-use Rattle.std.proofs.lemmas.Bool.{or_parts}
-use Rattle.std.proofs.lemmas.List.Filters.{length-filter_both}
-use Rattle.std.proofs.lemmas.Option.{same_Some}
-use Rattle.vt_spec.specs.Machine.Invariants.{Lives, MountInvariants, Stands, is_nowhere_or_attached, is_private}
-use Rattle.vt_spec.specs.Machine.Invariants.Lives.{has_master, has_no_master}
-use Rattle.vt_spec.specs.Machine.Invariants.Stands.{at_root, on_parent}
-use Rattle.vt_spec.specs.Machine.Mounts.{Location, Mount, group_of, mount_in}
-use Rattle.vt_spec.specs.Machine.Receives.{has_members, is_member_of}
-use Rattle.vt_spec.specs.Machine.Settled.{is_located, mount_lives, settled}
-use Rattle.vt_spec.specs.Machine.World.{World, mount_at, mount_numbered}
+use Rattle.std.proofs.Common.{◌≡◌, refl, sym, ap, subst, ◌∙◌, ℕ, nat_eq, true, false, cond, not, ◌&&◌, List, ◌≤◌, filter, length, map, true≢false, Option, Some, None, is_some, unwrap_or, arith, option_to_list}
+use Rattle.vt_spec.proofs.Common.{Lives, Location, Mount, MountInvariants, Stands, World, at_root, common_steps, group_of, has_master, has_members, has_no_master, is_located, is_member_of, is_nowhere_or_attached, is_private, length-filter_both, list_all, mount_at, mount_in, mount_lives, mount_numbered, number-mount_in, on_parent, or_parts, same_Some, settled}
 use Rattle.vt_laws_mounts.specs.LettingGo.Leaving.{MountsStand, stands_on_attached}
 use Rattle.vt_laws_mounts.proofs.letting_go.Chains.{Way}
 use Rattle.vt_laws_mounts.proofs.letting_go.Chains.Way.{ends, goes_on}
 use Rattle.vt_laws_mounts.proofs.letting_go.Lists.{Among, all_pass, among-filter, among-from_filter, among-map, among_from_all, any-filter, one_passes, or_first, passes, held_number}
 use Rattle.vt_laws_mounts.proofs.letting_go.leaving.PlacesLeft.{found_in_filter, found_is_there, found_itself, nowhere_parts, placed_is_attached, private_is_no_member}
-use Rattle.vt_spec.proofs.Worlds.{number-mount_in}
 
 -- By their invariants mounts stand, each on one of its namespace.
 module _ (world : World ℕ) (kept : MountInvariants nat_eq world) where

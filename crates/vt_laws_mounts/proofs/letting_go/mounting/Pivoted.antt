@@ -1,13 +1,6 @@
 -- What goes after pivot_root.
 use Rattle.std.proofs.Common.{arith, ◌≡◌, refl, sym, ap, ◌∙◌, ◌⊎◌, inl, inr, ⊎_elim, ℕ, nat_eq, eqb-true, eq-eqb, true, cond, ◌||◌, [], Option, Some, is_some, option_to_list}
-use Rattle.std.proofs.lemmas.Grind.{common_steps}
-use Rattle.std.proofs.lemmas.Bool.{or_cases}
-use Rattle.vt_spec.specs.Machine.Mounts.{Location, Mount, mount_in, root_of}
-use Rattle.vt_spec.specs.Machine.Namespaces.{pivoted, pivoted_location, pivoted_mount, pivoted_task}
-use Rattle.vt_spec.specs.Machine.Receives.{is_member_of}
-use Rattle.vt_spec.specs.Machine.Settled.{is_located, mount_lives}
-use Rattle.vt_spec.specs.Machine.World.{Task, World, all_locations, locations_of, mount_numbered}
-use Rattle.vt_spec.specs.Machine.Invariants.{is_nowhere_or_attached}
+use Rattle.vt_spec.proofs.Common.{Location, Mount, Task, World, all_locations, common_steps, is_located, is_member_of, is_nowhere_or_attached, locations_of, mount_in, mount_lives, mount_numbered, or_cases, pivoted, pivoted_location, pivoted_mount, pivoted_task, root_of, same_location_is}
 use Rattle.vt_laws_mounts.specs.LettingGo.Attaching.{is_attached}
 use Rattle.vt_laws_mounts.specs.LettingGo.InUse.{AllInUse, GroupsInUse}
 use Rattle.vt_laws_mounts.specs.LettingGo.Leaving.{MountsStand}
@@ -16,7 +9,6 @@ use Rattle.vt_laws_mounts.proofs.letting_go.leaving.Detached.{found-map, not_fou
 use Rattle.vt_laws_mounts.proofs.letting_go.Lists.{Among, all_pass, among-flat_map, among-from_flat_map, among-from_map, among-map, any-map, any_passes, one_passes, or_first, or_second, passes}
 use Rattle.vt_laws_mounts.proofs.letting_go.mounting.MountingLosers.{Loses, StillALocation, StillAPlace, losers_go}
 use Rattle.vt_laws_mounts.proofs.letting_go.leaving.PlacesLeft.{found_is_there, found_itself}
-use Rattle.vt_spec.proofs.Worlds.{same_location_is}
 
 module _ (world : World ℕ) (namespace old new : ℕ) (put : Location ℕ) (in_use : AllInUse world)
     (stand : MountsStand world)

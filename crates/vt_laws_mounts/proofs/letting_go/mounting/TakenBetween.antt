@@ -1,21 +1,7 @@
 -- Mounts are taken away from a world that was swept before, or that was not: after the sweep that follows the two
 -- worlds are one.
-use Rattle.std.proofs.lemmas.Grind.{common_steps}
-use Rattle.std.proofs.Common.{◌≡◌, refl, sym, ap, subst, ◌∙◌, ⊎_elim, ℕ, zero, suc, nat_eq, eqb-true, eq-eqb, Bool, true, false, cond, not, ◌||◌, List, ◌++◌, filter, length, map, true≢false, Option, Some, None, is_some, option_map, arith}
-use Rattle.std.specs.Prelude.{filter_map}
-use Rattle.std.specs.List.{list_any}
-use Rattle.std.proofs.lemmas.Bool.{or_cases}
-use Rattle.std.proofs.lemmas.List.{length-map}
-use Rattle.vt_spec.specs.Lists.{chain, last_or, then_some}
-use Rattle.vt_spec.specs.Machine.Detach.{after_going, is_going, mount_point_left, mount_point_of_parent, taken_away}
-use Rattle.vt_spec.specs.Machine.Invariants.{HasLivingGroups, MountInvariants, Stands, is_nowhere_or_attached, is_private}
-use Rattle.vt_spec.specs.Machine.Invariants.Lives.{has_master, has_no_master}
-use Rattle.vt_spec.specs.Machine.Invariants.Stands.{at_root, on_parent}
-use Rattle.vt_spec.specs.Machine.Mounts.{Location, Mount, Propagation, detached, mount_in, root_of, source_of}
-use Rattle.vt_spec.specs.Machine.Mounts.Propagation.{Private, Shared, Slave, Unbindable}
-use Rattle.vt_spec.specs.Machine.Receives.{has_members, heir, inherited, inheriting, is_lost_group, is_member_of, lost_a_group, slave_of_heir}
-use Rattle.vt_spec.specs.Machine.Settled.{is_located, is_mounted, located_in, mount_lives, settled, without_dead_mounts}
-use Rattle.vt_spec.specs.Machine.World.{Namespace, Task, World, all_locations}
+use Rattle.std.proofs.Common.{◌≡◌, refl, sym, ap, subst, ◌∙◌, ⊎_elim, ℕ, zero, suc, nat_eq, eqb-true, eq-eqb, Bool, true, false, cond, not, ◌||◌, List, ◌++◌, filter, length, map, true≢false, Option, Some, None, is_some, option_map, arith, filter_map}
+use Rattle.vt_spec.proofs.Common.{HasLivingGroups, Location, Mount, MountInvariants, Namespace, Private, Propagation, Shared, Slave, Stands, Task, Unbindable, World, after_going, all_locations, at_root, chain, chain_ends, chain_goes_on, common_steps, cond-None, detached, has_master, has_members, has_no_master, heir, inherited, inheriting, is_going, is_located, is_lost_group, is_member_of, is_mounted, is_nowhere_or_attached, is_private, last_of_chain, last_or, length-map, list_any, located_in, lost_a_group, map_alike, mount_in, mount_lives, mount_point_left, mount_point_of_parent, on_parent, or_cases, root_of, settled, slave_of_heir, source_of, taken_away, then_some, without_dead_mounts}
 use Rattle.vt_laws_mounts.specs.LettingGo.InUse.{HasTrees, UppersArePlain}
 use Rattle.vt_laws_mounts.specs.LettingGo.Leaving.{MountsStand, comes_nowhere, with_tasks}
 use Rattle.vt_laws_mounts.specs.LettingGo.Overlays.{RealsAreThere}
@@ -30,8 +16,7 @@ use Rattle.vt_laws_mounts.proofs.letting_go.mounting.MountingTaken.{is_changed, 
 use Rattle.vt_laws_mounts.proofs.letting_go.mounting.MountsSwept
 use Rattle.vt_laws_mounts.proofs.letting_go.mounting.MountsSwept.{attached_lives, master_kept, master_of, mounts_stand, number_there, of_world, same_found, shorter, standing_at, unused_private, way_up}
 use Rattle.vt_laws_mounts.proofs.letting_go.mounting.Unmounted.{does_not_go}
-use Rattle.vt_spec.proofs.Lists.{chain_ends, chain_goes_on, find_agrees, last_of_chain, map_alike}
-use Rattle.vt_spec.proofs.Options.{cond-None}
+use Rattle.vt_spec.proofs.Lists.{find_agrees}
 
 module _ (world : World ℕ) (tasks : List (Task ℕ)) (namespaces : List (Namespace ℕ)) (gone : List ℕ)
     (kept : MountInvariants nat_eq world) (nowhere_new : comes_nowhere world tasks ≡ true) where

@@ -1,11 +1,6 @@
 -- Mounts are taken away one after the other: a sweep after each, or one sweep at the end.
 use Rattle.std.proofs.Common.{◌≡◌, refl, ap, subst, sym, ◌∙◌, nat_eq, ℕ, List, [], ◌∷◌}
-use Rattle.vt_spec.specs.Lists.{folded}
-use Rattle.vt_spec.specs.Machine.Detach.{taken_away}
-use Rattle.vt_spec.specs.Machine.Invariants.{MountInvariants}
-use Rattle.vt_spec.specs.Machine.Settled.{settled}
-use Rattle.vt_spec.specs.Machine.World.{World}
-use Rattle.vt_spec.proofs.Worlds.{filesystems-taken_away}
+use Rattle.vt_spec.proofs.Common.{MountInvariants, World, filesystems-taken_away, folded, settled, taken_away}
 use Rattle.vt_laws_mounts.specs.LettingGo.InUse.{HasTrees, UppersArePlain}
 use Rattle.vt_laws_mounts.specs.LettingGo.Leaving.{MountsStand, with_sweeps}
 use Rattle.vt_laws_mounts.specs.LettingGo.Overlays.{RealsAreThere}

@@ -1,15 +1,6 @@
 -- What goes after unmounts, one or several after one another.
 use Rattle.std.proofs.Common.{arith, ◌≡◌, refl, sym, ap, subst, ◌∙◌, ◌⊎◌, inl, inr, ⊎_elim, ℕ, nat_eq, Bool, true, false, cond, not, ◌&&◌, List, [], ◌∷◌, filter, map, true≢false, Option, Some, None, is_some}
-use Rattle.std.proofs.lemmas.Grind.{common_steps}
-use Rattle.std.specs.List.{list_any}
-use Rattle.std.proofs.lemmas.Bool.{false_from_ne_true, or_cases, cases_Bool, or_parts}
-use Rattle.vt_spec.specs.Lists.{folded, holds_of, is_among}
-use Rattle.vt_spec.specs.Machine.Detach.{deepest_first, going, is_going, lazily_unmounted, mounts_on, taken_away, unmounted, unmounted_if_there}
-use Rattle.vt_spec.specs.Machine.Mounts.{Location, Mount, group_of, mount_in, mount_tree, root_of}
-use Rattle.vt_spec.specs.Machine.Receives.{has_members, heir, is_member_of, lost_a_group, regrouped_by}
-use Rattle.vt_spec.specs.Machine.Settled.{is_located, mount_lives, settled}
-use Rattle.vt_spec.specs.Machine.World.{World, mount_at, mount_numbered}
-use Rattle.vt_spec.specs.Machine.Invariants.{is_nowhere_or_attached}
+use Rattle.vt_spec.proofs.Common.{Location, Mount, World, cases_Bool, common_steps, deepest_first, false_from_ne_true, folded, going, group_of, has_members, heir, holds_of, is_among, is_going, is_located, is_member_of, is_nowhere_or_attached, lazily_unmounted, list_any, lost_a_group, map_twice, mount_at, mount_in, mount_lives, mount_numbered, mount_tree, mounts_on, number-mount_in, or_cases, or_parts, regrouped_by, root_of, settled, taken_away, unmounted, unmounted_if_there}
 use Rattle.vt_laws_mounts.specs.LettingGo.InUse.{AllInUse, GroupsInUse}
 use Rattle.vt_laws_mounts.specs.LettingGo.Unmounting.{LazyUnmountsLetGo, MountsOnDirectoriesLetGo, TreesLetGo, UnmountsLetGo, detached_between, groups_of_mounts, is_detached_in, numbers_of_trees, used_by_gone}
 use Rattle.vt_laws_mounts.specs.LettingGo.Leaving.{IsSettledPlain, MountsStand}
@@ -21,8 +12,6 @@ use Rattle.vt_laws_mounts.proofs.letting_go.mounting.MountingLosers.{Loses, Stil
 use Rattle.vt_laws_mounts.proofs.letting_go.mounting.MountingTaken.{is_changed, nowhere_after, same_filesystem, same_namespace, same_namespaces, same_number, same_place, same_root, stays, taking_away_lets_go}
 use Rattle.vt_laws_mounts.proofs.letting_go.mounting.MountingTaken
 use Rattle.vt_laws_mounts.proofs.letting_go.leaving.PlacesLeft.{found_is_there, found_itself, nowhere_parts, placed_is_attached, private_is_no_member, place_attached}
-use Rattle.vt_spec.proofs.Worlds.{number-mount_in}
-use Rattle.vt_spec.proofs.Lists.{map_twice}
 
 -- Where the other mounts stay in their groups, a group that is none of those of the mounts that went and has no members
 -- had none, and no master

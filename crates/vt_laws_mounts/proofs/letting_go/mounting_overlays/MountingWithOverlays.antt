@@ -1,15 +1,6 @@
 -- What goes after each change of mounts in worlds with overlays.
-use Rattle.std.proofs.Common.{arith, ◌≡◌, sym, ap, subst, ◌∙◌, ℕ, nat_eq, Bool, true, List, [], ◌∷◌, filter, flat_map, length, map, suc, zero, option_to_list}
-use Rattle.std.proofs.lemmas.Grind.{common_steps}
-use Rattle.std.proofs.lemmas.List.{append-nil}
-use Rattle.std.specs.List.{list_any}
-use Rattle.vt_spec.specs.Machine.Attach.{Copies, attach, copies_from, parts_of}
-use Rattle.vt_spec.specs.Machine.Detach.{going, lazily_unmounted, mounts_on, taken_away}
-use Rattle.vt_spec.specs.Machine.Mounts.{Mount, children, tree_from}
-use Rattle.vt_spec.specs.Machine.Namespaces.{has_tasks, pivoted}
-use Rattle.vt_spec.specs.Machine.Receives.{lost_a_group, regrouped_by}
-use Rattle.vt_spec.specs.Machine.Settled.{settled}
-use Rattle.vt_spec.specs.Machine.World.{Namespace, World, mount_at, mount_numbered}
+use Rattle.std.proofs.Common.{arith, ◌≡◌, sym, ap, subst, ◌∙◌, ℕ, nat_eq, Bool, true, List, [], ◌∷◌, filter, flat_map, length, map, suc, zero, option_to_list, append-nil}
+use Rattle.vt_spec.proofs.Common.{Copies, Mount, Namespace, World, attach, children, common_steps, copies_from, going, has_tasks, lazily_unmounted, list_any, lost_a_group, mount_at, mount_numbered, mounts_on, parts_of, pivoted, regrouped_by, settled, taken_away, tree_from}
 use Rattle.vt_laws_mounts.specs.LettingGo.Attaching.{inodes_of_mount_point}
 use Rattle.vt_laws_mounts.specs.LettingGo.Unmounting.{detached_between, groups_of_mounts, numbers_of_trees}
 use Rattle.vt_laws_mounts.specs.LettingGo.LeavingOverlays.{IsSettled}

@@ -1,19 +1,9 @@
 -- Where all is in use nothing goes, and what is left is in use.
-use Rattle.std.proofs.Common.{arith, ◌≡◌, refl, sym, ap, subst, ◌∙◌, ⊎_elim, ℕ, nat_eq, eq-eqb, Bool, true, false, cond, not, ◌||◌, ◌&&◌, List, [], ◌∷◌, filter, map, true≢false, flat_map, ◌++◌, None}
-use Rattle.std.proofs.lemmas.Grind.{common_steps}
-use Rattle.std.specs.Prelude.{All, filter_map}
-use Rattle.std.specs.List.{list_all, list_any}
-use Rattle.vt_spec.specs.FileTree.{targets_in}
-use Rattle.vt_spec.specs.Lists.{is_among}
-use Rattle.vt_spec.specs.Machine.Locked.{of_overlay}
-use Rattle.vt_spec.specs.Machine.Mounts.{Location, root_of}
-use Rattle.vt_spec.specs.Machine.Settled.{filesystem_lives, has_layer_on, is_mounted, layers_in, located_in, mount_lives, named_in, objects_of_overlay, only_used, only_used_by, settled, used_in, without_dead_filesystems, without_dead_groups, without_dead_in, without_dead_mounts}
-use Rattle.vt_spec.specs.Machine.World.{Filesystem, Layer, World, all_locations, is_overlay, layers_of, mount_at, with_mounts}
+use Rattle.std.proofs.Common.{arith, ◌≡◌, refl, sym, ap, subst, ◌∙◌, ⊎_elim, ℕ, nat_eq, eq-eqb, Bool, true, false, cond, not, ◌||◌, ◌&&◌, List, [], ◌∷◌, filter, map, true≢false, flat_map, ◌++◌, None, All, filter_map}
+use Rattle.vt_spec.proofs.Common.{Filesystem, Layer, Location, World, all_locations, and_parts, cases_Bool, common_steps, filesystem_lives, filter_all, has_layer_on, is_among, is_among_left, is_among_right, is_mounted, is_overlay, layers_in, layers_of, list_all, list_any, located_in, mount_at, mount_lives, named_in, objects_of_overlay, of_overlay, only_used, only_used_by, or_cases, or_parts, root_of, settled, targets_in, used_in, with_mounts, without_dead_filesystems, without_dead_groups, without_dead_in, without_dead_mounts}
 use Rattle.vt_laws_mounts.specs.LettingGo.InUse.{AllInUse, FilesystemsInUse, GroupsInUse, HasTrees, InodesInUse, IsListedTree, MountsInUse, NothingGoes, OneSweepIsEnough, UppersArePlain, WhatIsLeftIsInUse, has_upper_in, is_inode_used}
 use Rattle.vt_laws_mounts.proofs.letting_go.Lists.{Among, all_from_among, all_pass, among-filter, among-flat_map, among-from_flat_map, among-from_map, among-map, among_from_all, any_passes, flat_map_none, one_passes, or_first, among-from_filter, flat_map-filter, flat_map-map, flat_map_alike, is_among_numbers, map_same, or_second, passes}
 use Rattle.vt_laws_mounts.proofs.letting_go.Trees.{unnamed_is_empty}
-use Rattle.std.proofs.lemmas.Bool.{and_parts, or_cases, or_parts, cases_Bool}
-use Rattle.vt_spec.proofs.Found.{is_among_left, is_among_right, filter_all}
 
 -- Where all is in use
 

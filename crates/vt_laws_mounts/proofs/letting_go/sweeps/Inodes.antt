@@ -1,26 +1,13 @@
 -- Inodes of plain trees go one by one.
 use Rattle.std.proofs.Common.{arith, flat_map, ◌≡◌, refl, sym, ap, subst, ◌∙◌, ℕ, nat_eq, eqb-true, Bool, true, false, cond, not, ◌||◌, ◌&&◌, List, [], ◌∷◌, filter, map, true≢false, Option, Some, None, is_some, option_map}
-use Rattle.std.proofs.lemmas.Grind.{common_steps}
-use Rattle.std.specs.List.{list_all}
-use Rattle.std.proofs.lemmas.Bool.{and_parts, not-true}
-use Rattle.std.proofs.lemmas.List.Elements.{All-filter}
-use Rattle.vt_spec.specs.Tree.{Node}
-use Rattle.vt_spec.specs.FileTree.{FileTree}
-use Rattle.vt_spec.specs.Lists.{is_among}
-use Rattle.vt_spec.specs.Machine.Locked.{of_overlay, overlay_or}
-use Rattle.vt_spec.specs.Machine.Settled.{filesystem_lives, layers_in, named_in, only_used, only_used_by, only_used_of, real_among, used_in, without_dead_filesystems, without_dead_in, without_dead_inodes, without_dead_mounts, objects_of_overlay}
-use Rattle.vt_spec.specs.Machine.World.{Filesystem, Overlay, World, is_overlay, layers_of}
-use Rattle.vt_spec.specs.Machine.Invariants.{ListsNumbers}
+use Rattle.vt_spec.proofs.Common.{All-filter, FileTree, Filesystem, ListsNumbers, Node, Overlay, World, and_parts, common_steps, filesystem_lives, filter_alike, filter_all, is_among, is_overlay, layers_in, layers_of, list_all, map_alike, map_twice, named_in, none_from_not_some, not-true, objects_of_overlay, of_overlay, only_used, only_used_by, only_used_of, overlay_or, real_among, used_in, without_dead_filesystems, without_dead_in, without_dead_inodes, without_dead_mounts}
 use Rattle.vt_laws_mounts.specs.LettingGo.InUse.{HasTrees, IsListedTree, is_inode_used}
 use Rattle.vt_laws_mounts.specs.LettingGo.OneByOne.{AllGoesOneByOne, Inode, InodesGoOneByOne, IsPlain, is_inode_among, is_used_or_among, let_go_inode, let_go_inode_of, let_go_inodes}
 use Rattle.vt_laws_mounts.proofs.letting_go.sweeps.InUse.{UnusedAreEmpty, unused_are_empty, no_objects}
 use Rattle.vt_laws_mounts.proofs.letting_go.sweeps.Merged.{named_without}
 use Rattle.vt_laws_mounts.proofs.letting_go.Lists.{Among, flat_map_none, any-filter, among-from_filter, among-from_map, among_from_all, among_numbers, fails, filter_twice, flat_map-map, map_same, none_passes, passes}
 use Rattle.vt_laws_mounts.proofs.letting_go.sweeps.OneByOne.{filesystems_go_one_by_one, groups_go_one_by_one, mounts_go_one_by_one}
-use Rattle.vt_spec.proofs.Options.{none_from_not_some}
-use Rattle.vt_spec.proofs.Found.{filter_alike, filter_all}
 use Rattle.std.proofs.Math.Bool.{not-not}
-use Rattle.vt_spec.proofs.Lists.{map_alike, map_twice}
 
 -- a filesystem without the inodes that a test names
 abbrev pub without_those : (ℕ → Bool) → Filesystem ℕ → Filesystem ℕ

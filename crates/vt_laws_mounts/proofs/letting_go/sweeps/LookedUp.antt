@@ -1,14 +1,10 @@
 -- A mount, a filesystem, an inode or a group that is looked at is looked up by its number.
 use Rattle.std.proofs.Common.{arith, ◌≡◌, refl, sym, ap, ◌∙◌, ℕ, nat_eq, eqb-true, Bool, true, false, cond, not, ◌&&◌, ◌||◌}
-use Rattle.std.proofs.lemmas.Grind.{common_steps}
-use Rattle.vt_spec.specs.Machine.Settled.{filesystem_lives}
-use Rattle.vt_spec.specs.Machine.World.{Filesystem, filesystem_numbered, no_filesystem}
+use Rattle.vt_spec.proofs.Common.{Filesystem, common_steps, filesystem_lives, filesystem_numbered, filter_alike, filter_all, map_alike, no_filesystem}
 use Rattle.vt_laws_mounts.specs.LettingGo.InUse.{is_inode_used}
 use Rattle.vt_laws_mounts.specs.LettingGo.OneByOne.{FilesystemIsLookedUp, GroupIsLookedUp, InodeIsLookedUp, MountIsLookedUp, is_filesystem_used, is_inode_used_in, let_go_filesystem, let_go_inode, let_go_inode_of, without_filesystem, without_inode, without_inode_at, without_inode_in}
 use Rattle.vt_laws_mounts.proofs.letting_go.Lists.{Among, found_by, map_same}
 use Rattle.vt_laws_mounts.proofs.letting_go.leaving.PlacesLeft.{found_itself}
-use Rattle.vt_spec.proofs.Found.{filter_alike, filter_all}
-use Rattle.vt_spec.proofs.Lists.{map_alike}
 
 kept_used : (same lives : Bool) → (same ≡ true → lives ≡ true) → (not same || lives) ≡ true
 kept_used true lives h = h refl

@@ -1,16 +1,8 @@
 -- Inodes of one kind of filesystem go one by one, overlays among them.
 use Rattle.std.proofs.Common.{arith, ◌≡◌, refl, sym, ap, ◌∙◌, ℕ, nat_eq, Bool, true, false, cond, not, ◌||◌, ◌&&◌, List, [], filter, true≢false, Option, Some, None, option_map}
-use Rattle.std.proofs.lemmas.Grind.{common_steps}
-use Rattle.std.specs.List.{list_all}
-use Rattle.vt_spec.specs.FileTree.{targets_in}
-use Rattle.vt_spec.specs.Lists.{is_among}
-use Rattle.vt_spec.specs.Machine.Settled.{named_in, only_used_by, only_used_of, real_among}
-use Rattle.vt_spec.specs.Machine.World.{Filesystem, Overlay}
-use Rattle.vt_spec.specs.Machine.Invariants.{ListsNumbers}
+use Rattle.vt_spec.proofs.Common.{Filesystem, ListsNumbers, Overlay, cases_Bool, common_steps, filter_alike, filter_all, is_among, list_all, named_in, only_used_by, only_used_of, real_among, targets_in}
 use Rattle.vt_laws_mounts.specs.LettingGo.Overlays.{real_in}
 use Rattle.vt_laws_mounts.proofs.letting_go.Lists.{Among, filter_twice, flat_map-filter, flat_map_alike, among_numbers, is_among_numbers, passes}
-use Rattle.std.proofs.lemmas.Bool.{cases_Bool}
-use Rattle.vt_spec.proofs.Found.{filter_alike, filter_all}
 use Rattle.std.proofs.Math.Bool.{not-not}
 
 -- without the real objects of the inodes that a test names

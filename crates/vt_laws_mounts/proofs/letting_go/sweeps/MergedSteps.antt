@@ -1,13 +1,6 @@
 -- Inodes of one kind of filesystem go one by one, overlays among them.
 use Rattle.std.proofs.Common.{arith, ◌≡◌, refl, sym, ap, subst, ◌∙◌, ⊎_elim, ℕ, nat_eq, eqb-true, Bool, true, false, cond, not, ◌||◌, ◌&&◌, List, [], ◌∷◌, filter, map, true≢false, flat_map, None}
-use Rattle.std.proofs.lemmas.Grind.{common_steps}
-use Rattle.std.specs.List.{list_all}
-use Rattle.std.proofs.lemmas.Bool.{and_parts, not-true, cases_Bool}
-use Rattle.vt_spec.specs.FileTree.{targets_in}
-use Rattle.vt_spec.specs.Lists.{folded, is_among}
-use Rattle.vt_spec.specs.Machine.Locked.{of_overlay}
-use Rattle.vt_spec.specs.Machine.Settled.{layers_in, objects_of_overlay, only_used, used_in, without_dead_in}
-use Rattle.vt_spec.specs.Machine.World.{Filesystem, World, layers_of}
+use Rattle.vt_spec.proofs.Common.{Filesystem, World, and_parts, cases_Bool, common_steps, folded, is_among, layers_in, layers_of, list_all, map_alike, map_twice, not-true, objects_of_overlay, of_overlay, only_used, targets_in, used_in, without_dead_in}
 use Rattle.vt_laws_mounts.specs.LettingGo.InUse.{IsListedTree, is_inode_used}
 use Rattle.vt_laws_mounts.specs.LettingGo.OneByOne.{Inode, is_inode_among, is_used_or_among}
 use Rattle.vt_laws_mounts.specs.LettingGo.Overlays.{let_go_in, let_go_in_of, without_inode_of}
@@ -15,7 +8,6 @@ use Rattle.vt_laws_mounts.proofs.letting_go.sweeps.InUse.{UnusedAreEmpty}
 use Rattle.vt_laws_mounts.proofs.letting_go.sweeps.Inodes.{goes_of, goes_on}
 use Rattle.vt_laws_mounts.proofs.letting_go.Lists.{Among, among-from_map, among_numbers, flat_map-step, map_same, passes}
 use Rattle.vt_laws_mounts.proofs.letting_go.sweeps.Merged.{HasReals, left_of, named_without, same_without, without_all, without_both, without_nothing}
-use Rattle.vt_spec.proofs.Lists.{map_alike, map_twice}
 
 pub layers_without : (gone : ℕ → Bool) (filesystem : Filesystem ℕ)
     → of_overlay [] layers_of (without_all gone filesystem) ≡ of_overlay [] layers_of filesystem

@@ -1,15 +1,6 @@
 -- What a world is by its conditions.
-use Rattle.std.proofs.Common.{arith, ◌≡◌, refl, sym, ap, subst, ◌∙◌, inl, ℕ, nat_eq, eqb-true, Bool, true, false, not, ◌&&◌, ◌++◌, List, find, map, true≢false, Option, Some, None, is_some, option_to_list, unwrap_or}
-use Rattle.std.proofs.lemmas.Grind.{common_steps}
-use Rattle.std.specs.Prelude.{All}
-use Rattle.std.specs.List.{list_all}
-use Rattle.std.proofs.lemmas.Bool.{and_parts, not-true}
-use Rattle.vt_spec.specs.Lists.{any_pair, holds_of, is_among}
-use Rattle.vt_spec.specs.Machine.Locked.{of_overlay, overlay_or}
-use Rattle.vt_spec.specs.Machine.Mounts.{Location, Mount}
-use Rattle.vt_spec.specs.Machine.World.{Filesystem, Layer, Overlay, World, all_locations, filesystem_numbered, is_overlay, layers_of, mount_at, mount_numbered, no_filesystem}
-use Rattle.vt_spec.specs.Machine.Invariants.{IsWorld, ListsNumbers, Stands, is_located_well, is_plain_layer}
-use Rattle.vt_spec.specs.TreeInvariant.{IsTree}
+use Rattle.std.proofs.Common.{arith, ◌≡◌, refl, sym, ap, subst, ◌∙◌, inl, ℕ, nat_eq, eqb-true, Bool, true, false, not, ◌&&◌, ◌++◌, List, find, map, true≢false, Option, Some, None, is_some, option_to_list, unwrap_or, All}
+use Rattle.vt_spec.proofs.Common.{Filesystem, IsTree, IsWorld, Layer, ListsNumbers, Location, Mount, Overlay, Stands, World, all_locations, and_parts, any_pair, at_root, common_steps, filesystem_numbered, holds_of, is_among, is_located_well, is_overlay, is_plain_layer, layers_of, list_all, mount_at, mount_numbered, no_filesystem, not-true, of_overlay, on_parent, overlay_or, same_Some}
 use Rattle.vt_laws_mounts.specs.LettingGo.InUse.{AllInUse, IsListedTree, has_upper_in}
 use Rattle.vt_laws_mounts.specs.LettingGo.Leaving.{stands_on_attached}
 use Rattle.vt_laws_mounts.specs.LettingGo.Overlays.{real_in}
@@ -17,8 +8,6 @@ use Rattle.vt_laws_mounts.specs.LettingGo.Worlds.{LocationsOfWorldsStand, Mounts
 use Rattle.vt_laws_mounts.proofs.letting_go.sweeps.InUse.{what_is_left_is_in_use}
 use Rattle.vt_laws_mounts.proofs.letting_go.Lists.{found_by, Among, all_from_among, all_pass, among-append_left, among_from_all, passes}
 use Rattle.vt_laws_mounts.proofs.letting_go.leaving.PlacesLeft.{found_itself, nowhere_parts}
-use Rattle.std.proofs.lemmas.Option.{same_Some}
-use Rattle.vt_spec.specs.Machine.Invariants.Stands.{at_root, on_parent}
 
 pub worlds_have_trees : WorldsHaveTrees
 worlds_have_trees world is = all_from_among (λ f. IsListedTree f.files) world.filesystems (λ f m. record {

@@ -1,15 +1,8 @@
 -- The sweep, one thing at a time.
 use Rattle.std.proofs.Common.{arith, ◌≡◌, refl, sym, ap, ◌∙◌, ℕ, nat_eq, Bool, true, false, cond, not, ◌||◌, ◌&&◌, List, [], ◌∷◌, filter, true≢false, None}
-use Rattle.std.proofs.lemmas.Grind.{common_steps}
-use Rattle.std.proofs.lemmas.Bool.{or_parts}
-use Rattle.vt_spec.specs.Lists.{is_among}
-use Rattle.vt_spec.specs.Machine.Receives.{has_members}
-use Rattle.vt_spec.specs.Machine.Settled.{filesystem_lives, mount_lives}
-use Rattle.vt_spec.specs.Machine.World.{Filesystem, World, with_mounts}
+use Rattle.vt_spec.proofs.Common.{Filesystem, World, and-false, common_steps, filesystem_lives, filter_alike, filter_all, has_members, is_among, mount_lives, or_parts, with_mounts}
 use Rattle.vt_laws_mounts.specs.LettingGo.OneByOne.{FilesystemsGoOneByOne, GroupsGoOneByOne, MountsGoOneByOne, let_go_filesystem, let_go_filesystems, let_go_group, let_go_groups, let_go_mount, let_go_mounts}
 use Rattle.vt_laws_mounts.proofs.letting_go.Lists.{any-filter, filter_twice, passes}
-use Rattle.std.proofs.Math.Bool.{and-false}
-use Rattle.vt_spec.proofs.Found.{filter_alike, filter_all}
 
 -- one after the other: looked at here, or looked at later
 pub looked_at : (here later lives : Bool)

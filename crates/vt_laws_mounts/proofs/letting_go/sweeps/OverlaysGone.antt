@@ -1,18 +1,11 @@
 -- An overlay that goes takes the uses of its layers and of its upper objects away.
 use Rattle.std.proofs.Common.{◌≡◌, refl, sym, ap, subst, ◌∙◌, ◌⊎◌, inl, inr, ⊎_elim, ℕ, nat_eq, eq-eqb, Bool, true, cond, ◌||◌, ◌&&◌, List, [], ◌∷◌, filter, map, flat_map, ◌++◌, Option, option_to_list}
-use Rattle.std.specs.List.{list_all}
-use Rattle.std.proofs.lemmas.Bool.{or_cases}
-use Rattle.std.proofs.lemmas.List.Folds.{list_any-append}
-use Rattle.vt_spec.specs.Lists.{is_among}
-use Rattle.vt_spec.specs.Machine.Locked.{of_overlay, overlay_or}
-use Rattle.vt_spec.specs.Machine.Settled.{filesystem_lives, layers_in, located_in, named_in, objects_of_overlay, without_dead_filesystems}
-use Rattle.vt_spec.specs.Machine.World.{Filesystem, Layer, World, layers_of}
+use Rattle.vt_spec.proofs.Common.{Filesystem, Layer, World, filesystem_lives, is_among, is_among_left, is_among_right, layers_in, layers_of, list_all, list_any-append, located_in, named_in, objects_of_overlay, of_overlay, or_cases, overlay_or, without_dead_filesystems}
 use Rattle.vt_laws_mounts.specs.LettingGo.InUse.{is_inode_used}
 use Rattle.vt_laws_mounts.specs.LettingGo.OneByOne.{FilesystemsInUseBut, Inode, is_inode_among, is_used_or_among}
 use Rattle.vt_laws_mounts.specs.LettingGo.Overlays.{FilesystemsTakeTheirUses, used_by_filesystem, used_by_filesystems, used_by_numbered, uppers_in}
 use Rattle.vt_laws_mounts.proofs.letting_go.Lists.{Among, all_from_among, all_pass, among-append_left, among-append_right, among-filter, among-flat_map, among-from_filter, among-from_flat_map, among-from_map, among-map, among_from_all, among_numbers, any_passes, is_among_numbers, one_passes, or_first, or_second, passes}
 use Rattle.vt_laws_mounts.proofs.letting_go.sweeps.WithOverlays.{object_parts}
-use Rattle.vt_spec.proofs.Found.{is_among_left, is_among_right}
 
 module _ (world : World ℕ) (losers : List ℕ) (others : FilesystemsInUseBut losers world) where
   abbrev living : World ℕ

@@ -1,12 +1,6 @@
 -- An inode of an overlay that goes is one use less of its upper inode.
-use Rattle.std.proofs.lemmas.Grind.{common_steps}
-use Rattle.std.proofs.Common.{◌≡◌, refl, sym, ap, ◌∙◌, ℕ, nat_eq, eqb-true, eq-eqb, Bool, true, false, cond, not, ◌&&◌, ◌+◌, List, [], ◌∷◌, filter, map, true≢false, flat_map, ◌++◌, Option, Some, option_map, arith}
-use Rattle.std.specs.Prelude.{filter_map}
-use Rattle.vt_spec.specs.Lists.{holds_of}
-use Rattle.vt_spec.specs.Machine.Locked.{of_overlay, overlay_or}
-use Rattle.vt_spec.specs.Machine.Settled.{layers_in, located_in, named_in, objects_of_overlay}
-use Rattle.vt_spec.specs.Machine.World.{Filesystem, Layer, Overlay, World, layers_of, upper_object}
-use Rattle.vt_spec.specs.Machine.World.Real.{Upper}
+use Rattle.std.proofs.Common.{◌≡◌, refl, sym, ap, ◌∙◌, ℕ, nat_eq, eqb-true, eq-eqb, Bool, true, false, cond, not, ◌&&◌, ◌+◌, List, [], ◌∷◌, filter, map, true≢false, flat_map, ◌++◌, Option, Some, option_map, arith, filter_map}
+use Rattle.vt_spec.proofs.Common.{Filesystem, Layer, Overlay, Upper, World, common_steps, holds_of, layers_in, layers_of, located_in, named_in, objects_of_overlay, of_overlay, overlay_or, upper_object}
 use Rattle.vt_laws_mounts.specs.LettingGo.Counts.{times}
 use Rattle.vt_laws_mounts.specs.LettingGo.Overlays.{OneUpperUseLess, without_inode_of, without_real}
 use Rattle.std.proofs.Math.Nat.{add_assoc}

@@ -1,9 +1,6 @@
 -- Uses are counted.
 use Rattle.std.proofs.Common.{sym, ap, ◌∙◌, ℕ, nat_eq, cond, ◌+◌, List}
-use Rattle.vt_spec.specs.Machine.Mounts.{Location, Mount}
-use Rattle.vt_spec.specs.Machine.Receives.{is_member_of}
-use Rattle.vt_spec.specs.Machine.Settled.{used_in}
-use Rattle.vt_spec.specs.Machine.World.{all_locations}
+use Rattle.vt_spec.proofs.Common.{Location, Mount, all_locations, is_member_of, used_in}
 use Rattle.vt_laws_mounts.specs.LettingGo.Counts.{LocatedWhileCounted, MembersWhileCounted, MountedWhileCounted, OneMountLess, OneUseLess, UsedWhileCounted, times}
 use Rattle.vt_laws_mounts.proofs.letting_go.Lists.{any_counted, times_around}
 

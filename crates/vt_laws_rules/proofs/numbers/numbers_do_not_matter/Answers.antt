@@ -1,7 +1,4 @@
-use Rattle.vt_spec.specs.Machine.Outcomes.{Outcome}
-use Rattle.vt_spec.specs.Machine.Sealed.{directed}
-use Rattle.vt_spec.specs.Machine.Turns.{Turned, turn}
-use Rattle.vt_spec.specs.Machine.World.{World}
+use Rattle.vt_spec.proofs.Common.{Outcome, Turned, World, directed, turn}
 use Rattle.vt_laws_rules.proofs.numbers.Commuting.{commutes_nat}
 use Rattle.vt_laws_rules.proofs.numbers.Renamings.{HandedTurn, calls_renamed, lines_renamed, named_outcome, named_turn, named_turned, named_world, same_worlds_answer_alike}
 use Rattle.vt_laws_rules.proofs.numbers.numbers_do_not_matter.Goals as goal

@@ -1,18 +1,6 @@
 -- Events of groups of others reach no mount of a sealed set.
-use Rattle.std.proofs.lemmas.Grind.{common_steps}
 use Rattle.std.proofs.Common.{◌≡◌, refl, sym, ap, subst, ◌∙◌, ◌⊎◌, inr, ⊎_elim, ℕ, nat_eq, true, true≢false, List, Option, Some, None, length, eq-eqb, arith}
-use Rattle.std.proofs.lemmas.Bool.{and_parts, false_from_ne_true, not-true, or_left, or_right}
-use Rattle.std.proofs.lemmas.Option.{same_Some}
-use Rattle.vt_spec.specs.Lists.{holds_of, is_among}
-use Rattle.vt_spec.specs.Language.Calls.{TaskName}
-use Rattle.vt_spec.specs.Machine.Invariants.{HasLivingGroups, Lives, MountInvariants}
-use Rattle.vt_spec.specs.Machine.Invariants.Lives.{has_master, has_no_master}
-use Rattle.vt_spec.specs.Machine.Mounts.{Mount, Propagation, group_of, source_of}
-use Rattle.vt_spec.specs.Machine.Receives.{groups_up, has_members, is_member_of, receives}
-use Rattle.vt_spec.specs.Machine.Sealed.{is_own_mount, master_of, other_mounts, own_mounts, receives_events_of, shares_no_events}
-use Rattle.vt_spec.specs.Machine.World.{World}
-use Rattle.vt_spec.proofs.Lists.{Among, among-filter, among-from_filter, among_from_all, among_from_contains, among_from_list_all, any_among}
-use Rattle.vt_spec.proofs.Options.{none_is_some}
+use Rattle.vt_spec.proofs.Common.{Among, HasLivingGroups, Lives, Mount, MountInvariants, Propagation, TaskName, World, among-filter, among-from_filter, among_from_all, among_from_contains, among_from_list_all, and_parts, any_among, common_steps, false_from_ne_true, group_of, groups_up, has_master, has_members, has_no_master, holds_of, is_among, is_member_of, is_own_mount, master_of, none_is_some, not-true, or_left, or_right, other_mounts, own_mounts, receives, receives_events_of, same_Some, shares_no_events, source_of}
 use Rattle.vt_laws_mounts.proofs.mounts.Receivers.{along_chain}
 use Rattle.vt_laws_sealed.specs.Part.Groups.{NoEventOfOthersReachesThem}
 

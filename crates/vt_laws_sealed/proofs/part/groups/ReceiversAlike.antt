@@ -1,21 +1,7 @@
 -- The receivers of a group of theirs are the same in the world and in the part.
-use Rattle.std.proofs.lemmas.Grind.{common_steps}
-use Rattle.std.proofs.Common.{◌≡◌, refl, sym, ap, ◌∙◌, ◌⊎◌, inl, inr, ⊎_elim, ℕ, nat_eq, true, false, cond, true≢false, List, [], ◌∷◌, Option, Some, None, filter, length, map, not, ◌||◌, ◌≤◌, arith}
-use Rattle.std.specs.Prelude.{unwrap_or}
-use Rattle.std.specs.List.{filter_map}
-use Rattle.std.proofs.lemmas.Bool.{and_parts, false_from_ne_true, not-true, or_left, or_right}
-use Rattle.std.proofs.lemmas.Option.{same_Some}
+use Rattle.std.proofs.Common.{◌≡◌, refl, sym, ap, ◌∙◌, ◌⊎◌, inl, inr, ⊎_elim, ℕ, nat_eq, true, false, cond, true≢false, List, [], ◌∷◌, Option, Some, None, filter, length, map, not, ◌||◌, ◌≤◌, arith, unwrap_or, filter_map}
+use Rattle.vt_spec.proofs.Common.{Among, HasLivingGroups, Lives, Mount, MountInvariants, Propagation, Task, TaskName, World, among-filter, among-from_filter, among-map, among_from_all, among_from_contains, among_from_list_all, and_parts, any_among, any_from_among, common_steps, false_from_ne_true, group_of, groups_up, has_master, has_members, has_no_master, holds_of, is_among, is_at, is_member_of, is_own_mount, is_own_namespace, locations, master_of, members, none_is_some, not-true, or_left, or_right, other_mounts, own_mounts, part_of, receivers, receives, roots_and_directories, same_Some, seen_by_descriptor, shares_no_events, source_of, when}
 use Rattle.vt_laws_mounts.proofs.GroupsUp.{source_from_group}
-use Rattle.vt_spec.specs.Language.Calls.{TaskName}
-use Rattle.vt_spec.specs.Lists.{holds_of, is_among, when}
-use Rattle.vt_spec.specs.Machine.Invariants.{HasLivingGroups, Lives, MountInvariants}
-use Rattle.vt_spec.specs.Machine.Invariants.Lives.{has_master, has_no_master}
-use Rattle.vt_spec.specs.Machine.Mounts.{Mount, Propagation, group_of, source_of}
-use Rattle.vt_spec.specs.Machine.Receives.{groups_up, has_members, is_member_of, receivers, receives}
-use Rattle.vt_spec.specs.Machine.Sealed.{is_at, is_own_mount, is_own_namespace, locations, master_of, members, other_mounts, own_mounts, part_of, roots_and_directories, seen_by_descriptor, shares_no_events}
-use Rattle.vt_spec.specs.Machine.World.{Task, World}
-use Rattle.vt_spec.proofs.Lists.{Among, among-filter, among-from_filter, among-map, among_from_all, among_from_contains, among_from_list_all, any_among, any_from_among}
-use Rattle.vt_spec.proofs.Options.{none_is_some}
 use Rattle.vt_laws_mounts.proofs.mounts.Receivers.{along_chain}
 use Rattle.vt_laws_mounts.proofs.letting_go.Chains.{Way, chains_alike}
 use Rattle.vt_laws_mounts.proofs.letting_go.Chains.Way.{ends, goes_on}

@@ -1,24 +1,6 @@
 -- What is wholly locked is locked, and an outsider changes no file of a sealed set.
 use Rattle.std.proofs.Common.{arith, ◌≡◌, refl, sym, ap, subst, ◌∙◌, ⊎_elim, ℕ, zero, suc, nat_eq, true, false, true≢false, List, [], ◌∷◌, ◌++◌, Some, None, is_some, ◌||◌, ◌&&◌, eqb-true}
-use Rattle.std.proofs.lemmas.Grind.{common_steps}
-use Rattle.std.specs.List.{list_all, list_any}
-use Rattle.std.proofs.lemmas.Bool.{and_parts, and_from, false_from_ne_true, or_cases, or_left}
-use Rattle.vt_spec.specs.FileTree.{FileTree, is_under, targets_in}
-use Rattle.vt_spec.specs.Language.Calls.{TaskName}
-use Rattle.vt_spec.specs.Language.Changes.{Change, changed}
-use Rattle.vt_spec.specs.Lists.{Fresh, is_among}
-use Rattle.vt_spec.specs.Machine.Filesystems.{filesystem_changed, with_change, with_files}
-use Rattle.vt_spec.specs.Machine.Invariants.{ListsNumbers}
-use Rattle.vt_spec.specs.Machine.Locked.{is_locked, is_locked_at, lies_in_layer, lies_or_counts_under, live_layers, of_overlay, overlays}
-use Rattle.vt_spec.specs.Machine.Mounts.{Location}
-use Rattle.vt_spec.specs.Machine.Sealed.{all_named, is_lower_root, no_outsider_on, own_lowers, part_of, sealed, used_alone, used_filesystems, wholly_locked}
-use Rattle.vt_spec.specs.Machine.Settled.{named_in}
-use Rattle.vt_spec.specs.Machine.World.{Filesystem, Layer, World, filesystem_at, filesystem_numbered, layers_of, mount_at, node_at}
-use Rattle.vt_spec.specs.TreeInvariant.{IsTree}
-use Rattle.vt_spec.proofs.Lists.{Among, among-append_right, among-flat_map, among-from_flat_map, among_from_list_all, among_numbers, any_among, any_from_among, is_among_numbers}
-use Rattle.vt_spec.proofs.NodeChanges.{entry_from}
-use Rattle.vt_spec.proofs.Trees.{led-append}
-use Rattle.vt_spec.proofs.Truths.{and_true_left}
+use Rattle.vt_spec.proofs.Common.{Among, Change, FileTree, Filesystem, Fresh, IsTree, Layer, ListsNumbers, Location, TaskName, World, all_named, among-append_right, among-flat_map, among-from_flat_map, among_from_list_all, among_numbers, and_from, and_parts, and_true_left, any_among, any_from_among, changed, common_steps, entry_from, false_from_ne_true, filesystem_at, filesystem_changed, filesystem_numbered, is_among, is_among_numbers, is_locked, is_locked_at, is_lower_root, is_under, layers_of, led-append, lies_in_layer, lies_or_counts_under, list_all, list_any, live_layers, mount_at, named_in, no_outsider_on, node_at, of_overlay, or_cases, or_left, overlays, own_lowers, part_of, sealed, targets_in, used_alone, used_filesystems, wholly_locked, with_change, with_files}
 use Rattle.vt_laws_trees.proofs.layers.layers.LowersWorld.{number_of_filesystem}
 use Rattle.vt_laws_trees.proofs.layers.layers.UpperLine.{ReachedIn, is_reached_in}
 use Rattle.vt_laws_trees.proofs.overlays.whole.ApartPaths.{Led, led_on, led_under}

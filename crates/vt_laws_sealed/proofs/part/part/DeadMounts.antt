@@ -1,15 +1,6 @@
 -- Without dead mounts the part is as it was.
-use Rattle.std.proofs.lemmas.Grind.{common_steps}
-use Rattle.std.proofs.Common.{◌≡◌, refl, inl, inr, ⊎_elim, ℕ, nat_eq, Bool, true, true≢false, List, [], ◌∷◌, Option, Some, filter, eq-eqb, eqb-true, arith}
-use Rattle.std.specs.List.{filter_map}
-use Rattle.std.proofs.lemmas.Bool.{or_left, or_right}
-use Rattle.vt_spec.specs.Language.Calls.{TaskName}
-use Rattle.vt_spec.specs.Machine.Mounts.{Location, Mount}
-use Rattle.vt_spec.specs.Machine.Sealed.{is_at, is_member_task, locations, members, roots_and_directories}
-use Rattle.vt_spec.specs.Machine.Settled.{mount_lives, without_dead_mounts}
-use Rattle.vt_spec.specs.Machine.World.{Task, World, all_locations, locations_of}
-use Rattle.vt_spec.proofs.Lists.{Among, among-flat_map, among-from_filter, among-from_flat_map, any_among, any_from_among}
-use Rattle.vt_spec.proofs.Options.{none_is_some}
+use Rattle.std.proofs.Common.{◌≡◌, refl, inl, inr, ⊎_elim, ℕ, nat_eq, Bool, true, true≢false, List, [], ◌∷◌, Option, Some, filter, eq-eqb, eqb-true, arith, filter_map}
+use Rattle.vt_spec.proofs.Common.{Among, Location, Mount, Task, TaskName, World, all_locations, among-flat_map, among-from_filter, among-from_flat_map, any_among, any_from_among, common_steps, is_at, is_member_task, locations, locations_of, members, mount_lives, none_is_some, or_left, or_right, roots_and_directories, without_dead_mounts}
 use Rattle.vt_laws_sealed.specs.Part.Parts.{DeadMountsAreInNoPart, SeesTheSame}
 use Rattle.vt_laws_sealed.proofs.part.part.Observed.{part_same}
 use Rattle.vt_laws_sealed.proofs.part.part.PartOfPart.{is_own, keep}

@@ -1,17 +1,6 @@
 -- Flags of a mount of theirs that are set in the world are set in the part.
-use Rattle.std.proofs.lemmas.Grind.{common_steps}
-use Rattle.std.proofs.Common.{◌≡◌, refl, sym, ap, ◌∙◌, ◌⊎◌, inl, inr, ⊎_elim, ℕ, nat_eq, Bool, true, false, cond, List, [], ◌∷◌, ◌++◌, Option, Some, None, flat_map, map, filter, ◌||◌, eq-eqb, eqb-true, arith}
-use Rattle.std.specs.Prelude.{option_map}
-use Rattle.std.specs.List.{cons_option, filter_map, list_any}
-use Rattle.vt_spec.specs.Language.Calls.{MountFlags, TaskName}
-use Rattle.vt_spec.specs.Lists.{each_once, is_among, when}
-use Rattle.vt_spec.specs.Machine.Locked.{lies_in_layer, of_overlay}
-use Rattle.vt_spec.specs.Machine.Mounts.{Location, Mount, mount_in, replaced_if_same, with_mount}
-use Rattle.vt_spec.specs.Machine.Receives.{is_member_of}
-use Rattle.vt_spec.specs.Machine.Sealed.{change_layers, is_at, locations, members, own_mounts, part_of, part_of_filesystem, part_of_master, roots_and_directories, seen_by_descriptor, used_directly}
-use Rattle.vt_spec.specs.Machine.World.{Filesystem, Layer, Overlay, Task, World, filesystem_numbered, mount_at, with_mounts}
-use Rattle.vt_spec.specs.Machine.Settled.{only_among}
-use Rattle.vt_spec.proofs.Lists.{map_alike, Among, among-from_filter, among_from_contains}
+use Rattle.std.proofs.Common.{◌≡◌, refl, sym, ap, ◌∙◌, ◌⊎◌, inl, inr, ⊎_elim, ℕ, nat_eq, Bool, true, false, cond, List, [], ◌∷◌, ◌++◌, Option, Some, None, flat_map, map, filter, ◌||◌, eq-eqb, eqb-true, arith, option_map, filter_map}
+use Rattle.vt_spec.proofs.Common.{Among, Filesystem, Layer, Location, Mount, MountFlags, Overlay, Task, TaskName, World, among-from_filter, among_from_contains, change_layers, common_steps, cons_option, each_once, filesystem_numbered, is_among, is_at, is_member_of, lies_in_layer, list_any, locations, map_alike, members, mount_at, mount_in, of_overlay, only_among, own_mounts, part_of, part_of_filesystem, part_of_master, replaced_if_same, roots_and_directories, seen_by_descriptor, used_directly, when, with_mount, with_mounts}
 use Rattle.vt_laws_mounts.specs.Mounts.Invariants.{OneNumberEach}
 use Rattle.vt_laws_mounts.proofs.mounts.MountsReplaced.{found_itself}
 use Rattle.vt_laws_sealed.specs.Part.Parts.{OnlyTheirFlagsChangeThePart}

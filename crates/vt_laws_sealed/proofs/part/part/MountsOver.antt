@@ -1,18 +1,6 @@
 -- The mounts over a location on a mount of the part are those in the world.
-use Rattle.std.proofs.lemmas.Grind.{common_steps}
-use Rattle.std.proofs.Common.{◌≡◌, refl, sym, ap, subst, ◌∙◌, ◌⊎◌, inl, inr, ⊎_elim, ℕ, zero, suc, nat_eq, Bool, true, false, cond, true≢false, List, [], ◌∷◌, Option, Some, None, map, find, length, ◌||◌, ◌≤◌, arith}
-use Rattle.std.specs.Prelude.{option_map}
-use Rattle.std.specs.List.{cons_option, filter_map, list_any}
-use Rattle.std.proofs.lemmas.List.{length-map}
-use Rattle.std.proofs.lemmas.Bool.{and_parts, or_left, or_right}
-use Rattle.vt_spec.specs.Language.Calls.{TaskName}
-use Rattle.vt_spec.specs.Lists.{chain, holds_of, last_or, when}
-use Rattle.vt_spec.specs.Machine.Invariants.{MountInvariants, Stands}
-use Rattle.vt_spec.specs.Machine.Mounts.{Location, Mount, child_at, mounts_over, root_of, stands_at}
-use Rattle.vt_spec.specs.Machine.Sealed.{is_at, locations, members, part_of, roots_and_directories, seen_by_descriptor}
-use Rattle.vt_spec.specs.Machine.World.{Task, World, mount_numbered}
-use Rattle.vt_spec.proofs.Found.{found_among, found_passes}
-use Rattle.vt_spec.proofs.Lists.{Among, among-filter_map, among-map, among_from_all, among_from_contains, among_from_list_all, chain_goes_on, last_of_chain}
+use Rattle.std.proofs.Common.{◌≡◌, refl, sym, ap, subst, ◌∙◌, ◌⊎◌, inl, inr, ⊎_elim, ℕ, zero, suc, nat_eq, Bool, true, false, cond, true≢false, List, [], ◌∷◌, Option, Some, None, map, find, length, ◌||◌, ◌≤◌, arith, option_map, filter_map}
+use Rattle.vt_spec.proofs.Common.{Among, Location, Mount, MountInvariants, Stands, Task, TaskName, World, among-filter_map, among-map, among_from_all, among_from_contains, among_from_list_all, and_parts, chain, chain_goes_on, child_at, common_steps, cons_option, found_among, found_passes, holds_of, is_at, last_of_chain, last_or, length-map, list_any, locations, members, mount_numbered, mounts_over, or_left, or_right, part_of, root_of, roots_and_directories, seen_by_descriptor, stands_at, when}
 use Rattle.vt_laws_mounts.proofs.mounts.MountsPlaces.{stands_there}
 use Rattle.vt_laws_mounts.proofs.mounts.MountsReplaced.{found_itself}
 use Rattle.vt_laws_mounts.proofs.namespaces.Topmost.{topmost_is_free}

@@ -1,16 +1,6 @@
 -- The part of a part is the part.
-use Rattle.std.proofs.lemmas.Grind.{common_steps}
-use Rattle.std.proofs.Common.{◌≡◌, refl, sym, ap, ◌∙◌, ◌⊎◌, ⊎_elim, ℕ, nat_eq, Bool, true, false, cond, true≢false, List, [], ◌∷◌, Option, Some, None, filter, find, ◌||◌, arith}
-use Rattle.std.specs.Prelude.{unwrap_or}
-use Rattle.std.specs.List.{cons_option, filter_map, list_any}
-use Rattle.std.proofs.lemmas.Option.{same_Some}
-use Rattle.vt_spec.specs.Language.Calls.{TaskName}
-use Rattle.vt_spec.specs.Lists.{holds_of, is_among, when}
-use Rattle.vt_spec.specs.Machine.Mounts.{Location, Mount, no_mount}
-use Rattle.vt_spec.specs.Machine.Sealed.{is_at, is_member_task, locations, members, own_lowers, own_mounts, part_of, part_of_filesystem, part_of_lower, part_of_master, part_of_mount, roots_and_directories, seen_by_descriptor, used_directly, used_filesystems}
-use Rattle.vt_spec.specs.Machine.World.{Filesystem, Namespace, Task, World, filesystem_numbered, mount_at, no_filesystem}
-use Rattle.vt_spec.proofs.Lists.{map_alike, Among, among-append_left, any_from_among, is_among_numbers}
-use Rattle.vt_spec.proofs.Options.{none_is_some}
+use Rattle.std.proofs.Common.{◌≡◌, refl, sym, ap, ◌∙◌, ◌⊎◌, ⊎_elim, ℕ, nat_eq, Bool, true, false, cond, true≢false, List, [], ◌∷◌, Option, Some, None, filter, find, ◌||◌, arith, unwrap_or, filter_map}
+use Rattle.vt_spec.proofs.Common.{Among, Filesystem, Location, Mount, Namespace, Task, TaskName, World, among-append_left, any_from_among, common_steps, cons_option, filesystem_numbered, holds_of, is_among, is_among_numbers, is_at, is_member_task, list_any, locations, map_alike, members, mount_at, no_filesystem, no_mount, none_is_some, own_lowers, own_mounts, part_of, part_of_filesystem, part_of_lower, part_of_master, part_of_mount, roots_and_directories, same_Some, seen_by_descriptor, used_directly, used_filesystems, when}
 use Rattle.vt_laws_mounts.proofs.letting_go.Lists.{flat_map_alike}
 use Rattle.vt_laws_sealed.specs.Part.Parts.{PartOfThePartIsThePart}
 use Rattle.vt_laws_sealed.proofs.part.Kept.{among-each_once, filter_again, filter_kept, find_kept, kept_again}

@@ -1,14 +1,6 @@
 -- A change of a filesystem that a set of tasks does not use leaves their part.
-use Rattle.std.proofs.lemmas.Grind.{common_steps}
 use Rattle.std.proofs.Common.{◌≡◌, ◌≢◌, refl, sym, ap, ◌∙◌, ℕ, nat_eq, Bool, true, false, cond, true≢false, List, Option, Some, None, filter, ◌&&◌, eq-eqb, eqb-true, arith}
-use Rattle.std.specs.List.{list_any}
-use Rattle.vt_spec.specs.Lists.{is_among, when}
-use Rattle.vt_spec.specs.Language.Calls.{TaskName}
-use Rattle.vt_spec.specs.Machine.Sealed.{own_lowers, used_directly, used_filesystems}
-use Rattle.vt_spec.specs.FileTree.{is_under}
-use Rattle.vt_spec.specs.Machine.Settled.{only_among}
-use Rattle.vt_spec.specs.Machine.World.{Filesystem, Layer, World, filesystem_numbered, replaced_if_numbered, with_filesystem}
-use Rattle.vt_spec.proofs.Lists.{Among, among-append_left, among_from_contains, is_among_numbers}
+use Rattle.vt_spec.proofs.Common.{Among, Filesystem, Layer, TaskName, World, among-append_left, among_from_contains, common_steps, filesystem_numbered, is_among, is_among_numbers, is_under, list_any, only_among, own_lowers, replaced_if_numbered, used_directly, used_filesystems, when, with_filesystem}
 use Rattle.vt_laws_sealed.specs.Part.Parts.{SeesTheSame, UnusedFilesystemsMayChange, shown_of}
 use Rattle.vt_laws_sealed.proofs.part.Kept.{among-each_once, filter_map_map, filter_map_same}
 use Rattle.vt_laws_sealed.proofs.part.part.Observed.{part_same}

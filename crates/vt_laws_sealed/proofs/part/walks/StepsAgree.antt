@@ -1,20 +1,10 @@
 -- A step is the same in two worlds that show the same where it meets filesystems.
-use Rattle.std.proofs.Common.{arith, append-nil, ◌≡◌, refl, sym, ap, subst, ◌∙◌, inl, inr, ℕ, nat_eq, Bool, true, false, cond, List, [], ◌∷◌, ◌++◌, Option, Ok, Err, Result, flat_map, ◌&&◌, ◌||◌}
-use Rattle.std.proofs.lemmas.Grind.{common_steps}
-use Rattle.std.specs.Prelude.{IfOk, ok_or, option_map, option_to_list}
-use Rattle.std.proofs.lemmas.Bool.{and_from}
-use Rattle.std.proofs.lemmas.List.{map-append}
+use Rattle.std.proofs.Common.{arith, append-nil, ◌≡◌, refl, sym, ap, subst, ◌∙◌, inl, inr, ℕ, nat_eq, Bool, true, false, cond, List, [], ◌∷◌, ◌++◌, Option, Ok, Err, Result, flat_map, ◌&&◌, ◌||◌, IfOk, ok_or, option_map, option_to_list}
+use Rattle.vt_spec.proofs.Common.{Among, Dot, DotDot, LastWord, Location, Looks, Mount, Named, NoWord, Task, among-append_left, among-append_right, among-map, among_from_contains, and_from, common_steps, contains_from_among, denial, entered_upward, entries_in, entry_named, filesystems_of, hops, last_or, map-append, met_by, parent_in, same_location, stepped, unless, up_from}
 use Rattle.vt_spec.specs.declared.errors.Deny.{Deny}
 use Rattle.vt_spec.specs.declared.errors.Rule.TheVariants.{W6, W8}
-use Rattle.vt_spec.specs.Errors.{denial, unless}
-use Rattle.vt_spec.specs.Lists.{last_or}
-use Rattle.vt_spec.specs.Machine.Looks.{Looks, mount_at, topmost}
-use Rattle.vt_spec.specs.Machine.Mounts.{Location, Mount, same_location}
-use Rattle.vt_spec.specs.Machine.Walking.{LastWord, entered_upward, filesystems_of, hops, is_lost, is_top, met_by, parent_location, stepped, up_from}
-use Rattle.vt_spec.specs.Machine.Walking.LastWord.{Dot, DotDot, Named, NoWord}
-use Rattle.vt_spec.specs.Machine.World.{Task}
-use Rattle.vt_spec.specs.Tree.{entries_in, entry_named, parent_in}
-use Rattle.vt_spec.proofs.Lists.{Among, among-append_left, among-append_right, among-map, among_from_contains, contains_from_among}
+use Rattle.vt_spec.specs.Machine.Looks.{mount_at, topmost}
+use Rattle.vt_spec.specs.Machine.Walking.{is_lost, is_top, parent_location}
 use Rattle.vt_laws_sealed.proofs.part.walks.WalksAgree.{Agree, Each, each_from, last_each}
 use Rattle.vt_laws_sealed.specs.Part.Walks.{ShowAlikeWhereSeen, StepsAgree}
 

@@ -1,23 +1,11 @@
 -- Two worlds that show the same through some mounts are walked alike from them.
-use Rattle.std.proofs.lemmas.Grind.{common_steps}
-use Rattle.std.proofs.Common.{◌≡◌, refl, sym, ap, subst, ◌∙◌, inl, inr, ⊎_elim, ℕ, zero, suc, nat_eq, Bool, true, false, cond, List, [], ◌∷◌, ◌++◌, Option, Some, None, Ok, Err, Result, map, flat_map, not, ◌||◌, reverse, arith}
-use Rattle.std.specs.Prelude.{IfOk, length, nat_lt, ok_or, option_map, option_to_list, ◌==◌}
-use Rattle.std.specs.List.{list_any}
+use Rattle.std.proofs.Common.{◌≡◌, refl, sym, ap, subst, ◌∙◌, inl, inr, ⊎_elim, ℕ, zero, suc, nat_eq, Bool, true, false, cond, List, [], ◌∷◌, ◌++◌, Option, Some, None, Ok, Err, Result, map, flat_map, not, ◌||◌, reverse, arith, IfOk, length, nat_lt, ok_or, option_map, option_to_list, ◌==◌}
+use Rattle.vt_spec.proofs.Common.{Among, Dot, DotDot, Follow, Here, LastWord, Location, Looks, Mount, Named, NoWord, Rules, Stop, Task, among-append, and_then, common_steps, contains_from_among, denial, ends_in_slash, entered_upward, entries_in, entry_location, entry_named, filesystems_of, follow_rules, hops, if_symlink, is_absolute, is_directory_node, last_or, last_word, list_any, longest_name, met_by, parent_in, same_location, search_rules, slash_rules, start_of, stepped, steps_with, stopped_by, symlink_start, symlink_text, symlink_walked, then_walk, unless, up_from, walk_unless, word_walked, words, words_walked}
 use Rattle.vt_spec.specs.declared.errors.Deny.{Deny}
 use Rattle.vt_spec.specs.declared.errors.Rule.TheVariants.{W2, W3, W6, W7, W8, W9}
-use Rattle.vt_spec.specs.Errors.{Rules, and_then, denial, unless}
-use Rattle.vt_spec.specs.FileTree.{symlink_text}
-use Rattle.vt_spec.specs.Lists.{last_or}
-use Rattle.vt_spec.specs.Machine.Looks.{Looks, mount_at, topmost}
-use Rattle.vt_spec.specs.Machine.Mounts.{Location, Mount, same_location}
+use Rattle.vt_spec.specs.Machine.Looks.{mount_at, topmost}
 use Rattle.vt_laws_sealed.specs.Part.Walks.{AreOn, ShowAlike, TextsAgree, WordsAgree}
-use Rattle.vt_spec.specs.Machine.Walking.{Follow, Here, LastWord, Stop, entered_upward, entry_location, filesystems_of, follow_rules, hops, if_symlink, is_lost, is_top, last_word, met_by, parent_location, search_rules, slash_rules, start_of, stepped, steps_with, stopped_by, symlink_start, symlink_walked, then_walk, up_from, walk_unless, word_walked, words_walked}
-use Rattle.vt_spec.specs.Machine.Walking.LastWord.{Dot, DotDot, Named, NoWord}
-use Rattle.vt_spec.specs.Machine.World.{Task}
-use Rattle.vt_spec.specs.Language.Limits.{longest_name}
-use Rattle.vt_spec.specs.PathText.{ends_in_slash, is_absolute, words}
-use Rattle.vt_spec.specs.Tree.{entries_in, entry_named, is_directory_node, parent_in}
-use Rattle.vt_spec.proofs.Lists.{Among, among-append, contains_from_among}
+use Rattle.vt_spec.specs.Machine.Walking.{is_lost, is_top, parent_location}
 
 -- two results are one, and what is in it is so
 abbrev pub Agree : {A E : Type 0} → (A → Type 0) → Result A E → Result A E → Type 0

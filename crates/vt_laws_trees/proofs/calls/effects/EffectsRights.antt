@@ -1,43 +1,16 @@
 -- A right stands behind each effect.
-use Rattle.std.proofs.Common.{arith, Bool, List, None, Option, Result, Some, [], ap, eqb-true, false, inl, inr, nat_eq, refl, subst, sym, true, true≢false, ℕ, ◌&&◌, ◌==◌, ◌||◌, ◌∙◌, ◌∷◌, ◌≡◌}
-use Rattle.std.proofs.lemmas.Grind.{common_steps}
-use Rattle.vt_spec.specs.Errors.{NoneFails}
-use Rattle.std.proofs.lemmas.Bool.{and_parts, or_parts}
-use Rattle.std.proofs.lemmas.Option.{same_Some}
-use Rattle.std.specs.Prelude.{Ok, ⊤, ◌⊎◌}
+use Rattle.std.proofs.Common.{arith, Bool, List, None, Option, Result, Some, [], ap, eqb-true, false, inl, inr, nat_eq, refl, subst, sym, true, true≢false, ℕ, ◌&&◌, ◌==◌, ◌||◌, ◌∙◌, ◌∷◌, ◌≡◌, Ok, ◌⊎◌}
+use Rattle.vt_spec.proofs.Common.{Call, Change, Fresh, Location, Looks, Node, NoneFails, Permit, Place, SetAttr, Stop, Task, ToChange, ToRename, ToWritePart, World, after, and_parts, attr_at, attr_in, attr_with_mode, attr_with_owner, bytes_of, cap_sys_admin, common_steps, descriptor_found, descriptor_numbered, entries_of, entry_named, execute_right, has_all, holds_of, is_among, is_directory_there, is_special, judged, looks_of, may_chown, may_not, mount_at, name_of, node_allows, node_at, object_there, opaque_of, or_parts, overfills, owns, policy, rename_rules, same_Some, special_word, write_right, ⊤}
 use Rattle.vt_laws_trees.proofs.calls.effects.EffectsSearched.{IsSearched, MaySearch, searched_file_walk, searched_new_leaf_walk, searched_new_walk, searched_old_leaf_walk, searched_old_walk, searched_rename_walk}
 use Rattle.vt_laws_trees.proofs.calls.inodes.InodesEntries.{other_entries_stay}
 use Rattle.vt_laws_trees.proofs.calls.inodes.InodesOwn.{calls_change_their_own}
 use Rattle.vt_laws_trees.proofs.calls.inodes.InodesPartLaws.{only_chmod_changes_modes, only_chown_changes_owners, only_naming_changes_entries, only_opaque_changes_marks, only_writes_change_bytes}
 use Rattle.vt_laws_trees.specs.Calls.Effects.{ChangesAreByRight, HasOpenFor, MayDo}
 use Rattle.vt_laws_trees.specs.Calls.Inodes.{IsNotHanded, StaysIfThere, change_of, changes_names, entries_named_by, is_own, is_own_entry, owner_of, same_entry, sets_mark, sets_mode, sets_owner, writes_bytes}
-use Rattle.vt_spec.proofs.Given.{descriptor_found}
 use Rattle.vt_laws_rules.proofs.given.Inversion.{calls_are_granted}
 use Rattle.vt_laws_rules.specs.Granted.{IsGranted}
 use Rattle.vt_laws_rules.specs.Granted.IsGranted.{changes_mark, changes_mode, changes_owner, creates, creates_exclusively, keeps_names, makes_directory, makes_hard_link, makes_symlink, makes_whiteout, opens, opens_existing, overwrites_file, removes_directory, renames, unlinks, writes_new_file, writes_part}
-use Rattle.vt_spec.proofs.Worlds.{special_word}
-use Rattle.vt_spec.specs.FileTree.{attr_in, opaque_of}
-use Rattle.vt_spec.specs.Language.Calls.{Call}
-use Rattle.vt_spec.specs.Language.Changes.{Change}
-use Rattle.vt_spec.specs.Language.Changes.Change.{SetAttr}
-use Rattle.vt_spec.specs.Lists.{Fresh, holds_of, is_among}
-use Rattle.vt_spec.specs.Machine.Apply.{overfills}
-use Rattle.vt_spec.specs.Machine.Attributes.{attr_with_mode, attr_with_owner, may_chown}
-use Rattle.vt_spec.specs.Machine.Looks.{Looks, looks_of}
-use Rattle.vt_spec.specs.Machine.Mounts.{Location}
-use Rattle.vt_spec.specs.Machine.Outcomes.{after, judged}
-use Rattle.vt_spec.specs.Machine.Permits.{Permit}
-use Rattle.vt_spec.specs.Machine.Permits.Permit.{ToChange, ToRename, ToWritePart}
-use Rattle.vt_spec.specs.Machine.Policy.{policy}
-use Rattle.vt_spec.specs.Machine.Rightful.{node_allows}
-use Rattle.vt_spec.specs.Machine.Rules.Attributes.{attr_at}
-use Rattle.vt_spec.specs.Machine.Rules.Conditions.{may_not}
-use Rattle.vt_spec.specs.Machine.Rules.Descriptors.{descriptor_numbered}
-use Rattle.vt_spec.specs.Machine.Rules.Removing.{object_there, rename_rules}
-use Rattle.vt_spec.specs.Machine.Walking.{Place, Stop, is_directory_there, is_special, name_of}
-use Rattle.vt_spec.specs.Machine.World.{Task, World, mount_at, node_at}
-use Rattle.vt_spec.specs.Rights.{cap_chown, cap_sys_admin, execute_right, has_all, is_member, owns, write_right}
-use Rattle.vt_spec.specs.Tree.{Node, bytes_of, entries_of, entry_named}
+use Rattle.vt_spec.specs.Rights.{cap_chown, is_member}
 use Rattle.vt_spec.specs.declared.attributes.Attr.{Attr}
 use Rattle.vt_laws_trees.proofs.trees.TreesWalked.{Ends, at_end, not_true}
 use Rattle.vt_laws_trees.specs.Trees.Settling.{inode_in}

@@ -1,17 +1,8 @@
 -- The directory of a name that a walk ends at may be searched.
 use Rattle.std.proofs.Common.{◌≡◌, true≢false, ℕ, suc, zero, ◌+◌, nat_eq, Bool, true, false, not, ◌&&◌, ◌||◌, List, [], ◌∷◌, Option, Some, None, is_some, Result, reverse}
+use Rattle.vt_spec.proofs.Common.{Dot, DotDot, Here, LastWord, Location, Named, NoWord, Place, Stop, Task, World, ends_in_slash, execute_right, file_or_symlink, file_walked, final_word, followed, is_special, looks_of, most_symlinks, new_name_rules, node_allows, node_at, path_text, prefix_walked, rename_new_walk, symlink_of, then_walk, walk_start, walk_unless, words}
 use Rattle.vt_spec.specs.declared.errors.Rule.TheVariants.{W3, W6}
-use Rattle.vt_spec.specs.Machine.Mounts.{Location}
-use Rattle.vt_spec.specs.Machine.Looks.{looks_of}
-use Rattle.vt_spec.specs.Machine.Rightful.{node_allows}
-use Rattle.vt_spec.specs.Machine.Rules.Removing.{rename_new_walk}
-use Rattle.vt_spec.specs.Machine.Walking.{Here, LastWord, Place, Stop, final_word, is_special, symlink_of, path_text, then_walk, walk_start, walk_unless}
-use Rattle.vt_spec.proofs.Walk.{file_or_symlink, file_walk, file_walked, followed, follow_rules, prefix_walked, is_directory_there, symlink_start, symlink_there, new_leaf_walk, new_name_rules, new_walk, object_named, old_leaf_walk, old_walk, place_walk, placed, search_rules, steps_at}
-use Rattle.vt_spec.specs.Machine.Walking.LastWord.{Dot, DotDot, Named, NoWord}
-use Rattle.vt_spec.specs.Language.Limits.{most_symlinks}
-use Rattle.vt_spec.specs.Machine.World.{Task, World, node_at}
-use Rattle.vt_spec.specs.PathText.{ends_in_slash, words}
-use Rattle.vt_spec.specs.Rights.{execute_right}
+use Rattle.vt_spec.proofs.Walk.{file_walk, follow_rules, is_directory_there, symlink_start, symlink_there, new_leaf_walk, new_walk, object_named, old_leaf_walk, old_walk, place_walk, placed, search_rules, steps_at}
 use Rattle.vt_laws_trees.proofs.trees.TreesWalked.{Ends, ends_next, ends_step, ends_then, ends_unless, not_true}
 
 module _ (world : World ℕ) (task : Task ℕ) where

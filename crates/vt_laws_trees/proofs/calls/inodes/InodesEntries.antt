@@ -1,9 +1,6 @@
 -- In a directory that stays, a call changes no entry but those that its permit names.
-use Rattle.std.proofs.Common.{arith, ◌≡◌, refl, sym, ap, ◌∙◌, true≢false, ℕ, nat_eq, eq-eqb, Bool, true, false, cond, ◌&&◌, List, [], ◌∷◌, Option, Some, None}
-use Rattle.std.proofs.lemmas.Grind.{common_steps}
-use Rattle.std.specs.Cmp.Lexicographic.{bytes_decides}
-use Rattle.std.specs.Ordering.{eq_by_cmp}
-use Rattle.std.specs.Str.{bytes_eq}
+use Rattle.std.proofs.Common.{arith, ◌≡◌, refl, sym, ap, ◌∙◌, true≢false, ℕ, nat_eq, eq-eqb, Bool, true, false, cond, ◌&&◌, List, [], ◌∷◌, Option, Some, None, bytes_eq}
+use Rattle.vt_spec.proofs.Common.{AddName, Call, Change, Content, CopyUp, Directory, FileTree, Fresh, Location, Make, Move, Node, Permit, Regular, Remove, SetAttr, SetBytes, SetMark, Symlink, Task, ToChange, ToMake, ToMountOverlay, ToMountPlain, ToOpenNew, ToWritePart, Whiteout, World, bytes_decides, changed, common_steps, content_with_mark, content_with_parent, entries_of, entry_named, entry_named-with_entry, entry_named-without_entry, eq_by_cmp, evens, holds_of, is_among, judge_in, looks_of, mount_at, name_cmp, node_with_attr, node_with_bytes, node_with_entry, node_with_mark, node_without_entry, or_parts, with_bytes, with_entries, with_entry, with_name, without_entry, without_name}
 use Rattle.vt_laws_rules.proofs.given.GivenPermits.{permits_are_for_their_calls}
 use Rattle.vt_laws_trees.proofs.calls.inodes.InodesLeft.{LeftBy, MadeBy, inode_left}
 use Rattle.vt_laws_trees.proofs.calls.inodes.InodesParts.{KeptByParents, KeptIn, Stays, at_node, change_holds_if_kept, itself, kept_at, made_kept, moved_kept, removed_kept}
@@ -11,21 +8,7 @@ use Rattle.vt_laws_trees.proofs.calls.inodes.InodesSettled.{inode_after_call}
 use Rattle.vt_laws_rules.specs.Given.{IsFor}
 use Rattle.vt_laws_trees.specs.Calls.Inodes.{IsNotHanded, OtherEntriesStay, change_of, entries_named_by, is_own_entry, same_entry}
 use Rattle.vt_spec.specs.declared.attributes.Attr.{Attr}
-use Rattle.vt_spec.specs.Language.Calls.{Call}
-use Rattle.vt_spec.specs.Language.Changes.{Change, changed, content_with_mark, content_with_parent, node_with_attr, node_with_mark, node_without_entry, with_name, without_entry, without_name}
-use Rattle.vt_spec.specs.Language.Changes.Change.{AddName, CopyUp, Make, Move, Remove, SetAttr, SetBytes, SetMark}
-use Rattle.vt_spec.specs.FileTree.{FileTree}
-use Rattle.vt_spec.specs.Machine.Judge.{judge_in}
-use Rattle.vt_spec.specs.Lists.{Fresh, evens, holds_of, is_among}
-use Rattle.vt_spec.specs.Machine.Looks.{looks_of}
-use Rattle.vt_spec.specs.Machine.Mounts.{Location}
-use Rattle.vt_spec.specs.Machine.Permits.{Permit}
-use Rattle.vt_spec.specs.Machine.Permits.Permit.{ToChange, ToMake, ToMountOverlay, ToMountPlain, ToOpenNew, ToWritePart}
-use Rattle.vt_spec.specs.Machine.World.{Task, World, mount_at}
-use Rattle.vt_spec.specs.Tree.{Content, Node, entries_of, entry_named, name_cmp, node_with_bytes, node_with_entry, with_bytes, with_entries, with_entry}
-use Rattle.vt_spec.specs.Tree.Content.{Directory, Regular, Symlink, Whiteout}
-use Rattle.vt_spec.proofs.Nodes.{entry_named-with_entry, entry_named-without_entry, same_name}
-use Rattle.std.proofs.lemmas.Bool.{or_parts}
+use Rattle.vt_spec.proofs.Nodes.{same_name}
 use Rattle.vt_laws_trees.specs.Trees.Calls.{mounts_overlay}
 use Rattle.vt_laws_rules.specs.Plain.{IsPlain}
 use Rattle.vt_laws_trees.specs.Trees.Settling.{inode_in}

@@ -1,24 +1,9 @@
 -- What each permit leaves of an inode, in worlds without overlays.
-use Rattle.std.proofs.Common.{arith, ◌≡◌, refl, sym, subst, ◌∙◌, true≢false, ℕ, nat_eq, eqb-true, eq-eqb, Bool, true, false, cond, List, [], ◌∷◌, ◌++◌, map, find, Option, Some, None, is_some, unwrap_or}
-use Rattle.std.proofs.lemmas.Grind.{common_steps}
-use Rattle.std.specs.List.{All}
+use Rattle.std.proofs.Common.{arith, ◌≡◌, refl, sym, subst, ◌∙◌, true≢false, ℕ, nat_eq, eqb-true, eq-eqb, Bool, true, false, cond, List, [], ◌∷◌, ◌++◌, map, find, Option, Some, None, is_some, unwrap_or, All}
+use Rattle.vt_spec.proofs.Common.{Change, CopyUp, Filesystem, Fresh, Location, Node, Overlay, Permit, Task, ToChange, ToEnterNamespace, ToExit, ToMake, ToMountOverlay, ToMountPlain, ToOpen, ToOpenNew, ToRemoveDirectory, ToRename, ToSetType, ToUnmount, ToUnmountLazily, ToUnshare, ToWritePart, World, apply, changed, common_steps, deepest_first, evens, files_at, filesystem_at, filesystem_changed, filesystems-taken_away, filesystems-without_replaced, is_copied_up, is_overlay, mount_at, mount_numbered, mount_tree, namespace_entered, new_directory, new_plain, no_filesystem, odds, pwritten, replaced_if_numbered, root_attr, shown-without_replaced, unshared, with_change, with_copy, with_files, without_replaced, without_task}
 use Rattle.vt_laws_trees.specs.Calls.Inodes.{change_of}
-use Rattle.vt_spec.specs.Machine.Apply.{apply}
-use Rattle.vt_spec.specs.Language.Changes.{Change, changed}
-use Rattle.vt_spec.specs.Language.Changes.Change.{CopyUp}
-use Rattle.vt_spec.specs.Machine.Detach.{deepest_first, without_replaced}
-use Rattle.vt_spec.specs.Machine.Filesystems.{filesystem_changed, with_change, with_files}
-use Rattle.vt_spec.specs.Lists.{Fresh, evens, odds}
-use Rattle.vt_spec.specs.Machine.Mounts.{Location, mount_tree}
-use Rattle.vt_spec.specs.Machine.Namespaces.{namespace_entered, unshared}
-use Rattle.vt_spec.specs.Machine.Descriptors.{is_copied_up, pwritten, with_copy}
-use Rattle.vt_spec.specs.Machine.Permits.{Permit}
-use Rattle.vt_spec.specs.Machine.Permits.Permit.{ToChange, ToEnterNamespace, ToExit, ToMake, ToMountOverlay, ToMountPlain, ToOpen, ToOpenNew, ToRemoveDirectory, ToRename, ToSetType, ToUnmount, ToUnmountLazily, ToUnshare, ToWritePart}
-use Rattle.vt_spec.specs.Machine.World.{Filesystem, Overlay, Task, World, files_at, filesystem_at, is_overlay, mount_at, mount_numbered, new_plain, no_filesystem, replaced_if_numbered, root_attr, without_task}
-use Rattle.vt_spec.specs.Tree.{Node, new_directory}
 use Rattle.vt_laws_trees.proofs.trees.TreesOfWorlds.{number_numbered, numbered, numbered_anyhow, taken_files}
 use Rattle.vt_laws_trees.proofs.trees.ChangesByOthers.{lazily_filesystems, typed_filesystems}
-use Rattle.vt_spec.proofs.Worlds.{filesystems-taken_away, filesystems-without_replaced, shown-without_replaced}
 use Rattle.vt_laws_rules.specs.Plain.{IsPlain}
 
 replaced_files : (world : World ℕ) (replaced : Option (Location ℕ)) (location : Location ℕ)

@@ -1,24 +1,11 @@
 -- A granted call changes no inode but those that its permit names.
-use Rattle.std.proofs.Common.{arith, ◌≡◌, refl, sym, ap, ◌∙◌, true≢false, inl, inr, ◌⊎◌, ℕ, nat_eq, eq-eqb, Bool, true, false, cond, ◌&&◌, Option, Some, None}
-use Rattle.std.proofs.lemmas.Grind.{common_steps}
-use Rattle.std.specs.Prelude.{option_to_list}
+use Rattle.std.proofs.Common.{arith, ◌≡◌, refl, sym, ap, ◌∙◌, true≢false, inl, inr, ◌⊎◌, ℕ, nat_eq, eq-eqb, Bool, true, false, cond, ◌&&◌, Option, Some, None, option_to_list}
+use Rattle.vt_spec.proofs.Common.{Call, Change, FileTree, Fresh, Location, Node, Permit, Task, ToMountOverlay, ToMountPlain, World, changed, common_steps, holds_of, is_among, judge_in, looks_of, or_parts, without_parent}
 use Rattle.vt_laws_rules.proofs.given.GivenPermits.{permits_are_for_their_calls}
 use Rattle.vt_laws_trees.proofs.calls.inodes.InodesLeft.{LeftBy, MadeBy, inode_left}
 use Rattle.vt_laws_trees.proofs.calls.inodes.InodesSettled.{inode_after_call}
 use Rattle.vt_laws_rules.specs.Given.{IsFor}
 use Rattle.vt_laws_trees.specs.Calls.Inodes.{CallsChangeTheirOwn, change_of, is_own, named_by, own_by}
-use Rattle.vt_spec.specs.Language.Calls.{Call}
-use Rattle.vt_spec.specs.Language.Changes.{Change, changed, without_parent}
-use Rattle.vt_spec.specs.FileTree.{FileTree}
-use Rattle.vt_spec.specs.Machine.Judge.{judge_in}
-use Rattle.vt_spec.specs.Lists.{Fresh, holds_of, is_among}
-use Rattle.vt_spec.specs.Machine.Looks.{looks_of}
-use Rattle.vt_spec.specs.Machine.Mounts.{Location}
-use Rattle.vt_spec.specs.Machine.Permits.{Permit}
-use Rattle.vt_spec.specs.Machine.Permits.Permit.{ToMountOverlay, ToMountPlain}
-use Rattle.vt_spec.specs.Machine.World.{Task, World}
-use Rattle.vt_spec.specs.Tree.{Node}
-use Rattle.std.proofs.lemmas.Bool.{or_parts}
 use Rattle.vt_laws_trees.specs.Trees.Calls.{mounts_overlay}
 use Rattle.vt_laws_rules.specs.Plain.{IsPlain}
 use Rattle.vt_laws_trees.specs.Trees.Settling.{inode_in}

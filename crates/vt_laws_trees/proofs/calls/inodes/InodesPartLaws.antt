@@ -1,15 +1,10 @@
 -- Each part of an inode is changed by its own calls alone.
 use Rattle.std.proofs.Common.{arith, ◌≡◌, refl, sym, ◌∙◌, true≢false, ℕ, Bool, true, false, List, Option, Some, None}
-use Rattle.std.proofs.lemmas.Grind.{common_steps}
+use Rattle.vt_spec.proofs.Common.{Content, Directory, Entries, Node, Regular, Symlink, Whiteout, bytes_of, common_steps, content_with_mark, content_with_parent, entries_of, is_kind, kind_of, opaque_of, when, with_bytes, with_entries}
 use Rattle.vt_laws_trees.proofs.calls.inodes.InodesParts.{KeptByBytes, KeptByMark, KeptByMode, KeptByNames, KeptByOwner, only_these}
 use Rattle.vt_laws_trees.specs.Calls.Inodes.{KindsStay, LinkTextsStay, OnlyChmodChangesModes, OnlyChownChangesOwners, OnlyNamingChangesEntries, OnlyOpaqueChangesMarks, OnlyTheseChange, OnlyWritesChangeBytes, owner_of}
 use Rattle.vt_spec.specs.declared.attributes.Attr.{Attr}
 use Rattle.vt_spec.specs.declared.attributes.Kind.TheVariants.{Symlink as SymlinkKind}
-use Rattle.vt_spec.specs.Language.Changes.{content_with_mark, content_with_parent}
-use Rattle.vt_spec.specs.FileTree.{is_kind, opaque_of}
-use Rattle.vt_spec.specs.Lists.{when}
-use Rattle.vt_spec.specs.Tree.{Content, Entries, Node, bytes_of, entries_of, kind_of, with_bytes, with_entries}
-use Rattle.vt_spec.specs.Tree.Content.{Directory, Regular, Symlink, Whiteout}
 
 -- what cannot be so
 no_such : {P : Type 0} {b : Bool} → b ≡ false → b ≡ true → P

@@ -1,26 +1,12 @@
 -- What calls change of an inode, part by part.
 use Rattle.std.proofs.Common.{arith, ◌≡◌, refl, sym, ap, subst, ◌∙◌, true≢false, ℕ, nat_eq, eqb-true, eq-eqb, Bool, true, false, cond, List, [], ◌∷◌, Option, Some, None}
-use Rattle.std.proofs.lemmas.Grind.{common_steps}
+use Rattle.vt_spec.proofs.Common.{AddName, Call, Change, CopyUp, FileTree, Fresh, Location, Make, MakeWhiteout, Mkdir, Move, Node, Permit, Remove, SetAttr, SetBytes, SetMark, SymlinkAt, Task, TaskName, ToChange, ToMake, ToMountOverlay, ToMountPlain, ToOpenNew, ToRemoveDirectory, ToRename, ToWritePart, World, Write, attr_in, attr_with_mode, attr_with_owner, changed, changed_node, common_steps, entries_in, entry_named, evens, files_at, looks_of, node_with_attr, node_with_bytes, node_with_entry, node_with_mark, node_with_parent, node_without_entry, policy, with_inode, with_name, without_name, without_parent}
 use Rattle.vt_laws_rules.proofs.given.GivenPermits.{permits_are_for_their_calls}
 use Rattle.vt_laws_trees.proofs.calls.inodes.InodesLeft.{ChangeHolds, LeftBy, MadeBy, inode_left}
 use Rattle.vt_laws_trees.proofs.calls.inodes.InodesSettled.{inode_after_call}
 use Rattle.vt_laws_rules.specs.Given.{IsFor, IsForAttr, makes_a_name}
 use Rattle.vt_laws_trees.specs.Calls.Inodes.{IsNotHanded, StaysIfThere, change_of, changes_names, sets_mark, sets_mode, sets_owner, writes_bytes}
 use Rattle.vt_spec.specs.declared.attributes.Attr.{Attr}
-use Rattle.vt_spec.specs.Language.Calls.{Call, TaskName}
-use Rattle.vt_spec.specs.Language.Calls.Call.{MakeWhiteout, Mkdir, SymlinkAt, Write}
-use Rattle.vt_spec.specs.Language.Changes.{Change, changed, changed_node, node_with_attr, node_with_mark, node_with_parent, node_without_entry, with_inode, with_name, without_name, without_parent}
-use Rattle.vt_spec.specs.Language.Changes.Change.{AddName, CopyUp, Make, Move, Remove, SetAttr, SetBytes, SetMark}
-use Rattle.vt_spec.specs.FileTree.{FileTree, attr_in}
-use Rattle.vt_spec.specs.Lists.{Fresh, evens}
-use Rattle.vt_spec.specs.Machine.Looks.{looks_of}
-use Rattle.vt_spec.specs.Machine.Mounts.{Location}
-use Rattle.vt_spec.specs.Machine.Attributes.{attr_with_mode, attr_with_owner}
-use Rattle.vt_spec.specs.Machine.Permits.{Permit}
-use Rattle.vt_spec.specs.Machine.Permits.Permit.{ToChange, ToMake, ToMountOverlay, ToMountPlain, ToOpenNew, ToRemoveDirectory, ToRename, ToWritePart}
-use Rattle.vt_spec.specs.Machine.Policy.{policy}
-use Rattle.vt_spec.specs.Machine.World.{Task, World, files_at}
-use Rattle.vt_spec.specs.Tree.{Node, entries_in, entry_named, node_with_bytes, node_with_entry}
 use Rattle.vt_laws_trees.specs.Trees.Calls.{mounts_overlay}
 use Rattle.vt_laws_rules.specs.Plain.{IsPlain}
 use Rattle.vt_laws_trees.specs.Trees.Settling.{inode_in}

@@ -1,22 +1,9 @@
 -- What settling and raising leave of inodes: each is as it was, or gone.
 use Rattle.std.proofs.Common.{arith, ◌≡◌, refl, sym, ap, subst, ◌∙◌, true≢false, ℕ, nat_eq, eqb-true, Bool, true, false, not, cond, ◌||◌, List, [], ◌∷◌, map, filter, find, Option, Some, None, unwrap_or, Ok, Err, ok_or}
-use Rattle.std.proofs.lemmas.Grind.{common_steps}
+use Rattle.vt_spec.proofs.Common.{Call, Filesystem, Fresh, Judgement, Node, Permit, Task, TaskName, World, after, apply, common_steps, denial, denied, filesystem_lives, filesystems_changed_by, filesystems_raised, finished, finished_by, is_overlay, judge_in, no_filesystem, number-only_used, only_looks, only_used, only_used_by, policy, settled, task_called, used_in, without_dead_filesystems, without_dead_in, without_dead_mounts}
 use Rattle.vt_laws_rules.proofs.judged.CallsJudged.{policy_judges_then_applies}
 use Rattle.vt_spec.specs.declared.errors.Rule.TheVariants.{S2}
-use Rattle.vt_spec.specs.Errors.{denial}
-use Rattle.vt_spec.specs.Machine.Apply.{apply}
-use Rattle.vt_spec.specs.Language.Calls.{Call, TaskName}
-use Rattle.vt_spec.specs.Machine.Filesystems.{filesystems_raised}
-use Rattle.vt_spec.specs.Machine.Judge.{Judgement, judge_in}
-use Rattle.vt_spec.specs.Lists.{Fresh}
-use Rattle.vt_spec.specs.Machine.Outcomes.{after, denied}
-use Rattle.vt_spec.specs.Machine.Permits.{Permit}
-use Rattle.vt_spec.specs.Machine.Policy.{filesystems_changed_by, finished, finished_by, only_looks, policy}
-use Rattle.vt_spec.specs.Machine.Settled.{filesystem_lives, only_used, only_used_by, settled, used_in, without_dead_filesystems, without_dead_in, without_dead_mounts}
-use Rattle.vt_spec.specs.Machine.World.{Filesystem, Task, World, is_overlay, no_filesystem, task_called}
-use Rattle.vt_spec.specs.Tree.{Node}
 use Rattle.vt_laws_trees.proofs.trees.TreesOfWorlds.{numbered}
-use Rattle.vt_spec.proofs.Worlds.{number-only_used}
 
 abbrev pub Inode : Type 0
 Inode = Option (Node ℕ)

@@ -1,12 +1,6 @@
 -- Tasks by their names, in lists that are changed.
 use Rattle.std.proofs.Common.{arith, ◌≡◌, refl, sym, ap, ◌∙◌, true≢false, ℕ, Bool, true, false, not, cond, List, [], ◌∷◌, ◌++◌, map, filter, find, Option, Some, None, option_map, nat_eq}
-use Rattle.std.proofs.lemmas.Grind.{common_steps}
-use Rattle.vt_spec.specs.Machine.Mounts.{Mount}
-use Rattle.vt_spec.specs.Machine.Namespaces.{pivoted_task}
-use Rattle.vt_spec.specs.Machine.Policy.{raised_task}
-use Rattle.vt_spec.specs.Machine.World.{Task}
-use Rattle.vt_spec.specs.Language.Calls.{TaskName, same_name}
-use Rattle.vt_spec.proofs.Worlds.{same_name_itself, same_task_name}
+use Rattle.vt_spec.proofs.Common.{Mount, Task, TaskName, common_steps, pivoted_task, raised_task, same_name, same_name_itself, same_task_name}
 
 abbrev pub Found : Type 0
 Found = Option (Task ℕ)

@@ -1,16 +1,9 @@
 -- The laws of tasks.
 use Rattle.std.proofs.Common.{arith, ◌≡◌, refl, sym, ap, subst, inl, inr, ◌⊎◌, ⊎_elim, ℕ, Contains, true, Some, None}
-use Rattle.std.proofs.lemmas.Grind.{common_steps}
+use Rattle.vt_spec.proofs.Common.{Call, CapabilityWord, Credentials, Descriptor, Drop, Exit, Fresh, Location, Task, TaskName, Umask, World, among_from_contains, common_steps, contains_from_among, task_called}
 use Rattle.vt_laws_trees.proofs.calls.tasks.TasksFound.{Found}
 use Rattle.vt_laws_trees.proofs.calls.tasks.TasksOwn.{Becomes, BecomesTask, IsRaised, becomes, stays_or_changed}
 use Rattle.vt_laws_trees.specs.Calls.Tasks.{IsForked, IsNoMore, NewTasksAreChildren, OnlyDropTakesRights, OnlyExitLeaves, OnlyOpenGivesDescriptors, OnlyTheseMoveDirectories, OnlyTheseMoveNamespaces, OnlyTheseMoveRoots, OnlyUmaskSetsUmask, Opens, OtherTasksStay, Pivots, RightsOnlyShrink, StaysOrIsPivoted, moves_directory, moves_namespace, moves_root, task_after}
-use Rattle.vt_spec.specs.Language.Calls.{Call, CapabilityWord, TaskName}
-use Rattle.vt_spec.specs.Language.Calls.Call.{Drop, Exit, Umask}
-use Rattle.vt_spec.specs.Lists.{Fresh}
-use Rattle.vt_spec.specs.Machine.Mounts.{Location}
-use Rattle.vt_spec.specs.Machine.World.{Descriptor, Task, World, task_called}
-use Rattle.vt_spec.specs.Rights.{Credentials}
-use Rattle.vt_spec.proofs.Lists.{among_from_contains, contains_from_among}
 
 itself_is_no_more : (was now : Credentials) → now ≡ was → IsNoMore was now
 itself_is_no_more was now same = subst (IsNoMore was) (sym same) (refl, refl, refl, λ capability held. held)

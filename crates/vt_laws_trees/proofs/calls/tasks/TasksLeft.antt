@@ -1,24 +1,9 @@
 -- The tasks that each permit leaves, and that settling and raising leave of them.
 use Rattle.std.proofs.Common.{arith, ◌≡◌, refl, sym, subst, ℕ, ◌+◌, nat_eq, Bool, true, false, not, ◌||◌, List, [], ◌∷◌, ◌++◌, map, filter, Option, Some, None, unwrap_or, Ok, Err, ok_or}
-use Rattle.std.proofs.lemmas.Grind.{common_steps}
+use Rattle.vt_spec.proofs.Common.{Call, Fresh, Judgement, Permit, Task, TaskName, ToChange, ToClose, ToEnterNamespace, ToExit, ToFork, ToMake, ToOpen, ToOpenNew, ToPivot, ToRemoveDirectory, ToRename, ToSetCredentials, ToSetDirectory, ToSetRoot, ToSetType, ToSetUmask, ToUnmount, ToUnmountLazily, ToUnshare, ToWritePart, World, after, apply, child_of, common_steps, denial, denied, entered_at, evens, filesystems_changed_by, finished, finished_by, judge_in, mount_at, mount_numbered, mounts_of, namespace_entered, namespace_root, numbers_by, odds, only_looks, pivoted_task, policy, raised_task, replaced_if_called, same_name, task_called, tasks-taken_away, tasks-with_change, tasks-without_replaced, unshared, unshared_task, with_descriptor, without_descriptor, without_task}
 use Rattle.vt_laws_rules.proofs.judged.CallsJudged.{policy_judges_then_applies}
 use Rattle.vt_spec.specs.declared.errors.Rule.TheVariants.{S2}
-use Rattle.vt_spec.specs.Errors.{denial}
-use Rattle.vt_spec.specs.Machine.Apply.{apply}
-use Rattle.vt_spec.specs.Language.Calls.{Call, TaskName, same_name}
-use Rattle.vt_spec.specs.Machine.Judge.{Judgement, judge_in}
-use Rattle.vt_spec.specs.Lists.{Fresh, evens, odds}
-use Rattle.vt_spec.specs.Machine.Mounts.{numbers_by}
-use Rattle.vt_spec.specs.Machine.Namespaces.{entered_at, namespace_entered, namespace_root, pivoted_task, unshared, unshared_task}
-use Rattle.vt_spec.specs.Machine.Descriptors.{with_descriptor, without_descriptor}
-use Rattle.vt_spec.specs.Machine.Tasks.{child_of}
-use Rattle.vt_spec.specs.Machine.Outcomes.{after, denied}
-use Rattle.vt_spec.specs.Machine.Permits.{Permit}
-use Rattle.vt_spec.specs.Machine.Permits.Permit.{ToChange, ToClose, ToEnterNamespace, ToExit, ToFork, ToMake, ToOpen, ToOpenNew, ToPivot, ToRemoveDirectory, ToRename, ToSetCredentials, ToSetDirectory, ToSetRoot, ToSetType, ToSetUmask, ToUnmount, ToUnmountLazily, ToUnshare, ToWritePart}
-use Rattle.vt_spec.specs.Machine.Policy.{filesystems_changed_by, finished, finished_by, only_looks, policy, raised_task}
-use Rattle.vt_spec.specs.Machine.World.{Task, World, mount_at, mount_numbered, mounts_of, replaced_if_called, task_called, without_task}
 use Rattle.vt_laws_trees.proofs.trees.TreesLimits.{lazily_tasks, typed_tasks}
-use Rattle.vt_spec.proofs.Worlds.{tasks-taken_away, tasks-with_change, tasks-without_replaced}
 use Rattle.vt_laws_trees.proofs.trees.TreesTasks.{tasks-with_copy, tasks-pwritten}
 
 abbrev Tasks : Type 0

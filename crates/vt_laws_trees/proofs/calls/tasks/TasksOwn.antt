@@ -1,34 +1,15 @@
 -- What tasks are after a call.
 use Rattle.std.proofs.Common.{arith, ◌≡◌, refl, sym, ap, subst, ◌∙◌, inl, inr, ◌⊎◌, ⊎_elim, ℕ, ◌+◌, nat_eq, eqb-true, eq-eqb, Bool, true, false, cond, not, ◌&&◌, ◌==◌, bit_and, bytes_eq, List, [], ◌∷◌, ◌++◌, map, filter, Option, Some, None, option_map, Ok}
-use Rattle.std.proofs.lemmas.Grind.{common_steps}
-use Rattle.vt_spec.specs.Errors.{NoneFails}
+use Rattle.vt_spec.proofs.Common.{Access, Among, Call, CapabilityWord, Creation, Credentials, Descriptor, Drop, Exit, Fork, ForkWords, Fresh, Location, Mount, NoneFails, OpenFile, Permit, PivotRoot, Task, TaskName, ToClose, ToEnterNamespace, ToExit, ToFork, ToOpen, ToOpenNew, ToPivot, ToSetCredentials, ToSetDirectory, ToSetRoot, ToSetUmask, ToUnshare, Umask, World, among-from_filter, and_parts, bytes_decides, child_credentials, child_name, child_of, common_steps, evens, fork_rules, has_all, inserted, judge_in, looks_of, mount_at, mount_numbered, name-replaced_if_called, not-false, pivoted_location, pivoted_task, policy, raised, raised_task, replaced_if_called, same_name, same_task_name, task_called, with_descriptor, with_dropped, without_descriptor}
 use Rattle.std.proofs.lemmas.Nat.{and_assoc}
-use Rattle.std.proofs.lemmas.Bool.{and_parts, not-false}
-use Rattle.std.specs.Cmp.Lexicographic.{bytes_decides}
 use Rattle.std.specs.Int.Bits.{and_self}
 use Rattle.vt_laws_rules.proofs.given.GivenPermits.{permits_are_for_their_calls}
 use Rattle.vt_laws_trees.proofs.calls.tasks.TasksFound.{Found, called, find_appended, find_mapped, found_name, none_left, others_left, pivoted_keeps_name, raised_is}
 use Rattle.vt_laws_trees.proofs.calls.tasks.TasksLeft.{alone, entered, left_tasks, tasks_after_call, with_new}
 use Rattle.vt_laws_rules.specs.Given.{IsFor}
 use Rattle.vt_laws_trees.specs.Calls.Tasks.{IsForked, IsNoMore, MayGive, Opens, Pivots, moves_directory, moves_namespace, moves_root, task_after}
-use Rattle.vt_spec.specs.Language.Calls.{Access, Call, CapabilityWord, Creation, ForkWords, TaskName, same_name}
-use Rattle.vt_spec.specs.Language.Calls.Call.{Drop, Exit, Fork, OpenFile, PivotRoot, Umask}
-use Rattle.vt_spec.specs.Machine.Filesystems.{raised}
-use Rattle.vt_spec.specs.Machine.Judge.{judge_in}
-use Rattle.vt_spec.specs.Lists.{Fresh, evens}
-use Rattle.vt_spec.specs.Machine.Looks.{looks_of}
-use Rattle.vt_spec.specs.Machine.Mounts.{Location, Mount}
-use Rattle.vt_spec.specs.Machine.Namespaces.{pivoted_location, pivoted_task}
-use Rattle.vt_spec.specs.Machine.Descriptors.{inserted, with_descriptor, without_descriptor}
-use Rattle.vt_spec.specs.Machine.Tasks.{capabilities_of, child_credentials, child_name, child_of, with_dropped}
-use Rattle.vt_spec.specs.Machine.Permits.{Permit}
-use Rattle.vt_spec.specs.Machine.Permits.Permit.{ToClose, ToEnterNamespace, ToExit, ToFork, ToOpen, ToOpenNew, ToPivot, ToSetCredentials, ToSetDirectory, ToSetRoot, ToSetUmask, ToUnshare}
-use Rattle.vt_spec.specs.Machine.Policy.{policy, raised_task}
-use Rattle.vt_spec.specs.Machine.Rules.Tasks.{fork_rules}
-use Rattle.vt_spec.specs.Machine.World.{Descriptor, Task, World, mount_at, mount_numbered, replaced_if_called, task_called}
-use Rattle.vt_spec.specs.Rights.{Credentials, cap_setgid, cap_setuid, has_all, without}
-use Rattle.vt_spec.proofs.Lists.{Among, among-from_filter}
-use Rattle.vt_spec.proofs.Worlds.{name-replaced_if_called, same_task_name}
+use Rattle.vt_spec.specs.Machine.Tasks.{capabilities_of}
+use Rattle.vt_spec.specs.Rights.{cap_setgid, cap_setuid, without}
 
 -- Capabilities
 

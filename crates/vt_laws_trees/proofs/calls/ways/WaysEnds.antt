@@ -1,15 +1,12 @@
 -- Each directory on the way of a walk is searched: walks to objects and directories.
 use Rattle.std.proofs.Common.{◌≡◌, refl, ℕ, nat_eq, not, List, [], ◌∷◌}
+use Rattle.vt_spec.proofs.Common.{Here, Location, Task, World, at_topmost, destination_walk, is_directory_at, is_removed_at, looks_of, path_walked, source_walk}
 use Rattle.vt_laws_trees.proofs.trees.TreesWalked.{Ends, at_end, ends_then, ends_unless}
 use Rattle.vt_laws_trees.proofs.calls.ways.WaysWalked.{path_searched}
 use Rattle.vt_laws_trees.specs.Calls.Searched.{DestinationWaysAreSearched, DirectoryWaysAreSearched, IsSearchedTo, ObjectWaysAreSearched, SourceWaysAreSearched}
 use Rattle.vt_spec.specs.declared.errors.Rule.TheVariants.{W3, W8}
-use Rattle.vt_spec.specs.Machine.Looks.{looks_of, topmost}
-use Rattle.vt_spec.specs.Machine.Mounts.{Location}
-use Rattle.vt_spec.specs.Machine.Rules.Mounting.{at_topmost, destination_walk, source_walk}
-use Rattle.vt_spec.specs.Machine.Walking.{Here}
-use Rattle.vt_spec.proofs.Walk.{directory_walk, object_walk, path_walked, slash_rules}
-use Rattle.vt_spec.specs.Machine.World.{Task, World, is_directory_at, is_removed_at}
+use Rattle.vt_spec.specs.Machine.Looks.{topmost}
+use Rattle.vt_spec.proofs.Walk.{directory_walk, object_walk, slash_rules}
 
 module _ (world : World ℕ) (task : Task ℕ) (path : List ℕ) where
   abbrev pub IsSearchedEnd : Here ℕ → Type 0

@@ -1,17 +1,12 @@
 -- Each directory on the way of a walk is searched: walks to files that are opened or made.
 use Rattle.std.proofs.Common.{◌≡◌, refl, sym, subst, ℕ, zero, suc, ◌+◌, nat_eq, Bool, false, ◌||◌, List, ◌++◌, Option, Some, None, Ok, Err, Result, reverse}
-use Rattle.std.proofs.lemmas.List.Elements.{All-append}
+use Rattle.vt_spec.proofs.Common.{All-append, Here, Location, Place, Stop, Task, World, ends_in_slash, file_or_symlink, file_walked, final_word, followed, most_symlinks, new_name_rules, path_text, prefix_walked, start_of, symlink_of, then_walk, walk_start, walk_unless, words}
 use Rattle.vt_laws_trees.proofs.calls.ways.WaysNamed.{IsFront, prefix_searched, text_name_searched}
 use Rattle.vt_laws_trees.proofs.calls.ways.WaysSearched.{IsNamedAt, placed_step}
 use Rattle.vt_laws_trees.proofs.calls.ways.WaysWalked.{path_text_same}
 use Rattle.vt_laws_trees.specs.Calls.Searched.{FileWaysAreSearched, IsSearchable, IsSearchedToFile, IsSearchedWayToFile, IsSearchedWayToName}
 use Rattle.vt_laws_trees.specs.Calls.Searched.WayToFile.{file_in, through_symlink}
-use Rattle.vt_spec.specs.Language.Limits.{most_symlinks}
-use Rattle.vt_spec.specs.Machine.Mounts.{Location}
-use Rattle.vt_spec.specs.Machine.Walking.{Here, Place, Stop, final_word, path_text, start_of, symlink_of, then_walk, walk_start, walk_unless}
-use Rattle.vt_spec.proofs.Walk.{file_or_symlink, file_walk, file_walked, follow_rules, followed, prefix_walked, new_name_rules, placed, symlink_start, symlink_there}
-use Rattle.vt_spec.specs.Machine.World.{Task, World}
-use Rattle.vt_spec.specs.PathText.{ends_in_slash, words}
+use Rattle.vt_spec.proofs.Walk.{file_walk, follow_rules, placed, symlink_start, symlink_there}
 use Rattle.vt_laws_trees.proofs.trees.TreesWalked.{Ends, at_end, ends_then, ends_unless}
 
 module _ (world : World ℕ) (task : Task ℕ) where

@@ -1,25 +1,14 @@
 -- Each directory on the way of a walk is searched: walks to names.
-use Rattle.std.proofs.Common.{arith, ◌≡◌, refl, sym, subst, true≢false, ℕ, nat_eq, Bool, true, false, not, ◌&&◌, List, [], ◌∷◌, ◌++◌, is_some, Ok, Err, Result, reverse}
-use Rattle.std.proofs.lemmas.Grind.{common_steps}
+use Rattle.std.proofs.Common.{arith, ◌≡◌, refl, sym, subst, true≢false, ℕ, nat_eq, Bool, true, false, not, ◌&&◌, List, [], ◌∷◌, ◌++◌, is_some, Ok, Err, Result, reverse, bytes_eq, codes, if◌then◌else◌}
+use Rattle.vt_spec.proofs.Common.{All-append, All-cons, All-nil, Dot, DotDot, Here, LastWord, Location, Named, NoWord, Place, Stop, Task, World, common_steps, ends_in_slash, final_word, followed, is_no_word, last_walked, last_word, looks_of, new_name_rules, path_text, prefix_walked, rename_new_walk, reverse-reverse, walk_start, words}
 use mathlib.Core.List.{reverse-cons}
-use Rattle.std.proofs.lemmas.List.{reverse-reverse}
-use Rattle.std.proofs.lemmas.List.Elements.{All-append, All-cons, All-nil}
-use Rattle.std.specs.Str.{bytes_eq}
-use Rattle.std.specs.Prelude.{codes, if◌then◌else◌}
 use Rattle.vt_laws_trees.proofs.calls.ways.WaysEnds.{object_searched}
 use Rattle.vt_laws_trees.proofs.calls.ways.WaysSearched.{IsNamedAt, IsStep, placed_step, word_step}
 use Rattle.vt_laws_trees.proofs.calls.ways.WaysWalked.{followed_searched, path_text_same, words_searched}
 use Rattle.vt_laws_trees.specs.Calls.Searched.{IsSearchable, IsSearchedToName, IsSearchedWay, IsSearchedWayToName, NewLeafWaysAreSearched, NewNameWaysAreSearched, OldLeafWaysAreSearched, OldNameWaysAreSearched, PlaceWaysAreSearched, RenamedWaysAreSearched, SymlinkWaysAreSearched}
 use Rattle.vt_laws_trees.specs.Calls.Searched.WayToName.{name_in, no_name}
 use Rattle.vt_spec.specs.declared.errors.Rule.TheVariants.{W3, W6}
-use Rattle.vt_spec.specs.Machine.Looks.{looks_of}
-use Rattle.vt_spec.specs.Machine.Mounts.{Location}
-use Rattle.vt_spec.specs.Machine.Rules.Removing.{rename_new_walk}
-use Rattle.vt_spec.specs.Machine.Walking.{Here, LastWord, Place, Stop, final_word, is_no_word, last_word, path_text, walk_start}
-use Rattle.vt_spec.proofs.Walk.{followed, prefix_walked, is_directory_there, last_walked, new_leaf_walk, new_name_rules, new_walk, old_leaf_walk, old_walk, place_walk, placed, stepped, symlink_walk_by, word_walked}
-use Rattle.vt_spec.specs.Machine.Walking.LastWord.{Dot, DotDot, Named, NoWord}
-use Rattle.vt_spec.specs.Machine.World.{Task, World}
-use Rattle.vt_spec.specs.PathText.{ends_in_slash, words}
+use Rattle.vt_spec.proofs.Walk.{is_directory_there, new_leaf_walk, new_walk, old_leaf_walk, old_walk, place_walk, placed, stepped, symlink_walk_by, word_walked}
 use Rattle.vt_laws_trees.proofs.trees.TreesWalked.{Ends, at_end, ends_then, ends_unless}
 
 some_word : (dot dots : Bool) (word : List ℕ)

@@ -1,13 +1,9 @@
 -- Words have one way at most.
 use Rattle.std.proofs.Common.{◌≡◌, refl, sym, ap, subst, ℕ, nat_eq, List, ◌∷◌, ◌++◌, Option, Some, None, Ok, Result}
+use Rattle.vt_spec.proofs.Common.{Location, Task, World, node_at, start_of, symlink_text, words}
 use Rattle.vt_laws_trees.specs.Calls.Searched.{Way, WaysAreOne}
 use Rattle.vt_laws_trees.specs.Calls.Searched.Way.{arrives, follows, goes_on}
 use Rattle.vt_spec.specs.declared.errors.Deny.{Deny}
-use Rattle.vt_spec.specs.Machine.Mounts.{Location}
-use Rattle.vt_spec.specs.Machine.Walking.{start_of}
-use Rattle.vt_spec.specs.Machine.World.{Task, World, node_at}
-use Rattle.vt_spec.specs.FileTree.{symlink_text}
-use Rattle.vt_spec.specs.PathText.{words}
 
 one_place : (r : Result (Location ℕ) Deny) (a b : Location ℕ) → r ≡ Ok a → r ≡ Ok b → a ≡ b
 one_place r a b e f = cc

@@ -1,12 +1,8 @@
 -- Each directory on the way of a walk is searched: one word.
 use Rattle.std.proofs.Common.{Bool, Ok, false, nat_eq, refl, true≢false, ℕ, ◌≡◌}
-use Rattle.vt_spec.specs.Errors.{NoneFails}
+use Rattle.vt_spec.proofs.Common.{Dot, DotDot, Here, LastWord, Location, Named, NoWord, NoneFails, Place, Task, World, is_no_word}
 use Rattle.vt_laws_trees.specs.Calls.Searched.{EachLastWordIsLookedUpByRight, EachWordIsLookedUpByRight, IsSearchable}
 use Rattle.vt_spec.proofs.Walk.{object_named, placed, search_rules, stepped, steps_at, steps_with, word_walked}
-use Rattle.vt_spec.specs.Machine.Mounts.{Location}
-use Rattle.vt_spec.specs.Machine.Walking.{Here, LastWord, Place, is_no_word}
-use Rattle.vt_spec.specs.Machine.Walking.LastWord.{Dot, DotDot, Named, NoWord}
-use Rattle.vt_spec.specs.Machine.World.{Task, World}
 use Rattle.vt_laws_trees.proofs.trees.TreesWalked.{Ends, at_end, ends_step, not_true}
 
 module _ (world : World ℕ) (task : Task ℕ) where

@@ -1,19 +1,11 @@
 -- Each directory on the way of a walk is searched: words, and the texts of symlinks.
-use Rattle.std.proofs.Common.{arith, ◌≡◌, refl, sym, subst, ℕ, zero, suc, ◌+◌, nat_eq, List, [], ◌∷◌, ◌++◌, Option, Some, None, Ok, Err, Result, reverse}
-use Rattle.std.proofs.lemmas.Grind.{common_steps}
+use Rattle.std.proofs.Common.{arith, ◌≡◌, refl, sym, subst, ℕ, zero, suc, ◌+◌, nat_eq, List, [], ◌∷◌, ◌++◌, Option, Some, None, Ok, Err, Result, reverse, append_assoc}
+use Rattle.vt_spec.proofs.Common.{All-append, All-cons, All-nil, Follow, Here, Location, Stop, Task, World, common_steps, followed, if_symlink, last_word, most_symlinks, node_at, path_rules, path_text, path_walked, reverse-reverse, start_of, symlink_text, walk_unless, words}
 use mathlib.Core.List.{reverse-cons}
-use Rattle.std.proofs.lemmas.List.{append_assoc, reverse-reverse}
-use Rattle.std.proofs.lemmas.List.Elements.{All-append, All-cons, All-nil}
 use Rattle.vt_laws_trees.proofs.calls.ways.WaysSearched.{IsStep, word_step}
 use Rattle.vt_laws_trees.specs.Calls.Searched.{IsSearchable, IsSearchedTo, IsSearchedWay, Way}
 use Rattle.vt_laws_trees.specs.Calls.Searched.Way.{arrives, follows, goes_on}
-use Rattle.vt_spec.specs.FileTree.{symlink_text}
-use Rattle.vt_spec.specs.Language.Limits.{most_symlinks}
-use Rattle.vt_spec.specs.Machine.Mounts.{Location}
-use Rattle.vt_spec.specs.Machine.Walking.{Follow, Here, Stop, if_symlink, last_word, path_text, start_of, walk_unless}
-use Rattle.vt_spec.proofs.Walk.{follow_rules, followed, path_walked, slash_rules, symlink_start, symlink_walked, word_walked, words_walked}
-use Rattle.vt_spec.specs.Machine.World.{Task, World, node_at}
-use Rattle.vt_spec.specs.PathText.{path_rules, words}
+use Rattle.vt_spec.proofs.Walk.{follow_rules, slash_rules, symlink_start, symlink_walked, word_walked, words_walked}
 use Rattle.vt_laws_trees.proofs.trees.TreesWalked.{Ends, ends_then, ends_unless}
 
 -- a path is walked as it is written

@@ -1,22 +1,13 @@
 -- Upper and work directories still lie apart when an overlay is mounted that the rules on layers let be mounted.
-use Rattle.std.proofs.Common.{arith, ◌≡◌, ◌⊎◌, inl, inr, ⊎_elim, refl, sym, ap, subst, ◌∙◌, true≢false, ℕ, nat_eq, eqb-true, Bool, true, false, ◌||◌, List, [], ◌∷◌, ◌++◌, flat_map, map}
-use Rattle.std.proofs.lemmas.Grind.{common_steps, flat_map-append}
-use Rattle.std.specs.List.{list_all, list_any}
-use Rattle.std.specs.Prelude.{option_to_list}
-use Rattle.std.proofs.lemmas.List.Elements.{filter-append}
-use Rattle.vt_spec.specs.Lists.{Fresh, any_pair, evens, is_among}
-use Rattle.vt_spec.specs.Machine.Locked.{in_use, lies_or_counts_under, live_layers, live_upper_and_work, of_overlay, overlaps_one_of, overlays, upper_and_work}
+use Rattle.std.proofs.Common.{arith, ◌≡◌, ◌⊎◌, inl, inr, ⊎_elim, refl, sym, ap, subst, ◌∙◌, true≢false, ℕ, nat_eq, eqb-true, Bool, true, false, ◌||◌, List, [], ◌∷◌, ◌++◌, flat_map, map, option_to_list}
+use Rattle.vt_spec.proofs.Common.{Fresh, IsWorld, Layer, LayerLocations, Overlay, World, and_true_left, and_true_right, any_pair, common_steps, evens, filesystem_numbered, filter-append, flat_map-append, in_use, is_among, is_plain_layer, layers_of, lies_or_counts_under, list_all, list_any, live_layers, live_lowers, live_upper_and_work, of_overlay, or_false_left, or_false_right, overlap, overlaps_one_of, overlays, upper_and_work}
 use Rattle.vt_spec.specs.declared.errors.Rule.TheVariants.{O2, O3, O5}
-use Rattle.vt_spec.specs.Machine.Rules.Mounting.{LayerLocations}
 use Rattle.vt_spec.proofs.Tables.{layer_rules}
-use Rattle.vt_spec.specs.Machine.World.{Layer, Overlay, World, filesystem_numbered, layers_of}
-use Rattle.vt_spec.specs.Machine.Invariants.{IsWorld, is_plain_layer, live_lowers, overlap}
 use Rattle.vt_laws_trees.specs.Layers.Layers.Mounted.{AreLayers}
 use Rattle.vt_laws_trees.specs.Layers.Layers.NewOverlays.{ChangedStayApart, LowersStayApart, NoneRefuses}
 use Rattle.vt_laws_trees.proofs.layers.directories.Later.{IsOld, any_found, later, new, overlaps_same, plain_is_old}
 use Rattle.vt_laws_trees.proofs.layers.directories.Order.{Pairwise, among_filtered, from_append, from_flat_map, pairwise_append}
 use Rattle.vt_laws_trees.proofs.layers.layers.ShownObjects.{Among, among_append_left, among_append_right, among_flat_map}
-use Rattle.vt_spec.proofs.Truths.{and_true_left, and_true_right, or_false_left, or_false_right}
 
 module _ {A : Type 0} where
   none_passes : (test : A → Bool) (list : List A) → list_any test list ≡ false → (a : A) → Among list a → test a ≡ false

@@ -1,23 +1,8 @@
 -- A newly mounted overlay is a tree, within the limits of its layers.
-use Rattle.std.proofs.Common.{arith, ◌≡◌, ◌≤◌, refl, sym, ap, ◌∙◌, true≢false, ℕ, nat_eq, eqb-true, Bool, true, false, cond, not, ◌&&◌, ◌||◌, List, [], ◌∷◌, ◌++◌, length, map, Option, Some, None, is_some, option_and_then, inl, inr, slice_get}
-use Rattle.std.proofs.lemmas.Grind.{common_steps}
-use Rattle.std.specs.List.{filter_map, find, list_all}
-use Rattle.std.specs.Ordering.{eq_by_cmp}
-use Rattle.std.specs.Prelude.{nat_le, option_map, option_to_list}
+use Rattle.std.proofs.Common.{arith, ◌≡◌, ◌≤◌, refl, sym, ap, ◌∙◌, true≢false, ℕ, nat_eq, eqb-true, Bool, true, false, cond, not, ◌&&◌, ◌||◌, List, [], ◌∷◌, ◌++◌, length, map, Option, Some, None, is_some, option_and_then, inl, inr, slice_get, filter_map, find, nat_le, option_map, option_to_list}
+use Rattle.vt_spec.proofs.Common.{Content, Directory, Entries, Fresh, IsWorld, ListsNumbers, Merged, MergedInode, Node, OpenLayer, Overlay, Regular, Shown, Symlink, Whiteout, World, and_true_left, and_true_right, at_path, bytes_in, common_steps, entry_at, entry_in_directory, entry_named, eq_by_cmp, inode_count, inode_of, is_among, is_empty, is_fit_filesystem, is_kind_in, largest_file, led, list_all, longest_path, merged_content, name_cmp, names_in, none_is_some, odds, odds-distinct, open_layer, overlay_filesystem, shown, shown_layers, symlink_text}
 use Rattle.vt_spec.specs.declared.attributes.Attr.{Attr}
 use Rattle.vt_spec.specs.declared.attributes.Kind.TheVariants.{File}
-use Rattle.vt_spec.specs.FileTree.{is_kind_in, symlink_text}
-use Rattle.vt_spec.specs.Machine.Layers.{OpenLayer, Shown, at_path, shown}
-use Rattle.vt_spec.specs.Lists.{Fresh, is_among, odds}
-use Rattle.vt_spec.specs.Machine.Merging.{Merged, MergedInode, entry_in_directory, inode_of, merged_content}
-use Rattle.vt_spec.specs.Language.Limits.{largest_file, longest_path}
-use Rattle.vt_spec.specs.Machine.NewMounts.{inode_count, overlay_filesystem}
-use Rattle.vt_spec.specs.Machine.World.{Overlay, World, open_layer, shown_layers}
-use Rattle.vt_spec.specs.Machine.Invariants.{IsWorld, ListsNumbers, is_fit_filesystem}
-use Rattle.vt_spec.specs.PathText.{is_empty}
-use Rattle.vt_spec.specs.Tree.{Content, Entries, Node, bytes_in, entry_named, name_cmp, names_in}
-use Rattle.vt_spec.specs.Tree.Content.{Directory, Regular, Symlink, Whiteout}
-use Rattle.vt_spec.specs.TreeInvariant.{entry_at, led}
 use Rattle.vt_spec.proofs.Nodes.{same_name}
 use Rattle.vt_laws_trees.specs.Layers.Layers.Mounted.{AreLayers}
 use Rattle.vt_laws_trees.specs.Layers.Layers.NewOverlays.{NewOverlayHasOwnParents, NewOverlayIsFit, NewOverlayIsTree, NewOverlayListsNumbers}
@@ -29,9 +14,6 @@ use Rattle.vt_laws_trees.proofs.layers.layers.ShownNames.{last_name}
 use Rattle.vt_laws_trees.proofs.layers.layers.ShownObjects.{Among, from_filter_map, object_is}
 use Rattle.vt_laws_trees.proofs.layers.layers.ShownWhole.{is_of_object}
 use Rattle.vt_laws_trees.proofs.layers.layers.UpperWorld.{all_found}
-use Rattle.vt_spec.proofs.Options.{none_is_some}
-use Rattle.vt_spec.proofs.Truths.{and_true_left, and_true_right}
-use Rattle.vt_spec.proofs.FreshNumbers.{odds-distinct}
 use Rattle.vt_laws_trees.specs.Trees.Sizes.{is_fit_name}
 
 abbrev no_larger : Option (Node ℕ) → Bool

@@ -1,20 +1,6 @@
 -- The layers of a newly mounted overlay lie apart from those of live ones, and what lies under a layer is as it was.
-use Rattle.std.proofs.Common.{arith, ◌≡◌, inl, inr, refl, sym, ap, ◌∙◌, true≢false, ℕ, nat_eq, eqb-true, Bool, true, false, cond, not, ◌&&◌, ◌||◌, List, [], ◌∷◌, ◌++◌, map, Option, Some, None, is_some, unwrap_or}
-use Rattle.std.proofs.lemmas.Grind.{common_steps}
-use Rattle.std.specs.List.{find, list_all, list_any}
-use Rattle.std.specs.Prelude.{option_to_list}
-use Rattle.std.proofs.lemmas.List.Elements.{filter-append}
-use Rattle.std.proofs.lemmas.List.Folds.{list_any-append}
-use Rattle.vt_spec.specs.FileTree.{is_directory_under, is_file_under, is_under}
-use Rattle.vt_spec.specs.Lists.{Fresh, evens, holds_of, is_among, odds}
-use Rattle.vt_spec.specs.Machine.Locked.{counts_in_layer, is_real_upper, lies_in_layer, lies_or_counts_under, overlaps_one_of, overlays}
-use Rattle.vt_spec.specs.Machine.Merging.{real_of}
-use Rattle.vt_spec.specs.Machine.NewMounts.{inode_count, overlay_filesystem, with_new_filesystem}
-use Rattle.vt_spec.specs.Machine.World.{Filesystem, Layer, Overlay, Real, World, filesystem_numbered, is_overlay, no_filesystem, open_layer, shown_layers}
-use Rattle.vt_spec.specs.Machine.World.Real.{Lower, Upper}
-use Rattle.vt_spec.specs.Machine.Invariants.{IsWorld, ListsNumbers, is_plain_layer}
-use Rattle.vt_spec.specs.Tree.{is_directory_node}
-use Rattle.vt_spec.specs.TreeInvariant.{IsTree, led}
+use Rattle.std.proofs.Common.{arith, ◌≡◌, inl, inr, refl, sym, ap, ◌∙◌, true≢false, ℕ, nat_eq, eqb-true, Bool, true, false, cond, not, ◌&&◌, ◌||◌, List, [], ◌∷◌, ◌++◌, map, Option, Some, None, is_some, unwrap_or, find, option_to_list}
+use Rattle.vt_spec.proofs.Common.{Filesystem, Fresh, IsTree, IsWorld, Layer, ListsNumbers, Lower, Overlay, Real, Upper, World, and_true_left, and_true_right, common_steps, counts_in_layer, evens, filesystem_numbered, filter-append, holds_of, inode_count, is_among, is_directory_node, is_directory_under, is_file_under, is_overlay, is_plain_layer, is_real_upper, is_under, led, lies_in_layer, lies_or_counts_under, list_all, list_any, list_any-append, no_filesystem, none_is_some, odds, odds-distinct, open_layer, overlaps_one_of, overlay_filesystem, overlays, real_of, same_Some, shown_layers, upper_real, with_new_filesystem}
 use Rattle.vt_laws_trees.specs.Layers.Layers.Mounted.{AreLayers}
 use Rattle.vt_laws_trees.proofs.layers.directories.Lower.{led_below}
 use Rattle.vt_laws_trees.proofs.layers.layers.ShownMerged.{inodes}
@@ -22,11 +8,6 @@ use Rattle.vt_laws_trees.proofs.layers.layers.ShownMounted.{are_open, bounded}
 use Rattle.vt_laws_trees.proofs.layers.layers.ShownObjects.{Among}
 use Rattle.vt_laws_trees.proofs.layers.layers.ShownWhole.{has_real}
 use Rattle.vt_laws_trees.proofs.layers.layers.UpperWorld.{all_found}
-use Rattle.std.proofs.lemmas.Option.{same_Some}
-use Rattle.vt_spec.proofs.Options.{none_is_some}
-use Rattle.vt_spec.proofs.Truths.{and_true_left, and_true_right}
-use Rattle.vt_spec.proofs.Worlds.{upper_real}
-use Rattle.vt_spec.proofs.FreshNumbers.{odds-distinct}
 
 find_skips : (test : Filesystem ℕ → Bool) (list : List (Filesystem ℕ)) (last : Filesystem ℕ) → test last ≡ false
     → find test (list ++ last ∷ []) ≡ find test list

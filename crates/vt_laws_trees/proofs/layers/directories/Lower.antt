@@ -1,18 +1,8 @@
 -- What names lead to from a directory lies under whatever that directory lies under.
 use Rattle.std.proofs.Common.{◌≡◌, ◌≤◌, refl, sym, ap, subst, ◌∙◌, true≢false, arith, ℕ, zero, suc, nat_eq, eqb-true, Bool, true, false, cond, ◌&&◌, ◌||◌, List, [], ◌∷◌, length, Option, Some, None, option_and_then}
-use Rattle.std.specs.List.{list_any}
-use Rattle.vt_spec.specs.FileTree.{FileTree, has_entry_to, is_directory_under, is_file_under, is_under, named_parent}
-use Rattle.vt_spec.specs.Lists.{chain, is_among}
-use Rattle.vt_spec.specs.Machine.Invariants.{ListsNumbers}
-use Rattle.vt_spec.specs.Tree.{is_directory_node}
-use Rattle.vt_spec.specs.TreeInvariant.{IsDirectory, IsTree, entry_at, led}
-use Rattle.vt_spec.proofs.Nodes.{directory_used}
+use Rattle.vt_spec.proofs.Common.{FileTree, IsDirectory, IsTree, ListsNumbers, chain, directory_used, entry_at, entry_to, has_entry_to, is_among, is_directory_node, is_directory_under, is_file_under, is_under, led, list_any, named_parent, none_is_some, or_right, same_Some}
 use Rattle.vt_laws_trees.proofs.layers.layers.UpperChain.{depth_below, up_at_root, up_from}
 use Rattle.vt_laws_trees.proofs.layers.layers.UpperLine.{ReachedIn, has_entries, is_reached_in}
-use Rattle.std.proofs.lemmas.Bool.{or_right}
-use Rattle.std.proofs.lemmas.Option.{same_Some}
-use Rattle.vt_spec.proofs.NodeChanges.{entry_to}
-use Rattle.vt_spec.proofs.Options.{none_is_some}
 
 passes_here : (test : ℕ → Bool) (list : List ℕ) (n : ℕ) → is_among nat_eq n list ≡ true → test n ≡ true
     → list_any test list ≡ true

@@ -1,25 +1,10 @@
 -- The names of a merged directory stand in their order.
-use Rattle.std.proofs.Common.{arith, ◌≡◌, ◌≤◌, ◌⊎◌, inl, inr, ⊎_elim, refl, sym, ap, subst, ◌∙◌, ℕ, zero, suc, nat_eq, Bool, true, T, List, [], ◌∷◌, ◌++◌, filter, flat_map, length, map, Option, Some}
-use Rattle.std.proofs.lemmas.Grind.{common_steps}
-use Rattle.std.specs.List.{filter_map}
-use Rattle.std.specs.Cmp.{tied_itself}
-use Rattle.std.specs.Cmp.Lexicographic.{nat_list_cmp_total}
-use Rattle.std.specs.FinMap.Entries.{below_all, is_sorted, is_sorted-put}
-use Rattle.std.specs.Ordering.{is_lt}
-use Rattle.std.specs.Prelude.{⊤}
-use Rattle.vt_spec.specs.Machine.Layers.{OpenLayer, shown, view_of}
-use Rattle.vt_spec.specs.Lists.{Fresh, folded}
-use Rattle.vt_spec.specs.Machine.Merging.{Merged, entry_in_directory, merged_at, merged_objects}
-use Rattle.vt_spec.specs.Machine.Views.{Shown, View, names_at, names_shown, node_led, paths_from}
-use Rattle.vt_spec.specs.Tree.{Entries, entries_in, name_cmp, with_entry}
+use Rattle.std.proofs.Common.{arith, ◌≡◌, ◌≤◌, ◌⊎◌, inl, inr, ⊎_elim, refl, sym, ap, subst, ◌∙◌, ℕ, zero, suc, nat_eq, Bool, true, T, List, [], ◌∷◌, ◌++◌, filter, flat_map, length, map, Option, Some, filter_map, is_lt, append-nil}
+use Rattle.vt_spec.proofs.Common.{Entries, Fresh, Merged, OpenLayer, T_and, T_and_left, T_and_right, View, below_all, common_steps, entries_in, entry_in_directory, folded, is_sorted, is_sorted-put, merged_at, merged_objects, name_cmp, names_at, nat_list_cmp_total, node_led, none_is_some, passes, same_Some, shown, tied_itself, view_of, with_entry, ⊤}
+use Rattle.vt_spec.specs.Machine.Views.{Shown, names_shown, paths_from}
 use Rattle.vt_laws_trees.proofs.layers.layers.ShownDirectories.{AreOpen, append_assoc}
 use Rattle.vt_laws_trees.proofs.layers.layers.ShownMerged.{entry_is_here}
 use Rattle.vt_laws_trees.proofs.layers.layers.ShownObjects.{Among, from_filter_map}
-use Rattle.std.proofs.lemmas.List.{append-nil}
-use Rattle.std.proofs.lemmas.Option.{same_Some}
-use Rattle.vt_spec.proofs.Nodes.{passes}
-use Rattle.vt_spec.proofs.Options.{none_is_some}
-use Rattle.vt_spec.proofs.Truths.{T_and, T_and_left, T_and_right}
 
 module _ {A : Type 0} where
   -- each stands so to all that come after it

@@ -1,13 +1,6 @@
 -- Each overlay is what its layers show when another one is mounted.
-use Rattle.std.proofs.Common.{arith, ◌≡◌, ◌∙◌, refl, sym, ap, subst, inl, inr, ℕ, zero, suc, nat_eq, eqb-true, Bool, true, false, cond, List, [], ◌∷◌, ◌++◌, map, Some, None, is_some, slice_get, unwrap_or, Option}
-use Rattle.std.proofs.lemmas.Grind.{common_steps}
-use Rattle.std.specs.List.{find, list_any}
-use Rattle.std.specs.Prelude.{option_to_list, option_map}
-use Rattle.vt_spec.specs.Machine.Layers.{shown}
-use Rattle.vt_spec.specs.Lists.{Fresh, evens, is_among, holds_of, then_some}
-use Rattle.vt_spec.specs.Machine.NewMounts.{overlay_filesystem}
-use Rattle.vt_spec.specs.Machine.World.{Filesystem, Layer, Overlay, Real, World, filesystem_numbered, no_filesystem, open_layer, shown_layers}
-use Rattle.vt_spec.specs.Machine.Invariants.{IsMerged, IsWorld, is_plain_layer, real_node, SameObject, is_there, number_at_path}
+use Rattle.std.proofs.Common.{arith, ◌≡◌, ◌∙◌, refl, sym, ap, subst, inl, inr, ℕ, zero, suc, nat_eq, eqb-true, Bool, true, false, cond, List, [], ◌∷◌, ◌++◌, map, Some, None, is_some, slice_get, unwrap_or, Option, find, option_to_list, option_map}
+use Rattle.vt_spec.proofs.Common.{Filesystem, Fresh, IsMerged, IsWorld, Layer, Overlay, Real, SameObject, World, common_steps, evens, filesystem_numbered, holds_of, is_among, is_plain_layer, is_there, layer_node, list_any, merged_at, no_filesystem, none_is_some, number_at_path, open_layer, overlay_filesystem, real_node, real_object, same_Some, shown, shown_layers, then_some}
 use Rattle.vt_laws_trees.specs.Layers.Layers.Mounted.{AreLayers}
 use Rattle.vt_laws_trees.specs.Layers.Layers.NewOverlays.{OverlaysStillMerge}
 use Rattle.vt_laws_trees.proofs.layers.directories.Apart.{each_passes}
@@ -15,9 +8,6 @@ use Rattle.vt_laws_trees.proofs.layers.directories.Later.{IsOld, later, not_foun
 use Rattle.vt_laws_trees.proofs.layers.layers.ShownMounted.{made, made_merged}
 use Rattle.vt_laws_trees.proofs.layers.layers.ShownObjects.{Among, among_append_left, among_append_right}
 use Rattle.vt_laws_trees.proofs.layers.layers.UpperWorld.{overlay_layers}
-use Rattle.std.proofs.lemmas.Option.{same_Some}
-use Rattle.vt_spec.proofs.Options.{none_is_some}
-use Rattle.vt_spec.specs.Machine.Merging.{layer_node, merged_at, real_object}
 
 pub among_slice : (list : List (Layer ℕ)) (k : ℕ) (layer : Layer ℕ) → slice_get list k ≡ Some layer → Among list layer
 among_slice [] k layer e = none_is_some layer e

@@ -1,20 +1,7 @@
 -- A tree that is found one directory at a time has what layers show at every path.
-use Rattle.std.proofs.lemmas.Grind.{common_steps}
-use Rattle.std.proofs.Common.{◌≡◌, ◌≢◌, refl, sym, ap, subst, ◌∙◌, true≢false, arith, ℕ, suc, ◌+◌, Bool, true, false, cond, not, ◌||◌, List, [], ◌∷◌, ◌++◌, map, Option, Some, None, is_some, option_and_then}
-use Rattle.std.specs.List.{All}
-use Rattle.std.specs.Prelude.{option_map, nat_eq}
-use Rattle.std.proofs.lemmas.List.Elements.{All-cons, All-head, All-nil, All-tail}
-use Rattle.std.proofs.lemmas.Option.{slice_get-map, same_Some}
-use Rattle.vt_spec.specs.FileTree.{opaque_of}
-use Rattle.vt_spec.specs.Machine.Layers.{OpenLayer, view_of}
-use Rattle.vt_spec.specs.Lists.{then_some, when}
-use Rattle.vt_spec.specs.Machine.Merging.{layer_node, real_object}
-use Rattle.vt_spec.specs.Machine.Views.{Shown, View, hides, node_led, shown, shown_over}
-use Rattle.vt_spec.specs.Machine.World.{open_layer, shown_layers}
-use Rattle.vt_spec.specs.Machine.Invariants.{SameObject}
-use Rattle.vt_spec.specs.Rights.{is_directory}
-use Rattle.vt_spec.specs.Tree.{Node, Tree, is_directory_node}
-use Rattle.vt_spec.specs.TreeInvariant.{IsDirectory, entry_at, led}
+use Rattle.std.proofs.Common.{◌≡◌, ◌≢◌, refl, sym, ap, subst, ◌∙◌, true≢false, arith, ℕ, suc, ◌+◌, Bool, true, false, cond, not, ◌||◌, List, [], ◌∷◌, ◌++◌, map, Option, Some, None, is_some, option_and_then, All, option_map, nat_eq}
+use Rattle.vt_spec.proofs.Common.{All-cons, All-head, All-nil, All-tail, IsDirectory, Node, OpenLayer, SameObject, Tree, View, common_steps, directory_no_whiteout, entry_at, hides, is_directory, is_directory_node, layer_node, led, node_led, none_is_some, opaque_of, open_layer, real_object, same_Some, shown_layers, shown_over, slice_get-map, then_some, view_of, when}
+use Rattle.vt_spec.specs.Machine.Views.{Shown, shown}
 use Rattle.vt_laws_trees.specs.Layers.Layers.Directories.{AreViews, PlacedView, merged_under, placed, placed_from, shown_in, shown_node}
 use Rattle.vt_laws_trees.specs.Layers.Layers.DirectoryTrees.{IsMergedByDirectory, IsSaidByDirectory, ObjectsAreThoseShown, OneDirectoryIsEnough, OverlaysAreMergedByDirectory, RealObjectsAreThoseShown, node_shown_by, views_of_overlay}
 use Rattle.vt_laws_trees.proofs.layers.directories.Under.{HasView, merged_are_views, placed_show_the_same, layers_are_views, shown_under_name}
@@ -23,8 +10,7 @@ use Rattle.vt_laws_trees.proofs.layers.layers.ShownMounted.{are_open}
 use Rattle.vt_laws_trees.proofs.layers.layers.ShownNames.{last_name}
 use Rattle.vt_laws_trees.proofs.layers.layers.ShownPaths.{not_empty}
 use Rattle.vt_laws_trees.proofs.layers.layers.UpperLine.{has_entries}
-use Rattle.vt_spec.proofs.NodeChanges.{directory_no_whiteout, same_content_kind}
-use Rattle.vt_spec.proofs.Options.{none_is_some}
+use Rattle.vt_spec.proofs.NodeChanges.{same_content_kind}
 
 -- what is the same is a directory or is none
 same_directory : (a b : Option (Node ℕ)) → SameObject a b → is_directory_node a ≡ is_directory_node b

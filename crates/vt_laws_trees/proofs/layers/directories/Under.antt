@@ -1,17 +1,11 @@
 -- What layers show under a name is what the directories show that are merged under it.
-use Rattle.std.proofs.lemmas.Grind.{common_steps}
-use Rattle.std.proofs.Common.{◌≡◌, ◌≢◌, refl, sym, ap, ◌∙◌, true≢false, arith, ℕ, suc, ◌+◌, Bool, true, false, cond, ◌||◌, List, [], ◌∷◌, ◌++◌, Option, Some, None, option_and_then}
-use Rattle.std.specs.Prelude.{option_map}
-use Rattle.std.proofs.lemmas.List.Elements.{All-cons, All-head, All-nil, All-tail}
-use Rattle.vt_spec.specs.Lists.{prefixes, then_some}
-use Rattle.vt_spec.specs.Machine.Views.{Shown, View, cuts, hides, node_led, shown_from, shown_over}
-use Rattle.vt_spec.specs.Tree.{Node, Tree, is_directory_node}
-use Rattle.vt_spec.specs.TreeInvariant.{entry_at, led}
+use Rattle.std.proofs.Common.{◌≡◌, ◌≢◌, refl, sym, ap, ◌∙◌, true≢false, arith, ℕ, suc, ◌+◌, Bool, true, false, cond, ◌||◌, List, [], ◌∷◌, ◌++◌, Option, Some, None, option_and_then, option_map}
+use Rattle.vt_spec.proofs.Common.{All-cons, All-head, All-nil, All-tail, Node, Tree, View, common_steps, cuts, entry_at, hides, is_directory_node, led, node_led, none_is_some, prefixes, shown_from, shown_over, then_some}
+use Rattle.vt_spec.specs.Machine.Views.{Shown}
 use Rattle.vt_laws_trees.specs.Layers.Layers.Directories.{AreViews, DirectoriesAreMerged, IsView, LayersAreViews, MergedAreViews, PlacedShowTheSame, PlacedView, PlacesAreCountedBack, ShownUnderName, merged_under, placed_from, shown_in, view_under}
 use Rattle.vt_laws_trees.proofs.layers.layers.ShownDirectories.{led_is_there}
 use Rattle.vt_laws_trees.proofs.layers.layers.ShownFronts.{prefix_found, list_any_of_map}
 use Rattle.vt_laws_trees.proofs.layers.layers.UpperLine.{has_entries}
-use Rattle.vt_spec.proofs.Options.{none_is_some}
 
 abbrev pub HasView : PlacedView ℕ → Type 0
 HasView top = IsView top.view

@@ -1,16 +1,6 @@
 -- A change of an overlay does to its upper layer what it is asked, clause by clause.
-use Rattle.std.proofs.lemmas.Grind.{common_steps}
 use Rattle.std.proofs.Common.{◌≡◌, ◌≢◌, sym, ap, ◌∙◌, true≢false, arith, ℕ, suc, nat_eq, eq-eqb, ne_eqb, true, ◌||◌, List, [], ◌∷◌, ◌++◌, Option, Some, is_some, unwrap_or}
-use Rattle.vt_spec.specs.Language.Changes.{node_with_parent, node_without_entry, with_moved, with_name, without_name, without_parent}
-use Rattle.vt_spec.specs.Machine.CopyUp.{Merge, Stack, hides_directory, merge_with_moved, merge_with_new, merge_without_name, name_left_by, shown_in_lowers_at, upper_directory_named, upper_of, with_mark, without_contents}
-use Rattle.vt_spec.specs.FileTree.{FileTree, is_opaque_in}
-use Rattle.vt_spec.specs.Lists.{Fresh}
-use Rattle.vt_spec.specs.Machine.World.{Real, upper_object}
-use Rattle.vt_spec.specs.Tree.{Node, entries_in, entry_named, is_directory_node, new_directory, node_with_entry}
-use Rattle.vt_spec.specs.TreeInvariant.{IsDirectory, IsTree, entry_at}
-use Rattle.vt_spec.specs.Machine.Invariants.{number_at_path}
-use Rattle.vt_spec.proofs.Nodes.{node_set}
-use Rattle.vt_spec.proofs.Trees.{led-append}
+use Rattle.vt_spec.proofs.Common.{FileTree, Fresh, IsDirectory, IsTree, Merge, Node, Real, Stack, common_steps, entries-node_with_parent, entries-without_parent, entries_in, entry_at, entry_named, hides_directory, is_directory_node, is_opaque_in, led-append, merge_with_moved, merge_with_new, merge_without_name, name_left_by, new_directory, node_set, node_with_entry, node_with_parent, node_without_entry, none_is_some, number_at_path, or-false, part-changed_node, same_Some, shown_in_lowers_at, upper_directory_named, upper_object, upper_of, with_mark, with_moved, with_name, without_contents, without_name, without_parent}
 use Rattle.vt_laws_trees.specs.Layers.Layers.ChangesUpper.{IsLeft, IsNewBy}
 use Rattle.vt_laws_trees.proofs.layers.layers.CopyingNames.{emptied_is_empty, LeftWith, emptied_other, emptied_part, is_left_by, left_elsewhere, left_part, left_stays, left_where, marked_entries, marked_itself, marked_other, moved_part}
 use Rattle.vt_laws_trees.proofs.layers.layers.CopyingSound.{IsSound, State}
@@ -18,10 +8,6 @@ use Rattle.vt_laws_trees.proofs.layers.layers.LowersKept.{kept_elsewhere}
 use Rattle.vt_laws_trees.proofs.layers.layers.UpperChain.{one_depth}
 use Rattle.vt_laws_trees.proofs.layers.layers.UpperLine.{has_entries, is_reached_in}
 use Rattle.vt_laws_trees.proofs.layers.layers.UpperShown.{way_to}
-use Rattle.std.proofs.Math.Bool.{or-false}
-use Rattle.std.proofs.lemmas.Option.{same_Some}
-use Rattle.vt_spec.proofs.NodeChanges.{entries-node_with_parent, entries-without_parent, part-changed_node}
-use Rattle.vt_spec.proofs.Options.{none_is_some}
 
 -- no directory has an entry for itself
 pub no_loop : (files : FileTree ℕ) → IsTree files.tree → (directory : ℕ) (name : List ℕ)

@@ -1,14 +1,7 @@
 -- Copies of a whole list, and of what a change asks for.
-use Rattle.std.proofs.lemmas.Grind.{common_steps}
 use Rattle.std.proofs.Common.{◌≡◌, ◌≢◌, ◌≤◌, ◌<◌, length, ◌⊎◌, inl, inr, refl, sym, ap, subst, ◌∙◌, true≢false, arith, ℕ, ◌+◌, nat_eq, eq-eqb, eqb-true, Bool, true, false, ◌||◌, List, [], ◌∷◌, Option, Some, None, is_some, ⊎_elim}
-use Rattle.std.proofs.lemmas.List.Folds.{list_any-append}
-use Rattle.vt_spec.specs.Machine.CopyUp.{Merge, copied_each, copied_up, copy_of, line_to}
-use Rattle.vt_spec.specs.FileTree.{FileTree}
-use Rattle.vt_spec.specs.Lists.{Fresh, is_among}
-use Rattle.vt_spec.specs.Machine.World.{Real, upper_object}
-use Rattle.vt_spec.specs.Tree.{Node}
+use Rattle.vt_spec.proofs.Common.{FileTree, Fresh, Merge, Node, Real, common_steps, copied_each, copied_up, copy_of, is_among, line_to, list_any-append, or_false_left, or_false_right, upper_object}
 use Rattle.vt_laws_trees.proofs.layers.layers.CopyingSound.{IsSound, Soundly, State, soundly_copied}
-use Rattle.vt_spec.proofs.Truths.{or_false_left, or_false_right}
 use Rattle.vt_spec.proofs.Worlds.{stands_still}
 use Rattle.vt_laws_trees.specs.Layers.Layers.ChangesUpper.{IsNewBy}
 

@@ -1,13 +1,6 @@
 -- Each change of an overlay does to its upper layer what it is asked.
-use Rattle.std.proofs.lemmas.Grind.{common_steps}
 use Rattle.std.proofs.Common.{◌≡◌, ◌≢◌, refl, sym, ap, subst, true≢false, arith, ℕ, ◌+◌, ◌*◌, nat_eq, true, ◌++◌, Some, is_some}
-use Rattle.vt_spec.specs.Language.Changes.{Change, node_with_attr, node_with_mark}
-use Rattle.vt_spec.specs.Language.Changes.Change.{AddName, CopyUp, Make, Move, Remove, SetAttr, SetBytes, SetMark}
-use Rattle.vt_spec.specs.Machine.CopyUp.{Merge, Stack, changed_both, copied_up, line_to, merge_changed, merge_with_link, merge_with_moved, merge_with_new, merge_without_name, upper_of}
-use Rattle.vt_spec.specs.Lists.{Fresh, evens, odds}
-use Rattle.vt_spec.specs.Machine.World.{upper_object}
-use Rattle.vt_spec.specs.Tree.{node_with_bytes}
-use Rattle.vt_spec.proofs.Nodes.{directory_used, node_set}
+use Rattle.vt_spec.proofs.Common.{AddName, Change, CopyUp, Fresh, Make, Merge, Move, Remove, SetAttr, SetBytes, SetMark, Stack, changed_both, common_steps, copied_up, directory_used, evens, line_to, merge_changed, merge_with_link, merge_with_moved, merge_with_new, merge_without_name, node_set, node_with_attr, node_with_bytes, node_with_mark, odds, upper_object, upper_of}
 use Rattle.vt_laws_trees.specs.Layers.Layers.ChangesUpper.{ChangesUpper, IsFitToChange, IsLeft, MarksAreRight, NamesLeft, ReachesUpper, RemovedIsEmpty, IsNewBy}
 use Rattle.vt_laws_trees.specs.Layers.Layers.Untouched.{IsKept}
 use Rattle.vt_laws_trees.specs.Layers.Layers.Upper.{SpeaksOfWhatIsThere}

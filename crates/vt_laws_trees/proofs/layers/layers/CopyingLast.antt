@@ -1,17 +1,7 @@
 -- An object is copied behind the directories above it: its copy has no names in it, and stands under its name.
-use Rattle.std.proofs.lemmas.Grind.{common_steps}
 use Rattle.std.proofs.Common.{◌≡◌, ◌≢◌, ◌≤◌, refl, sym, ap, subst, ◌∙◌, true≢false, arith, ℕ, zero, suc, ◌+◌, nat_eq, eq-eqb, ne_eqb, Bool, true, false, cond, List, [], ◌∷◌, ◌++◌, length, Option, Some, None, is_some, unwrap_or, ⊎_elim}
-use Rattle.std.specs.List.{list_any}
-use Rattle.std.proofs.lemmas.List.Sorted.{IsPermutation-reverse, list_any-IsPermutation}
-use Rattle.vt_spec.specs.Language.Changes.{with_inode, with_name}
-use Rattle.vt_spec.specs.Machine.CopyUp.{Merge, copied_content, copied_each, copied_up, copy_of, copy_parent, directories_to, is_in_upper, upper_of}
-use Rattle.vt_spec.specs.FileTree.{FileTree, a_name, ancestors, named_parent}
-use Rattle.vt_spec.specs.Lists.{Fresh, chain, is_among}
-use Rattle.vt_spec.specs.Machine.World.{Real, upper_object}
-use Rattle.vt_spec.specs.Machine.World.Real.{Upper}
-use Rattle.vt_spec.specs.Tree.{Node, entries_in, is_directory_node, node_with_entry}
-use Rattle.vt_spec.specs.TreeInvariant.{IsTree, entry_at}
-use Rattle.vt_spec.proofs.Nodes.{directory_used, node_set}
+use Rattle.vt_spec.proofs.Common.{FileTree, Fresh, IsTree, Merge, Node, Real, Upper, a_name, ancestors, chain, common_steps, copied_content, copied_each, copied_up, copy_of, copy_parent, directories_to, directory_used, entries_in, entries_of-copied_content, entry_at, is_among, is_directory_node, is_in_upper, list_any, list_any-IsPermutation, named_parent, node_set, node_with_entry, same_Some, upper_object, upper_of, with_inode, with_name}
+use Rattle.std.proofs.lemmas.List.Sorted.{IsPermutation-reverse}
 use Rattle.vt_laws_trees.specs.Layers.Layers.ChangesUpper.{IsCopyOf, IsFitToChange}
 use Rattle.vt_laws_trees.proofs.layers.layers.CopyingChanges.{no_loop, path_to}
 use Rattle.vt_laws_trees.proofs.layers.layers.CopyingEach.{CopiesAll, each_copied}
@@ -21,8 +11,6 @@ use Rattle.vt_laws_trees.proofs.layers.layers.CopyingSound.{IsSound, State, is_c
 use Rattle.vt_laws_trees.proofs.layers.layers.LowersKept.{kept_elsewhere}
 use Rattle.vt_laws_trees.proofs.layers.layers.UpperChain.{all_above, depth_bound, one_depth, up_at_root, up_from}
 use Rattle.vt_laws_trees.proofs.layers.layers.UpperLine.{ReachedIn, has_entries, is_reached_in, named_so, reached_directory}
-use Rattle.std.proofs.lemmas.Option.{same_Some}
-use Rattle.vt_spec.proofs.NodeChanges.{entries_of-copied_content}
 
 -- the line up to the root is as long as it is deep
 chain_enough : (files : FileTree ℕ) (tree : IsTree files.tree) (steps most directory : ℕ)

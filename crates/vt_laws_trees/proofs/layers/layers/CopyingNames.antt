@@ -1,23 +1,10 @@
 -- What stands in the upper layer where a name was, and what a mark changes.
-use Rattle.std.proofs.Common.{arith, ◌≡◌, ◌≢◌, refl, sym, ap, ◌∙◌, true≢false, ℕ, nat_eq, ne_eqb, Bool, true, false, cond, not, ◌||◌, List, [], ◌∷◌, Option, Some, None, is_some}
-use Rattle.std.proofs.lemmas.Grind.{common_steps}
-use Rattle.std.specs.Cmp.{tied_itself}
-use Rattle.std.specs.Cmp.Lexicographic.{bytes_decides, nat_list_cmp_total, texts_ties}
-use Rattle.std.specs.Ordering.{eq_by_cmp, is_eq}
-use Rattle.std.specs.Str.{bytes_eq}
-use Rattle.vt_spec.specs.Language.Changes.{changed_node, node_with_mark, node_with_parent, node_without_entries, node_without_entry, with_inode, with_moved, with_name, without_entry, without_name, without_parent}
-use Rattle.vt_spec.specs.Machine.CopyUp.{Stack, name_left_by, whiteout_of, with_mark, without_contents}
-use Rattle.vt_spec.specs.FileTree.{FileTree, is_opaque_in}
-use Rattle.vt_spec.specs.Machine.Layers.{Shown}
-use Rattle.vt_spec.specs.Lists.{Fresh}
-use Rattle.vt_spec.specs.Tree.{Content, Entries, Node, entries_in, entries_of, entry_named, is_directory_node, name_cmp, node_with_entry, with_entries}
-use Rattle.vt_spec.specs.Tree.Content.{Directory, Regular, Symlink, Whiteout}
-use Rattle.vt_spec.specs.TreeInvariant.{entry_at}
-use Rattle.vt_spec.proofs.Nodes.{entries-node_with_entry, entry_named-with_entry, entry_named-without_entry, node_set, same_name}
+use Rattle.std.proofs.Common.{arith, ◌≡◌, ◌≢◌, refl, sym, ap, ◌∙◌, true≢false, ℕ, nat_eq, ne_eqb, Bool, true, false, cond, not, ◌||◌, List, [], ◌∷◌, Option, Some, None, is_some, is_eq, bytes_eq}
+use Rattle.vt_spec.proofs.Common.{Content, Directory, Entries, FileTree, Fresh, Node, Regular, Shown, Stack, Symlink, Whiteout, bytes_decides, changed_node, common_steps, entries-node_with_entry, entries-node_with_mark, entries-node_with_parent, entries-node_without_entries, entries_in, entries_of, entry_at, entry_named, entry_named-with_entry, entry_named-without_entry, eq_by_cmp, is_directory_node, is_opaque_in, name_cmp, name_left_by, nat_list_cmp_total, node_set, node_with_entry, node_with_mark, node_with_parent, node_without_entries, node_without_entry, part-changed_node, texts_ties, tied_itself, whiteout_of, with_entries, with_inode, with_mark, with_moved, with_name, without_contents, without_entry, without_name, without_parent}
+use Rattle.vt_spec.proofs.Nodes.{same_name}
 use Rattle.vt_laws_trees.specs.Layers.Layers.ChangesUpper.{IsLeftBy}
 use Rattle.vt_laws_trees.proofs.layers.layers.CopyingParts.{KeepsButNames, entry_keeps, parent_keeps, without_entries_keeps, without_entry_keeps}
 use Rattle.vt_laws_trees.proofs.layers.layers.LowersKept.{kept_elsewhere}
-use Rattle.vt_spec.proofs.NodeChanges.{entries-node_with_mark, entries-node_with_parent, entries-node_without_entries, part-changed_node}
 
 -- a name that was taken out is not there
 name_gone : (name : List ℕ) (entries : Entries ℕ) → entry_named name (without_entry name entries) ≡ None

@@ -1,12 +1,9 @@
 -- What an inode keeps when its names or its parent change.
 use Rattle.std.proofs.Common.{arith, ◌≡◌, refl, ◌∙◌, ℕ, nat_eq, List, Option, is_some}
-use Rattle.std.proofs.lemmas.Grind.{common_steps}
-use Rattle.vt_spec.specs.Language.Changes.{changed_node, content_with_parent, node_with_parent, node_without_entries, node_without_entry}
-use Rattle.vt_spec.specs.FileTree.{FileTree, attr_in, is_opaque_in, kind_in, opaque_of}
-use Rattle.vt_spec.specs.Tree.{Content, Entries, Node, bytes_in, bytes_of, is_directory_node, kind_of, node_with_entry, with_entries}
-use Rattle.vt_spec.specs.Tree.Content.{Directory, Regular, Symlink, Whiteout}
+use Rattle.vt_spec.proofs.Common.{Content, Directory, Entries, FileTree, Node, Regular, Symlink, Whiteout, attr_in, bytes_in, bytes_of, changed_node, common_steps, content_with_parent, is_directory_node, is_opaque_in, kind_of, node_with_entry, node_with_parent, node_without_entries, node_without_entry, opaque_of, part-changed_node, with_entries}
+use Rattle.vt_spec.specs.FileTree.{kind_in}
 use Rattle.vt_laws_trees.specs.Layers.Layers.ChangesUpper.{IsCopyOf}
-use Rattle.vt_spec.proofs.NodeChanges.{kind_of-content_with_parent, part-changed_node}
+use Rattle.vt_spec.proofs.NodeChanges.{kind_of-content_with_parent}
 
 -- a change of an inode that keeps all but names and parent
 pub record KeepsButNames (change : Option (Node ℕ) → Option (Node ℕ)) : Type 0 where

@@ -1,23 +1,11 @@
 -- What a change of an overlay asks for stands in the upper layer after it.
 use Rattle.std.proofs.Common.{arith, ◌≡◌, ◌≢◌, refl, sym, ap, subst, ◌∙◌, ℕ, nat_eq, eq-eqb, ne_eqb, Bool, true, false, cond, List, Option, Some, is_some, unwrap_or}
-use Rattle.std.proofs.lemmas.Grind.{common_steps}
-use Rattle.std.proofs.lemmas.Bool.Decides.{eqb_tells}
-use Rattle.vt_spec.specs.Language.Changes.{content_with_mark, content_with_parent, node_with_mark, node_without_entry, with_inode, with_moved, with_name, without_name, without_parent}
-use Rattle.vt_spec.specs.Machine.CopyUp.{Merge, Stack, hides_directory, merge_with_link, merge_with_moved, merge_with_new, name_left_by, shown_in_lowers_at, upper_directory_named, upper_of, with_mark, without_contents}
-use Rattle.vt_spec.specs.FileTree.{FileTree}
-use Rattle.vt_spec.specs.Lists.{Fresh}
-use Rattle.vt_spec.specs.Machine.World.{Real, upper_object}
-use Rattle.vt_spec.specs.Machine.World.Real.{Upper}
-use Rattle.vt_spec.specs.Tree.{Content, Node, bytes_of, entries_in, entry_named, is_directory_node, kind_of, node_with_entry}
-use Rattle.vt_spec.specs.Tree.Content.{Directory, Regular, Symlink, Whiteout}
-use Rattle.vt_spec.specs.TreeInvariant.{entry_at}
-use Rattle.vt_spec.proofs.Nodes.{node_set}
+use Rattle.vt_spec.proofs.Common.{Content, Directory, FileTree, Fresh, Merge, Node, Real, Regular, Stack, Symlink, Upper, Whiteout, bytes_of, common_steps, content_with_mark, content_with_parent, entries-node_with_mark, entries-node_with_parent, entries_in, entry_at, entry_named, eqb_tells, hides_directory, is_directory_node, kind_of, merge_with_link, merge_with_moved, merge_with_new, name_left_by, node_set, node_with_entry, node_with_mark, node_without_entry, part-changed_node, shown_in_lowers_at, upper_directory_named, upper_object, upper_of, with_inode, with_mark, with_moved, with_name, without_contents, without_name, without_parent}
 use Rattle.vt_laws_trees.specs.Layers.Layers.ChangesUpper.{IsMadeAs, IsReachedDirectory, IsNewBy}
 use Rattle.vt_laws_trees.proofs.layers.layers.CopyingNames.{emptied_part, freed_part, marked_entries, name_put, name_stays_put, name_stays_without}
 use Rattle.vt_laws_trees.proofs.layers.layers.CopyingParts.{parent_keeps, without_entry_keeps}
 use Rattle.vt_laws_trees.proofs.layers.layers.CopyingSound.{IsSound, State}
 use Rattle.vt_laws_trees.proofs.layers.layers.LowersKept.{kept_elsewhere}
-use Rattle.vt_spec.proofs.NodeChanges.{entries-node_with_mark, entries-node_with_parent, part-changed_node}
 
 -- a mark changes nothing else of what was made
 mark_kind : (content : Content ℕ) → kind_of (content_with_mark true content) ≡ kind_of content

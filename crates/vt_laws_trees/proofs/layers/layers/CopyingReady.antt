@@ -1,20 +1,12 @@
 -- What a change of an overlay finds when what it asks to be copied is copied.
 use Rattle.std.proofs.Common.{arith, ◌≡◌, inl, inr, refl, sym, ap, subst, ◌∙◌, true≢false, ℕ, nat_eq, eq-eqb, Bool, true, false, List, [], ◌∷◌, ◌++◌, Option, Some, None, is_some, ⊎_elim}
-use Rattle.std.proofs.lemmas.Grind.{common_steps}
-use Rattle.std.specs.List.{list_any}
-use Rattle.std.proofs.lemmas.List.Folds.{list_any-append}
-use Rattle.vt_spec.specs.Machine.CopyUp.{Merge, copied_up, directories_to, line_by, line_to}
-use Rattle.vt_spec.specs.FileTree.{FileTree, a_name}
-use Rattle.vt_spec.specs.Lists.{Fresh, is_among}
-use Rattle.vt_spec.specs.Machine.World.{Real, upper_object}
-use Rattle.vt_spec.specs.TreeInvariant.{entry_at}
+use Rattle.vt_spec.proofs.Common.{FileTree, Fresh, Merge, Real, a_name, common_steps, copied_up, directories_to, entry_at, is_among, line_by, line_to, list_any, list_any-append, or_cases, or_left, upper_object}
 use Rattle.vt_laws_trees.specs.Layers.Layers.ChangesUpper.{IsFitToChange, StandsNow, IsNewBy}
 use Rattle.vt_laws_trees.proofs.layers.layers.CopyingEach.{line_copied}
 use Rattle.vt_spec.proofs.Worlds.{stands_still}
 use Rattle.vt_laws_trees.proofs.layers.layers.CopyingSound.{IsSound, Soundly, State}
 use Rattle.vt_laws_trees.proofs.layers.layers.UpperLine.{named_so}
 use Rattle.vt_laws_trees.proofs.layers.layers.UpperShown.{has_a_name}
-use Rattle.std.proofs.lemmas.Bool.{or_cases, or_left}
 
 -- a directory is in the line to itself, and so in the line to what it has a name of
 pub in_its_line : (files : FileTree ℕ) (directory : ℕ)

@@ -1,22 +1,10 @@
 -- What is copied up stands in the upper layer: each inode has its own object there, of its kind, and a copy is what is
 -- shown.
 use Rattle.std.proofs.Common.{arith, ◌≡◌, ◌≢◌, ◌⊎◌, inl, inr, refl, sym, ap, subst, ◌∙◌, ℕ, nat_eq, eq-eqb, ne_eqb, true, false, cond, List, Option, Some, None, is_some, ⊎_elim}
-use Rattle.std.proofs.lemmas.Grind.{common_steps}
-use Rattle.std.proofs.lemmas.Bool.Decides.{eqb_tells}
-use Rattle.vt_spec.specs.Language.Changes.{with_inode}
-use Rattle.vt_spec.specs.Machine.CopyUp.{Merge, copied_content, copy_named, copy_of_node, copy_parent, upper_of, with_real}
-use Rattle.vt_spec.specs.FileTree.{FileTree, a_name, opaque_of}
-use Rattle.vt_spec.specs.Machine.World.{Real, upper_object}
-use Rattle.vt_spec.specs.Machine.World.Real.{Upper}
-use Rattle.vt_spec.specs.Machine.Invariants.{number_at_path}
-use Rattle.vt_spec.specs.Rights.{is_directory}
-use Rattle.vt_spec.specs.Tree.{Content, Node, bytes_of, is_directory_node, node_with_entry}
-use Rattle.vt_spec.specs.Tree.Content.{Directory, Regular, Symlink, Whiteout}
+use Rattle.vt_spec.proofs.Common.{Content, Directory, FileTree, Merge, Node, Real, Regular, Symlink, Upper, Whiteout, a_name, bytes_of, common_steps, copied_content, copy_named, copy_of_node, copy_parent, eqb_tells, is_directory, is_directory_node, node_with_entry, none_is_some, number_at_path, opaque_of, part-changed_node, same_Some, upper_object, upper_of, with_inode, with_real}
 use Rattle.vt_laws_trees.specs.Layers.Layers.ChangesUpper.{IsCopyOf}
 use Rattle.vt_laws_trees.proofs.layers.layers.CopyingParts.{entry_keeps, kept_copy}
-use Rattle.std.proofs.lemmas.Option.{same_Some}
-use Rattle.vt_spec.proofs.NodeChanges.{kind_of-copied_content, part-changed_node}
-use Rattle.vt_spec.proofs.Options.{none_is_some}
+use Rattle.vt_spec.proofs.NodeChanges.{kind_of-copied_content}
 
 copy_bytes : (parent : ℕ) (content : Content ℕ) → bytes_of (copied_content parent content) ≡ bytes_of content
 copy_bytes parent (Directory old entries opaque) = refl

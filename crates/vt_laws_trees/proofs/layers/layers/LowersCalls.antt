@@ -1,14 +1,6 @@
 -- Calls leave what is locked as it was, in a filesystem that no overlay writes to.
-use Rattle.std.proofs.Common.{arith, ◌≡◌, ◌≢◌, sym, ap, subst, ◌∙◌, true≢false, eqb-true, ℕ, nat_eq, true, false, ⊎_elim, None, unwrap_or}
-use Rattle.std.proofs.lemmas.Grind.{common_steps}
-use Rattle.std.proofs.lemmas.Bool.Decides.{eqb_tells}
-use Rattle.std.specs.List.{find}
-use Rattle.vt_spec.specs.Language.Changes.{Change, changed}
-use Rattle.vt_spec.specs.Machine.Filesystems.{filesystem_changed, with_change, with_files}
-use Rattle.vt_spec.specs.Lists.{Fresh, is_among}
-use Rattle.vt_spec.specs.Machine.Locked.{is_locked, is_locked_at}
-use Rattle.vt_spec.specs.Machine.Mounts.{Location}
-use Rattle.vt_spec.specs.Machine.World.{World, filesystem_at, filesystem_numbered, mount_at, no_filesystem}
+use Rattle.std.proofs.Common.{arith, ◌≡◌, ◌≢◌, sym, ap, subst, ◌∙◌, true≢false, eqb-true, ℕ, nat_eq, true, false, ⊎_elim, None, unwrap_or, find}
+use Rattle.vt_spec.proofs.Common.{Change, Fresh, Location, World, changed, common_steps, eqb_tells, filesystem_at, filesystem_changed, filesystem_numbered, is_among, is_locked, is_locked_at, mount_at, no_filesystem, with_change, with_files}
 use Rattle.vt_laws_trees.specs.Layers.Layers.Untouched.{HasNoUpperLayer, IsKept, inodes_changed}
 use Rattle.vt_laws_trees.proofs.layers.layers.LowersKept.{kept_itself, kept_same, others_stay}
 use Rattle.vt_laws_trees.proofs.layers.layers.LowersWorld.{filesystem_there, number_of_filesystem, others_elsewhere}

@@ -1,35 +1,12 @@
 -- Every call that changes no mount by its own leaves what is locked as it was, in a filesystem that no overlay writes to.
-use Rattle.std.proofs.Common.{◌≡◌, ◌≢◌, sym, true≢false, ℕ, nat_eq, true, List, [], ◌∷◌, ap, eqb-true, ne_eqb, refl, ◌∙◌}
-use Rattle.vt_spec.specs.Language.Calls.{Call, Access}
-use Rattle.vt_spec.specs.Lists.{Fresh, evens, is_among, odds}
-use Rattle.vt_spec.specs.Machine.Locked.{is_locked, is_locked_at}
-use Rattle.vt_spec.specs.Machine.Policy.{call_outcome}
-use Rattle.vt_spec.specs.Machine.Rows.{file_mode, linking, making, new_file}
-use Rattle.vt_spec.specs.Machine.Walking.{Place}
-use Rattle.vt_spec.specs.Machine.World.{Task, World, mount_at}
+use Rattle.std.proofs.Common.{◌≡◌, ◌≢◌, sym, true≢false, ℕ, nat_eq, true, List, [], ◌∷◌, ap, eqb-true, ne_eqb, refl, ◌∙◌, Bool, false}
+use Rattle.vt_spec.proofs.Common.{Access, Call, Change, CopyUp, Fresh, Location, Node, Permit, Place, SetBytes, SetMark, Task, ToOpen, World, apply, call_outcome, evens, file_mode, filesystems-without_replaced, is_among, is_copied_up, is_locked, is_locked_at, linking, looks_of, make_permit, making, mount_at, moving, new_file, not-false, object_there, odds, or_false_left, or_false_right, or_from, or_parts, overfills, pwritten, removing, shown-without_replaced, with_change, with_copy, without_mounts_on, without_replaced}
 use Rattle.vt_laws_trees.specs.Layers.Layers.Untouched.{HasNoUpperLayer, changes_no_mount, inodes_changed}
 use Rattle.vt_laws_trees.proofs.layers.layers.LowersCalls.{Stays, stays_itself, change_stays, stays_where_same, unlocked_differs}
-use Rattle.std.proofs.lemmas.Bool.{not-false, or_from, or_parts}
-use Rattle.std.specs.Prelude.{Bool, false}
 use Rattle.vt_laws_rules.proofs.given.CallsGranted.{call_holds}
 use Rattle.vt_laws_rules.specs.Granted.{IsGranted, directory_made, symlink_made, whiteout_made}
 use Rattle.vt_laws_rules.specs.Granted.IsGranted.{changes_mark, changes_mode, changes_owner, creates, creates_exclusively, makes_directory, makes_hard_link, makes_symlink, makes_whiteout, mounts_overlayfs, mounts_tmpfs, opens, opens_existing, overwrites_file, removes_directory, renames, unlinks, writes_new_file, writes_part}
 use Rattle.vt_laws_trees.proofs.layers.layers.LowersMounts.{same_filesystems_without, same_mounted_without}
-use Rattle.vt_spec.proofs.Truths.{or_false_left, or_false_right}
-use Rattle.vt_spec.proofs.Worlds.{filesystems-without_replaced, shown-without_replaced}
-use Rattle.vt_spec.specs.Language.Changes.{Change}
-use Rattle.vt_spec.specs.Language.Changes.Change.{CopyUp, SetBytes, SetMark}
-use Rattle.vt_spec.specs.Machine.Apply.{apply, overfills}
-use Rattle.vt_spec.specs.Machine.Descriptors.{is_copied_up, pwritten, with_copy}
-use Rattle.vt_spec.specs.Machine.Detach.{without_mounts_on, without_replaced}
-use Rattle.vt_spec.specs.Machine.Filesystems.{with_change}
-use Rattle.vt_spec.specs.Machine.Judge.{make_permit}
-use Rattle.vt_spec.specs.Machine.Looks.{looks_of}
-use Rattle.vt_spec.specs.Machine.Mounts.{Location}
-use Rattle.vt_spec.specs.Machine.Permits.{Permit}
-use Rattle.vt_spec.specs.Machine.Permits.Permit.{ToOpen}
-use Rattle.vt_spec.specs.Machine.Rules.Removing.{moving, object_there, removing}
-use Rattle.vt_spec.specs.Tree.{Node}
 use Rattle.vt_laws_trees.proofs.trees.ChangesByOthers.{files_stay}
 
 module _ (world : World ℕ) (filesystem inode : ℕ) (own : HasNoUpperLayer world filesystem)

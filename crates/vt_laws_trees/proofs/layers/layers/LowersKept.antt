@@ -1,14 +1,7 @@
 -- What each change of a tree leaves as it was.
 use Rattle.std.proofs.Common.{arith, ◌≡◌, refl, sym, ap, subst, ◌∙◌, ℕ, nat_eq, false, cond, List, ⊎_elim, Option, Some, None}
-use Rattle.std.proofs.lemmas.Grind.{common_steps}
-use Rattle.std.proofs.lemmas.Bool.Decides.{eqb_tells}
-use Rattle.vt_spec.specs.Language.Changes.{Change, changed, changed_node, node_with_attr, node_with_mark, node_with_parent, node_without_entry, with_inode, with_moved, with_name, without_name, without_parent}
-use Rattle.vt_spec.specs.Language.Changes.Change.{AddName, CopyUp, Make, Move, Remove, SetAttr, SetBytes, SetMark}
-use Rattle.vt_spec.specs.FileTree.{FileTree}
-use Rattle.vt_spec.specs.Lists.{is_among}
-use Rattle.vt_spec.specs.Tree.{Node, entries_in, entry_named, node_with_bytes, node_with_entry}
+use Rattle.vt_spec.proofs.Common.{AddName, Change, CopyUp, FileTree, Make, Move, Node, Remove, SetAttr, SetBytes, SetMark, changed, changed_node, common_steps, entries_in, entry_named, eqb_tells, is_among, node_with_attr, node_with_bytes, node_with_entry, node_with_mark, node_with_parent, node_without_entry, or_false_left, or_false_right, with_inode, with_moved, with_name, without_name, without_parent}
 use Rattle.vt_laws_trees.specs.Layers.Layers.Untouched.{IsKept, inodes_changed}
-use Rattle.vt_spec.proofs.Truths.{or_false_left, or_false_right}
 
 pub kept_itself : (inode : Option (Node ℕ)) → IsKept inode inode
 kept_itself inode = record { there = refl; kind = refl; attr = refl; names = refl; bytes = refl; mark = refl }

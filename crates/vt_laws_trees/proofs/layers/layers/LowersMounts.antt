@@ -1,9 +1,6 @@
 -- Taking mounts away changes no filesystem, and no mount's filesystem.
 use Rattle.std.proofs.Common.{◌≡◌, ℕ, nat_eq}
-use Rattle.vt_spec.specs.Machine.Detach.{without_mounts_on}
-use Rattle.vt_spec.specs.Machine.Mounts.{Location}
-use Rattle.vt_spec.specs.Machine.World.{World, mount_at}
-use Rattle.vt_spec.proofs.Worlds.{filesystems-taken_away, shown-taken_away}
+use Rattle.vt_spec.proofs.Common.{Location, World, filesystems-taken_away, mount_at, shown-taken_away, without_mounts_on}
 
 pub same_filesystems_without : (world : World ℕ) (object : Location ℕ)
     → (without_mounts_on nat_eq world object).filesystems ≡ world.filesystems

@@ -1,15 +1,6 @@
 -- Which filesystems a change of the world leaves as they were.
-use Rattle.std.proofs.Common.{arith, ◌≡◌, ◌≢◌, refl, sym, ap, ◌∙◌, true≢false, ℕ, nat_eq, ne_eqb, true, false, List, [], ◌∷◌, map, Option, Some, None, unwrap_or}
-use Rattle.std.proofs.lemmas.Grind.{common_steps}
-use Rattle.std.specs.List.{find}
-use Rattle.std.proofs.lemmas.Bool.Decides.{eqb_tells}
-use Rattle.vt_spec.proofs.Truths.{nat_eq_itself}
-use Rattle.vt_spec.specs.Language.Changes.{Change}
-use Rattle.vt_spec.specs.Machine.CopyUp.{Merge}
-use Rattle.vt_spec.specs.Machine.Filesystems.{filesystem_changed, overlay_changed, with_change, with_files, with_merge}
-use Rattle.vt_spec.specs.Lists.{Fresh}
-use Rattle.vt_spec.specs.Machine.Mounts.{Location}
-use Rattle.vt_spec.specs.Machine.World.{Filesystem, Layer, Overlay, World, filesystem_at, filesystem_numbered, mount_at, no_filesystem, replaced_if_numbered, with_filesystem}
+use Rattle.std.proofs.Common.{arith, ◌≡◌, ◌≢◌, refl, sym, ap, ◌∙◌, true≢false, ℕ, nat_eq, ne_eqb, true, false, List, [], ◌∷◌, map, Option, Some, None, unwrap_or, find}
+use Rattle.vt_spec.proofs.Common.{Change, Filesystem, Fresh, Layer, Location, Merge, Overlay, World, common_steps, eqb_tells, filesystem_at, filesystem_changed, filesystem_numbered, mount_at, nat_eq_itself, no_filesystem, overlay_changed, replaced_if_numbered, with_change, with_files, with_filesystem, with_merge}
 
 -- the filesystem with a number has that number
 pub number_of_found : (number : ℕ) (list : List (Filesystem ℕ))

@@ -1,24 +1,11 @@
 -- Layers that lead at every path to what is alike show what is alike.
-use Rattle.std.proofs.lemmas.Grind.{common_steps}
 use Rattle.std.proofs.Common.{◌≡◌, refl, sym, ap, subst, ◌∙◌, true≢false, arith, ℕ, suc, ◌+◌, Bool, true, false, not, ◌||◌, List, [], ◌∷◌, Option, Some, None, is_some, option_and_then, slice_get}
-use Rattle.std.specs.List.{list_any}
-use Rattle.std.specs.Cmp.Lexicographic.{bytes_decides}
+use Rattle.vt_spec.proofs.Common.{Content, Directory, IsTree, Node, OpenLayer, Regular, SameObject, Shown, Symlink, Tree, Whiteout, at_path, bytes_decides, bytes_of, common_steps, directory_used, entry_at, is_directory, is_kind, is_kind_in, kind_of, layer_node, led, list_any, node_at_path, none_is_some, prefixes, same_Some, same_content, shown, then_some, when}
 use Rattle.vt_spec.specs.declared.attributes.Kind.TheVariants.{White}
-use Rattle.vt_spec.specs.FileTree.{is_kind, is_kind_in}
 use Rattle.vt_spec.proofs.Layers.{cuts, shown_from, shown_over}
-use Rattle.vt_spec.specs.Machine.Layers.{OpenLayer, Shown, at_path, hides, node_at_path, shown}
-use Rattle.vt_spec.specs.Lists.{prefixes, then_some, when}
-use Rattle.vt_spec.specs.Machine.Merging.{layer_node}
-use Rattle.vt_spec.specs.Machine.Invariants.{SameObject, same_content}
-use Rattle.vt_spec.specs.Rights.{is_directory}
-use Rattle.vt_spec.specs.Tree.{Content, Node, Tree, bytes_of, kind_of}
-use Rattle.vt_spec.specs.Tree.Content.{Directory, Regular, Symlink, Whiteout}
-use Rattle.vt_spec.specs.TreeInvariant.{IsTree, entry_at, led}
-use Rattle.vt_spec.proofs.Nodes.{directory_used}
+use Rattle.vt_spec.specs.Machine.Layers.{hides}
 use Rattle.vt_laws_trees.specs.Layers.Layers.Mounted.{AreAsOthers, IsAlike}
 use Rattle.vt_laws_trees.proofs.layers.layers.ShownDirectories.{AreOpen}
-use Rattle.std.proofs.lemmas.Option.{same_Some}
-use Rattle.vt_spec.proofs.Options.{none_is_some}
 
 -- Inodes that are alike
 

@@ -1,17 +1,10 @@
 -- What is computed to be shown at a path is what is shown there.
-use Rattle.std.proofs.lemmas.Grind.{common_steps}
 use Rattle.std.proofs.Common.{◌≡◌, ◌≢◌, ◌<◌, ◌↔◌, refl, sym, ap, subst, ◌∙◌, true≢false, arith, ℕ, zero, suc, ◌+◌, Bool, true, false, not, List, [], ◌∷◌, Option, Some, None}
+use Rattle.vt_spec.proofs.Common.{Content, Directory, Node, OpenLayer, Regular, Shown, Symlink, Whiteout, at_path, common_steps, is_kind, is_kind_in, kind_of, node_at_path, none_is_some, same_Some, shown, then_some}
 use Rattle.vt_spec.specs.declared.attributes.Kind.TheVariants.{White}
-use Rattle.vt_spec.specs.FileTree.{is_kind, is_kind_in}
 use Rattle.vt_spec.proofs.Layers.{cuts, shown_from, shown_over}
-use Rattle.vt_spec.specs.Machine.Layers.{OpenLayer, Shown, at_path, node_at_path, shown}
-use Rattle.vt_spec.specs.Lists.{then_some}
-use Rattle.vt_spec.specs.Tree.{Content, Node, kind_of}
-use Rattle.vt_spec.specs.Tree.Content.{Directory, Regular, Symlink, Whiteout}
 use Rattle.vt_laws_trees.specs.Layers.Layers.Shown.{HasAt, HasInodeAt, HasUncut, IsCut, IsShown}
 use Rattle.vt_laws_trees.proofs.layers.layers.ShownFronts.{cuts_by, prefix_found, hides_inode}
-use Rattle.std.proofs.lemmas.Option.{same_Some}
-use Rattle.vt_spec.proofs.Options.{none_is_some}
 
 is_no_whiteout : (content : Content ℕ) → content ≢ Whiteout → is_kind White (kind_of content) ≡ false
 is_no_whiteout (Directory parent entries opaque) n = refl

@@ -1,17 +1,11 @@
 -- What is shown under a name is shown in a directory.
-use Rattle.std.proofs.lemmas.Grind.{common_steps}
 use Rattle.std.proofs.Common.{◌≡◌, ◌≢◌, refl, sym, ap, subst, ◌∙◌, true≢false, arith, ℕ, suc, ◌+◌, Bool, true, false, List, [], ◌∷◌, ◌++◌, Option, Some, None, is_some, option_and_then, slice_get}
+use Rattle.vt_spec.proofs.Common.{IsDirectory, IsTree, Node, OpenLayer, Shown, at_path, common_steps, directory_no_whiteout, entry_at, is_directory_node, node_at_path, none_is_some, same_Some, then_some}
 use Rattle.vt_spec.proofs.Layers.{cuts, shown_from, shown_over}
-use Rattle.vt_spec.specs.Machine.Layers.{OpenLayer, Shown, at_path, hides, node_at_path}
-use Rattle.vt_spec.specs.Lists.{then_some}
-use Rattle.vt_spec.specs.Tree.{Node, is_directory_node}
-use Rattle.vt_spec.specs.TreeInvariant.{IsDirectory, IsTree, entry_at}
+use Rattle.vt_spec.specs.Machine.Layers.{hides}
 use Rattle.vt_laws_trees.proofs.layers.layers.ShownFronts.{prefix_found, prefix_passes}
 use Rattle.vt_laws_trees.proofs.layers.layers.ShownNames.{last_name}
 use Rattle.vt_laws_trees.proofs.layers.layers.UpperLine.{has_entries}
-use Rattle.std.proofs.lemmas.Option.{same_Some}
-use Rattle.vt_spec.proofs.NodeChanges.{directory_no_whiteout}
-use Rattle.vt_spec.proofs.Options.{none_is_some}
 
 -- layers are directories of trees
 abbrev pub AreOpen : List (OpenLayer ℕ) → Type 0

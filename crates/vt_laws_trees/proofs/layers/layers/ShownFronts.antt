@@ -1,16 +1,10 @@
 -- The fronts of a path at which a layer cuts what is below it.
 use Rattle.std.proofs.Common.{◌≡◌, ◌≢◌, refl, sym, ap, ◌∙◌, true≢false, ℕ, Bool, true, false, not, ◌||◌, List, [], ◌∷◌, ◌++◌, map, Option, Some, None}
-use Rattle.std.specs.List.{list_any}
-use Rattle.vt_spec.specs.FileTree.{opaque_of}
+use Rattle.vt_spec.proofs.Common.{Content, Directory, Node, OpenLayer, Regular, Symlink, Whiteout, is_directory, kind_of, list_any, node_at_path, opaque_of, or_right, prefixes}
 use Rattle.vt_spec.proofs.Layers.{cuts}
-use Rattle.vt_spec.specs.Machine.Layers.{OpenLayer, hides, node_at_path}
-use Rattle.vt_spec.specs.Lists.{prefixes}
-use Rattle.vt_spec.specs.Rights.{is_directory}
-use Rattle.vt_spec.specs.Tree.{Content, Node, kind_of}
-use Rattle.vt_spec.specs.Tree.Content.{Directory, Regular, Symlink, Whiteout}
+use Rattle.vt_spec.specs.Machine.Layers.{hides}
 use Rattle.vt_laws_trees.specs.Layers.Layers.Shown.{HidesLower, IsFrontOf}
 use Rattle.vt_laws_trees.specs.Layers.Layers.Shown.HidesLower.{a_file, a_link, a_whiteout, an_opaque_directory}
-use Rattle.std.proofs.lemmas.Bool.{or_right}
 
 -- a test of a list is the test of what it was made of
 pub list_any_of_map : {A B : Type 0} (test : B → Bool) (f : A → B) (list : List A)

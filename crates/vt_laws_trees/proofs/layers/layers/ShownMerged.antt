@@ -1,24 +1,13 @@
 -- A merged tree that is made of its layers has at each path what they show.
-use Rattle.std.proofs.lemmas.Grind.{common_steps}
-use Rattle.std.proofs.Common.{◌≡◌, ◌≢◌, ◌≤◌, ◌⊎◌, inl, inr, refl, sym, ap, ◌∙◌, true≢false, arith, ℕ, ◌+◌, nat_eq, eq-eqb, eqb-true, Bool, true, false, cond, not, ◌&&◌, List, [], ◌∷◌, ◌++◌, length, Option, Some, None, slice_get, unwrap_or}
-use Rattle.std.specs.List.{cons_option, filter_map}
-use Rattle.std.specs.Cmp.{tied_itself}
-use Rattle.std.specs.Cmp.Lexicographic.{nat_list_cmp_total}
-use Rattle.std.specs.Ordering.{eq_by_cmp, is_eq}
-use Rattle.std.specs.Prelude.{option_map}
-use Rattle.vt_spec.specs.Machine.Layers.{OpenLayer, Shown, at_path, shown}
-use Rattle.vt_spec.specs.Lists.{Fresh, without_last, last_or, then_some, when}
-use Rattle.vt_spec.specs.Machine.Merging.{Merged, MergedInode, entry_in_directory, inode_of, is_one_inode, is_root_path, layer_node, merged_content, merged_inode, merged_inodes, merged_number, merged_objects, real_object, real_of, same_path}
-use Rattle.vt_spec.specs.Rights.{is_directory}
-use Rattle.vt_spec.specs.Tree.{Node, entry_named, kind_of, name_cmp}
+use Rattle.std.proofs.Common.{◌≡◌, ◌≢◌, ◌≤◌, ◌⊎◌, inl, inr, refl, sym, ap, ◌∙◌, true≢false, arith, ℕ, ◌+◌, nat_eq, eq-eqb, eqb-true, Bool, true, false, cond, not, ◌&&◌, List, [], ◌∷◌, ◌++◌, length, Option, Some, None, slice_get, unwrap_or, filter_map, is_eq, option_map}
+use Rattle.vt_spec.proofs.Common.{Fresh, Merged, MergedInode, Node, OpenLayer, Shown, at_path, common_steps, cons_option, entry_in_directory, entry_named, eq_by_cmp, inode_of, is_directory, is_one_inode, is_root_path, kind_of, last_or, layer_node, merged_content, merged_inode, merged_inodes, merged_objects, name_cmp, nat_list_cmp_total, none_is_some, real_object, real_of, same_Some, same_path, shown, then_some, tied_itself, when, without_last}
+use Rattle.vt_spec.specs.Machine.Merging.{merged_number}
 use Rattle.vt_spec.proofs.Nodes.{same_name}
 use Rattle.vt_laws_trees.proofs.layers.layers.ShownAtPath.{computed}
 use Rattle.vt_laws_trees.proofs.layers.layers.ShownDirectories.{AreOpen, last_of, led_is_there}
 use Rattle.vt_laws_trees.proofs.layers.layers.ShownObjects.{Among, Found, IsOne, among_filter_map, found_among, from_filter_map, is_object, is_one, object_is, one_itself, path_itself, path_same, placed_among}
 use Rattle.vt_laws_trees.proofs.layers.layers.ShownPaths.{last_of_longer, not_empty, one_path, root_of_longer}
 use Rattle.vt_laws_trees.proofs.layers.layers.UpperShown.{without_last_of_longer}
-use Rattle.std.proofs.lemmas.Option.{same_Some}
-use Rattle.vt_spec.proofs.Options.{none_is_some}
 
 module _ (layers : List (OpenLayer ℕ)) (are_open : AreOpen layers) (longest : ℕ)
     (bounded : (path : List (List ℕ)) (seen : Shown ℕ) → shown layers path ≡ Some seen → length path ≤ longest)

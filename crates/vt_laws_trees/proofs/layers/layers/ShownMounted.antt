@@ -1,21 +1,6 @@
 -- A newly mounted overlay is what its layers show.
-use Rattle.std.proofs.lemmas.Grind.{common_steps}
-use Rattle.std.proofs.Common.{◌≡◌, ◌≢◌, ◌≤◌, refl, sym, ap, subst, ◌∙◌, true≢false, arith, ℕ, zero, suc, ◌+◌, nat_eq, Bool, true, not, List, [], ◌∷◌, ◌++◌, map, length, Option, Some, None, is_some, option_and_then, slice_get, unwrap_or}
-use Rattle.std.specs.List.{find, list_all, sum}
-use Rattle.std.specs.Prelude.{option_map, option_to_list}
-use Rattle.std.specs.Str.{bytes_eq}
-use Rattle.std.specs.Cmp.Lexicographic.{bytes_decides}
-use Rattle.std.proofs.lemmas.List.Sums.{sum_by-cons}
-use Rattle.std.proofs.lemmas.Option.{slice_get-map, same_Some}
-use Rattle.vt_spec.specs.FileTree.{FileTree}
-use Rattle.vt_spec.specs.Machine.Layers.{OpenLayer, Shown, node_at_path, shown}
-use Rattle.vt_spec.specs.Lists.{Fresh, holds_of, odds, then_some, when}
-use Rattle.vt_spec.specs.Machine.Merging.{merged_inodes, merged_objects, real_of}
-use Rattle.vt_spec.specs.Machine.NewMounts.{inode_count, overlay_filesystem}
-use Rattle.vt_spec.specs.Machine.World.{Filesystem, Layer, Overlay, Real, World, filesystem_numbered, is_overlay, no_filesystem, open_layer, shown_layers}
-use Rattle.vt_spec.specs.Machine.Invariants.{IsMerged, IsWorld, ListsNumbers, SameObject, is_plain_layer, is_there, node_shown, real_node, same_content}
-use Rattle.vt_spec.specs.Tree.{Content, Node, is_directory_node}
-use Rattle.vt_spec.specs.TreeInvariant.{IsDirectory, IsTree, entry_at, led}
+use Rattle.std.proofs.Common.{◌≡◌, ◌≢◌, ◌≤◌, refl, sym, ap, subst, ◌∙◌, true≢false, arith, ℕ, zero, suc, ◌+◌, nat_eq, Bool, true, not, List, [], ◌∷◌, ◌++◌, map, length, Option, Some, None, is_some, option_and_then, slice_get, unwrap_or, find, sum, option_map, option_to_list, bytes_eq}
+use Rattle.vt_spec.proofs.Common.{Content, FileTree, Filesystem, Fresh, IsDirectory, IsMerged, IsTree, IsWorld, Layer, ListsNumbers, Node, OpenLayer, Overlay, Real, SameObject, Shown, World, and_true_left, and_true_right, bytes_decides, common_steps, directory_no_whiteout, entry_at, filesystem_numbered, holds_of, inode_count, is_directory_node, is_overlay, is_plain_layer, is_there, led, list_all, merged_inodes, merged_objects, no_filesystem, node_at_path, node_shown, none_is_some, odds, odds-distinct, open_layer, overlay_filesystem, real_node, real_of, same_Some, same_content, shown, shown_layers, slice_get-map, sum_by-cons, then_some, when}
 use Rattle.vt_laws_trees.specs.Layers.Layers.Mounted.{AreLayers, RemountShowsTheSame}
 use Rattle.vt_laws_trees.proofs.layers.layers.ShownAlike.{shown_alike}
 use Rattle.vt_laws_trees.proofs.layers.layers.ShownAtPath.{computed}
@@ -27,10 +12,6 @@ use Rattle.vt_laws_trees.proofs.layers.layers.ShownWhole.{behind, merged_is_real
 use Rattle.vt_laws_trees.proofs.layers.layers.UpperChain.{depth_below}
 use Rattle.vt_laws_trees.proofs.layers.layers.UpperLine.{has_entries, is_reached_in}
 use Rattle.vt_laws_trees.proofs.layers.layers.UpperWorld.{all_found, overlay_layers}
-use Rattle.vt_spec.proofs.NodeChanges.{directory_no_whiteout}
-use Rattle.vt_spec.proofs.Options.{none_is_some}
-use Rattle.vt_spec.proofs.Truths.{and_true_left, and_true_right}
-use Rattle.vt_spec.proofs.FreshNumbers.{odds-distinct}
 
 -- a part of a sum is no more than the sum
 in_sum : (test : Filesystem ℕ → Bool) (list : List (Filesystem ℕ)) (filesystem : Filesystem ℕ)

@@ -1,24 +1,11 @@
 -- The names of a directory are those for which something is shown.
-use Rattle.std.proofs.lemmas.Grind.{common_steps}
-use Rattle.std.proofs.Common.{◌≡◌, ◌<◌, ◌↔◌, Contains, refl, sym, ap, ◌∙◌, true≢false, arith, ℕ, zero, suc, Bool, true, false, cond, ◌||◌, ◌&&◌, List, [], ◌∷◌, ◌++◌, map, filter, length, get_or, Option, Some, None, is_some, option_and_then, slice_get}
-use Rattle.std.proofs.Math.Bool.{or-true}
-use Rattle.std.specs.List.{list_any}
-use Rattle.std.specs.Cmp.{tied_itself}
-use Rattle.std.specs.Cmp.Lexicographic.{nat_list_cmp_total}
-use Rattle.std.specs.FinMap.Entries.{find-put, is_some-find}
-use Rattle.std.specs.Ordering.{eq_by_cmp, is_eq}
+use Rattle.std.proofs.Common.{◌≡◌, ◌<◌, ◌↔◌, Contains, refl, sym, ap, ◌∙◌, true≢false, arith, ℕ, zero, suc, Bool, true, false, cond, ◌||◌, ◌&&◌, List, [], ◌∷◌, ◌++◌, map, filter, length, get_or, Option, Some, None, is_some, option_and_then, slice_get, is_eq}
+use Rattle.vt_spec.proofs.Common.{Entries, OpenLayer, Shown, Tree, and_true_right, at_path, common_steps, entries_in, entry_at, entry_named, eq_by_cmp, find-put, folded, is_some-find, led, list_any, name_cmp, names_shown, nat_list_cmp_total, node_at_path, none_is_some, or-true, or_right, same_Some, shown, tied_itself, with_entry}
 use Rattle.vt_spec.proofs.Layers.{names_at}
-use Rattle.vt_spec.specs.Machine.Layers.{OpenLayer, Shown, at_path, names_shown, node_at_path, shown}
-use Rattle.vt_spec.specs.Lists.{folded}
-use Rattle.vt_spec.specs.Tree.{Entries, Tree, entries_in, entry_named, name_cmp, with_entry}
-use Rattle.vt_spec.specs.TreeInvariant.{entry_at, led}
 use Rattle.vt_spec.proofs.Nodes.{same_name}
 use Rattle.vt_laws_trees.specs.Layers.Layers.Shown.{IsShown}
 use Rattle.vt_laws_trees.proofs.layers.layers.ShownAtPath.{computed}
-use Rattle.std.proofs.lemmas.Bool.{or_right}
-use Rattle.std.proofs.lemmas.Option.{same_Some}
-use Rattle.vt_spec.proofs.Options.{none_is_some, option_and_then-Some}
-use Rattle.vt_spec.proofs.Truths.{and_true_right}
+use Rattle.vt_spec.proofs.Options.{option_and_then-Some}
 
 abbrev pub is_name : List ℕ → List ℕ → Bool
 is_name name other = eq_by_cmp name_cmp name other

@@ -1,19 +1,10 @@
 -- The objects of a merged tree are all that is shown.
-use Rattle.std.proofs.lemmas.Grind.{common_steps}
-use Rattle.std.proofs.Common.{◌≡◌, ◌<◌, ◌≤◌, ◌⊎◌, inl, inr, refl, sym, ap, subst, ◌∙◌, true≢false, arith, ℕ, zero, suc, ◌+◌, nat_eq, eq-eqb, eqb-true, Bool, true, false, cond, ◌&&◌, List, [], ◌∷◌, ◌++◌, length, get_or, Option, Some, None, is_some, slice_get, ⊎_elim}
-use Rattle.std.specs.List.{cons_option, filter_map, find, flat_map}
-use Rattle.std.specs.Prelude.{option_map}
-use Rattle.std.specs.Str.{bytes_eq}
-use Rattle.std.specs.Cmp.Lexicographic.{bytes_decides}
-use Rattle.vt_spec.specs.Machine.Layers.{OpenLayer, Shown, names_shown, paths_from, shown}
-use Rattle.vt_spec.specs.Lists.{index_from}
-use Rattle.vt_spec.specs.Machine.Merging.{Merged, is_one_inode, merged_at, merged_objects, real_object, same_path, same_real}
+use Rattle.std.proofs.Common.{◌≡◌, ◌<◌, ◌≤◌, ◌⊎◌, inl, inr, refl, sym, ap, subst, ◌∙◌, true≢false, arith, ℕ, zero, suc, ◌+◌, nat_eq, eq-eqb, eqb-true, Bool, true, false, cond, ◌&&◌, List, [], ◌∷◌, ◌++◌, length, get_or, Option, Some, None, is_some, slice_get, ⊎_elim, filter_map, find, flat_map, option_map, bytes_eq, append-nil}
+use Rattle.vt_spec.proofs.Common.{Merged, OpenLayer, Shown, bytes_decides, common_steps, cons_option, index_from, is_one_inode, merged_at, merged_objects, names_shown, none_is_some, paths_from, real_object, same_Some, same_path, shown}
+use Rattle.vt_spec.specs.Machine.Merging.{same_real}
 use Rattle.vt_laws_trees.proofs.layers.layers.ShownAtPath.{computed}
 use Rattle.vt_laws_trees.proofs.layers.layers.ShownDirectories.{AreOpen, append_assoc, shown_in_directory}
 use Rattle.vt_laws_trees.proofs.layers.layers.ShownNames.{names_are_those_shown}
-use Rattle.std.proofs.lemmas.List.{append-nil}
-use Rattle.std.proofs.lemmas.Option.{same_Some}
-use Rattle.vt_spec.proofs.Options.{none_is_some}
 
 -- an element of a list
 abbrev pub Among : {A : Type 0} → List A → A → Type 0

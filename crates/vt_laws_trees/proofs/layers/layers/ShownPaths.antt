@@ -1,16 +1,10 @@
 -- One directory of a tree is led to by one list of names.
 use Rattle.std.proofs.Common.{◌≡◌, ◌≢◌, refl, sym, ap, subst, ◌∙◌, true≢false, arith, ℕ, zero, suc, ◌+◌, Bool, true, false, List, [], ◌∷◌, ◌++◌, length, Option, Some, None, option_and_then}
-use Rattle.vt_spec.specs.FileTree.{FileTree}
-use Rattle.vt_spec.specs.Lists.{last_or}
-use Rattle.vt_spec.specs.Machine.Merging.{is_root_path}
-use Rattle.vt_spec.specs.Tree.{Tree}
-use Rattle.vt_spec.specs.TreeInvariant.{IsDirectory, IsTree, entry_at, led}
+use Rattle.vt_spec.proofs.Common.{FileTree, IsDirectory, IsTree, Tree, entry_at, is_root_path, last_or, led, none_is_some, same_Some}
 use Rattle.vt_laws_trees.proofs.layers.layers.ShownDirectories.{last_of}
 use Rattle.vt_laws_trees.proofs.layers.layers.ShownNames.{last_name}
 use Rattle.vt_laws_trees.proofs.layers.layers.UpperChain.{one_depth}
 use Rattle.vt_laws_trees.proofs.layers.layers.UpperLine.{ReachedIn, has_entries, is_reached_in}
-use Rattle.std.proofs.lemmas.Option.{same_Some}
-use Rattle.vt_spec.proofs.Options.{none_is_some}
 
 pub not_empty : (name : List ℕ) (path : List (List ℕ)) → name ∷ path ≢ []
 not_empty name path e = true≢false (ap (λ l. elim l as (λ _. Bool) [ [] ↦ false | a ∷ b ↦ true ]) e)

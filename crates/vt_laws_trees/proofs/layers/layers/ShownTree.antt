@@ -1,16 +1,7 @@
 -- A merged tree that is made of its layers has at each path what they show, with its real object.
-use Rattle.std.proofs.lemmas.Grind.{common_steps}
-use Rattle.std.proofs.Common.{◌≡◌, ◌≢◌, ◌≤◌, refl, sym, ap, subst, ◌∙◌, true≢false, arith, ℕ, zero, suc, ◌+◌, nat_eq, Bool, true, List, [], ◌∷◌, ◌++◌, length, Option, Some, None, option_and_then}
-use Rattle.std.specs.List.{filter_map}
-use Rattle.std.specs.Prelude.{option_map}
-use Rattle.vt_spec.specs.Machine.Layers.{OpenLayer, Shown, paths_from, shown}
-use Rattle.vt_spec.specs.Lists.{Fresh, then_some}
-use Rattle.vt_spec.specs.Machine.Merging.{Merged, MergedInode, entry_in_directory, layer_node, merged_at, merged_content, real_object, real_of, tree_of}
-use Rattle.vt_spec.specs.Machine.Invariants.{SameObject}
-use Rattle.vt_spec.specs.Rights.{is_directory}
-use Rattle.vt_spec.specs.Tree.{Content, Node, Tree, entries_in, entries_of, entry_named, kind_of}
-use Rattle.vt_spec.specs.Tree.Content.{Directory, Regular, Symlink, Whiteout}
-use Rattle.vt_spec.specs.TreeInvariant.{entry_at, led}
+use Rattle.std.proofs.Common.{◌≡◌, ◌≢◌, ◌≤◌, refl, sym, ap, subst, ◌∙◌, true≢false, arith, ℕ, zero, suc, ◌+◌, nat_eq, Bool, true, List, [], ◌∷◌, ◌++◌, length, Option, Some, None, option_and_then, filter_map, option_map}
+use Rattle.vt_spec.proofs.Common.{Content, Directory, Fresh, Merged, MergedInode, Node, OpenLayer, Regular, SameObject, Shown, Symlink, Tree, Whiteout, common_steps, entries_in, entries_of, entry_at, entry_in_directory, entry_named, is_directory, kind_of, layer_node, led, merged_at, merged_content, none_is_some, paths_from, real_object, real_of, same_Some, shown, then_some}
+use Rattle.vt_spec.specs.Machine.Merging.{tree_of}
 use Rattle.vt_laws_trees.proofs.layers.layers.ShownAtPath.{computed}
 use Rattle.vt_laws_trees.proofs.layers.layers.ShownDirectories.{AreOpen, last_of, shown_in_directory}
 use Rattle.vt_laws_trees.proofs.layers.layers.ShownMerged.{HasInode, LeadsTo, entry_leads, has_inode, in_layer, inodes, layer_node_of, node_of, number, objects, one_directory}
@@ -18,8 +9,6 @@ use Rattle.vt_laws_trees.proofs.layers.layers.ShownNames.{last_name}
 use Rattle.vt_laws_trees.proofs.layers.layers.ShownObjects.{is_object, one_itself}
 use Rattle.vt_laws_trees.proofs.layers.layers.ShownPaths.{length_longer, not_empty}
 use Rattle.vt_laws_trees.proofs.layers.layers.ShownWhole.{same_merged}
-use Rattle.std.proofs.lemmas.Option.{same_Some}
-use Rattle.vt_spec.proofs.Options.{none_is_some}
 
 module _ (layers : List (OpenLayer ℕ)) (are_open : AreOpen layers) (longest : ℕ)
     (bounded : (path : List (List ℕ)) (seen : Shown ℕ) → shown layers path ≡ Some seen → length path ≤ longest)

@@ -1,25 +1,12 @@
 -- A merged tree has no whiteout and no mark, and two inodes of it have two real objects, which are there.
-use Rattle.std.proofs.Common.{arith, ◌≡◌, ◌≢◌, ◌≤◌, refl, sym, ap, subst, ◌∙◌, true≢false, ℕ, suc, nat_eq, eqb-true, Bool, true, false, List, [], ◌∷◌, length, Option, Some, None, is_some, slice_get, unwrap_or}
-use Rattle.std.proofs.lemmas.Grind.{common_steps}
-use Rattle.std.specs.List.{find}
-use Rattle.std.specs.Prelude.{option_map}
+use Rattle.std.proofs.Common.{arith, ◌≡◌, ◌≢◌, ◌≤◌, refl, sym, ap, subst, ◌∙◌, true≢false, ℕ, suc, nat_eq, eqb-true, Bool, true, false, List, [], ◌∷◌, length, Option, Some, None, is_some, slice_get, unwrap_or, find, option_map}
+use Rattle.vt_spec.proofs.Common.{Content, Directory, Fresh, Lower, Merged, MergedInode, Node, OpenLayer, Real, Regular, SameObject, Shown, Symlink, Upper, Whiteout, bytes_eq_itself, common_steps, index_from, inode_of, is_kind, is_kind_in, is_opaque_in, kind_of, merged_content, merged_inode, node_at_path, none_is_some, opaque_of, real_object, real_of, same_Some, same_content, shown, then_some}
 use Rattle.vt_spec.specs.declared.attributes.Kind.TheVariants.{White}
-use Rattle.vt_spec.specs.FileTree.{is_kind, is_kind_in, is_opaque_in, opaque_of}
-use Rattle.vt_spec.specs.Machine.Layers.{OpenLayer, Shown, node_at_path, shown}
-use Rattle.vt_spec.specs.Lists.{Fresh, index_from, then_some}
-use Rattle.vt_spec.specs.Machine.Merging.{Merged, MergedInode, inode_of, merged_content, merged_inode, real_object, real_of, same_real}
-use Rattle.vt_spec.specs.Machine.World.{Real}
-use Rattle.vt_spec.specs.Machine.Invariants.{SameObject, same_content}
-use Rattle.vt_spec.specs.Machine.World.Real.{Lower, Upper}
-use Rattle.vt_spec.specs.Tree.{Content, Node, kind_of}
-use Rattle.vt_spec.specs.Tree.Content.{Directory, Regular, Symlink, Whiteout}
+use Rattle.vt_spec.specs.Machine.Merging.{same_real}
 use Rattle.vt_laws_trees.proofs.layers.layers.ShownAtPath.{computed}
 use Rattle.vt_laws_trees.proofs.layers.layers.ShownDirectories.{AreOpen}
 use Rattle.vt_laws_trees.proofs.layers.layers.ShownMerged.{InLayer, in_layer, inodes, layer_node_of, node_of, number, objects}
 use Rattle.vt_laws_trees.proofs.layers.layers.ShownObjects.{Among, from_filter_map, object_is}
-use Rattle.std.proofs.lemmas.Option.{same_Some}
-use Rattle.vt_spec.proofs.Options.{none_is_some}
-use Rattle.vt_spec.proofs.Truths.{bytes_eq_itself}
 
 -- what is found is in the list, and passes
 pub found_in_list : {A : Type 0} (test : A → Bool) (list : List A) (a : A) → find test list ≡ Some a

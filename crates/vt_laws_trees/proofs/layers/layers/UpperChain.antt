@@ -1,15 +1,7 @@
 -- The directories above one end at the root, within as many steps as there are inodes.
-use Rattle.std.proofs.lemmas.Grind.{common_steps}
 use Rattle.std.proofs.Common.{◌≡◌, ◌≤◌, refl, sym, ap, subst, ◌∙◌, true≢false, arith, ℕ, zero, suc, nat_eq, eq-eqb, eqb-true, ne_eqb, Bool, true, false, cond, ◌||◌, List, [], ◌∷◌, length, Some, None}
-use Rattle.std.specs.List.{list_any}
-use Rattle.vt_spec.specs.FileTree.{FileTree, has_entry_to, named_parent}
-use Rattle.vt_spec.specs.Lists.{chain, when}
-use Rattle.vt_spec.specs.Machine.Invariants.{ListsNumbers}
-use Rattle.vt_spec.specs.Tree.{parent_in}
-use Rattle.vt_spec.specs.TreeInvariant.{IsTree}
-use Rattle.vt_spec.proofs.Nodes.{directory_used}
+use Rattle.vt_spec.proofs.Common.{FileTree, IsTree, ListsNumbers, chain, common_steps, directory_used, entry_to, has_entry_to, list_any, named_parent, parent_in, when}
 use Rattle.vt_laws_trees.proofs.layers.layers.UpperLine.{ReachedIn, reached_directory}
-use Rattle.vt_spec.proofs.NodeChanges.{entry_to}
 
 -- No more distinct numbers than a list that has them all.
 abbrev Distinct : List ℕ → Type 0

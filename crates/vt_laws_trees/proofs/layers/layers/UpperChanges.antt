@@ -1,15 +1,6 @@
 -- A change of an overlay writes to new inodes and to objects of the upper layer alone.
 use Rattle.std.proofs.Common.{arith, ◌≡◌, ◌≢◌, refl, sym, ap, subst, ◌∙◌, true≢false, ℕ, ◌+◌, ◌*◌, nat_eq, ne_eqb, Bool, true, false, cond, List, Option, Some, None, is_some}
-use Rattle.std.proofs.lemmas.Grind.{common_steps}
-use Rattle.vt_spec.specs.Language.Changes.{Change, changed_node, node_with_attr, node_with_mark, node_with_parent, node_without_entries, with_inode, with_moved}
-use Rattle.vt_spec.specs.Language.Changes.Change.{AddName, CopyUp, Make, Move, Remove, SetAttr, SetBytes, SetMark}
-use Rattle.vt_spec.specs.Machine.CopyUp.{Merge, Stack, changed_both, copied_up, hides_directory, merge_changed, merge_with_link, merge_with_moved, merge_with_new, merge_without_name, name_left_by, shown_in_lowers_at, upper_directory_named, upper_of, with_mark, without_contents}
-use Rattle.vt_spec.specs.FileTree.{FileTree, a_name}
-use Rattle.vt_spec.specs.Lists.{Fresh, evens, odds}
-use Rattle.vt_spec.specs.Machine.World.{Real}
-use Rattle.vt_spec.specs.Machine.Invariants.{ListsNumbers}
-use Rattle.vt_spec.specs.Tree.{Node, entries_in, entry_named, node_with_bytes, node_with_entry}
-use Rattle.vt_spec.specs.TreeInvariant.{IsTree, entry_at}
+use Rattle.vt_spec.proofs.Common.{AddName, Change, CopyUp, FileTree, Fresh, IsTree, ListsNumbers, Make, Merge, Move, Node, Real, Remove, SetAttr, SetBytes, SetMark, Stack, a_name, changed_both, changed_node, common_steps, copied_up, entries_in, entry_at, entry_named, evens, hides_directory, merge_changed, merge_with_link, merge_with_moved, merge_with_new, merge_without_name, name_left_by, node_with_attr, node_with_bytes, node_with_entry, node_with_mark, node_with_parent, node_without_entries, odds, shown_in_lowers_at, upper_directory_named, upper_of, with_inode, with_mark, with_moved, without_contents}
 use Rattle.vt_laws_trees.specs.Layers.Layers.Untouched.{IsKept}
 use Rattle.vt_laws_trees.specs.Layers.Layers.Upper.{SpeaksOfWhatIsThere}
 use Rattle.vt_laws_trees.proofs.layers.layers.LowersKept.{kept_both, kept_elsewhere, kept_moved, kept_same}

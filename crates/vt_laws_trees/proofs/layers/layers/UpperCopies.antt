@@ -1,20 +1,11 @@
 -- A copy-up writes to new inodes and to objects of the upper layer alone: the parents of what is copied are there
 -- first.
-use Rattle.std.proofs.lemmas.Grind.{common_steps}
 use Rattle.std.proofs.Common.{◌≡◌, ◌≢◌, ◌≤◌, refl, sym, ap, subst, ◌∙◌, true≢false, arith, ℕ, zero, suc, ◌+◌, nat_eq, eq-eqb, true, false, List, [], ◌∷◌, ◌++◌, reverse, length, Option, Some, None, is_some}
+use Rattle.vt_spec.proofs.Common.{FileTree, Fresh, IsTree, ListsNumbers, Merge, Node, Real, a_name, chain, common_steps, copied_each, copied_up, copy_of, directories_to, directory_used, is_in_upper, line_by, named_parent, same_Some, upper_object, upper_of}
 use mathlib.Core.List.{reverse-cons}
-use Rattle.vt_spec.specs.Machine.CopyUp.{Merge, copied_each, copied_up, copy_of, directories_to, is_in_upper, line_by, upper_of}
-use Rattle.vt_spec.specs.FileTree.{FileTree, a_name, named_parent}
-use Rattle.vt_spec.specs.Lists.{Fresh, chain}
-use Rattle.vt_spec.specs.Machine.World.{Real, upper_object}
-use Rattle.vt_spec.specs.Machine.Invariants.{ListsNumbers}
-use Rattle.vt_spec.specs.Tree.{Node}
-use Rattle.vt_spec.specs.TreeInvariant.{IsTree}
-use Rattle.vt_spec.proofs.Nodes.{directory_used}
 use Rattle.vt_laws_trees.proofs.layers.layers.LowersKept.{kept_elsewhere}
 use Rattle.vt_laws_trees.proofs.layers.layers.UpperChain.{depth_bound, up_at_root, up_from}
 use Rattle.vt_laws_trees.proofs.layers.layers.UpperLine.{ReachedIn, is_reached_in, named_so, reached_directory}
-use Rattle.std.proofs.lemmas.Option.{same_Some}
 
 -- an inode of the overlay has a real object in the upper layer
 abbrev pub HasUpper : (ℕ → Option (Real ℕ)) → ℕ → Type 0

@@ -1,18 +1,9 @@
 -- Each overlay of a world is fit to change.
 use Rattle.std.proofs.Common.{arith, ◌≡◌, refl, sym, ap, ◌∙◌, true≢false, ℕ, nat_eq, List, Option, Some, None, is_some}
-use Rattle.std.proofs.lemmas.Grind.{common_steps}
-use Rattle.vt_spec.specs.Machine.Filesystems.{merge_of}
-use Rattle.vt_spec.specs.Machine.Layers.{OpenLayer}
-use Rattle.vt_spec.specs.Lists.{Fresh, holds_of}
-use Rattle.vt_spec.specs.Machine.World.{Filesystem, Layer, Overlay, Real, World, filesystem_numbered, open_layer, upper_object}
-use Rattle.vt_spec.specs.Machine.World.Real.{Lower, Upper}
-use Rattle.vt_spec.specs.Machine.Invariants.{IsWorld, SameObject, is_there, number_at_path}
-use Rattle.vt_spec.specs.Tree.{Node, is_directory_node}
+use Rattle.vt_spec.proofs.Common.{Filesystem, Fresh, IsWorld, Layer, Lower, Node, OpenLayer, Overlay, Real, SameObject, Upper, World, common_steps, filesystem_numbered, holds_of, is_directory_node, is_there, merge_of, none_is_some, number_at_path, open_layer, same_Some, upper_object}
 use Rattle.vt_laws_trees.specs.Layers.Layers.ChangesUpper.{IsFitToChange}
 use Rattle.vt_laws_trees.proofs.layers.layers.UpperWorld.{above_upper, one_below, overlay_merges, overlay_numbers, overlay_tree, real_named, root_is_upper}
-use Rattle.std.proofs.lemmas.Option.{same_Some}
 use Rattle.vt_spec.proofs.NodeChanges.{same_content_kind}
-use Rattle.vt_spec.proofs.Options.{none_is_some}
 use Rattle.vt_laws_trees.specs.Trees.Settling.{inode_in}
 
 -- an upper object is a real one

@@ -1,16 +1,6 @@
 -- The directories from the root down to one.
-use Rattle.std.proofs.Common.{arith, ◌≡◌, ◌≢◌, refl, sym, ap, subst, ◌∙◌, true≢false, ℕ, zero, suc, nat_eq, Bool, true, false, List, [], ◌∷◌, Option, Some, None, option_and_then, ⊎_elim}
-use Rattle.std.proofs.lemmas.Grind.{common_steps}
-use Rattle.std.proofs.lemmas.Bool.Decides.{eqb_tells}
-use Rattle.std.specs.List.{find, filter_map}
-use Rattle.std.specs.Prelude.{option_map}
-use Rattle.vt_spec.specs.FileTree.{FileTree, a_name, has_entry_to, name_in}
-use Rattle.vt_spec.specs.Lists.{first_of_list}
-use Rattle.vt_spec.specs.Tree.{Tree, entries_in, entry_named, parent_in}
-use Rattle.vt_spec.specs.TreeInvariant.{HasName, IsDirectory, IsTree, entry_at, led}
-use Rattle.std.proofs.lemmas.Option.{same_Some}
-use Rattle.vt_spec.proofs.NodeChanges.{entry_from, entry_to, found_is_named}
-use Rattle.vt_spec.proofs.Options.{none_is_some}
+use Rattle.std.proofs.Common.{arith, ◌≡◌, ◌≢◌, refl, sym, ap, subst, ◌∙◌, true≢false, ℕ, zero, suc, nat_eq, Bool, true, false, List, [], ◌∷◌, Option, Some, None, option_and_then, ⊎_elim, find, filter_map, option_map}
+use Rattle.vt_spec.proofs.Common.{FileTree, HasName, IsDirectory, IsTree, Tree, a_name, common_steps, entries_in, entry_at, entry_from, entry_named, entry_to, eqb_tells, first_of_list, found_is_named, has_entry_to, led, name_in, none_is_some, parent_in, same_Some}
 
 -- a name of an object leads to it
 pub named_so : (files : FileTree ℕ) → IsTree files.tree → (object : ℕ) (name : ℕ × List ℕ)

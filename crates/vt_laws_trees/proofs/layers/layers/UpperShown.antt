@@ -1,27 +1,11 @@
 -- In an overlay whose tree is what its layers show: the root has an object in the upper layer, and so has each
 -- directory that has an entry for an upper object; what lies below has one name.
-use Rattle.std.proofs.Common.{arith, ◌≡◌, refl, sym, ap, ◌∙◌, true≢false, ℕ, zero, suc, nat_eq, eqb-true, Bool, true, false, cond, ◌||◌, List, [], ◌∷◌, ◌++◌, map, Option, Some, None, is_some, option_and_then}
-use Rattle.std.proofs.lemmas.Grind.{common_steps}
-use Rattle.std.specs.List.{cons_option, filter_map, find, list_any}
-use Rattle.std.specs.Prelude.{option_map}
-use Rattle.vt_spec.specs.FileTree.{FileTree, a_name, name_in}
-use Rattle.vt_spec.specs.Machine.Layers.{OpenLayer, Shown, at_path, shown}
-use Rattle.vt_spec.specs.Lists.{first_of_list, without_last}
-use Rattle.vt_spec.specs.Machine.Merging.{merged_at, real_object}
-use Rattle.vt_spec.specs.Machine.World.{Real, upper_object}
-use Rattle.vt_spec.specs.Machine.World.Real.{Upper}
-use Rattle.vt_spec.specs.Machine.Invariants.{ListsNumbers}
-use Rattle.vt_spec.specs.Tree.{Entries, Tree, entries_in}
-use Rattle.vt_spec.specs.TreeInvariant.{IsDirectory, entry_at, led}
-use Rattle.vt_spec.proofs.Nodes.{directory_used}
-use Rattle.vt_spec.proofs.Trees.{led-append}
+use Rattle.std.proofs.Common.{arith, ◌≡◌, refl, sym, ap, ◌∙◌, true≢false, ℕ, zero, suc, nat_eq, eqb-true, Bool, true, false, cond, ◌||◌, List, [], ◌∷◌, ◌++◌, map, Option, Some, None, is_some, option_and_then, filter_map, find, option_map}
+use Rattle.vt_spec.proofs.Common.{Entries, FileTree, IsDirectory, ListsNumbers, OpenLayer, Real, Shown, Tree, Upper, a_name, at_path, common_steps, cons_option, directory_no_whiteout, directory_used, entries_in, entry_at, entry_to, first_of_list, led, led-append, list_any, merged_at, name_in, none_is_some, real_object, same_Some, shown, upper_object, without_last}
 use Rattle.vt_laws_trees.specs.Layers.Layers.Shown.{IsShown}
 use Rattle.vt_laws_trees.proofs.layers.layers.ShownAtPath.{computed}
 use Rattle.vt_laws_trees.proofs.layers.layers.ShownNames.{last_name}
 use Rattle.vt_laws_trees.proofs.layers.layers.UpperLine.{ReachedIn, has_entries}
-use Rattle.std.proofs.lemmas.Option.{same_Some}
-use Rattle.vt_spec.proofs.NodeChanges.{directory_no_whiteout, entry_to}
-use Rattle.vt_spec.proofs.Options.{none_is_some}
 
 -- names lead to what is reached
 pub way_to : (tree : Tree ℕ) (steps directory : ℕ) → ReachedIn tree steps directory

@@ -1,23 +1,7 @@
 -- In a world, a change through an overlay writes to new inodes and to the overlay's own objects in the upper layer
 -- alone.
-use Rattle.std.proofs.lemmas.Grind.{common_steps}
-use Rattle.std.proofs.Common.{◌≡◌, ◌≢◌, ◌<◌, All, refl, sym, ap, subst, ◌∙◌, true≢false, arith, ℕ, suc, nat_eq, Bool, true, false, cond, not, List, [], ◌∷◌, ◌++◌, map, length, Option, Some, None, is_some}
-use Rattle.std.specs.List.{find, list_all}
-use Rattle.std.specs.Prelude.{option_to_list}
-use Rattle.vt_spec.specs.Language.Changes.{Change}
-use Rattle.vt_spec.specs.Machine.CopyUp.{Merge, merge_changed}
-use Rattle.vt_spec.specs.FileTree.{FileTree, a_name}
-use Rattle.vt_spec.specs.Machine.Filesystems.{filesystem_changed, merge_of, overlay_changed, stack_of, with_change, with_files, with_merge}
-use Rattle.vt_spec.specs.Machine.Layers.{OpenLayer, shown}
-use Rattle.vt_spec.specs.Lists.{Fresh}
-use Rattle.vt_spec.specs.Machine.Locked.{of_overlay, overlay_or}
-use Rattle.vt_spec.specs.Machine.Merging.{merged_at, real_object}
-use Rattle.vt_spec.specs.Machine.Mounts.{Location}
-use Rattle.vt_spec.specs.Machine.World.{Filesystem, Layer, Overlay, Real, World, filesystem_at, filesystem_numbered, files_at, is_overlay, layers_of, mount_at, open_layer, upper_object, with_filesystem}
-use Rattle.vt_spec.specs.Machine.Invariants.{IsMerged, IsWorld, ListsNumbers, is_plain_layer, number_at_path}
-use Rattle.vt_spec.specs.Tree.{Node, is_directory_node}
-use Rattle.vt_spec.specs.TreeInvariant.{IsTree, entry_at}
-use Rattle.vt_spec.proofs.Trees.{led-append}
+use Rattle.std.proofs.Common.{◌≡◌, ◌≢◌, ◌<◌, All, refl, sym, ap, subst, ◌∙◌, true≢false, arith, ℕ, suc, nat_eq, Bool, true, false, cond, not, List, [], ◌∷◌, ◌++◌, map, length, Option, Some, None, is_some, find, option_to_list}
+use Rattle.vt_spec.proofs.Common.{Change, FileTree, Filesystem, Fresh, IsMerged, IsTree, IsWorld, Layer, ListsNumbers, Location, Merge, Node, OpenLayer, Overlay, Real, World, a_name, and_true_left, and_true_right, common_steps, entry_at, files_at, filesystem_at, filesystem_changed, filesystem_numbered, is_directory_node, is_overlay, is_plain_layer, layers_of, led-append, list_all, merge_changed, merge_of, merged_at, mount_at, none_is_some, number_at_path, of_overlay, open_layer, overlay_changed, overlay_or, real_object, same_Some, shown, stack_of, upper_object, with_change, with_files, with_filesystem, with_merge}
 use Rattle.vt_laws_trees.specs.Layers.Layers.Mounted.{AreLayers}
 use Rattle.vt_laws_trees.specs.Layers.Layers.Untouched.{IsKept}
 use Rattle.vt_laws_trees.specs.Layers.Layers.Upper.{IsUpperObject, SpeaksOfWhatIsThere}
@@ -27,9 +11,6 @@ use Rattle.vt_laws_trees.proofs.layers.layers.UpperChanges.{changes_keep}
 use Rattle.vt_laws_trees.proofs.layers.layers.UpperCopies.{HasUpper}
 use Rattle.vt_laws_trees.proofs.layers.layers.UpperLine.{is_reached_in, named_so}
 use Rattle.vt_laws_trees.proofs.layers.layers.UpperShown.{below_is_at, without_last_of_longer, has_a_name, real_at, real_is_upper, upper_is_real, way_to}
-use Rattle.std.proofs.lemmas.Option.{same_Some}
-use Rattle.vt_spec.proofs.Options.{none_is_some}
-use Rattle.vt_spec.proofs.Truths.{and_true_left, and_true_right}
 use Rattle.vt_laws_trees.specs.Trees.Settling.{inode_in}
 
 -- What holds of each filesystem of a list holds of the one that is found.

@@ -1,21 +1,9 @@
 -- Objects of an upper layer lie under no other layer of a live overlay.
-use Rattle.std.proofs.Common.{arith, ◌≡◌, ◌≢◌, refl, sym, ap, subst, ◌∙◌, true≢false, ℕ, nat_eq, eq-eqb, eqb-true, Bool, true, false, not, ◌&&◌, List, [], ◌∷◌, ◌++◌, Option, Some, None, is_some, unwrap_or, inl, inr, ◌⊎◌, ⊎_elim}
-use Rattle.std.proofs.lemmas.Grind.{common_steps}
-use Rattle.std.specs.List.{find, list_any, list_all}
-use Rattle.std.specs.Prelude.{flat_map, option_to_list}
-use Rattle.vt_spec.specs.FileTree.{FileTree, is_under}
-use Rattle.vt_spec.specs.Lists.{any_pair, holds_of}
-use Rattle.vt_spec.specs.Machine.Locked.{is_object_of, is_real_upper, lies_in_layer, lies_or_counts_under, live_upper_and_work, of_overlay, overlaps_one_of, overlay_or, overlays, upper_and_work}
-use Rattle.vt_spec.specs.Machine.World.{Filesystem, Layer, Overlay, World, filesystem_numbered, is_overlay, layers_of, no_filesystem, upper_object}
-use Rattle.vt_spec.specs.Machine.Invariants.{IsWorld, ListsNumbers, is_plain_layer, is_there, live_lowers, overlap}
-use Rattle.vt_spec.specs.Tree.{is_directory_node}
-use Rattle.vt_spec.proofs.Lists.{Among, among-append_right, among-filter, among-flat_map, among_from_list_all, among_numbers, any_among, any_from_among, none_among}
+use Rattle.std.proofs.Common.{arith, ◌≡◌, ◌≢◌, refl, sym, ap, subst, ◌∙◌, true≢false, ℕ, nat_eq, eq-eqb, eqb-true, Bool, true, false, not, ◌&&◌, List, [], ◌∷◌, ◌++◌, Option, Some, None, is_some, unwrap_or, inl, inr, ◌⊎◌, ⊎_elim, find, flat_map, option_to_list}
+use Rattle.vt_spec.proofs.Common.{Among, FileTree, Filesystem, IsWorld, Layer, ListsNumbers, Overlay, World, among-append_right, among-filter, among-flat_map, among_from_list_all, among_numbers, and_from, and_true_left, and_true_right, any_among, any_from_among, any_pair, common_steps, filesystem_numbered, holds_of, is_directory_node, is_object_of, is_overlay, is_plain_layer, is_real_upper, is_there, is_under, layers_of, lies_in_layer, lies_or_counts_under, list_all, list_any, live_lowers, live_upper_and_work, no_filesystem, none_among, none_is_some, of_overlay, or_false_left, or_false_right, or_left, or_right, overlap, overlaps_one_of, overlay_or, overlays, upper_and_work, upper_object}
 use Rattle.vt_laws_trees.proofs.layers.layers.LowersWorld.{number_of_filesystem}
 use Rattle.vt_laws_trees.specs.Layers.Layers.Upper.{IsUpperObject}
 use Rattle.vt_laws_trees.proofs.layers.layers.UpperWorld.{all_found, overlay_found, overlay_merges}
-use Rattle.std.proofs.lemmas.Bool.{and_from, or_left, or_right}
-use Rattle.vt_spec.proofs.Options.{none_is_some}
-use Rattle.vt_spec.proofs.Truths.{and_true_left, and_true_right, or_false_left, or_false_right}
 use Rattle.vt_laws_trees.specs.Trees.Settling.{inode_in}
 
 pub never_both : (a b : Bool) → (a && b) ≡ false → a ≡ true → b ≡ true → ⊥

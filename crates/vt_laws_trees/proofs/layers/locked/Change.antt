@@ -1,22 +1,12 @@
 -- What a change that is granted leaves as it was: what is locked, but for upper objects of the overlay that is changed.
 use Rattle.std.proofs.Common.{arith, ◌≡◌, ◌≢◌, refl, sym, ap, subst, ◌∙◌, ℕ, nat_eq, true, false, List, Option, Some, None, inr, ◌⊎◌, ⊎_elim}
-use Rattle.std.proofs.lemmas.Grind.{common_steps}
-use Rattle.std.proofs.lemmas.Bool.Decides.{eqb_tells}
-use Rattle.vt_spec.specs.Language.Changes.{Change, changed}
-use Rattle.vt_spec.specs.Machine.Filesystems.{filesystem_changed, with_change, with_files}
-use Rattle.vt_spec.specs.Lists.{Fresh, is_among}
-use Rattle.vt_spec.specs.Machine.Locked.{is_locked}
-use Rattle.vt_spec.specs.Machine.Mounts.{Location}
-use Rattle.vt_spec.specs.Machine.World.{Filesystem, Layer, Overlay, World, filesystem_numbered, mount_at}
-use Rattle.vt_spec.specs.Machine.Invariants.{IsWorld}
+use Rattle.vt_spec.proofs.Common.{Change, Filesystem, Fresh, IsWorld, Layer, Location, Overlay, World, changed, common_steps, eqb_tells, filesystem_changed, filesystem_numbered, is_among, is_locked, mount_at, none_is_some, same_Some, with_change, with_files}
 use Rattle.vt_laws_trees.specs.Layers.Layers.Untouched.{IsKept, inodes_changed}
 use Rattle.vt_laws_trees.specs.Layers.Layers.Upper.{IsUpperObject, SpeaksOfWhatIsThere}
 use Rattle.vt_laws_trees.proofs.layers.layers.LowersCalls.{Stays, same_filesystem, stays_itself}
 use Rattle.vt_laws_trees.proofs.layers.layers.LowersKept.{kept_same, others_stay}
 use Rattle.vt_laws_trees.proofs.layers.layers.LowersWorld.{changed_elsewhere, filesystem_there, number_of_filesystem}
 use Rattle.vt_laws_trees.proofs.layers.layers.UpperWorld.{change_keeps}
-use Rattle.std.proofs.lemmas.Option.{same_Some}
-use Rattle.vt_spec.proofs.Options.{none_is_some}
 use Rattle.vt_laws_trees.specs.Trees.Settling.{inode_in}
 
 -- a world with a change of the filesystem that has a number

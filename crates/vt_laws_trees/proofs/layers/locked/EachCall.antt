@@ -1,45 +1,17 @@
 -- Each call on files leaves the filesystems as they were, or with one change that is granted.
-use Rattle.std.proofs.Common.{arith, List, None, Option, Some, [], ap, eqb-true, false, inl, is_some, nat_eq, ne_eqb, not, option_map, refl, subst, sym, true, true≢false, unwrap_or, ℕ, ◌||◌, ◌∙◌, ◌∷◌, ◌≡◌, ◌≢◌, Result}
-use Rattle.std.proofs.lemmas.Grind.{common_steps}
-use Rattle.vt_spec.specs.Language.Calls.{Access, Call}
-use Rattle.vt_spec.specs.Language.Changes.{Change}
-use Rattle.vt_spec.specs.Language.Changes.Change.{SetBytes, SetMark}
-use Rattle.vt_spec.specs.Lists.{Fresh, is_among}
-use Rattle.vt_spec.specs.Machine.Locked.{is_locked, is_locked_at}
-use Rattle.vt_spec.specs.Machine.Mounts.{Location}
-use Rattle.vt_spec.specs.Machine.Descriptors.{pwritten}
-use Rattle.vt_spec.specs.Machine.Rows.{file_mode, linking, new_file}
-use Rattle.vt_spec.proofs.Tables.{with_new}
-use Rattle.vt_spec.specs.Machine.Rules.Removing.{moving, object_there, removing, rename_rules}
-use Rattle.vt_spec.specs.Machine.Detach.{without_replaced, without_mounts_on}
-use Rattle.vt_spec.specs.Machine.Rightful.{node_allows}
-use Rattle.vt_spec.specs.Machine.Walking.{Place, is_special, name_of, Here, Stop}
+use Rattle.std.proofs.Common.{arith, List, None, Option, Some, [], ap, eqb-true, false, inl, is_some, nat_eq, ne_eqb, not, option_map, refl, subst, sym, true, true≢false, unwrap_or, ℕ, ◌||◌, ◌∙◌, ◌∷◌, ◌≡◌, ◌≢◌, Result, Ok, option_to_list}
+use Rattle.vt_spec.proofs.Common.{Access, Call, Change, Fresh, Here, IsWorld, Location, Node, NoneFails, Overlay, Permit, Place, SetBytes, SetMark, Stop, Task, ToOpen, World, apply, common_steps, entries_in, entry_named, file_mode, filesystem_at, filesystems-without_replaced, is_among, is_locked, is_locked_at, is_special, linking, list_any, looks_of, mount_at, moving, name_of, new_file, node_allows, node_at, not-false, object_there, or_false_left, or_false_right, or_from, or_parts, overfills, pwritten, removing, rename_rules, shown-without_replaced, task_called, with_change, with_new, without_mounts_on, without_replaced, write_right}
 use Rattle.vt_spec.proofs.Walk.{old_leaf_walk}
-use Rattle.vt_spec.specs.Machine.World.{Overlay, Task, World, filesystem_at, mount_at, node_at, task_called}
-use Rattle.vt_spec.specs.Rights.{write_right}
-use Rattle.vt_spec.specs.Tree.{Node, entries_in, entry_named}
 use Rattle.vt_laws_trees.proofs.trees.TreesWalked.{Ends, IsOldPlace, ends_old_leaf_walk, place_named, at_end}
 use Rattle.vt_laws_trees.specs.Layers.Layers.Upper.{SpeaksOfWhatIsThere}
 use Rattle.vt_laws_trees.proofs.layers.locked.Change.{IsNew, Leaves, leaves_change}
 use Rattle.vt_laws_trees.proofs.layers.layers.LowersCalls.{unlocked_differs}
 use Rattle.vt_laws_trees.proofs.layers.layers.LowersMounts.{same_filesystems_without, same_mounted_without}
-use Rattle.std.proofs.lemmas.Bool.{not-false, or_from, or_parts}
 use Rattle.vt_spec.proofs.NodeChanges.{allowed_is_there}
-use Rattle.vt_spec.proofs.Truths.{or_false_left, or_false_right}
-use Rattle.vt_spec.proofs.Worlds.{filesystems-without_replaced, shown-without_replaced}
-use Rattle.std.specs.List.{list_any}
-use Rattle.std.specs.Prelude.{Ok, option_to_list}
 use Rattle.vt_laws_rules.specs.Granted.{IsGranted, directory_made, symlink_made, whiteout_made}
 use Rattle.vt_laws_rules.specs.Granted.IsGranted.{changes_mark, changes_mode, changes_owner, creates, creates_exclusively, makes_directory, makes_hard_link, makes_symlink, makes_whiteout, mounts_overlayfs, mounts_tmpfs, opens, opens_existing, overwrites_file, removes_directory, renames, unlinks, writes_new_file, writes_part}
 use Rattle.vt_laws_trees.proofs.layers.locked.Walks.{descriptor_there, link_walk_there, object_walk_there}
 use Rattle.vt_laws_trees.specs.Layers.Layers.Untouched.{changes_no_mount, inodes_changed}
-use Rattle.vt_spec.specs.Errors.{NoneFails}
-use Rattle.vt_spec.specs.Machine.Apply.{apply, overfills}
-use Rattle.vt_spec.specs.Machine.Filesystems.{with_change}
-use Rattle.vt_spec.specs.Machine.Invariants.{IsWorld}
-use Rattle.vt_spec.specs.Machine.Looks.{looks_of}
-use Rattle.vt_spec.specs.Machine.Permits.{Permit}
-use Rattle.vt_spec.specs.Machine.Permits.Permit.{ToOpen}
 use Rattle.vt_laws_trees.proofs.trees.ChangesByOthers.{files_stay}
 
 -- an entry is the location of its object

@@ -1,13 +1,6 @@
 -- What lies in a lower layer stays in every call on files, and so do upper layers but for that of one overlay.
-use Rattle.std.proofs.Common.{◌≡◌, ◌≢◌, refl, subst, ◌∙◌, ℕ, nat_eq, true, Some, None, inl, ⊎_elim}
-use Rattle.vt_spec.specs.Language.Calls.{Call}
-use Rattle.vt_spec.specs.Lists.{Fresh}
-use Rattle.vt_spec.specs.Machine.Locked.{is_locked, lies_or_counts_under, live_layers, upper_and_work}
-use Rattle.vt_spec.specs.Machine.Policy.{call_outcome}
-use Rattle.vt_spec.specs.Machine.World.{Layer, Overlay, Task, World, filesystem_numbered, layers_of, task_called}
-use Rattle.std.specs.Prelude.{Contains}
-use Rattle.vt_spec.specs.Machine.Invariants.{IsWorld}
-use Rattle.vt_spec.proofs.Lists.{Among, among-append_left, among-append_right, among_from_contains, any_from_among}
+use Rattle.std.proofs.Common.{◌≡◌, ◌≢◌, refl, subst, ◌∙◌, ℕ, nat_eq, true, Some, None, inl, ⊎_elim, Contains}
+use Rattle.vt_spec.proofs.Common.{Among, Call, Fresh, IsWorld, Layer, Overlay, Task, World, among-append_left, among-append_right, among_from_contains, any_from_among, call_outcome, filesystem_numbered, is_locked, layers_of, lies_or_counts_under, live_layers, task_called, upper_and_work}
 use Rattle.vt_laws_trees.specs.Layers.Layers.Locked.{GoesThrough}
 use Rattle.vt_laws_trees.specs.Layers.Layers.Untouched.{IsKept, changes_no_mount}
 use Rattle.vt_laws_trees.specs.Layers.Layers.Upper.{IsUpperObject}

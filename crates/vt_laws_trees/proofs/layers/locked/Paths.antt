@@ -1,16 +1,6 @@
 -- Where what lies under a layer stays as it was, paths lead from the layer's directory where they led.
-use Rattle.std.proofs.Common.{arith, ◌≡◌, ◌≢◌, sym, ap, ◌∙◌, true≢false, eq-eqb, ℕ, nat_eq, true, cond, not, List, Some, is_some}
-use Rattle.std.proofs.lemmas.Grind.{common_steps}
-use Rattle.std.specs.List.{find}
-use Rattle.vt_spec.specs.FileTree.{is_directory_under, is_file_under}
-use Rattle.vt_spec.specs.Lists.{Fresh}
-use Rattle.vt_spec.specs.Machine.Layers.{at_path}
-use Rattle.vt_spec.specs.Machine.Locked.{lies_or_counts_under, upper_and_work}
-use Rattle.vt_spec.specs.Machine.Policy.{call_outcome}
-use Rattle.vt_spec.specs.Machine.World.{Filesystem, Layer, World, filesystem_numbered, is_overlay, layers_of, open_layer}
-use Rattle.vt_spec.specs.Machine.Invariants.{IsWorld, ListsNumbers, is_plain_layer}
-use Rattle.vt_spec.specs.TreeInvariant.{IsDirectory, IsTree}
-use Rattle.vt_spec.proofs.Lists.{Among, among-append_left, among-append_right, among_from_contains}
+use Rattle.std.proofs.Common.{arith, ◌≡◌, ◌≢◌, sym, ap, ◌∙◌, true≢false, eq-eqb, ℕ, nat_eq, true, cond, not, List, Some, is_some, find}
+use Rattle.vt_spec.proofs.Common.{Among, Filesystem, Fresh, IsDirectory, IsTree, IsWorld, Layer, ListsNumbers, World, among-append_left, among-append_right, among_from_contains, and_true_right, at_path, call_outcome, common_steps, filesystem_numbered, is_directory_under, is_file_under, is_overlay, is_plain_layer, layers_of, lies_or_counts_under, open_layer, upper_and_work}
 use Rattle.vt_laws_trees.specs.Layers.Layers.Locked.{AreNoInodes, LeadsAsBefore, LowerPathsAreLocked, OtherPathsStay}
 use Rattle.vt_laws_trees.specs.Layers.Layers.Untouched.{IsKept}
 use Rattle.vt_laws_trees.proofs.layers.directories.Lower.{led_below}
@@ -20,7 +10,6 @@ use Rattle.vt_laws_trees.proofs.layers.layers.LowersKept.{kept_itself}
 use Rattle.vt_laws_trees.proofs.layers.layers.ShownDirectories.{led_is_there}
 use Rattle.vt_laws_trees.proofs.layers.layers.UpperWorld.{all_found}
 use Rattle.vt_laws_trees.proofs.layers.views.Stay.{led_where}
-use Rattle.vt_spec.proofs.Truths.{and_true_right}
 use Rattle.vt_laws_trees.specs.Trees.Settling.{inode_in}
 
 module _ (world : World ℕ) (conditions : IsWorld nat_eq world) (layer : Layer ℕ)

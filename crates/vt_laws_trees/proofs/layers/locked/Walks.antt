@@ -1,28 +1,12 @@
 -- Where a task's walk ends something is, and so where its descriptors are.
-use Rattle.std.proofs.Common.{arith, ◌≡◌, refl, subst, ℕ, zero, suc, nat_eq, Bool, true, false, cond, List, [], ◌∷◌, ◌+◌, reverse, Option, Some, None, is_some, Ok, Result, ok_or, inr}
-use Rattle.std.proofs.lemmas.Grind.{common_steps}
-use Rattle.std.specs.List.{find}
-use Rattle.std.specs.Prelude.{option_to_list}
-use Rattle.vt_spec.specs.Errors.{denial}
+use Rattle.std.proofs.Common.{arith, ◌≡◌, refl, subst, ℕ, zero, suc, nat_eq, Bool, true, false, cond, List, [], ◌∷◌, ◌+◌, reverse, Option, Some, None, is_some, Ok, Result, ok_or, inr, find, option_to_list}
+use Rattle.vt_spec.proofs.Common.{Among, Descriptor, Dot, DotDot, Follow, Here, IsWorld, LastWord, Location, Named, NoWord, Stop, Task, World, all_locations, among-flat_map, among-map, among_from_list_all, and_true_left, and_true_right, common_steps, denial, descriptor_at, descriptor_numbered, directory_used, ends_in_slash, files_at, final_word, followed, found_among, if_symlink, is_absolute, is_directory_at, is_located_well, last_walked, last_word, locations_of, most_symlinks, node_at, path_text, path_walked, prefix_walked, start_of, symlink_text, task_called, walk_start, walk_unless, words}
 use Rattle.vt_spec.specs.declared.errors.Rule.TheVariants.{S4}
-use Rattle.vt_spec.specs.PathText.{ends_in_slash, is_absolute, words}
-use Rattle.vt_spec.specs.FileTree.{symlink_text}
-use Rattle.vt_spec.specs.Machine.Mounts.{Location}
-use Rattle.vt_spec.specs.Machine.Rules.Descriptors.{descriptor_at, descriptor_numbered}
-use Rattle.vt_spec.specs.Machine.Walking.{Follow, Here, LastWord, Stop, final_word, if_symlink, last_word, path_text, start_of, walk_start, walk_unless}
-use Rattle.vt_spec.proofs.Walk.{follow_rules, followed, prefix_walked, last_walked, symlink_walk_by, symlink_start, symlink_walk, symlink_walked, object_walk, path_walked, slash_rules, word_walked, words_walked}
-use Rattle.vt_spec.specs.Language.Limits.{most_symlinks}
-use Rattle.vt_spec.specs.Machine.Walking.LastWord.{Dot, DotDot, Named, NoWord}
-use Rattle.vt_spec.specs.Machine.World.{Descriptor, Task, World, all_locations, files_at, is_directory_at, locations_of, node_at, task_called}
-use Rattle.vt_spec.specs.Machine.Invariants.{IsWorld, is_located_well}
-use Rattle.vt_spec.proofs.Lists.{Among, among-flat_map, among-map, among_from_list_all}
-use Rattle.vt_spec.proofs.Nodes.{directory_used}
+use Rattle.vt_spec.proofs.Walk.{follow_rules, symlink_walk_by, symlink_start, symlink_walk, symlink_walked, object_walk, slash_rules, word_walked, words_walked}
 use Rattle.vt_laws_trees.proofs.trees.TreesWalked.{Ends, ends_next, ends_then, ends_unless, ok_same}
 use Rattle.vt_laws_trees.proofs.trees.TreesEntered.{word_there}
 use Rattle.vt_laws_trees.proofs.trees.TreesOfMounts.{worlds_are_standing}
 use Rattle.vt_laws_trees.proofs.trees.TreesTasks.{called_there, called_stands}
-use Rattle.vt_spec.proofs.Found.{found_among}
-use Rattle.vt_spec.proofs.Truths.{and_true_left, and_true_right}
 
 module _ (world : World ℕ) (conditions : IsWorld nat_eq world) (task : Task ℕ)
     (called : task_called world task.name ≡ Some task) where

@@ -1,24 +1,7 @@
 -- What a world is when an overlay is mounted in it.
-use Rattle.std.proofs.lemmas.Grind.{common_steps}
-use Rattle.std.proofs.Common.{arith, ◌≡◌, refl, sym, ap, subst, ◌∙◌, true≢false, ℕ, nat_eq, eqb-true, Bool, true, false, ◌&&◌, List, [], ◌∷◌, ◌++◌, map, Option, Some, None, Ok, inl, inr, unwrap_or}
-use Rattle.std.proofs.lemmas.List.Elements.{All-push}
-use Rattle.std.proofs.lemmas.List.Folds.{list_all-append}
-use Rattle.std.specs.List.{list_all}
-use Rattle.std.specs.Prelude.{All, option_to_list}
-use Rattle.vt_spec.specs.Language.Calls.Call.{MountOverlay}
-use Rattle.vt_spec.specs.Machine.Policy.{call_outcome}
-use Rattle.vt_spec.specs.Language.Answers.Answer.{Done}
-use Rattle.vt_spec.specs.Language.Calls.{MountFlags, OverlayWords}
-use Rattle.vt_spec.specs.Errors.{NoneFails}
-use Rattle.vt_spec.specs.Lists.{Fresh, evens, is_among}
-use Rattle.vt_spec.specs.Machine.Locked.{of_overlay}
-use Rattle.vt_spec.specs.Machine.Mounts.{Location, Mount}
-use Rattle.vt_spec.specs.Machine.Rules.Mounting.{LayerLocations}
-use Rattle.vt_spec.proofs.Tables.{layer_rules, layers_walked, overlay_at, overlay_mounted}
-use Rattle.vt_spec.specs.Machine.NewMounts.{overlay_filesystem, with_new_filesystem}
-use Rattle.vt_spec.specs.Machine.World.{Filesystem, Layer, Overlay, Task, World, filesystem_numbered, layers_of, no_filesystem}
-use Rattle.vt_spec.specs.Machine.Invariants.{IsMerged, IsWorld, ListsNumbers, OverlayInvariants, TreeInvariants, has_fit_layers, is_fit_filesystem, is_plain_layer}
-use Rattle.vt_spec.specs.TreeInvariant.{HasOwnParents, IsReached, IsTree}
+use Rattle.std.proofs.Common.{arith, ◌≡◌, refl, sym, ap, subst, ◌∙◌, true≢false, ℕ, nat_eq, eqb-true, Bool, true, false, ◌&&◌, List, [], ◌∷◌, ◌++◌, map, Option, Some, None, Ok, inl, inr, unwrap_or, All, option_to_list}
+use Rattle.vt_spec.proofs.Common.{All-push, Done, Filesystem, Fresh, HasOwnParents, IsMerged, IsReached, IsTree, IsWorld, Layer, LayerLocations, ListsNumbers, Location, Mount, MountFlags, MountOverlay, NoneFails, Overlay, OverlayInvariants, OverlayWords, Permit, Task, TreeInvariants, World, apply, call_outcome, common_steps, evens, evens-distinct, filesystem_numbered, has_fit_layers, is_among, is_fit_filesystem, is_plain_layer, layers_of, list_all, list_all-append, looks_of, nat_eq_itself, no_filesystem, of_overlay, overfills, overlay_filesystem, overlay_mounted, same_ok, with_new_filesystem}
+use Rattle.vt_spec.proofs.Tables.{layer_rules, layers_walked, overlay_at}
 use Rattle.vt_spec.proofs.Lists
 use Rattle.vt_laws_trees.specs.Layers.Layers.Mounted.{AreLayers}
 use Rattle.vt_laws_trees.specs.Layers.Layers.Mounting.{AreNewNumbers, MountingKeepsOverlays, MountingKeepsTrees, MountingMakesOverlay}
@@ -32,15 +15,9 @@ use Rattle.vt_laws_trees.proofs.layers.locked.Apart.{layer_plain, upper_in_layer
 use Rattle.vt_laws_trees.proofs.layers.mounting.Reached.{layers_are_reached}
 use Rattle.vt_laws_trees.proofs.layers.mounting.Walked.{AreWalked, all_plain, are_walked, fit_layers, has_layers, none_refuses, shown_plain}
 use Rattle.vt_laws_trees.proofs.layers.layers.ShownObjects.{Among}
-use Rattle.vt_spec.proofs.Truths.{nat_eq_itself}
-use Rattle.vt_spec.proofs.FreshNumbers.{evens-distinct}
 use Rattle.vt_laws_rules.proofs.given.CallsGranted.{call_holds, answered_holds}
 use Rattle.vt_laws_rules.specs.Granted.{IsGranted}
 use Rattle.vt_laws_rules.specs.Granted.IsGranted.{mounts_overlayfs}
-use Rattle.vt_spec.specs.Machine.Apply.{apply, overfills}
-use Rattle.vt_spec.specs.Machine.Looks.{looks_of}
-use Rattle.vt_spec.specs.Machine.Permits.{Permit}
-use Rattle.vt_spec.proofs.Refusals.{same_ok}
 
 -- mounts and masters are not looked at
 abbrev WithMounts : World ℕ → List (Mount ℕ) → (ℕ → Option ℕ) → World ℕ

@@ -1,27 +1,12 @@
 -- Names lead to the layers of an overlay when it is mounted.
-use Rattle.std.proofs.Common.{arith, ◌≡◌, refl, sym, ap, subst, ◌∙◌, true≢false, ⊎_elim, ℕ, nat_eq, eqb-true, Bool, true, false, not, ◌||◌, List, [], ◌∷◌, ◌++◌, map, Option, Some, None, is_some, Ok}
-use Rattle.std.proofs.lemmas.Grind.{common_steps}
-use Rattle.std.specs.Prelude.{All, option_map, option_to_list}
-use Rattle.std.proofs.lemmas.List.Elements.{All-cons, All-head, All-nil, All-tail}
+use Rattle.std.proofs.Common.{arith, ◌≡◌, refl, sym, ap, subst, ◌∙◌, true≢false, ⊎_elim, ℕ, nat_eq, eqb-true, Bool, true, false, not, ◌||◌, List, [], ◌∷◌, ◌++◌, map, Option, Some, None, is_some, Ok, All, option_map, option_to_list}
+use Rattle.vt_spec.proofs.Common.{All-cons, All-head, All-nil, All-tail, Filesystem, Gives, IsDirectory, IsReached, IsTree, IsWorld, Layer, LayerLocations, Location, OverlayWords, Task, Tree, World, common_steps, entry_from, filesystem_numbered, has_entry_to, is_directory_at, is_directory_node, is_removed, is_removed_at, layer_at, layers_of, looks_of, mount_at, parent_in, path_walked, walk_end, when, work_walked}
 use Rattle.vt_laws_trees.proofs.layers.mounting.Walked.{gives_end, gives_then}
 use Rattle.vt_spec.specs.declared.errors.Rule.TheVariants.{W3, W8}
-use Rattle.vt_spec.specs.FileTree.{has_entry_to, is_removed}
-use Rattle.vt_spec.specs.Language.Calls.{OverlayWords}
-use Rattle.vt_spec.specs.Lists.{when}
-use Rattle.vt_spec.specs.Machine.Invariants.{IsWorld}
-use Rattle.vt_spec.specs.Machine.Looks.{looks_of}
-use Rattle.vt_spec.specs.Machine.Mounts.{Location}
-use Rattle.vt_spec.specs.Machine.Rules.Mounting.{LayerLocations, layer_at, work_walked}
 use Rattle.vt_spec.proofs.Tables.{each_walked, layers_walked, overlay_at, source_walk, walked_if_given}
-use Rattle.vt_spec.proofs.Walk.{directory_walk, path_walked}
-use Rattle.vt_spec.specs.Machine.Walking.{walk_end}
-use Rattle.vt_spec.specs.Machine.World.{Filesystem, Layer, Task, World, filesystem_numbered, is_directory_at, is_removed_at, layers_of, mount_at}
-use Rattle.vt_spec.specs.Tree.{Tree, is_directory_node, parent_in}
-use Rattle.vt_spec.specs.TreeInvariant.{IsDirectory, IsReached, IsTree}
+use Rattle.vt_spec.proofs.Walk.{directory_walk}
 use Rattle.vt_laws_trees.proofs.trees.TreesOfWorlds.{numbered_all}
 use Rattle.vt_laws_trees.proofs.trees.TreesWalked.{Ends, ends_next, ends_then, ends_unless, not_true}
-use Rattle.vt_spec.proofs.NodeChanges.{entry_from}
-use Rattle.vt_spec.proofs.Given.{Gives}
 
 -- a directory that is not removed is reached
 reached_tree : (tree : Tree ℕ) → IsTree tree → (directory : ℕ) → IsDirectory tree directory

@@ -1,29 +1,13 @@
 -- Layers that are walked for a mount are directories of plain trees, as many as may be.
-use Rattle.std.proofs.lemmas.Grind.{common_steps}
-use Rattle.std.proofs.Common.{arith, ◌≡◌, refl, sym, ap, ◌∙◌, true≢false, ℕ, nat_eq, Bool, true, false, not, ◌&&◌, ◌||◌, List, [], ◌∷◌, ◌++◌, length, map, Option, Some, None, is_some, Result, Ok, Err}
+use Rattle.std.proofs.Common.{arith, ◌≡◌, refl, sym, ap, ◌∙◌, true≢false, ℕ, nat_eq, Bool, true, false, not, ◌&&◌, ◌||◌, List, [], ◌∷◌, ◌++◌, length, map, Option, Some, None, is_some, Result, Ok, Err, nat_le, nat_lt, option_map, option_to_list}
+use Rattle.vt_spec.proofs.Common.{Gives, Layer, LayerLocations, Location, NoneFails, Overlay, OverlayWords, Rules, Stop, Task, World, and_then, common_steps, given, has_fit_layers, is_directory_at, is_empty_list, is_overlay_at, is_plain_layer, is_removed_at, layer_at, layer_locations, layers_of, length-map, list_all, list_all-append, list_any, looks_of, path_walked, same_bool, walk_end, work_walked}
 use Rattle.std.proofs.lemmas.Bool.Decides.{leb_tells}
-use Rattle.std.proofs.lemmas.List.{length-map}
-use Rattle.std.proofs.lemmas.List.Folds.{list_all-append}
-use Rattle.std.specs.List.{list_all, list_any}
-use Rattle.std.specs.Prelude.{nat_le, nat_lt, option_map, option_to_list}
 use Rattle.vt_spec.specs.declared.errors.Deny.{Deny}
 use Rattle.vt_spec.specs.declared.errors.Rule.TheVariants.{W3, W8}
-use Rattle.vt_spec.specs.Errors.{NoneFails, Rules, and_then}
-use Rattle.vt_spec.specs.Language.Calls.{OverlayWords}
-use Rattle.vt_spec.specs.Lists.{is_empty_list}
-use Rattle.vt_spec.specs.Machine.Looks.{looks_of}
-use Rattle.vt_spec.specs.Machine.Mounts.{Location}
-use Rattle.vt_spec.specs.Machine.Rules.Mounting.{LayerLocations, layer_at, layer_locations, work_walked}
 use Rattle.vt_spec.proofs.Tables.{each_walked, layer_rules, layers_walked, overlay_at, source_walk, walked_if_given}
-use Rattle.vt_spec.specs.Machine.Policy.{same_bool}
-use Rattle.vt_spec.specs.Machine.Rules.Conditions.{is_overlay_at}
-use Rattle.vt_spec.specs.Machine.Walking.{Stop, walk_end}
-use Rattle.vt_spec.proofs.Walk.{directory_walk, path_walked}
-use Rattle.vt_spec.specs.Machine.World.{Layer, Overlay, Task, World, is_directory_at, is_removed_at, layers_of}
-use Rattle.vt_spec.specs.Machine.Invariants.{has_fit_layers, is_plain_layer}
+use Rattle.vt_spec.proofs.Walk.{directory_walk}
 use Rattle.vt_laws_trees.proofs.trees.TreesWalked.{Ends, ends_next, ends_then, ends_unless, not_true}
 use Rattle.vt_laws_trees.specs.Layers.Layers.NewOverlays.{NoneRefuses}
-use Rattle.vt_spec.proofs.Given.{Gives, given}
 
 pub gives_then : {A B : Type 0} (Q : A → Type 0) (R : B → Type 0) (r : Result A Deny) (next : A → Result B Deny)
     → Gives Q r → ((a : A) → Q a → Gives R (next a)) → Gives R (and_then r next)

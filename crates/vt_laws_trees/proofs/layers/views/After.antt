@@ -1,18 +1,8 @@
 -- What a change of the upper layer leaves of what is shown.
-use Rattle.std.proofs.Common.{arith, ◌≡◌, ◌≢◌, refl, sym, ap, subst, ◌∙◌, true≢false, ℕ, nat_eq, Bool, true, false, not, cond, List, [], ◌∷◌, ◌++◌, Option, Some, None}
-use Rattle.std.proofs.lemmas.Grind.{common_steps}
-use Rattle.std.proofs.lemmas.Bool.Decides.{eqb_tells}
-use Rattle.std.proofs.lemmas.List.{append-nil}
-use Rattle.std.specs.List.{list_any}
+use Rattle.std.proofs.Common.{arith, ◌≡◌, ◌≢◌, refl, sym, ap, subst, ◌∙◌, true≢false, ℕ, nat_eq, Bool, true, false, not, cond, List, [], ◌∷◌, ◌++◌, Option, Some, None, append-nil}
+use Rattle.vt_spec.proofs.Common.{AddName, Change, CopyUp, FileTree, IsDirectory, IsTree, Make, Move, Node, Remove, SetAttr, SetBytes, SetMark, Tree, View, changed, changed_node, common_steps, cuts, eqb_tells, is_kind, is_kind_in, kind_of, led, list_any, node_led, node_with_attr, node_with_bytes, node_with_mark, or_false_left, or_false_right, prefixes, same_option, shown_from, shown_over, then_some, when}
 use Rattle.vt_spec.specs.declared.attributes.Attr.{Attr}
 use Rattle.vt_spec.specs.declared.attributes.Kind.TheVariants.{White}
-use Rattle.vt_spec.specs.Language.Changes.{Change, changed, changed_node, node_with_attr, node_with_mark}
-use Rattle.vt_spec.specs.Language.Changes.Change.{AddName, CopyUp, Make, Move, Remove, SetAttr, SetBytes, SetMark}
-use Rattle.vt_spec.specs.FileTree.{FileTree, is_kind, is_kind_in}
-use Rattle.vt_spec.specs.Lists.{prefixes, same_option, then_some, when}
-use Rattle.vt_spec.specs.Machine.Views.{View, cuts, node_led, shown_from, shown_over}
-use Rattle.vt_spec.specs.Tree.{Node, Tree, kind_of, node_with_bytes}
-use Rattle.vt_spec.specs.TreeInvariant.{IsDirectory, IsTree, led}
 use Rattle.vt_laws_trees.specs.Layers.Layers.Mounted.{IsAlike}
 use Rattle.vt_laws_trees.specs.Layers.Layers.Shown.{IsFrontOf}
 use Rattle.vt_laws_trees.specs.Layers.Layers.ShownAfter.{HidesAlike, IsOneKind, IsPlainChange, LeadAlikeTo, LinkIsShown, NewNameIsShown, ShownElsewhereStays, may_show}
@@ -25,7 +15,6 @@ use Rattle.vt_laws_trees.proofs.layers.views.Fronts.{hides_so, shown_in_lowers_a
 use Rattle.vt_laws_trees.proofs.layers.views.Moves.{old_leads_nowhere}
 use Rattle.vt_laws_trees.proofs.layers.views.Names.{add_name_adds_path, make_adds_inode, make_adds_path, make_is_seen, names_leave_inodes, remove_ends_paths}
 use Rattle.vt_laws_trees.proofs.layers.views.Stay.{attr_changes_one_inode, bytes_change_one_inode, mark_changes_one_inode}
-use Rattle.vt_spec.proofs.Truths.{or_false_left, or_false_right}
 
 -- Fronts of fronts
 

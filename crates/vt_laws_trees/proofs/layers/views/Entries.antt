@@ -1,15 +1,6 @@
 -- The entries of a tree after a change of one inode.
-use Rattle.std.proofs.Common.{arith, ◌≡◌, sym, ap, ◌∙◌, true≢false, ℕ, nat_eq, Bool, true, cond, ◌&&◌, List, ⊎_elim, Option, Some, None}
-use Rattle.std.proofs.lemmas.Grind.{common_steps}
-use Rattle.std.proofs.lemmas.Bool.Decides.{eqb_tells}
-use Rattle.std.specs.Cmp.Lexicographic.{bytes_decides, texts_ties}
-use Rattle.std.specs.Str.{bytes_eq}
-use Rattle.vt_spec.specs.Language.Changes.{changed_node, with_name, without_name}
-use Rattle.vt_spec.specs.FileTree.{FileTree}
-use Rattle.vt_spec.specs.Tree.{Node, entries_in, entry_named, node_with_entry}
-use Rattle.vt_spec.specs.TreeInvariant.{IsDirectory, entry_at}
-use Rattle.vt_spec.proofs.Nodes.{entries-node_with_entry, entry_named-with_entry, entry_named-without_entry, part_kept}
-use Rattle.vt_spec.proofs.NodeChanges.{entries-node_without_entry}
+use Rattle.std.proofs.Common.{arith, ◌≡◌, sym, ap, ◌∙◌, true≢false, ℕ, nat_eq, Bool, true, cond, ◌&&◌, List, ⊎_elim, Option, Some, None, bytes_eq}
+use Rattle.vt_spec.proofs.Common.{FileTree, IsDirectory, Node, bytes_decides, changed_node, common_steps, entries-node_with_entry, entries-node_without_entry, entries_in, entry_at, entry_named, entry_named-with_entry, entry_named-without_entry, eqb_tells, node_with_entry, part_kept, texts_ties, with_name, without_name}
 
 -- the one entry
 abbrev pub is_entry : ℕ → List ℕ → ℕ → List ℕ → Bool

@@ -1,13 +1,8 @@
 -- Views that lead alike along a path show the same there.
 use Rattle.std.proofs.Common.{arith, ◌≡◌, refl, sym, ap, ◌∙◌, true≢false, ℕ, ◌+◌, Bool, not, ◌||◌, List, [], ◌∷◌, map, Option, Some, None}
-use Rattle.std.proofs.lemmas.Grind.{common_steps}
-use Rattle.std.specs.List.{list_any}
+use Rattle.vt_spec.proofs.Common.{Node, View, common_steps, cuts, hides, is_directory, is_kind, is_kind_in, list_any, node_led, prefixes, shown_from, shown_over}
 use Rattle.vt_spec.specs.declared.attributes.Kind.TheVariants.{White}
-use Rattle.vt_spec.specs.FileTree.{is_kind, is_kind_in}
-use Rattle.vt_spec.specs.Lists.{prefixes}
-use Rattle.vt_spec.specs.Machine.Views.{Shown, View, cuts, hides, node_led, shown_from, shown_over}
-use Rattle.vt_spec.specs.Rights.{is_directory}
-use Rattle.vt_spec.specs.Tree.{Node}
+use Rattle.vt_spec.specs.Machine.Views.{Shown}
 use Rattle.vt_laws_trees.specs.Layers.Layers.Mounted.{IsAlike}
 use Rattle.vt_laws_trees.specs.Layers.Layers.Shown.{IsFrontOf}
 use Rattle.vt_laws_trees.specs.Layers.Layers.ShownAfter.{AllLeadAlikeTo, HidesAlike, IsOneKind, LeadAlikeTo, ShownByFronts}

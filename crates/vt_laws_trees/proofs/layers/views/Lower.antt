@@ -1,14 +1,7 @@
 -- What is shown where a name of the upper layer was.
-use Rattle.std.proofs.Common.{arith, ◌≡◌, refl, sym, ap, subst, ◌∙◌, true≢false, ℕ, Bool, true, false, cond, ◌||◌, List, [], ◌∷◌, ◌++◌, map, Option, Some, None, option_and_then}
-use Rattle.std.proofs.lemmas.Grind.{common_steps}
-use Rattle.std.proofs.lemmas.List.{append-nil}
-use Rattle.std.specs.List.{list_any}
-use Rattle.vt_spec.specs.Language.Changes.Change.{Move, Remove}
-use Rattle.vt_spec.specs.FileTree.{FileTree}
-use Rattle.vt_spec.specs.Lists.{prefixes, holds_of}
-use Rattle.vt_spec.specs.Machine.Views.{View, shown_in_lowers, shown_from}
-use Rattle.vt_spec.specs.Tree.{Tree}
-use Rattle.vt_spec.specs.TreeInvariant.{IsTree, entry_at, led}
+use Rattle.std.proofs.Common.{arith, ◌≡◌, refl, sym, ap, subst, ◌∙◌, true≢false, ℕ, Bool, true, false, cond, ◌||◌, List, [], ◌∷◌, ◌++◌, map, Option, Some, None, option_and_then, append-nil}
+use Rattle.vt_spec.proofs.Common.{FileTree, IsTree, Move, Remove, Tree, View, common_steps, entry_at, holds_of, led, list_any, or-false, prefixes, shown_from}
+use Rattle.vt_spec.specs.Machine.Views.{shown_in_lowers}
 use Rattle.vt_laws_trees.specs.Layers.Layers.ShownAfter.{LeadAlikeTo, MovedShowsBelow, RemovedShowsBelow}
 use Rattle.vt_laws_trees.specs.Layers.Layers.Views.{goes_through, names_entry, view_after, view_in}
 use Rattle.vt_laws_trees.proofs.layers.layers.ShownFronts.{cons_is_not_empty, prefix_passes, list_any_of_map}
@@ -19,7 +12,7 @@ use Rattle.vt_laws_trees.proofs.layers.views.Fronts.{cuts_alike}
 use Rattle.vt_laws_trees.proofs.layers.views.Moves.{led_parts, no_way_up, old_leads_nowhere, through_is_split}
 use Rattle.vt_laws_trees.proofs.layers.views.Names.{remove_ends_paths}
 use Rattle.vt_laws_trees.proofs.layers.views.Walks.{ends_in, names_it}
-use Rattle.std.proofs.Math.Bool.{or-false, or_assoc}
+use Rattle.std.proofs.Math.Bool.{or_assoc}
 
 -- the path of an entry is a way to its directory, and the name
 abbrev pub IsNamed : Tree ℕ → ℕ → ℕ → List ℕ → List (List ℕ) → Type 0

@@ -1,12 +1,6 @@
 -- A move on the view of a layer.
-use Rattle.std.proofs.lemmas.Grind.{common_steps}
-use Rattle.std.proofs.Common.{◌≡◌, ◌≢◌, ◌≤◌, refl, sym, ap, subst, ◌∙◌, true≢false, eq-eqb, arith, ℕ, suc, nat_eq, true, false, cond, ◌&&◌, List, [], ◌∷◌, ◌++◌, Option, Some, None, option_and_then}
-use Rattle.std.specs.Cmp.Lexicographic.{bytes_decides}
-use Rattle.std.specs.Str.{bytes_eq}
-use Rattle.vt_spec.specs.Language.Changes.{node_with_parent, with_moved, with_name, without_name, without_parent}
-use Rattle.vt_spec.specs.FileTree.{FileTree}
-use Rattle.vt_spec.specs.Tree.{Tree, entries_in, entry_named}
-use Rattle.vt_spec.specs.TreeInvariant.{IsDirectory, IsTree, entry_at, led}
+use Rattle.std.proofs.Common.{◌≡◌, ◌≢◌, ◌≤◌, refl, sym, ap, subst, ◌∙◌, true≢false, eq-eqb, arith, ℕ, suc, nat_eq, true, false, cond, ◌&&◌, List, [], ◌∷◌, ◌++◌, Option, Some, None, option_and_then, bytes_eq}
+use Rattle.vt_spec.proofs.Common.{FileTree, IsDirectory, IsTree, Tree, bytes_decides, common_steps, entries-node_with_parent, entries-without_parent, entries_in, entry_at, entry_named, led, node_with_parent, none_is_some, part-changed_node, same_Some, with_moved, with_name, without_name, without_parent}
 use Rattle.vt_laws_trees.specs.Layers.Layers.Views.{MovedLeadsOn, NewLeadsAsOld, OldLeadsNowhere, ThroughIsSplit}
 use Rattle.vt_laws_trees.proofs.layers.layers.CopyingParts.{parent_keeps, without_entry_keeps}
 use Rattle.vt_laws_trees.proofs.layers.layers.UpperChain.{one_depth}
@@ -14,9 +8,6 @@ use Rattle.vt_laws_trees.proofs.layers.layers.UpperLine.{ReachedIn, has_entries,
 use Rattle.vt_laws_trees.proofs.layers.views.Entries.{entries_stay, given, is_entry, taken}
 use Rattle.vt_laws_trees.proofs.layers.views.Names.{no_entries}
 use Rattle.vt_laws_trees.proofs.layers.views.Walks.{goes_through_it, passes, split}
-use Rattle.std.proofs.lemmas.Option.{same_Some}
-use Rattle.vt_spec.proofs.NodeChanges.{entries-node_with_parent, entries-without_parent, part-changed_node}
-use Rattle.vt_spec.proofs.Options.{none_is_some}
 
 pub through_is_split : ThroughIsSplit
 through_is_split files top directory name path e =

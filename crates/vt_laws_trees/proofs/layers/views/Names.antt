@@ -1,14 +1,6 @@
 -- A new name and a removed one, on the view of a layer.
 use Rattle.std.proofs.Common.{arith, ◌≡◌, ◌≢◌, refl, sym, ap, subst, ◌∙◌, true≢false, ℕ, nat_eq, Bool, true, false, cond, List, [], ⊎_elim, Option, Some, None, is_some}
-use Rattle.std.proofs.lemmas.Grind.{common_steps}
-use Rattle.std.proofs.lemmas.Bool.Decides.{eqb_tells}
-use Rattle.vt_spec.specs.Language.Changes.{changed_node, node_without_entry, with_inode, with_name, without_name, without_parent}
-use Rattle.vt_spec.specs.Language.Changes.Change.{AddName, CopyUp, Make, Move, Remove, SetAttr, SetBytes, SetMark}
-use Rattle.vt_spec.specs.FileTree.{FileTree}
-use Rattle.vt_spec.specs.Lists.{then_some}
-use Rattle.vt_spec.specs.Tree.{Node, Tree, entries_in, entries_of, entry_named, is_directory_node, node_with_entry}
-use Rattle.vt_spec.specs.TreeInvariant.{IsDirectory, entry_at, led}
-use Rattle.vt_spec.proofs.Nodes.{node_other, node_set}
+use Rattle.vt_spec.proofs.Common.{AddName, CopyUp, FileTree, IsDirectory, Make, Move, Node, Remove, SetAttr, SetBytes, SetMark, Tree, changed_node, common_steps, entries-without_parent, entries_in, entries_in-no_directory, entries_of, entry_at, entry_named, eqb_tells, is_directory_node, led, node_other, node_set, node_with_entry, node_without_entry, none_is_some, same_Some, then_some, with_inode, with_name, without_name, without_parent}
 use Rattle.vt_laws_trees.specs.Layers.Layers.Mounted.{IsAlike}
 use Rattle.vt_laws_trees.specs.Layers.Layers.Untouched.{IsKept}
 use Rattle.vt_laws_trees.specs.Layers.Layers.Views.{AddNameAddsPath, AddNameIsSeen, MakeAddsInode, MakeAddsPath, MakeEndsPaths, MakeIsSeen, NamesLeaveInodes, RemoveEndsPaths, RemoveIsSeen, RemoveTakesPath, names_entry, view_in}
@@ -17,9 +9,6 @@ use Rattle.vt_laws_trees.proofs.layers.layers.LowersKept.{kept_by_parent, kept_e
 use Rattle.vt_laws_trees.proofs.layers.layers.ShownDirectories.{led_is_there}
 use Rattle.vt_laws_trees.proofs.layers.views.Entries.{given, is_entry, is_that_entry, taken}
 use Rattle.vt_laws_trees.proofs.layers.views.Walks.{entry_gone, entry_led, entry_over, goes_through_it, names_it}
-use Rattle.std.proofs.lemmas.Option.{same_Some}
-use Rattle.vt_spec.proofs.NodeChanges.{entries-without_parent, entries_in-no_directory}
-use Rattle.vt_spec.proofs.Options.{none_is_some}
 
 -- an inode that has no names in it
 pub no_entries : (tree : Tree ℕ) (object : ℕ) → entries_in (tree.node object) ≡ [] → (word : List ℕ)

@@ -1,12 +1,6 @@
 -- Changes that move no path of a layer: bytes, attributes and marks, and changes elsewhere in its tree.
 use Rattle.std.proofs.Common.{arith, ◌≡◌, refl, sym, ap, subst, ◌∙◌, true≢false, ne_eqb, ℕ, nat_eq, true, false, List, [], ◌∷◌, Option, Some, None, is_some, option_and_then}
-use Rattle.std.proofs.lemmas.Grind.{common_steps}
-use Rattle.vt_spec.specs.Language.Changes.{Change, changed, changed_node, node_with_attr, node_with_mark, with_inode}
-use Rattle.vt_spec.specs.FileTree.{FileTree}
-use Rattle.vt_spec.specs.Lists.{is_among, then_some}
-use Rattle.vt_spec.specs.Tree.{Node, Tree, entries_in, entries_of, entry_named, node_with_bytes}
-use Rattle.vt_spec.specs.TreeInvariant.{entry_at, led}
-use Rattle.vt_spec.proofs.Nodes.{entries-node_with_bytes}
+use Rattle.vt_spec.proofs.Common.{Change, FileTree, Node, Tree, changed, changed_node, common_steps, entries-node_with_attr, entries-node_with_bytes, entries-node_with_mark, entries_in, entries_of, entry_at, entry_named, is_among, led, node_with_attr, node_with_bytes, node_with_mark, then_some, with_inode}
 use Rattle.vt_laws_trees.specs.Layers.Layers.Mounted.{IsAlike}
 use Rattle.vt_laws_trees.specs.Layers.Layers.Untouched.{IsKept, inodes_changed}
 use Rattle.vt_laws_trees.specs.Layers.Layers.Views.{AttrChangesOneInode, BytesChangeOneInode, ElsewhereKeepsView, MakesWithNewNumber, MarkChangesOneInode, old_inodes_changed}
@@ -14,7 +8,6 @@ use Rattle.vt_laws_trees.proofs.layers.layers.LowersKept.{others_stay}
 use Rattle.vt_laws_trees.proofs.layers.layers.ShownDirectories.{led_is_there}
 use Rattle.vt_laws_trees.proofs.layers.views.Entries.{entries_stay}
 use Rattle.vt_laws_trees.proofs.layers.views.Names.{alike_kept, alike_same, inode_entries}
-use Rattle.vt_spec.proofs.NodeChanges.{entries-node_with_attr, entries-node_with_mark}
 
 -- where entries are as they were at all that a directory leads to, so are paths
 pub led_where : (before after : Tree ℕ) (path : List (List ℕ)) (start : ℕ)

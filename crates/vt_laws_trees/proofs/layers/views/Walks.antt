@@ -1,15 +1,10 @@
 -- Where paths lead when one entry of a tree changes.
 use Rattle.std.proofs.Common.{arith, ◌≡◌, ◌≢◌, refl, sym, ap, ◌∙◌, true≢false, ℕ, Bool, true, false, cond, ◌||◌, List, [], ◌∷◌, ◌++◌, Option, Some, None, option_and_then}
-use Rattle.std.proofs.lemmas.Grind.{common_steps}
-use Rattle.std.specs.List.{list_any}
-use Rattle.vt_spec.specs.Lists.{prefixes, holds_of}
-use Rattle.vt_spec.specs.Machine.Views.{View}
-use Rattle.vt_spec.specs.Tree.{Tree}
-use Rattle.vt_spec.specs.TreeInvariant.{entry_at, led}
+use Rattle.vt_spec.proofs.Common.{Tree, View, common_steps, entry_at, holds_of, led, list_any, none_is_some, prefixes}
 use Rattle.vt_laws_trees.specs.Layers.Layers.Views.{goes_through, names_entry}
 use Rattle.vt_laws_trees.proofs.layers.layers.ShownFronts.{list_any_of_map}
 use Rattle.vt_laws_trees.proofs.layers.views.Entries.{is_entry, is_that_entry}
-use Rattle.vt_spec.proofs.Options.{none_is_some, option_and_then-Some}
+use Rattle.vt_spec.proofs.Options.{option_and_then-Some}
 use Rattle.vt_spec.proofs.Lists.{list_any-never}
 
 -- what starts at a directory of a tree

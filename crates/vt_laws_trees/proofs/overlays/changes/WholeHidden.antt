@@ -1,16 +1,6 @@
 -- What lower layers show after a change they showed before.
-use Rattle.std.proofs.lemmas.Grind.{common_steps}
 use Rattle.std.proofs.Common.{arith, ◌≡◌, refl, sym, ap, subst, ◌∙◌, true≢false, eq-eqb, ℕ, suc, ◌+◌, nat_eq, Bool, true, false, cond, List, Option, Some, None, is_some}
-use Rattle.vt_spec.specs.Language.Changes.{Change}
-use Rattle.vt_spec.specs.Language.Changes.Change.{AddName, CopyUp, Make, Move, Remove, SetAttr, SetBytes, SetMark}
-use Rattle.vt_spec.specs.Lists.{Fresh, odds, then_some}
-use Rattle.vt_spec.specs.Machine.CopyUp.{Merge, Stack, copied_up, hides_directory, merge_changed, shown_in_lowers_at}
-use Rattle.vt_spec.specs.Machine.Layers.{Shown, shown}
-use Rattle.vt_spec.specs.Machine.Merging.{layer_node, real_object}
-use Rattle.vt_spec.specs.Machine.World.{Real, upper_object}
-use Rattle.vt_spec.specs.Machine.World.Real.{Lower, Upper}
-use Rattle.vt_spec.specs.Machine.Invariants.{SameObject, number_at_path}
-use Rattle.vt_spec.proofs.Nodes.{directory_used}
+use Rattle.vt_spec.proofs.Common.{AddName, Change, CopyUp, Fresh, Lower, Make, Merge, Move, Real, Remove, SameObject, SetAttr, SetBytes, SetMark, Shown, Stack, Upper, common_steps, copied_up, directory_used, hides_directory, layer_node, merge_changed, none_is_some, number_at_path, odds, odds-distinct, real_object, same_Some, shown, shown_in_lowers_at, then_some, upper_object}
 use Rattle.vt_laws_trees.specs.Trees.{MayAddName, MayMake, MayRemove}
 use Rattle.vt_laws_trees.specs.Layers.Layers.ChangesUpper.{StandsInUpper}
 use Rattle.vt_laws_trees.specs.Layers.Layers.Shown.{IsShown}
@@ -28,9 +18,6 @@ use Rattle.vt_laws_trees.proofs.overlays.steps.WholeMade.{new_bare}
 use Rattle.vt_laws_trees.proofs.overlays.steps.WholeMoved.{below_stays}
 use Rattle.vt_laws_trees.proofs.overlays.steps.WholeParts.{object_is_not_none, real_by}
 use Rattle.vt_laws_trees.proofs.overlays.changes.WholeTogether.{both_copied, twice, changes_keep_shown, copied, is_copied, stands_now, still_unused}
-use Rattle.std.proofs.lemmas.Option.{same_Some}
-use Rattle.vt_spec.proofs.Options.{none_is_some}
-use Rattle.vt_spec.proofs.FreshNumbers.{odds-distinct}
 
 -- nothing comes to lie below, and what lies below gets no name
 pub record Uncovers (merge later : Merge ℕ) : Type 0 where

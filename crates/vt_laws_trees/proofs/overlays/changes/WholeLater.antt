@@ -1,20 +1,7 @@
 -- The overlay of a world, after a change through it.
-use Rattle.std.proofs.Common.{arith, ◌≡◌, ◌≢◌, refl, sym, ap, subst, ◌∙◌, true≢false, eqb-true, ℕ, nat_eq, Bool, true, false, not, eq-eqb, ⊎_elim, inl, inr, List, [], ◌∷◌, ◌++◌, Some, None, is_some}
-use Rattle.std.proofs.lemmas.Grind.{common_steps}
-use Rattle.std.specs.Prelude.{option_to_list}
-use Rattle.vt_spec.specs.Language.Changes.{Change}
-use Rattle.vt_spec.specs.Language.Changes.Change.{AddName, CopyUp, Make, Move, Remove, SetAttr, SetBytes, SetMark}
-use Rattle.vt_spec.specs.Lists.{Fresh}
-use Rattle.vt_spec.specs.Machine.CopyUp.{Merge, Stack, merge_changed}
-use Rattle.vt_spec.specs.Machine.Filesystems.{filesystem_changed, merge_of, overlay_changed, stack_of, with_change, with_files, with_merge}
-use Rattle.vt_spec.specs.Machine.Mounts.{Location}
-use Rattle.vt_spec.specs.Machine.World.{Filesystem, Layer, Overlay, World, filesystem_at, filesystem_numbered, is_overlay, layers_of, mount_at, open_layer, with_filesystem}
-use Rattle.vt_spec.specs.Machine.Invariants.{IsMerged, IsWorld, is_plain_layer}
-use Rattle.vt_spec.specs.Machine.Locked.{lies_or_counts_under, upper_and_work}
-use Rattle.vt_spec.specs.Tree.{is_directory_node}
-use Rattle.vt_spec.proofs.Lists.{among-append_right}
+use Rattle.std.proofs.Common.{arith, ◌≡◌, ◌≢◌, refl, sym, ap, subst, ◌∙◌, true≢false, eqb-true, ℕ, nat_eq, Bool, true, false, not, eq-eqb, ⊎_elim, inl, inr, List, [], ◌∷◌, ◌++◌, Some, None, is_some, option_to_list}
+use Rattle.vt_spec.proofs.Common.{AddName, Change, CopyUp, Filesystem, Fresh, IsMerged, IsWorld, Layer, Location, Make, Merge, Move, Overlay, Remove, SetAttr, SetBytes, SetMark, Stack, World, among-append_right, and_true_right, common_steps, directory_used, filesystem_at, filesystem_changed, filesystem_numbered, is_directory_node, is_overlay, is_plain_layer, layers_of, lies_or_counts_under, merge_changed, merge_of, mount_at, none_is_some, open_layer, overlay_changed, same_Some, stack_of, upper_and_work, with_change, with_files, with_filesystem, with_merge}
 use Rattle.vt_spec.proofs.Lists
-use Rattle.vt_spec.proofs.Nodes.{directory_used}
 use Rattle.vt_laws_trees.specs.Layers.Layers.Locked.{AreNoInodes, LeadsAsBefore}
 use Rattle.vt_laws_trees.specs.Layers.Layers.Untouched.{IsKept}
 use Rattle.vt_laws_trees.specs.Layers.Layers.Upper.{SpeaksOfWhatIsThere}
@@ -30,9 +17,6 @@ use Rattle.vt_laws_trees.specs.Overlays.WholeChanges.{ChangedOverlayIsMerged, Is
 use Rattle.vt_laws_trees.proofs.overlays.changes.WholeLowers.{shown_alike}
 use Rattle.vt_laws_trees.proofs.overlays.changes.WholeTogether.{changes_keep_shown}
 use Rattle.vt_laws_trees.proofs.overlays.changes.WholeWorlds.{overlays_are_whole, shown_is_merged}
-use Rattle.std.proofs.lemmas.Option.{same_Some}
-use Rattle.vt_spec.proofs.Options.{none_is_some}
-use Rattle.vt_spec.proofs.Truths.{and_true_right}
 use Rattle.vt_laws_trees.specs.Trees.Settling.{inode_in}
 
 -- what is asked well speaks of what is there

@@ -1,22 +1,7 @@
 -- Every other overlay of a world, after a change through one.
-use Rattle.std.proofs.Common.{arith, ◌≡◌, ◌≢◌, refl, sym, ap, subst, ◌∙◌, true≢false, eqb-true, eq-eqb, ⊎_elim, inl, inr, ℕ, zero, suc, nat_eq, Bool, true, false, map, List, [], ◌∷◌, ◌++◌, Option, Some, None, is_some, slice_get}
-use Rattle.std.proofs.lemmas.Grind.{common_steps}
-use Rattle.std.proofs.lemmas.Option.{slice_get-map, same_Some}
-use Rattle.std.specs.Prelude.{option_map, option_to_list}
-use Rattle.vt_spec.specs.Language.Calls.{Call}
-use Rattle.vt_spec.specs.Language.Changes.{Change}
-use Rattle.vt_spec.specs.Machine.Policy.{call_outcome}
-use Rattle.vt_spec.specs.Lists.{Fresh, holds_of, then_some}
-use Rattle.vt_spec.specs.Machine.Filesystems.{with_change}
-use Rattle.vt_spec.specs.Machine.Layers.{OpenLayer, Shown, at_path, node_at_path, shown, view_of}
-use Rattle.vt_spec.specs.Machine.Locked.{lies_or_counts_under, upper_and_work}
-use Rattle.vt_spec.specs.Machine.Merging.{layer_node}
-use Rattle.vt_spec.specs.Machine.Mounts.{Location}
-use Rattle.vt_spec.specs.Machine.World.{Filesystem, Layer, Overlay, Real, World, files_at, filesystem_at, filesystem_numbered, mount_at, open_layer, shown_layers, Task, task_called}
-use Rattle.vt_spec.specs.Machine.World.Real.{Lower, Upper}
-use Rattle.vt_spec.specs.Machine.Invariants.{IsMerged, IsWorld, SameObject, is_plain_layer, is_there, number_at_path, real_node}
+use Rattle.std.proofs.Common.{arith, ◌≡◌, ◌≢◌, refl, sym, ap, subst, ◌∙◌, true≢false, eqb-true, eq-eqb, ⊎_elim, inl, inr, ℕ, zero, suc, nat_eq, Bool, true, false, map, List, [], ◌∷◌, ◌++◌, Option, Some, None, is_some, slice_get, option_map, option_to_list}
+use Rattle.vt_spec.proofs.Common.{Call, Change, Filesystem, Fresh, IsMerged, IsWorld, Layer, Location, Lower, OpenLayer, Overlay, Real, SameObject, Shown, Task, Upper, World, among-append_left, among-append_right, at_path, call_outcome, common_steps, files_at, filesystem_at, filesystem_numbered, holds_of, is_plain_layer, is_there, layer_node, lies_or_counts_under, mount_at, node_at_path, none_is_some, number_at_path, open_layer, real_node, same_Some, shown, shown_layers, slice_get-map, task_called, then_some, upper_and_work, view_of, with_change}
 use Rattle.vt_spec.proofs.Lists
-use Rattle.vt_spec.proofs.Lists.{among-append_left, among-append_right}
 use Rattle.vt_laws_trees.specs.Layers.Layers.Locked.{AreNoInodes, GoesThrough, LeadsAsBefore}
 use Rattle.vt_laws_trees.specs.Layers.Layers.Mounted.{IsAlike}
 use Rattle.vt_laws_trees.specs.Layers.Layers.Untouched.{IsKept, changes_no_mount}
@@ -32,7 +17,6 @@ use Rattle.vt_laws_trees.proofs.layers.views.Names.{alike_kept, alike_same}
 use Rattle.vt_laws_trees.proofs.layers.layers.UpperWorld.{overlay_merges, upper_filesystem_keeps}
 use Rattle.vt_laws_trees.specs.Overlays.WholeChanges.{CallsKeepOtherOverlays, OtherOverlaysStayMerged}
 use Rattle.vt_laws_trees.proofs.overlays.steps.WholeGrown.{alike_objects}
-use Rattle.vt_spec.proofs.Options.{none_is_some}
 use Rattle.vt_laws_trees.specs.Trees.Settling.{inode_in}
 
 -- An overlay whose layers lead as they did, and whose upper objects are as they were

@@ -1,23 +1,13 @@
 -- A whole change of an overlay: copies first, and then what is asked.
 use Rattle.std.proofs.Common.{true, ◌⊎◌, ⊎_elim, inl, inr, ◌*◌, ◌+◌, ◌≡◌, sym, subst, ◌∙◌, ℕ, nat_eq, None, refl, ap, List, [], ◌∷◌, ◌++◌, ◌&&◌, ◌||◌, map, not, false, Option, Some, is_some, option_and_then, unwrap_or}
-use Rattle.vt_spec.specs.Language.Changes.Change.{AddName, CopyUp, Make, Move, Remove, SetAttr, SetBytes, SetMark}
-use Rattle.vt_spec.specs.Lists.{Fresh, evens, odds}
-use Rattle.vt_spec.specs.Machine.CopyUp.{Merge, Stack, copied_up, path_to, upper_of}
-use Rattle.vt_spec.proofs.Nodes.{directory_used}
+use Rattle.vt_spec.proofs.Common.{AddName, CopyUp, Fresh, IsDirectory, Lower, Make, Merge, Move, Remove, SetAttr, SetBytes, SetMark, Stack, Upper, copied_up, directory_no_whiteout, directory_used, entry_at, evens, evens-distinct, has_lower_directory, led, led-append, none_is_some, number_at_path, odds, odds-distinct, odds-no_evens, path_down, path_to, same_Some, upper_object, upper_of, view_of}
 use Rattle.vt_laws_trees.specs.Trees.{MayAddName, MayMake, MayMove, MayRemove}
 use Rattle.vt_laws_trees.specs.Layers.Layers.ChangesUpper.{StandsInUpper, IsNewBy}
 use Rattle.vt_laws_trees.specs.Layers.Layers.Upper.{IsThere}
 use Rattle.vt_laws_trees.proofs.layers.layers.UpperLine.{has_entries, is_reached_in}
 use Rattle.vt_laws_trees.proofs.layers.layers.UpperShown.{way_to}
 use Rattle.vt_laws_trees.proofs.layers.layers.ShownNames.{last_name}
-use Rattle.vt_spec.proofs.Trees.{led-append}
-use Rattle.vt_spec.specs.FileTree.{path_down}
-use Rattle.vt_spec.specs.Machine.Layers.{has_lower_directory, view_of}
 use Rattle.vt_spec.specs.Machine.Views
-use Rattle.vt_spec.specs.Machine.World.{upper_object}
-use Rattle.vt_spec.specs.Machine.World.Real.{Lower, Upper}
-use Rattle.vt_spec.specs.Machine.Invariants.{number_at_path}
-use Rattle.vt_spec.specs.TreeInvariant.{IsDirectory, entry_at, led}
 use Rattle.vt_laws_trees.specs.Overlays.WhatIsShown.{IsWhole}
 use Rattle.vt_laws_trees.specs.Overlays.WholeChanges.{ChangesKeepShown}
 use Rattle.vt_laws_trees.proofs.overlays.whole.UpperGoes.{Goes, goes_both}
@@ -30,10 +20,6 @@ use Rattle.vt_laws_trees.proofs.overlays.steps.WholeNames.{above_named, named_ab
 use Rattle.vt_laws_trees.proofs.overlays.steps.WholeLinked.{link_keeps_shown}
 use Rattle.vt_laws_trees.proofs.overlays.steps.WholeMade.{make_keeps_shown}
 use Rattle.vt_laws_trees.proofs.overlays.steps.WholeRemoved.{remove_keeps_shown}
-use Rattle.std.proofs.lemmas.Option.{same_Some}
-use Rattle.vt_spec.proofs.NodeChanges.{directory_no_whiteout}
-use Rattle.vt_spec.proofs.Options.{none_is_some}
-use Rattle.vt_spec.proofs.FreshNumbers.{evens-distinct, odds-distinct, odds-no_evens}
 
 -- an object copied by even numbers
 module _ (fresh : Fresh ℕ) (stack : Stack ℕ) (merge : Merge ℕ) (whole : IsWhole stack merge)

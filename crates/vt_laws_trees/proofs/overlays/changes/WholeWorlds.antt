@@ -1,13 +1,6 @@
 -- An overlay of a world, as one record.
-use Rattle.std.proofs.Common.{arith, ◌≡◌, sym, ap, subst, ℕ, nat_eq, ◌++◌, map, Option, Some}
-use Rattle.std.proofs.lemmas.Grind.{common_steps}
-use Rattle.std.proofs.lemmas.Option.{slice_get-map}
-use Rattle.std.specs.Prelude.{option_to_list}
-use Rattle.vt_spec.specs.Lists.{then_some}
-use Rattle.vt_spec.specs.Machine.CopyUp.{Merge, Stack}
-use Rattle.vt_spec.specs.Machine.Filesystems.{merge_of, stack_of}
-use Rattle.vt_spec.specs.Machine.World.{Filesystem, Layer, Overlay, Real, World, filesystem_numbered, open_layer}
-use Rattle.vt_spec.specs.Machine.Invariants.{IsMerged, real_node}
+use Rattle.std.proofs.Common.{arith, ◌≡◌, sym, ap, subst, ℕ, nat_eq, ◌++◌, map, Option, Some, option_to_list}
+use Rattle.vt_spec.proofs.Common.{Filesystem, IsMerged, Layer, Merge, Overlay, Real, Stack, World, common_steps, filesystem_numbered, merge_of, open_layer, real_node, slice_get-map, stack_of, then_some}
 use Rattle.vt_laws_trees.proofs.layers.layers.ShownDirectories.{AreOpen}
 use Rattle.vt_laws_trees.proofs.layers.layers.ShownMounted.{are_open}
 use Rattle.vt_laws_trees.proofs.layers.layers.UpperWorld.{overlay_layers, overlay_merges, overlay_numbers, overlay_tree}

@@ -1,25 +1,8 @@
 -- Which number is at a path of a merged tree, and what its inode is.
-use Rattle.std.proofs.Common.{arith, ◌≡◌, ◌≢◌, refl, sym, ap, subst, ◌∙◌, true≢false, ℕ, nat_eq, eq-eqb, eqb-true, Bool, true, false, cond, ◌||◌, T, List, [], ◌∷◌, ◌++◌, map, Option, Some, None, is_some, option_and_then}
-use Rattle.std.proofs.lemmas.Grind.{common_steps}
-use Rattle.std.proofs.lemmas.Slice.Eq.{bytes_eq-Decides}
-use Rattle.std.specs.FinMap.Entries.{is_sorted, same_entries}
-use Rattle.std.specs.Cmp.Lexicographic.{nat_list_cmp_total}
-use Rattle.std.specs.List.{cons_option, filter_map, list_any}
-use Rattle.std.specs.Ordering.{is_eq}
-use Rattle.std.specs.Prelude.{option_map, unwrap_or}
-use Rattle.vt_spec.specs.FileTree.{FileTree, a_name, is_opaque_in, opaque_of}
-use Rattle.vt_spec.specs.Lists.{without_last, then_some}
-use Rattle.vt_spec.specs.Machine.Invariants.{SameObject, node_shown, number_at_path, real_node, real_shown, same_content}
+use Rattle.std.proofs.Common.{arith, ◌≡◌, ◌≢◌, refl, sym, ap, subst, ◌∙◌, true≢false, ℕ, nat_eq, eq-eqb, eqb-true, Bool, true, false, cond, ◌||◌, T, List, [], ◌∷◌, ◌++◌, map, Option, Some, None, is_some, option_and_then, filter_map, is_eq, option_map, unwrap_or}
+use Rattle.vt_spec.proofs.Common.{Content, Directory, Entries, FileTree, Filesystem, HasName, HasOwnParents, Node, OpenLayer, Overlay, Real, Regular, SameObject, Shown, Symlink, Whiteout, World, a_name, bytes_eq-Decides, common_steps, cons_option, directory_used, entries_in, entries_of, entry_at, entry_named, filesystem_numbered, is_directory, is_directory_node, is_opaque_in, is_sorted, kind_of, layer_node, led-append, list_any, name_cmp, names_shown, nat_list_cmp_total, node_shown, none_is_some, nothing_is_no_object, number_at_path, opaque_of, parent_in, parent_of, real_node, real_object, real_shown, same_Some, same_content, same_entries, shown, then_some, view_of, without_last}
 use Rattle.vt_spec.proofs.Layers.{names_at}
-use Rattle.vt_spec.specs.Machine.Layers.{OpenLayer, Shown, names_shown, shown, view_of}
-use Rattle.vt_spec.specs.Machine.Merging.{layer_node, real_object}
-use Rattle.vt_spec.specs.Machine.World.{Filesystem, Overlay, Real, World, filesystem_numbered}
-use Rattle.vt_spec.specs.Rights.{is_directory}
-use Rattle.vt_spec.specs.Tree.{Content, Entries, Node, entries_in, entries_of, entry_named, is_directory_node, kind_of, name_cmp, parent_in, parent_of}
-use Rattle.vt_spec.specs.Tree.Content.{Directory, Regular, Symlink, Whiteout}
-use Rattle.vt_spec.specs.TreeInvariant.{HasName, HasOwnParents, entry_at}
-use Rattle.vt_spec.proofs.Nodes.{directory_used, same_name}
-use Rattle.vt_spec.proofs.Trees.{led-append}
+use Rattle.vt_spec.proofs.Nodes.{same_name}
 use Rattle.vt_laws_trees.specs.Overlays.MergedTrees.{InodesAreThoseShown, IsMergedTree, IsNamedBy, MergedTreesAreOne, NumbersAreThoseShown, OtherInodesAreHeld, OverlaysAreMergedTrees, content_as, entries_shown, inode_held, inode_shown, layers_shown, node_as, number_shown, parent_shown}
 use Rattle.vt_laws_trees.proofs.layers.directories.Order.{NameBelow, Pairwise, names_rise, names_sorted, pairwise_filter, pairwise_filter_map, rising_sorted}
 use Rattle.vt_laws_trees.proofs.layers.layers.ShownAtPath.{computed}
@@ -31,9 +14,6 @@ use Rattle.vt_laws_trees.proofs.layers.layers.UpperLine.{is_reached_in, named_so
 use Rattle.vt_laws_trees.proofs.layers.layers.UpperShown.{without_last_of_longer, has_a_name, way_to}
 use Rattle.vt_laws_trees.proofs.layers.layers.UpperWorld.{all_found, overlay_found, overlay_layers, overlay_numbers, overlay_tree}
 use Rattle.vt_laws_trees.proofs.overlays.steps.WholeParts.{object_is_not_none, shown_is_there}
-use Rattle.std.proofs.lemmas.Option.{same_Some}
-use Rattle.vt_spec.proofs.Options.{none_is_some}
-use Rattle.vt_spec.proofs.Worlds.{nothing_is_no_object}
 
 -- a merged inode is its real object, with a parent and entries of its own
 same_filled : (parent : ℕ) (entries : Entries ℕ) (content shown : Content ℕ) → same_content content shown ≡ true

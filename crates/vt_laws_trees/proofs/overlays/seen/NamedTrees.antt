@@ -1,15 +1,6 @@
 -- What is seen so is named so.
-use Rattle.std.proofs.Common.{◌≡◌, ◌≢◌, refl, sym, ap, ◌∙◌, ℕ, nat_eq, List, [], ◌∷◌, Option, Some, None, option_and_then}
-use Rattle.std.proofs.lemmas.Option.{same_Some}
-use Rattle.std.specs.Prelude.{option_map}
-use Rattle.vt_spec.proofs.Found.{found_passes}
-use Rattle.vt_spec.proofs.Options.{none_is_some}
-use Rattle.vt_spec.specs.Lists.{holds_of}
-use Rattle.vt_spec.specs.Machine.Invariants.{number_at_path}
-use Rattle.vt_spec.specs.Machine.Layers.{paths_from}
-use Rattle.vt_spec.specs.Machine.World.{Filesystem, Overlay, Real, World}
-use Rattle.vt_spec.specs.Tree.{Tree}
-use Rattle.vt_spec.specs.TreeInvariant.{HasName, entry_at}
+use Rattle.std.proofs.Common.{◌≡◌, ◌≢◌, refl, sym, ap, ◌∙◌, ℕ, nat_eq, List, [], ◌∷◌, Option, Some, None, option_and_then, option_map}
+use Rattle.vt_spec.proofs.Common.{Filesystem, HasName, Overlay, Real, Tree, World, entry_at, found_passes, holds_of, none_is_some, number_at_path, paths_from, same_Some}
 use Rattle.vt_laws_trees.proofs.layers.layers.ShownDirectories.{last_of}
 use Rattle.vt_laws_trees.proofs.layers.layers.ShownNames.{last_name}
 use Rattle.vt_laws_trees.proofs.layers.layers.ShownPaths.{not_empty}

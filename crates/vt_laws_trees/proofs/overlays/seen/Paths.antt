@@ -1,13 +1,6 @@
 -- No path at which something is shown is longer than a layer's tree has inodes.
-use Rattle.std.proofs.Common.{◌≡◌, ◌≤◌, refl, sym, ap, subst, ◌∙◌, arith, ℕ, suc, ◌+◌, nat_eq, List, [], ◌∷◌, length, Option, Some, None, option_and_then, slice_get}
-use Rattle.std.proofs.lemmas.Option.{get_or_from_slice_get, same_Some, slice_get-map, slice_get_within}
-use Rattle.std.specs.Prelude.{All, option_map}
-use Rattle.vt_spec.specs.FileTree.{FileTree}
-use Rattle.vt_spec.specs.Machine.Invariants.{ListsNumbers}
-use Rattle.vt_spec.specs.Machine.Layers.{OpenLayer}
-use Rattle.vt_spec.specs.Machine.World.{Layer, open_layer, shown_layers}
-use Rattle.vt_spec.specs.TreeInvariant.{IsTree, entry_at, led}
-use Rattle.vt_spec.proofs.Options.{none_is_some}
+use Rattle.std.proofs.Common.{◌≡◌, ◌≤◌, refl, sym, ap, subst, ◌∙◌, arith, ℕ, suc, ◌+◌, nat_eq, List, [], ◌∷◌, length, Option, Some, None, option_and_then, slice_get, All, option_map}
+use Rattle.vt_spec.proofs.Common.{FileTree, IsTree, Layer, ListsNumbers, OpenLayer, entry_at, get_or_from_slice_get, led, none_is_some, open_layer, same_Some, shown_layers, slice_get-map, slice_get_within}
 use Rattle.vt_laws_trees.proofs.layers.layers.ShownAtPath.{computed}
 use Rattle.vt_laws_trees.proofs.layers.layers.ShownDirectories.{last_of}
 use Rattle.vt_laws_trees.proofs.layers.layers.ShownNames.{last_name}

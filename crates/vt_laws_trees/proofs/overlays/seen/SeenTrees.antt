@@ -1,15 +1,6 @@
 -- Each merged tree that is named so is the tree that is seen.
-use Rattle.std.proofs.Common.{arith, ◌≡◌, ◌⊎◌, ◌≢◌, inl, inr, refl, sym, ap, ◌∙◌, true≢false, ℕ, nat_eq, eq-eqb, eqb-true, Bool, true, false, List, [], ◌∷◌, Option, Some, None, is_some}
-use Rattle.std.proofs.lemmas.Grind.{common_steps}
-use Rattle.std.specs.List.{find}
-use Rattle.std.specs.Prelude.{get_or, option_map, unwrap_or}
-use Rattle.vt_spec.proofs.Found.{found_passes}
-use Rattle.vt_spec.proofs.Options.{none_is_some}
-use Rattle.vt_spec.specs.Lists.{holds_of}
-use Rattle.vt_spec.specs.Machine.Invariants.{IsWorld, ListsNumbers}
-use Rattle.vt_spec.specs.Machine.Layers.{Shown, paths_from, shown}
-use Rattle.vt_spec.specs.Machine.Merging.{real_object}
-use Rattle.vt_spec.specs.Machine.World.{Filesystem, Overlay, Real, World, filesystem_numbered, no_filesystem, shown_layers}
+use Rattle.std.proofs.Common.{arith, ◌≡◌, ◌⊎◌, ◌≢◌, inl, inr, refl, sym, ap, ◌∙◌, true≢false, ℕ, nat_eq, eq-eqb, eqb-true, Bool, true, false, List, [], ◌∷◌, Option, Some, None, is_some, find, get_or, option_map, unwrap_or}
+use Rattle.vt_spec.proofs.Common.{Filesystem, IsWorld, ListsNumbers, Overlay, Real, Shown, World, common_steps, filesystem_numbered, found_passes, holds_of, no_filesystem, none_is_some, paths_from, real_object, shown, shown_layers}
 use Rattle.vt_laws_trees.proofs.layers.layers.ShownObjects.{Among, paths_complete}
 use Rattle.vt_laws_trees.proofs.layers.layers.UpperWorld.{all_found}
 use Rattle.vt_laws_trees.specs.Overlays.MergedTrees.{IsMergedTree, IsNamedBy, layers_shown, number_shown}

@@ -1,30 +1,14 @@
 -- Bytes and attributes of what stands in the upper layer are set: the tree is still what the layers show.
 use Rattle.std.proofs.Common.{arith, ◌≡◌, refl, sym, ap, subst, ◌∙◌, true≢false, eqb-true, eq-eqb, ℕ, zero, suc, nat_eq, Bool, true, false, cond, List, map, Option, Some, None, is_some, slice_get, unwrap_or}
-use Rattle.std.proofs.lemmas.Grind.{common_steps}
+use Rattle.vt_spec.proofs.Common.{Directory, IsTree, ListsNumbers, Lower, Merge, Node, OpenLayer, Real, SameObject, SetAttr, SetBytes, Stack, Upper, bytes_eq_itself, changed_both, changed_node, common_steps, is_kind_in, is_opaque_in, node_with_attr, node_with_bytes, none_is_some, number_at_path, part-changed_node, same_Some, then_some, upper_object, upper_of, view_of, with_bytes}
 use Rattle.vt_spec.specs.declared.attributes.Attr.{Attr}
 use Rattle.vt_spec.specs.declared.attributes.Kind.TheVariants.{White}
-use Rattle.vt_spec.specs.FileTree.{is_kind_in, is_opaque_in}
-use Rattle.vt_spec.specs.Language.Changes.{changed_node, node_with_attr}
-use Rattle.vt_spec.specs.Language.Changes.Change.{SetAttr, SetBytes}
-use Rattle.vt_spec.specs.Lists.{then_some}
-use Rattle.vt_spec.specs.Machine.CopyUp.{Merge, Stack, changed_both, upper_of}
-use Rattle.vt_spec.specs.Machine.Layers.{OpenLayer, view_of}
-use Rattle.vt_spec.specs.Machine.World.{Real, upper_object}
-use Rattle.vt_spec.specs.Machine.World.Real.{Lower, Upper}
-use Rattle.vt_spec.specs.Machine.Invariants.{ListsNumbers, SameObject, number_at_path}
-use Rattle.vt_spec.specs.Tree.{Node, node_with_bytes, with_bytes}
-use Rattle.vt_spec.specs.Tree.Content.{Directory}
-use Rattle.vt_spec.specs.TreeInvariant.{IsTree}
 use Rattle.vt_laws_trees.proofs.trees.ChangesKeepTrees.{changes_keep_numbers, changes_keep_trees}
 use Rattle.vt_laws_trees.specs.Layers.Layers.ChangesUpper.{StandsInUpper}
 use Rattle.vt_laws_trees.specs.Overlays.WhatIsShown.{AttrKeepsWhole, BytesKeepWhole, IsWhole, inode_behind, layers_under, real_seen}
 use Rattle.vt_laws_trees.proofs.layers.views.After.{shown_elsewhere_stays}
 use Rattle.vt_laws_trees.proofs.layers.views.Stay.{attr_changes_one_inode, bytes_change_one_inode}
 use Rattle.vt_laws_trees.proofs.overlays.steps.WholeParts.{IsFine, fine, real_by, what_is_shown}
-use Rattle.std.proofs.lemmas.Option.{same_Some}
-use Rattle.vt_spec.proofs.NodeChanges.{part-changed_node}
-use Rattle.vt_spec.proofs.Options.{none_is_some}
-use Rattle.vt_spec.proofs.Truths.{bytes_eq_itself}
 
 -- the object that an inode of the upper layer has there
 pub upper_real : (merge : Merge ℕ) (number : ℕ) → StandsInUpper merge number

@@ -1,25 +1,7 @@
 -- One object is copied up: the tree is still what the layers show.
 use Rattle.std.proofs.Common.{arith, ◌≡◌, ◌≢◌, refl, sym, ap, subst, ◌∙◌, true≢false, eq-eqb, ne_eqb, ◌⊎◌, ⊎_elim, inl, inr, ℕ, nat_eq, Bool, true, false, not, cond, List, [], ◌∷◌, ◌++◌, map, Option, Some, None, is_some, option_and_then}
-use Rattle.std.proofs.lemmas.Grind.{common_steps}
-use Rattle.std.proofs.lemmas.Bool.Decides.{eqb_tells}
+use Rattle.vt_spec.proofs.Common.{Content, Directory, FileTree, HasOwnParents, IsDirectory, IsNewIn, IsReached, IsTree, Make, Merge, Node, Real, Regular, SameObject, Stack, Symlink, Upper, View, Whiteout, a_name, bytes_eq_itself, changed, common_steps, copied_content, copy_named, copy_of_node, copy_parent, cuts, directory_no_whiteout, directory_used, entries_in, entries_in-no_directory, entries_of, entries_of-copied_content, entry_at, entry_named, eqb_tells, hides, is_directory, is_directory_node, is_kind, is_kind_in, kind_of, led, led-append, name_cmp, node_led, node_other, node_set, none_is_some, number_at_path, parent_in, parent_of, same_Some, same_content, shown, shown_from, then_some, upper_object, upper_of, view_of, when, with_inode, with_real}
 use Rattle.vt_spec.specs.declared.attributes.Kind.TheVariants.{White}
-use Rattle.vt_spec.specs.FileTree.{FileTree, a_name, is_kind, is_kind_in}
-use Rattle.vt_spec.specs.Language.Changes.{changed, with_inode}
-use Rattle.vt_spec.specs.Language.Changes.Change.{Make}
-use Rattle.vt_spec.specs.Laws.Trees.{IsNewIn}
-use Rattle.vt_spec.specs.Lists.{then_some, when}
-use Rattle.vt_spec.specs.Machine.CopyUp.{Merge, Stack, copied_content, copy_named, copy_of_node, copy_parent, upper_of, with_real}
-use Rattle.vt_spec.specs.Machine.Layers.{shown, view_of}
-use Rattle.vt_spec.specs.Machine.Views.{View, cuts, hides, node_led, shown_from}
-use Rattle.vt_spec.specs.Machine.World.{Real, upper_object}
-use Rattle.vt_spec.specs.Machine.World.Real.{Upper}
-use Rattle.vt_spec.specs.Machine.Invariants.{SameObject, number_at_path, same_content}
-use Rattle.vt_spec.specs.Rights.{is_directory}
-use Rattle.vt_spec.specs.Tree.{Content, Node, entries_in, entries_of, entry_named, is_directory_node, kind_of, name_cmp, parent_in, parent_of}
-use Rattle.vt_spec.specs.Tree.Content.{Directory, Regular, Symlink, Whiteout}
-use Rattle.vt_spec.specs.TreeInvariant.{HasOwnParents, IsDirectory, IsReached, IsTree, entry_at, led}
-use Rattle.vt_spec.proofs.Nodes.{directory_used, node_other, node_set}
-use Rattle.vt_spec.proofs.Trees.{led-append}
 use Rattle.vt_laws_trees.specs.Trees.{MayMake}
 use Rattle.vt_laws_trees.proofs.trees.ChangesKeepTrees.{changes_keep_trees, numbers_with_inode}
 use Rattle.vt_laws_trees.specs.Layers.Layers.ChangesUpper.{StandsInUpper}
@@ -43,10 +25,7 @@ use Rattle.vt_laws_trees.proofs.overlays.steps.WholeAttributes.{top_open, upper_
 use Rattle.vt_laws_trees.proofs.overlays.steps.WholeGrown.{directory_alike, grown_is_fine}
 use Rattle.vt_laws_trees.proofs.overlays.steps.WholeNames.{above_named, cut_shows_none, named_led, through_bare, through_free, whole_again, directory_above, entry_named_so, is_fine, named_above, over_same, same_entry, same_through, top_good}
 use Rattle.vt_laws_trees.proofs.overlays.steps.WholeParts.{IsFine, real_by, real_by_none}
-use Rattle.std.proofs.lemmas.Option.{same_Some}
-use Rattle.vt_spec.proofs.NodeChanges.{directory_no_whiteout, entries_in-no_directory, entries_of-copied_content, kind_of-copied_content}
-use Rattle.vt_spec.proofs.Options.{none_is_some}
-use Rattle.vt_spec.proofs.Truths.{bytes_eq_itself}
+use Rattle.vt_spec.proofs.NodeChanges.{kind_of-copied_content}
 
 -- the content of a copy
 copy_same : (parent : ℕ) (content : Content ℕ) → is_kind White (kind_of content) ≡ false

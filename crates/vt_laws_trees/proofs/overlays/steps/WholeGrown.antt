@@ -1,25 +1,13 @@
 -- An overlay in which one inode has a new object in the upper layer, and all others are as they were but for names.
-use Rattle.std.proofs.Common.{arith, ◌≡◌, ◌≢◌, refl, sym, ap, subst, ◌∙◌, true≢false, eqb-true, eq-eqb, ℕ, nat_eq, Bool, true, false, cond, List, Option, Some, None, is_some}
-use Rattle.std.proofs.lemmas.Grind.{common_steps}
-use Rattle.std.proofs.lemmas.Bool.Decides.{eqb_tells}
-use Rattle.std.specs.Str.{bytes_eq}
+use Rattle.std.proofs.Common.{arith, ◌≡◌, ◌≢◌, refl, sym, ap, subst, ◌∙◌, true≢false, eqb-true, eq-eqb, ℕ, nat_eq, Bool, true, false, cond, List, Option, Some, None, is_some, bytes_eq}
+use Rattle.vt_spec.proofs.Common.{Content, FileTree, Lower, Merge, Node, Real, SameObject, Stack, Upper, bytes_of, common_steps, eqb_tells, is_directory, is_directory_node, is_kind_in, is_opaque_in, kind_of, none_before, number_at_path, same_Some, same_content, then_some, with_real}
 use Rattle.vt_spec.specs.declared.attributes.Kind.{Kind}
 use Rattle.vt_spec.specs.declared.attributes.Kind.TheVariants.{Dir, File, Symlink as SymlinkKind, White}
-use Rattle.vt_spec.specs.FileTree.{FileTree, is_kind_in, is_opaque_in}
-use Rattle.vt_spec.specs.Lists.{then_some}
-use Rattle.vt_spec.specs.Machine.CopyUp.{Merge, Stack, with_real}
-use Rattle.vt_spec.specs.Machine.World.{Real}
-use Rattle.vt_spec.specs.Machine.World.Real.{Lower, Upper}
-use Rattle.vt_spec.specs.Machine.Invariants.{SameObject, number_at_path, same_content}
-use Rattle.vt_spec.specs.Rights.{is_directory}
-use Rattle.vt_spec.specs.Tree.{Content, Node, bytes_of, is_directory_node, kind_of}
 use Rattle.vt_laws_trees.specs.Layers.Layers.Mounted.{IsAlike}
 use Rattle.vt_laws_trees.specs.Overlays.WhatIsShown.{inode_behind, real_seen}
 use Rattle.vt_laws_trees.proofs.layers.layers.ShownAlike.{white_alike}
 use Rattle.vt_laws_trees.proofs.overlays.steps.WholeParts.{IsFine}
-use Rattle.std.proofs.lemmas.Option.{same_Some}
 use Rattle.vt_laws_trees.proofs.layers.views.Names.{make_seen}
-use Rattle.vt_spec.proofs.Options.{none_before}
 
 -- Objects that are alike are the same objects
 same_by : Kind → Kind → List ℕ → List ℕ → Bool

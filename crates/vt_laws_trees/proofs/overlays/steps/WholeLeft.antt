@@ -1,19 +1,8 @@
 -- Names that are given and taken in the upper layer, and the one name of a directory there.
-use Rattle.std.proofs.lemmas.Grind.{common_steps}
 use Rattle.std.proofs.Common.{◌≡◌, refl, sym, ap, subst, ◌∙◌, true≢false, arith, ℕ, suc, ◌+◌, nat_eq, map, slice_get, Bool, true, false, not, cond, List, [], ◌∷◌, ◌++◌, Option, Some, None, is_some, option_and_then}
-use Rattle.vt_spec.specs.FileTree.{FileTree}
-use Rattle.vt_spec.specs.Language.Changes.{changed_node, node_with_parent, node_without_entries}
-use Rattle.vt_spec.specs.Lists.{then_some, when}
-use Rattle.vt_spec.specs.Machine.CopyUp.{Merge, Stack, upper_directory_named, without_contents}
+use Rattle.vt_spec.proofs.Common.{FileTree, IsDirectory, IsTree, Merge, OpenLayer, Shown, Stack, Tree, Upper, at_path, changed_node, common_steps, cuts, directory_no_whiteout, entries_in, entry_at, entry_named, is_directory_node, led, led-append, node_led, node_with_parent, node_without_entries, none_is_some, number_at_path, or_left, or_right, same_Some, shown_over, then_some, upper_directory_named, view_of, when, without_contents}
 use Rattle.vt_spec.proofs.Layers.{shown_from}
-use Rattle.vt_spec.specs.Machine.Layers.{OpenLayer, Shown, at_path, view_of}
 use Rattle.vt_spec.specs.Machine.Views
-use Rattle.vt_spec.specs.Machine.Views.{cuts, node_led, shown_over}
-use Rattle.vt_spec.specs.Machine.World.Real.{Upper}
-use Rattle.vt_spec.specs.Machine.Invariants.{number_at_path}
-use Rattle.vt_spec.specs.Tree.{Tree, entry_named, entries_in, is_directory_node}
-use Rattle.vt_spec.specs.TreeInvariant.{IsDirectory, IsTree, entry_at, led}
-use Rattle.vt_spec.proofs.Trees.{led-append}
 use Rattle.vt_laws_trees.specs.Layers.Layers.Mounted.{IsAlike}
 use Rattle.vt_laws_trees.specs.Layers.Layers.Views.{names_entry, view_in}
 use Rattle.vt_laws_trees.proofs.layers.layers.CopyingParts.{parent_keeps, without_entries_keeps}
@@ -29,10 +18,6 @@ use Rattle.vt_laws_trees.proofs.layers.views.Walks.{passes}
 use Rattle.vt_laws_trees.specs.Overlays.WhatIsShown.{IsWhole}
 use Rattle.vt_laws_trees.proofs.overlays.steps.WholeAttributes.{top_open}
 use Rattle.vt_laws_trees.proofs.overlays.steps.WholeNames.{above_named, directory_above, entry_named_so, is_fine, named_above}
-use Rattle.std.proofs.lemmas.Bool.{or_left, or_right}
-use Rattle.std.proofs.lemmas.Option.{same_Some}
-use Rattle.vt_spec.proofs.NodeChanges.{directory_no_whiteout}
-use Rattle.vt_spec.proofs.Options.{none_is_some}
 
 -- a path that does not go through the one entry that changes
 module _ (before after : Tree ℕ) (to : ℕ) (new : List ℕ) (value : Option ℕ) (told : (other : ℕ) (word : List ℕ)

@@ -1,22 +1,10 @@
 -- An object is copied up with the directories above it, one by one: the tree is still what the layers show.
-use Rattle.std.proofs.lemmas.Grind.{common_steps}
 use Rattle.std.proofs.Common.{arith, ◌≡◌, ◌≢◌, ◌≤◌, ◌⊎◌, inl, inr, refl, sym, ap, subst, ◌∙◌, true≢false, ℕ, zero, suc, ◌+◌, nat_eq, eq-eqb, Bool, true, false, cond, List, [], ◌∷◌, ◌++◌, ⊎_elim, reverse, length, Option, Some, None, is_some}
+use Rattle.vt_spec.proofs.Common.{FileTree, Fresh, IsDirectory, IsTree, ListsNumbers, Lower, Merge, Node, Stack, Upper, a_name, chain, common_steps, copied_content, copied_each, copied_up, copy_named, copy_of, copy_of_node, copy_parent, cuts, directories_to, directory_used, entries_of, entries_of-copied_content, is_directory_node, is_in_upper, is_some-node_with_entry, line_by, line_to, named_parent, node_other, none_from_not_some, none_is_some, part-changed_node, same_Some, upper_object, upper_of, with_inode, with_real, ⊤}
 use mathlib.Core.List.{reverse-cons}
-use Rattle.std.specs.Prelude.{⊤}
-use Rattle.vt_spec.specs.FileTree.{FileTree, a_name, named_parent}
-use Rattle.vt_spec.specs.Language.Changes.{with_inode}
-use Rattle.vt_spec.specs.Lists.{Fresh, chain}
-use Rattle.vt_spec.specs.Machine.CopyUp.{Merge, Stack, copied_content, copied_each, copied_up, copy_named, copy_of, copy_of_node, copy_parent, directories_to, is_in_upper, line_by, line_to, upper_of, with_real}
-use Rattle.vt_spec.specs.Machine.World.{upper_object}
-use Rattle.vt_spec.specs.Machine.World.Real.{Lower, Upper}
-use Rattle.vt_spec.specs.Machine.Invariants.{ListsNumbers}
-use Rattle.vt_spec.specs.Tree.{entries_of, Node, is_directory_node}
-use Rattle.vt_spec.specs.TreeInvariant.{IsDirectory, IsTree}
-use Rattle.vt_spec.proofs.Nodes.{directory_used, is_some-node_with_entry, node_other}
 use Rattle.vt_laws_trees.specs.Layers.Layers.ChangesUpper.{StandsInUpper, IsNewBy}
 use Rattle.vt_laws_trees.specs.Layers.Layers.Upper.{IsThere}
 use Rattle.vt_laws_trees.specs.Layers.Layers.Views.{view_in}
-use Rattle.vt_spec.specs.Machine.Views.{cuts}
 use Rattle.vt_laws_trees.specs.Overlays.WhatIsShown.{CopiesKeepWhole, IsWhole}
 use Rattle.vt_laws_trees.proofs.layers.layers.ShownObjects.{Among}
 use Rattle.vt_laws_trees.proofs.layers.layers.UpperChain.{depth_bound, up_at_root, up_from}
@@ -28,9 +16,6 @@ use Rattle.vt_laws_trees.proofs.overlays.whole.UpperSizes.{copy_fits_limits, fit
 use Rattle.vt_laws_trees.proofs.overlays.whole.UpperTold.{Told, told_both, told_inode, told_name, told_none}
 use Rattle.vt_laws_trees.proofs.overlays.steps.WholeCopied.{copy_cuts, copy_goes, copy_keeps_whole}
 use Rattle.vt_laws_trees.proofs.overlays.steps.WholeNames.{top_good}
-use Rattle.std.proofs.lemmas.Option.{same_Some}
-use Rattle.vt_spec.proofs.NodeChanges.{entries_of-copied_content, part-changed_node}
-use Rattle.vt_spec.proofs.Options.{none_from_not_some, none_is_some}
 
 -- each object of a list comes after the directory of its name
 abbrev pub IsLine : FileTree ℕ → List ℕ → List ℕ → Type 0

@@ -1,19 +1,7 @@
 -- An object of the upper layer is put under a further name: the tree is still what the layers show.
 use Rattle.std.proofs.Common.{arith, ◌≡◌, refl, sym, ap, subst, ◌∙◌, true≢false, ℕ, nat_eq, Bool, true, false, not, cond, ◌||◌, List, [], ◌∷◌, ◌++◌, map, Option, Some, None, is_some, option_and_then}
-use Rattle.std.proofs.lemmas.Grind.{common_steps}
+use Rattle.vt_spec.proofs.Common.{AddName, FileTree, IsDirectory, IsTree, Merge, Node, SameObject, Stack, Upper, View, changed, common_steps, entry_at, hides, is_directory_node, is_kind_in, led, led-append, merge_with_link, node_led, none_is_some, number_at_path, opaque_of, shown, shown_from, then_some, upper_of, view_of, when}
 use Rattle.vt_spec.specs.declared.attributes.Kind.TheVariants.{White}
-use Rattle.vt_spec.specs.FileTree.{FileTree, is_kind_in, opaque_of}
-use Rattle.vt_spec.specs.Language.Changes.{changed}
-use Rattle.vt_spec.specs.Language.Changes.Change.{AddName}
-use Rattle.vt_spec.specs.Lists.{then_some, when}
-use Rattle.vt_spec.specs.Machine.CopyUp.{Merge, Stack, merge_with_link, upper_of}
-use Rattle.vt_spec.specs.Machine.Layers.{shown, view_of}
-use Rattle.vt_spec.specs.Machine.Views.{View, hides, node_led, shown_from}
-use Rattle.vt_spec.specs.Machine.World.Real.{Upper}
-use Rattle.vt_spec.specs.Machine.Invariants.{SameObject, number_at_path}
-use Rattle.vt_spec.specs.Tree.{Node, is_directory_node}
-use Rattle.vt_spec.specs.TreeInvariant.{IsDirectory, IsTree, entry_at, led}
-use Rattle.vt_spec.proofs.Trees.{led-append}
 use Rattle.vt_laws_trees.specs.Trees.{MayAddName}
 use Rattle.vt_laws_trees.specs.Layers.Layers.ChangesUpper.{StandsInUpper}
 use Rattle.vt_laws_trees.specs.Layers.Layers.Mounted.{IsAlike}
@@ -29,7 +17,6 @@ use Rattle.vt_laws_trees.proofs.overlays.steps.WholeMade.{white_bare}
 use Rattle.vt_laws_trees.proofs.overlays.steps.WholeNames.{cut_shows_none, directory_above, is_fine, named_above, object_above, same_entry, same_through, through_bare, through_free}
 use Rattle.vt_laws_trees.proofs.overlays.steps.WholeParts.{IsFine, real_by, real_by_none, what_is_shown}
 use Rattle.vt_laws_trees.proofs.overlays.steps.WholeStill.{rearranged_is_fine}
-use Rattle.vt_spec.proofs.Options.{none_is_some}
 
 -- what is the same object as another is no whiteout
 pub no_white_object : (a b : Option (Node ℕ)) → SameObject a b → is_kind_in White b ≡ false

@@ -1,23 +1,7 @@
 -- A new object under a name that shows nothing: the tree is still what the layers show.
 use Rattle.std.proofs.Common.{arith, ◌≡◌, refl, sym, ap, subst, ◌∙◌, true≢false, eqb-true, eq-eqb, ne_eqb, inl, inr, ℕ, suc, nat_eq, Bool, true, false, not, cond, List, [], ◌∷◌, ◌++◌, map, Option, Some, None, is_some, option_and_then}
-use Rattle.std.proofs.lemmas.Grind.{common_steps}
+use Rattle.vt_spec.proofs.Common.{Content, Directory, FileTree, IsDirectory, IsNewIn, IsTree, Make, Merge, Node, Real, Regular, SameObject, Shown, Stack, Symlink, Upper, View, Whiteout, bytes_eq_itself, changed, changed_node, common_steps, content_with_mark, content_with_parent, cuts, entries_in, entries_of, entry_at, hides, hides_directory, is_directory, is_directory_node, is_directory_shown, is_kind, is_kind_in, is_opaque_in, kind_of, led, led-append, merge_with_new, node_led, node_with_entry, node_with_mark, none_is_some, number_at_path, opaque_of, same_content, shown, shown_from, shown_in_lowers, shown_in_lowers_at, shown_over, then_some, upper_of, view_of, when, with_mark, with_real}
 use Rattle.vt_spec.specs.declared.attributes.Kind.TheVariants.{White}
-use Rattle.vt_spec.specs.FileTree.{FileTree, is_kind, is_kind_in, is_opaque_in, opaque_of}
-use Rattle.vt_spec.specs.Language.Changes.{changed, changed_node, content_with_mark, content_with_parent, node_with_mark}
-use Rattle.vt_spec.specs.Language.Changes.Change.{Make}
-use Rattle.vt_spec.specs.Laws.Trees.{IsNewIn}
-use Rattle.vt_spec.specs.Lists.{then_some, when}
-use Rattle.vt_spec.specs.Machine.CopyUp.{Merge, Stack, hides_directory, is_directory_shown, merge_with_new, shown_in_lowers_at, upper_of, with_mark, with_real}
-use Rattle.vt_spec.specs.Machine.Layers.{Shown, shown_in_lowers, shown, view_of}
-use Rattle.vt_spec.specs.Machine.Views.{View, cuts, hides, node_led, shown_from, shown_over}
-use Rattle.vt_spec.specs.Machine.World.{Real}
-use Rattle.vt_spec.specs.Machine.World.Real.{Upper}
-use Rattle.vt_spec.specs.Machine.Invariants.{SameObject, number_at_path, same_content}
-use Rattle.vt_spec.specs.Rights.{is_directory}
-use Rattle.vt_spec.specs.Tree.{Content, Node, entries_in, entries_of, is_directory_node, kind_of, node_with_entry}
-use Rattle.vt_spec.specs.Tree.Content.{Directory, Regular, Symlink, Whiteout}
-use Rattle.vt_spec.specs.TreeInvariant.{IsDirectory, IsTree, entry_at, led}
-use Rattle.vt_spec.proofs.Trees.{led-append}
 use Rattle.vt_laws_trees.specs.Trees.{MayMake}
 use Rattle.vt_laws_trees.specs.Layers.Layers.ChangesUpper.{StandsInUpper}
 use Rattle.vt_laws_trees.specs.Layers.Layers.Views.{TakesName, goes_through, names_entry, view_in}
@@ -36,8 +20,6 @@ use Rattle.vt_laws_trees.proofs.overlays.steps.WholeNew
 use Rattle.vt_laws_trees.proofs.overlays.steps.WholeParts.{IsFine, real_by, real_by_none, what_is_shown}
 use Rattle.vt_laws_trees.proofs.overlays.steps.WholePlaces.{directory_below_top, path_to_is, shown_longer}
 use Rattle.vt_spec.proofs.NodeChanges.{entries_of-content_with_parent, entries_of-no_directory, kind_of-content_with_parent}
-use Rattle.vt_spec.proofs.Options.{none_is_some}
-use Rattle.vt_spec.proofs.Truths.{bytes_eq_itself}
 
 -- a whiteout has no names in it
 pub white_bare : (o : Option (Node ℕ)) → is_kind_in White o ≡ true → entries_in o ≡ []

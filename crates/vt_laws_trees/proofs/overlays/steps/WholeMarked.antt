@@ -1,26 +1,13 @@
 -- A mark is set in the upper layer where lower layers have no directory: the tree is still what the layers show.
-use Rattle.std.proofs.Common.{arith, ◌≡◌, refl, sym, ap, subst, ◌∙◌, true≢false, eqb-true, eq-eqb, ℕ, suc, nat_eq, Bool, true, false, cond, List, [], ◌∷◌, ◌++◌, map, Option, Some, None, is_some}
-use Rattle.std.proofs.lemmas.Grind.{common_steps}
-use Rattle.std.proofs.lemmas.List.{append-nil}
+use Rattle.std.proofs.Common.{arith, ◌≡◌, refl, sym, ap, subst, ◌∙◌, true≢false, eqb-true, eq-eqb, ℕ, suc, nat_eq, Bool, true, false, cond, List, [], ◌∷◌, ◌++◌, map, Option, Some, None, is_some, append-nil}
+use Rattle.vt_spec.proofs.Common.{Lower, Merge, Node, Real, SameObject, SetMark, Shown, Stack, Upper, View, common_steps, cuts, is_directory_node, is_kind_in, is_opaque_in, node_with_mark, none_is_some, number_at_path, part-changed_node, same_option, shown_from, shown_over, then_some, upper_of, view_of}
 use Rattle.vt_laws_trees.proofs.layers.layers.CopyingNames.{directory_marked}
 use Rattle.vt_spec.specs.declared.attributes.Kind.TheVariants.{White}
-use Rattle.vt_spec.specs.FileTree.{is_kind_in, is_opaque_in}
-use Rattle.vt_spec.specs.Language.Changes.{node_with_mark}
-use Rattle.vt_spec.specs.Language.Changes.Change.{SetMark}
-use Rattle.vt_spec.specs.Lists.{same_option, then_some}
-use Rattle.vt_spec.specs.Machine.CopyUp.{Merge, Stack, upper_of}
-use Rattle.vt_spec.specs.Machine.Layers.{Shown, lowers_have_directory, view_of}
-use Rattle.vt_spec.specs.Machine.Views.{View, cuts, shown_from, shown_over}
-use Rattle.vt_spec.specs.Machine.World.{Real}
-use Rattle.vt_spec.specs.Machine.World.Real.{Lower, Upper}
-use Rattle.vt_spec.specs.Machine.Invariants.{SameObject, number_at_path}
-use Rattle.vt_spec.specs.Tree.{Node, is_directory_node}
+use Rattle.vt_spec.specs.Machine.Layers.{lowers_have_directory}
 use Rattle.vt_laws_trees.proofs.trees.ChangesKeepTrees.{changes_keep_trees}
 use Rattle.vt_laws_trees.specs.Layers.Layers.ChangesUpper.{StandsInUpper}
 use Rattle.vt_laws_trees.specs.Layers.Layers.ShownAfter.{leads_over}
 use Rattle.vt_laws_trees.specs.Layers.Layers.Views.{view_in}
-use Rattle.vt_spec.proofs.NodeChanges.{part-changed_node}
-use Rattle.vt_spec.proofs.Options.{none_is_some}
 use Rattle.vt_laws_trees.proofs.layers.layers.ShownFronts.{prefix_found}
 use Rattle.vt_laws_trees.proofs.layers.views.After.{on_top, shown_elsewhere_stays}
 use Rattle.vt_laws_trees.proofs.layers.views.Stay.{mark_changes_one_inode}

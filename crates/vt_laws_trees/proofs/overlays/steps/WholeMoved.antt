@@ -1,23 +1,7 @@
 -- An object is moved: the tree is still what the layers show.
 use Rattle.std.proofs.Common.{arith, ◌≡◌, ◌≢◌, refl, sym, ap, subst, ◌∙◌, true≢false, eqb-true, ne_eqb, ⊎_elim, ℕ, nat_eq, Bool, true, false, not, cond, ◌&&◌, ◌||◌, List, [], ◌∷◌, ◌++◌, map, Option, Some, None, is_some, option_and_then}
-use Rattle.std.proofs.lemmas.Grind.{common_steps}
-use Rattle.std.proofs.lemmas.Bool.Decides.{eqb_tells}
+use Rattle.vt_spec.proofs.Common.{Content, Directory, FileTree, Fresh, IsDirectory, IsTree, Lower, Merge, Move, Node, Real, Regular, SameObject, Shown, Stack, Symlink, Upper, View, Whiteout, changed, common_steps, content_with_mark, cuts, entries_in-no_directory, eqb_tells, has_lower_directory, hides, hides_directory, is_directory, is_directory_node, is_kind, is_kind_in, kind_of, led, merge_with_moved, node_led, node_set, node_with_entry, node_with_mark, none_before, none_is_some, number_at_path, path_to, same_Some, same_content, shown_from, shown_in_lowers_at, shown_over, then_some, upper_directory_named, upper_object, view_of, when, whiteout_of, with_inode, without_contents}
 use Rattle.vt_spec.specs.declared.attributes.Kind.TheVariants.{White}
-use Rattle.vt_spec.specs.FileTree.{FileTree, is_kind, is_kind_in}
-use Rattle.vt_spec.specs.Language.Changes.{changed, content_with_mark, node_with_mark, with_inode}
-use Rattle.vt_spec.specs.Language.Changes.Change.{Move}
-use Rattle.vt_spec.specs.Lists.{Fresh, then_some, when}
-use Rattle.vt_spec.specs.Machine.CopyUp.{Merge, Stack, hides_directory, merge_with_moved, path_to, shown_in_lowers_at, upper_directory_named, whiteout_of, without_contents}
-use Rattle.vt_spec.specs.Machine.Layers.{Shown, has_lower_directory, view_of}
-use Rattle.vt_spec.specs.Machine.Views.{View, cuts, hides, node_led, shown_from, shown_over}
-use Rattle.vt_spec.specs.Machine.World.{Real, upper_object}
-use Rattle.vt_spec.specs.Machine.World.Real.{Lower, Upper}
-use Rattle.vt_spec.specs.Machine.Invariants.{SameObject, number_at_path, same_content}
-use Rattle.vt_spec.specs.Rights.{is_directory}
-use Rattle.vt_spec.specs.Tree.{Content, Node, is_directory_node, kind_of, node_with_entry}
-use Rattle.vt_spec.specs.Tree.Content.{Directory, Regular, Symlink, Whiteout}
-use Rattle.vt_spec.specs.TreeInvariant.{IsDirectory, IsTree, led}
-use Rattle.vt_spec.proofs.Nodes.{node_set}
 use Rattle.vt_laws_trees.specs.Trees.{MayMove}
 use Rattle.vt_laws_trees.specs.Layers.Layers.ChangesUpper.{StandsInUpper}
 use Rattle.vt_laws_trees.specs.Layers.Layers.Mounted.{IsAlike}
@@ -45,9 +29,6 @@ use Rattle.vt_laws_trees.proofs.overlays.steps.WholeNames.{cut_shows_none, direc
 use Rattle.vt_laws_trees.proofs.overlays.steps.WholeParts.{IsFine, real_by, what_is_shown}
 use Rattle.vt_laws_trees.proofs.overlays.steps.WholePlaces.{directory_below_top, path_to_is, shown_longer}
 use Rattle.vt_laws_trees.proofs.overlays.steps.WholeRemoved.{white_hides}
-use Rattle.std.proofs.lemmas.Option.{same_Some}
-use Rattle.vt_spec.proofs.NodeChanges.{entries_in-no_directory}
-use Rattle.vt_spec.proofs.Options.{none_before, none_is_some}
 
 -- An inode as another, which may hide more
 record HidesMore (one other : Option (Node ℕ)) : Type 0 where

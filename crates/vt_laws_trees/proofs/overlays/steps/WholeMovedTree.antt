@@ -1,17 +1,6 @@
 -- Where names lead in the upper layer after a move, with what is left of the old name and of a replaced directory.
 use Rattle.std.proofs.Common.{arith, ◌≡◌, ◌≢◌, refl, sym, ap, subst, ◌∙◌, true≢false, eq-eqb, ne_eqb, ℕ, nat_eq, Bool, true, false, cond, ◌&&◌, List, [], ◌∷◌, ◌++◌, Option, Some, None, is_some, option_and_then}
-use Rattle.std.proofs.lemmas.Grind.{common_steps}
-use Rattle.vt_spec.specs.FileTree.{FileTree}
-use Rattle.vt_spec.specs.Language.Changes.{node_with_mark, node_without_entry, with_inode, with_moved}
-use Rattle.vt_spec.specs.Language.Changes.Change.{Move}
-use Rattle.vt_spec.specs.Lists.{Fresh}
-use Rattle.vt_spec.specs.Machine.CopyUp.{Merge, Stack, name_left_by, upper_directory_named, upper_of, whiteout_of, with_mark, without_contents}
-use Rattle.vt_spec.specs.Machine.Views.{View}
-use Rattle.vt_spec.specs.Machine.World.Real.{Upper}
-use Rattle.vt_spec.specs.Machine.Invariants.{number_at_path}
-use Rattle.vt_spec.specs.Tree.{entries_in, entry_named, is_directory_node, node_with_entry}
-use Rattle.vt_spec.specs.TreeInvariant.{IsDirectory, IsTree, entry_at, led}
-use Rattle.vt_spec.proofs.Nodes.{node_other}
+use Rattle.vt_spec.proofs.Common.{FileTree, Fresh, IsDirectory, IsTree, Merge, Move, Stack, Upper, View, common_steps, directory_no_whiteout, entries-node_with_mark, entries_in, entry_at, entry_named, is_directory_node, led, name_left_by, node_other, node_with_entry, node_with_mark, node_without_entry, none_from_not_some, none_is_some, number_at_path, same_Some, upper_directory_named, upper_of, whiteout_of, with_inode, with_mark, with_moved, without_contents}
 use Rattle.vt_laws_trees.specs.Trees.{MayMove}
 use Rattle.vt_laws_trees.specs.Layers.Layers.ChangesUpper.{StandsInUpper}
 use Rattle.vt_laws_trees.specs.Layers.Layers.Mounted.{IsAlike}
@@ -32,9 +21,6 @@ use Rattle.vt_laws_trees.proofs.overlays.steps.WholeGrown.{directory_alike}
 use Rattle.vt_laws_trees.proofs.overlays.steps.WholeLeft.{beside_led, emptied_alike, emptied_entries, named_in_upper, one_named, own_upper, up_way, way}
 use Rattle.vt_laws_trees.proofs.overlays.steps.WholeNames.{above_named, directory_above, is_fine}
 use Rattle.vt_laws_trees.proofs.overlays.steps.WholeParts.{IsFine}
-use Rattle.std.proofs.lemmas.Option.{same_Some}
-use Rattle.vt_spec.proofs.NodeChanges.{directory_no_whiteout, entries-node_with_mark}
-use Rattle.vt_spec.proofs.Options.{none_from_not_some, none_is_some}
 
 module _ (fresh : Fresh ℕ) (stack : Stack ℕ) (merge : Merge ℕ) (whole : IsWhole stack merge) (f : ℕ) (old : List ℕ)
     (t : ℕ) (new : List ℕ) (o : ℕ)

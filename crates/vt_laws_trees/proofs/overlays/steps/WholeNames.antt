@@ -1,19 +1,7 @@
 -- Where names lead in the tree of an overlay and in its upper layer.
-use Rattle.std.proofs.Common.{arith, ◌≡◌, refl, sym, ap, subst, ◌∙◌, true≢false, eqb-true, eq-eqb, ℕ, zero, suc, nat_eq, Bool, true, false, not, ◌&&◌, List, [], ◌∷◌, ◌++◌, map, Option, Some, None, is_some, option_and_then, slice_get}
-use Rattle.std.proofs.lemmas.Grind.{common_steps}
-use Rattle.std.specs.Str.{bytes_eq}
+use Rattle.std.proofs.Common.{arith, ◌≡◌, refl, sym, ap, subst, ◌∙◌, true≢false, eqb-true, eq-eqb, ℕ, zero, suc, nat_eq, Bool, true, false, not, ◌&&◌, List, [], ◌∷◌, ◌++◌, map, Option, Some, None, is_some, option_and_then, slice_get, bytes_eq}
+use Rattle.vt_spec.proofs.Common.{FileTree, IsDirectory, IsReached, IsTree, ListsNumbers, Merge, OpenLayer, SameObject, Shown, Stack, Upper, View, at_path, bytes_eq_itself, common_steps, cuts, directory_no_whiteout, entry_at, is_directory_node, is_empty_list, is_kind_in, last_or, led, none_is_some, number_at_path, real_object, same_Some, same_option, shown, shown_from, shown_over, then_some, upper_object, view_of, without_last}
 use Rattle.vt_spec.specs.declared.attributes.Kind.TheVariants.{White}
-use Rattle.vt_spec.specs.FileTree.{FileTree, is_kind_in}
-use Rattle.vt_spec.specs.Lists.{without_last, is_empty_list, last_or, same_option, then_some}
-use Rattle.vt_spec.specs.Machine.CopyUp.{Merge, Stack}
-use Rattle.vt_spec.specs.Machine.Layers.{OpenLayer, Shown, at_path, shown, view_of}
-use Rattle.vt_spec.specs.Machine.Merging.{real_object}
-use Rattle.vt_spec.specs.Machine.Views.{View, cuts, shown_from, shown_over}
-use Rattle.vt_spec.specs.Machine.World.{upper_object}
-use Rattle.vt_spec.specs.Machine.World.Real.{Upper}
-use Rattle.vt_spec.specs.Machine.Invariants.{ListsNumbers, SameObject, number_at_path}
-use Rattle.vt_spec.specs.Tree.{is_directory_node}
-use Rattle.vt_spec.specs.TreeInvariant.{IsDirectory, IsReached, IsTree, entry_at, led}
 use Rattle.vt_laws_trees.specs.Layers.Layers.Shown.{IsShown}
 use Rattle.vt_laws_trees.specs.Layers.Layers.Views.{goes_through, names_entry, view_in}
 use Rattle.vt_laws_trees.specs.Overlays.WhatIsShown.{IsWhole, inode_behind, layers_under}
@@ -29,10 +17,6 @@ use Rattle.vt_laws_trees.proofs.layers.views.Moves.{led_parts, through_is_split}
 use Rattle.vt_laws_trees.proofs.overlays.whole.UpperGoes.{IsGood}
 use Rattle.vt_laws_trees.proofs.overlays.steps.WholeAttributes.{top_open}
 use Rattle.vt_laws_trees.proofs.overlays.steps.WholeParts.{IsFine, fine, real_by, what_is_shown}
-use Rattle.std.proofs.lemmas.Option.{same_Some}
-use Rattle.vt_spec.proofs.NodeChanges.{directory_no_whiteout}
-use Rattle.vt_spec.proofs.Options.{none_is_some}
-use Rattle.vt_spec.proofs.Truths.{bytes_eq_itself}
 
 pub same_is : (o : Option ℕ) (n : ℕ) → same_option nat_eq o (Some n) ≡ true → o ≡ Some n
 same_is None n e = absurd (true≢false (sym e))

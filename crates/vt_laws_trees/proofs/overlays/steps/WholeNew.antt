@@ -1,11 +1,6 @@
 -- A new inode under a name of the upper layer: where its view leads, and what it hides.
 use Rattle.std.proofs.Common.{◌≡◌, ◌≢◌, ap, subst, ◌∙◌, ℕ, nat_eq, Bool, true, false, cond, List, [], Some, None}
-use Rattle.vt_spec.specs.FileTree.{FileTree}
-use Rattle.vt_spec.specs.Language.Changes.{changed}
-use Rattle.vt_spec.specs.Language.Changes.Change.{Make}
-use Rattle.vt_spec.specs.Machine.Views.{View, cuts, hides, node_led}
-use Rattle.vt_spec.specs.Tree.{Node, entries_of}
-use Rattle.vt_spec.specs.TreeInvariant.{IsDirectory, IsTree, led}
+use Rattle.vt_spec.proofs.Common.{FileTree, IsDirectory, IsTree, Make, Node, View, changed, cuts, entries_of, hides, led, node_led}
 use Rattle.vt_laws_trees.specs.Layers.Layers.Mounted.{IsAlike}
 use Rattle.vt_laws_trees.specs.Layers.Layers.Views.{TakesName, goes_through, names_entry, view_in}
 use Rattle.vt_laws_trees.proofs.layers.layers.ShownFronts.{prefix_found, prefix_passes}

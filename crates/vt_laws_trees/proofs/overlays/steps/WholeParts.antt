@@ -1,22 +1,11 @@
 -- That the tree of an overlay is what its layers show, as one equation for each path.
-use Rattle.std.proofs.Common.{arith, ◌≡◌, refl, sym, ap, ◌∙◌, true≢false, ℕ, zero, suc, true, false, List, Option, Some, None, is_some}
-use Rattle.std.proofs.lemmas.Grind.{common_steps}
-use Rattle.std.specs.Prelude.{option_map}
+use Rattle.std.proofs.Common.{arith, ◌≡◌, refl, sym, ap, ◌∙◌, true≢false, ℕ, zero, suc, true, false, List, Option, Some, None, is_some, option_map}
+use Rattle.vt_spec.proofs.Common.{Merge, Node, OpenLayer, Real, SameObject, Shown, Stack, Upper, common_steps, is_kind_in, is_opaque_in, layer_node, node_at_path, none_is_some, number_at_path, real_object, shown, then_some}
 use Rattle.vt_spec.specs.declared.attributes.Kind.TheVariants.{White}
-use Rattle.vt_spec.specs.FileTree.{is_kind_in, is_opaque_in}
-use Rattle.vt_spec.specs.Lists.{then_some}
-use Rattle.vt_spec.specs.Machine.CopyUp.{Merge, Stack}
-use Rattle.vt_spec.specs.Machine.Layers.{OpenLayer, Shown, node_at_path, shown}
-use Rattle.vt_spec.specs.Machine.Merging.{layer_node, real_object}
-use Rattle.vt_spec.specs.Machine.World.{Real}
-use Rattle.vt_spec.specs.Machine.World.Real.{Upper}
-use Rattle.vt_spec.specs.Machine.Invariants.{SameObject, number_at_path}
-use Rattle.vt_spec.specs.Tree.{Node}
 use Rattle.vt_laws_trees.specs.Layers.Layers.Shown.{IsShown}
 use Rattle.vt_laws_trees.specs.Overlays.WhatIsShown.{IsWhatIsShown, inode_behind, layers_under, real_seen}
 use Rattle.vt_laws_trees.proofs.layers.layers.ShownAtPath.{computed}
 use Rattle.vt_laws_trees.proofs.layers.layers.ShownDirectories.{AreOpen, led_is_there}
-use Rattle.vt_spec.proofs.Options.{none_is_some}
 
 -- the real object of something that is shown
 abbrev pub real_by : List (List ℕ) → Option (Shown ℕ) → Option (Real ℕ)

@@ -1,27 +1,13 @@
 -- The path of a directory, as it is found from below, and what lower layers show at a name and under it.
-use Rattle.std.proofs.Common.{arith, ◌≡◌, ◌≤◌, refl, sym, ap, ◌∙◌, true≢false, ℕ, zero, suc, ◌+◌, nat_eq, eq-eqb, ne_eqb, Bool, true, false, not, cond, ◌||◌, List, [], ◌∷◌, ◌++◌, map, reverse, length, Option, Some, None, is_some, option_and_then, slice_get, unwrap_or}
+use Rattle.std.proofs.Common.{arith, ◌≡◌, ◌≤◌, refl, sym, ap, ◌∙◌, true≢false, ℕ, zero, suc, ◌+◌, nat_eq, eq-eqb, ne_eqb, Bool, true, false, not, cond, ◌||◌, List, [], ◌∷◌, ◌++◌, map, reverse, length, Option, Some, None, is_some, option_and_then, slice_get, unwrap_or, find, option_map}
+use Rattle.vt_spec.proofs.Common.{FileTree, IsDirectory, IsTree, ListsNumbers, Merge, OpenLayer, Shown, Tree, ancestors, before_first, chain, entries_in, entry_at, entry_to, found_is_named, holds_of, is_among, is_directory_node, is_directory_shown, led, led-append, list_any, name_in, named_parent, none_is_some, or_right, own_name, path_down, path_to, same_Some, take_while-cons, when}
 use mathlib.Core.List.{reverse-cons}
-use Rattle.std.proofs.lemmas.List.Sums.{take_while-cons}
-use Rattle.std.specs.List.{find, list_any}
-use Rattle.std.specs.Prelude.{option_map}
-use Rattle.vt_spec.specs.FileTree.{FileTree, ancestors, name_in, named_parent, own_name, path_down}
-use Rattle.vt_spec.specs.Lists.{before_first, chain, holds_of, is_among, when}
-use Rattle.vt_spec.specs.Machine.CopyUp.{Merge, is_directory_shown, path_to}
 use Rattle.vt_spec.proofs.Layers.{shown_from}
-use Rattle.vt_spec.specs.Machine.Layers.{OpenLayer, Shown}
-use Rattle.vt_spec.specs.Machine.Invariants.{ListsNumbers}
-use Rattle.vt_spec.specs.Tree.{Tree, entries_in, is_directory_node}
-use Rattle.vt_spec.proofs.Trees.{led-append}
-use Rattle.vt_spec.specs.TreeInvariant.{IsDirectory, IsTree, entry_at, led}
 use Rattle.vt_laws_trees.proofs.layers.layers.ShownDirectories.{AreOpen, ShowsDirectory, append_assoc, last_of, shown_in_directory}
 use Rattle.vt_laws_trees.proofs.layers.layers.ShownNames.{last_name}
 use Rattle.vt_laws_trees.proofs.layers.layers.ShownPaths.{not_empty, one_path}
 use Rattle.vt_laws_trees.proofs.layers.layers.UpperChain.{depth_bound, up_at_root, up_from}
 use Rattle.vt_laws_trees.proofs.layers.layers.UpperLine.{ReachedIn, is_reached_in}
-use Rattle.std.proofs.lemmas.Bool.{or_right}
-use Rattle.std.proofs.lemmas.Option.{same_Some}
-use Rattle.vt_spec.proofs.NodeChanges.{entry_to, found_is_named}
-use Rattle.vt_spec.proofs.Options.{none_is_some}
 
 -- the names that lead to what is reached
 abbrev names_to : (tree : Tree ℕ) (steps directory : ℕ) → ReachedIn tree steps directory → List (List ℕ)

@@ -1,20 +1,7 @@
 -- A name is taken away, with a whiteout or without one: the tree is still what the layers show.
-use Rattle.std.proofs.Common.{arith, ◌≡◌, ◌≢◌, refl, sym, ap, subst, ◌∙◌, true≢false, ne_eqb, ◌⊎◌, ⊎_elim, inl, inr, ℕ, suc, nat_eq, Bool, true, false, cond, List, [], ◌∷◌, ◌++◌, map, Option, Some, None, is_some, option_and_then}
-use Rattle.std.proofs.lemmas.Grind.{common_steps}
+use Rattle.std.proofs.Common.{arith, ◌≡◌, ◌≢◌, refl, sym, ap, subst, ◌∙◌, true≢false, ne_eqb, ◌⊎◌, ⊎_elim, inl, inr, ℕ, suc, nat_eq, Bool, true, false, cond, List, [], ◌∷◌, ◌++◌, map, Option, Some, None, is_some, option_and_then, append-nil}
+use Rattle.vt_spec.proofs.Common.{FileTree, IsDirectory, IsTree, Lower, Make, Merge, Node, Real, Remove, Shown, Stack, Upper, View, changed, changed_node, common_steps, cuts, directory_no_whiteout, entries_in, entry_at, entry_named, hides, is_directory_node, is_kind_in, led, led-append, merge_without_name, name_left_by, node_led, node_with_parent, node_without_entries, node_without_entry, none_is_some, number_at_path, same_Some, shown_from, shown_in_lowers_at, shown_over, then_some, upper_directory_named, upper_object, upper_of, view_of, whiteout_of, without_contents, without_name}
 use Rattle.vt_spec.specs.declared.attributes.Kind.TheVariants.{White}
-use Rattle.vt_spec.specs.FileTree.{FileTree, is_kind_in}
-use Rattle.vt_spec.specs.Language.Changes.{changed, changed_node, node_with_parent, node_without_entries, node_without_entry, without_name}
-use Rattle.vt_spec.specs.Language.Changes.Change.{Make, Remove}
-use Rattle.vt_spec.specs.Lists.{then_some}
-use Rattle.vt_spec.specs.Machine.CopyUp.{Merge, Stack, merge_without_name, name_left_by, shown_in_lowers_at, upper_directory_named, upper_of, whiteout_of, without_contents}
-use Rattle.vt_spec.specs.Machine.Layers.{Shown, view_of}
-use Rattle.vt_spec.specs.Machine.Views.{View, cuts, hides, node_led, shown_from, shown_over}
-use Rattle.vt_spec.specs.Machine.World.{Real, upper_object}
-use Rattle.vt_spec.specs.Machine.World.Real.{Lower, Upper}
-use Rattle.vt_spec.specs.Machine.Invariants.{number_at_path}
-use Rattle.vt_spec.specs.Tree.{Node, entries_in, entry_named, is_directory_node}
-use Rattle.vt_spec.specs.TreeInvariant.{IsDirectory, IsTree, entry_at, led}
-use Rattle.vt_spec.proofs.Trees.{led-append}
 use Rattle.vt_laws_trees.specs.Trees.{MayRemove}
 use Rattle.vt_laws_trees.specs.Layers.Layers.ChangesUpper.{StandsInUpper}
 use Rattle.vt_laws_trees.specs.Layers.Layers.Mounted.{IsAlike}
@@ -44,10 +31,6 @@ use Rattle.vt_laws_trees.proofs.overlays.steps.WholeNames.{above_named, cut_show
 use Rattle.vt_laws_trees.proofs.overlays.steps.WholeParts.{IsFine, real_by, what_is_shown}
 use Rattle.vt_laws_trees.proofs.overlays.steps.WholePlaces.{shown_longer}
 use Rattle.vt_laws_trees.proofs.overlays.steps.WholeStill.{rearranged_is_fine}
-use Rattle.std.proofs.lemmas.List.{append-nil}
-use Rattle.std.proofs.lemmas.Option.{same_Some}
-use Rattle.vt_spec.proofs.NodeChanges.{directory_no_whiteout}
-use Rattle.vt_spec.proofs.Options.{none_is_some}
 use Rattle.vt_laws_trees.proofs.overlays.steps.WholeLeft.{emptied_alike}
 
 pub white_hides : (o : Option (Node ℕ)) → is_kind_in White o ≡ true → hides o ≡ true

@@ -1,19 +1,12 @@
 -- An overlay in which all inodes and their real objects are as they were, but for names.
 use Rattle.std.proofs.Common.{arith, ◌≡◌, ℕ, List, Option, Some, None}
-use Rattle.std.proofs.lemmas.Grind.{common_steps}
-use Rattle.vt_spec.specs.FileTree.{FileTree}
-use Rattle.vt_spec.specs.Lists.{then_some}
-use Rattle.vt_spec.specs.Machine.CopyUp.{Merge, Stack}
-use Rattle.vt_spec.specs.Machine.World.{Real}
-use Rattle.vt_spec.specs.Machine.World.Real.{Lower, Upper}
-use Rattle.vt_spec.specs.Machine.Invariants.{SameObject, number_at_path}
+use Rattle.vt_spec.proofs.Common.{FileTree, Lower, Merge, Real, SameObject, Stack, Upper, common_steps, none_before, number_at_path, then_some}
 use Rattle.vt_laws_trees.specs.Layers.Layers.Mounted.{IsAlike}
 use Rattle.vt_laws_trees.specs.Overlays.WhatIsShown.{inode_behind, real_seen}
 use Rattle.vt_laws_trees.proofs.layers.layers.ShownAlike.{white_alike}
 use Rattle.vt_laws_trees.proofs.overlays.steps.WholeGrown.{alike_objects}
 use Rattle.vt_laws_trees.proofs.overlays.steps.WholeParts.{IsFine}
 use Rattle.vt_laws_trees.proofs.layers.views.Names.{make_seen}
-use Rattle.vt_spec.proofs.Options.{none_before}
 
 module _ (stack : Stack ℕ) (merge : Merge ℕ) (is_fine : IsFine stack merge) (files upper : FileTree ℕ)
     (others : (n : ℕ) → IsAlike (merge.files.tree.node n) (files.tree.node n))

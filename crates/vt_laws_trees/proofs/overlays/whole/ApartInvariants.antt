@@ -1,18 +1,6 @@
 -- The invariants of overlays and of trees after a change of an overlay.
 use Rattle.std.proofs.Common.{◌≡◌, ◌≢◌, refl, sym, ap, subst, ◌∙◌, true≢false, ◌⊎◌, ⊎_elim, inl, inr, ℕ, nat_eq, Bool, true, false, not, cond, ◌||◌, List, [], ◌∷◌, map, Option, Some, None, is_some}
-use Rattle.std.proofs.lemmas.Bool.Decides.{eqb_tells}
-use Rattle.std.specs.List.{list_all, list_any}
-use Rattle.vt_spec.specs.Language.Changes.{Change}
-use Rattle.vt_spec.specs.Lists.{Fresh, any_pair}
-use Rattle.vt_spec.specs.Machine.Filesystems.{merge_of, stack_of, with_change}
-use Rattle.vt_spec.specs.Machine.Invariants.{IsMerged, IsWorld, ListsNumbers, OverlayInvariants, has_fit_layers, is_fit_filesystem, is_plain_layer}
-use Rattle.vt_spec.specs.Machine.Locked.{of_overlay, overlay_or, upper_and_work}
-use Rattle.vt_spec.specs.Machine.Mounts.{Location}
-use Rattle.vt_spec.specs.Machine.World.{Filesystem, Layer, Overlay, World, filesystem_at, filesystem_numbered, is_overlay, layers_of, mount_at, replaced_if_numbered}
-use Rattle.vt_spec.specs.Tree.{is_directory_node}
-use Rattle.vt_spec.specs.TreeInvariant.{HasOwnParents, IsReached, IsTree}
-use Rattle.vt_spec.proofs.Lists.{Among, all_from_among, among-append, among-from_map, among_from_all, among_from_list_all, list_all_from_among}
-use Rattle.std.proofs.lemmas.List.Elements.{All-weaker}
+use Rattle.vt_spec.proofs.Common.{All-weaker, Among, Change, Filesystem, Fresh, HasOwnParents, IsMerged, IsReached, IsTree, IsWorld, Layer, ListsNumbers, Location, Overlay, OverlayInvariants, World, all_from_among, among-append, among-from_map, among_from_all, among_from_list_all, and_from, and_true_left, and_true_right, any_pair, eqb_tells, filesystem_at, filesystem_numbered, has_fit_layers, is_directory_node, is_fit_filesystem, is_overlay, is_plain_layer, layers_of, list_all, list_all_from_among, list_any, merge_of, mount_at, none_is_some, of_overlay, overlay_or, replaced_if_numbered, same_Some, stack_of, upper_and_work, with_change}
 use Rattle.vt_laws_trees.specs.Trees.{IsFileTree}
 use Rattle.vt_laws_trees.specs.Trees.Sizes.{is_fit_tree}
 use Rattle.vt_laws_trees.proofs.trees.TreesOfWorlds.{numbered_anyhow}
@@ -29,10 +17,6 @@ use Rattle.vt_laws_trees.proofs.overlays.steps.WholeGrown.{directory_alike}
 use Rattle.vt_laws_trees.proofs.overlays.changes.WholeLater
 use Rattle.vt_laws_trees.proofs.overlays.changes.WholeLater.{changed_overlay_is_merged}
 use Rattle.vt_laws_trees.proofs.overlays.changes.WholeOthers.{other_overlays_stay_merged}
-use Rattle.std.proofs.lemmas.Bool.{and_from}
-use Rattle.std.proofs.lemmas.Option.{same_Some}
-use Rattle.vt_spec.proofs.Options.{none_is_some}
-use Rattle.vt_spec.proofs.Truths.{and_true_left, and_true_right}
 use Rattle.vt_spec.proofs.Worlds.{number-replaced_if_numbered}
 
 -- numbers are those that they were

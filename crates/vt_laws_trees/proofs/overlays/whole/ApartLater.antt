@@ -1,23 +1,6 @@
 -- Layers stand apart after a change of an overlay.
-use Rattle.std.proofs.Common.{arith, ◌≡◌, ◌≢◌, refl, sym, ap, subst, ◌∙◌, true≢false, eqb-true, eq-eqb, ne_eqb, ◌⊎◌, ⊎_elim, inl, inr, ℕ, nat_eq, Bool, true, false, not, cond, ◌&&◌, ◌||◌, List, [], ◌∷◌, ◌++◌, map, Option, Some, None, is_some}
-use Rattle.std.proofs.lemmas.Grind.{common_steps}
-use Rattle.std.proofs.lemmas.Bool.Decides.{eqb_tells}
-use Rattle.std.specs.List.{list_any}
-use Rattle.std.specs.Prelude.{flat_map, option_to_list}
-use Rattle.vt_spec.specs.FileTree.{is_under}
-use Rattle.vt_spec.specs.Language.Changes.{Change}
-use Rattle.vt_spec.specs.Lists.{Fresh, any_pair, holds_of}
-use Rattle.vt_spec.specs.Machine.CopyUp.{Merge, Stack}
-use Rattle.vt_spec.specs.Machine.Filesystems.{merge_of, stack_of, with_change}
-use Rattle.vt_spec.specs.Machine.Invariants.{IsWorld, ListsNumbers, is_plain_layer, is_there, live_lowers, overlap}
-use Rattle.vt_spec.specs.Machine.Locked.{counts_in_layer, is_object_of, is_real_upper, lies_in_layer, lies_or_counts_under, live_upper_and_work, of_overlay, overlaps_one_of, overlay_or, overlays, upper_and_work}
-use Rattle.vt_spec.specs.Machine.Mounts.{Location}
-use Rattle.vt_spec.specs.Machine.World.{Filesystem, Layer, Overlay, Real, World, filesystem_at, filesystem_numbered, is_overlay, layers_of, mount_at, open_layer, replaced_if_numbered, upper_object}
-use Rattle.vt_spec.specs.Machine.World.Real.{Lower, Upper}
-use Rattle.vt_spec.specs.Tree.{is_directory_node}
-use Rattle.vt_spec.specs.TreeInvariant.{IsTree, entry_at, led}
-use Rattle.vt_spec.proofs.Lists.{Among, among-append_left, among-append_right, among-filter, among-flat_map, among-from_filter, among-from_flat_map, among-from_map, among_from_list_all, among_numbers, any_among, any_from_among, none_among, none_from_among}
-use Rattle.vt_spec.proofs.Nodes.{directory_used}
+use Rattle.std.proofs.Common.{arith, ◌≡◌, ◌≢◌, refl, sym, ap, subst, ◌∙◌, true≢false, eqb-true, eq-eqb, ne_eqb, ◌⊎◌, ⊎_elim, inl, inr, ℕ, nat_eq, Bool, true, false, not, cond, ◌&&◌, ◌||◌, List, [], ◌∷◌, ◌++◌, map, Option, Some, None, is_some, flat_map, option_to_list}
+use Rattle.vt_spec.proofs.Common.{Among, Change, Filesystem, Fresh, IsTree, IsWorld, Layer, ListsNumbers, Location, Lower, Merge, Overlay, Real, Stack, Upper, World, among-append_left, among-append_right, among-filter, among-flat_map, among-from_filter, among-from_flat_map, among-from_map, among_from_list_all, among_numbers, and_from, and_true_left, and_true_right, any_among, any_from_among, any_pair, common_steps, counts_in_layer, directory_used, entry_at, eqb_tells, filesystem_at, filesystem_numbered, holds_of, is_directory_node, is_object_of, is_overlay, is_plain_layer, is_real_upper, is_there, is_under, layers_of, layers_of_all, led, lies_in_layer, lies_or_counts_under, list_any, live_lowers, live_upper_and_work, merge_of, mount_at, none_among, none_from_among, none_is_some, of_overlay, open_layer, or_cases, or_false_alone, or_false_left, or_false_right, or_left, or_right, overlap, overlaps_one_of, overlay_or, overlays, replaced_if_numbered, same_Some, stack_of, upper_and_work, upper_object, with_change}
 use Rattle.vt_laws_trees.proofs.trees.TreesOfWorlds.{numbered_anyhow}
 use Rattle.vt_laws_trees.specs.Layers.Layers.Locked.{AreNoInodes, LeadsAsBefore}
 use Rattle.vt_laws_trees.specs.Layers.Layers.Upper.{IsUpperObject}
@@ -39,11 +22,6 @@ use Rattle.vt_laws_trees.proofs.overlays.whole.UpperWhole.{change_goes}
 use Rattle.vt_laws_trees.proofs.overlays.changes.WholeLater
 use Rattle.vt_laws_trees.proofs.overlays.changes.WholeOthers.{inode_kept}
 use Rattle.vt_laws_trees.proofs.overlays.changes.WholeWorlds.{overlays_are_whole}
-use Rattle.std.proofs.lemmas.Bool.{and_from, or_cases, or_left, or_right}
-use Rattle.std.proofs.lemmas.Option.{same_Some}
-use Rattle.vt_spec.proofs.Options.{none_is_some}
-use Rattle.vt_spec.proofs.Truths.{and_true_left, and_true_right, or_false_alone, or_false_left, or_false_right}
-use Rattle.vt_spec.proofs.Worlds.{layers_of_all}
 use Rattle.vt_laws_trees.specs.Trees.Settling.{inode_in}
 use Rattle.vt_laws_trees.specs.Layers.Layers.ChangesUpper.{IsNewBy}
 

@@ -1,10 +1,6 @@
 -- Of some, no pair passes a test.
 use Rattle.std.proofs.Common.{arith, ◌≡◌, ◌≢◌, refl, sym, ap, ◌∙◌, true≢false, ◌⊎◌, ⊎_elim, inl, inr, Bool, true, false, ◌||◌, List, [], ◌∷◌}
-use Rattle.std.proofs.lemmas.Grind.{common_steps}
-use Rattle.std.specs.List.{list_any}
-use Rattle.vt_spec.specs.Lists.{any_pair}
-use Rattle.vt_spec.proofs.Lists.{Among, any_among, any_from_among, none_among}
-use Rattle.vt_spec.proofs.Truths.{or_false_left, or_false_right}
+use Rattle.vt_spec.proofs.Common.{Among, any_among, any_from_among, any_pair, common_steps, list_any, none_among, or_false_left, or_false_right}
 
 -- of two that differ in a list of which no pair passes
 pub two_apart : {A : Type 0} (test : A → A → Bool) (xs : List A) → any_pair test xs ≡ false → (a b : A) → Among a xs

@@ -1,19 +1,8 @@
 -- What lies under a directory of a tree is led to from it.
 use Rattle.std.proofs.Common.{◌≡◌, refl, sym, ap, subst, ◌∙◌, true≢false, eqb-true, ⊎_elim, ℕ, zero, suc, nat_eq, Bool, true, false, cond, ◌&&◌, List, [], ◌∷◌, ◌++◌, length, Option, Some, None}
-use Rattle.vt_spec.specs.FileTree.{FileTree, has_entry_to, is_directory_under, is_file_under, is_under, named_parent}
-use Rattle.vt_spec.specs.Lists.{chain, is_among, when}
-use Rattle.vt_spec.specs.Machine.Invariants.{ListsNumbers}
-use Rattle.vt_spec.specs.Tree.{is_directory_node, parent_in}
-use Rattle.vt_spec.specs.TreeInvariant.{IsDirectory, IsTree, entry_at, led}
-use Rattle.vt_spec.proofs.Lists.{any_among}
-use Rattle.vt_spec.proofs.Trees.{led-append}
+use Rattle.vt_spec.proofs.Common.{FileTree, IsDirectory, IsTree, ListsNumbers, and_true_left, and_true_right, any_among, chain, entry_at, entry_from, has_entry_to, is_among, is_directory_node, is_directory_under, is_file_under, is_under, led, led-append, named_parent, none_is_some, or_cases, parent_in, same_Some, when}
 use Rattle.vt_laws_trees.proofs.layers.directories.Lower.{led_below}
 use Rattle.vt_laws_trees.proofs.layers.locked.Apart.{under_itself}
-use Rattle.std.proofs.lemmas.Bool.{or_cases}
-use Rattle.std.proofs.lemmas.Option.{same_Some}
-use Rattle.vt_spec.proofs.NodeChanges.{entry_from}
-use Rattle.vt_spec.proofs.Options.{none_is_some}
-use Rattle.vt_spec.proofs.Truths.{and_true_left, and_true_right}
 
 module _ (files : FileTree ℕ) (tree : IsTree files.tree) (top : ℕ) where
   abbrev pub Led : ℕ → Type 0

@@ -1,19 +1,6 @@
 -- Names go on to lead to the directories of other layers in a change of an overlay.
 use Rattle.std.proofs.Common.{◌≡◌, ◌≢◌, refl, sym, ap, subst, ◌∙◌, true≢false, ⊎_elim, ◌⊎◌, inl, inr, ℕ, ◌+◌, ◌*◌, nat_eq, Bool, true, false, List, [], ◌∷◌, ◌++◌, Option, Some, None, is_some}
-use Rattle.vt_spec.specs.FileTree.{FileTree, has_entry_to}
-use Rattle.vt_spec.specs.Language.Changes.{Change}
-use Rattle.vt_spec.specs.Language.Changes.Change.{Move}
-use Rattle.vt_spec.specs.Lists.{Fresh, odds}
-use Rattle.vt_spec.specs.Machine.CopyUp.{Merge, Stack, upper_directory_named, upper_of, without_contents}
-use Rattle.vt_spec.specs.Machine.Filesystems.{merge_of, stack_of}
-use Rattle.vt_spec.specs.Machine.Invariants.{IsWorld, is_plain_layer}
-use Rattle.vt_spec.specs.Machine.Mounts.{Location}
-use Rattle.vt_spec.specs.Machine.World.{Filesystem, Layer, Overlay, Real, World, filesystem_at, filesystem_numbered, upper_object}
-use Rattle.vt_spec.specs.Machine.World.Real.{Lower, Upper}
-use Rattle.vt_spec.specs.Tree.{Tree, entries_in, is_directory_node, parent_in}
-use Rattle.vt_spec.specs.TreeInvariant.{HasName, HasOwnParents, IsDirectory, IsReached, IsTree, entry_at, led}
-use Rattle.vt_spec.proofs.Nodes.{directory_used}
-use Rattle.vt_spec.proofs.Trees.{led-append, reached_named}
+use Rattle.vt_spec.proofs.Common.{Change, FileTree, Filesystem, Fresh, HasName, HasOwnParents, IsDirectory, IsReached, IsTree, IsWorld, Layer, Location, Lower, Merge, Move, Overlay, Real, Stack, Tree, Upper, World, and_true_right, directory_used, entries_in, entry_at, entry_from, entry_to, filesystem_at, filesystem_numbered, has_entry_to, is_directory_node, is_plain_layer, led, led-append, merge_of, none_is_some, odds, parent_in, reached_named, same_Some, stack_of, upper_directory_named, upper_object, upper_of, without_contents}
 use Rattle.vt_laws_trees.proofs.trees.TreesOfWorlds.{numbered_all}
 use Rattle.vt_laws_trees.specs.Layers.Layers.Locked.{AreNoInodes}
 use Rattle.vt_laws_trees.proofs.layers.locked.Apart.{object_counts}
@@ -29,10 +16,6 @@ use Rattle.vt_laws_trees.proofs.overlays.whole.UpperTold.{told_emptied}
 use Rattle.vt_laws_trees.proofs.overlays.steps.WholeAttributes.{upper_real}
 use Rattle.vt_laws_trees.proofs.overlays.changes.WholeLater
 use Rattle.vt_laws_trees.proofs.overlays.changes.WholeTogether.{both_copied, twice}
-use Rattle.std.proofs.lemmas.Option.{same_Some}
-use Rattle.vt_spec.proofs.NodeChanges.{entry_from, entry_to}
-use Rattle.vt_spec.proofs.Options.{none_is_some}
-use Rattle.vt_spec.proofs.Truths.{and_true_right}
 use Rattle.vt_laws_trees.specs.Layers.Layers.ChangesUpper.{IsNewBy}
 
 -- a directory that keeps its parent keeps its name

@@ -1,19 +1,8 @@
 -- A plain tree after a change that its call's rules let pass: it is a tree, and the directory of a layer in it is still
 -- reached.
 use Rattle.std.proofs.Common.{arith, ◌≡◌, ◌≢◌, refl, sym, ap, subst, ◌∙◌, true≢false, ℕ, nat_eq, false, List, [], ⊎_elim, inl, inr, Option, Some, is_some}
-use Rattle.std.proofs.lemmas.Grind.{common_steps}
-use Rattle.std.proofs.lemmas.Bool.Decides.{eqb_tells}
-use Rattle.std.specs.FinMap.Entries.{is_sorted}
-use Rattle.std.specs.Prelude.{⊤}
-use Rattle.vt_spec.specs.FileTree.{FileTree}
-use Rattle.vt_spec.specs.Language.Changes.{Change, changed, changed_node, node_with_attr, node_with_mark, node_without_entries}
-use Rattle.vt_spec.specs.Language.Changes.Change.{AddName, CopyUp, Make, Move, Remove, SetAttr, SetBytes, SetMark}
-use Rattle.vt_spec.specs.Machine.Invariants.{ListsNumbers}
-use Rattle.vt_spec.specs.Tree.{Node, Tree, entries_in, entry_named, is_directory_node, name_cmp, node_with_bytes, parent_in}
-use Rattle.vt_spec.specs.Tree.Content.{Directory}
-use Rattle.vt_spec.specs.TreeInvariant.{HasName, HasOwnParents, IsDirectory, IsReached, IsTree, entry_at}
-use Rattle.vt_spec.proofs.Nodes.{directory_used}
-use Rattle.vt_spec.proofs.Trees.{directory_kept, entry_kept, reached_named, used_differs}
+use Rattle.vt_spec.proofs.Common.{AddName, Change, CopyUp, Directory, FileTree, HasName, HasOwnParents, IsDirectory, IsReached, IsTree, ListsNumbers, Make, Move, Node, Remove, SetAttr, SetBytes, SetMark, Tree, changed, changed_node, common_steps, directory_used, entries-node_without_entries, entries_in, entry_at, entry_named, eqb_tells, is_directory_node, is_sorted, name_cmp, node_with_attr, node_with_bytes, node_with_mark, node_without_entries, none_is_some, parent_in, reached_named, root-without_parent, ⊤}
+use Rattle.vt_spec.proofs.Trees.{directory_kept, entry_kept, used_differs}
 use Rattle.vt_laws_trees.specs.Trees.{IsProper, MayMake}
 use Rattle.vt_laws_trees.proofs.trees.ChangesKeepTrees.{bytes_keep_place, changes_keep_numbers, changes_keep_own_parents, changes_keep_trees, made_alike, numbers_stay}
 use Rattle.vt_laws_trees.proofs.trees.ChangesNodes.{KeepsPlace, attr_keeps_place, changed_node_there, elsewhere, mark_keeps_place, part_stays}
@@ -21,9 +10,6 @@ use Rattle.vt_laws_trees.proofs.trees.ChangesOfNames.{Nobody, Nowhere, linked_re
 use Rattle.vt_laws_trees.proofs.trees.ChangesOfPlace.{moved_rearranged}
 use Rattle.vt_laws_trees.proofs.trees.TreesRearranged.{IsRearranged, is_tree-rearranged, own_parent-rearranged}
 use Rattle.vt_laws_trees.proofs.layers.layers.CopyingParts.{without_entries_keeps}
-use Rattle.vt_spec.proofs.NodeChanges.{entries-node_without_entries}
-use Rattle.vt_spec.proofs.Options.{none_is_some}
-use Rattle.vt_spec.proofs.Worlds.{root-without_parent}
 
 -- a tree in which names lead to a directory
 pub record IsGood (top : ℕ) (files : FileTree ℕ) : Type 0 where

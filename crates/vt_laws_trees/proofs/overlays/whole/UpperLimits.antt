@@ -1,11 +1,6 @@
 -- Names, texts and files of the upper layer stay within their limits in each change of an overlay.
 use Rattle.std.proofs.Common.{◌≡◌, sym, ap, subst, ◌∙◌, ℕ, nat_eq, true, List, None, is_some}
-use Rattle.vt_spec.specs.Language.Changes.{Change, changed, content_with_parent, with_inode, with_moved}
-use Rattle.vt_spec.specs.Language.Changes.Change.{AddName, CopyUp, Make, Move, Remove, SetAttr, SetBytes, SetMark}
-use Rattle.vt_spec.specs.Lists.{Fresh, odds}
-use Rattle.vt_spec.specs.Machine.CopyUp.{Merge, Stack, copied_up, hides_directory, merge_changed, merge_with_moved, merge_with_new, merge_without_name, name_left_by, shown_in_lowers_at, upper_directory_named, upper_of, without_contents}
-use Rattle.vt_spec.specs.Tree.{Node}
-use Rattle.vt_spec.proofs.Nodes.{directory_used}
+use Rattle.vt_spec.proofs.Common.{AddName, Change, CopyUp, Fresh, Make, Merge, Move, Node, Remove, SetAttr, SetBytes, SetMark, Stack, changed, content_with_parent, copied_up, directory_used, hides_directory, merge_changed, merge_with_moved, merge_with_new, merge_without_name, name_left_by, odds, odds-distinct, shown_in_lowers_at, upper_directory_named, upper_of, with_inode, with_moved, without_contents}
 use Rattle.vt_laws_trees.specs.Trees.Sizes.{IsFitChange, is_fit_name, is_fit_node, is_fit_tree}
 use Rattle.vt_laws_trees.proofs.trees.ChangesOfSizes.{changes_keep_sizes, inode_fits}
 use Rattle.vt_laws_trees.specs.Layers.Layers.Upper.{IsThere}
@@ -17,7 +12,6 @@ use Rattle.vt_laws_trees.proofs.overlays.whole.UpperSizes.{above_fits_limits, em
 use Rattle.vt_laws_trees.proofs.overlays.whole.UpperWhole.{files_changed}
 use Rattle.vt_laws_trees.proofs.overlays.steps.WholeLines.{object_copied}
 use Rattle.vt_laws_trees.proofs.overlays.changes.WholeTogether.{both_copied, copied, is_copied, still_unused, twice}
-use Rattle.vt_spec.proofs.FreshNumbers.{odds-distinct}
 
 -- each part of a change
 module _ (fresh : Fresh ℕ) (stack : Stack ℕ) (merge : Merge ℕ) (h : is_fit_tree merge.upper ≡ true) where

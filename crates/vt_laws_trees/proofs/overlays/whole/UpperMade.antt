@@ -1,19 +1,7 @@
 -- A new name in the upper layer: its tree goes on to be one.
 use Rattle.std.proofs.Common.{arith, ◌≡◌, ◌≢◌, refl, sym, ap, subst, ◌∙◌, true≢false, ℕ, nat_eq, Bool, true, false, List, [], ◌∷◌, ◌++◌, Some, None, is_some, option_and_then}
-use Rattle.std.proofs.lemmas.Grind.{common_steps}
+use Rattle.vt_spec.proofs.Common.{AddName, FileTree, Fresh, IsDirectory, IsNewIn, IsReached, Make, Merge, Node, SetMark, Stack, Upper, changed, common_steps, content_with_parent, directory_no_whiteout, directory_used, entry_at, hides_directory, is_directory_node, is_kind_in, led, led-append, merge_with_link, merge_with_new, none_from_not_some, none_is_some, number_at_path, upper_of, with_mark}
 use Rattle.vt_spec.specs.declared.attributes.Kind.TheVariants.{White}
-use Rattle.vt_spec.specs.FileTree.{FileTree, is_kind_in}
-use Rattle.vt_spec.specs.Language.Changes.{changed, content_with_parent}
-use Rattle.vt_spec.specs.Language.Changes.Change.{AddName, Make, SetMark}
-use Rattle.vt_spec.specs.Laws.Trees.{IsNewIn}
-use Rattle.vt_spec.specs.Lists.{Fresh}
-use Rattle.vt_spec.specs.Machine.CopyUp.{Merge, Stack, hides_directory, merge_with_link, merge_with_new, upper_of, with_mark}
-use Rattle.vt_spec.specs.Machine.World.Real.{Upper}
-use Rattle.vt_spec.specs.Machine.Invariants.{number_at_path}
-use Rattle.vt_spec.specs.Tree.{Node, is_directory_node}
-use Rattle.vt_spec.specs.TreeInvariant.{IsDirectory, IsReached, entry_at, led}
-use Rattle.vt_spec.proofs.Nodes.{directory_used}
-use Rattle.vt_spec.proofs.Trees.{led-append}
 use Rattle.vt_laws_trees.specs.Trees.{MayAddName, MayMake}
 use Rattle.vt_laws_trees.specs.Layers.Layers.ChangesUpper.{StandsInUpper}
 use Rattle.vt_laws_trees.proofs.layers.layers.ShownNames.{last_name}
@@ -23,8 +11,6 @@ use Rattle.vt_laws_trees.proofs.overlays.whole.UpperGoes.{Goes, IsGood, goes_bot
 use Rattle.vt_laws_trees.proofs.overlays.whole.UpperNames.{freed, freed_free, freed_goes, freed_kind, freed_made, freed_named, freed_reached, freed_used}
 use Rattle.vt_laws_trees.proofs.overlays.steps.WholeAttributes.{upper_real}
 use Rattle.vt_laws_trees.proofs.overlays.steps.WholeNames.{above_named, directory_above, named_above, top_good}
-use Rattle.vt_spec.proofs.NodeChanges.{directory_no_whiteout}
-use Rattle.vt_spec.proofs.Options.{none_from_not_some, none_is_some}
 
 -- A directory of the overlay that names lead to, in the upper layer
 module _ (stack : Stack ℕ) (merge : Merge ℕ) (whole : IsWhole stack merge) (d ud : ℕ)

@@ -1,14 +1,6 @@
 -- An object is moved in the upper layer: its tree goes on to be one.
 use Rattle.std.proofs.Common.{arith, ◌≡◌, ◌≢◌, refl, sym, ap, subst, ◌∙◌, true≢false, inr, ℕ, nat_eq, Bool, true, false, cond, List, [], ◌∷◌, Option, Some, None, is_some}
-use Rattle.std.proofs.lemmas.Grind.{common_steps}
-use Rattle.vt_spec.specs.FileTree.{FileTree}
-use Rattle.vt_spec.specs.Language.Changes.{changed, changed_node, node_with_parent, with_moved, with_name, without_name, without_parent}
-use Rattle.vt_spec.specs.Language.Changes.Change.{Move}
-use Rattle.vt_spec.specs.Lists.{Fresh}
-use Rattle.vt_spec.specs.Machine.CopyUp.{Merge, Stack, hides_directory, merge_with_moved, name_left_by, shown_in_lowers_at, upper_directory_named, upper_of, whiteout_of, with_mark, without_contents}
-use Rattle.vt_spec.specs.Machine.World.Real.{Upper}
-use Rattle.vt_spec.specs.Tree.{Node, entries_in, entry_named, is_directory_node}
-use Rattle.vt_spec.specs.TreeInvariant.{IsDirectory, IsReached, entry_at}
+use Rattle.vt_spec.proofs.Common.{FileTree, Fresh, IsDirectory, IsReached, Merge, Move, Node, Stack, Upper, changed, changed_node, common_steps, entries_in, entries_in-no_directory, entry_at, entry_named, hides_directory, is_directory_node, merge_with_moved, name_left_by, node_with_parent, none_from_not_some, none_is_some, same_Some, shown_in_lowers_at, upper_directory_named, upper_of, whiteout_of, with_mark, with_moved, with_name, without_contents, without_name, without_parent}
 use Rattle.vt_spec.proofs.Trees.{led_kept}
 use Rattle.vt_laws_trees.specs.Trees.{MayMove}
 use Rattle.vt_laws_trees.specs.Layers.Layers.ChangesUpper.{StandsInUpper}
@@ -24,9 +16,6 @@ use Rattle.vt_laws_trees.proofs.overlays.steps.WholeLeft.{own_upper}
 use Rattle.vt_laws_trees.proofs.overlays.steps.WholeLinked.{no_white_object}
 use Rattle.vt_laws_trees.proofs.overlays.steps.WholeMovedTree
 use Rattle.vt_laws_trees.proofs.overlays.steps.WholeNames.{is_fine, object_above, top_good}
-use Rattle.std.proofs.lemmas.Option.{same_Some}
-use Rattle.vt_spec.proofs.NodeChanges.{entries_in-no_directory}
-use Rattle.vt_spec.proofs.Options.{none_from_not_some, none_is_some}
 
 -- with itself as the parent once more
 parent_twice : (k : ℕ) (o : Option (Node ℕ)) → node_with_parent k (node_with_parent k o) ≡ node_with_parent k o

@@ -1,21 +1,8 @@
 -- A name of a plain tree that is given to something else: as if it had been taken away first.
-use Rattle.std.proofs.Common.{arith, ◌≡◌, ◌≢◌, refl, sym, ap, subst, ◌∙◌, true≢false, eqb-true, eq-eqb, ne_eqb, ℕ, nat_eq, Bool, true, false, not, cond, List, ⊎_elim, Option, Some, None, is_some}
-use Rattle.std.proofs.lemmas.Grind.{common_steps}
-use Rattle.std.proofs.lemmas.Bool.Decides.{eqb_tells}
-use Rattle.std.proofs.lemmas.Float.{T_from_true}
-use Rattle.std.specs.FinMap.Entries.{is_sorted, is_sorted-put, is_sorted-where_key, same_entries}
-use Rattle.std.specs.Cmp.Lexicographic.{bytes_decides, nat_list_cmp_total}
-use Rattle.std.specs.Cmp.{tied_itself}
-use Rattle.std.specs.Ordering.{eq_by_cmp, is_eq}
-use Rattle.std.specs.Str.{bytes_eq}
-use Rattle.vt_spec.specs.FileTree.{FileTree}
-use Rattle.vt_spec.specs.Language.Changes.{changed, changed_node, node_with_parent, node_without_entry, with_inode, with_name, without_entry, without_name}
-use Rattle.vt_spec.specs.Language.Changes.Change.{Remove}
-use Rattle.vt_spec.specs.Tree.{Entries, Node, entries_in, entry_named, is_directory_node, name_cmp, node_with_entry, with_entry}
-use Rattle.vt_spec.specs.TreeInvariant.{IsDirectory, IsReached, entry_at}
-use Rattle.vt_spec.proofs.Nodes.{entry_named-with_entry, entry_named-without_entry}
+use Rattle.std.proofs.Common.{arith, ◌≡◌, ◌≢◌, refl, sym, ap, subst, ◌∙◌, true≢false, eqb-true, eq-eqb, ne_eqb, ℕ, nat_eq, Bool, true, false, not, cond, List, ⊎_elim, Option, Some, None, is_some, is_eq, bytes_eq}
+use Rattle.vt_spec.proofs.Common.{Entries, FileTree, IsDirectory, IsReached, Node, Remove, T_from_true, bytes_decides, changed, changed_node, common_steps, entries_in, entries_in-no_directory, entry_at, entry_named, entry_named-with_entry, entry_named-without_entry, eq_by_cmp, eqb_tells, is_directory_node, is_sorted, is_sorted-put, is_sorted-where_key, name_cmp, nat_list_cmp_total, node_with_entry, node_with_parent, node_without_entry, same_entries, same_name-Equal, tied_itself, with_entry, with_inode, with_name, without_entry, without_name}
 use Rattle.vt_laws_trees.proofs.overlays.whole.UpperGoes.{Goes, IsGood, change_reaches, goes_by, goes_none}
-use Rattle.vt_spec.proofs.NodeChanges.{entries_in-no_directory, node_with_parent-no_directory, same_name-Equal}
+use Rattle.vt_spec.proofs.NodeChanges.{node_with_parent-no_directory}
 
 sorted_without : (w : List ℕ) (es : Entries ℕ) → is_sorted name_cmp es ≡ true
     → Rattle.std.proofs.Common.T (is_sorted name_cmp (without_entry w es))

@@ -1,16 +1,6 @@
 -- Where the names of the upper layer lead after a change of the overlay, and which inodes are its upper objects.
 use Rattle.std.proofs.Common.{◌≡◌, refl, sym, ap, subst, ◌∙◌, inl, inr, ⊎_elim, ◌⊎◌, ℕ, nat_eq, Bool, true, false, cond, List, [], ◌∷◌, ◌++◌, Some, None, is_some}
-use Rattle.vt_spec.specs.Language.Changes.{Change, changed, content_with_parent, node_with_attr, with_inode}
-use Rattle.vt_spec.specs.Language.Changes.Change.{AddName, CopyUp, Make, Move, Remove, SetAttr, SetBytes, SetMark}
-use Rattle.vt_spec.specs.Lists.{Fresh, evens, odds}
-use Rattle.vt_spec.specs.Machine.CopyUp.{Merge, Stack, copied_up, hides_directory, merge_changed, merge_with_moved, merge_with_new, merge_without_name, name_left_by, shown_in_lowers_at, upper_directory_named, upper_of, without_contents}
-use Rattle.vt_spec.specs.Machine.World.{upper_object}
-use Rattle.vt_spec.specs.Machine.World.Real.{Upper}
-use Rattle.vt_spec.specs.Tree.{Content, Node, entries_of, is_directory_node, node_with_bytes}
-use Rattle.vt_spec.specs.TreeInvariant.{led}
-use Rattle.vt_spec.proofs.Trees.{led-append}
-use Rattle.vt_spec.specs.Tree.Content.{Directory, Regular, Symlink, Whiteout}
-use Rattle.vt_spec.proofs.Nodes.{directory_used, entries-node_with_bytes}
+use Rattle.vt_spec.proofs.Common.{AddName, Change, Content, CopyUp, Directory, Fresh, Make, Merge, Move, Node, Regular, Remove, SetAttr, SetBytes, SetMark, Stack, Symlink, Upper, Whiteout, changed, content_with_parent, copied_up, directory_used, entries-node_with_bytes, entries_of, evens, hides_directory, is_directory_node, led, led-append, merge_changed, merge_with_moved, merge_with_new, merge_without_name, name_left_by, node_with_attr, node_with_bytes, odds, odds-distinct, same_Some, shown_in_lowers_at, upper_directory_named, upper_object, upper_of, with_inode, without_contents}
 use Rattle.vt_laws_trees.proofs.trees.ChangesNodes.{attr_keeps_place}
 use Rattle.vt_laws_trees.specs.Layers.Layers.ChangesUpper.{StandsInUpper, IsNewBy}
 use Rattle.vt_laws_trees.specs.Layers.Layers.Upper.{IsThere}
@@ -25,8 +15,6 @@ use Rattle.vt_laws_trees.proofs.overlays.steps.WholeLines.{object_copied}
 use Rattle.vt_laws_trees.proofs.overlays.steps.WholeMade.{new_bare}
 use Rattle.vt_laws_trees.proofs.overlays.steps.WholeNames.{directory_above, named_above}
 use Rattle.vt_laws_trees.proofs.overlays.changes.WholeTogether.{both_copied, copied, is_copied, new_of_evens, new_of_odds, stands_now, still_unused, twice}
-use Rattle.std.proofs.lemmas.Option.{same_Some}
-use Rattle.vt_spec.proofs.FreshNumbers.{odds-distinct}
 
 bare_above : (p : ℕ) (c : Content ℕ) → entries_of c ≡ [] → entries_of (content_with_parent p c) ≡ []
 bare_above p (Directory q n o) e = e

@@ -1,17 +1,6 @@
 -- A name is taken away in the upper layer, or exchanged: its tree goes on to be one.
 use Rattle.std.proofs.Common.{arith, ◌≡◌, ◌≢◌, refl, sym, ap, subst, ◌∙◌, true≢false, inr, ℕ, nat_eq, Bool, true, false, List, [], ◌∷◌, ◌++◌, Option, Some, None, is_some}
-use Rattle.std.proofs.lemmas.Grind.{common_steps}
-use Rattle.vt_spec.specs.FileTree.{FileTree}
-use Rattle.vt_spec.specs.Language.Changes.{changed, changed_node, node_with_parent, node_without_entries, node_without_entry, with_inode, with_name, without_name, without_parent}
-use Rattle.vt_spec.specs.Language.Changes.Change.{Make, Remove}
-use Rattle.vt_spec.specs.Lists.{Fresh}
-use Rattle.vt_spec.specs.Machine.CopyUp.{Merge, Stack, merge_without_name, name_left_by, shown_in_lowers_at, upper_directory_named, upper_of, whiteout_of, without_contents}
-use Rattle.vt_spec.specs.Machine.World.Real.{Upper}
-use Rattle.vt_spec.specs.Machine.Invariants.{number_at_path}
-use Rattle.vt_spec.specs.Tree.{Node, entries_in, entry_named, is_directory_node, node_with_entry}
-use Rattle.vt_spec.specs.TreeInvariant.{IsDirectory, IsReached, entry_at}
-use Rattle.vt_spec.proofs.Nodes.{directory_used}
-use Rattle.vt_spec.proofs.Trees.{led-append}
+use Rattle.vt_spec.proofs.Common.{FileTree, Fresh, IsDirectory, IsReached, Make, Merge, Node, Remove, Stack, Upper, changed, changed_node, common_steps, directory_no_whiteout, directory_used, entries_in, entry_at, entry_named, is_directory_node, led-append, merge_without_name, name_left_by, node_with_entry, node_with_parent, node_without_entries, node_without_entry, none_from_not_some, none_is_some, number_at_path, same_Some, shown_in_lowers_at, upper_directory_named, upper_of, whiteout_of, with_inode, with_name, without_contents, without_name, without_parent}
 use Rattle.vt_laws_trees.specs.Trees.{MayRemove}
 use Rattle.vt_laws_trees.specs.Layers.Layers.ChangesUpper.{StandsInUpper}
 use Rattle.vt_laws_trees.proofs.layers.layers.UpperLine.{has_entries, is_reached_in}
@@ -25,9 +14,6 @@ use Rattle.vt_laws_trees.proofs.overlays.whole.UpperNames.{freed_goes, freed_mad
 use Rattle.vt_laws_trees.proofs.overlays.steps.WholeAttributes.{top_open, upper_real}
 use Rattle.vt_laws_trees.proofs.overlays.steps.WholeLeft.{named_in_upper, own_upper}
 use Rattle.vt_laws_trees.proofs.overlays.steps.WholeNames.{above_named, directory_above, is_fine, top_good}
-use Rattle.std.proofs.lemmas.Option.{same_Some}
-use Rattle.vt_spec.proofs.NodeChanges.{directory_no_whiteout}
-use Rattle.vt_spec.proofs.Options.{none_from_not_some, none_is_some}
 
 -- what has a name in the overlay is not the upper layer's directory
 pub named_no_top : (stack : Stack ℕ) (merge : Merge ℕ) → IsWhole stack merge → (d : ℕ) (w : List ℕ) (object uo : ℕ)

@@ -1,23 +1,10 @@
 -- Names, texts and files of a plain tree stay within their limits in each part of a change.
 use Rattle.std.proofs.Common.{arith, ◌≡◌, refl, ap, ◌∙◌, ℕ, nat_eq, Bool, true, false, cond, ◌&&◌, List, [], ◌∷◌, map, Option, Some, None, is_some}
-use Rattle.std.proofs.lemmas.Grind.{common_steps}
-use Rattle.std.specs.List.{list_all}
-use Rattle.std.specs.Ordering.{eq_by_cmp}
-use Rattle.vt_spec.specs.FileTree.{FileTree}
-use Rattle.vt_spec.specs.Language.Changes.{changed_node, content_with_parent, node_with_parent, node_without_entries, node_without_entry, with_inode, with_moved, with_name, without_name}
-use Rattle.vt_spec.specs.Language.Changes.Change.{AddName, Move, SetMark}
-use Rattle.vt_spec.specs.Lists.{Fresh}
-use Rattle.vt_spec.specs.Machine.CopyUp.{Stack, copied_content, name_left_by, whiteout_of, with_mark, without_contents}
-use Rattle.vt_spec.specs.Machine.Invariants.{ListsNumbers, has_fit_names, has_fit_text, is_no_larger}
-use Rattle.vt_spec.specs.Tree.{Entries, Node, entries_in, entry_named, name_cmp}
-use Rattle.vt_spec.specs.TreeInvariant.{entry_at}
-use Rattle.vt_spec.proofs.Lists.{among_from_list_all, among_numbers}
-use Rattle.vt_spec.proofs.Nodes.{directory_used, same_name}
+use Rattle.vt_spec.proofs.Common.{AddName, Entries, FileTree, Fresh, ListsNumbers, Move, Node, SetMark, Stack, among_from_list_all, among_numbers, and_true_left, and_true_right, changed_node, common_steps, content_with_parent, copied_content, directory_used, entries_in, entry_at, entry_named, eq_by_cmp, has_fit_names, has_fit_text, is_no_larger, list_all, name_cmp, name_left_by, node_with_parent, node_without_entries, node_without_entry, none_is_some, whiteout_of, with_inode, with_mark, with_moved, with_name, without_contents, without_name}
+use Rattle.vt_spec.proofs.Nodes.{same_name}
 use Rattle.vt_laws_trees.specs.Trees.Sizes.{is_fit_name, is_fit_node, is_fit_tree}
 use Rattle.vt_laws_trees.proofs.trees.ChangesOfSizes.{changed_fits_there, changes_keep_sizes, fits, inode_fits, no_entry_fits, parent_fits}
 use Rattle.vt_laws_trees.proofs.layers.layers.UpperLine.{has_entries}
-use Rattle.vt_spec.proofs.Options.{none_is_some}
-use Rattle.vt_spec.proofs.Truths.{and_true_left, and_true_right}
 
 -- one that is there
 pub fits_here : (files : FileTree ℕ) → ListsNumbers nat_eq files → is_fit_tree files ≡ true → (n : ℕ)

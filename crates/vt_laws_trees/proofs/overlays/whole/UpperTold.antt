@@ -1,19 +1,9 @@
 -- Where the names of a plain tree lead after each part of a change.
 use Rattle.std.proofs.Common.{arith, ◌≡◌, refl, sym, ap, ◌∙◌, ⊎_elim, inl, inr, ◌⊎◌, ℕ, nat_eq, Bool, true, false, List, [], Option, Some, None}
-use Rattle.std.proofs.lemmas.Grind.{common_steps}
-use Rattle.std.proofs.lemmas.Bool.Decides.{eqb_tells}
-use Rattle.vt_spec.specs.FileTree.{FileTree}
-use Rattle.vt_spec.specs.Language.Changes.{changed_node, node_with_mark, node_with_parent, node_without_entries, with_inode, with_moved, with_name, without_name, without_parent}
-use Rattle.vt_spec.specs.Lists.{Fresh}
-use Rattle.vt_spec.specs.Machine.CopyUp.{Stack, name_left_by, whiteout_of, with_mark, without_contents}
-use Rattle.vt_spec.specs.Tree.{Node, entries_in, entries_of, entry_named}
-use Rattle.vt_spec.specs.TreeInvariant.{entry_at}
-use Rattle.vt_spec.proofs.Nodes.{is_directory-node_with_entry, node_other, node_set}
+use Rattle.vt_spec.proofs.Common.{FileTree, Fresh, Node, Stack, changed_node, common_steps, entries-node_with_mark, entries-node_with_parent, entries-node_without_entries, entries_in, entries_in-no_directory, entries_of, entry_at, entry_named, eqb_tells, is_directory-node_with_entry, name_left_by, node_other, node_set, node_with_mark, node_with_parent, node_without_entries, none_is_some, whiteout_of, with_inode, with_mark, with_moved, with_name, without_contents, without_name, without_parent}
 use Rattle.vt_laws_trees.proofs.trees.ChangesNames.{given_told, untaken_told}
 use Rattle.vt_laws_trees.proofs.trees.ChangesNodes.{changed_node_there, elsewhere}
 use Rattle.vt_laws_trees.proofs.layers.views.Entries.{entries_stay}
-use Rattle.vt_spec.proofs.NodeChanges.{entries-node_with_mark, entries-node_with_parent, entries-node_without_entries, entries_in-no_directory}
-use Rattle.vt_spec.proofs.Options.{none_is_some}
 
 -- each name leads where it led, or to one of these
 abbrev pub Told : (ℕ → Type 0) → FileTree ℕ → FileTree ℕ → Type 0

@@ -1,14 +1,6 @@
 -- An overlay stays whole in each change.
 use Rattle.std.proofs.Common.{arith, ◌≡◌, refl, sym, ap, subst, ◌∙◌, ℕ, zero, suc, nat_eq, [], ◌∷◌, Some, None, slice_get}
-use Rattle.std.proofs.lemmas.Grind.{common_steps}
-use Rattle.vt_spec.specs.Language.Changes.{Change, changed}
-use Rattle.vt_spec.specs.Language.Changes.Change.{AddName, CopyUp, Make, Move, Remove, SetAttr, SetBytes, SetMark}
-use Rattle.vt_spec.specs.Lists.{Fresh, odds}
-use Rattle.vt_spec.specs.Machine.CopyUp.{Merge, Stack, copied_up, merge_changed, merge_with_link, merge_with_moved, merge_with_new, merge_without_name, upper_of}
-use Rattle.vt_spec.specs.Machine.Invariants.{ListsNumbers}
-use Rattle.vt_spec.specs.Machine.Layers.{OpenLayer}
-use Rattle.vt_spec.specs.TreeInvariant.{IsDirectory, IsTree}
-use Rattle.vt_spec.proofs.Nodes.{directory_used}
+use Rattle.vt_spec.proofs.Common.{AddName, Change, CopyUp, Fresh, IsDirectory, IsTree, ListsNumbers, Make, Merge, Move, OpenLayer, Remove, SetAttr, SetBytes, SetMark, Stack, changed, common_steps, copied_up, directory_used, merge_changed, merge_with_link, merge_with_moved, merge_with_new, merge_without_name, odds, odds-distinct, same_Some, upper_of}
 use Rattle.vt_laws_trees.specs.Trees.{IsFileTree, IsProper, MayAddName, MayMake, MayRemove}
 use Rattle.vt_laws_trees.proofs.trees.ChangesKeepTrees.{changes_keep_numbers, changes_keep_own_parents, changes_keep_trees}
 use Rattle.vt_laws_trees.specs.Layers.Layers.Upper.{IsThere}
@@ -26,8 +18,6 @@ use Rattle.vt_laws_trees.proofs.overlays.steps.WholeMade.{make_keeps_shown}
 use Rattle.vt_laws_trees.proofs.overlays.steps.WholeMoved.{move_keeps_shown}
 use Rattle.vt_laws_trees.proofs.overlays.steps.WholeRemoved.{remove_keeps_shown}
 use Rattle.vt_laws_trees.proofs.overlays.changes.WholeTogether.{both_copied, changes_keep_shown, copied, is_copied, stands_now, still_unused, twice}
-use Rattle.std.proofs.lemmas.Option.{same_Some}
-use Rattle.vt_spec.proofs.FreshNumbers.{odds-distinct}
 
 -- it is whole after a change of its tree, if the upper layer is good and it is what the layers show
 whole_by : (stack : Stack ℕ) (merge later : Merge ℕ) (change : Change ℕ) → IsWhole stack merge

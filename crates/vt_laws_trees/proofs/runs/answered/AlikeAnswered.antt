@@ -1,5 +1,6 @@
 -- Each call is answered alike in two worlds that are alike, where what is copied up is.
 use Rattle.std.proofs.Common.{◌≡◌, refl, sym, ap, subst, ◌∙◌, ℕ, nat_eq, Bool, true, false, not, ◌||◌, List, Option, Some, None, Ok, Err, is_ok, ok_or}
+use Rattle.vt_spec.proofs.Common.{Call, Fresh, Judgement, LowerObjectsHaveOneName, Outcome, Permit, Task, TaskName, ToMountOverlay, World, after, apply, denial, filesystems_changed_by, finished, finished_by, judge_in, looks_of, only_looks, policy, task_called}
 use Rattle.vt_laws_rules.proofs.denials.Unchanged.{directive_changes_nothing}
 use Rattle.vt_laws_rules.proofs.given.GivenPermits.{permits_are_for_their_calls}
 use Rattle.vt_laws_rules.proofs.same.SameJudged.{plain_has_one_name}
@@ -17,18 +18,6 @@ use Rattle.vt_laws_trees.proofs.runs.Each.{IfAny}
 use Rattle.vt_laws_trees.specs.Runs.Answered.{SameWorldsAreAnsweredAlike, SameWorldsAreDirectedAlike}
 use Rattle.vt_laws_trees.specs.Trees.Calls.{mounts_overlay}
 use Rattle.vt_spec.specs.declared.errors.Rule.TheVariants.{S2}
-use Rattle.vt_spec.specs.Errors.{denial}
-use Rattle.vt_spec.specs.Language.Calls.{Call, TaskName}
-use Rattle.vt_spec.specs.Lists.{Fresh}
-use Rattle.vt_spec.specs.Machine.Apply.{apply}
-use Rattle.vt_spec.specs.Machine.Judge.{Judgement, judge_in}
-use Rattle.vt_spec.specs.Machine.Looks.{looks_of}
-use Rattle.vt_spec.specs.Machine.Outcomes.{Outcome, after}
-use Rattle.vt_spec.specs.Machine.Permits.{Permit}
-use Rattle.vt_spec.specs.Machine.Permits.Permit.{ToMountOverlay}
-use Rattle.vt_spec.specs.Machine.Policy.{filesystems_changed_by, finished, finished_by, only_looks, policy}
-use Rattle.vt_spec.specs.Machine.SameWorlds.{LowerObjectsHaveOneName}
-use Rattle.vt_spec.specs.Machine.World.{Task, World, task_called}
 
 module _ (fresh : Fresh ℕ) (one other : World ℕ) (same : Alike one other)
     (named : LowerObjectsHaveOneName nat_eq one) (copies : CopiesAlike one other) (call : Call) where

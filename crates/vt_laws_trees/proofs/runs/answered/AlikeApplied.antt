@@ -1,32 +1,12 @@
 -- A permit is applied alike in two worlds that are alike.
 use Rattle.std.proofs.Common.{◌≡◌, refl, subst, ◌∙◌, ℕ, nat_eq, Bool, true, false, ◌&&◌, List, [], ◌∷◌, take, drop, Ok}
+use Rattle.vt_spec.proofs.Common.{Access, Allowed, Bytes, Child, CopyUp, Done, Fresh, Location, Make, MountList, Move, Names, Opened, Outcome, Permit, Remove, SetBytes, Task, ToBind, ToChange, ToClose, ToEnterNamespace, ToExit, ToFork, ToList, ToListMounts, ToMake, ToMountOverlay, ToMountPlain, ToMove, ToOpen, ToOpenNew, ToPivot, ToRead, ToReadPart, ToRemoveDirectory, ToRename, ToSetCredentials, ToSetDirectory, ToSetFlags, ToSetRoot, ToSetType, ToSetUmask, ToStat, ToUnmount, ToUnmountLazily, ToUnshare, ToWritePart, Told, World, apply, attach, bytes_in, child_name, child_of, evens, filesystems-taken_away, filesystems-without_replaced, free_number, granted, is_copied_up, lies_only_in_lowers, mount_at, mount_in, mount_lines, mount_numbered, mount_tree, mounted, names_in, node_at, odds, opened, opens_for_writing, overlay_filesystem, overlay_or, overwritten, pivoted, plain_filesystem, pwritten, stat_line, with_change, with_copy, with_descriptor, without_descriptor, without_mounts_on, without_replaced, without_task}
 use Rattle.vt_laws_trees.proofs.runs.answered.AlikeAttached.{attach_alike, bind_alike, mounted_alike, overlay_made_alike}
 use Rattle.vt_laws_trees.proofs.runs.answered.AlikeChanges.{CopiesAlike, change_alike, copies_stay, here_alike, node_same, with_task_alike}
 use Rattle.vt_laws_trees.proofs.runs.answered.AlikeListed.{listed_alike}
 use Rattle.vt_laws_trees.proofs.runs.answered.AlikeMounts.{flags_alike, lazily_alike, type_alike, unmounted_alike, without_mounts_on_alike, without_replaced_alike}
 use Rattle.vt_laws_trees.proofs.runs.answered.AlikeNamespaces.{ended_alike, entered_alike, pivoted_alike, unshared_alike, with_child_alike, without_task_alike}
 use Rattle.vt_laws_trees.proofs.runs.answered.AlikeWorlds.{Alike, SameTask}
-use Rattle.vt_spec.specs.Language.Answers.Answer.{Bytes, Child, Done, MountList, Names, Opened, Told}
-use Rattle.vt_spec.specs.Language.Calls.{Access, opens_for_writing}
-use Rattle.vt_spec.specs.Language.Changes.Change.{CopyUp, Make, Move, Remove, SetBytes}
-use Rattle.vt_spec.specs.Lists.{Fresh, evens, odds}
-use Rattle.vt_spec.specs.Machine.Apply.{apply, stat_line}
-use Rattle.vt_spec.specs.Machine.Filesystems.{lies_only_in_lowers, with_change}
-use Rattle.vt_spec.specs.Machine.Listing.{mount_lines}
-use Rattle.vt_spec.specs.Machine.Locked.{overlay_or}
-use Rattle.vt_spec.specs.Machine.Mounts.{Location, mount_in, mount_tree}
-use Rattle.vt_spec.specs.Machine.Namespaces.{pivoted}
-use Rattle.vt_spec.specs.Machine.Descriptors.{free_number, is_copied_up, opened, overwritten, pwritten, with_copy, with_descriptor, without_descriptor}
-use Rattle.vt_spec.specs.Machine.NewMounts.{mounted, overlay_filesystem, plain_filesystem}
-use Rattle.vt_spec.specs.Machine.Detach.{without_mounts_on, without_replaced}
-use Rattle.vt_spec.proofs.Worlds.{filesystems-taken_away, filesystems-without_replaced}
-use Rattle.vt_spec.specs.Machine.Tasks.{child_name, child_of}
-use Rattle.vt_spec.specs.Machine.Outcomes.{Outcome, granted}
-use Rattle.vt_spec.specs.Machine.Permits.{Permit}
-use Rattle.vt_spec.specs.Machine.Permits.Permit.{Allowed, ToBind, ToChange, ToClose, ToEnterNamespace, ToExit, ToFork, ToList, ToListMounts, ToMake, ToMountOverlay, ToMountPlain, ToMove, ToOpen, ToOpenNew, ToPivot, ToRead, ToReadPart, ToRemoveDirectory, ToRename, ToSetCredentials, ToSetDirectory, ToSetFlags, ToSetRoot, ToSetType, ToSetUmask, ToStat, ToUnmount, ToUnmountLazily, ToUnshare, ToWritePart}
-use Rattle.vt_spec.specs.Machine.World.{Task, World, mount_at, mount_numbered, node_at, without_task}
-use Rattle.vt_spec.specs.Tree.{bytes_in, names_in}
-use Rattle.vt_spec.specs.Machine.Attach.{attach}
 
 -- one answer, and worlds that are alike
 pub record OutcomesAlike (one other : Outcome ℕ) : Type 0 where

@@ -1,20 +1,13 @@
 -- What is attached in two worlds that are alike.
-use Rattle.std.proofs.Common.{◌≡◌, refl, ap, subst, ℕ, nat_eq, Bool, true, false, not, ◌&&◌, List, [], ◌∷◌, length, map, filter, flat_map, is_some}
-use Rattle.std.specs.List.{sum}
+use Rattle.std.proofs.Common.{◌≡◌, refl, ap, subst, ℕ, nat_eq, Bool, true, false, not, ◌&&◌, List, [], ◌∷◌, length, map, filter, flat_map, is_some, sum}
+use Rattle.vt_spec.proofs.Common.{Filesystem, Fresh, Location, Mount, MountFlags, Overlay, SameFilesystem, World, attach, attached_at, bind_tree, bindable_children, bindable_tree, bound, bound_at, copies_from, evens, graft_of, holds_of, merged_inodes, merged_objects, mount_at, mounted, new_mount, odds, overlay_filesystem, parts_of, receivers_of, shown_layers, stands_under, takes_part, with_new_filesystem}
 use Rattle.vt_laws_rules.proofs.same.SameFiles.{as_many, directory_under_same}
 use Rattle.vt_laws_trees.proofs.runs.answered.AlikeChanges.{found_alike, opened_same}
 use Rattle.vt_laws_trees.proofs.runs.answered.AlikeMounts.{of_one}
 use Rattle.vt_laws_trees.proofs.runs.answered.AlikeWorlds.{Alike, with_mounts_of}
 use Rattle.vt_laws_rules.proofs.same.SameMany.{same_filesystem_itself}
 use Rattle.vt_laws_trees.proofs.runs.Each.{each_append, each_to_one}
-use Rattle.vt_spec.specs.Language.Calls.{MountFlags}
-use Rattle.vt_spec.specs.Lists.{Fresh, evens, holds_of, odds}
-use Rattle.vt_spec.specs.Machine.Attach.{attach, attached_at, bind_tree, bindable_children, bindable_tree, bound, bound_at, copies_from, graft_of, parts_of, receivers_of, stands_under, takes_part}
-use Rattle.vt_spec.specs.Machine.Mounts.{Location, Mount}
-use Rattle.vt_spec.specs.Machine.Merging.{merged_inodes, merged_objects}
-use Rattle.vt_spec.specs.Machine.NewMounts.{mounted, new_mount, overlay_filesystem, overlay_of_inodes, with_new_filesystem}
-use Rattle.vt_spec.specs.Machine.SameWorlds.{SameFilesystem}
-use Rattle.vt_spec.specs.Machine.World.{Filesystem, Overlay, World, mount_at, shown_layers}
+use Rattle.vt_spec.specs.Machine.NewMounts.{overlay_of_inodes}
 
 module _ (one other : World ℕ) (same : Alike one (with_mounts_of one other)) where
   takes_same : (place : Location ℕ) (mount : Mount ℕ)

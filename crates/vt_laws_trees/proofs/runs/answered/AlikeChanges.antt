@@ -1,19 +1,11 @@
 -- What is found in two worlds that are alike, and changes of their filesystems and tasks.
 use Rattle.std.proofs.Common.{arith, ◌≡◌, refl, sym, ap, subst, ℕ, nat_eq, List, Option, Some, None, map}
-use Rattle.std.proofs.lemmas.Grind.{common_steps}
+use Rattle.vt_spec.proofs.Common.{Change, Filesystem, Fresh, Layer, Location, Merge, Overlay, SameFiles, SameFilesystem, Task, TaskName, World, all_locations, changed, common_steps, filesystem_at, filesystem_changed, filesystem_numbered, locations_of, merge_changed, merge_of, mount_at, mount_in, no_filesystem, node_at, open_layer, overlay_changed, replaced_if_called, replaced_if_numbered, same_name, stack_of, task_called, with_change, with_files, with_filesystem, with_merge, with_task}
 use Rattle.vt_laws_trees.proofs.runs.answered.AlikeCopies.{LinesAlike, MergesAlike, merge_changed_alike}
 use Rattle.vt_laws_trees.proofs.runs.answered.AlikeWorlds.{Alike, SameTask}
 use Rattle.vt_laws_rules.proofs.same.SameMany.{same_filesystem_itself}
 use Rattle.vt_laws_trees.proofs.runs.answered.AlikeFiles.{changed_alike}
 use Rattle.vt_laws_trees.proofs.runs.Each.{Each, IfAny, chosen, each_find, each_flat, each_found, each_map}
-use Rattle.vt_spec.specs.Language.Calls.{TaskName, same_name}
-use Rattle.vt_spec.specs.Language.Changes.{Change, changed}
-use Rattle.vt_spec.specs.Lists.{Fresh}
-use Rattle.vt_spec.specs.Machine.CopyUp.{Merge, merge_changed}
-use Rattle.vt_spec.specs.Machine.Filesystems.{filesystem_changed, merge_of, overlay_changed, stack_of, with_change, with_files, with_merge}
-use Rattle.vt_spec.specs.Machine.Mounts.{Location, mount_in}
-use Rattle.vt_spec.specs.Machine.SameWorlds.{SameFiles, SameFilesystem}
-use Rattle.vt_spec.specs.Machine.World.{Filesystem, Layer, Overlay, Task, World, all_locations, filesystem_at, filesystem_numbered, locations_of, mount_at, no_filesystem, node_at, open_layer, replaced_if_called, replaced_if_numbered, task_called, with_filesystem, with_task}
 
 module _ (one other : World ℕ) (same : Alike one other) where
   pub found_alike : (number : ℕ)

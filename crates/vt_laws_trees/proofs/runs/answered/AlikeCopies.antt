@@ -1,20 +1,10 @@
 -- A change of an overlay, with the copies that it needs, in two overlays that are the same but for the order of the
 -- numbers beside trees.
-use Rattle.std.proofs.lemmas.Grind.{common_steps}
 use Rattle.std.proofs.Common.{arith, ◌≡◌, refl, sym, ap, subst, ◌∙◌, ◌⊎◌, ⊎_elim, true≢false, ℕ, nat_eq, ◌+◌, Bool, true, false, cond, List, [], ◌∷◌, ◌++◌, reverse, Option, Some, None, is_some, unwrap_or}
-use Rattle.std.specs.Prelude.{⊤}
-use Rattle.std.proofs.lemmas.List.Sorted.{IsPermutation-cons}
+use Rattle.vt_spec.proofs.Common.{AddName, Change, CopyUp, FileTree, Fresh, IsPermutation-cons, Make, Merge, Move, Node, Remove, SameFiles, SetAttr, SetBytes, SetMark, Stack, Upper, a_name, changed_both, common_steps, content_with_parent, copied_content, copied_each, copied_up, copy_named, copy_of, copy_of_node, copy_parent, entries_in, entry_named, evens, hides_directory, is_directory_node, is_directory_shown, is_in_upper, line_by, line_to, merge_changed, merge_with_link, merge_with_moved, merge_with_new, merge_without_name, name_left, name_left_by, node_with_attr, node_with_bytes, node_with_entry, node_with_mark, node_without_entry, odds, shown_in_lowers_at, then_some, upper_directory_named, upper_object, upper_of, with_inode, with_mark, with_moved, with_name, with_real, without_contents, ⊤}
 use Rattle.vt_laws_rules.proofs.same.SameFiles.{ancestors_same, path_same}
 use Rattle.vt_laws_trees.proofs.runs.answered.AlikeFiles.{changed_alike, node_changed}
-use Rattle.vt_spec.specs.FileTree.{FileTree, a_name}
-use Rattle.vt_spec.specs.Language.Changes.{Change, content_with_parent, node_with_attr, node_with_mark, node_without_entry, with_inode, with_moved, with_name}
-use Rattle.vt_spec.specs.Language.Changes.Change.{AddName, CopyUp, Make, Move, Remove, SetAttr, SetBytes, SetMark}
-use Rattle.vt_spec.specs.Lists.{Fresh, evens, odds, then_some}
-use Rattle.vt_spec.specs.Machine.CopyUp.{Merge, Stack, changed_both, copied_content, copied_each, copied_up, copy_named, copy_of, copy_of_node, copy_parent, hides_directory, is_directory_shown, is_in_upper, line_by, line_to, merge_changed, merge_with_link, merge_with_moved, merge_with_new, merge_without_name, name_left, name_left_by, shown_in_lowers_at, upper_directory_named, upper_of, with_mark, with_real, without_contents}
-use Rattle.vt_spec.specs.Machine.SameWorlds.{SameFiles}
-use Rattle.vt_spec.specs.Machine.World.{upper_object}
-use Rattle.vt_spec.specs.Machine.World.Real.{Upper}
-use Rattle.vt_spec.specs.Tree.{Node, entries_in, entry_named, is_directory_node, node_with_bytes, node_with_entry, with_node}
+use Rattle.vt_spec.specs.Tree.{with_node}
 
 -- the same but for the order of the numbers beside both trees
 pub record MergesAlike (one other : Merge ℕ) : Type 0 where

@@ -1,8 +1,6 @@
 -- Directives are answered alike in two worlds that are alike.
-use Rattle.std.proofs.Common.{arith, ◌≡◌, refl, sym, ap, subst, ◌∙◌, ℕ, nat_eq, Bool, true, false, not, ◌&&◌, ◌||◌, ◌+◌, List, [], ◌∷◌, ◌++◌, map, filter, flat_map, Option, Some, None, Ok, is_some, option_map}
-use Rattle.std.proofs.lemmas.Grind.{common_steps}
-use Rattle.std.specs.List.{list_all, list_any}
-use Rattle.std.proofs.lemmas.List.Sorted.{list_any-IsPermutation}
+use Rattle.std.proofs.Common.{arith, ◌≡◌, refl, sym, ap, subst, ◌∙◌, ℕ, nat_eq, Bool, true, false, not, ◌&&◌, ◌||◌, ◌+◌, List, [], ◌∷◌, ◌++◌, map, filter, flat_map, Option, Some, None, Ok, is_some, option_map, option_to_list}
+use Rattle.vt_spec.proofs.Common.{AskPeers, AskSealed, Directive, FileTree, Filesystem, Layer, Location, Mount, Namespace, Overlay, PeerList, SameFiles, SameFilesystem, Task, TaskName, World, YesNo, all_named, change_layers, common_steps, counted_from, directed, each_once, filesystem_numbered, granted, groups_seen, holds_all_tasks, holds_of, is_among, is_lower_root, is_member_of, is_member_task, is_overlay, is_own_namespace, judged, list_all, list_any, list_any-IsPermutation, locations, locations_of, members, mount_at, named_in, no_outsider_on, no_outsider_on_mounts, number_among, outsiders, overlay_or, overlays, peer_lines, sealed, share_events, shares_no_events, targets_in, task_called, used_alone, used_directly, used_filesystems, wholly_locked}
 use Rattle.vt_laws_trees.proofs.runs.answered.AlikeApplied.{OutcomesAlike}
 use Rattle.vt_laws_trees.proofs.runs.answered.AlikeChanges.{found_alike, task_alike}
 use Rattle.vt_laws_trees.proofs.runs.answered.AlikeWorlds.{Alike, SameNamespace, SameTask, mounts_of_one, with_mounts_of}
@@ -11,21 +9,8 @@ use Rattle.vt_laws_trees.proofs.runs.Each.{Each, IfAny, each_any, each_filter, e
 use Rattle.vt_laws_trees.proofs.runs.Permuted.{IsPermutation-flat_map, list_all-IsPermutation}
 use Rattle.vt_spec.specs.declared.errors.Rule.TheVariants.{S2}
 use Rattle.vt_spec.specs.Language.Answers.{PeerLine}
-use Rattle.vt_spec.specs.Language.Answers.Answer.{PeerList, YesNo}
-use Rattle.vt_spec.specs.Language.Calls.{Directive, TaskName}
-use Rattle.vt_spec.specs.Language.Calls.Directive.{AskPeers, AskSealed}
-use Rattle.vt_spec.specs.FileTree.{FileTree, targets_in}
-use Rattle.vt_spec.specs.Lists.{counted_from, each_once, holds_of, is_among}
-use Rattle.vt_spec.specs.Machine.Listing.{attached_in, groups_seen, is_slave_of, number_among, peer_lines}
-use Rattle.vt_spec.specs.Machine.Locked.{overlay_or, overlays}
-use Rattle.vt_spec.specs.Machine.Mounts.{Location, Mount}
-use Rattle.vt_spec.specs.Machine.Outcomes.{granted, judged}
-use Rattle.vt_spec.specs.Machine.Receives.{is_member_of}
-use Rattle.vt_spec.specs.Machine.Sealed.{all_named, change_layers, directed, holds_all_tasks, shares_no_events, share_events, is_lower_root, is_member_task, is_own_namespace, locations, members, no_outsider_on, no_outsider_on_mounts, no_such_task, outsiders, sealed, used_alone, used_directly, used_filesystems, wholly_locked}
-use Rattle.vt_spec.specs.Machine.World.{Filesystem, Layer, Namespace, Overlay, Task, World, filesystem_numbered, is_overlay, locations_of, mount_at, task_called}
-use Rattle.std.specs.Prelude.{option_to_list}
-use Rattle.vt_spec.specs.Machine.SameWorlds.{SameFiles, SameFilesystem}
-use Rattle.vt_spec.specs.Machine.Settled.{named_in}
+use Rattle.vt_spec.specs.Machine.Listing.{attached_in, is_slave_of}
+use Rattle.vt_spec.specs.Machine.Sealed.{no_such_task}
 
 -- Peers
 module _ (one other : World ℕ) (same : Alike one (with_mounts_of one other)) where

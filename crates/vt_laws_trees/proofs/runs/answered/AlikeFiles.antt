@@ -1,11 +1,7 @@
 -- A change of files in two trees that are the same but for the order of the numbers beside them.
 use Rattle.std.proofs.Common.{subst, ℕ, nat_eq, List, Option, Some, None}
-use Rattle.std.proofs.lemmas.List.Sorted.{IsPermutation-cons}
-use Rattle.vt_spec.specs.FileTree.{FileTree}
-use Rattle.vt_spec.specs.Language.Changes.{Change, changed, changed_node, node_with_attr, node_with_mark, node_with_parent, node_without_entry, with_inode, without_parent}
-use Rattle.vt_spec.specs.Language.Changes.Change.{AddName, CopyUp, Make, Move, Remove, SetAttr, SetBytes, SetMark}
-use Rattle.vt_spec.specs.Machine.SameWorlds.{SameFiles}
-use Rattle.vt_spec.specs.Tree.{Node, entries_in, entry_named, node_with_bytes, node_with_entry, with_node}
+use Rattle.vt_spec.proofs.Common.{AddName, Change, CopyUp, FileTree, IsPermutation-cons, Make, Move, Node, Remove, SameFiles, SetAttr, SetBytes, SetMark, changed, changed_node, entries_in, entry_named, node_with_attr, node_with_bytes, node_with_entry, node_with_mark, node_with_parent, node_without_entry, with_inode, without_parent}
+use Rattle.vt_spec.specs.Tree.{with_node}
 
 pub node_changed : (one other : FileTree ℕ) → SameFiles one other → (number : ℕ)
     (change : Option (Node ℕ) → Option (Node ℕ))

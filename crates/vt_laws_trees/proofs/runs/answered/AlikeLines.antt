@@ -1,20 +1,11 @@
 -- Each line is answered alike in two worlds that are alike, where what is copied up is.
 use Rattle.std.proofs.Common.{◌≡◌, refl, ap, ℕ, nat_eq, nat_lt, Bool, true, false, List, length, Option, Some, None}
+use Rattle.vt_spec.proofs.Common.{Answered, Asking, Calling, Fresh, Grammar, LowerObjectsHaveOneName, Outcome, Request, Step, World, is_silent, line_step, line_step_by, longest_line, reply_line, request_of, requested, spoken_step, step_text, step_world}
 use Rattle.vt_laws_trees.proofs.runs.answered.AlikeAnswered.{policy_alike}
 use Rattle.vt_laws_trees.proofs.runs.answered.AlikeApplied.{OutcomesAlike}
 use Rattle.vt_laws_trees.proofs.runs.answered.AlikeChanges.{CopiesAlike}
 use Rattle.vt_laws_trees.proofs.runs.answered.AlikeDirected.{directed_alike}
 use Rattle.vt_laws_trees.proofs.runs.answered.AlikeWorlds.{Alike}
-use Rattle.vt_spec.specs.Language.Limits.{longest_line}
-use Rattle.vt_spec.specs.Language.Printed.{reply_line}
-use Rattle.vt_spec.specs.Language.Script.{Grammar, Request, is_silent, request_of}
-use Rattle.vt_spec.specs.Language.Script.Request.{Asking, Calling}
-use Rattle.vt_spec.specs.Lists.{Fresh}
-use Rattle.vt_spec.specs.Machine.Run.{Step, line_step, line_step_by, requested, spoken_step, step_text, step_world}
-use Rattle.vt_spec.specs.Machine.Run.Step.{Answered}
-use Rattle.vt_spec.specs.Machine.SameWorlds.{LowerObjectsHaveOneName}
-use Rattle.vt_spec.specs.Machine.World.{World}
-use Rattle.vt_spec.specs.Machine.Outcomes.{Outcome}
 
 -- the two steps write the same, and lead to worlds that are alike
 pub record StepsAlike (one other : World ℕ) (step again : Step ℕ) : Type 0 where

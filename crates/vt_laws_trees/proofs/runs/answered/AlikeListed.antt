@@ -1,11 +1,9 @@
 -- Mounts are listed alike in two worlds that are alike.
 use Rattle.std.proofs.Common.{◌≡◌, ℕ, nat_eq, List, map, is_some, option_map}
+use Rattle.vt_spec.proofs.Common.{Location, Mount, World, filesystems_seen, groups_seen, mount_at, mount_line, mount_lines, mounts_of, number_among, spot_of, type_line}
 use Rattle.vt_laws_rules.proofs.same.SameFiles.{path_same}
 use Rattle.vt_laws_trees.proofs.runs.answered.AlikeChanges.{found_alike, here_alike}
 use Rattle.vt_laws_trees.proofs.runs.answered.AlikeWorlds.{Alike, mounts_of_one, with_mounts_of}
-use Rattle.vt_spec.specs.Machine.Listing.{filesystems_seen, groups_seen, mount_line, mount_lines, number_among, spot_of, type_line}
-use Rattle.vt_spec.specs.Machine.Mounts.{Location, Mount}
-use Rattle.vt_spec.specs.Machine.World.{World, mount_at, mounts_of}
 
 module _ (one other : World ℕ) (same : Alike one (with_mounts_of one other)) where
   line_same : (mounts : List (Mount ℕ)) (mount : Mount ℕ)

@@ -1,18 +1,9 @@
 -- Calls on mounts and namespaces in two worlds that are alike.
 use Rattle.std.proofs.Common.{arith, ◌≡◌, refl, subst, ℕ, nat_eq, Bool, List, [], ◌∷◌, map, filter, flat_map, Option, Some, None, is_some}
-use Rattle.std.proofs.lemmas.Grind.{common_steps}
-use Rattle.std.specs.List.{list_any}
+use Rattle.vt_spec.proofs.Common.{Fresh, Location, Mount, MountFlags, TypeWord, World, after_going, common_steps, deepest_first, filesystem_at, folded, going, is_point, lazily_unmounted, list_any, lost_a_group, mount_numbered, mount_tree, named_mounts, numbers_by, overlay_or, points_of, regrouped, regrouped_by, retyped_mount, taken_away, unmounted, unmounted_if_there, upper_points, with_mount, with_mounts, with_new_groups, with_type, without_mounts_on, without_replaced}
 use Rattle.vt_laws_trees.proofs.runs.answered.AlikeChanges.{here_alike}
 use Rattle.vt_laws_trees.proofs.runs.answered.AlikeWorlds.{Alike, mounts_of_one, with_mounts_of}
 use Rattle.vt_laws_trees.proofs.runs.Each.{chosen}
-use Rattle.vt_spec.specs.Language.Calls.{MountFlags, TypeWord}
-use Rattle.vt_spec.specs.Lists.{Fresh, folded}
-use Rattle.vt_spec.specs.Machine.Detach.{after_going, deepest_first, going, is_point, lazily_unmounted, points_of, taken_away, unmounted, unmounted_if_there, upper_points, without_mounts_on, without_replaced}
-use Rattle.vt_spec.specs.Machine.Locked.{overlay_or}
-use Rattle.vt_spec.specs.Machine.Mounts.{Location, Mount, mount_tree, numbers_by, with_mount}
-use Rattle.vt_spec.specs.Machine.Receives.{lost_a_group, regrouped, regrouped_by}
-use Rattle.vt_spec.specs.Machine.Types.{named_mounts, retyped_mount, with_new_groups, with_type}
-use Rattle.vt_spec.specs.Machine.World.{World, filesystem_at, mount_numbered, with_mounts}
 
 -- worlds that are alike, with other mounts
 pub with_mounts_alike : (one other : World ℕ) → Alike one other → (mounts again : List (Mount ℕ)) → mounts ≡ again

@@ -1,17 +1,11 @@
 -- Calls on namespaces and tasks in two worlds that are alike.
 use Rattle.std.proofs.Common.{arith, ◌≡◌, refl, ap, ℕ, nat_eq, not, ◌&&◌, [], ◌∷◌, ◌++◌, ◌+◌, map, filter}
-use Rattle.std.proofs.lemmas.Grind.{common_steps}
-use Rattle.std.specs.List.{list_any}
+use Rattle.vt_spec.proofs.Common.{Fresh, Location, Mount, Namespace, Task, TaskName, World, common_steps, copied_mount, evens, has_tasks, holds_of, is_in_ended, list_any, mounts_of, namespace_entered, namespaces_ended, numbers_by, odds, pivoted, same_name, unshared, unshared_task, without_task}
 use Rattle.vt_laws_trees.proofs.runs.answered.AlikeChanges.{replaced_alike, with_task_alike, with_tasks_alike}
 use Rattle.vt_laws_trees.proofs.runs.answered.AlikeMounts.{of_one, taken_alike}
 use Rattle.vt_laws_trees.proofs.runs.answered.AlikeWorlds.{Alike, SameNamespace, SameTask, mounts_of_one, with_mounts_of}
 use Rattle.vt_laws_trees.proofs.runs.Each.{chosen, each_any, each_append, each_filter, each_map}
-use Rattle.vt_spec.specs.Language.Calls.{TaskName, same_name}
-use Rattle.vt_spec.specs.Lists.{Fresh, evens, holds_of, odds}
-use Rattle.vt_spec.specs.Machine.Mounts.{Location, Mount, numbers_by}
-use Rattle.vt_spec.specs.Machine.Namespaces.{copied_mount, has_tasks, is_in_ended, namespace_entered, namespaces_ended, pivoted, unshared, unshared_task}
 use Rattle.vt_spec.specs.Machine.Tasks.{with_child}
-use Rattle.vt_spec.specs.Machine.World.{Namespace, Task, World, mounts_of, without_task}
 
 -- Tasks
 pub without_task_alike : (name : TaskName) (one other : World ℕ) → Alike one other

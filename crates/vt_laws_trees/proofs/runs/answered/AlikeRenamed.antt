@@ -1,13 +1,10 @@
 -- Worlds that are the same stay the same when their numbers are renamed.
 use Rattle.std.proofs.Common.{ap, ℕ, List, [], ◌∷◌, map, option_map}
-use Rattle.std.proofs.lemmas.List.Sorted.{IsPermutation-map}
+use Rattle.vt_spec.proofs.Common.{Filesystem, IsPermutation-map, SameFilesystems, SameWorlds, World, renamed, renamed_filesystem, renamed_mount, renamed_namespace, renamed_node, renamed_overlay, renamed_task}
 use Rattle.vt_laws_rules.proofs.judged.NumbersRaised.{bare_namespace, bare_task}
 use Rattle.vt_laws_rules.specs.Renaming.{Renaming}
 use Rattle.vt_laws_trees.proofs.runs.answered.AlikeWorlds.{SameNamespace, SameTask}
 use Rattle.vt_laws_trees.proofs.runs.Each.{each_map, each_to_one, each_told}
-use Rattle.vt_spec.specs.Machine.Renaming.{renamed, renamed_filesystem, renamed_mount, renamed_namespace, renamed_node, renamed_overlay, renamed_task}
-use Rattle.vt_spec.specs.Machine.SameWorlds.{SameFilesystems, SameWorlds}
-use Rattle.vt_spec.specs.Machine.World.{Filesystem, World}
 
 module _ (renaming : Renaming ℕ ℕ) where
   filesystems_renamed : (ones others : List (Filesystem ℕ)) → SameFilesystems ones others

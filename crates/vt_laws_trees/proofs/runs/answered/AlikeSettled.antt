@@ -1,24 +1,11 @@
 -- What nothing uses goes alike in two worlds that are alike.
-use Rattle.std.proofs.lemmas.Grind.{common_steps}
-use Rattle.std.proofs.Common.{arith, ◌≡◌, refl, ap, subst, ◌∙◌, ℕ, nat_eq, Bool, true, false, cond, not, ◌||◌, List, [], ◌∷◌, ◌++◌, map, filter, filter_map, flat_map, Option, Some, None, is_some, option_to_list, if◌then◌else◌}
-use Rattle.std.specs.List.{list_all, list_any}
-use Rattle.std.specs.List.Sorted.{IsPermutation}
-use Rattle.std.proofs.lemmas.List.Sorted.{IsPermutation-append_left, IsPermutation-append_right, IsPermutation-cons, IsPermutation-refl, IsPermutation-trans, list_any-IsPermutation}
+use Rattle.std.proofs.Common.{arith, ◌≡◌, refl, ap, subst, ◌∙◌, ℕ, nat_eq, Bool, true, false, cond, not, ◌||◌, List, [], ◌∷◌, ◌++◌, map, filter, filter_map, flat_map, Option, Some, None, is_some, option_to_list, if◌then◌else◌, IsPermutation}
+use Rattle.vt_spec.proofs.Common.{FileTree, Filesystem, IsPermutation-append_left, IsPermutation-append_right, IsPermutation-cons, IsPermutation-refl, IsPermutation-trans, Location, Mount, Namespace, Overlay, SameFiles, SameFilesystem, Task, TaskName, World, common_steps, filesystem_lives, holds_of, is_among, is_overlay, layers_in, layers_of, list_all, list_any, list_any-IsPermutation, located_in, mount_in, numbers_raised, objects_of_overlay, of_overlay, only_among, only_used, only_used_by, only_used_of, overlay_or, raised, raised_if_changed, raised_namespace, raised_task, root_of, settled, targets_in, upper_object, used_in, without_dead_filesystems, without_dead_groups, without_dead_in, without_dead_inodes, without_dead_mounts}
 use Rattle.vt_laws_trees.proofs.runs.answered.AlikeChanges.{locations_same}
 use Rattle.vt_laws_trees.proofs.runs.answered.AlikeMounts.{with_mounts_alike}
 use Rattle.vt_laws_trees.proofs.runs.answered.AlikeWorlds.{Alike, SameNamespace, SameTask}
 use Rattle.vt_laws_trees.proofs.runs.Each.{Each, each_any, each_filter, each_flat, each_map}
 use Rattle.vt_laws_trees.proofs.runs.Permuted.{IsPermutation-filter, IsPermutation-flat_map, list_all-IsPermutation}
-use Rattle.vt_spec.specs.FileTree.{FileTree, targets_in}
-use Rattle.vt_spec.specs.Language.Calls.{TaskName}
-use Rattle.vt_spec.specs.Lists.{holds_of, is_among}
-use Rattle.vt_spec.specs.Machine.Filesystems.{raised, raised_if_changed}
-use Rattle.vt_spec.specs.Machine.Locked.{of_overlay, overlay_or}
-use Rattle.vt_spec.specs.Machine.Mounts.{Location, Mount, mount_in, root_of}
-use Rattle.vt_spec.specs.Machine.Policy.{numbers_raised, raised_namespace, raised_task}
-use Rattle.vt_spec.specs.Machine.SameWorlds.{SameFiles, SameFilesystem}
-use Rattle.vt_spec.specs.Machine.Settled.{filesystem_lives, layers_in, located_in, objects_of_overlay, only_among, only_used, only_used_by, only_used_of, settled, used_in, without_dead_filesystems, without_dead_groups, without_dead_in, without_dead_inodes, without_dead_mounts}
-use Rattle.vt_spec.specs.Machine.World.{Filesystem, Namespace, Overlay, Task, World, is_overlay, layers_of, upper_object}
 
 filter_map_as_flat_map : {A B : Type 0} (h : A → Option B) (xs : List A)
     → filter_map h xs ≡ flat_map (λ x. option_to_list (h x)) xs

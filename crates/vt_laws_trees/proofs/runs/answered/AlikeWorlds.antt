@@ -1,15 +1,11 @@
 -- Worlds that are the same but for change numbers and the order of numbers beside trees, list by list.
 use Rattle.std.proofs.Common.{arith, ◌≡◌, refl, sym, ap, subst, ◌∙◌, ℕ, false, List, [], ◌∷◌, is_some}
-use Rattle.std.proofs.lemmas.Grind.{common_steps}
-use Rattle.std.proofs.lemmas.List.Sorted.{IsPermutation-refl, IsPermutation-sym, IsPermutation-trans}
+use Rattle.vt_spec.proofs.Common.{FileTree, Filesystem, IsPermutation-refl, IsPermutation-sym, IsPermutation-trans, Namespace, SameFiles, SameFilesystem, SameFilesystems, SameWorlds, Task, World, common_steps, is_overlay}
 use Rattle.vt_laws_rules.proofs.judged.NumbersRaised.{bare_namespace, bare_task}
 use Rattle.vt_laws_rules.proofs.same.SameMany.{same_filesystem_itself}
 use Rattle.vt_laws_trees.proofs.runs.Each.{Each, each_back, each_onward, each_to_one, each_told}
 use Rattle.vt_laws_trees.proofs.runs.EachHas.{each_holds}
 use Rattle.vt_laws_trees.specs.Runs.Answered.{SameWorldsArePlainAlike, SamenessIsAnEquivalence}
-use Rattle.vt_spec.specs.FileTree.{FileTree}
-use Rattle.vt_spec.specs.Machine.SameWorlds.{SameFiles, SameFilesystem, SameFilesystems, SameWorlds}
-use Rattle.vt_spec.specs.Machine.World.{Filesystem, Namespace, Task, World, is_overlay}
 
 abbrev pub SameTask : Task ℕ → Task ℕ → Type 0
 SameTask one other = bare_task one ≡ bare_task other

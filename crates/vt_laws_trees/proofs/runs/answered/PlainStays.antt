@@ -1,27 +1,10 @@
 -- Calls that mount no overlay leave plain filesystems.
-use Rattle.std.proofs.Common.{◌≡◌, refl, sym, ap, subst, true≢false, inl, ℕ, nat_eq, Bool, true, false, List, [], ◌∷◌, Some, None}
-use Rattle.std.specs.List.{All}
+use Rattle.std.proofs.Common.{◌≡◌, refl, sym, ap, subst, true≢false, inl, ℕ, nat_eq, Bool, true, false, List, [], ◌∷◌, Some, None, All}
+use Rattle.vt_spec.proofs.Common.{Change, CopyUp, Fresh, Location, Outcome, Permit, Task, TaskName, ToChange, ToMake, ToMountOverlay, ToMountPlain, ToOpen, ToOpenNew, ToRemoveDirectory, ToRename, ToWritePart, World, apply, changed, evens, filesystem_at, filesystem_changed, filesystem_numbered, filesystems-taken_away, filesystems-without_replaced, finished_by, is_copied_up, is_overlay, mount_at, new_plain, none_from_not_some, odds, pwritten, settled, with_change, with_copy, with_files, without_mounts_on, without_replaced}
 use Rattle.vt_laws_rules.specs.Plain.{IsPlain}
 use Rattle.vt_laws_trees.proofs.trees.ChangesByCalls.{new_is_plain, settled_plain}
 use Rattle.vt_laws_trees.proofs.trees.ChangesByOthers.{files_stay}
 use Rattle.vt_laws_trees.proofs.trees.TreesOfWorlds.{numbered_anyhow, raised_all, replaced_all}
-use Rattle.vt_spec.proofs.Options.{none_from_not_some}
-use Rattle.vt_spec.proofs.Worlds.{filesystems-taken_away, filesystems-without_replaced}
-use Rattle.vt_spec.specs.Language.Calls.{TaskName}
-use Rattle.vt_spec.specs.Language.Changes.{Change, changed}
-use Rattle.vt_spec.specs.Language.Changes.Change.{CopyUp}
-use Rattle.vt_spec.specs.Lists.{Fresh, evens, odds}
-use Rattle.vt_spec.specs.Machine.Apply.{apply}
-use Rattle.vt_spec.specs.Machine.Descriptors.{is_copied_up, pwritten, with_copy}
-use Rattle.vt_spec.specs.Machine.Detach.{without_mounts_on, without_replaced}
-use Rattle.vt_spec.specs.Machine.Filesystems.{filesystem_changed, with_change, with_files}
-use Rattle.vt_spec.specs.Machine.Mounts.{Location}
-use Rattle.vt_spec.specs.Machine.Outcomes.{Outcome}
-use Rattle.vt_spec.specs.Machine.Permits.{Permit}
-use Rattle.vt_spec.specs.Machine.Permits.Permit.{ToChange, ToMake, ToMountOverlay, ToMountPlain, ToOpen, ToOpenNew, ToRemoveDirectory, ToRename, ToWritePart}
-use Rattle.vt_spec.specs.Machine.Policy.{finished_by}
-use Rattle.vt_spec.specs.Machine.Settled.{settled}
-use Rattle.vt_spec.specs.Machine.World.{Task, World, filesystem_at, filesystem_numbered, is_overlay, mount_at, new_plain}
 
 pub plain_numbered : (world : World ℕ) → IsPlain world → (number : ℕ)
     → (filesystem_numbered nat_eq world number).overlay ≡ None

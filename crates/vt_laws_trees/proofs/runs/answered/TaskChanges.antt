@@ -1,24 +1,8 @@
 -- The change number of a task is not looked at.
 use Rattle.std.proofs.Common.{◌≡◌, refl, ℕ, nat_eq, Bool, true, false, List, [], ◌∷◌, Option, Some, None, Ok}
+use Rattle.vt_spec.proofs.Common.{Access, Bind, Call, Chdir, Chmod, Chown, Chroot, Close, Creation, Drop, Exclusive, Exec, Exit, Fork, ForkWords, Fresh, Lazy, LinkTo, ListMounts, Location, Looks, Ls, Lstat, MakeWhiteout, Mkdir, MountFlags, MountOverlay, MountPlain, MoveMount, NoCreation, Opaque, OpenFile, OrCreate, OverlayWords, PivotRoot, Place, Pread, Pwrite, Read, Readlink, Remount, Rename, Rmdir, SetType, Setns, Stat, SymlinkAt, Task, TaskName, ToChange, ToRead, ToStat, TypeWord, Umask, Umount, Unlink, Unshare, World, Write, and_then, bind_permit, chdir_permit, chmod_permit, chown_permit, chroot_permit, close_permit, ends_in_slash, exec_permit, fork_permit, hard_link_permit, hard_link_rules, is_directory_there, is_one_object, is_special, judge_in, lazy_permit, linking, list_permit, looks_of, lstat_permit, mkdir_permit, mount_overlay_permit, mount_plain_permit, move_permit, new_leaf_walk, object_there, old_leaf_walk, old_word_rules, opaque_permit, open_permit, overfills, pivot_permit, pread_permit, pwrite_permit, read_permit, readlink_permit, readlink_rules, remount_permit, rename_new_walk, rename_permit, renamed_permit, rmdir_permit, setns_permit, stat_permit, symlink_permit, symlink_walk, symlink_walk_by, type_permit, umount_permit, unless, unlink_permit, unshare_permit, walk_end, whiteout_permit, write_permit}
 use Rattle.vt_laws_rules.proofs.judged.NumbersRaised.{bare_task}
 use Rattle.vt_spec.specs.declared.errors.Rule.TheVariants.{E1}
-use Rattle.vt_spec.specs.Errors.{and_then, unless}
-use Rattle.vt_spec.specs.Language.Calls.{Access, Call, Creation, ForkWords, MountFlags, OverlayWords, TaskName, TypeWord}
-use Rattle.vt_spec.specs.Language.Calls.Call.{Bind, Chdir, Chmod, Chown, Chroot, Close, Drop, Exec, Exit, Fork, Lazy, LinkTo, ListMounts, Ls, Lstat, MakeWhiteout, Mkdir, MountOverlay, MountPlain, MoveMount, Opaque, OpenFile, PivotRoot, Pread, Pwrite, Read, Readlink, Remount, Rename, Rmdir, SetType, Setns, Stat, SymlinkAt, Umask, Umount, Unlink, Unshare, Write}
-use Rattle.vt_spec.specs.Language.Calls.Creation.{Exclusive, NoCreation, OrCreate}
-use Rattle.vt_spec.specs.Lists.{Fresh}
-use Rattle.vt_spec.specs.Machine.Apply.{overfills}
-use Rattle.vt_spec.specs.Machine.Judge.{bind_permit, chdir_permit, chmod_permit, chown_permit, chroot_permit, close_permit, exec_permit, fork_permit, hard_link_permit, judge_in, lazy_permit, list_permit, lstat_permit, mkdir_permit, mount_overlay_permit, mount_plain_permit, move_permit, opaque_permit, open_permit, pivot_permit, pread_permit, pwrite_permit, read_permit, readlink_permit, remount_permit, rename_permit, renamed_permit, rmdir_permit, setns_permit, stat_permit, symlink_permit, type_permit, umount_permit, unlink_permit, unshare_permit, whiteout_permit, write_permit}
-use Rattle.vt_spec.specs.Machine.Looks.{Looks, looks_of}
-use Rattle.vt_spec.specs.Machine.Mounts.{Location}
-use Rattle.vt_spec.specs.Machine.Permits.Permit.{ToChange, ToRead, ToStat}
-use Rattle.vt_spec.specs.Machine.Rules.Looking.{readlink_rules}
-use Rattle.vt_spec.specs.Machine.Rules.Making.{hard_link_rules}
-use Rattle.vt_spec.specs.Machine.Rows.{linking}
-use Rattle.vt_spec.specs.Machine.Rules.Removing.{is_one_object, object_there, old_word_rules, rename_new_walk}
-use Rattle.vt_spec.specs.Machine.Walking.{Place, is_directory_there, is_special, new_leaf_walk, old_leaf_walk, symlink_walk, symlink_walk_by, walk_end}
-use Rattle.vt_spec.specs.Machine.World.{Task, World}
-use Rattle.vt_spec.specs.PathText.{ends_in_slash}
 
 module _ (looks : Looks ℕ) (task : Task ℕ) where
   list_bare : (path : List ℕ) → list_permit nat_eq looks (bare_task task) path ≡ list_permit nat_eq looks task path

@@ -1,14 +1,12 @@
 -- Counts with the number of an inode among them are a supply with room.
-use Rattle.std.proofs.lemmas.Grind.{common_steps}
 use Rattle.std.proofs.Common.{◌≡◌, refl, sym, ap, ◌∙◌, true≢false, ℕ, ◌==◌, ◌%◌, Bool, true, false, cond, ◌&&◌, ◌||◌, ◌/◌, nat_lt, arith, eq-eqb, ne_eqb, eqb-true}
-use Rattle.std.proofs.lemmas.Bool.{eqb-false}
+use Rattle.vt_spec.proofs.Common.{World, common_steps, eqb-false}
 use Rattle.vt_laws_rules.proofs.numbers.NamedWorlds.{named_is_kept}
 use Rattle.vt_laws_rules.specs.Numbers.{Allotment, KeepsTo, Lot, is_in_hand, is_kept}
 use Rattle.vt_laws_rules.specs.Numbers.Lot.{Kept, LeftOver, New}
 use Rattle.vt_laws_trees.proofs.runs.handed.Counts.{counts, counts_from_hand, counts_keep, counts_stay, same_new}
 use Rattle.vt_laws_trees.specs.Runs.Handed.{AllottedNumbersOpen, AllottedNumbersServe, AllottedNumbersServeNamed, NumbersAreAllotted, handed_from, is_counted_before, is_named_before, lot_from, lot_of_counts, may_be_given}
 use Rattle.vt_laws_trees.specs.Runs.Runs.{ServesInHand}
-use Rattle.vt_spec.specs.Machine.World.{World}
 use Rattle.vt_laws_rules.proofs.numbers.Allotments.{kept_lot}
 
 -- One of the numbers that an allotment keeps stands for a new one of its numbers, which is kept in its place.

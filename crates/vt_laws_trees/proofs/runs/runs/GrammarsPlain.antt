@@ -1,14 +1,8 @@
 -- A grammar without the mount of an overlay asks for none.
-use Rattle.std.proofs.lemmas.Grind.{common_steps}
 use Rattle.std.proofs.Common.{◌≡◌, ◌∙◌, refl, ℕ, Bool, true, false, cond, List, [], ◌∷◌, Option, Some, None, option_map, arith}
-use Rattle.std.proofs.lemmas.List.Elements.{All-cons}
+use Rattle.vt_spec.proofs.Common.{All-cons, Call, Calling, Grammar, MountOverlay, Nobody, OverlayWords, Someone, TaskName, Who, asked_by, call_read, call_words, common_steps, each_of, raw_tokens, request_of, request_of_texts, then_some, token_text, when}
 use Rattle.vt_laws_trees.specs.Runs.Runs.{GrammarsKeepOverlaysOut}
-use Rattle.vt_spec.specs.Language.Calls.Call.{MountOverlay}
-use Rattle.vt_spec.specs.Language.Calls.{Call, OverlayWords, TaskName}
-use Rattle.vt_spec.specs.Language.Script.{Grammar, Who, asked_by, call_asked, call_read, call_words, directive_asked, each_of, raw_tokens, request_of, request_of_texts, token_text, who_of}
-use Rattle.vt_spec.specs.Language.Script.Request.{Calling}
-use Rattle.vt_spec.specs.Language.Script.Who.{Nobody, Someone}
-use Rattle.vt_spec.specs.Lists.{then_some, when}
+use Rattle.vt_spec.specs.Language.Script.{call_asked, directive_asked, who_of}
 use Rattle.vt_laws_trees.specs.Trees.Calls.{HasNoOverlays, asks_for_overlay, mounts_overlay}
 
 -- what is read of a call's options makes no mount of an overlay of it

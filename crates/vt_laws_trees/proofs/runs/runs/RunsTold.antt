@@ -1,7 +1,6 @@
 -- A run that goes on from worlds that are the same writes a text that may be written, and so the one text.
-use Rattle.std.proofs.Common.{◌≡◌, refl, sym, ap, ◌∙◌, subst, ℕ, suc, nat_eq, nat_lt, ◌+◌, ◌≤◌, Bool, true, false, List, [], ◌∷◌, ◌++◌, length, Option, Some, None, arith}
-use Rattle.std.specs.Prelude.{All}
-use Rattle.std.proofs.lemmas.List.Elements.{All-cons, All-head, All-tail}
+use Rattle.std.proofs.Common.{◌≡◌, refl, sym, ap, ◌∙◌, subst, ℕ, suc, nat_eq, nat_lt, ◌+◌, ◌≤◌, Bool, true, false, List, [], ◌∷◌, ◌++◌, length, Option, Some, None, arith, All}
+use Rattle.vt_spec.proofs.Common.{All-cons, All-head, All-tail, Asking, Calling, Filesystem, Fresh, Grammar, LowerObjectsHaveOneName, Request, SameWorlds, Serves, World, first_world, is_overlay, is_silent, line_step, line_step_by, lines_of, longest_line, new_plain, opening, renamed, request_of, requested, step_world}
 use Rattle.vt_laws_rules.proofs.denials.Unchanged.{directive_changes_nothing, refused_memory_changes_nothing}
 use Rattle.vt_laws_rules.proofs.numbers.Commuting.{commutes_nat}
 use Rattle.vt_laws_rules.proofs.numbers.Renamings.{named_world}
@@ -21,14 +20,7 @@ use Rattle.vt_laws_trees.proofs.runs.answered.AlikeWorlds.{Alike, alike_from_sam
 use Rattle.vt_laws_trees.proofs.runs.runs.Seats.{Start, started}
 use Rattle.vt_laws_trees.specs.Runs.Runs.{LeavesEndless, OpensInHand, RunsHaveOneText, TellsAlike}
 use Rattle.vt_laws_trees.specs.Trees.Calls.{asks_for_overlay}
-use Rattle.vt_spec.specs.Language.Limits.{longest_line}
-use Rattle.vt_spec.specs.Language.Script.{Grammar, Request, is_silent, lines_of, request_of}
-use Rattle.vt_spec.specs.Language.Script.Request.{Asking, Calling}
-use Rattle.vt_spec.specs.Lists.{Fresh}
-use Rattle.vt_spec.specs.Machine.Renaming.{renamed}
-use Rattle.vt_spec.specs.Machine.Run.{Serves, first_world, line_step, line_step_by, requested, step_world, text_of}
-use Rattle.vt_spec.specs.Machine.SameWorlds.{LowerObjectsHaveOneName, SameWorlds}
-use Rattle.vt_spec.specs.Machine.World.{Filesystem, World, is_overlay, new_plain, opening}
+use Rattle.vt_spec.specs.Machine.Run.{text_of}
 
 -- The policy's world, and that of the run, renamed: what they lead to
 goes_on_alike : (renaming : Renaming ℕ ℕ) (left next reached there : World ℕ) → SameWorlds left next

@@ -1,14 +1,12 @@
 -- Whatever leaves endless numbers over is renamed into the first row.
-use Rattle.std.proofs.lemmas.Grind.{common_steps}
 use Rattle.std.proofs.Common.{◌≡◌, ap, ◌∙◌, ℕ, zero, suc, ◌==◌, ◌+◌, ◌*◌, ◌/◌, ◌%◌, ◌<◌, Bool, true, false, arith, eq-eqb, ne_eqb, eqb-true}
-use Rattle.std.proofs.lemmas.Bool.{eqb-false}
+use Rattle.vt_spec.proofs.Common.{Fresh, common_steps, eqb-false}
 use Rattle.vt_laws_rules.proofs.numbers.Cells.{cell, cell-number_in_row, number_in_row, number_in_row-cell}
 use Rattle.vt_laws_rules.proofs.numbers.Rows.{col, col-spread, row, row-spread, row_first, spread, spread-row}
 use Rattle.vt_laws_rules.proofs.numbers.Commuting.{stay_apart}
 use Rattle.vt_laws_rules.proofs.numbers.Exchanges.{swapped, swapped_first, swapped_other, swapped_twice}
 use Rattle.vt_laws_rules.specs.Renaming.{Renaming}
 use Rattle.vt_laws_trees.specs.Runs.Runs.{LeavesEndless, OpensInHand}
-use Rattle.vt_spec.specs.Lists.{Fresh}
 
 -- a number stands at an even place of the first row, or elsewhere: those elsewhere are counted too
 pub data Seat : Type 0 where

@@ -1,35 +1,6 @@
 -- No call gives a detached mount other flags, a mount point or a namespace.
-use Rattle.std.proofs.lemmas.Grind.{common_steps}
-use Rattle.std.proofs.Common.{◌≡◌, refl, sym, ap, subst, ◌∙◌, ⊎_elim, ℕ, suc, nat_eq, Bool, true, false, true≢false, List, [], ◌∷◌, ◌&&◌, Option, Some, None, Ok, filter, map, eqb-true, arith}
-use Rattle.std.specs.Prelude.{option_to_list}
-use Rattle.std.specs.List.{list_all}
-use Rattle.std.proofs.lemmas.Bool.{and_parts}
-use Rattle.vt_spec.specs.Language.Calls.{Call, MountFlags}
-use Rattle.vt_spec.specs.Language.Calls.Call.{MountOverlay}
-use Rattle.vt_spec.specs.Language.Changes.Change.{Make, Move, Remove}
-use Rattle.vt_spec.specs.Lists.{Fresh, evens, odds}
-use Rattle.vt_spec.specs.Machine.Apply.{apply, overfills}
-use Rattle.vt_spec.specs.Machine.Attach.{bind_tree}
-use Rattle.vt_spec.specs.Machine.Descriptors.{is_copied_up}
-use Rattle.vt_spec.specs.Machine.Detach.{going, taken_away, without_mounts_on, without_replaced}
-use Rattle.vt_spec.specs.Machine.Invariants.{IsWorld, MountInvariants}
-use Rattle.vt_spec.specs.Machine.Judge.{judge_in}
-use Rattle.vt_spec.specs.Machine.Looks.{looks_of}
-use Rattle.vt_spec.specs.Machine.Mounts.{Location, Mount, mount_in, numbers_by}
-use Rattle.vt_spec.specs.Machine.Mounts.Propagation.{Private}
-use Rattle.vt_spec.specs.Machine.Namespaces.{copied_mount, is_in_ended, namespace_entered, pivoted_mount, unshared}
-use Rattle.vt_spec.specs.Machine.NewMounts.{mounted, new_mount, overlay_filesystem, plain_filesystem, with_new_filesystem}
-use Rattle.vt_spec.specs.Machine.Outcomes.{Outcome, after}
-use Rattle.vt_spec.specs.Machine.Permits.{Permit}
-use Rattle.vt_spec.specs.Machine.Permits.Permit.{ToBind, ToChange, ToEnterNamespace, ToExit, ToMake, ToMountOverlay, ToMountPlain, ToMove, ToOpen, ToOpenNew, ToPivot, ToRemoveDirectory, ToRename, ToSetFlags, ToSetType, ToUnmount, ToUnmountLazily, ToUnshare, ToWritePart}
-use Rattle.vt_spec.specs.Machine.Policy.{call_outcome, finished_by}
-use Rattle.vt_spec.specs.Machine.Rules.Mounting.{overlay_at}
-use Rattle.vt_spec.specs.Machine.Run.{Serves}
-use Rattle.vt_spec.specs.Machine.Settled.{mount_lives, settled}
-use Rattle.vt_spec.specs.Machine.World.{Filesystem, Task, World, mount_at, mount_numbered, mounts_of, task_called, without_task}
-use Rattle.vt_spec.proofs.Lists.{Among, among-from_filter, among_from_list_all}
-use Rattle.vt_spec.proofs.Options.{none_is_some}
-use Rattle.vt_spec.proofs.Worlds.{number-mount_in, number-pivoted_mount}
+use Rattle.std.proofs.Common.{◌≡◌, refl, sym, ap, subst, ◌∙◌, ⊎_elim, ℕ, suc, nat_eq, Bool, true, false, true≢false, List, [], ◌∷◌, ◌&&◌, Option, Some, None, Ok, filter, map, eqb-true, arith, option_to_list}
+use Rattle.vt_spec.proofs.Common.{Among, Call, Filesystem, Fresh, IsWorld, Location, Make, Mount, MountFlags, MountInvariants, MountOverlay, Move, Outcome, Permit, Private, Remove, Serves, Task, ToBind, ToChange, ToEnterNamespace, ToExit, ToMake, ToMountOverlay, ToMountPlain, ToMove, ToOpen, ToOpenNew, ToPivot, ToRemoveDirectory, ToRename, ToSetFlags, ToSetType, ToUnmount, ToUnmountLazily, ToUnshare, ToWritePart, World, after, among-from_filter, among_from_list_all, and_parts, apply, bind_tree, call_outcome, common_steps, copied_mount, evens, finished_by, going, is_copied_up, is_in_ended, judge_in, list_all, looks_of, mount_at, mount_in, mount_lives, mount_numbered, mounted, mounts_of, namespace_entered, new_mount, none_is_some, number-mount_in, number-pivoted_mount, numbers_by, odds, overfills, overlay_at, overlay_filesystem, pivoted_mount, plain_filesystem, settled, taken_away, task_called, unshared, with_new_filesystem, without_mounts_on, without_replaced, without_task}
 use Rattle.vt_laws_rules.specs.Granted.{IsGranted}
 use Rattle.vt_laws_rules.specs.Granted.IsGranted.{mounts_overlayfs}
 use Rattle.vt_laws_rules.proofs.given.Inversion.{calls_are_granted}

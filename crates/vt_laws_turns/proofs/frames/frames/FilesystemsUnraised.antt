@@ -1,20 +1,7 @@
 -- A filesystem whose change number is what it was is what it was, but for what nothing uses.
-use Rattle.std.proofs.lemmas.Grind.{common_steps}
-use Rattle.std.proofs.Common.{◌≡◌, ◌≢◌, refl, sym, ap, subst, ◌∙◌, inl, ℕ, nat_eq, true≢false, cond, List, ◌*◌, Option, Some, None, find, eqb-true, eq-eqb, arith}
-use Rattle.std.specs.Prelude.{option_map, unwrap_or}
-use Rattle.std.specs.List.{list_any}
+use Rattle.std.proofs.Common.{◌≡◌, ◌≢◌, refl, sym, ap, subst, ◌∙◌, inl, ℕ, nat_eq, true≢false, cond, List, ◌*◌, Option, Some, None, find, eqb-true, eq-eqb, arith, option_map, unwrap_or}
+use Rattle.vt_spec.proofs.Common.{Among, Filesystem, Fresh, Permit, Task, TaskName, World, apply, common_steps, filesystem_change_of, filesystem_numbered, filesystems_changed, found_among, found_passes, last_number, list_any, no_filesystem, numbers_raised, raised, raised_if_changed, settled}
 use Rattle.vt_laws_worlds.proofs.overlay_permits.worlds.PolicyLeads.{named_leaves}
-use Rattle.vt_spec.specs.Lists.{Fresh}
-use Rattle.vt_spec.specs.Machine.Apply.{apply, filesystems_changed}
-use Rattle.vt_spec.specs.Machine.Filesystems.{raised, raised_if_changed}
-use Rattle.vt_spec.specs.Machine.Permits.{Permit}
-use Rattle.vt_spec.specs.Machine.Policy.{numbers_raised}
-use Rattle.vt_spec.specs.Machine.Settled.{settled}
-use Rattle.vt_spec.specs.Machine.Turns.{filesystem_change_of, last_number}
-use Rattle.vt_spec.specs.Language.Calls.{TaskName}
-use Rattle.vt_spec.specs.Machine.World.{Filesystem, Task, World, filesystem_numbered, no_filesystem}
-use Rattle.vt_spec.proofs.Found.{found_among, found_passes}
-use Rattle.vt_spec.proofs.Lists.{Among}
 use Rattle.vt_laws_mounts.proofs.letting_go.Lists.{found_by}
 use Rattle.vt_laws_worlds.proofs.worlds.SeenTrees.{unused_by_filesystem}
 use Rattle.vt_laws_turns.specs.Frames.Unraised.{IsCallIn, IsFilesystemUnraised, KeepsFilesystem, UnraisedFilesystemsStay}

@@ -1,21 +1,7 @@
 -- A pivot raises the change number of its namespace, so other tasks of a namespace whose number is what it was are what
 -- they were.
-use Rattle.std.proofs.lemmas.Grind.{common_steps}
 use Rattle.std.proofs.Common.{◌≡◌, refl, sym, ap, subst, ◌∙◌, ⊎_elim, ℕ, nat_eq, Bool, true, false, true≢false, cond, ◌||◌, List, [], ◌∷◌, Some, None, Ok, eqb-true, eq-eqb, is_some, arith}
-use Rattle.vt_spec.specs.Language.Calls.{Call, TaskName}
-use Rattle.vt_spec.specs.Language.Calls.Call.{PivotRoot}
-use Rattle.vt_spec.specs.Lists.{Fresh, holds_of}
-use Rattle.vt_spec.specs.Machine.Judge.{judge_in}
-use Rattle.vt_spec.specs.Machine.Mounts.{Location, Mount, child_at, stands_at}
-use Rattle.vt_spec.specs.Machine.Namespaces.{pivoted, pivoted_mount}
-use Rattle.vt_spec.specs.Machine.Permits.Permit.{ToPivot}
-use Rattle.vt_spec.specs.Machine.Policy.{filesystems_changed_by, numbers_raised, policy}
-use Rattle.vt_spec.specs.Machine.Settled.{is_located, mount_lives, settled}
-use Rattle.vt_spec.specs.Machine.World.{Task, World, mount_at, mount_numbered, mounts_of, task_called}
-use Rattle.vt_spec.proofs.Lists.{Among, among-filter, among-from_filter, among-map}
-use Rattle.vt_spec.proofs.Options.{none_is_some}
-use Rattle.vt_spec.proofs.Truths.{nat_eq_itself}
-use Rattle.vt_spec.proofs.Worlds.{number-mount_in}
+use Rattle.vt_spec.proofs.Common.{Among, Call, Fresh, Location, Mount, PivotRoot, Task, TaskName, ToPivot, World, among-filter, among-from_filter, among-map, child_at, common_steps, filesystems_changed_by, holds_of, is_located, judge_in, mount_at, mount_lives, mount_numbered, mounts_of, nat_eq_itself, none_is_some, number-mount_in, numbers_raised, pivoted, pivoted_mount, policy, settled, stands_at, task_called}
 use Rattle.vt_laws_rules.proofs.judged.CallsJudged.{call_is_judged_then_applied}
 use Rattle.vt_laws_trees.specs.Calls.Tasks.{Pivots}
 use Rattle.vt_laws_trees.proofs.calls.tasks.TasksLaws.{other_tasks_stay}

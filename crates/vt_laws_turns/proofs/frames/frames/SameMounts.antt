@@ -1,16 +1,7 @@
 -- Mounts that are the same by the tests of the policy, and show what they showed, are the same records.
-use Rattle.std.proofs.lemmas.Grind.{common_steps}
-use Rattle.std.proofs.Common.{◌≡◌, ◌≢◌, refl, sym, ◌∙◌, inl, inr, ℕ, nat_eq, Bool, true, false, true≢false, List, [], ◌∷◌, Option, Some, ◌&&◌, eqb-true, arith}
-use Rattle.std.specs.Prelude.{Contains}
-use Rattle.std.proofs.lemmas.Bool.{and_parts}
-use Rattle.vt_spec.specs.Language.Calls.{MountFlags}
+use Rattle.std.proofs.Common.{◌≡◌, ◌≢◌, refl, sym, ◌∙◌, inl, inr, ℕ, nat_eq, Bool, true, false, true≢false, List, [], ◌∷◌, Option, Some, ◌&&◌, eqb-true, arith, Contains}
+use Rattle.vt_spec.proofs.Common.{Among, Location, Mount, MountFlags, Propagation, World, and_parts, common_steps, contains_from_among, holds_of, master_above, raised, same_bool, same_flags, same_list, same_location, same_mount, same_option, same_propagation}
 use Rattle.vt_spec.specs.Language.Limits.{largest_change}
-use Rattle.vt_spec.specs.Lists.{holds_of, same_list, same_option}
-use Rattle.vt_spec.specs.Machine.Filesystems.{raised}
-use Rattle.vt_spec.specs.Machine.Mounts.{Location, Mount, Propagation, same_location}
-use Rattle.vt_spec.specs.Machine.Policy.{master_above, same_bool, same_flags, same_mount, same_propagation}
-use Rattle.vt_spec.specs.Machine.World.{World}
-use Rattle.vt_spec.proofs.Lists.{Among, contains_from_among}
 
 pub rises : (n : ℕ) → n ≢ largest_change → raised n ≡ n → ⊥
 rises n h e = grind (arith, common_steps, eqb-true)

@@ -1,22 +1,6 @@
 -- Mounts that a granted call leaves show what they showed.
 use Rattle.std.proofs.Common.{◌≡◌, refl, sym, ap, subst, ◌∙◌, ℕ, nat_eq, Bool, true, false, true≢false, Some, Ok, map}
-use Rattle.vt_spec.specs.Language.Calls.{Call}
-use Rattle.vt_spec.specs.Language.Calls.Call.{MountOverlay}
-use Rattle.vt_spec.specs.Lists.{Fresh, evens, odds}
-use Rattle.vt_spec.specs.Machine.Apply.{apply, overfills}
-use Rattle.vt_spec.specs.Machine.Invariants.{IsWorld}
-use Rattle.vt_spec.specs.Machine.Judge.{judge_in}
-use Rattle.vt_spec.specs.Machine.Looks.{looks_of}
-use Rattle.vt_spec.specs.Machine.Mounts.{Mount}
-use Rattle.vt_spec.specs.Machine.NewMounts.{overlay_filesystem}
-use Rattle.vt_spec.specs.Machine.Outcomes.{Outcome}
-use Rattle.vt_spec.specs.Machine.Permits.{Permit}
-use Rattle.vt_spec.specs.Machine.Policy.{call_outcome}
-use Rattle.vt_spec.specs.Machine.Rules.Mounting.{overlay_at}
-use Rattle.vt_spec.specs.Machine.Run.{Serves}
-use Rattle.vt_spec.specs.Machine.Settled.{mount_lives, settled}
-use Rattle.vt_spec.specs.Machine.World.{Task, World, mount_numbered, task_called}
-use Rattle.vt_spec.proofs.Lists.{Among, among_from_contains, among-from_filter, among-map, is_among_numbers}
+use Rattle.vt_spec.proofs.Common.{Among, Call, Fresh, IsWorld, Mount, MountOverlay, Outcome, Permit, Serves, Task, World, among-from_filter, among-map, among_from_contains, apply, call_outcome, evens, is_among_numbers, judge_in, looks_of, mount_lives, mount_numbered, odds, overfills, overlay_at, overlay_filesystem, settled, task_called}
 use Rattle.vt_laws_rules.proofs.given.Inversion.{calls_are_granted}
 use Rattle.vt_laws_rules.specs.Granted.{IsGranted}
 use Rattle.vt_laws_rules.specs.Granted.IsGranted.{mounts_overlayfs}

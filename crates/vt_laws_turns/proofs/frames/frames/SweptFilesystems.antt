@@ -1,11 +1,6 @@
 -- The sweep leaves a filesystem what it was, but for inodes that nothing uses.
-use Rattle.std.proofs.Common.{arith, ◌≡◌, refl, ◌∙◌, inl, inr, ⊎_elim, ℕ, nat_eq, Bool, true, false, cond, List, Option, Some, None, sym, subst, not}
-use Rattle.std.proofs.lemmas.Grind.{common_steps}
-use Rattle.std.specs.Prelude.{option_map}
-use Rattle.vt_spec.specs.Lists.{is_among}
-use Rattle.vt_spec.specs.Machine.Settled.{only_used, only_used_by, real_among, settled, filesystem_lives, without_dead_filesystems, without_dead_in, without_dead_mounts}
-use Rattle.vt_spec.specs.Machine.World.{Filesystem, Overlay, World, is_overlay}
-use Rattle.vt_spec.proofs.Lists.{Among, among-from_filter, among-from_map}
+use Rattle.std.proofs.Common.{arith, ◌≡◌, refl, ◌∙◌, inl, inr, ⊎_elim, ℕ, nat_eq, Bool, true, false, cond, List, Option, Some, None, sym, subst, not, option_map}
+use Rattle.vt_spec.proofs.Common.{Among, Filesystem, Overlay, World, among-from_filter, among-from_map, common_steps, filesystem_lives, is_among, is_overlay, only_used, only_used_by, real_among, settled, without_dead_filesystems, without_dead_in, without_dead_mounts}
 use Rattle.vt_laws_turns.specs.Frames.Unraised.{IsLeftOrGone, KeepsFilesystem, KeepsOverlay}
 
 -- it is what it was, and has its number and its change number

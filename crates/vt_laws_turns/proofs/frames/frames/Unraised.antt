@@ -1,22 +1,6 @@
 -- A namespace whose change number is what it was has the mounts that it had.
-use Rattle.std.proofs.lemmas.Grind.{common_steps}
-use Rattle.std.proofs.Common.{◌≡◌, ◌≢◌, refl, sym, ap, subst, ◌∙◌, ◌⊎◌, inl, inr, ⊎_elim, ℕ, nat_eq, Bool, true, false, true≢false, cond, List, ◌*◌, Option, Some, None, Ok, find, map, eqb-true, eq-eqb, arith}
-use Rattle.std.specs.Prelude.{option_map, unwrap_or}
-use Rattle.std.proofs.lemmas.Bool.{or_parts}
-use Rattle.vt_spec.specs.Language.Calls.{Call, TaskName}
-use Rattle.vt_spec.specs.Lists.{Fresh, holds_of}
-use Rattle.vt_spec.specs.Machine.Apply.{apply}
-use Rattle.vt_spec.specs.Machine.Filesystems.{raised}
-use Rattle.vt_spec.specs.Machine.Judge.{judge_in}
-use Rattle.vt_spec.specs.Machine.Mounts.{Mount}
-use Rattle.vt_spec.specs.Machine.Outcomes.{Outcome, after}
-use Rattle.vt_spec.specs.Machine.Permits.{Permit}
-use Rattle.vt_spec.specs.Machine.Policy.{call_outcome, finished_by, numbers_raised, raised_namespace, same_mounts_in}
-use Rattle.vt_spec.specs.Machine.Settled.{settled}
-use Rattle.vt_spec.specs.Machine.Turns.{is_stale, last_number, namespace_change_of}
-use Rattle.vt_spec.specs.Machine.World.{Namespace, Task, World, mounts_of, task_called}
-use Rattle.vt_spec.proofs.Found.{found_among, found_passes}
-use Rattle.vt_spec.proofs.Lists.{Among, among-append_right, among-from_filter, among-map}
+use Rattle.std.proofs.Common.{◌≡◌, ◌≢◌, refl, sym, ap, subst, ◌∙◌, ◌⊎◌, inl, inr, ⊎_elim, ℕ, nat_eq, Bool, true, false, true≢false, cond, List, ◌*◌, Option, Some, None, Ok, find, map, eqb-true, eq-eqb, arith, option_map, unwrap_or}
+use Rattle.vt_spec.proofs.Common.{Among, Call, Fresh, Mount, Namespace, Outcome, Permit, Task, TaskName, World, after, among-append_right, among-from_filter, among-map, apply, call_outcome, common_steps, finished_by, found_among, found_passes, holds_of, is_stale, judge_in, last_number, mounts_of, namespace_change_of, numbers_raised, or_parts, raised, raised_namespace, same_mounts_in, settled, task_called}
 use Rattle.vt_laws_rules.proofs.judged.CallsJudged.{call_is_judged_then_applied}
 use Rattle.vt_laws_worlds.proofs.overlay_permits.worlds.PolicyLeads.{policy_leads}
 use Rattle.vt_laws_worlds.proofs.worlds.SeenTrees.{unused_number}

@@ -1,17 +1,6 @@
 -- The mounts that a task stands on stay the same records, in its namespace or in none.
-use Rattle.std.proofs.lemmas.Grind.{common_steps}
-use Rattle.std.proofs.Common.{◌≡◌, refl, sym, ap, ◌∙◌, ℕ, nat_eq, true, List, [], ◌∷◌, Option, Some, None, eqb-true, arith}
-use Rattle.std.specs.Prelude.{option_to_list}
-use Rattle.std.specs.List.{list_all}
-use Rattle.std.proofs.lemmas.Bool.{and_parts}
-use Rattle.vt_spec.specs.Language.Calls.{TaskName}
-use Rattle.vt_spec.specs.Machine.Invariants.{IsWorld}
-use Rattle.vt_spec.specs.Machine.Mounts.{Location}
-use Rattle.vt_spec.specs.Machine.World.{Task, World, mount_at, mounts_of, task_called}
-use Rattle.vt_spec.proofs.Lists.{among-filter, among-from_filter}
-use Rattle.vt_spec.proofs.Options.{none_is_some}
-use Rattle.vt_spec.proofs.Truths.{nat_eq_itself}
-use Rattle.vt_spec.proofs.Worlds.{found_or_none, number-mount_in}
+use Rattle.std.proofs.Common.{◌≡◌, refl, sym, ap, ◌∙◌, ℕ, nat_eq, true, List, [], ◌∷◌, Option, Some, None, eqb-true, arith, option_to_list}
+use Rattle.vt_spec.proofs.Common.{IsWorld, Location, Task, TaskName, World, among-filter, among-from_filter, and_parts, common_steps, found_or_none, list_all, mount_at, mounts_of, nat_eq_itself, none_is_some, number-mount_in, task_called}
 use Rattle.vt_laws_mounts.proofs.mounts.MountsReplaced.{found_itself}
 use Rattle.vt_laws_worlds.proofs.worlds.CallsKept.{name_found}
 use Rattle.vt_laws_worlds.proofs.worlds.Reached.{IsOn}

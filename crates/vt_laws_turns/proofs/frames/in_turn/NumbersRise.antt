@@ -1,19 +1,7 @@
 -- A change number stays, rises by one, or is the largest one for good.
-use Rattle.std.proofs.lemmas.Grind.{common_steps}
-use Rattle.std.proofs.Common.{◌≡◌, ◌≢◌, refl, sym, ap, subst, ◌∙◌, ◌⊎◌, inl, inr, ⊎_elim, ℕ, nat_eq, Bool, true, false, true≢false, cond, List, [], ◌∷◌, ◌+◌, ◌*◌, ◌≤◌, Option, Some, find, eqb-true, eq-eqb, ne_eqb, arith}
-use Rattle.std.specs.Prelude.{option_map, ◌==◌}
+use Rattle.std.proofs.Common.{◌≡◌, ◌≢◌, refl, sym, ap, subst, ◌∙◌, ◌⊎◌, inl, inr, ⊎_elim, ℕ, nat_eq, Bool, true, false, true≢false, cond, List, [], ◌∷◌, ◌+◌, ◌*◌, ◌≤◌, Option, Some, find, eqb-true, eq-eqb, ne_eqb, arith, option_map, ◌==◌}
+use Rattle.vt_spec.proofs.Common.{Call, Fresh, IsWorld, Namespace, Permit, Task, TaskName, World, apply, common_steps, filesystems_changed, found_among, found_passes, is_stale, last_number, mounts_of, namespace_change_of, numbers_raised, policy, raised, raised_namespace, settled, task_called}
 use Rattle.vt_laws_worlds.proofs.overlay_permits.worlds.PolicyLeads.{named_leaves}
-use Rattle.vt_spec.specs.Language.Calls.{Call, TaskName}
-use Rattle.vt_spec.specs.Lists.{Fresh}
-use Rattle.vt_spec.specs.Machine.Apply.{apply, filesystems_changed}
-use Rattle.vt_spec.specs.Machine.Filesystems.{raised}
-use Rattle.vt_spec.specs.Machine.Invariants.{IsWorld}
-use Rattle.vt_spec.specs.Machine.Permits.{Permit}
-use Rattle.vt_spec.specs.Machine.Policy.{numbers_raised, policy, raised_namespace}
-use Rattle.vt_spec.specs.Machine.Settled.{settled}
-use Rattle.vt_spec.specs.Machine.Turns.{is_stale, last_number, namespace_change_of}
-use Rattle.vt_spec.specs.Machine.World.{Namespace, Task, World, mounts_of, task_called}
-use Rattle.vt_spec.proofs.Found.{found_among, found_passes}
 use Rattle.vt_laws_worlds.proofs.overlay_permits.worlds.EveryCall.{every_call_keeps_worlds}
 use Rattle.vt_laws_turns.specs.Frames.InTurn.{AreBeside, AreOfOthers, CallBetween, IsBeside, OtherTasksStayInTurn, UnraisedNamespacesKeepMountsInTurn, after_call, after_calls}
 use Rattle.vt_laws_turns.specs.Frames.Unraised.{IsCallIn, IsNamespaceUnraised}

@@ -1,7 +1,6 @@
 -- So they do after calls of others, where no change number that is held is overtaken.
 use Rattle.std.proofs.Common.{◌≡◌, ℕ, nat_eq, List, [], ◌∷◌}
-use Rattle.vt_spec.specs.Machine.Invariants.{IsWorld}
-use Rattle.vt_spec.specs.Machine.World.{World, mounts_of}
+use Rattle.vt_spec.proofs.Common.{IsWorld, World, mounts_of}
 use Rattle.vt_laws_turns.specs.Frames.Detached.{StandsWhereItStood}
 use Rattle.vt_laws_turns.specs.Frames.InTurn.{AreBeside, CallBetween, after_call, after_calls}
 use Rattle.vt_laws_turns.proofs.frames.in_turn.FilesystemsRise.{filesystems_stay_in_turn}

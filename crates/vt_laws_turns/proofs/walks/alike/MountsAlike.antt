@@ -1,22 +1,7 @@
 -- Where a namespace has the mounts that it had, its mounts lead up and down as they did.
-use Rattle.std.proofs.lemmas.Grind.{common_steps}
-use Rattle.std.proofs.Common.{◌≡◌, refl, sym, ap, subst, ◌∙◌, ◌⊎◌, inl, inr, ⊎_elim, ℕ, zero, suc, pred, nat_eq, Bool, true, cond, true≢false, List, [], ◌∷◌, Option, Some, None, map, find, filter, length, ◌≤◌, arith}
-use Rattle.std.specs.Prelude.{option_map}
-use Rattle.std.proofs.lemmas.Bool.{and_parts, false_from_ne_true}
-use Rattle.std.proofs.lemmas.List.{length-map}
-use Rattle.std.proofs.lemmas.Option.{same_Some}
-use Rattle.vt_spec.specs.Lists.{chain, holds_of, last_or}
-use Rattle.vt_spec.specs.Machine.Invariants.{MountInvariants, Stands}
-use Rattle.vt_spec.specs.Machine.Invariants.Stands.{at_root, on_parent}
-use Rattle.vt_spec.specs.Machine.Looks.{looks_of}
-use Rattle.vt_spec.specs.Machine.Mounts.{Location, Mount, child_at, mounts_over, root_of, same_location, stands_at}
-use Rattle.vt_spec.specs.Machine.Walking.{hop, hops}
-use Rattle.vt_spec.specs.Machine.World.{Task, World, mount_numbered, mounts_of}
-use Rattle.vt_spec.proofs.Found.{found_among, found_passes}
-use Rattle.vt_spec.proofs.Lists.{Among, among-filter, among-from_filter, among-map, among_from_all, among_from_list_all, chain_ends, chain_goes_on, filter_here, filter_skip, last_of_chain}
-use Rattle.vt_spec.proofs.Options.{none_is_some}
-use Rattle.vt_spec.proofs.Truths.{nat_eq_itself}
-use Rattle.vt_spec.proofs.Worlds.{found_or_none, number-mount_in}
+use Rattle.std.proofs.Common.{◌≡◌, refl, sym, ap, subst, ◌∙◌, ◌⊎◌, inl, inr, ⊎_elim, ℕ, zero, suc, pred, nat_eq, Bool, true, cond, true≢false, List, [], ◌∷◌, Option, Some, None, map, find, filter, length, ◌≤◌, arith, option_map}
+use Rattle.vt_spec.proofs.Common.{Among, Location, Mount, MountInvariants, Stands, Task, World, among-filter, among-from_filter, among-map, among_from_all, among_from_list_all, and_parts, at_root, chain, chain_ends, chain_goes_on, child_at, common_steps, false_from_ne_true, filter_here, filter_skip, found_among, found_or_none, found_passes, holds_of, hops, last_of_chain, last_or, length-map, looks_of, mount_numbered, mounts_of, mounts_over, nat_eq_itself, none_is_some, number-mount_in, on_parent, root_of, same_Some, same_location, stands_at}
+use Rattle.vt_spec.specs.Machine.Walking.{hop}
 use Rattle.vt_laws_mounts.proofs.mounts.MountsPlaces.{stands_there}
 use Rattle.vt_laws_mounts.proofs.mounts.MountsReplaced.{found_itself}
 use Rattle.vt_laws_mounts.proofs.namespaces.Topmost.{topmost_is_free}

@@ -1,17 +1,6 @@
 -- Where a filesystem is what it was, but for what is gone, what is there lies where it lay.
-use Rattle.std.proofs.lemmas.Grind.{common_steps}
 use Rattle.std.proofs.Common.{◌≡◌, refl, sym, ap, subst, ◌∙◌, ⊎_elim, ℕ, nat_eq, true, false, cond, true≢false, List, [], ◌∷◌, Option, Some, None, length, ◌+◌, arith, is_some}
-use Rattle.vt_spec.specs.FileTree.{FileTree, is_directory_under, is_removed, named_parent, targets_in}
-use Rattle.vt_spec.specs.Lists.{is_among, when}
-use Rattle.vt_spec.specs.Machine.Invariants.{ListsNumbers, TreeInvariants}
-use Rattle.vt_spec.specs.Machine.World.{Filesystem, World, filesystem_numbered}
-use Rattle.vt_spec.specs.Tree.{Node, is_directory_node, parent_in}
-use Rattle.vt_spec.specs.TreeInvariant.{IsDirectory, IsReached, IsTree, entry_at, led}
-use Rattle.std.proofs.lemmas.Option.{same_Some}
-use Rattle.vt_spec.proofs.Lists.{Among, among_numbers}
-use Rattle.vt_spec.proofs.Nodes.{directory_used}
-use Rattle.vt_spec.proofs.Trees.{found}
-use Rattle.vt_spec.proofs.Truths.{nat_eq_itself}
+use Rattle.vt_spec.proofs.Common.{Among, FileTree, Filesystem, IsDirectory, IsReached, IsTree, ListsNumbers, Node, TreeInvariants, World, among_numbers, common_steps, directory_used, entry_at, filesystem_numbered, found, is_among, is_directory_node, is_directory_under, is_removed, led, named_parent, nat_eq_itself, parent_in, same_Some, targets_in, when}
 use Rattle.vt_laws_mounts.proofs.letting_go.Chains.{Way, chains_alike}
 use Rattle.vt_laws_mounts.proofs.letting_go.Chains.Way.{ends, goes_on}
 use Rattle.vt_laws_trees.proofs.trees.TreesAbove.{led_directory, parent_named}

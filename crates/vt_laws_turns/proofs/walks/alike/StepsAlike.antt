@@ -1,23 +1,10 @@
 -- One step of a walk leads where it led, if the filesystems that it meets are what they were.
-use Rattle.std.proofs.lemmas.Grind.{common_steps}
-use Rattle.std.proofs.Common.{append-nil, ◌≡◌, refl, sym, ap, subst, ◌∙◌, inl, inr, ⊎_elim, ℕ, nat_eq, Bool, true, false, cond, List, [], ◌∷◌, ◌++◌, Option, Some, None, Ok, Err, Result, flat_map, length, not, ◌||◌, is_some, arith}
-use Rattle.std.specs.Prelude.{IfOk, ok_or, option_map, option_to_list}
-use Rattle.std.proofs.lemmas.List.{map-append}
+use Rattle.std.proofs.Common.{append-nil, ◌≡◌, refl, sym, ap, subst, ◌∙◌, inl, inr, ⊎_elim, ℕ, nat_eq, Bool, true, false, cond, List, [], ◌∷◌, ◌++◌, Option, Some, None, Ok, Err, Result, flat_map, length, not, ◌||◌, is_some, arith, IfOk, ok_or, option_map, option_to_list}
+use Rattle.vt_spec.proofs.Common.{Among, Dot, DotDot, Here, IsWorld, LastWord, Location, Looks, Mount, Named, NoWord, Node, Overlay, Rules, Stop, Task, World, among-append, among-append_left, among-append_right, among-map, and_then, chain, common_steps, denial, entered_upward, entries_in, entry_location, entry_named, execute_right, filesystem_numbered, filesystems_of, hops, is_directory_node, is_directory_under, is_removed, last_or, looks_of, map-append, map_alike, met_by, mount_numbered, mounter_allows, mounts_of, node_allows, parent_in, same_location, search_rules, stepped, steps_with, stopped_by, unless, up_from, word_walked}
 use Rattle.vt_spec.specs.declared.errors.Deny.{Deny}
 use Rattle.vt_spec.specs.declared.errors.Rule.TheVariants.{W3, W4, W5, W6, W8}
-use Rattle.vt_spec.specs.Errors.{Rules, and_then, denial, unless}
-use Rattle.vt_spec.specs.FileTree.{is_directory_under, is_removed}
-use Rattle.vt_spec.specs.Lists.{chain, last_or}
-use Rattle.vt_spec.specs.Machine.Invariants.{IsWorld}
-use Rattle.vt_spec.specs.Machine.Looks.{Looks, is_directory_at, looks_of, mount_at, topmost}
-use Rattle.vt_spec.specs.Machine.Mounts.{Location, Mount, same_location}
-use Rattle.vt_spec.specs.Machine.Rightful.{mounter_allows, node_allows}
-use Rattle.vt_spec.specs.Machine.Walking.{Here, LastWord, Stop, entered_upward, entry_location, filesystems_of, hops, is_lost, is_top, met_by, parent_location, search_rules, stepped, steps_with, stopped_by, up_from, word_walked}
-use Rattle.vt_spec.specs.Machine.Walking.LastWord.{Dot, DotDot, Named, NoWord}
-use Rattle.vt_spec.specs.Machine.World.{Overlay, Task, World, filesystem_numbered, mount_numbered, mounts_of}
-use Rattle.vt_spec.specs.Rights.{execute_right}
-use Rattle.vt_spec.specs.Tree.{Node, entries_in, entry_named, is_directory_node, parent_in}
-use Rattle.vt_spec.proofs.Lists.{Among, among-append, among-append_left, among-append_right, among-map, map_alike}
+use Rattle.vt_spec.specs.Machine.Looks.{is_directory_at, mount_at, topmost}
+use Rattle.vt_spec.specs.Machine.Walking.{is_lost, is_top, parent_location}
 use Rattle.vt_laws_worlds.proofs.worlds.Reached.{IsFound, directory_found, place_found, step_found}
 use Rattle.vt_laws_turns.specs.Frames.Unraised.{KeepsFilesystem, KeepsOverlay}
 use Rattle.vt_laws_turns.proofs.walks.alike.MountsAlike.{IsOwn, chain_each, hop_in, hop_point, over_own, parent_own, same_hops, same_mount, same_over}

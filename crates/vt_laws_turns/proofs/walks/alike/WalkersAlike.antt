@@ -1,24 +1,8 @@
 -- Words walked lead where they led, if what they meet is what it was.
-use Rattle.std.proofs.lemmas.Grind.{common_steps}
-use Rattle.std.proofs.Common.{◌≡◌, refl, sym, ap, subst, ◌∙◌, inl, ⊎_elim, ℕ, zero, suc, nat_eq, Bool, true, false, cond, true≢false, not, List, [], ◌∷◌, ◌++◌, ◌||◌, ◌⊎◌, Option, Some, None, Ok, Err, Result, flat_map, length, eqb-true, arith}
-use Rattle.std.specs.Prelude.{IfOk, option_map, option_to_list, unwrap_or}
-use Rattle.std.specs.List.{list_all}
-use Rattle.std.proofs.lemmas.Bool.{and_parts}
-use Rattle.std.proofs.lemmas.Option.{same_Some}
+use Rattle.std.proofs.Common.{◌≡◌, refl, sym, ap, subst, ◌∙◌, inl, ⊎_elim, ℕ, zero, suc, nat_eq, Bool, true, false, cond, true≢false, not, List, [], ◌∷◌, ◌++◌, ◌||◌, ◌⊎◌, Option, Some, None, Ok, Err, Result, flat_map, length, eqb-true, arith, IfOk, option_map, option_to_list, unwrap_or}
+use Rattle.vt_spec.proofs.Common.{Among, Dot, DotDot, Here, IsWorld, LastWord, Location, Looks, Mount, Named, NoWord, Place, Rules, Stop, Task, World, all_met, among-append, among-append_left, among-from_map, and_parts, and_then, any_among, common_steps, contains_from_among, ends_in_slash, entered, entries_in, entry_location, entry_named, filesystems_of, follow_rules, is_absolute, is_empty_list, is_no_word, is_special, last_word, list_all, met_at, met_by, mount_numbered, none_is_some, object_named, path_text, placed, same_Some, search_rules, start_of, stepped, steps_at, stopped_by, symlink_of, symlink_start, symlink_text, symlink_there, then_some, then_walk, unless, walk_start, walk_unless, word_walked}
 use Rattle.vt_spec.specs.declared.errors.Deny.{Deny}
-use Rattle.vt_spec.specs.Errors.{Rules, and_then, unless}
-use Rattle.vt_spec.specs.FileTree.{symlink_text}
-use Rattle.vt_spec.specs.Lists.{is_empty_list, then_some}
-use Rattle.vt_spec.specs.Machine.Invariants.{IsWorld}
-use Rattle.vt_spec.specs.Machine.Looks.{Looks, is_directory_at, topmost}
-use Rattle.vt_spec.specs.Machine.Mounts.{Location, Mount}
-use Rattle.vt_spec.specs.Machine.Walking.{Here, LastWord, Place, Stop, all_met, entered, entry_location, filesystems_of, follow_rules, is_no_word, is_special, last_word, met_at, met_by, object_named, path_text, placed, search_rules, start_of, stepped, steps_at, stopped_by, symlink_of, symlink_start, symlink_there, then_walk, walk_start, walk_unless, word_walked}
-use Rattle.vt_spec.specs.Machine.Walking.LastWord.{Dot, DotDot, Named, NoWord}
-use Rattle.vt_spec.specs.Machine.World.{Task, World, mount_numbered}
-use Rattle.vt_spec.specs.PathText.{ends_in_slash, is_absolute}
-use Rattle.vt_spec.specs.Tree.{entries_in, entry_named}
-use Rattle.vt_spec.proofs.Lists.{Among, among-append, among-append_left, among-from_map, any_among, contains_from_among}
-use Rattle.vt_spec.proofs.Options.{none_is_some}
+use Rattle.vt_spec.specs.Machine.Looks.{is_directory_at, topmost}
 use Rattle.vt_laws_mounts.proofs.mounts.MountsReplaced.{found_itself}
 use Rattle.vt_laws_worlds.proofs.worlds.Reached.{IsOn, directory_found, entry_found}
 use Rattle.vt_laws_worlds.proofs.worlds.ReachedWalks.{own_directory_found, root_found}

@@ -1,19 +1,10 @@
 -- How deep symlinks may stand in one another's texts does not matter, where fewer are left to follow; and a walk has
 -- each step that it had.
-use Rattle.std.proofs.lemmas.Grind.{common_steps}
-use Rattle.std.proofs.Common.{◌≡◌, refl, ap, subst, ◌∙◌, ℕ, zero, suc, pred, nat_eq, Bool, true, false, List, [], ◌∷◌, ◌-◌, ◌≤◌, length, reverse, Option, Some, None, Ok, Err, Result, arith}
-use Rattle.std.specs.Prelude.{nat_lt, ◌==◌}
-use Rattle.std.specs.List.{list_any}
+use Rattle.std.proofs.Common.{◌≡◌, refl, ap, subst, ◌∙◌, ℕ, zero, suc, pred, nat_eq, Bool, true, false, List, [], ◌∷◌, ◌-◌, ◌≤◌, length, reverse, Option, Some, None, Ok, Err, Result, arith, nat_lt, ◌==◌}
+use Rattle.vt_spec.proofs.Common.{Follow, Here, LastWord, Location, Looks, Rules, Stop, Task, also_met, and_then, common_steps, follow_rules, if_symlink, last_word, list_any, longest_name, search_rules, slash_rules, stepped, steps_with, stopped_by, symlink_start, symlink_text, symlink_walked, then_walk, unless, walk_unless, word_walked, words, words_walked}
 use Rattle.vt_spec.specs.declared.errors.Deny.{Deny}
 use Rattle.vt_spec.specs.declared.errors.Rule.TheVariants.{W2, W7, W9}
-use Rattle.vt_spec.specs.Errors.{Rules, and_then, unless}
-use Rattle.vt_spec.specs.FileTree.{symlink_text}
-use Rattle.vt_spec.specs.Language.Limits.{longest_name}
-use Rattle.vt_spec.specs.Machine.Looks.{Looks, mount_at}
-use Rattle.vt_spec.specs.Machine.Mounts.{Location}
-use Rattle.vt_spec.specs.Machine.Walking.{Follow, Here, LastWord, Stop, also_met, follow_rules, if_symlink, last_word, search_rules, slash_rules, stepped, steps_with, stopped_by, symlink_start, symlink_walked, then_walk, walk_unless, word_walked, words_walked}
-use Rattle.vt_spec.specs.Machine.World.{Task}
-use Rattle.vt_spec.specs.PathText.{words}
+use Rattle.vt_spec.specs.Machine.Looks.{mount_at}
 
 -- What comes after walks
 

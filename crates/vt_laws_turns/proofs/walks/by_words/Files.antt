@@ -1,17 +1,10 @@
 -- The walk to a file: how deep symlinks may stand in one another's texts does not matter, and each step is kept.
-use Rattle.std.proofs.lemmas.Grind.{common_steps}
-use Rattle.std.proofs.Common.{◌≡◌, refl, sym, subst, ℕ, zero, suc, nat_eq, Bool, true, false, List, [], ◌∷◌, ◌≤◌, ◌||◌, length, reverse, Option, Some, None, Ok, Err, Result, arith}
-use Rattle.std.specs.Prelude.{nat_lt, ◌==◌}
-use Rattle.std.specs.List.{list_any}
+use Rattle.std.proofs.Common.{◌≡◌, refl, sym, subst, ℕ, zero, suc, nat_eq, Bool, true, false, List, [], ◌∷◌, ◌≤◌, ◌||◌, length, reverse, Option, Some, None, Ok, Err, Result, arith, nat_lt, ◌==◌}
+use Rattle.vt_spec.proofs.Common.{Dot, DotDot, Follow, Here, LastWord, Looks, Named, NoWord, Place, Rules, Stop, Task, all_met, and_then, common_steps, ends_in_slash, final_word, follow_rules, list_any, longest_name, most_symlinks, object_named, placed, search_rules, steps_at, stopped_by, symlink_of, symlink_start, symlink_there, then_walk, unless, walk_unless, words}
 use Rattle.vt_spec.specs.declared.errors.Deny.{Deny}
 use Rattle.vt_spec.specs.declared.errors.Rule.TheVariants.{W2, W7, W9}
-use Rattle.vt_spec.specs.Errors.{Rules, and_then, unless}
-use Rattle.vt_spec.specs.Language.Limits.{longest_name, most_symlinks}
-use Rattle.vt_spec.specs.Machine.Looks.{Looks, mount_at}
-use Rattle.vt_spec.specs.Machine.Walking.{Follow, Here, LastWord, Place, Stop, all_met, file_or_symlink, file_walked, final_word, follow_rules, followed, object_named, placed, prefix_walked, search_rules, steps_at, stopped_by, symlink_of, symlink_start, symlink_there, then_walk, walk_unless}
-use Rattle.vt_spec.specs.Machine.Walking.LastWord.{Dot, DotDot, Named, NoWord}
-use Rattle.vt_spec.specs.Machine.World.{Task}
-use Rattle.vt_spec.specs.PathText.{ends_in_slash, words}
+use Rattle.vt_spec.specs.Machine.Looks.{mount_at}
+use Rattle.vt_spec.specs.Machine.Walking.{file_or_symlink, file_walked, followed, prefix_walked}
 use Rattle.vt_laws_turns.proofs.walks.by_words.Depths.{FollowAlike, Within, followed_same, one_left, start_long, texts_same, then_same, then_within, words_same}
 
 pub length-all_met : (filesystems : List ℕ) (steps : List (List ℕ)) → length (all_met filesystems steps) ≡ length steps

@@ -1,20 +1,10 @@
 -- What is left of a walk after one word, as a whole, is what was left before it.
-use Rattle.std.proofs.lemmas.Grind.{common_steps}
-use Rattle.std.proofs.Common.{◌≡◌, refl, sym, ap, ◌∙◌, cond, ℕ, suc, nat_eq, Bool, true, false, true≢false, not, List, [], ◌∷◌, ◌++◌, ◌-◌, ◌≤◌, ◌||◌, length, reverse, Option, Some, None, Ok, Err, Result, arith}
-use Rattle.std.specs.Prelude.{nat_lt, ◌==◌}
-use Rattle.std.specs.List.{list_any}
-use Rattle.std.proofs.lemmas.List.{reverse-append, reverse-reverse}
+use Rattle.std.proofs.Common.{◌≡◌, refl, sym, ap, ◌∙◌, cond, ℕ, suc, nat_eq, Bool, true, false, true≢false, not, List, [], ◌∷◌, ◌++◌, ◌-◌, ◌≤◌, ◌||◌, length, reverse, Option, Some, None, Ok, Err, Result, arith, nat_lt, ◌==◌}
+use Rattle.vt_spec.proofs.Common.{Follow, Here, LastWord, Location, Looks, NoWord, Place, Rules, Stop, Task, and_then, common_steps, ends_in_slash, follow_rules, if_symlink, is_no_word, last_word, list_any, longest_name, most_symlinks, placed, reverse-append, reverse-reverse, slash_rules, start_of, stopped_by, symlink_of, symlink_start, symlink_text, symlink_there, symlink_walked, then_walk, unless, walk_unless, word_walked, words, words_walked}
 use Rattle.vt_spec.specs.declared.errors.Deny.{Deny}
 use Rattle.vt_spec.specs.declared.errors.Rule.TheVariants.{W3}
-use Rattle.vt_spec.specs.Errors.{Rules, and_then, unless}
-use Rattle.vt_spec.specs.FileTree.{symlink_text}
-use Rattle.vt_spec.specs.Language.Limits.{longest_name, most_symlinks}
-use Rattle.vt_spec.specs.Machine.Looks.{Looks, is_directory_at, mount_at}
-use Rattle.vt_spec.specs.Machine.Mounts.{Location}
-use Rattle.vt_spec.specs.Machine.Walking.{Follow, Here, LastWord, Place, Stop, file_walked, follow_rules, followed, if_symlink, is_no_word, last_walked, last_word, placed, prefix_walked, slash_rules, start_of, stopped_by, symlink_of, symlink_start, symlink_there, symlink_walked, then_walk, walk_unless, word_walked, words_walked}
-use Rattle.vt_spec.specs.Machine.Walking.LastWord.{NoWord}
-use Rattle.vt_spec.specs.Machine.World.{Task}
-use Rattle.vt_spec.specs.PathText.{ends_in_slash, words}
+use Rattle.vt_spec.specs.Machine.Looks.{is_directory_at, mount_at}
+use Rattle.vt_spec.specs.Machine.Walking.{file_walked, followed, last_walked, prefix_walked}
 use Rattle.vt_laws_worlds.proofs.worlds.Reached.{directory_no_link}
 use Rattle.vt_laws_turns.specs.Walks.ByWords.{last_taken, names, reaches, rest_walked, texts_walked}
 use Rattle.vt_laws_turns.specs.Walks.Walkers.{Last, Pending, Walk, Walker, all_words, arrived, end_rules, ended, first_words, gone_on, has_no_word, last_of, last_step, one_word, opened, text_word}

@@ -1,18 +1,10 @@
 -- The rules that a call asks of where a walk ends add no word to it.
-use Rattle.std.proofs.lemmas.Grind.{common_steps}
-use Rattle.std.proofs.Common.{◌≡◌, refl, ap, ◌∙◌, ℕ, nat_eq, Bool, true, false, not, List, [], ◌∷◌, ◌++◌, ◌&&◌, Option, Some, None, Ok, Err, Result, map, reverse, is_some, arith}
-use Rattle.std.specs.Prelude.{option_to_list}
+use Rattle.std.proofs.Common.{◌≡◌, refl, ap, ◌∙◌, ℕ, nat_eq, Bool, true, false, not, List, [], ◌∷◌, ◌++◌, ◌&&◌, Option, Some, None, Ok, Err, Result, map, reverse, is_some, arith, option_to_list}
+use Rattle.vt_spec.proofs.Common.{Bind, Chdir, Chmod, Chown, Chroot, Creation, Exclusive, Exec, Here, Lazy, LinkTo, Looks, Ls, Lstat, MakeWhiteout, Mkdir, MountOverlay, MountPlain, MoveMount, NoCreation, Opaque, OpenFile, OrCreate, OverlayWords, PivotRoot, Place, Read, Readlink, Remount, Rename, Rmdir, Route, Rules, SetType, Stat, Stop, SymlinkAt, Task, Umount, Unlink, Write, common_steps, destination_walk, directory_walk, file_walk, is_directory_there, new_leaf_walk, new_walk, object_walk, old_leaf_walk, old_walk, place_walk, rename_new_walk, source_walk, symlink_walk, then_walk, walk_unless, work_walked}
 use Rattle.vt_spec.specs.declared.errors.Rule.TheVariants.{W3, W6}
-use Rattle.vt_spec.specs.Errors.{Rules}
-use Rattle.vt_spec.specs.Language.Calls.{Creation, OverlayWords}
-use Rattle.vt_spec.specs.Language.Calls.Call.{Bind, Chdir, Chmod, Chown, Chroot, Exec, Lazy, LinkTo, Ls, Lstat, MakeWhiteout, Mkdir, MountOverlay, MountPlain, MoveMount, Opaque, OpenFile, PivotRoot, Read, Readlink, Remount, Rename, Rmdir, SetType, Stat, SymlinkAt, Umount, Unlink, Write}
-use Rattle.vt_spec.specs.Language.Calls.Creation.{Exclusive, NoCreation, OrCreate}
-use Rattle.vt_spec.specs.Machine.Looks.{Looks, is_directory_at}
-use Rattle.vt_spec.specs.Machine.Rules.Mounting.{destination_walk, source_walk, work_walked}
-use Rattle.vt_spec.specs.Machine.Rules.Removing.{rename_new_walk}
-use Rattle.vt_spec.specs.Machine.Turns.{Route, here_route, layer_routes, open_route, place_route}
-use Rattle.vt_spec.specs.Machine.Walking.{Here, Place, Stop, directory_walk, file_walk, is_directory_there, new_leaf_walk, new_name_rules, new_walk, object_walk, old_leaf_walk, old_walk, path_walked, place_walk, symlink_walk, then_walk, walk_unless}
-use Rattle.vt_spec.specs.Machine.World.{Task}
+use Rattle.vt_spec.specs.Machine.Looks.{is_directory_at}
+use Rattle.vt_spec.specs.Machine.Turns.{here_route, layer_routes, open_route, place_route}
+use Rattle.vt_spec.specs.Machine.Walking.{new_name_rules, path_walked}
 use Rattle.vt_laws_turns.specs.Walks.ByWords.{Aim, names, reaches, steps_of, whole_walk}
 use Rattle.vt_laws_turns.specs.Walks.ByWords.Aim.{File, InDirectory, Object, Symlink, Words}
 use Rattle.vt_laws_turns.specs.Walks.Routes.{RoutesAreWalks, Way, layer_ways, way}

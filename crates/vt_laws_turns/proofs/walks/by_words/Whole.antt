@@ -1,12 +1,8 @@
 -- Word by word each walk leads where it leads as a whole.
-use Rattle.std.proofs.lemmas.Grind.{common_steps}
 use Rattle.std.proofs.Common.{◌≡◌, refl, sym, ap, subst, ◌∙◌, cond, ℕ, zero, suc, nat_eq, Bool, true, false, true≢false, List, [], ◌∷◌, ◌+◌, ◌≤◌, length, reverse, Ok, Err, Result, arith}
-use Rattle.vt_spec.specs.Language.Limits.{most_symlinks}
-use Rattle.vt_spec.specs.Machine.Looks.{Looks, is_directory_at}
-use Rattle.vt_spec.specs.Machine.Walking.{Here, LastWord, Place, Stop, file_walked, last_walked, path_text, placed, prefix_walked, slash_rules, symlink_there, symlink_walk_by, then_walk, walk_start, walk_unless, words_walked}
-use Rattle.vt_spec.specs.Machine.Walking.LastWord.{Dot, DotDot, Named, NoWord}
-use Rattle.vt_spec.specs.Machine.World.{Task}
-use Rattle.vt_spec.specs.PathText.{ends_in_slash, words}
+use Rattle.vt_spec.proofs.Common.{Dot, DotDot, Here, LastWord, Looks, Named, NoWord, Place, Stop, Task, common_steps, ends_in_slash, most_symlinks, path_text, placed, slash_rules, symlink_there, symlink_walk_by, then_walk, walk_start, walk_unless, words, words_walked}
+use Rattle.vt_spec.specs.Machine.Looks.{is_directory_at}
+use Rattle.vt_spec.specs.Machine.Walking.{file_walked, last_walked, prefix_walked}
 use Rattle.vt_laws_turns.specs.Walks.ByWords.{Aim, AllWordsAreTheWalk, FirstWordsAreOfTheWalk, StandsOnDirectories, begun, last_for, names, pending_for, reaches, steps_of, whole_walk}
 use Rattle.vt_laws_turns.specs.Walks.ByWords.Aim.{File, InDirectory, Object, Symlink, Words}
 use Rattle.vt_laws_turns.specs.Walks.Walkers.{Last, Pending, Walk, Walker, all_words, end_rules, first_words, gone_on, last_of, one_word, walked_on}

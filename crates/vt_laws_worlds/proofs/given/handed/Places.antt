@@ -1,9 +1,6 @@
 -- Counts with the numbers of several inodes among them are a supply with room.
-use Rattle.std.proofs.lemmas.Grind.{common_steps}
 use Rattle.std.proofs.Common.{◌≡◌, refl, sym, ap, ◌∙◌, true≢false, ℕ, ◌==◌, ◌+◌, ◌*◌, ◌%◌, Bool, true, false, cond, not, ◌&&◌, ◌||◌, ◌/◌, nat_lt, List, [], ◌∷◌, arith, eq-eqb, ne_eqb, eqb-true}
-use Rattle.std.specs.List.{list_all, list_any}
-use Rattle.std.proofs.lemmas.Bool.{and_parts, not-true, or_parts}
-use Rattle.vt_spec.specs.Lists.{any_pair}
+use Rattle.vt_spec.proofs.Common.{and_parts, any_pair, common_steps, list_all, list_any, not-true, or_parts}
 use Rattle.vt_laws_rules.proofs.numbers.Allotments.{kept_lot}
 use Rattle.vt_laws_rules.proofs.numbers.NamedWorlds.{named_is_kept}
 use Rattle.vt_laws_rules.specs.Numbers.{Allotment, is_in_hand, is_kept, is_kept_lot}

@@ -1,23 +1,8 @@
 -- An overlay that is mounted anew over layers that lead where they led shows the same tree.
-use Rattle.std.proofs.Common.{◌≡◌, refl, sym, ap, subst, ◌∙◌, arith, ◌<◌, ℕ, suc, length, nat_eq, Bool, true, false, not, cond, ◌||◌, List, [], ◌∷◌, map, Option, Some, Ok, find, unwrap_or}
-use Rattle.std.specs.List.{list_any}
-use Rattle.std.specs.Prelude.{is_ok, ok_or}
+use Rattle.std.proofs.Common.{◌≡◌, refl, sym, ap, subst, ◌∙◌, arith, ◌<◌, ℕ, suc, length, nat_eq, Bool, true, false, not, cond, ◌||◌, List, [], ◌∷◌, map, Option, Some, Ok, find, unwrap_or, is_ok, ok_or}
+use Rattle.vt_spec.proofs.Common.{Done, Filesystem, Fresh, IsWorld, Layer, LayerLocations, MountFlags, MountOverlay, Outcome, OverlayWords, SameObject, Task, World, after, answer-finished_by, call_outcome, denial, evens, filesystem_numbered, filesystems_changed_by, finished, finished_by, judge_in, list_any, no_filesystem, node_at_path, number_at_path, numbers_raised, only_looks, open_layer, overlay_filesystem, policy, raised, raised_if_changed, shown_layers, task_called, then_some}
 use Rattle.vt_spec.specs.declared.errors.Rule.TheVariants.{S2}
-use Rattle.vt_spec.specs.Errors.{denial}
-use Rattle.vt_spec.specs.Language.Answers.Answer.{Done}
-use Rattle.vt_spec.specs.Language.Calls.{MountFlags, OverlayWords}
-use Rattle.vt_spec.specs.Language.Calls.Call.{MountOverlay}
-use Rattle.vt_spec.specs.Lists.{Fresh, evens, then_some}
-use Rattle.vt_spec.specs.Machine.Filesystems.{raised, raised_if_changed}
-use Rattle.vt_spec.specs.Machine.Invariants.{IsWorld, SameObject, number_at_path}
-use Rattle.vt_spec.specs.Machine.Layers.{node_at_path}
-use Rattle.vt_spec.specs.Machine.Rules.Mounting.{LayerLocations}
 use Rattle.vt_spec.proofs.Tables.{layers_walked, overlay_at}
-use Rattle.vt_spec.specs.Machine.NewMounts.{overlay_filesystem}
-use Rattle.vt_spec.specs.Machine.Outcomes.{Outcome, after}
-use Rattle.vt_spec.specs.Machine.Policy.{call_outcome, filesystems_changed_by, finished, finished_by, numbers_raised, only_looks, policy}
-use Rattle.vt_spec.specs.Machine.Judge.{judge_in}
-use Rattle.vt_spec.specs.Machine.World.{Filesystem, Layer, Task, World, filesystem_numbered, no_filesystem, open_layer, shown_layers, task_called}
 use Rattle.vt_laws_trees.specs.Layers.Layers.Mounted.{AreAsOthers, AreLayers, IsAlike}
 use Rattle.vt_laws_trees.specs.Layers.Layers.Mounting.{AreNewNumbers}
 use Rattle.vt_laws_trees.proofs.layers.mounting.Kept.{mounting_makes_overlay, overlay_is_mounted}
@@ -25,7 +10,6 @@ use Rattle.vt_laws_trees.proofs.layers.mounting.Walked.{are_walked, has_layers, 
 use Rattle.vt_laws_trees.proofs.layers.layers.ShownMounted.{remount_shows_the_same}
 use Rattle.vt_laws_worlds.specs.Merging.MountedAnew.{AreKept, MountedAnewShowsTheSame, MountedOverTheSameLayers, number_mounted, world_mounted}
 use Rattle.vt_laws_worlds.proofs.merging.mounted.Left.{mounting_lets_nothing_go}
-use Rattle.vt_spec.proofs.Worlds.{answer-finished_by}
 
 -- raises numbers, and leaves files
 pub files_raised : (changed : List ℕ) (number : ℕ) (list : List (Filesystem ℕ))

@@ -1,15 +1,7 @@
 -- What `mount overlay` leaves when what nothing uses is gone.
 use Rattle.std.proofs.Common.{◌≡◌, refl, sym, subst, true≢false, ℕ, nat_eq, true, false, not, List, Option, Some, None, is_some}
-use Rattle.vt_spec.specs.Errors.{NoneFails}
-use Rattle.vt_spec.specs.Language.Calls.Call.{MountOverlay}
-use Rattle.vt_spec.specs.Language.Calls.{MountFlags, OverlayWords}
-use Rattle.vt_spec.specs.Lists.{Fresh, holds_of}
-use Rattle.vt_spec.specs.Machine.Invariants.{IsWorld, OverlayInvariants, TreeInvariants}
-use Rattle.vt_spec.specs.Machine.Mounts.{Location}
-use Rattle.vt_spec.specs.Machine.Rules.Mounting.{LayerLocations}
-use Rattle.vt_spec.proofs.Tables.{layer_rules, new_mount_rules, overlay_at, overlay_mounted}
-use Rattle.vt_spec.specs.Machine.Settled.{settled}
-use Rattle.vt_spec.specs.Machine.World.{Task, World, mount_at}
+use Rattle.vt_spec.proofs.Common.{Fresh, IsWorld, LayerLocations, Location, MountFlags, MountOverlay, NoneFails, OverlayInvariants, OverlayWords, Permit, Task, TreeInvariants, World, apply, holds_of, looks_of, mount_at, overfills, overlay_mounted, settled}
+use Rattle.vt_spec.proofs.Tables.{layer_rules, new_mount_rules, overlay_at}
 use Rattle.vt_laws_trees.specs.Layers.Layers.Mounting.{AreNewNumbers}
 use Rattle.vt_laws_trees.proofs.layers.mounting.Kept.{mounting_keeps_overlays, mounting_keeps_trees}
 use Rattle.vt_laws_trees.proofs.layers.mounting.Walked.{AreWalked, are_walked, has_layers, shown_plain}
@@ -18,9 +10,6 @@ use Rattle.vt_laws_worlds.specs.Merging.MountedAnew.{MountingLeavesOverlays, Mou
 use Rattle.vt_laws_rules.proofs.given.CallsGranted.{call_holds}
 use Rattle.vt_laws_rules.specs.Granted.{IsGranted}
 use Rattle.vt_laws_rules.specs.Granted.IsGranted.{mounts_overlayfs}
-use Rattle.vt_spec.specs.Machine.Apply.{apply, overfills}
-use Rattle.vt_spec.specs.Machine.Looks.{looks_of}
-use Rattle.vt_spec.specs.Machine.Permits.{Permit}
 
 -- M2 has seen that the destination's mount is in the task's namespace
 is_own : (namespace : ℕ) (o : Option ℕ) → not (holds_of (nat_eq namespace) o) ≡ false → is_some o ≡ true

@@ -1,16 +1,7 @@
 -- An overlay that is mounted anew over the same layers has the same names of each inode.
-use Rattle.std.proofs.Common.{◌≡◌, refl, sym, ap, subst, ◌∙◌, true≢false, arith, ◌<◌, ℕ, suc, length, nat_eq, true, false, List, [], ◌∷◌, ◌++◌, map, Option, Some, None, is_some}
-use Rattle.std.specs.Prelude.{option_map, option_to_list, ◌↔◌}
-use Rattle.vt_spec.specs.FileTree.{FileTree}
-use Rattle.vt_spec.specs.Lists.{Fresh, evens, then_some}
-use Rattle.vt_spec.specs.Machine.Invariants.{IsMerged, IsWorld, SameObject, number_at_path, real_node, real_shown}
-use Rattle.vt_spec.specs.Machine.Layers.{OpenLayer}
-use Rattle.vt_spec.specs.Machine.Merging.{merged_at, real_object}
+use Rattle.std.proofs.Common.{◌≡◌, refl, sym, ap, subst, ◌∙◌, true≢false, arith, ◌<◌, ℕ, suc, length, nat_eq, true, false, List, [], ◌∷◌, ◌++◌, map, Option, Some, None, is_some, option_map, option_to_list, ◌↔◌}
+use Rattle.vt_spec.proofs.Common.{FileTree, Filesystem, Fresh, IsMerged, IsTree, IsWorld, Layer, Node, OpenLayer, Overlay, Real, SameObject, World, evens, filesystem_numbered, merged_at, number_at_path, open_layer, overlay_filesystem, real_node, real_object, real_shown, shown_layers, then_some}
 use Rattle.vt_spec.proofs.Tables.{overlay_at}
-use Rattle.vt_spec.specs.Machine.NewMounts.{overlay_filesystem}
-use Rattle.vt_spec.specs.Machine.World.{Filesystem, Layer, Overlay, Real, World, filesystem_numbered, open_layer, shown_layers}
-use Rattle.vt_spec.specs.Tree.{Node}
-use Rattle.vt_spec.specs.TreeInvariant.{IsTree}
 use Rattle.vt_laws_trees.proofs.layers.directories.Fit.{new_overlay_is_tree}
 use Rattle.vt_laws_trees.proofs.layers.layers.ShownDirectories.{led_is_there}
 use Rattle.vt_laws_trees.proofs.layers.layers.ShownMounted.{made, made_merged}

@@ -1,17 +1,7 @@
 -- Names lead to the layers of a new overlay in the world that its mounting leaves.
-use Rattle.std.proofs.Common.{arith, ◌≡◌, sym, ap, subst, ◌∙◌, ◌*◌, ℕ, nat_eq, true, List, [], ◌∷◌, Some}
-use Rattle.std.specs.List.{list_all}
-use Rattle.std.specs.Prelude.{All}
-use Rattle.std.proofs.lemmas.Bool.{and_parts}
-use Rattle.std.proofs.lemmas.List.Elements.{All-cons, All-head, All-nil, All-tail}
-use Rattle.vt_spec.specs.Language.Calls.Call.{MountOverlay}
-use Rattle.vt_spec.specs.Lists.{evens}
-use Rattle.vt_spec.specs.Machine.Invariants.{is_plain_layer}
-use Rattle.vt_spec.specs.Machine.Judge.{judge_in}
+use Rattle.std.proofs.Common.{arith, ◌≡◌, sym, ap, subst, ◌∙◌, ◌*◌, ℕ, nat_eq, true, List, [], ◌∷◌, Some, All}
+use Rattle.vt_spec.proofs.Common.{All-cons, All-head, All-nil, All-tail, IsReached, Layer, MountOverlay, World, and_parts, call_outcome, evens, filesystem_numbered, filesystems_changed_by, is_plain_layer, judge_in, layers_of, list_all}
 use Rattle.vt_spec.proofs.Tables.{overlay_at}
-use Rattle.vt_spec.specs.Machine.Policy.{call_outcome, filesystems_changed_by}
-use Rattle.vt_spec.specs.Machine.World.{Layer, World, filesystem_numbered, layers_of}
-use Rattle.vt_spec.specs.TreeInvariant.{IsReached}
 use Rattle.vt_laws_trees.specs.Layers.Layers.Mounted.{AreLayers}
 use Rattle.vt_laws_trees.proofs.layers.directories.Later.{plain_is_old, same_filesystem}
 use Rattle.vt_laws_trees.proofs.layers.mounting.Walked.{all_plain, are_walked, has_layers, shown_plain}

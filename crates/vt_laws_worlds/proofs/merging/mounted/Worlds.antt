@@ -1,25 +1,7 @@
 -- What `mount overlay` leaves is a world with all invariants.
-use Rattle.std.proofs.lemmas.Grind.{common_steps}
-use Rattle.std.proofs.Common.{◌≡◌, refl, sym, ap, subst, ◌∙◌, true≢false, arith, inl, inr, ⊎_elim, ℕ, ◌+◌, ◌*◌, nat_eq, eq-eqb, Bool, true, false, not, cond, List, [], ◌∷◌, ◌++◌, filter, flat_map, map, Option, Some, None, is_some, unwrap_or}
-use Rattle.std.specs.List.{cons_option, filter_map, list_all}
-use Rattle.std.specs.Prelude.{option_map, ⊤}
-use Rattle.std.proofs.lemmas.Bool.{and_parts}
-use Rattle.vt_spec.specs.Language.Calls.Call.{MountOverlay}
-use Rattle.vt_spec.specs.Machine.Policy.{call_outcome}
-use Rattle.vt_spec.specs.Language.Calls.{MountFlags, OverlayWords}
-use Rattle.vt_spec.specs.Lists.{Fresh, each_once, evens, odds, index_from}
-use Rattle.vt_spec.specs.Machine.Attach.{has_too_many}
-use Rattle.vt_spec.specs.Machine.Invariants.{IsWorld, MountInvariants, NamespaceInvariants, TaskInvariants, has_its_root, is_there}
-use Rattle.vt_spec.specs.Machine.Layers.{OpenLayer}
-use Rattle.vt_spec.specs.Machine.Looks.{looks_of}
-use Rattle.vt_spec.specs.Machine.Merging.{Merged, MergedInode, is_one_inode, layer_node, merged_inode, merged_objects}
-use Rattle.vt_spec.specs.Machine.Mounts.{Location, Mount}
-use Rattle.vt_spec.proofs.Tables.{destination_walk, overlay_at, overlay_mounted}
-use Rattle.vt_spec.specs.Machine.NewMounts.{inode_count, mounted, new_mount, overlay_filesystem, with_new_filesystem}
-use Rattle.vt_spec.specs.Machine.Run.{Serves, numbers_in_use, used_by_filesystem, used_by_mount}
-use Rattle.vt_spec.specs.Machine.World.{Filesystem, Namespace, Overlay, Task, World, mount_at, no_filesystem, open_layer, shown_layers, task_called}
-use Rattle.vt_spec.specs.Tree.{Node, is_directory_node}
-use Rattle.vt_spec.proofs.Lists.{Among, among-append, among-append_left, among-append_right, among-from_flat_map, among-from_map, none_from_among}
+use Rattle.std.proofs.Common.{◌≡◌, refl, sym, ap, subst, ◌∙◌, true≢false, arith, inl, inr, ⊎_elim, ℕ, ◌+◌, ◌*◌, nat_eq, eq-eqb, Bool, true, false, not, cond, List, [], ◌∷◌, ◌++◌, filter, flat_map, map, Option, Some, None, is_some, unwrap_or, filter_map, option_map}
+use Rattle.vt_spec.proofs.Common.{Among, Filesystem, Fresh, IsWorld, Location, Merged, MergedInode, Mount, MountFlags, MountInvariants, MountOverlay, Namespace, NamespaceInvariants, Node, OpenLayer, Overlay, OverlayWords, Permit, Serves, Task, TaskInvariants, World, among-append, among-append_left, among-append_right, among-from_flat_map, among-from_map, and_parts, apply, call_outcome, common_steps, cons_option, each_once, evens, evens-distinct, has_its_root, has_too_many, index_from, inode_count, is_directory_node, is_one_inode, is_there, layer_node, list_all, looks_of, merged_inode, merged_objects, mount_at, mounted, nat_eq_itself, new_mount, no_filesystem, none_from_among, numbers_in_use, odds, open_layer, overfills, overlay_filesystem, overlay_mounted, served-distinct, shown_layers, task_called, used_by_filesystem, used_by_mount, with_new_filesystem, ⊤}
+use Rattle.vt_spec.proofs.Tables.{destination_walk, overlay_at}
 use Rattle.vt_laws_mounts.specs.Mounts.Attached.{IsAttachedAt}
 use Rattle.vt_laws_mounts.specs.Mounts.Attaching.{is_mount}
 use Rattle.vt_laws_mounts.proofs.attached.AttachedKept.{new_mounts_keep_groups}
@@ -47,15 +29,12 @@ use Rattle.vt_laws_worlds.proofs.worlds.ShowsAttached.{attached_show}
 use Rattle.vt_laws_worlds.specs.Merging.MountedAnew.{MountingLeavesAWorld}
 use Rattle.vt_laws_worlds.proofs.merging.mounted.Left.{mounting_lets_nothing_go}
 use Rattle.vt_laws_trees.proofs.layers.mounting.Kept.{mounting_keeps_overlays, mounting_keeps_trees}
-use Rattle.vt_spec.proofs.Truths.{nat_eq_itself}
-use Rattle.vt_spec.proofs.FreshNumbers.{evens-distinct, served-distinct, served-differ}
+use Rattle.vt_spec.proofs.FreshNumbers.{served-differ}
 use Rattle.vt_laws_trees.specs.Trees.Settling.{inode_in}
 use Rattle.vt_laws_worlds.proofs.worlds.FitPermits.{destination}
 use Rattle.vt_laws_rules.proofs.given.CallsGranted.{call_holds}
 use Rattle.vt_laws_rules.specs.Granted.{IsGranted}
 use Rattle.vt_laws_rules.specs.Granted.IsGranted.{mounts_overlayfs}
-use Rattle.vt_spec.specs.Machine.Apply.{apply, overfills}
-use Rattle.vt_spec.specs.Machine.Permits.{Permit}
 
 -- each of a list is one of the numbers that are handed in
 abbrev AreOf : Fresh ℕ → List ℕ → Type 0

@@ -1,27 +1,8 @@
 -- Change numbers are read by no invariant, of overlays neither.
-use Rattle.std.proofs.Common.{◌≡◌, refl, sym, ap, subst, ◌∙◌, ℕ, nat_eq, Bool, true, false, not, cond, ◌&&◌, ◌||◌, List, [], ◌∷◌, filter, find, flat_map, map, Option, Some, None, is_some, slice_get, unwrap_or}
-use Rattle.std.specs.List.{list_all, list_any}
-use Rattle.std.specs.Prelude.{is_ok, ok_or, option_map}
+use Rattle.std.proofs.Common.{◌≡◌, refl, sym, ap, subst, ◌∙◌, ℕ, nat_eq, Bool, true, false, not, cond, ◌&&◌, ◌||◌, List, [], ◌∷◌, filter, find, flat_map, map, Option, Some, None, is_some, slice_get, unwrap_or, is_ok, ok_or, option_map}
+use Rattle.vt_spec.proofs.Common.{Filesystem, IsMerged, IsReached, IsWorld, Layer, Lower, MountOverlay, Namespace, OpenLayer, Overlay, OverlayInvariants, Real, SameObject, Task, Upper, World, after, all-map, any_pair, call_outcome, denial, filesystem_numbered, filesystems_changed_by, finished, finished_by, has_fit_layers, holds_of, is_directory_node, is_kind_in, is_object_of, is_opaque_in, is_overlay, is_plain_layer, is_under, judge_in, layer_node, layers_of, lies_or_counts_under, list_all, list_any, live_lowers, live_upper_and_work, merged_at, no_filesystem, node_at_path, number_at_path, of_overlay, only_looks, overlay_or, overlays, raised, real_node, real_object, settled, shown, shown_layers, task_called, then_some, upper_and_work}
 use Rattle.vt_spec.specs.declared.errors.Rule.TheVariants.{S2}
-use Rattle.vt_spec.specs.Errors.{denial}
-use Rattle.vt_spec.specs.Language.Calls.Call.{MountOverlay}
-use Rattle.vt_spec.specs.FileTree.{is_kind_in, is_opaque_in, is_under}
 use Rattle.vt_spec.specs.declared.attributes.Kind.TheVariants.{White}
-use Rattle.vt_spec.specs.Lists.{any_pair, holds_of, then_some}
-use Rattle.vt_spec.specs.Machine.Invariants.{IsMerged, IsWorld, OverlayInvariants, SameObject, has_fit_layers, is_plain_layer, live_lowers, number_at_path, real_node}
-use Rattle.vt_spec.specs.Machine.Layers.{OpenLayer, node_at_path, shown}
-use Rattle.vt_spec.specs.Machine.Locked.{is_object_of, lies_or_counts_under, live_upper_and_work, of_overlay, overlay_or, overlays, upper_and_work}
-use Rattle.vt_spec.specs.Machine.Merging.{layer_node, merged_at, real_object}
-use Rattle.vt_spec.specs.Machine.Policy.{call_outcome, filesystems_changed_by, finished, finished_by, only_looks}
-use Rattle.vt_spec.specs.Machine.Filesystems.{raised}
-use Rattle.vt_spec.specs.Machine.Judge.{judge_in}
-use Rattle.vt_spec.specs.Machine.Outcomes.{after}
-use Rattle.vt_spec.specs.Machine.Settled.{settled}
-use Rattle.vt_spec.specs.Machine.World.{Filesystem, Layer, Namespace, Overlay, Real, Task, World, filesystem_numbered, is_overlay, layers_of, no_filesystem, shown_layers, task_called}
-use Rattle.vt_spec.specs.Machine.World.Real.{Lower, Upper}
-use Rattle.vt_spec.specs.Tree.{is_directory_node}
-use Rattle.vt_spec.specs.TreeInvariant.{IsReached}
-use Rattle.vt_spec.proofs.Lists.{all-map}
 use Rattle.vt_laws_mounts.proofs.letting_go.sweeps.InUse.{nothing_goes}
 use Rattle.vt_laws_mounts.proofs.letting_go.Lists.{any-map, flat_map-map}
 use Rattle.vt_laws_worlds.proofs.Raised.{FilesBy, counted, files_by, mounts_counted, namespaces_counted, roots_counted, same_files, tasks_counted, trees_counted}

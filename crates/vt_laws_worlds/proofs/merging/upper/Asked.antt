@@ -1,13 +1,6 @@
 -- What is asked well is at some places.
 use Rattle.std.proofs.Common.{◌≡◌, ◌≢◌, refl, sym, ap, ◌∙◌, true≢false, ℕ, nat_eq, eq-eqb, eqb-true, Bool, true, false, List, [], ◌∷◌, ◌++◌, Option, Some, None, is_some, option_and_then}
-use Rattle.vt_spec.specs.FileTree.{a_name}
-use Rattle.vt_spec.specs.Language.Changes.Change.{AddName, CopyUp, Make, Move, Remove, SetAttr, SetBytes, SetMark}
-use Rattle.vt_spec.specs.Lists.{then_some}
-use Rattle.vt_spec.specs.Machine.CopyUp.{Merge, Stack}
-use Rattle.vt_spec.specs.Machine.Invariants.{SameObject, number_at_path}
-use Rattle.vt_spec.specs.Machine.World.{Real}
-use Rattle.vt_spec.specs.TreeInvariant.{entry_at}
-use Rattle.vt_spec.proofs.Trees.{led-append}
+use Rattle.vt_spec.proofs.Common.{AddName, CopyUp, Make, Merge, Move, Real, Remove, SameObject, SetAttr, SetBytes, SetMark, Stack, a_name, entry_at, led-append, none_is_some, nothing_is_no_object, number_at_path, same_Some, then_some}
 use Rattle.vt_laws_trees.proofs.layers.layers.ShownDirectories.{last_of}
 use Rattle.vt_laws_trees.proofs.layers.layers.ShownNames.{last_name}
 use Rattle.vt_laws_trees.proofs.layers.layers.ShownPaths.{not_empty}
@@ -19,9 +12,6 @@ use Rattle.vt_laws_worlds.specs.Merging.UpperChanges.Place.{Held, Named}
 use Rattle.vt_laws_worlds.specs.Merging.UpperCalls.{AskedChangesHavePlaces}
 use Rattle.vt_laws_worlds.specs.Merging.UpperCalls.Asks.{copies, links, makes, moves, removes, sets_attr, sets_bytes}
 use Rattle.vt_laws_worlds.specs.Merging.UpperCalls.ChangeAt.{AttrAt, BytesAt, CopyAt, LinkAt, MakeAt, MoveAt, RemoveAt}
-use Rattle.std.proofs.lemmas.Option.{same_Some}
-use Rattle.vt_spec.proofs.Options.{none_is_some}
-use Rattle.vt_spec.proofs.Worlds.{nothing_is_no_object}
 
 module _ (stack : Stack ℕ) (merge : Merge ℕ) (whole : IsWhole stack merge) where
   -- what is there has a real object,

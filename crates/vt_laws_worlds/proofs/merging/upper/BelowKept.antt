@@ -1,23 +1,8 @@
 -- What lower layers show in two overlays over them: where that is the same, and where it is nothing.
-use Rattle.std.proofs.Common.{arith, ◌≡◌, refl, sym, ap, subst, ◌∙◌, true≢false, ℕ, suc, ◌+◌, nat_eq, Bool, true, false, cond, List, [], ◌∷◌, ◌++◌, map, Option, Some, None, is_some, option_and_then}
-use Rattle.std.proofs.lemmas.Grind.{common_steps}
-use Rattle.std.proofs.lemmas.List.{append-nil}
-use Rattle.std.specs.List.{list_any}
-use Rattle.vt_spec.specs.Lists.{prefixes, then_some}
-use Rattle.vt_spec.specs.Machine.CopyUp.{Merge, Stack, hides_directory, is_directory_shown, is_in_upper, upper_of}
-use Rattle.vt_spec.specs.Machine.Invariants.{SameObject, number_at_path}
-use Rattle.vt_spec.specs.Machine.Layers.{OpenLayer, Shown, shown, view_of}
-use Rattle.vt_spec.specs.Machine.Merging.{layer_node}
-use Rattle.vt_spec.specs.Machine.Views.{View, cuts, hides, node_led, shown_from, shown_over}
-use Rattle.vt_spec.specs.Machine.World.{upper_object}
-use Rattle.vt_spec.specs.Machine.World.Real.{Upper}
-use Rattle.vt_spec.specs.Tree.{Tree, is_directory_node}
-use Rattle.vt_spec.specs.TreeInvariant.{entry_at, led}
-use Rattle.std.proofs.lemmas.Option.{same_Some}
-use Rattle.vt_spec.proofs.Options.{none_from_not_some, none_is_some}
+use Rattle.std.proofs.Common.{arith, ◌≡◌, refl, sym, ap, subst, ◌∙◌, true≢false, ℕ, suc, ◌+◌, nat_eq, Bool, true, false, cond, List, [], ◌∷◌, ◌++◌, map, Option, Some, None, is_some, option_and_then, append-nil}
+use Rattle.vt_spec.proofs.Common.{Merge, OpenLayer, SameObject, Shown, Stack, Tree, Upper, View, common_steps, cuts, directory_no_whiteout, entry_at, hides, hides_directory, is_directory_node, is_directory_shown, is_in_upper, layer_node, led, list_any, node_led, none_from_not_some, none_is_some, number_at_path, prefixes, same_Some, shown, shown_from, shown_over, then_some, upper_object, upper_of, view_of}
 use Rattle.vt_laws_trees.specs.Layers.Layers.Mounted.{IsAlike}
 use Rattle.vt_laws_trees.specs.Layers.Layers.Views.{view_in}
-use Rattle.vt_spec.proofs.NodeChanges.{directory_no_whiteout}
 use Rattle.vt_laws_trees.proofs.layers.layers.ShownDirectories.{AreOpen, ShowsDirectory, append_assoc, last_of, led_is_there, longer_is_not_empty}
 use Rattle.vt_laws_trees.proofs.layers.layers.ShownFronts.{cons_is_not_empty, prefix_passes}
 use Rattle.vt_laws_trees.proofs.layers.layers.ShownPaths.{not_empty}

@@ -1,26 +1,12 @@
 -- What lower layers show after copies, a new object, a further name, and bytes, owner and mode that are set.
 use Rattle.std.proofs.Common.{arith, ◌≡◌, ◌≢◌, refl, sym, ap, subst, ◌∙◌, true≢false, eq-eqb, ne_eqb, ℕ, nat_eq, Bool, true, false, cond, List, [], ◌∷◌, ◌++◌, Option, Some, None, is_some}
-use Rattle.std.proofs.lemmas.Grind.{common_steps}
-use Rattle.vt_spec.specs.FileTree.{FileTree}
-use Rattle.vt_spec.specs.Language.Changes.{changed, content_with_parent, node_with_mark}
-use Rattle.vt_spec.specs.Language.Changes.Change.{AddName, Make, SetAttr, SetBytes}
-use Rattle.vt_spec.specs.Lists.{Fresh}
-use Rattle.vt_spec.specs.Machine.CopyUp.{Merge, Stack, copied_up, hides_directory, merge_with_link, merge_with_new, upper_of, with_mark}
-use Rattle.vt_spec.specs.Machine.Invariants.{number_at_path}
-use Rattle.vt_spec.specs.Machine.Views.{cuts, hides}
-use Rattle.vt_spec.specs.Machine.World.{upper_object}
-use Rattle.vt_spec.specs.Machine.World.Real.{Lower, Upper}
-use Rattle.vt_spec.specs.Tree.{Node}
-use Rattle.vt_spec.specs.TreeInvariant.{IsDirectory}
-use Rattle.vt_spec.proofs.Nodes.{node_other, node_set}
+use Rattle.vt_spec.proofs.Common.{AddName, FileTree, Fresh, IsDirectory, Lower, Make, Merge, Node, SetAttr, SetBytes, Stack, Upper, changed, common_steps, content_with_parent, copied_up, cuts, hides, hides_directory, merge_with_link, merge_with_new, node_other, node_set, node_with_mark, none_is_some, number_at_path, same_Some, upper_object, upper_of, with_mark}
 use Rattle.vt_laws_trees.specs.Trees.{MayAddName, MayMake}
 use Rattle.vt_laws_trees.specs.Layers.Layers.ChangesUpper.{StandsInUpper}
 use Rattle.vt_laws_trees.specs.Layers.Layers.Mounted.{IsAlike}
 use Rattle.vt_laws_trees.specs.Layers.Layers.Upper.{IsThere}
 use Rattle.vt_laws_trees.specs.Layers.Layers.Views.{goes_through, names_entry, view_in}
 use Rattle.vt_laws_trees.proofs.layers.layers.LowersKept.{kept_elsewhere}
-use Rattle.std.proofs.lemmas.Option.{same_Some}
-use Rattle.vt_spec.proofs.Options.{none_is_some}
 use Rattle.vt_laws_trees.proofs.layers.layers.ShownDirectories.{append_assoc, last_of}
 use Rattle.vt_laws_trees.proofs.layers.layers.ShownFronts.{cons_is_not_empty, prefix_passes}
 use Rattle.vt_laws_trees.proofs.layers.layers.ShownPaths.{not_empty}

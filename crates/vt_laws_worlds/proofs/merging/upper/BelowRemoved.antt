@@ -1,26 +1,12 @@
 -- What lower layers show after a name was removed, and after a move.
 use Rattle.std.proofs.Common.{arith, ◌≡◌, ◌≢◌, refl, sym, ap, subst, ◌∙◌, true≢false, eqb-true, eq-eqb, ne_eqb, ℕ, nat_eq, Bool, true, false, cond, List, [], ◌∷◌, ◌++◌, Option, Some, None, is_some, option_and_then}
-use Rattle.std.proofs.lemmas.Grind.{common_steps}
-use Rattle.vt_spec.specs.FileTree.{FileTree}
-use Rattle.vt_spec.specs.Language.Changes.{changed, node_with_mark, node_without_entry, with_inode}
-use Rattle.vt_spec.specs.Language.Changes.Change.{Move}
-use Rattle.vt_spec.specs.Lists.{Fresh, then_some}
-use Rattle.vt_spec.specs.Machine.CopyUp.{Merge, Stack, hides_directory, merge_with_moved, merge_without_name, name_left_by, shown_in_lowers_at, upper_directory_named, upper_of, whiteout_of, with_mark, without_contents}
-use Rattle.vt_spec.specs.Machine.Invariants.{number_at_path}
-use Rattle.vt_spec.specs.Machine.Views.{hides}
-use Rattle.vt_spec.specs.Machine.World.{upper_object}
-use Rattle.vt_spec.specs.Machine.World.Real.{Upper}
-use Rattle.vt_spec.specs.Tree.{is_directory_node, node_with_entry}
-use Rattle.vt_spec.specs.TreeInvariant.{entry_at, led}
-use Rattle.vt_spec.proofs.Nodes.{node_other}
-use Rattle.vt_spec.proofs.Trees.{led-append}
+use Rattle.vt_spec.proofs.Common.{FileTree, Fresh, Merge, Move, Stack, Upper, changed, common_steps, entry_at, hides, hides_directory, is_directory_node, led, led-append, merge_with_moved, merge_without_name, name_left_by, node_other, node_with_entry, node_with_mark, node_without_entry, none_is_some, number_at_path, shown_in_lowers_at, then_some, upper_directory_named, upper_object, upper_of, whiteout_of, with_inode, with_mark, without_contents}
 use Rattle.vt_laws_trees.specs.Trees.{MayMove, MayRemove}
 use Rattle.vt_laws_trees.specs.Layers.Layers.ChangesUpper.{StandsInUpper}
 use Rattle.vt_laws_trees.specs.Layers.Layers.Mounted.{IsAlike}
 use Rattle.vt_laws_trees.specs.Layers.Layers.Views.{CanMove, goes_through, names_entry, view_in}
 use Rattle.vt_laws_trees.proofs.layers.layers.CopyingParts.{entry_keeps, without_entry_keeps}
 use Rattle.vt_laws_trees.proofs.layers.layers.LowersKept.{kept_elsewhere}
-use Rattle.vt_spec.proofs.Options.{none_is_some}
 use Rattle.vt_laws_trees.proofs.layers.layers.ShownDirectories.{append_assoc, last_of, longer_is_not_empty}
 use Rattle.vt_laws_trees.proofs.layers.layers.ShownFronts.{prefix_passes}
 use Rattle.vt_laws_trees.proofs.layers.layers.ShownPaths.{not_empty, one_path}

@@ -1,19 +1,9 @@
 -- What lower layers show after a whole change, with the copies that it needs.
 use Rattle.std.proofs.Common.{◌≡◌, refl, sym, ap, subst, ◌∙◌, true≢false, inl, inr, ◌⊎◌, ⊎_elim, ℕ, nat_eq, Bool, true, false, List, [], ◌∷◌, ◌++◌, Some, None, Option, option_and_then, ◌≢◌}
-use Rattle.vt_spec.specs.FileTree.{FileTree}
-use Rattle.vt_spec.specs.Language.Changes.{Change}
-use Rattle.vt_spec.specs.Language.Changes.Change.{AddName, Make, Move, Remove}
-use Rattle.vt_spec.specs.Lists.{Fresh, evens, without_last, odds}
-use Rattle.vt_spec.specs.Machine.CopyUp.{Merge, Stack, copied_up, is_directory_shown, merge_changed, upper_of}
-use Rattle.vt_spec.specs.Machine.Invariants.{number_at_path}
-use Rattle.vt_spec.specs.Machine.Views.{cuts}
-use Rattle.vt_spec.specs.TreeInvariant.{IsDirectory, entry_at, led}
-use Rattle.vt_spec.proofs.Nodes.{directory_used}
+use Rattle.vt_spec.proofs.Common.{AddName, Change, FileTree, Fresh, IsDirectory, Make, Merge, Move, Remove, Stack, copied_up, cuts, directory_used, entry_at, evens, is_directory_shown, led, merge_changed, none_is_some, number_at_path, odds, odds-distinct, same_Some, upper_of, without_last}
 use Rattle.vt_laws_trees.specs.Trees.{MayAddName, MayMake, MayMove, MayRemove}
 use Rattle.vt_laws_trees.specs.Layers.Layers.Upper.{IsThere}
 use Rattle.vt_laws_trees.specs.Layers.Layers.Views.{goes_through, view_in}
-use Rattle.std.proofs.lemmas.Option.{same_Some}
-use Rattle.vt_spec.proofs.Options.{none_is_some}
 use Rattle.vt_laws_trees.proofs.layers.layers.ShownDirectories.{append_assoc, last_of}
 use Rattle.vt_laws_trees.proofs.layers.layers.ShownFronts.{cons_is_not_empty}
 use Rattle.vt_laws_trees.proofs.layers.layers.ShownPaths.{not_empty}
@@ -37,7 +27,6 @@ use Rattle.vt_laws_worlds.proofs.merging.upper.BelowRemoved.{moved_kept, new_end
 use Rattle.vt_laws_worlds.proofs.merging.upper.UpperKinds.{even_new}
 use Rattle.vt_laws_worlds.proofs.merging.upper.Places.{directory_below_any}
 use Rattle.vt_laws_worlds.proofs.merging.upper.Worlds.{changes_are_by_layers}
-use Rattle.vt_spec.proofs.FreshNumbers.{odds-distinct}
 
 module _ (fresh : Fresh ℕ) (stack : Stack ℕ) (merge : Merge ℕ) (whole : IsWhole stack merge)
     (new : AreNew fresh merge.upper) where

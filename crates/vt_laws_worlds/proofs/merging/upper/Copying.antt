@@ -1,12 +1,7 @@
 -- Copies of what a path leads to, front by front.
-use Rattle.std.proofs.lemmas.Grind.{common_steps}
 use Rattle.std.proofs.Common.{arith, ◌≡◌, ◌≤◌, refl, sym, ap, subst, ◌∙◌, true≢false, ℕ, zero, suc, ◌+◌, nat_eq, Bool, true, false, List, [], ◌∷◌, ◌++◌, length, map, reverse, Option, Some, None, is_some, option_and_then, unwrap_or}
+use Rattle.vt_spec.proofs.Common.{Content, FileTree, Fresh, IsDirectory, IsTree, ListsNumbers, Make, Merge, Node, Real, SameObject, Stack, Tree, a_name, bytes_eq-Decides, chain, changed, common_steps, copied_content, copied_each, copied_up, copy_named, copy_of, copy_of_node, copy_parent, directories_to, entry_at, folded, folded-snoc, is_in_upper, is_kind_in, led, length-reverse, line_by, line_to, map-append, named_parent, none_is_some, nothing_is_no_object, number_at_path, prefixes, same_Some, same_content, then_some, upper_of, with_inode, without_last}
 use mathlib.Core.List.{reverse-cons}
-use Rattle.vt_spec.specs.FileTree.{FileTree, a_name, named_parent, is_kind_in}
-use Rattle.vt_spec.specs.Lists.{Fresh, chain, folded, without_last, prefixes, then_some}
-use Rattle.vt_spec.specs.Machine.CopyUp.{Merge, Stack, copied_content, copied_each, copied_up, copy_named, copy_of, copy_of_node, copy_parent, directories_to, is_in_upper, line_by, line_to, upper_of}
-use Rattle.vt_spec.specs.Machine.Invariants.{ListsNumbers, SameObject, number_at_path, same_content}
-use Rattle.vt_spec.specs.TreeInvariant.{IsDirectory, IsTree, entry_at, led}
 use Rattle.vt_laws_trees.proofs.layers.layers.UpperChain.{depth_bound, up_at_root, up_from}
 use Rattle.vt_laws_trees.proofs.layers.layers.UpperLine.{ReachedIn, has_entries, is_reached_in, named_so}
 use Rattle.vt_laws_trees.proofs.layers.layers.UpperShown.{without_last_of_longer, has_a_name}
@@ -20,19 +15,9 @@ use Rattle.vt_laws_trees.proofs.overlays.steps.WholeNames.{above_named, named_ab
 use Rattle.vt_laws_trees.proofs.overlays.steps.WholeParts.{real_by}
 use Rattle.vt_laws_worlds.specs.Merging.UpperChanges.{copied_at, copied_to, copy_node, copy_over, led_above, node_seen, object_above}
 use Rattle.vt_spec.specs.declared.attributes.Kind.TheVariants.{White}
-use Rattle.vt_spec.specs.Machine.World.{Real}
-use Rattle.vt_spec.specs.Language.Changes.{changed, with_inode}
-use Rattle.vt_spec.specs.Language.Changes.Change.{Make}
 use Rattle.vt_laws_trees.proofs.layers.views.After.{on_top}
-use Rattle.std.proofs.lemmas.Slice.Eq.{bytes_eq-Decides}
 use Rattle.vt_laws_trees.proofs.overlays.changes.WholeTogether.{stands_above}
-use Rattle.vt_spec.specs.Tree.{Content, Node, Tree}
-use Rattle.std.proofs.lemmas.List.{length-reverse, map-append}
-use Rattle.std.proofs.lemmas.Option.{same_Some}
-use Rattle.vt_spec.proofs.Options.{none_is_some}
 use Rattle.vt_laws_trees.proofs.layers.layers.CopyingLast.{copied_one_more}
-use Rattle.vt_spec.proofs.Worlds.{nothing_is_no_object}
-use Rattle.vt_spec.proofs.Lists.{folded-snoc}
 
 module _ (files : FileTree ℕ) (tree : IsTree files.tree) (numbers : ListsNumbers nat_eq files) where
   -- the directories above one are as many as there are steps to it

@@ -1,20 +1,6 @@
 -- An object at a path is copied with the fronts of that: what leads where, and which numbers are still new.
-use Rattle.std.proofs.lemmas.Grind.{common_steps}
-use Rattle.std.proofs.Common.{arith, ◌≡◌, ◌≢◌, ◌<◌, refl, sym, ap, subst, ◌∙◌, true≢false, ℕ, zero, suc, ◌+◌, nat_eq, ne_eqb, Bool, true, false, cond, List, [], ◌∷◌, ◌++◌, length, Option, Some, None, is_some, option_and_then, unwrap_or}
-use Rattle.vt_spec.specs.FileTree.{FileTree, a_name}
-use Rattle.vt_spec.specs.Language.Changes.{changed, with_inode}
-use Rattle.vt_spec.specs.Language.Changes.Change.{Make}
-use Rattle.vt_spec.specs.Lists.{Fresh, without_last, last_or, then_some}
-use Rattle.vt_spec.specs.Machine.Layers.{Shown, shown}
-use Rattle.vt_spec.specs.Machine.Merging.{real_object}
-use Rattle.vt_spec.specs.Machine.Views.{cuts, hides, node_led}
-use Rattle.vt_spec.specs.Machine.CopyUp.{Merge, Stack, copied_up, copy_of, directories_to, is_in_upper, line_to, upper_of}
-use Rattle.vt_spec.specs.Machine.Invariants.{SameObject, number_at_path}
-use Rattle.vt_spec.specs.Machine.World.{Real, upper_object}
-use Rattle.vt_spec.specs.Machine.World.Real.{Lower, Upper}
-use Rattle.vt_spec.specs.Tree.{Node, is_directory_node, node_with_entry}
-use Rattle.vt_spec.specs.TreeInvariant.{IsDirectory, IsTree, entry_at, led}
-use Rattle.vt_spec.proofs.Nodes.{directory_used, is_some-node_with_entry, node_other}
+use Rattle.std.proofs.Common.{arith, ◌≡◌, ◌≢◌, ◌<◌, refl, sym, ap, subst, ◌∙◌, true≢false, ℕ, zero, suc, ◌+◌, nat_eq, ne_eqb, Bool, true, false, cond, List, [], ◌∷◌, ◌++◌, length, Option, Some, None, is_some, option_and_then, unwrap_or, append-nil}
+use Rattle.vt_spec.proofs.Common.{FileTree, Fresh, IsDirectory, IsTree, Lower, Make, Merge, Node, Real, SameObject, Shown, Stack, Upper, a_name, changed, common_steps, copied_up, copy_of, cuts, directories_to, directory_no_whiteout, directory_used, entries_of-copied_content, entry_at, hides, is_directory_node, is_in_upper, is_some-node_with_entry, last_or, led, led-append, line_to, node_led, node_other, node_with_entry, none_from_not_some, none_is_some, nothing_is_no_object, number_at_path, part-changed_node, real_object, same_Some, shown, then_some, upper_object, upper_of, with_inode, without_last}
 use Rattle.vt_laws_trees.specs.Layers.Layers.ChangesUpper.{StandsInUpper}
 use Rattle.vt_laws_trees.specs.Layers.Layers.Views.{names_entry, view_in}
 use Rattle.vt_laws_trees.proofs.layers.layers.ShownDirectories.{append_assoc, last_of, led_is_there}
@@ -28,17 +14,11 @@ use Rattle.vt_laws_trees.proofs.layers.views.Moves.{led_parts}
 use Rattle.vt_laws_trees.proofs.layers.views.Names.{make_adds_inode, make_adds_path}
 use Rattle.vt_laws_trees.specs.Overlays.WhatIsShown.{IsWhole, inode_behind, layers_under}
 use Rattle.vt_laws_trees.proofs.overlays.steps.WholeParts.{real_by}
-use Rattle.vt_spec.proofs.Trees.{led-append}
 use Rattle.vt_laws_trees.proofs.overlays.steps.WholeAttributes.{upper_real}
 use Rattle.vt_laws_trees.proofs.overlays.steps.WholeLines.{IsLineCopied, object_copied, stands_copied, to_object}
 use Rattle.vt_laws_trees.proofs.overlays.steps.WholeNames.{above_named, directory_above, entry_named_so, named_above}
 use Rattle.vt_laws_worlds.specs.Merging.UpperChanges.{copied_at, copied_to, copy_node, copy_over, led_above, node_seen, object_above}
 use Rattle.vt_laws_worlds.proofs.merging.upper.Copying.{copied_after, copied_longer, directories_count, led_none, led_stands, none_copied, one_is_copied, reached_at, same_seen, stays}
-use Rattle.std.proofs.lemmas.List.{append-nil}
-use Rattle.std.proofs.lemmas.Option.{same_Some}
-use Rattle.vt_spec.proofs.NodeChanges.{directory_no_whiteout, entries_of-copied_content, part-changed_node}
-use Rattle.vt_spec.proofs.Options.{none_from_not_some, none_is_some}
-use Rattle.vt_spec.proofs.Worlds.{nothing_is_no_object}
 
 -- What copies of the fronts of a path leave: numbers that are still new, what other paths lead to, and what the
 -- fronts lead to.

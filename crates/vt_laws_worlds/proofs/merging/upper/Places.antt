@@ -1,21 +1,10 @@
 -- What copies make of the upper layer, for an object at a path or without a name, and what lower layers show beside
 -- them.
-use Rattle.std.proofs.lemmas.Grind.{common_steps}
-use Rattle.std.proofs.Common.{arith, ◌≡◌, ◌≢◌, refl, sym, ap, subst, ◌∙◌, true≢false, ℕ, suc, ◌+◌, nat_eq, eq-eqb, ne_eqb, Bool, true, false, cond, not, List, [], ◌∷◌, ◌++◌, length, map, Option, Some, None, is_some, unwrap_or}
-use Rattle.vt_spec.specs.FileTree.{FileTree, a_name, is_kind_in}
-use Rattle.vt_spec.specs.Language.Changes.{with_inode}
-use Rattle.vt_spec.specs.Lists.{Fresh, without_last, then_some, when}
-use Rattle.vt_spec.specs.Machine.CopyUp.{Merge, Stack, copied_content, copied_each, copied_up, copy_named, copy_of, copy_parent, is_directory_shown, is_in_upper, line_by, upper_of}
-use Rattle.vt_spec.specs.Machine.Invariants.{SameObject, number_at_path}
-use Rattle.vt_spec.specs.Machine.Layers.{OpenLayer, Shown, view_of}
-use Rattle.vt_spec.specs.Machine.Views.{View, cuts, shown_from, shown_over}
-use Rattle.vt_spec.specs.Machine.World.{Real, upper_object}
-use Rattle.vt_spec.specs.Machine.World.Real.{Lower, Upper}
-use Rattle.vt_spec.specs.Tree.{Node}
+use Rattle.std.proofs.Common.{arith, ◌≡◌, ◌≢◌, refl, sym, ap, subst, ◌∙◌, true≢false, ℕ, suc, ◌+◌, nat_eq, eq-eqb, ne_eqb, Bool, true, false, cond, not, List, [], ◌∷◌, ◌++◌, length, map, Option, Some, None, is_some, unwrap_or, append-nil}
+use Rattle.vt_spec.proofs.Common.{FileTree, Fresh, Lower, Merge, Node, OpenLayer, Real, SameObject, Shown, Stack, Upper, View, a_name, common_steps, copied_content, copied_each, copied_up, copy_named, copy_of, copy_parent, cuts, is_directory_shown, is_in_upper, is_kind_in, led-append, line_by, none_is_some, number_at_path, same_Some, shown_from, shown_over, then_some, upper_object, upper_of, view_of, when, with_inode, without_last}
 use Rattle.vt_laws_trees.specs.Layers.Layers.Views.{view_in}
 use Rattle.vt_laws_trees.proofs.layers.layers.UpperLine.{is_reached_in, named_so}
 use Rattle.vt_laws_trees.proofs.layers.layers.UpperShown.{without_last_of_longer, way_to}
-use Rattle.vt_spec.proofs.Trees.{led-append}
 use Rattle.vt_laws_trees.specs.Overlays.WhatIsShown.{IsWhole, inode_behind}
 use Rattle.vt_laws_trees.proofs.overlays.steps.WholeAttributes.{upper_real}
 use Rattle.vt_laws_trees.proofs.overlays.steps.WholeLines.{object_copied, stands_copied}
@@ -26,9 +15,6 @@ use Rattle.vt_laws_worlds.proofs.merging.upper.Copying.{led_none, same_copied, s
 use Rattle.vt_laws_worlds.proofs.merging.upper.Fronts.{Copies, copied_along, cuts_stay}
 use Rattle.vt_laws_trees.proofs.layers.layers.ShownDirectories.{led_is_there}
 use Rattle.vt_spec.specs.declared.attributes.Kind.TheVariants.{White}
-use Rattle.std.proofs.lemmas.List.{append-nil}
-use Rattle.std.proofs.lemmas.Option.{same_Some}
-use Rattle.vt_spec.proofs.Options.{none_is_some}
 
 module _ (fresh : Fresh ℕ) (stack : Stack ℕ) (merge : Merge ℕ) (whole : IsWhole stack merge)
     (new : AreNew fresh merge.upper) (object : ℕ) (there : is_some (merge.files.tree.node object) ≡ true) where

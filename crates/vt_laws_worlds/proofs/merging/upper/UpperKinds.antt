@@ -1,16 +1,6 @@
 -- What each kind of change makes of the upper layer.
 use Rattle.std.proofs.Common.{arith, ◌≡◌, refl, sym, ap, ◌∙◌, true≢false, ℕ, ◌+◌, ◌*◌, nat_eq, eqb-true, Bool, true, false, cond, if◌then◌else◌, List, [], ◌∷◌, ◌++◌, Option, Some, None, is_some, option_and_then, unwrap_or}
-use Rattle.std.proofs.lemmas.Grind.{common_steps}
-use Rattle.vt_spec.specs.FileTree.{FileTree}
-use Rattle.vt_spec.specs.Language.Changes.{changed, changed_node, content_with_parent, node_with_attr, node_with_mark, with_moved}
-use Rattle.vt_spec.specs.Language.Changes.Change.{AddName, Make}
-use Rattle.vt_spec.specs.Lists.{Fresh, evens, odds, then_some, when}
-use Rattle.vt_spec.specs.Machine.CopyUp.{Merge, Stack, changed_both, copied_each, copied_up, copy_of, hides_directory, is_directory_shown, is_in_upper, line_to, name_left_by, path_to, shown_in_lowers_at, upper_directory_named, upper_of, with_mark, without_contents}
-use Rattle.vt_spec.specs.Machine.Invariants.{number_at_path}
-use Rattle.vt_spec.specs.Machine.Layers.{shown_in_lowers}
-use Rattle.vt_spec.specs.Machine.World.{upper_object}
-use Rattle.vt_spec.specs.Tree.{Node, is_directory_node, node_with_bytes}
-use Rattle.vt_spec.specs.TreeInvariant.{entry_at}
+use Rattle.vt_spec.proofs.Common.{AddName, FileTree, Fresh, Make, Merge, Node, Stack, changed, changed_both, changed_node, common_steps, content_with_parent, copied_each, copied_up, copy_of, directory_no_whiteout, entry_at, evens, evens-distinct, hides_directory, is_directory_node, is_directory_shown, is_in_upper, line_to, name_left_by, node_with_attr, node_with_bytes, node_with_mark, none_is_some, number_at_path, odds, odds-distinct, path_to, same_Some, shown_in_lowers, shown_in_lowers_at, then_some, upper_directory_named, upper_object, upper_of, when, with_mark, with_moved, without_contents}
 use Rattle.vt_laws_trees.specs.Layers.Layers.ChangesUpper.{StandsInUpper}
 use Rattle.vt_laws_trees.proofs.layers.layers.ShownNames.{last_name}
 use Rattle.vt_laws_trees.proofs.layers.layers.UpperLine.{has_entries}
@@ -23,10 +13,6 @@ use Rattle.vt_laws_trees.proofs.overlays.changes.WholeTogether.{still_unused, tw
 use Rattle.vt_laws_worlds.specs.Merging.UpperChanges.{AreNew, AttrIsSetAbove, BytesAreSetAbove, LeadsToDirectory, LinkedAbove, MadeAbove, object_of, MarkIsSetAbove, MovedAbove, OpenedIsCopied, RemovedAbove, copied_to, directory_above, directory_below, layers_with, led_above, linked_in, moved_in, object_above, seen_below, IsAt, Place, upper_with}
 use Rattle.vt_laws_worlds.specs.Merging.UpperChanges.Place.{Named}
 use Rattle.vt_laws_worlds.proofs.merging.upper.Places.{at_place, copies_hide_nothing, path_there}
-use Rattle.std.proofs.lemmas.Option.{same_Some}
-use Rattle.vt_spec.proofs.NodeChanges.{directory_no_whiteout}
-use Rattle.vt_spec.proofs.Options.{none_is_some}
-use Rattle.vt_spec.proofs.FreshNumbers.{evens-distinct, odds-distinct}
 
 -- Of an overlay that is whole
 module _ (stack : Stack ℕ) (c : Merge ℕ) (whole : IsWhole stack c) where

@@ -1,20 +1,7 @@
 -- The upper layer's files after a permitted call.
-use Rattle.std.proofs.Common.{arith, ◌≡◌, ◌≢◌, refl, sym, ap, subst, ◌∙◌, true≢false, ℕ, nat_eq, List, flat_map, map, Some, None, unwrap_or}
-use Rattle.std.proofs.lemmas.Grind.{common_steps}
-use Rattle.std.specs.List.{find}
-use Rattle.vt_spec.specs.Language.Changes.{Change}
-use Rattle.vt_spec.specs.Lists.{Fresh}
-use Rattle.vt_spec.specs.Machine.Apply.{apply}
-use Rattle.vt_spec.specs.Machine.CopyUp.{Merge, merge_changed}
-use Rattle.vt_spec.specs.Machine.Filesystems.{filesystem_changed, merge_of, overlay_changed, stack_of, with_change, with_files, with_merge}
-use Rattle.vt_spec.specs.Machine.Invariants.{IsWorld}
-use Rattle.vt_spec.specs.Machine.Mounts.{Location, mount_tree}
-use Rattle.vt_spec.specs.Machine.Descriptors.{opened, with_copy}
-use Rattle.vt_spec.specs.Machine.Detach.{mounts_on, taken_away}
-use Rattle.vt_spec.specs.Machine.Permits.{Permit}
+use Rattle.std.proofs.Common.{arith, ◌≡◌, ◌≢◌, refl, sym, ap, subst, ◌∙◌, true≢false, ℕ, nat_eq, List, flat_map, map, Some, None, unwrap_or, find}
+use Rattle.vt_spec.proofs.Common.{Change, Filesystem, Fresh, IsWorld, Layer, Location, Merge, Overlay, Permit, Task, World, apply, common_steps, filesystem_at, filesystem_changed, filesystem_numbered, filesystems-taken_away, is_directory_node, merge_changed, merge_of, mount_at, mount_tree, mounts_on, no_filesystem, opened, overlay_changed, shown-taken_away, stack_of, taken_away, with_change, with_copy, with_files, with_filesystem, with_merge}
 use Rattle.vt_laws_rules.proofs.judged.CallsJudged.{call_is_judged_then_applied}
-use Rattle.vt_spec.specs.Machine.World.{Filesystem, Layer, Overlay, Task, World, filesystem_at, filesystem_numbered, mount_at, no_filesystem, with_filesystem}
-use Rattle.vt_spec.specs.Tree.{is_directory_node}
 use Rattle.vt_laws_trees.proofs.layers.layers.LowersWorld.{filesystem_elsewhere, filesystem_there, number_of_filesystem}
 use Rattle.vt_laws_trees.proofs.layers.layers.UpperWorld.{upper_elsewhere}
 use Rattle.vt_laws_trees.specs.Overlays.WhatIsShown.{IsWhole}
@@ -24,7 +11,6 @@ use Rattle.vt_laws_worlds.specs.Merging.UpperCalls.{Asks, ChangeAt, ChangesAreBy
 use Rattle.vt_laws_worlds.specs.Merging.UpperCalls.Asks.{copies, links, makes, moves, removes, sets_attr, sets_bytes, sets_mark}
 use Rattle.vt_laws_worlds.specs.Merging.UpperCalls.Does.{does_change, does_make, does_open, does_open_new, does_remove, does_rename, does_write}
 use Rattle.vt_laws_worlds.proofs.merging.upper.UpperKinds.{attr_is_set_above, bytes_are_set_above, linked_above, made_above, mark_is_set_above, moved_above, opened_is_copied, removed_above}
-use Rattle.vt_spec.proofs.Worlds.{filesystems-taken_away, shown-taken_away}
 
 pub changes_are_by_layers : ChangesAreByLayers
 changes_are_by_layers fresh stack merge whole new change at (makes path directory name number node is) =

@@ -1,9 +1,8 @@
 -- What lies only below in an overlay of a world with all invariants has a name in one directory, and what stands in the
 -- upper layer is under directories that stand there. So what is copied up does not depend on the order of the numbers.
-use Rattle.std.proofs.lemmas.Grind.{common_steps}
 use Rattle.std.proofs.Common.{arith, ◌≡◌, refl, sym, ap, subst, ◌∙◌, ◌⊎◌, inl, inr, ℕ, zero, suc, nat_eq, Bool, true, false, not, List, [], ◌∷◌, ◌++◌, length, map, find, filter_map, reverse, Option, Some, None, is_some, option_map}
+use Rattle.vt_spec.proofs.Common.{FileTree, IsTree, IsWorld, Merge, Real, SameFiles, Tree, World, a_name, ancestors, chain, common_steps, entries_in, entry_at, entry_from, filesystem_numbered, first_of_list, has_entry_to, is_among, is_in_upper, line_by, line_to, name_in, named_parent, same_Some, then_some, upper_object}
 use mathlib.Core.List.{reverse-cons}
-use Rattle.std.proofs.lemmas.Option.{same_Some}
 use Rattle.vt_laws_trees.proofs.layers.layers.UpperLine.{named_so}
 use Rattle.vt_laws_trees.proofs.layers.layers.UpperWorld.{above_upper, overlay_tree}
 use Rattle.vt_laws_trees.proofs.runs.answered.AlikeChanges.{CopiesAlike, found_alike}
@@ -11,15 +10,6 @@ use Rattle.vt_laws_trees.proofs.runs.answered.AlikeCopies.{AllUpper, LinesAlike,
 use Rattle.vt_laws_trees.proofs.runs.answered.AlikeWorlds.{Alike}
 use Rattle.vt_laws_rules.proofs.same.SameFiles.{one_found}
 use Rattle.vt_laws_rules.proofs.same.SameNames.{worlds_have_one_name}
-use Rattle.vt_spec.proofs.NodeChanges.{entry_from}
-use Rattle.vt_spec.specs.FileTree.{FileTree, a_name, ancestors, has_entry_to, name_in, named_parent}
-use Rattle.vt_spec.specs.Lists.{chain, first_of_list, is_among, then_some}
-use Rattle.vt_spec.specs.Machine.CopyUp.{Merge, is_in_upper, line_by, line_to}
-use Rattle.vt_spec.specs.Machine.Invariants.{IsWorld}
-use Rattle.vt_spec.specs.Machine.SameWorlds.{SameFiles}
-use Rattle.vt_spec.specs.Machine.World.{Real, World, filesystem_numbered, upper_object}
-use Rattle.vt_spec.specs.Tree.{Tree, entries_in}
-use Rattle.vt_spec.specs.TreeInvariant.{IsTree, entry_at}
 
 -- The first thing that is told of a list is told of the first element of which something is told.
 first_told : {A B : Type 0} (h : A → Option B) (list : List A)

@@ -1,36 +1,16 @@
 -- Each number that a world has is in use, those of its overlays too.
-use Rattle.std.proofs.Common.{arith, eqb-true, ◌≡◌, refl, sym, ap, subst, ◌∙◌, ⊎_elim, inl, inr, true≢false, ℕ, nat_eq, Bool, true, false, cond, not, List, [], ◌∷◌, ◌++◌, map, flat_map, Option, Some, None, is_some}
-use Rattle.std.proofs.lemmas.Grind.{common_steps}
-use Rattle.std.specs.Prelude.{option_to_list}
-use Rattle.std.specs.List.{list_all}
-use Rattle.std.proofs.lemmas.Bool.{and_parts}
-use Rattle.std.proofs.lemmas.List.Folds.{list_all-append}
-use Rattle.std.specs.Cmp.{tied_itself}
-use Rattle.std.specs.Cmp.Lexicographic.{nat_list_cmp_total}
-use Rattle.std.specs.FinMap.Entries.{below_all, is_sorted}
-use Rattle.std.specs.Ordering.{eq_by_cmp, is_eq}
+use Rattle.std.proofs.Common.{arith, eqb-true, ◌≡◌, refl, sym, ap, subst, ◌∙◌, ⊎_elim, inl, inr, true≢false, ℕ, nat_eq, Bool, true, false, cond, not, List, [], ◌∷◌, ◌++◌, map, flat_map, Option, Some, None, is_some, option_to_list, is_eq}
+use Rattle.vt_spec.proofs.Common.{Content, Descriptor, Directory, Entries, Filesystem, HasLivingGroups, IsMerged, IsTree, IsWorld, Layer, ListsNumbers, Location, Lower, Mount, Namespace, Node, Overlay, Private, Propagation, Real, Regular, Shared, Slave, Symlink, Task, Tree, Unbindable, Upper, Whiteout, World, all_locations, and_parts, below_all, common_steps, directory_used, entries_in, entry_named, entry_named-below, eq_by_cmp, filesystem_numbered, group_of, has_its_root, has_members, holds_of, is_directory_node, is_listed, is_located_well, is_member_of, is_overlay, is_plain_layer, is_sorted, is_there, list_all, list_all-append, locations_of, mount_at, name_cmp, nat_list_cmp_total, node_at, none_from_not_some, numbers_in_use, parent_in, source_of, tied_itself, used_by_filesystem, used_by_mount}
 use Rattle.vt_laws_rules.specs.Numbers.{FilesystemNamed, IsFoundAmong, OverlayIfAnyNamed, WorldNamed, content_named, descriptor_named, layer_named, location_named, mount_named, namespace_named, node_named, none_or, propagation_named, real_named, task_named}
 use Rattle.vt_laws_mounts.proofs.letting_go.Lists.{Among, all_from_among, all_pass, among-append_left, among-append_right, among-flat_map, among-from_map, among-map, among_from_all, among_numbers, is_among_numbers, one_passes, passes}
 use Rattle.vt_laws_worlds.specs.OneText.InUse.{AnyWorldsHaveNumbersInUse}
 use Rattle.vt_laws_worlds.specs.Permits.InUse.{is_in_use}
-use Rattle.vt_spec.specs.Lists.{holds_of}
-use Rattle.vt_spec.specs.Machine.Mounts.{Location, Mount, Propagation, group_of, source_of}
-use Rattle.vt_spec.specs.Machine.Mounts.Propagation.{Private, Shared, Slave, Unbindable}
-use Rattle.vt_spec.specs.Machine.Receives.{has_members, is_member_of}
-use Rattle.vt_spec.specs.Machine.Run.{numbers_in_use, used_by_filesystem, used_by_mount}
-use Rattle.vt_spec.specs.Machine.World.{Descriptor, Filesystem, Layer, Namespace, Overlay, Real, Task, World, all_locations, filesystem_numbered, is_overlay, locations_of, mount_at, node_at}
-use Rattle.vt_spec.specs.Machine.World.Real.{Lower, Upper}
-use Rattle.vt_spec.specs.Machine.Invariants.{HasLivingGroups, IsMerged, IsWorld, ListsNumbers, has_its_root, is_listed, is_located_well, is_plain_layer, is_there}
-use Rattle.vt_spec.specs.Tree.{Content, Entries, Node, Tree, entries_in, entry_named, is_directory_node, name_cmp, parent_in}
-use Rattle.vt_spec.specs.Tree.Content.{Directory, Regular, Symlink, Whiteout}
-use Rattle.vt_spec.specs.TreeInvariant.{IsTree}
-use Rattle.vt_spec.proofs.Nodes.{directory_used, same_name}
+use Rattle.vt_spec.proofs.Nodes.{same_name}
 use Rattle.vt_laws_trees.proofs.trees.TreesOfWorlds.{number_numbered, numbered_all}
 use Rattle.vt_laws_trees.proofs.trees.TreesTasks.{both}
 use Rattle.vt_laws_worlds.proofs.worlds.Shows.{world_shows}
 use Rattle.vt_laws_mounts.proofs.letting_go.sweeps.OfWorlds.{all_in_use, found_filesystem}
-use Rattle.vt_spec.proofs.NodeChanges.{directory_is_there, entry_named-below}
-use Rattle.vt_spec.proofs.Options.{none_from_not_some}
+use Rattle.vt_spec.proofs.NodeChanges.{directory_is_there}
 use Rattle.vt_laws_mounts.proofs.GroupsUp.{master_has_members}
 
 found_by_name : (entries : Entries ℕ) (entry : List ℕ × ℕ) → is_sorted name_cmp entries ≡ true → Among entry entries

@@ -1,15 +1,12 @@
 -- Which numbers a world keeps to, and which supplies serve it.
-use Rattle.std.proofs.lemmas.Grind.{common_steps}
 use Rattle.std.proofs.Common.{arith, ◌≡◌, refl, ℕ, ◌==◌, true, false, not, ◌&&◌, List, [], ◌∷◌, eqb-true}
-use Rattle.std.specs.List.{list_any}
-use Rattle.std.proofs.lemmas.Bool.{or_parts}
+use Rattle.vt_spec.proofs.Common.{World, common_steps, list_any, or_parts}
 use Rattle.vt_laws_worlds.proofs.given.handed.Places.{numbers_at_places_serve}
 use Rattle.vt_laws_worlds.specs.Given.NumbersHanded.{Placed}
 use Rattle.vt_laws_worlds.proofs.one_text.in_use.InUseNamed.{any_worlds_have_numbers_in_use}
 use Rattle.vt_laws_worlds.specs.OneText.InUse.{AnyWorldsKeepToNumbersInUse, UnusedNumbersServe}
 use Rattle.vt_laws_worlds.specs.Permits.InUse.{is_in_use}
 use Rattle.vt_laws_rules.proofs.numbers.NamedWorlds.{named_is_kept}
-use Rattle.vt_spec.specs.Machine.World.{World}
 
 pub any_worlds_keep_to_numbers_in_use : AnyWorldsKeepToNumbersInUse
 any_worlds_keep_to_numbers_in_use named world whole among renaming leaves =

@@ -1,6 +1,6 @@
 -- Every run writes the one text of its script: each line leaves a world with all invariants.
-use Rattle.std.proofs.Common.{nat_eq}
-use Rattle.std.specs.Prelude.{length, nat_lt, ⊤}
+use Rattle.std.proofs.Common.{nat_eq, length, nat_lt}
+use Rattle.vt_spec.proofs.Common.{IsWorld, is_silent, longest_line, ⊤}
 use Rattle.vt_laws_rules.proofs.same.SameNames.{worlds_have_one_name}
 use Rattle.vt_laws_trees.proofs.runs.handed.Counts.{endless}
 use Rattle.vt_laws_trees.proofs.runs.runs.RunsTold.{kept_runs_have_one_text}
@@ -9,9 +9,6 @@ use Rattle.vt_laws_worlds.proofs.one_text.answered.CopiesOfWorlds.{copies_of_wor
 use Rattle.vt_laws_worlds.proofs.opening.OpeningWorld.{opening_is_a_world}
 use Rattle.vt_laws_worlds.proofs.overlay_permits.worlds.EveryScript.{line_keeps}
 use Rattle.vt_laws_worlds.specs.OneText.Runs.{EveryProgramHasOneText, EveryRunHasOneText}
-use Rattle.vt_spec.specs.Language.Limits.{longest_line}
-use Rattle.vt_spec.specs.Language.Script.{is_silent}
-use Rattle.vt_spec.specs.Machine.Invariants.{IsWorld}
 
 pub every_run_has_one_text : EveryRunHasOneText
 every_run_has_one_text grammar refused script text in_hand fresh leaves opens tells =

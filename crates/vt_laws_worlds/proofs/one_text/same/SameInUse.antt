@@ -1,17 +1,12 @@
 -- What is in use is the same in worlds that are the same.
 use Rattle.std.proofs.Common.{◌≡◌, sym, ◌∙◌, ℕ, nat_eq, true, ◌||◌, is_some}
-use Rattle.std.specs.List.{list_all, list_any}
-use Rattle.std.proofs.lemmas.List.Sorted.{list_any-IsPermutation}
+use Rattle.vt_spec.proofs.Common.{Filesystem, Location, Mount, SameFilesystem, World, filesystem_lives, list_all, list_any, list_any-IsPermutation, used_in}
 use Rattle.vt_laws_mounts.specs.LettingGo.InUse.{AllInUse, is_inode_used}
 use Rattle.vt_laws_trees.proofs.runs.answered.AlikeChanges.{locations_same}
 use Rattle.vt_laws_trees.proofs.runs.answered.AlikeSettled.{lives_same, used_permuted}
 use Rattle.vt_laws_trees.proofs.runs.answered.AlikeWorlds.{Alike, with_mounts_of}
 use Rattle.vt_laws_trees.proofs.runs.EachHas.{each_all, each_holds}
 use Rattle.vt_laws_trees.proofs.runs.Permuted.{list_all-IsPermutation}
-use Rattle.vt_spec.specs.Machine.Mounts.{Location, Mount}
-use Rattle.vt_spec.specs.Machine.SameWorlds.{SameFilesystem}
-use Rattle.vt_spec.specs.Machine.Settled.{filesystem_lives, used_in}
-use Rattle.vt_spec.specs.Machine.World.{Filesystem, World}
 
 -- Two worlds with the very same mounts
 module _ (one second : World ℕ) (same : Alike one (with_mounts_of one second)) where

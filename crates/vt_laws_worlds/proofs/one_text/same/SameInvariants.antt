@@ -1,27 +1,13 @@
 -- The invariants of trees, mounts, namespaces and tasks go along worlds that are the same.
-use Rattle.std.proofs.Common.{arith, ◌≤◌, ◌≡◌, sym, ap, subst, ◌∙◌, ℕ, nat_eq, Bool, ◌&&◌, [], ◌∷◌, ◌++◌, map, Option, is_some}
-use Rattle.std.proofs.lemmas.Grind.{common_steps}
-use Rattle.std.specs.Prelude.{option_to_list}
-use Rattle.std.specs.List.{list_all}
-use Rattle.std.proofs.lemmas.List.Sorted.{list_any-IsPermutation}
+use Rattle.std.proofs.Common.{arith, ◌≤◌, ◌≡◌, sym, ap, subst, ◌∙◌, ℕ, nat_eq, Bool, ◌&&◌, [], ◌∷◌, ◌++◌, map, Option, is_some, option_to_list}
+use Rattle.vt_spec.proofs.Common.{Descriptor, FileTree, Filesystem, ForksAreCounted, HasOwnParents, IsTree, ListsNumbers, Location, Mount, MountInvariants, Namespace, NamespaceInvariants, Node, SameFiles, SameFilesystem, Task, TaskInvariants, Tree, TreeInvariants, World, all_locations, among_from_contains, common_steps, contains_from_among, filesystem_numbered, has_fit_names, has_fit_text, is_among, is_directory_node, is_fit_filesystem, is_kind_in, is_no_larger, is_within_limits, list_all, list_any-IsPermutation, mount_at, same_name, stands_alike}
 use Rattle.vt_laws_trees.proofs.runs.EachHas.{each_all, each_among, each_holds, each_pair}
 use Rattle.vt_laws_trees.proofs.runs.answered.AlikeChanges.{found_alike, locations_same}
 use Rattle.vt_laws_trees.proofs.runs.answered.AlikeWorlds.{Alike, SameNamespace, SameTask, with_mounts_of}
 use Rattle.vt_laws_trees.proofs.runs.Each.{each_any, each_to_one}
 use Rattle.vt_laws_trees.proofs.runs.Permuted.{list_all-IsPermutation}
 use Rattle.vt_spec.specs.declared.attributes.Kind.TheVariants.{File}
-use Rattle.vt_spec.specs.FileTree.{FileTree, is_kind_in}
-use Rattle.vt_spec.specs.Language.Calls.{same_name}
-use Rattle.vt_spec.specs.Lists.{is_among}
-use Rattle.vt_spec.specs.Machine.Mounts.{Location, Mount}
-use Rattle.vt_spec.specs.Machine.SameWorlds.{SameFiles, SameFilesystem}
-use Rattle.vt_spec.specs.Machine.World.{Descriptor, Filesystem, Namespace, Task, World, all_locations, filesystem_numbered, mount_at}
-use Rattle.vt_spec.specs.Machine.Invariants.{ForksAreCounted, ListsNumbers, MountInvariants, NamespaceInvariants, TaskInvariants, TreeInvariants, has_fit_names, has_fit_text, is_fit_filesystem, is_no_larger, is_within_limits}
-use Rattle.vt_spec.proofs.Lists.{among_from_contains, contains_from_among}
-use Rattle.vt_spec.specs.Tree.{Node, Tree, is_directory_node}
-use Rattle.vt_spec.specs.TreeInvariant.{HasOwnParents, IsTree}
 use Rattle.vt_laws_worlds.specs.Worlds.Kept.{MountsShow}
-use Rattle.vt_spec.proofs.Worlds.{stands_alike}
 
 -- the trees by the numbers of their filesystems
 abbrev pub TreesBy : Type 0

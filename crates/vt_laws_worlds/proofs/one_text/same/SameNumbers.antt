@@ -1,16 +1,13 @@
 -- Worlds that are the same keep to the same numbers.
 use Rattle.std.proofs.Common.{◌≡◌, refl, sym, ap, ◌∙◌, ℕ, nat_eq, List, [], ◌∷◌, map, option_map, ⊎_elim}
-use Rattle.std.proofs.lemmas.List.Sorted.{list_any-IsPermutation}
+use Rattle.vt_spec.proofs.Common.{Filesystem, Namespace, SameFilesystem, Task, World, cons-rest, list_any-IsPermutation, renamed, renamed_filesystem, renamed_mount, renamed_namespace, renamed_node, renamed_overlay, renamed_task}
 use Rattle.vt_laws_mounts.proofs.letting_go.Lists.{Among, among_numbers, is_among_numbers, map_same}
 use Rattle.vt_laws_rules.specs.Renaming.{Renaming}
 use Rattle.vt_laws_worlds.specs.OneText.Same.{AnySameWorldsKeepToNumbers}
-use Rattle.vt_spec.specs.Machine.SameWorlds.{SameFilesystem}
 use Rattle.vt_laws_rules.proofs.judged.NumbersRaised.{bare_task}
 use Rattle.vt_laws_trees.proofs.runs.answered.AlikeWorlds.{Alike, alike_from_same, SameNamespace, SameTask}
 use Rattle.vt_laws_trees.proofs.runs.Each.{Each}
-use Rattle.vt_spec.specs.Machine.Renaming.{renamed, renamed_filesystem, renamed_mount, renamed_namespace, renamed_node, renamed_overlay, renamed_task}
-use Rattle.vt_spec.specs.Machine.World.{Filesystem, Namespace, Task, World}
-use Rattle.vt_spec.proofs.Options.{cons-first, cons-rest}
+use Rattle.vt_spec.proofs.Options.{cons-first}
 
 -- what stands in a list that a change leaves is left by it
 each_left : {A : Type 0} (f : A → A) (list : List A) → map f list ≡ list → (a : A) → Among a list → f a ≡ a

@@ -1,8 +1,6 @@
 -- The invariants of overlays go along worlds that are the same.
 use Rattle.std.proofs.Common.{arith, ◌≡◌, sym, ap, subst, ◌∙◌, ℕ, nat_eq, true, not, ◌&&◌, ◌||◌, List, [], ◌∷◌, map, flat_map, Option, is_some, option_map, slice_get}
-use Rattle.std.proofs.lemmas.Grind.{common_steps}
-use Rattle.std.specs.List.{list_all, list_any}
-use Rattle.std.proofs.lemmas.List.Sorted.{list_any-IsPermutation}
+use Rattle.vt_spec.proofs.Common.{Filesystem, IsMerged, IsReached, Layer, Lower, Node, Overlay, OverlayInvariants, Real, SameFilesystem, SameObject, Upper, World, any_pair, common_steps, counts_in_layer, filesystem_numbered, has_fit_layers, holds_of, is_directory_node, is_kind_in, is_opaque_in, is_plain_layer, layer_node, layers_of, led, lies_in_layer, lies_or_counts_under, list_all, list_any, list_any-IsPermutation, live_lowers, live_upper_and_work, merged_at, node_at_path, of_overlay, overlaps_one_of, overlay_or, overlays, real_node, real_object, shown, shown_layers, then_some, upper_and_work}
 use Rattle.vt_laws_trees.proofs.runs.answered.AlikeChanges.{found_alike, opened_same}
 use Rattle.vt_laws_trees.proofs.runs.answered.AlikeDirected.{overlays_alike}
 use Rattle.vt_laws_trees.proofs.runs.answered.AlikeWorlds.{Alike}
@@ -10,17 +8,6 @@ use Rattle.vt_laws_trees.proofs.runs.EachHas.{each_all}
 use Rattle.vt_laws_rules.proofs.same.SameFiles.{under_same}
 use Rattle.vt_laws_trees.proofs.runs.Each.{each_any, each_flat}
 use Rattle.vt_spec.specs.declared.attributes.Kind.TheVariants.{White}
-use Rattle.vt_spec.specs.FileTree.{is_kind_in, is_opaque_in}
-use Rattle.vt_spec.specs.Lists.{any_pair, holds_of, then_some}
-use Rattle.vt_spec.specs.Machine.Invariants.{IsMerged, OverlayInvariants, SameObject, has_fit_layers, is_plain_layer, live_lowers, real_node}
-use Rattle.vt_spec.specs.Machine.Layers.{node_at_path, shown}
-use Rattle.vt_spec.specs.Machine.Locked.{counts_in_layer, lies_in_layer, lies_or_counts_under, live_upper_and_work, of_overlay, overlaps_one_of, overlay_or, overlays, upper_and_work}
-use Rattle.vt_spec.specs.Machine.Merging.{layer_node, merged_at, real_object}
-use Rattle.vt_spec.specs.Machine.SameWorlds.{SameFilesystem}
-use Rattle.vt_spec.specs.Machine.World.{Filesystem, Layer, Overlay, Real, World, filesystem_numbered, layers_of, shown_layers}
-use Rattle.vt_spec.specs.Machine.World.Real.{Lower, Upper}
-use Rattle.vt_spec.specs.Tree.{Node, is_directory_node}
-use Rattle.vt_spec.specs.TreeInvariant.{IsReached, led}
 
 module _ (one other : World ℕ) (same : Alike one other) where
   tree_same : (number : ℕ)

@@ -1,6 +1,6 @@
 -- Worlds that are the same have the same invariants.
 use Rattle.std.proofs.Common.{arith, ℕ}
-use Rattle.std.proofs.lemmas.Grind.{common_steps}
+use Rattle.vt_spec.proofs.Common.{World, common_steps}
 use Rattle.vt_laws_mounts.proofs.letting_go.sweeps.InUse.{nothing_goes}
 use Rattle.vt_laws_mounts.proofs.letting_go.sweeps.OfWorlds.{all_in_use}
 use Rattle.vt_laws_trees.proofs.runs.answered.AlikeWorlds.{Alike, alike_from_same, mounts_of_one, with_mounts_of}
@@ -9,7 +9,6 @@ use Rattle.vt_laws_worlds.proofs.one_text.same.SameInvariants.{mounts_keep, name
 use Rattle.vt_laws_worlds.proofs.one_text.same.SameOverlays.{overlays_keep}
 use Rattle.vt_laws_worlds.specs.OneText.Same.{AnySameWorldsAreUnderWay, AnySameWorldsAreWorlds}
 use Rattle.vt_laws_worlds.specs.Worlds.Kept.{IsUnderWay}
-use Rattle.vt_spec.specs.Machine.World.{World}
 
 under_way_kept : (one second : World ℕ) → Alike one (with_mounts_of one second) → IsUnderWay one
     → IsUnderWay (with_mounts_of one second)

@@ -1,11 +1,7 @@
 -- What each way in which a call is granted asks for: what may be done.
-use Rattle.std.proofs.lemmas.Grind.{common_steps}
-use Rattle.std.proofs.Common.{List, Option, Some, [], ap, arith, drop, false, inl, inr, is_some, le-leb, leb-true, ltb-false, nat_eq, nat_le, not, refl, sym, take, true, true≢false, ℕ, ◌&&◌, ◌*◌, ◌+◌, ◌==◌, ◌∙◌, ◌∷◌, ◌≡◌}
-use Rattle.vt_spec.specs.Errors.{NoneFails}
-use Rattle.std.proofs.lemmas.List.{length-append, length-drop, length-take}
-use Rattle.std.specs.Prelude.{length, nat_lt, ◌++◌}
+use Rattle.std.proofs.Common.{List, Option, Some, [], ap, arith, drop, false, inl, inr, is_some, le-leb, leb-true, ltb-false, nat_eq, nat_le, not, refl, sym, take, true, true≢false, ℕ, ◌&&◌, ◌*◌, ◌+◌, ◌==◌, ◌∙◌, ◌∷◌, ◌≡◌, length-append, length-drop, length-take, length, nat_lt, ◌++◌}
+use Rattle.vt_spec.proofs.Common.{Access, Call, Descriptor, Filesystem, Fresh, Here, IsNewIn, IsWorld, ListsNumbers, Location, Looks, Node, NoneFails, Permit, Place, Serves, Task, ToOpen, World, all_from_among, among_from_list_all, and_true_first, bytes_in, common_steps, descriptor_found, descriptor_numbered, entries_in, entries_in-no_directory, evens, file_is_there, file_mode, files_at, found_among, has_regular_files_open, is_directory_node, is_directory_there, is_empty, is_fit_filesystem, is_kind, is_kind_in, is_special, kind_of, largest_file, longest_path, looks_of, make_permit, mount_at, name_of, new_file, new_name_rules, nil_from_not_some, node_at, object_there, object_walk, or_false_left, overfills, overwritten, padded, special_word, symlink_walk, task_called}
 use Rattle.vt_laws_trees.specs.Calls.Inodes.{written_if_some}
-use Rattle.vt_spec.proofs.Given.{descriptor_found}
 use Rattle.vt_laws_rules.proofs.given.Inversion.{calls_are_granted}
 use Rattle.vt_laws_rules.specs.Granted.{IsGranted, directory_made, symlink_made, whiteout_made}
 use Rattle.vt_laws_rules.specs.Granted.IsGranted.{changes_mark, changes_mode, changes_owner, creates, creates_exclusively, makes_directory, makes_hard_link, makes_symlink, makes_whiteout, opens, opens_existing, overwrites_file, removes_directory, renames, unlinks, writes_new_file, writes_part}
@@ -13,33 +9,7 @@ use Rattle.vt_laws_trees.proofs.trees.ChangesOfSizes.{fits}
 use Rattle.vt_laws_trees.proofs.overlays.whole.UpperSizes.{fits_here}
 use Rattle.vt_laws_worlds.specs.OverlayPermits.Asked.{AsksWellIf, PermitsAskWell, change_asked}
 use Rattle.vt_laws_worlds.proofs.permits.sees.SeesNames.{old_mount, tree_here}
-use Rattle.vt_spec.proofs.Found.{found_among}
-use Rattle.vt_spec.proofs.Lists.{all_from_among, among_from_list_all}
-use Rattle.vt_spec.proofs.NodeChanges.{allowed_is_there, entries_in-no_directory, file_is_there, nil_from_not_some}
-use Rattle.vt_spec.proofs.Truths.{and_true_first, or_false_left}
-use Rattle.vt_spec.proofs.Walk.{new_name_rules}
-use Rattle.vt_spec.proofs.Worlds.{special_word}
-use Rattle.vt_spec.specs.FileTree.{is_kind, is_kind_in}
-use Rattle.vt_spec.specs.Language.Calls.{Access, Call}
-use Rattle.vt_spec.specs.Language.Limits.{largest_file, longest_path}
-use Rattle.vt_spec.specs.Laws.Trees.{IsNewIn}
-use Rattle.vt_spec.specs.Lists.{Fresh, evens}
-use Rattle.vt_spec.specs.Machine.Apply.{overfills}
-use Rattle.vt_spec.specs.Machine.Descriptors.{overwritten, padded}
-use Rattle.vt_spec.specs.Machine.Invariants.{IsWorld, ListsNumbers, has_regular_files_open, is_fit_filesystem}
-use Rattle.vt_spec.specs.Machine.Judge.{make_permit}
-use Rattle.vt_spec.specs.Machine.Looks.{Looks, looks_of}
-use Rattle.vt_spec.specs.Machine.Mounts.{Location}
-use Rattle.vt_spec.specs.Machine.Permits.{Permit}
-use Rattle.vt_spec.specs.Machine.Permits.Permit.{ToOpen}
-use Rattle.vt_spec.specs.Machine.Rows.{file_mode, new_file}
-use Rattle.vt_spec.specs.Machine.Rules.Descriptors.{descriptor_numbered}
-use Rattle.vt_spec.specs.Machine.Rules.Removing.{object_there}
-use Rattle.vt_spec.specs.Machine.Run.{Serves}
-use Rattle.vt_spec.specs.Machine.Walking.{Here, Place, is_directory_there, is_special, name_of, object_walk, symlink_walk}
-use Rattle.vt_spec.specs.Machine.World.{Descriptor, Filesystem, Task, World, files_at, mount_at, node_at, task_called}
-use Rattle.vt_spec.specs.PathText.{is_empty}
-use Rattle.vt_spec.specs.Tree.{Node, bytes_in, entries_in, is_directory_node, kind_of}
+use Rattle.vt_spec.proofs.NodeChanges.{allowed_is_there}
 use Rattle.vt_spec.specs.declared.attributes.Kind.TheVariants.{File, White}
 use Rattle.vt_laws_trees.proofs.trees.ChangesByLinks.{may_link}
 use Rattle.vt_laws_trees.proofs.trees.ChangesByRemoving.{may_move, old_removable}

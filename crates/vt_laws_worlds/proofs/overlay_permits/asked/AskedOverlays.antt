@@ -1,13 +1,6 @@
 -- What a permit asks of an overlay with an upper layer.
-use Rattle.std.proofs.Common.{arith, ◌≡◌, ap, subst, ◌∙◌, ℕ, nat_eq, true, false, List, [], ◌∷◌, map, Option, Some, is_some}
-use Rattle.std.proofs.lemmas.Grind.{common_steps}
-use Rattle.std.specs.Prelude.{option_to_list}
-use Rattle.vt_spec.specs.Language.Changes.{Change}
-use Rattle.vt_spec.specs.Machine.Filesystems.{merge_of, stack_of}
-use Rattle.vt_spec.specs.Machine.Layers.{has_lower_directory}
-use Rattle.vt_spec.specs.Machine.Locked.{overlay_or}
-use Rattle.vt_spec.specs.Machine.Mounts.{Location}
-use Rattle.vt_spec.specs.Machine.World.{Layer, Overlay, World, files_at, filesystem_at, is_overlay, open_layer}
+use Rattle.std.proofs.Common.{arith, ◌≡◌, ap, subst, ◌∙◌, ℕ, nat_eq, true, false, List, [], ◌∷◌, map, Option, Some, is_some, option_to_list}
+use Rattle.vt_spec.proofs.Common.{Change, Layer, Location, Overlay, World, common_steps, files_at, filesystem_at, has_lower_directory, is_overlay, merge_of, open_layer, overlay_or, stack_of}
 use Rattle.vt_laws_trees.specs.Trees.{IsProper}
 use Rattle.vt_laws_trees.specs.Overlays.WholeChanges.{IsAskedWell}
 use Rattle.vt_laws_worlds.specs.OverlayPermits.Asked.{AsksWell, AsksWellIf, PermitsAskOverlaysWell, PermitsAskProperly}

@@ -1,9 +1,6 @@
 -- What each way in which a call is granted asks for spares what is locked.
-use Rattle.std.proofs.Common.{arith, List, Some, [], ap, eqb-true, false, nat_eq, refl, sym, true, true≢false, ℕ, ◌||◌, ◌∙◌, ◌≡◌}
-use Rattle.std.proofs.lemmas.Grind.{common_steps}
-use Rattle.std.proofs.lemmas.Bool.{or_parts}
-use Rattle.std.specs.List.{list_any}
-use Rattle.std.specs.Prelude.{option_to_list, ◌≢◌}
+use Rattle.std.proofs.Common.{arith, List, Some, [], ap, eqb-true, false, nat_eq, refl, sym, true, true≢false, ℕ, ◌||◌, ◌∙◌, ◌≡◌, option_to_list, ◌≢◌}
+use Rattle.vt_spec.proofs.Common.{Access, Call, Fresh, Location, Looks, Node, Permit, Place, Task, ToOpen, World, common_steps, entry_at, file_mode, files_at, has_no_upper, is_directory_there, is_locked, is_locked_at, is_special, list_any, looks_of, make_permit, mount_at, name_of, new_file, object_there, or_false_left, or_false_right, or_parts, overfills, removing, special_word}
 use Rattle.vt_laws_trees.specs.Calls.Inodes.{written_if_some}
 use Rattle.vt_laws_rules.proofs.given.Inversion.{calls_are_granted}
 use Rattle.vt_laws_rules.specs.Granted.{IsGranted, directory_made, symlink_made, whiteout_made}
@@ -11,24 +8,6 @@ use Rattle.vt_laws_rules.specs.Granted.IsGranted.{changes_mark, changes_mode, ch
 use Rattle.vt_laws_worlds.specs.OverlayPermits.Asked.{change_asked}
 use Rattle.vt_laws_worlds.specs.OverlayPermits.Unlocked.{PermitsSpareWhatIsLocked, SparesLocked, SparesLockedIf}
 use Rattle.vt_laws_worlds.proofs.permits.sees.SeesNames.{old_mount}
-use Rattle.vt_spec.proofs.Truths.{or_false_left, or_false_right}
-use Rattle.vt_spec.proofs.Worlds.{special_word}
-use Rattle.vt_spec.specs.Language.Calls.{Access, Call}
-use Rattle.vt_spec.specs.Lists.{Fresh}
-use Rattle.vt_spec.specs.Machine.Apply.{overfills}
-use Rattle.vt_spec.specs.Machine.Judge.{make_permit}
-use Rattle.vt_spec.specs.Machine.Locked.{is_locked, is_locked_at}
-use Rattle.vt_spec.specs.Machine.Looks.{Looks, looks_of}
-use Rattle.vt_spec.specs.Machine.Mounts.{Location}
-use Rattle.vt_spec.specs.Machine.Permits.{Permit}
-use Rattle.vt_spec.specs.Machine.Permits.Permit.{ToOpen}
-use Rattle.vt_spec.specs.Machine.Rows.{file_mode, new_file}
-use Rattle.vt_spec.specs.Machine.Rules.Conditions.{has_no_upper}
-use Rattle.vt_spec.specs.Machine.Rules.Removing.{object_there, removing}
-use Rattle.vt_spec.specs.Machine.Walking.{Place, is_directory_there, is_special, name_of}
-use Rattle.vt_spec.specs.Machine.World.{Task, World, files_at, mount_at}
-use Rattle.vt_spec.specs.Tree.{Node}
-use Rattle.vt_spec.specs.TreeInvariant.{entry_at}
 use Rattle.vt_laws_trees.proofs.trees.TreesWalked.{IsNewPlace, IsOldPlace, not_true, place_named}
 use Rattle.vt_laws_trees.proofs.trees.PlacesReached.{old_is, old_leaf_is, rename_new_is}
 

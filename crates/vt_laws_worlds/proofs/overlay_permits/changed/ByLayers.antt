@@ -1,15 +1,6 @@
 -- What a granted call makes of the upper layer of the overlay that it changes, by layers alone.
 use Rattle.std.proofs.Common.{◌≡◌, refl, ap, ◌∙◌, subst, ℕ, nat_eq, Bool, true, false, [], ◌∷◌, Option, Some, None}
-use Rattle.std.specs.Prelude.{⊤}
-use Rattle.vt_spec.specs.Language.Changes.{Change}
-use Rattle.vt_spec.specs.Language.Changes.Change.{CopyUp}
-use Rattle.vt_spec.specs.Lists.{Fresh, when}
-use Rattle.vt_spec.specs.Machine.Filesystems.{merge_of, stack_of}
-use Rattle.vt_spec.specs.Machine.Mounts.{Location}
-use Rattle.vt_spec.specs.Machine.Descriptors.{is_copied_up}
-use Rattle.vt_spec.specs.Machine.Permits.{Permit}
-use Rattle.vt_spec.specs.Machine.Permits.Permit.{ToChange, ToMake, ToOpen, ToOpenNew, ToRemoveDirectory, ToRename, ToWritePart}
-use Rattle.vt_spec.specs.Machine.World.{World, filesystem_at, filesystem_numbered, mount_at}
+use Rattle.vt_spec.proofs.Common.{Change, CopyUp, Fresh, Location, Permit, ToChange, ToMake, ToOpen, ToOpenNew, ToRemoveDirectory, ToRename, ToWritePart, World, filesystem_at, filesystem_numbered, is_copied_up, merge_of, mount_at, stack_of, when, ⊤}
 use Rattle.vt_laws_trees.proofs.overlays.changes.WholeWorlds.{overlays_are_whole}
 use Rattle.vt_laws_worlds.specs.Merging.UpperCalls.{Does}
 use Rattle.vt_laws_worlds.specs.Merging.UpperCalls.Does.{does_change, does_make, does_open, does_open_new, does_remove, does_rename, does_write}

@@ -1,15 +1,6 @@
 -- The change of an overlay that a permit asks for can be made.
-use Rattle.std.proofs.lemmas.Grind.{common_steps}
 use Rattle.std.proofs.Common.{arith, ◌≡◌, refl, ◌*◌, ◌+◌, ℕ, nat_eq, None}
-use Rattle.vt_spec.specs.Language.Changes.{Change}
-use Rattle.vt_spec.specs.Lists.{Fresh, odds}
-use Rattle.vt_spec.specs.Machine.CopyUp.{Merge, Stack}
-use Rattle.vt_spec.specs.Machine.Filesystems.{merge_of, stack_of}
-use Rattle.vt_spec.specs.Machine.Invariants.{IsWorld, ListsNumbers}
-use Rattle.vt_spec.specs.Machine.Permits.{Permit}
-use Rattle.vt_spec.specs.Machine.Permits.Permit.{ToMake, ToOpenNew}
-use Rattle.vt_spec.specs.Machine.Run.{Serves}
-use Rattle.vt_spec.specs.Machine.World.{Filesystem, World, mount_at}
+use Rattle.vt_spec.proofs.Common.{Change, Filesystem, Fresh, IsWorld, ListsNumbers, Merge, Permit, Serves, Stack, ToMake, ToOpenNew, World, common_steps, merge_of, mount_at, odds, served-distinct, stack_of}
 use Rattle.vt_laws_trees.proofs.trees.ChangesKeepTrees.{changes_keep_numbers, changes_keep_trees}
 use Rattle.vt_laws_trees.proofs.trees.TreesOfWorlds.{numbered_anyhow}
 use Rattle.vt_laws_trees.proofs.layers.layers.UpperWorld.{overlay_numbers, overlay_tree}
@@ -21,7 +12,6 @@ use Rattle.vt_laws_worlds.specs.OverlaysLetGo.OverlayChanges.{NameIsThere}
 use Rattle.vt_laws_worlds.proofs.worlds.CallsKept.{new_numbers}
 use Rattle.vt_laws_worlds.specs.OverlayPermits.Changed.{AskedChangesCanBeMade, PermitsCanChange, numbers_left}
 use Rattle.vt_laws_worlds.proofs.overlay_permits.asked.AskedOverlays.{permits_ask_overlays_well}
-use Rattle.vt_spec.proofs.FreshNumbers.{served-distinct}
 use Rattle.vt_laws_trees.specs.Trees.Settling.{inode_in}
 
 may_change : (stack : Stack ℕ) (merge : Merge ℕ) (change : Change ℕ) → IsAskedWell stack merge change

@@ -1,19 +1,6 @@
 -- A granted call that changes an overlay keeps the invariants of overlays.
 use Rattle.std.proofs.Common.{arith, ◌≡◌, refl, sym, ap, subst, ◌∙◌, ℕ, nat_eq, Bool, true, false, List, [], ◌∷◌, Option, Some, None}
-use Rattle.std.proofs.lemmas.Grind.{common_steps}
-use Rattle.std.specs.Prelude.{⊤}
-use Rattle.vt_spec.specs.Language.Changes.{Change}
-use Rattle.vt_spec.specs.Language.Changes.Change.{CopyUp, Move, Remove}
-use Rattle.vt_spec.specs.Lists.{Fresh, when}
-use Rattle.vt_spec.specs.Machine.Apply.{apply}
-use Rattle.vt_spec.specs.Machine.Detach.{without_mounts_on}
-use Rattle.vt_spec.specs.Machine.Filesystems.{filesystem_changed, with_change}
-use Rattle.vt_spec.specs.Machine.Invariants.{IsMerged, OverlayInvariants, TreeInvariants}
-use Rattle.vt_spec.specs.Machine.Mounts.{Location}
-use Rattle.vt_spec.specs.Machine.Descriptors.{is_copied_up, with_copy}
-use Rattle.vt_spec.specs.Machine.Permits.{Permit}
-use Rattle.vt_spec.specs.Machine.Permits.Permit.{ToChange, ToMake, ToOpen, ToOpenNew, ToRemoveDirectory, ToRename, ToWritePart}
-use Rattle.vt_spec.specs.Machine.World.{Filesystem, Overlay, Task, World, filesystem_numbered, mount_at}
+use Rattle.vt_spec.proofs.Common.{Change, CopyUp, Filesystem, Fresh, IsMerged, Location, Move, Overlay, OverlayInvariants, Permit, Remove, Task, ToChange, ToMake, ToOpen, ToOpenNew, ToRemoveDirectory, ToRename, ToWritePart, TreeInvariants, World, apply, common_steps, filesystem_changed, filesystem_numbered, is_copied_up, mount_at, when, with_change, with_copy, without_mounts_on, ⊤}
 use Rattle.vt_laws_trees.proofs.layers.layers.LowersMounts.{same_filesystems_without, same_mounted_without}
 use Rattle.vt_laws_trees.proofs.overlays.whole.ApartInvariants.{overlay_invariants_stay, tree_invariants_stay}
 use Rattle.vt_laws_worlds.specs.OverlayPermits.Asked.{change_asked}

@@ -1,26 +1,6 @@
 -- A granted call goes through the filesystem of the location that it changes.
 use Rattle.std.proofs.Common.{arith, ◌≡◌, ◌≢◌, refl, sym, ap, subst, ◌∙◌, true≢false, ne_eqb, ℕ, nat_eq, ◌*◌, ◌+◌, Bool, true, false, [], ◌∷◌, Option, Some, None, Ok, is_some}
-use Rattle.std.proofs.lemmas.Grind.{common_steps}
-use Rattle.std.specs.Prelude.{⊤}
-use Rattle.vt_spec.specs.FileTree.{FileTree}
-use Rattle.vt_spec.specs.Language.Calls.{Call}
-use Rattle.vt_spec.specs.Language.Changes.{Change}
-use Rattle.vt_spec.specs.Language.Changes.Change.{AddName, CopyUp, Make, Move, Remove, SetAttr, SetBytes, SetMark}
-use Rattle.vt_spec.specs.Lists.{Fresh, is_among, odds, when}
-use Rattle.vt_spec.specs.Machine.Apply.{apply}
-use Rattle.vt_spec.specs.Machine.Invariants.{IsWorld}
-use Rattle.vt_spec.specs.Machine.Judge.{judge_in}
-use Rattle.vt_spec.specs.Machine.Locked.{lies_or_counts_under, live_layers, upper_and_work}
-use Rattle.vt_spec.specs.Machine.Looks.{looks_of}
-use Rattle.vt_spec.specs.Machine.Mounts.{Location}
-use Rattle.vt_spec.specs.Machine.Descriptors.{is_copied_up}
-use Rattle.vt_spec.specs.Machine.Outcomes.{Outcome, after}
-use Rattle.vt_spec.specs.Machine.Permits.{Permit}
-use Rattle.vt_spec.specs.Machine.Permits.Permit.{ToChange, ToMake, ToOpen, ToOpenNew, ToWritePart}
-use Rattle.vt_spec.specs.Machine.Policy.{call_outcome}
-use Rattle.vt_spec.specs.Machine.World.{Task, World, files_at, filesystem_at, filesystem_numbered, is_overlay, layers_of, mount_at}
-use Rattle.vt_spec.proofs.Lists.{Among, among-append_left, any_from_among, among_from_contains}
-use Rattle.vt_spec.proofs.Nodes.{directory_used}
+use Rattle.vt_spec.proofs.Common.{AddName, Among, Call, Change, CopyUp, FileTree, Fresh, IsWorld, Location, Make, Move, Outcome, Permit, Remove, SetAttr, SetBytes, SetMark, Task, ToChange, ToMake, ToOpen, ToOpenNew, ToWritePart, World, after, among-append_left, among_from_contains, any_from_among, apply, call_outcome, common_steps, directory_used, files_at, filesystem_at, filesystem_numbered, is_among, is_copied_up, is_overlay, judge_in, layers_of, lies_or_counts_under, live_layers, looks_of, mount_at, none_is_some, odds, or_from, upper_and_work, when, ⊤}
 use Rattle.vt_laws_rules.specs.Given.{IsFor}
 use Rattle.vt_laws_rules.proofs.judged.CallsJudged.{call_is_judged_then_applied}
 use Rattle.vt_laws_rules.proofs.given.GivenPermits.{permits_are_for_their_calls}
@@ -39,8 +19,6 @@ use Rattle.vt_laws_worlds.specs.OverlayPermits.Unlocked.{SparesInode, SparesLock
 use Rattle.vt_laws_worlds.proofs.overlay_permits.asked.Asked.{permits_ask_well}
 use Rattle.vt_laws_worlds.proofs.overlay_permits.kept.KeptOverlays.{permits_make_their_change}
 use Rattle.vt_laws_worlds.proofs.overlay_permits.asked.Unlocked.{permits_spare_what_is_locked}
-use Rattle.std.proofs.lemmas.Bool.{or_from}
-use Rattle.vt_spec.proofs.Options.{none_is_some}
 
 -- A change of a filesystem goes through it
 goes_by_change : (fresh : Fresh ℕ) (world later : World ℕ) → IsWorld nat_eq world

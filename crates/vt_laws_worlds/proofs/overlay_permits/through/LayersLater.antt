@@ -1,22 +1,6 @@
 -- Every call that changes nothing through an overlay leaves each of its layers, when what nothing uses is gone, too.
-use Rattle.std.proofs.Common.{◌≡◌, ◌≢◌, refl, sym, ap, subst, ◌∙◌, true≢false, ℕ, nat_eq, Bool, true, false, not, List, [], ◌∷◌, ◌++◌, Option, Some, None, Ok, is_some}
-use Rattle.std.specs.Prelude.{Contains, option_to_list}
-use Rattle.vt_spec.specs.Language.Calls.{Call, TaskName}
-use Rattle.vt_spec.specs.Language.Calls.Call.{MountOverlay}
-use Rattle.vt_spec.specs.Language.Changes.{Change}
-use Rattle.vt_spec.specs.Lists.{Fresh}
-use Rattle.vt_spec.specs.Machine.Apply.{apply}
-use Rattle.vt_spec.specs.Machine.Invariants.{IsWorld, OverlayInvariants}
-use Rattle.vt_spec.specs.Machine.Judge.{judge_in}
-use Rattle.vt_spec.specs.Machine.Mounts.{Location}
-use Rattle.vt_spec.specs.Machine.NewMounts.{plain_filesystem}
-use Rattle.vt_spec.specs.Machine.Permits.{Permit}
-use Rattle.vt_spec.specs.Machine.Policy.{call_outcome, finished_by}
-use Rattle.vt_spec.specs.Machine.Run.{Serves}
-use Rattle.vt_spec.specs.Machine.Settled.{settled, without_dead_filesystems, without_dead_in, without_dead_mounts}
-use Rattle.vt_spec.specs.Machine.World.{Filesystem, Layer, Overlay, Task, World, filesystem_numbered, is_overlay, layers_of, mount_at, task_called}
-use Rattle.vt_spec.proofs.Lists.{Among, among_from_contains}
-use Rattle.vt_spec.proofs.Nodes.{directory_used}
+use Rattle.std.proofs.Common.{◌≡◌, ◌≢◌, refl, sym, ap, subst, ◌∙◌, true≢false, ℕ, nat_eq, Bool, true, false, not, List, [], ◌∷◌, ◌++◌, Option, Some, None, Ok, is_some, Contains, option_to_list}
+use Rattle.vt_spec.proofs.Common.{Among, Call, Change, Filesystem, Fresh, IsWorld, Layer, Location, MountOverlay, Overlay, OverlayInvariants, Permit, Serves, Task, TaskName, World, among_from_contains, and_true_right, apply, call_outcome, directory_used, filesystem_numbered, finished_by, is_overlay, judge_in, layers_of, mount_at, plain_filesystem, same_Some, settled, task_called, without_dead_filesystems, without_dead_in, without_dead_mounts}
 use Rattle.vt_laws_trees.specs.Trees.Calls.{mounts_overlay}
 use Rattle.vt_laws_trees.specs.Trees.Limits.{names_few_groups}
 use Rattle.vt_laws_trees.specs.Layers.Layers.Locked.{LeadsAsBefore}
@@ -41,8 +25,6 @@ use Rattle.vt_laws_worlds.proofs.overlay_permits.worlds.PolicyLeads.{named_leads
 use Rattle.vt_laws_worlds.proofs.overlay_permits.worlds.SweptInodes.{file_trees_are, files_later, first_goes, one_later, second_goes}
 use Rattle.vt_laws_worlds.proofs.overlay_permits.worlds.SweptOverlays.{leads_same, living_goes}
 use Rattle.vt_laws_worlds.proofs.overlay_permits.worlds.SweptWorlds.{files_living, mounted_overlays, one_living, overlays_first, overlays_living}
-use Rattle.std.proofs.lemmas.Option.{same_Some}
-use Rattle.vt_spec.proofs.Truths.{and_true_right}
 
 -- An overlay that goes on has its layers
 layers_before : (world later : World ℕ) (number : ℕ) (after : Overlay ℕ) (on : GoesOn world later number after)

@@ -1,16 +1,7 @@
 -- Over whole scripts each layer of an overlay stays as it was while nothing is changed through the overlay, and it is
 -- live.
-use Rattle.std.proofs.Common.{arith, ◌≡◌, refl, sym, subst, ℕ, nat_eq, Bool, true, false, List, [], ◌∷◌, Option, Some, None}
-use Rattle.std.proofs.lemmas.Grind.{common_steps}
-use Rattle.std.specs.Prelude.{length, nat_lt}
-use Rattle.vt_spec.specs.Language.Calls.{Call, TaskName}
-use Rattle.vt_spec.specs.Language.Limits.{longest_line}
-use Rattle.vt_spec.specs.Language.Script.{Grammar, Request, is_silent, request_of}
-use Rattle.vt_spec.specs.Language.Script.Request.{Asking, Calling}
-use Rattle.vt_spec.specs.Lists.{Fresh}
-use Rattle.vt_spec.specs.Machine.Invariants.{IsWorld}
-use Rattle.vt_spec.specs.Machine.Run.{Serves, line_step, line_step_by, requested, step_world}
-use Rattle.vt_spec.specs.Machine.World.{Overlay, World, filesystem_numbered, opening}
+use Rattle.std.proofs.Common.{arith, ◌≡◌, refl, sym, subst, ℕ, nat_eq, Bool, true, false, List, [], ◌∷◌, Option, Some, None, length, nat_lt}
+use Rattle.vt_spec.proofs.Common.{Asking, Call, Calling, Fresh, Grammar, IsWorld, Overlay, Request, Serves, TaskName, World, common_steps, filesystem_numbered, is_silent, line_step, line_step_by, longest_line, opening, request_of, requested, step_world}
 use Rattle.vt_laws_rules.proofs.denials.Unchanged.{directive_changes_nothing, refused_memory_changes_nothing}
 use Rattle.vt_laws_worlds.proofs.opening.OpeningWorld.{opening_is_a_world}
 use Rattle.vt_laws_worlds.proofs.worlds.WordsFew.{lines_name_few, request_names_few}

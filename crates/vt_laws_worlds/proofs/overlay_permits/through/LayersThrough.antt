@@ -1,10 +1,6 @@
 -- A granted call leaves each layer of every overlay but that which it changes.
 use Rattle.std.proofs.Common.{◌≡◌, ◌≢◌, sym, ap, ◌∙◌, true≢false, ℕ, nat_eq, true, Some, is_some, ⊎_elim}
-use Rattle.vt_spec.specs.Machine.Invariants.{IsWorld}
-use Rattle.vt_spec.specs.Machine.Locked.{lies_or_counts_under, upper_and_work}
-use Rattle.vt_spec.specs.Machine.Policy.{call_outcome}
-use Rattle.vt_spec.specs.Machine.World.{Layer, Overlay, World, filesystem_numbered, layers_of}
-use Rattle.vt_spec.proofs.Lists.{Among, among-append, among_from_contains, contains_from_among}
+use Rattle.vt_spec.proofs.Common.{Among, IsWorld, Layer, Overlay, World, among-append, among_from_contains, call_outcome, contains_from_among, filesystem_numbered, layers_of, lies_or_counts_under, upper_and_work}
 use Rattle.vt_laws_rules.proofs.given.GivenPermits.{permits_are_for_their_calls}
 use Rattle.vt_laws_trees.specs.Layers.Layers.Untouched.{IsKept}
 use Rattle.vt_laws_trees.proofs.layers.locked.Apart.{layer_plain}

@@ -1,26 +1,6 @@
 -- Every call keeps the invariants of a world, with overlays too.
 use Rattle.std.proofs.Common.{◌≡◌, refl, sym, ap, subst, ◌∙◌, ℕ, nat_eq, Bool, true, false, List, [], ◌∷◌, ◌++◌, Option, Some, None, Ok, true≢false}
-use Rattle.vt_spec.specs.Language.Calls.{Call, TaskName, same_name}
-use Rattle.vt_spec.specs.Language.Calls.Call.{MountOverlay}
-use Rattle.vt_spec.specs.Language.Changes.{Change}
-use Rattle.vt_spec.specs.Language.Changes.Change.{CopyUp}
-use Rattle.vt_spec.specs.Lists.{Fresh, evens, when}
-use Rattle.vt_spec.specs.Machine.Apply.{apply}
-use Rattle.vt_spec.specs.Machine.Detach.{going}
-use Rattle.vt_spec.specs.Machine.Filesystems.{filesystem_changed, overlay_changed, with_change}
-use Rattle.vt_spec.specs.Machine.Invariants.{ForksAreCounted, IsWorld, MountInvariants, NamespaceInvariants, OverlayInvariants, TreeInvariants, is_within_limits}
-use Rattle.vt_spec.specs.Machine.Judge.{judge_in}
-use Rattle.vt_spec.specs.Machine.Mounts.{Location}
-use Rattle.vt_spec.specs.Machine.Namespaces.{namespace_entered, unshared}
-use Rattle.vt_spec.specs.Machine.Descriptors.{is_copied_up, with_copy}
-use Rattle.vt_spec.specs.Machine.NewMounts.{overlay_filesystem, plain_filesystem, with_new_filesystem}
-use Rattle.vt_spec.specs.Machine.Outcomes.{Outcome, after}
-use Rattle.vt_spec.specs.Machine.Permits.{Permit}
-use Rattle.vt_spec.specs.Machine.Permits.Permit.{ToChange, ToEnterNamespace, ToExit, ToMake, ToMountOverlay, ToMountPlain, ToOpen, ToOpenNew, ToRemoveDirectory, ToRename, ToSetType, ToUnmount, ToUnmountLazily, ToUnshare, ToWritePart}
-use Rattle.vt_spec.specs.Machine.Policy.{call_outcome, finished_by, policy}
-use Rattle.vt_spec.specs.Machine.Run.{Serves}
-use Rattle.vt_spec.specs.Machine.Settled.{settled}
-use Rattle.vt_spec.specs.Machine.World.{Filesystem, Layer, Overlay, Task, World, filesystem_at, mount_numbered, task_called, without_task}
+use Rattle.vt_spec.proofs.Common.{Call, Change, CopyUp, Filesystem, ForksAreCounted, Fresh, IsWorld, Layer, Location, MountInvariants, MountOverlay, NamespaceInvariants, Outcome, Overlay, OverlayInvariants, Permit, Serves, Task, TaskName, ToChange, ToEnterNamespace, ToExit, ToMake, ToMountOverlay, ToMountPlain, ToOpen, ToOpenNew, ToRemoveDirectory, ToRename, ToSetType, ToUnmount, ToUnmountLazily, ToUnshare, ToWritePart, TreeInvariants, World, after, apply, call_outcome, evens, filesystem_at, filesystem_changed, filesystems-taken_away, finished_by, going, is_copied_up, is_within_limits, judge_in, mount_numbered, namespace_entered, none_is_some, overlay_changed, overlay_filesystem, plain_filesystem, policy, same_name, settled, task_called, unshared, when, with_change, with_copy, with_new_filesystem, without_task}
 use Rattle.vt_laws_rules.proofs.judged.CallsJudged.{call_is_judged_then_applied}
 use Rattle.vt_laws_mounts.proofs.letting_go.Lists.{all_from_among, passes}
 use Rattle.vt_laws_mounts.proofs.mounts.MountsRetyped.{types_are_of_mounts}
@@ -50,8 +30,6 @@ use Rattle.vt_laws_worlds.proofs.overlay_permits.worlds.PolicyLeads.{policy_lead
 use Rattle.vt_laws_worlds.proofs.overlay_permits.worlds.PlainChanges.{plain_change_keeps_overlays, plain_change_keeps_trees}
 use Rattle.vt_laws_worlds.proofs.overlay_permits.worlds.SweptWorlds.{settled_is_a_world}
 use Rattle.vt_laws_worlds.proofs.overlay_permits.asked.Unlocked.{permits_spare_what_is_locked}
-use Rattle.vt_spec.proofs.Options.{none_is_some}
-use Rattle.vt_spec.proofs.Worlds.{filesystems-taken_away}
 
 -- what is made in an overlay is made in its upper layer
 writes : (world : World ℕ) (fresh : Fresh ℕ) (permit : Permit ℕ)

@@ -1,13 +1,6 @@
 -- Every world that a script leads to has the invariants, with overlays too.
-use Rattle.std.proofs.Common.{◌≡◌, sym, subst, ℕ, nat_eq, Bool, true, false, List, [], ◌∷◌, Option, Some, None}
-use Rattle.std.specs.Prelude.{length, nat_lt}
-use Rattle.vt_spec.specs.Lists.{Fresh}
-use Rattle.vt_spec.specs.Machine.Run.{Serves, line_step, line_step_by, requested, step_world}
-use Rattle.vt_spec.specs.Language.Script.{Grammar, Request, is_silent, request_of}
-use Rattle.vt_spec.specs.Language.Limits.{longest_line}
-use Rattle.vt_spec.specs.Language.Script.Request.{Asking, Calling}
-use Rattle.vt_spec.specs.Machine.World.{World, opening}
-use Rattle.vt_spec.specs.Machine.Invariants.{IsWorld}
+use Rattle.std.proofs.Common.{◌≡◌, sym, subst, ℕ, nat_eq, Bool, true, false, List, [], ◌∷◌, Option, Some, None, length, nat_lt}
+use Rattle.vt_spec.proofs.Common.{Asking, Calling, Fresh, Grammar, IsWorld, Request, Serves, World, is_silent, line_step, line_step_by, longest_line, opening, request_of, requested, step_world}
 use Rattle.vt_laws_rules.proofs.denials.Unchanged.{directive_changes_nothing, refused_memory_changes_nothing}
 use Rattle.vt_laws_worlds.specs.Worlds.Calls.{LeadsTo}
 use Rattle.vt_laws_worlds.proofs.opening.OpeningWorld.{opening_is_a_world}

@@ -1,25 +1,6 @@
 -- What a change of an overlay hides does not show again while the overlay lives.
-use Rattle.std.proofs.lemmas.Grind.{common_steps}
-use Rattle.std.proofs.Common.{arith, ◌≡◌, ◌≢◌, refl, sym, ap, subst, ◌∙◌, true≢false, inl, inr, ℕ, zero, suc, ◌+◌, ◌&&◌, nat_eq, eqb-true, eq-eqb, Bool, true, false, not, List, [], ◌∷◌, ◌++◌, map, Option, Some, None, Ok, is_some}
-use Rattle.std.specs.Prelude.{length, nat_lt, option_to_list}
-use Rattle.vt_spec.specs.Language.Calls.{Call, TaskName}
-use Rattle.vt_spec.specs.Language.Changes.{Change}
-use Rattle.vt_spec.specs.Language.Limits.{longest_line}
-use Rattle.vt_spec.specs.Language.Script.{Grammar, Request, is_silent, request_of}
-use Rattle.vt_spec.specs.Lists.{Fresh}
-use Rattle.vt_spec.specs.Machine.CopyUp.{Merge, Stack, merge_changed}
-use Rattle.vt_spec.specs.Machine.Filesystems.{filesystem_changed, merge_of, overlay_changed, stack_of, with_change}
-use Rattle.vt_spec.specs.Machine.Invariants.{IsWorld}
-use Rattle.vt_spec.specs.Machine.Judge.{judge_in}
-use Rattle.vt_spec.specs.Machine.Layers.{OpenLayer, Shown, shown, view_of}
-use Rattle.vt_spec.specs.Machine.Mounts.{Location}
-use Rattle.vt_spec.specs.Machine.Permits.{Permit}
-use Rattle.vt_spec.specs.Machine.Policy.{call_outcome, finished_by, policy}
-use Rattle.vt_spec.specs.Machine.Run.{Serves, line_step, line_step_by, requested, step_world}
-use Rattle.vt_spec.specs.Machine.Settled.{settled}
-use Rattle.vt_spec.specs.Machine.World.{Filesystem, Layer, Overlay, Task, World, filesystem_at, filesystem_numbered, layers_of, mount_at, open_layer, opening, shown_layers, task_called}
-use Rattle.vt_spec.specs.Tree.{Tree}
-use Rattle.vt_spec.proofs.Lists.{Among, contains_from_among}
+use Rattle.std.proofs.Common.{arith, ◌≡◌, ◌≢◌, refl, sym, ap, subst, ◌∙◌, true≢false, inl, inr, ℕ, zero, suc, ◌+◌, ◌&&◌, nat_eq, eqb-true, eq-eqb, Bool, true, false, not, List, [], ◌∷◌, ◌++◌, map, Option, Some, None, Ok, is_some, length, nat_lt, option_to_list}
+use Rattle.vt_spec.proofs.Common.{Among, Call, Change, Filesystem, Fresh, Grammar, IsWorld, Layer, Location, Merge, OpenLayer, Overlay, Permit, Request, Serves, Shown, Stack, Task, TaskName, Tree, World, call_outcome, common_steps, contains_from_among, filesystem_at, filesystem_changed, filesystem_numbered, finished_by, is_silent, judge_in, layers_of, line_step, line_step_by, longest_line, merge_changed, merge_of, mount_at, open_layer, opening, overlay_changed, policy, request_of, requested, same_Some, settled, shown, shown_layers, stack_of, step_world, task_called, view_of, with_change}
 use Rattle.vt_laws_rules.proofs.denials.Unchanged.{directive_changes_nothing, refused_memory_changes_nothing}
 use Rattle.vt_laws_trees.specs.Trees.Calls.{mounts_overlay}
 use Rattle.vt_laws_trees.specs.Trees.Limits.{names_few_groups}
@@ -52,7 +33,6 @@ use Rattle.vt_laws_worlds.proofs.overlay_permits.worlds.LowersGoOn.{leads_both, 
 use Rattle.vt_laws_worlds.proofs.overlay_permits.worlds.LowersOverScripts.{line_stays}
 use Rattle.vt_laws_worlds.proofs.overlay_permits.worlds.PolicyLeads.{named_leads}
 use Rattle.vt_laws_worlds.proofs.overlay_permits.worlds.SweptOverlays.{leads_same, shown_among}
-use Rattle.std.proofs.lemmas.Option.{same_Some}
 
 -- Layers that lead alike show the same
 module _ (world later : World ℕ) where

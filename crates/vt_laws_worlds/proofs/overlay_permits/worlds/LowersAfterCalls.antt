@@ -1,32 +1,6 @@
 -- After every call that leaves an overlay live its lower layers are as they were.
-use Rattle.std.proofs.Common.{arith, ◌≡◌, refl, sym, ap, subst, ◌∙◌, ⊎_elim, ℕ, nat_eq, true≢false, Bool, true, false, List, [], ◌∷◌, ◌++◌, ◌&&◌, not, eqb-true, find, Option, Some, None, Ok, is_some}
-use Rattle.std.proofs.lemmas.Grind.{common_steps}
-use Rattle.std.specs.Prelude.{option_map, unwrap_or}
-use Rattle.std.specs.List.{list_any}
-use Rattle.vt_spec.specs.Language.Calls.{Call, TaskName}
-use Rattle.vt_spec.specs.Language.Calls.Call.{MountOverlay}
-use Rattle.vt_spec.specs.Language.Changes.{Change}
-use Rattle.vt_spec.specs.Language.Changes.Change.{AddName, CopyUp, Make, Move, Remove, SetAttr, SetBytes, SetMark}
-use Rattle.vt_spec.specs.Lists.{Fresh, holds_of, then_some}
-use Rattle.vt_spec.specs.Machine.Apply.{apply}
-use Rattle.vt_spec.specs.Machine.Filesystems.{with_change}
-use Rattle.vt_spec.specs.Machine.Invariants.{IsWorld, live_lowers}
-use Rattle.vt_spec.specs.Machine.Judge.{judge_in}
-use Rattle.vt_spec.specs.Machine.Looks.{looks_of}
-use Rattle.vt_spec.specs.Machine.Locked.{counts_in_layer, is_object_of, is_real_upper, lies_in_layer, lies_or_counts_under, overlay_or, overlays}
-use Rattle.vt_spec.specs.Machine.Mounts.{Location}
-use Rattle.vt_spec.specs.Machine.NewMounts.{plain_filesystem}
-use Rattle.vt_spec.specs.Machine.Outcomes.{Outcome, after}
-use Rattle.vt_spec.specs.Machine.Permits.{Permit}
-use Rattle.vt_spec.specs.Machine.Permits.Permit.{ToChange, ToMake, ToOpen, ToOpenNew, ToRemoveDirectory, ToRename, ToWritePart}
-use Rattle.vt_spec.specs.Machine.Policy.{call_outcome, finished_by, policy}
-use Rattle.vt_spec.specs.Machine.Run.{Serves}
-use Rattle.vt_spec.specs.Machine.Settled.{settled}
-use Rattle.vt_spec.specs.Machine.World.{Filesystem, Layer, Overlay, Task, World, filesystem_numbered, is_overlay, no_filesystem, task_called}
-use Rattle.vt_spec.specs.Tree.{is_directory_node}
-use Rattle.vt_spec.specs.TreeInvariant.{led}
-use Rattle.vt_spec.proofs.Lists.{Among, among-from_filter, among_from_contains, any_among, contains_from_among}
-use Rattle.vt_spec.proofs.Nodes.{directory_used}
+use Rattle.std.proofs.Common.{arith, ◌≡◌, refl, sym, ap, subst, ◌∙◌, ⊎_elim, ℕ, nat_eq, true≢false, Bool, true, false, List, [], ◌∷◌, ◌++◌, ◌&&◌, not, eqb-true, find, Option, Some, None, Ok, is_some, option_map, unwrap_or}
+use Rattle.vt_spec.proofs.Common.{AddName, Among, Call, Change, CopyUp, Filesystem, Fresh, IsWorld, Layer, Location, Make, MountOverlay, Move, Outcome, Overlay, Permit, Remove, Serves, SetAttr, SetBytes, SetMark, Task, TaskName, ToChange, ToMake, ToOpen, ToOpenNew, ToRemoveDirectory, ToRename, ToWritePart, World, after, among-from_filter, among_from_contains, and_true_left, and_true_right, any_among, apply, call_outcome, common_steps, contains_from_among, counts_in_layer, directory_used, filesystem_numbered, finished_by, holds_of, is_directory_node, is_object_of, is_overlay, is_real_upper, judge_in, led, lies_in_layer, lies_or_counts_under, list_any, live_lowers, looks_of, no_filesystem, or_cases, overlay_or, overlays, plain_filesystem, policy, settled, task_called, then_some, upper_real, with_change}
 use Rattle.vt_laws_rules.specs.Given.{IsFor, makes_a_name}
 use Rattle.vt_laws_rules.proofs.judged.CallsJudged.{call_is_judged_then_applied}
 use Rattle.vt_laws_rules.proofs.given.GivenPermits.{permits_are_for_their_calls}
@@ -52,9 +26,7 @@ use Rattle.vt_laws_worlds.proofs.overlay_permits.worlds.LowersGoOn.{OverlayStays
 use Rattle.vt_laws_worlds.proofs.overlay_permits.worlds.NewPlain.{found_first}
 use Rattle.vt_laws_worlds.proofs.overlay_permits.worlds.PolicyLeads.{policy_leads}
 use Rattle.vt_laws_worlds.proofs.overlay_permits.worlds.SweptOverlays.{leads_same}
-use Rattle.std.proofs.lemmas.Bool.{or_cases}
-use Rattle.vt_spec.proofs.Truths.{and_true_left, and_true_right}
-use Rattle.vt_spec.proofs.Worlds.{lower_is_layer, upper_real}
+use Rattle.vt_spec.proofs.Worlds.{lower_is_layer}
 use Rattle.vt_laws_trees.specs.Trees.Settling.{inode_in}
 
 -- a call that asks for a change is one on files

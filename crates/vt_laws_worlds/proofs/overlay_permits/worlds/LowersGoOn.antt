@@ -1,21 +1,6 @@
 -- A live overlay goes on over the layers that it had, while filesystems change, come and go.
-use Rattle.std.proofs.Common.{arith, ◌≡◌, refl, sym, ap, subst, ◌∙◌, ⊎_elim, ℕ, nat_eq, Bool, true, false, cond, true≢false, not, List, [], ◌∷◌, find, map, Option, Some, None}
-use Rattle.std.proofs.lemmas.Grind.{common_steps}
-use Rattle.std.proofs.lemmas.Bool.Decides.{eqb_tells}
-use Rattle.std.specs.List.{list_any}
-use Rattle.std.specs.Prelude.{option_map, unwrap_or}
-use Rattle.vt_spec.specs.Language.Calls.{TaskName}
-use Rattle.vt_spec.specs.Language.Changes.{Change, changed}
-use Rattle.vt_spec.specs.Lists.{Fresh, then_some}
-use Rattle.vt_spec.specs.Machine.CopyUp.{Merge, merge_changed}
-use Rattle.vt_spec.specs.Machine.Filesystems.{filesystem_changed, merge_of, overlay_changed, raised, raised_if_changed, stack_of, with_change, with_files}
-use Rattle.vt_spec.specs.Machine.Invariants.{OverlayInvariants}
-use Rattle.vt_spec.specs.Machine.Mounts.{Location}
-use Rattle.vt_spec.specs.Machine.Policy.{numbers_raised}
-use Rattle.vt_spec.specs.Machine.Settled.{settled, without_dead_filesystems, without_dead_in, without_dead_mounts}
-use Rattle.vt_spec.specs.Machine.World.{Filesystem, Layer, Overlay, World, filesystem_at, filesystem_numbered, is_overlay, mount_at, no_filesystem, with_filesystem}
-use Rattle.vt_spec.specs.TreeInvariant.{led}
-use Rattle.vt_spec.proofs.Lists.{Among}
+use Rattle.std.proofs.Common.{arith, ◌≡◌, refl, sym, ap, subst, ◌∙◌, ⊎_elim, ℕ, nat_eq, Bool, true, false, cond, true≢false, not, List, [], ◌∷◌, find, map, Option, Some, None, option_map, unwrap_or}
+use Rattle.vt_spec.proofs.Common.{Among, Change, Filesystem, Fresh, Layer, Location, Merge, Overlay, OverlayInvariants, TaskName, World, changed, common_steps, eqb_tells, filesystem_at, filesystem_changed, filesystem_numbered, is_overlay, led, list_any, merge_changed, merge_of, mount_at, no_filesystem, numbers_raised, overlay_changed, raised, raised_if_changed, same_Some, settled, stack_of, then_some, with_change, with_files, with_filesystem, without_dead_filesystems, without_dead_in, without_dead_mounts}
 use Rattle.vt_laws_trees.specs.Layers.Layers.Locked.{LeadsAsBefore}
 use Rattle.vt_laws_trees.proofs.layers.layers.LowersKept.{kept_both, kept_same}
 use Rattle.vt_laws_trees.proofs.layers.layers.LowersWorld.{filesystem_elsewhere, filesystem_there, number_of_filesystem}
@@ -26,7 +11,6 @@ use Rattle.vt_laws_worlds.proofs.overlay_permits.worlds.OverlaysGoOn.{GoesOn}
 use Rattle.vt_laws_worlds.proofs.overlay_permits.worlds.SweptInodes.{file_trees_are, files_later, first_goes, one_later, second_goes}
 use Rattle.vt_laws_worlds.proofs.overlay_permits.worlds.SweptOverlays.{living_goes}
 use Rattle.vt_laws_worlds.proofs.overlay_permits.worlds.SweptWorlds.{files_living, mounted_overlays, one_living, overlays_first, overlays_living}
-use Rattle.std.proofs.lemmas.Option.{same_Some}
 use Rattle.vt_spec.proofs.Worlds.{lower_is_layer}
 
 -- an overlay is there later, over the same layers, and paths lead from the lower ones where they led

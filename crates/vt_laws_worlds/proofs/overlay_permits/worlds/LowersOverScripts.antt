@@ -1,13 +1,6 @@
 -- Over whole scripts lower layers stay as they were while their overlay is live.
-use Rattle.std.proofs.Common.{arith, ◌≡◌, sym, subst, ℕ, nat_eq, Bool, true, false, List, [], ◌∷◌, Option, Some}
-use Rattle.std.proofs.lemmas.Grind.{common_steps}
-use Rattle.std.specs.Prelude.{length, nat_lt}
-use Rattle.vt_spec.specs.Lists.{Fresh}
-use Rattle.vt_spec.specs.Machine.Invariants.{IsWorld}
-use Rattle.vt_spec.specs.Machine.Run.{Serves, line_step, line_step_by, requested, step_world}
-use Rattle.vt_spec.specs.Language.Script.{Grammar, Request, is_silent, request_of}
-use Rattle.vt_spec.specs.Language.Limits.{longest_line}
-use Rattle.vt_spec.specs.Machine.World.{Overlay, World, filesystem_numbered, opening}
+use Rattle.std.proofs.Common.{arith, ◌≡◌, sym, subst, ℕ, nat_eq, Bool, true, false, List, [], ◌∷◌, Option, Some, length, nat_lt}
+use Rattle.vt_spec.proofs.Common.{Fresh, Grammar, IsWorld, Overlay, Request, Serves, World, common_steps, filesystem_numbered, is_silent, line_step, line_step_by, longest_line, opening, request_of, requested, step_world}
 use Rattle.vt_laws_rules.proofs.denials.Unchanged.{directive_changes_nothing, refused_memory_changes_nothing}
 use Rattle.vt_laws_trees.proofs.layers.layers.LowersKept.{kept_both}
 use Rattle.vt_laws_worlds.proofs.opening.OpeningWorld.{opening_is_a_world}

@@ -1,7 +1,6 @@
 -- What is mounted anew shows the same in every world that a script leads to, since each has the invariants.
 use Rattle.std.proofs.Common.{ℕ, nat_eq}
-use Rattle.vt_spec.specs.Machine.Invariants.{IsWorld}
-use Rattle.vt_spec.specs.Machine.World.{World}
+use Rattle.vt_spec.proofs.Common.{IsWorld, World}
 use Rattle.vt_laws_worlds.proofs.merging.mounted.Again.{mounted_anew_shows_the_same, mounted_over_the_same_layers}
 use Rattle.vt_laws_worlds.proofs.merging.mounted.Links.{mounted_anew_links_the_same}
 use Rattle.vt_laws_worlds.specs.OverlayPermits.MountedOverScripts.{IsLedTo, LinksOverScripts, MountedAnewOverScripts, SameLayersOverScripts}

@@ -1,18 +1,6 @@
 -- A new plain filesystem beside those that are there keeps the invariants of trees and of overlays.
-use Rattle.std.proofs.Common.{◌≡◌, refl, sym, ap, subst, ◌∙◌, inl, true≢false, eq-eqb, ℕ, nat_eq, Bool, true, false, cond, List, [], ◌∷◌, ◌++◌, find, Option, Some, None, is_some}
-use Rattle.std.proofs.lemmas.List.{append-nil}
-use Rattle.std.proofs.lemmas.List.Elements.{All-push, filter-append}
-use Rattle.std.specs.Prelude.{flat_map, unwrap_or}
-use Rattle.vt_spec.specs.Lists.{Fresh, any_pair, evens}
-use Rattle.vt_spec.specs.Machine.Invariants.{IsMerged, IsWorld, ListsNumbers, OverlayInvariants, TreeInvariants, is_fit_filesystem}
-use Rattle.vt_spec.specs.Machine.Locked.{of_overlay, overlays, upper_and_work}
-use Rattle.vt_spec.specs.Machine.NewMounts.{plain_filesystem, with_new_filesystem}
-use Rattle.vt_spec.specs.Machine.Run.{Serves}
-use Rattle.vt_spec.specs.Machine.World.{Filesystem, Layer, Overlay, World, filesystem_numbered, is_overlay, layers_of, new_plain, no_filesystem, root_attr}
-use Rattle.vt_spec.specs.Tree.{new_directory}
-use Rattle.vt_spec.specs.TreeInvariant.{HasOwnParents, IsReached, IsTree}
-use Rattle.vt_spec.proofs.Lists.{Among}
-use Rattle.vt_spec.proofs.Nodes.{directory_used}
+use Rattle.std.proofs.Common.{◌≡◌, refl, sym, ap, subst, ◌∙◌, inl, true≢false, eq-eqb, ℕ, nat_eq, Bool, true, false, cond, List, [], ◌∷◌, ◌++◌, find, Option, Some, None, is_some, append-nil, flat_map, unwrap_or}
+use Rattle.vt_spec.proofs.Common.{All-push, Among, Filesystem, Fresh, HasOwnParents, IsMerged, IsReached, IsTree, IsWorld, Layer, ListsNumbers, Overlay, OverlayInvariants, Serves, TreeInvariants, World, and_true_right, any_pair, directory_used, evens, filesystem_numbered, filter-append, is_fit_filesystem, is_overlay, layers_of, nat_eq_false_turned, new_directory, new_plain, no_filesystem, none_is_some, of_overlay, overlays, plain_filesystem, root_attr, upper_and_work, with_new_filesystem}
 use Rattle.vt_laws_trees.proofs.trees.ChangesByCalls.{new_tree_is}
 use Rattle.vt_laws_trees.proofs.trees.ChangesOfSizes.{fits}
 use Rattle.vt_laws_trees.proofs.trees.TreesTasks.{all_appended, both}
@@ -22,8 +10,6 @@ use Rattle.vt_laws_worlds.proofs.worlds.PermitsFilesystems.{appended_apart}
 use Rattle.vt_laws_worlds.proofs.worlds.SeenTrees.{unused_by_filesystem}
 use Rattle.vt_laws_worlds.proofs.overlay_permits.worlds.OverlaysGoOn.{GoesOn, are_trees, overlays_go_on, plain_layer}
 use Rattle.vt_laws_worlds.proofs.overlay_permits.worlds.SweptOverlays.{leads_same, shown_among, upper_among}
-use Rattle.vt_spec.proofs.Options.{none_is_some}
-use Rattle.vt_spec.proofs.Truths.{and_true_right, nat_eq_false_turned}
 
 -- a filesystem that is found is found in front of another one
 pub found_first : (number : ℕ) (last : Filesystem ℕ) (list : List (Filesystem ℕ)) (f : Filesystem ℕ)

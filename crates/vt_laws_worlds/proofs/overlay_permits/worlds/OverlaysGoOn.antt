@@ -1,19 +1,8 @@
 -- Overlays that go on: each was there before, with the same layers, whose paths lead where they led. Then all
 -- invariants of overlays
 -- hold, where they held before.
-use Rattle.std.proofs.Common.{arith, ◌≡◌, refl, sym, ap, subst, ◌∙◌, true≢false, eqb-true, eq-eqb, ⊎_elim, inl, inr, ℕ, nat_eq, Bool, true, false, not, ◌&&◌, List, [], ◌∷◌, ◌++◌, Option, Some, None, is_some}
-use Rattle.std.proofs.lemmas.Grind.{common_steps}
-use Rattle.std.specs.List.{list_all, list_any}
-use Rattle.std.specs.Prelude.{All, flat_map, option_to_list}
-use Rattle.vt_spec.specs.FileTree.{is_under}
-use Rattle.vt_spec.specs.Lists.{any_pair, holds_of}
-use Rattle.vt_spec.specs.Machine.Invariants.{IsMerged, ListsNumbers, OverlayInvariants, TreeInvariants, has_fit_layers, is_plain_layer, is_there, live_lowers, overlap}
-use Rattle.vt_spec.specs.Machine.Locked.{counts_in_layer, is_object_of, is_real_upper, lies_in_layer, lies_or_counts_under, live_upper_and_work, of_overlay, overlaps_one_of, overlay_or, overlays, upper_and_work}
-use Rattle.vt_spec.specs.Machine.World.{Filesystem, Layer, Overlay, World, filesystem_numbered, is_overlay, layers_of, open_layer, upper_object}
-use Rattle.vt_spec.specs.Machine.World.Real.{Upper}
-use Rattle.vt_spec.specs.Tree.{Node, is_directory_node}
-use Rattle.vt_spec.specs.TreeInvariant.{IsReached, IsTree}
-use Rattle.vt_spec.proofs.Lists.{Among, among-append_left, among-append_right, among-from_filter, among-from_flat_map, among_from_list_all, among_numbers, any_among, any_from_among, list_all_from_among, none_among, none_from_among}
+use Rattle.std.proofs.Common.{arith, ◌≡◌, refl, sym, ap, subst, ◌∙◌, true≢false, eqb-true, eq-eqb, ⊎_elim, inl, inr, ℕ, nat_eq, Bool, true, false, not, ◌&&◌, List, [], ◌∷◌, ◌++◌, Option, Some, None, is_some, All, flat_map, option_to_list}
+use Rattle.vt_spec.proofs.Common.{Among, Filesystem, IsMerged, IsReached, IsTree, Layer, ListsNumbers, Node, Overlay, OverlayInvariants, TreeInvariants, Upper, World, among-append_left, among-append_right, among-from_filter, among-from_flat_map, among_from_list_all, among_numbers, and_from, and_true_left, and_true_right, any_among, any_from_among, any_pair, common_steps, counts_in_layer, filesystem_numbered, has_fit_layers, holds_of, is_directory_node, is_object_of, is_overlay, is_plain_layer, is_real_upper, is_there, is_under, layers_of, lies_in_layer, lies_or_counts_under, list_all, list_all_from_among, list_any, live_lowers, live_upper_and_work, none_among, none_from_among, none_is_some, of_overlay, open_layer, or_cases, or_left, or_right, overlap, overlaps_one_of, overlay_or, overlays, upper_and_work, upper_object, upper_real}
 use Rattle.vt_laws_mounts.proofs.letting_go.sweeps.OfWorlds.{found_filesystem}
 use Rattle.vt_laws_trees.proofs.trees.TreesOfWorlds.{numbered_all, numbered_anyhow}
 use Rattle.vt_laws_trees.specs.Layers.Layers.Locked.{LeadsAsBefore}
@@ -23,10 +12,6 @@ use Rattle.vt_laws_trees.proofs.layers.views.Names.{alike_kept}
 use Rattle.vt_laws_trees.proofs.overlays.whole.ApartPairs.{no_pair_later}
 use Rattle.vt_laws_trees.proofs.overlays.whole.ApartPaths.{led_under, under_led}
 use Rattle.vt_laws_trees.proofs.overlays.steps.WholeGrown.{directory_alike}
-use Rattle.std.proofs.lemmas.Bool.{and_from, or_cases, or_left, or_right}
-use Rattle.vt_spec.proofs.Options.{none_is_some}
-use Rattle.vt_spec.proofs.Truths.{and_true_left, and_true_right}
-use Rattle.vt_spec.proofs.Worlds.{upper_real}
 use Rattle.vt_laws_trees.specs.Trees.Settling.{inode_in}
 
 -- what is asked of trees

@@ -1,20 +1,6 @@
 -- A change of a plain tree that spares what is locked keeps the invariants of trees and of overlays.
-use Rattle.std.proofs.Common.{arith, ◌≡◌, ◌≢◌, refl, sym, ap, subst, ◌∙◌, true≢false, eqb-true, ne_eqb, ⊎_elim, inl, inr, ℕ, nat_eq, Bool, true, false, not, cond, ◌||◌, List, [], ◌∷◌, filter, map, Some, None, is_some}
-use Rattle.std.proofs.lemmas.Grind.{common_steps}
-use Rattle.std.proofs.lemmas.Bool.Decides.{eqb_tells}
-use Rattle.std.specs.Prelude.{All, flat_map}
-use Rattle.vt_spec.specs.FileTree.{FileTree}
-use Rattle.vt_spec.specs.Language.Changes.{Change, changed}
-use Rattle.vt_spec.specs.Language.Changes.Change.{AddName, CopyUp, Make, Move, Remove, SetAttr, SetBytes, SetMark}
-use Rattle.vt_spec.specs.Lists.{Fresh, any_pair, holds_of, is_among}
-use Rattle.vt_spec.specs.Machine.Filesystems.{filesystem_changed, with_change, with_files}
-use Rattle.vt_spec.specs.Machine.Invariants.{IsWorld, ListsNumbers, OverlayInvariants, TreeInvariants, is_fit_filesystem, is_plain_layer, is_there}
-use Rattle.vt_spec.specs.Machine.Locked.{is_locked, lies_or_counts_under, live_layers, of_overlay, overlays, upper_and_work}
-use Rattle.vt_spec.specs.Machine.Mounts.{Location}
-use Rattle.vt_spec.specs.Machine.World.{Filesystem, Layer, Overlay, World, files_at, filesystem_at, filesystem_numbered, is_overlay, layers_of, mount_at, replaced_if_numbered, shown_layers, with_filesystem}
-use Rattle.vt_spec.specs.TreeInvariant.{HasOwnParents, IsReached, IsTree}
-use Rattle.vt_spec.proofs.Lists.{Among, all_from_among, among-append, among-append_left, among-append_right, among_from_all, among_from_list_all, any_from_among, list_all_from_among}
-use Rattle.std.proofs.lemmas.List.Elements.{All-weaker}
+use Rattle.std.proofs.Common.{arith, ◌≡◌, ◌≢◌, refl, sym, ap, subst, ◌∙◌, true≢false, eqb-true, ne_eqb, ⊎_elim, inl, inr, ℕ, nat_eq, Bool, true, false, not, cond, ◌||◌, List, [], ◌∷◌, filter, map, Some, None, is_some, All, flat_map}
+use Rattle.vt_spec.proofs.Common.{AddName, All-weaker, Among, Change, CopyUp, FileTree, Filesystem, Fresh, HasOwnParents, IsReached, IsTree, IsWorld, Layer, ListsNumbers, Location, Make, Move, Overlay, OverlayInvariants, Remove, SetAttr, SetBytes, SetMark, TreeInvariants, World, all_from_among, among-append, among-append_left, among-append_right, among_from_all, among_from_list_all, and_true_right, any_from_among, any_pair, changed, common_steps, eqb_tells, files_at, filesystem_at, filesystem_changed, filesystem_numbered, holds_of, is_among, is_fit_filesystem, is_locked, is_overlay, is_plain_layer, is_there, layers_of, lies_or_counts_under, list_all_from_among, live_layers, mount_at, none_is_some, of_overlay, overlays, replaced_if_numbered, shown_layers, upper_and_work, with_change, with_files, with_filesystem}
 use Rattle.vt_laws_trees.specs.Trees.{IsFileTree, IsProper}
 use Rattle.vt_laws_trees.specs.Trees.Sizes.{IsFitChange}
 use Rattle.vt_laws_trees.proofs.trees.ChangesKeepTrees.{changes_keep_numbers, changes_keep_own_parents, changes_keep_trees}
@@ -33,8 +19,6 @@ use Rattle.vt_laws_trees.proofs.overlays.whole.UpperGoes.{Spares, change_reaches
 use Rattle.vt_laws_trees.proofs.overlays.changes.WholeOthers.{stays_merged}
 use Rattle.vt_laws_worlds.specs.OverlayPermits.Unlocked.{SparesInode, SparesLocked}
 use Rattle.vt_laws_worlds.proofs.overlay_permits.worlds.OverlaysGoOn.{GoesOn, are_trees, overlays_go_on}
-use Rattle.vt_spec.proofs.Options.{none_is_some}
-use Rattle.vt_spec.proofs.Truths.{and_true_right}
 use Rattle.vt_laws_trees.specs.Trees.Settling.{inode_in}
 
 -- an inode that a change spares is none of those that it writes to

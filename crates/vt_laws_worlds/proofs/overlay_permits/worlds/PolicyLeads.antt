@@ -1,20 +1,9 @@
 -- What holds of a world, and of what each granted call leaves when what nothing uses is gone and the numbers that it
 -- raises are raised, holds of what the policy leaves.
-use Rattle.std.proofs.lemmas.Grind.{common_steps}
 use Rattle.std.proofs.Common.{◌≡◌, refl, sym, ap, subst, ◌∙◌, ℕ, nat_eq, Bool, true, false, List, ◌||◌, not, Some, Result, Ok, Err, is_ok, true≢false, arith}
-use Rattle.std.proofs.lemmas.Bool.{not-true, or_parts}
+use Rattle.vt_spec.proofs.Common.{Answer, Call, Fresh, Outcome, Permit, Task, TaskName, World, after, apply, call_outcome, common_steps, filesystems_changed, filesystems_changed_by, finished, finished_by, judge_in, not-true, numbers_raised, only_looks, or_parts, policy, settled, task_called}
 use Rattle.vt_laws_worlds.proofs.worlds.CallsKept.{name_found}
 use Rattle.vt_spec.specs.declared.errors.Deny.{Deny}
-use Rattle.vt_spec.specs.Language.Answers.{Answer}
-use Rattle.vt_spec.specs.Language.Calls.{Call, TaskName}
-use Rattle.vt_spec.specs.Lists.{Fresh}
-use Rattle.vt_spec.specs.Machine.Apply.{apply, filesystems_changed}
-use Rattle.vt_spec.specs.Machine.Judge.{judge_in}
-use Rattle.vt_spec.specs.Machine.Outcomes.{Outcome, after}
-use Rattle.vt_spec.specs.Machine.Permits.{Permit}
-use Rattle.vt_spec.specs.Machine.Policy.{call_outcome, filesystems_changed_by, finished, finished_by, numbers_raised, only_looks, policy}
-use Rattle.vt_spec.specs.Machine.Settled.{settled}
-use Rattle.vt_spec.specs.Machine.World.{Task, World, task_called}
 use Rattle.vt_laws_rules.proofs.judged.CallsJudged.{call_is_judged_then_applied}
 use Rattle.vt_laws_rules.proofs.rules.OwnRules.{denial_changes_nothing}
 use Rattle.vt_laws_rules.proofs.denials.Unchanged.{look_changes_nothing}

@@ -1,22 +1,8 @@
 -- Where inodes go that nothing uses, overlays keep their invariants: first those of overlays go, then those of plain
 -- trees.
-use Rattle.std.proofs.Common.{arith, ◌≡◌, refl, sym, ap, subst, ◌∙◌, true≢false, eq-eqb, ⊎_elim, ℕ, nat_eq, Bool, true, false, not, cond, List, [], ◌∷◌, ◌++◌, find, map, Option, Some, None, is_some}
-use Rattle.std.proofs.lemmas.Grind.{common_steps}
-use Rattle.std.specs.List.{list_all}
-use Rattle.std.specs.Prelude.{All, filter, filter_map, flat_map, option_map, unwrap_or}
-use Rattle.std.proofs.lemmas.List.Elements.{All-weaker}
-use Rattle.vt_spec.specs.FileTree.{is_kind_in, is_opaque_in}
+use Rattle.std.proofs.Common.{arith, ◌≡◌, refl, sym, ap, subst, ◌∙◌, true≢false, eq-eqb, ⊎_elim, ℕ, nat_eq, Bool, true, false, not, cond, List, [], ◌∷◌, ◌++◌, find, map, Option, Some, None, is_some, All, filter, filter_map, flat_map, option_map, unwrap_or}
+use Rattle.vt_spec.proofs.Common.{All-weaker, Among, Filesystem, IsMerged, IsReached, IsTree, Layer, ListsNumbers, Lower, Node, Overlay, OverlayInvariants, Real, SameObject, Upper, World, among-filter, among-filter_map, among-flat_map, among-from_filter, among-map, and_true_left, and_true_right, any_pair, common_steps, directory_used, filesystem_numbered, holds_of, is_among, is_among_left, is_among_right, is_kind_in, is_opaque_in, is_overlay, is_plain_layer, is_there, layers_in, layers_of, layers_of_all, led, list_all, live_upper_and_work, located_in, named_in, no_filesystem, none_is_some, not-true, number-only_used, number_at_path, objects_of_overlay, of_overlay, only_used, only_used_by, overlay_or, real_among, real_node, same_Some, then_some, upper_and_work, upper_object, used_in, without_dead_in}
 use Rattle.vt_spec.specs.declared.attributes.Kind.TheVariants.{White}
-use Rattle.vt_spec.specs.Lists.{any_pair, holds_of, is_among, then_some}
-use Rattle.vt_spec.specs.Machine.Invariants.{IsMerged, ListsNumbers, OverlayInvariants, SameObject, is_plain_layer, is_there, number_at_path, real_node}
-use Rattle.vt_spec.specs.Machine.Locked.{live_upper_and_work, of_overlay, overlay_or, upper_and_work}
-use Rattle.vt_spec.specs.Machine.Settled.{layers_in, located_in, named_in, objects_of_overlay, only_used, only_used_by, real_among, used_in, without_dead_in}
-use Rattle.vt_spec.specs.Machine.World.{Filesystem, Layer, Overlay, Real, World, filesystem_numbered, is_overlay, layers_of, no_filesystem, upper_object}
-use Rattle.vt_spec.specs.Machine.World.Real.{Lower, Upper}
-use Rattle.vt_spec.specs.Tree.{Node}
-use Rattle.vt_spec.specs.TreeInvariant.{IsReached, IsTree, led}
-use Rattle.vt_spec.proofs.Lists.{Among, among-filter, among-filter_map, among-flat_map, among-from_filter, among-map}
-use Rattle.vt_spec.proofs.Nodes.{directory_used}
 use Rattle.vt_laws_trees.specs.Trees.{IsFileTree}
 use Rattle.vt_laws_trees.specs.Trees.Settling.{HasFileTrees, HoldsTree, inode_in}
 use Rattle.vt_laws_trees.proofs.trees.TreesForgotten.{named_is_used, without_dead_in_is}
@@ -33,12 +19,6 @@ use Rattle.vt_laws_trees.proofs.overlays.changes.WholeOthers.{stays_merged}
 use Rattle.vt_laws_worlds.proofs.overlay_permits.worlds.OverlaysGoOn.{AreTrees, GoesOn, inode_listed, overlays_go_on, plain_layer}
 use Rattle.vt_laws_worlds.proofs.overlay_permits.worlds.SweptOverlays.{leads_same, shown_among, upper_among}
 use Rattle.vt_laws_worlds.proofs.overlay_permits.worlds.SweptTrees.{led_same, led_used, node_led_same, reached_still, used_node}
-use Rattle.std.proofs.lemmas.Bool.{not-true}
-use Rattle.std.proofs.lemmas.Option.{same_Some}
-use Rattle.vt_spec.proofs.Found.{is_among_left, is_among_right}
-use Rattle.vt_spec.proofs.Options.{none_is_some}
-use Rattle.vt_spec.proofs.Truths.{and_true_left, and_true_right}
-use Rattle.vt_spec.proofs.Worlds.{number-only_used, layers_of_all}
 use Rattle.vt_laws_trees.proofs.layers.locked.Apart.{merged_among}
 
 -- trees of which each filesystem is one

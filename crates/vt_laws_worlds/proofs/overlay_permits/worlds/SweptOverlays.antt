@@ -1,28 +1,15 @@
 -- Where what nothing uses goes, overlays keep their invariants: filesystems go, then inodes of overlays, and then those
 -- of plain trees.
-use Rattle.std.proofs.Common.{arith, ◌≡◌, refl, sym, ap, subst, ◌∙◌, true≢false, eqb-true, eq-eqb, ⊎_elim, inl, ℕ, nat_eq, Bool, true, false, not, cond, ◌&&◌, ◌||◌, List, [], ◌∷◌, ◌++◌, filter, Option, Some, None, is_some}
-use Rattle.std.proofs.lemmas.Grind.{common_steps}
-use Rattle.std.proofs.lemmas.Bool.{and_from}
-use Rattle.std.specs.List.{list_any}
-use Rattle.std.specs.Prelude.{flat_map, option_to_list}
-use Rattle.vt_spec.specs.Lists.{any_pair}
-use Rattle.vt_spec.specs.Machine.Invariants.{IsMerged, ListsNumbers, OverlayInvariants}
-use Rattle.vt_spec.specs.Machine.Locked.{of_overlay, overlay_or, upper_and_work}
-use Rattle.vt_spec.specs.Machine.Settled.{filesystem_lives, has_layer_on, is_mounted, without_dead_filesystems}
-use Rattle.vt_spec.specs.Machine.World.{Filesystem, Layer, Overlay, World, filesystem_numbered, is_overlay, layers_of, shown_layers}
-use Rattle.vt_spec.specs.TreeInvariant.{IsReached, IsTree}
-use Rattle.vt_spec.proofs.Lists.{Among, among-append, among-append_left, among-append_right, among-filter, among-from_filter, any_among, any_from_among, pair-filter}
-use Rattle.std.proofs.lemmas.List.Elements.{All-filter}
+use Rattle.std.proofs.Common.{arith, ◌≡◌, refl, sym, ap, subst, ◌∙◌, true≢false, eqb-true, eq-eqb, ⊎_elim, inl, ℕ, nat_eq, Bool, true, false, not, cond, ◌&&◌, ◌||◌, List, [], ◌∷◌, ◌++◌, filter, Option, Some, None, is_some, flat_map, option_to_list}
+use Rattle.vt_spec.proofs.Common.{All-filter, Among, Filesystem, IsMerged, IsReached, IsTree, Layer, ListsNumbers, Overlay, OverlayInvariants, World, among-append, among-append_left, among-append_right, among-filter, among-from_filter, and_from, and_true_left, and_true_right, any_among, any_from_among, any_pair, common_steps, filesystem_lives, filesystem_numbered, has_layer_on, is_mounted, is_overlay, layers_of, layers_of_all, list_any, of_overlay, overlay_or, pair-filter, shown_layers, upper_and_work, without_dead_filesystems}
 use Rattle.vt_laws_mounts.proofs.letting_go.Lists.{or_second}
 use Rattle.vt_laws_mounts.proofs.letting_go.sweeps.OfWorlds.{found_filesystem}
 use Rattle.vt_laws_trees.specs.Layers.Layers.Locked.{LeadsAsBefore}
 use Rattle.vt_laws_trees.proofs.layers.locked.Apart.{found_among, merged_among}
 use Rattle.vt_laws_trees.proofs.layers.layers.LowersKept.{kept_same}
 use Rattle.vt_laws_trees.proofs.layers.layers.LowersWorld.{number_of_filesystem}
-use Rattle.vt_spec.proofs.Truths.{and_true_left, and_true_right}
 use Rattle.vt_laws_trees.proofs.overlays.changes.WholeOthers.{stays_merged}
 use Rattle.vt_laws_worlds.proofs.overlay_permits.worlds.OverlaysGoOn.{AreTrees, GoesOn, overlays_go_on, plain_layer}
-use Rattle.vt_spec.proofs.Worlds.{layers_of_all}
 use Rattle.vt_laws_trees.specs.Trees.Settling.{inode_in}
 
 -- of which fewer pairs pass

@@ -1,16 +1,9 @@
 -- A tree without the inodes that nothing uses: names lead where they led.
-use Rattle.std.proofs.Common.{◌≡◌, refl, sym, ap, subst, ◌∙◌, true≢false, ℕ, nat_eq, Bool, true, false, cond, List, [], ◌∷◌, Option, Some, None}
-use Rattle.std.specs.Prelude.{option_and_then}
-use Rattle.vt_spec.specs.FileTree.{FileTree}
-use Rattle.vt_spec.specs.Lists.{is_among, then_some}
-use Rattle.vt_spec.specs.Machine.Settled.{only_among}
-use Rattle.vt_spec.specs.Tree.{Tree, entries_in, entry_named}
-use Rattle.vt_spec.specs.TreeInvariant.{IsReached, entry_at, led}
-use Rattle.vt_spec.proofs.Trees.{found}
+use Rattle.std.proofs.Common.{◌≡◌, refl, sym, ap, subst, ◌∙◌, true≢false, ℕ, nat_eq, Bool, true, false, cond, List, [], ◌∷◌, Option, Some, None, option_and_then}
+use Rattle.vt_spec.proofs.Common.{FileTree, IsReached, Tree, entries_in, entry_at, entry_named, found, is_among, led, only_among, same_Some, then_some}
 use Rattle.vt_laws_trees.specs.Trees.{IsFileTree}
 use Rattle.vt_laws_trees.specs.Trees.Settling.{HoldsTree}
 use Rattle.vt_laws_trees.proofs.trees.TreesForgotten.{entry_used}
-use Rattle.std.proofs.lemmas.Option.{same_Some}
 
 module _ (used : List ℕ) (files : FileTree ℕ) (holds : HoldsTree used files) (is : IsFileTree files) where
   abbrev left : Tree ℕ

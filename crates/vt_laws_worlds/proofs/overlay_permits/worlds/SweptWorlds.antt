@@ -1,13 +1,6 @@
 -- What nothing uses goes, and a world is left, with overlays too.
-use Rattle.std.proofs.Common.{◌≡◌, refl, sym, ap, ◌∙◌, true≢false, eqb-true, ℕ, nat_eq, Bool, true, false, not, ◌++◌, Option, Some, None, inl, subst}
-use Rattle.std.specs.Prelude.{All, option_to_list}
-use Rattle.vt_spec.specs.Lists.{any_pair, holds_of}
-use Rattle.vt_spec.specs.Machine.Invariants.{IsWorld, OverlayInvariants}
-use Rattle.vt_spec.specs.Machine.Locked.{overlay_or}
-use Rattle.vt_spec.specs.Machine.Settled.{filesystem_lives, settled, without_dead_filesystems, without_dead_in, without_dead_mounts}
-use Rattle.vt_spec.specs.Machine.World.{Filesystem, Layer, Overlay, World, filesystem_numbered, is_overlay}
-use Rattle.std.proofs.lemmas.List.Elements.{All-filter}
-use Rattle.vt_spec.proofs.Lists.{Among, all_from_among}
+use Rattle.std.proofs.Common.{◌≡◌, refl, sym, ap, ◌∙◌, true≢false, eqb-true, ℕ, nat_eq, Bool, true, false, not, ◌++◌, Option, Some, None, inl, subst, All, option_to_list}
+use Rattle.vt_spec.proofs.Common.{All-filter, Among, Filesystem, IsWorld, Layer, Overlay, OverlayInvariants, World, all_from_among, and_true_left, any_pair, filesystem_lives, filesystem_numbered, holds_of, is_overlay, overlay_or, settled, without_dead_filesystems, without_dead_in, without_dead_mounts}
 use Rattle.vt_laws_trees.specs.Trees.{IsFileTree}
 use Rattle.vt_laws_trees.specs.Trees.Settling.{HasFileTrees}
 use Rattle.vt_laws_mounts.specs.LettingGo.InUse.{UppersArePlain, has_upper_in}
@@ -21,7 +14,6 @@ use Rattle.vt_laws_worlds.proofs.overlay_permits.kept.KeptOverlays.{overlays_in}
 use Rattle.vt_laws_worlds.proofs.overlay_permits.worlds.OverlaysGoOn.{are_trees, plain_layer}
 use Rattle.vt_laws_worlds.proofs.overlay_permits.worlds.SweptInodes.{file_trees_are, files_later, first_overlays, one_later, second_overlays}
 use Rattle.vt_laws_worlds.proofs.overlay_permits.worlds.SweptOverlays.{living_files, living_overlays}
-use Rattle.vt_spec.proofs.Truths.{and_true_left}
 
 module _ (world : World ℕ) (under : IsUnderWay world) (are : OverlayInvariants nat_eq world) where
   abbrev mounted : World ℕ

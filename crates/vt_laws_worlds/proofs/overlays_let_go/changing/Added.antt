@@ -1,17 +1,7 @@
 -- What a change of an overlay adds to its tree and to its upper layer: inodes that are there as real objects or by
 -- name.
 use Rattle.std.proofs.Common.{◌≡◌, refl, sym, ap, subst, ◌∙◌, ◌⊎◌, inl, inr, ⊎_elim, true≢false, ℕ, nat_eq, eq-eqb, Bool, true, cond, List, Option, Some, None, is_some}
-use Rattle.std.proofs.lemmas.Bool.Decides.{eqb_tells}
-use Rattle.vt_spec.specs.FileTree.{FileTree}
-use Rattle.vt_spec.specs.Language.Changes.{Change, changed, with_moved}
-use Rattle.vt_spec.specs.Language.Changes.Change.{AddName, CopyUp, Make, Move, Remove, SetAttr, SetBytes, SetMark}
-use Rattle.vt_spec.specs.Lists.{Fresh, evens, odds}
-use Rattle.vt_spec.specs.Machine.CopyUp.{Merge, Stack, copied_up, hides_directory, merge_changed, merge_with_moved, merge_without_name, name_left_by, shown_in_lowers_at, upper_directory_named, upper_of, with_mark, without_contents}
-use Rattle.vt_spec.specs.Machine.Layers.{Shown}
-use Rattle.vt_spec.specs.Machine.World.{Real, upper_object}
-use Rattle.vt_spec.specs.Machine.World.Real.{Upper}
-use Rattle.vt_spec.specs.TreeInvariant.{HasName, IsTree, entry_at}
-use Rattle.vt_spec.proofs.Nodes.{directory_used}
+use Rattle.vt_spec.proofs.Common.{AddName, Change, CopyUp, FileTree, Fresh, HasName, IsTree, Make, Merge, Move, Real, Remove, SetAttr, SetBytes, SetMark, Shown, Stack, Upper, changed, copied_up, directory_used, entry_at, eqb_tells, evens, hides_directory, merge_changed, merge_with_moved, merge_without_name, name_left_by, odds, shown_in_lowers_at, upper_directory_named, upper_object, upper_of, with_mark, with_moved, without_contents}
 use Rattle.vt_laws_trees.specs.Layers.Layers.ChangesUpper.{IsFitToChange, IsNewBy}
 use Rattle.vt_laws_trees.proofs.layers.layers.CopyingChanges.{moved_with, object_there, removed_with}
 use Rattle.vt_laws_trees.proofs.layers.layers.CopyingEachChange.{among_first, by_evens, in_own_line, then_odd_evens}

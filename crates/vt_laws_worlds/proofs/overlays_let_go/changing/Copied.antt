@@ -1,16 +1,8 @@
 -- What copies and changes of an overlay add to its upper layer.
 use Rattle.std.proofs.Common.{arith, ◌≡◌, refl, sym, ap, ◌∙◌, ◌⊎◌, inl, inr, ⊎_elim, true≢false, ℕ, ◌+◌, nat_eq, eq-eqb, Bool, true, false, cond, List, [], ◌∷◌, Option, Some, None, is_some}
-use Rattle.std.proofs.lemmas.Grind.{common_steps}
-use Rattle.std.proofs.lemmas.Bool.Decides.{eqb_tells}
-use Rattle.vt_spec.specs.FileTree.{FileTree, a_name}
-use Rattle.vt_spec.specs.Language.Changes.{Change, changed, with_inode, with_moved}
-use Rattle.vt_spec.specs.Lists.{Fresh}
-use Rattle.vt_spec.specs.Machine.CopyUp.{Merge, copied_content, copied_each, copied_up, copy_named, copy_of, copy_of_node, copy_parent, is_in_upper, line_to, with_mark, with_real, without_contents}
-use Rattle.vt_spec.specs.Machine.World.{Real, upper_object}
-use Rattle.vt_spec.specs.Machine.World.Real.{Upper}
-use Rattle.vt_spec.specs.Tree.{Node, entry_named, entries_in}
+use Rattle.vt_spec.proofs.Common.{Change, FileTree, Fresh, Merge, Node, Real, Upper, a_name, changed, common_steps, copied_content, copied_each, copied_up, copy_named, copy_of, copy_of_node, copy_parent, entries_in, entry_named, eqb_tells, is_in_upper, line_to, root-without_parent, upper_object, with_inode, with_mark, with_moved, with_real, without_contents}
 use Rattle.vt_laws_mounts.proofs.letting_go.Lists.{Among}
-use Rattle.vt_spec.proofs.Worlds.{root-without_parent, numbers-without_parent}
+use Rattle.vt_spec.proofs.Worlds.{numbers-without_parent}
 
 -- Copies are real objects of inodes that are there, and each real object in the upper layer stays.
 pub record Grows (before later : Merge ℕ) : Type 0 where

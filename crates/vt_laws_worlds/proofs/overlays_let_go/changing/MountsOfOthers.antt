@@ -1,23 +1,6 @@
 -- A granted rmdir, or rename, takes away mounts of other namespaces alone, so the mount that it goes through stays.
-use Rattle.std.proofs.Common.{arith, ◌≡◌, refl, sym, ap, subst, ◌∙◌, ⊎_elim, true≢false, ℕ, nat_eq, true, false, Ok, Option, Some, None, flat_map, is_some, length, map}
-use Rattle.std.proofs.lemmas.Grind.{common_steps}
-use Rattle.std.proofs.lemmas.Bool.{false_from_ne_true, or_parts}
-use Rattle.std.specs.List.{list_all, list_any}
-use Rattle.std.specs.Prelude.{option_to_list, ⊤}
-use Rattle.vt_spec.proofs.Lists.{Among, among-from_filter, among-from_flat_map, among-from_map, among_from_all, among_from_list_all, among_numbers, any_among, none_among}
-use Rattle.vt_spec.specs.Language.Calls.{Call}
-use Rattle.vt_spec.specs.Lists.{Fresh, holds_of, is_among}
-use Rattle.vt_spec.specs.Machine.Detach.{is_point, mounts_on, points_of}
-use Rattle.vt_spec.specs.Machine.Invariants.{IsWorld, Stands}
-use Rattle.vt_spec.specs.Machine.Judge.{judge_in}
-use Rattle.vt_spec.specs.Machine.Looks.{Looks, looks_of}
-use Rattle.vt_spec.specs.Machine.Mounts.{Location, Mount, mount_tree}
-use Rattle.vt_spec.specs.Machine.Permits.{Permit}
-use Rattle.vt_spec.specs.Machine.Permits.Permit.{ToRemoveDirectory, ToRename}
-use Rattle.vt_spec.specs.Machine.Rules.Conditions.{is_mount_point_anywhere, is_mount_point_in}
-use Rattle.vt_spec.specs.Machine.Rules.Removing.{object_there}
-use Rattle.vt_spec.specs.Machine.Walking.{name_of, old_leaf_walk, old_walk}
-use Rattle.vt_spec.specs.Machine.World.{Task, World, mount_numbered, task_called}
+use Rattle.std.proofs.Common.{arith, ◌≡◌, refl, sym, ap, subst, ◌∙◌, ⊎_elim, true≢false, ℕ, nat_eq, true, false, Ok, Option, Some, None, flat_map, is_some, length, map, option_to_list}
+use Rattle.vt_spec.proofs.Common.{Among, Call, Fresh, IsWorld, Location, Looks, Mount, Permit, Stands, Task, ToRemoveDirectory, ToRename, World, among-from_filter, among-from_flat_map, among-from_map, among_from_all, among_from_list_all, among_numbers, any_among, common_steps, false_from_ne_true, holds_of, is_among, is_mount_point_anywhere, is_mount_point_in, is_point, judge_in, list_all, list_any, looks_of, mount_numbered, mount_tree, mounts_on, name_of, none_among, object_there, old_leaf_walk, old_walk, or_parts, overfills, points_of, task_called, tree_among, ⊤}
 use Rattle.vt_laws_mounts.specs.LettingGo.Unmounting.{numbers_of_trees}
 use Rattle.vt_laws_mounts.proofs.letting_go.leaving.PlacesLeft.{nowhere_parts}
 use Rattle.vt_laws_mounts.proofs.mounts.MountsReplaced.{found_itself}
@@ -26,11 +9,9 @@ use Rattle.vt_laws_worlds.specs.Worlds.Permits.{IsReached}
 use Rattle.vt_laws_worlds.proofs.worlds.Reached.{is_reached}
 use Rattle.vt_laws_worlds.proofs.worlds.ReachedPlaces.{IsOldPlace, old_leaf_walk_found, old_walk_found}
 use Rattle.vt_laws_worlds.proofs.worlds.SeenMounts.{tree_namespace}
-use Rattle.vt_spec.proofs.Worlds.{tree_among}
 use Rattle.vt_laws_rules.proofs.given.Inversion.{calls_are_granted}
 use Rattle.vt_laws_rules.specs.Granted.{IsGranted}
 use Rattle.vt_laws_rules.specs.Granted.IsGranted.{removes_directory, renames}
-use Rattle.vt_spec.specs.Machine.Apply.{overfills}
 use Rattle.vt_laws_trees.proofs.trees.TreesWalked.{at_end}
 
 -- P1: no mount of the task's namespace stands on the directory

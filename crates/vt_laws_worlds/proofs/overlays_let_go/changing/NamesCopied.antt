@@ -1,29 +1,11 @@
 -- Copies take no name of the upper layer away: each stands under a name that is free.
-use Rattle.std.proofs.lemmas.Grind.{common_steps}
-use Rattle.std.proofs.Common.{◌≡◌, ◌≢◌, ◌≤◌, refl, sym, ap, subst, ◌∙◌, ◌⊎◌, inl, inr, ⊎_elim, append_assoc, true≢false, arith, ℕ, zero, suc, ◌+◌, nat_eq, eq-eqb, ne_eqb, true, cond, List, [], ◌∷◌, ◌++◌, length, reverse, Option, Some, None, is_some, unwrap_or}
-use Rattle.std.proofs.lemmas.Bool.Decides.{eqb_tells}
-use Rattle.std.specs.Cmp.Lexicographic.{bytes_decides}
-use Rattle.std.specs.Prelude.{⊤}
-use Rattle.std.specs.Str.{bytes_eq}
+use Rattle.std.proofs.Common.{◌≡◌, ◌≢◌, ◌≤◌, refl, sym, ap, subst, ◌∙◌, ◌⊎◌, inl, inr, ⊎_elim, append_assoc, true≢false, arith, ℕ, zero, suc, ◌+◌, nat_eq, eq-eqb, ne_eqb, true, cond, List, [], ◌∷◌, ◌++◌, length, reverse, Option, Some, None, is_some, unwrap_or, bytes_eq}
+use Rattle.vt_spec.proofs.Common.{FileTree, Fresh, IsTree, ListsNumbers, Merge, Node, Real, Upper, a_name, bytes_decides, cases_Bool, chain, common_steps, copied_content, copied_each, copied_up, copy_named, copy_of, copy_parent, directory_used, entries_in, entries_of, entries_of-copied_content, entry_at, entry_named, eqb_tells, line_by, line_to, named_parent, node_other, node_set, node_with_entry, none_is_some, same_Some, upper_object, with_inode, with_name, with_real, without_name, ⊤}
 use mathlib.Core.List.{reverse-cons}
-use Rattle.vt_spec.specs.FileTree.{FileTree, a_name, named_parent}
-use Rattle.vt_spec.specs.Language.Changes.{with_inode, with_name, without_name}
-use Rattle.vt_spec.specs.Lists.{Fresh, chain}
-use Rattle.vt_spec.specs.Machine.CopyUp.{Merge, copied_content, copied_each, copied_up, copy_named, copy_of, copy_parent, line_by, line_to, with_real}
-use Rattle.vt_spec.specs.Machine.World.{Real, upper_object}
-use Rattle.vt_spec.specs.Machine.World.Real.{Upper}
-use Rattle.vt_spec.specs.Machine.Invariants.{ListsNumbers}
-use Rattle.vt_spec.specs.Tree.{Node, entries_in, entries_of, entry_named, node_with_entry}
-use Rattle.vt_spec.specs.TreeInvariant.{IsTree, entry_at}
-use Rattle.vt_spec.proofs.Nodes.{directory_used, node_other, node_set}
 use Rattle.vt_laws_trees.proofs.layers.layers.CopyingNames.{name_stays_put, name_stays_without}
 use Rattle.vt_laws_trees.proofs.layers.layers.UpperChain.{depth_bound, up_at_root, up_from}
 use Rattle.vt_laws_trees.proofs.layers.layers.UpperCopies.{HasUpper}
 use Rattle.vt_laws_trees.proofs.layers.layers.UpperLine.{ReachedIn, is_reached_in, named_so, reached_directory}
-use Rattle.std.proofs.lemmas.Bool.{cases_Bool}
-use Rattle.std.proofs.lemmas.Option.{same_Some}
-use Rattle.vt_spec.proofs.NodeChanges.{entries_of-copied_content}
-use Rattle.vt_spec.proofs.Options.{none_is_some}
 
 -- a place of an entry is another, or is not
 pub one_place : (d directory : ℕ) (n name : List ℕ)

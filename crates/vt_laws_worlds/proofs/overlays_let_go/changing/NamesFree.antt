@@ -1,24 +1,14 @@
 -- A name of what lies only below leads nowhere in the upper layer.
-use Rattle.std.proofs.Common.{◌≡◌, refl, sym, ap, ◌∙◌, true≢false, ℕ, zero, suc, nat_eq, Bool, true, false, not, List, [], ◌∷◌, ◌++◌, map, Option, Some, None, is_some, option_and_then}
-use Rattle.std.specs.Prelude.{option_map}
+use Rattle.std.proofs.Common.{◌≡◌, refl, sym, ap, ◌∙◌, true≢false, ℕ, zero, suc, nat_eq, Bool, true, false, not, List, [], ◌∷◌, ◌++◌, map, Option, Some, None, is_some, option_and_then, option_map}
+use Rattle.vt_spec.proofs.Common.{FileTree, IsTree, IsWorld, Layer, OpenLayer, Overlay, Shown, World, at_path, entry_at, filesystem_numbered, is_kind_in, led-append, none_is_some, open_layer, real_object, same_Some, shown, upper_object, when}
 use Rattle.vt_spec.specs.declared.attributes.Kind.TheVariants.{White}
-use Rattle.vt_spec.specs.FileTree.{FileTree, is_kind_in}
-use Rattle.vt_spec.specs.Lists.{when}
 use Rattle.vt_spec.proofs.Layers.{cuts, shown_from, shown_over}
-use Rattle.vt_spec.specs.Machine.Layers.{OpenLayer, Shown, at_path, shown}
-use Rattle.vt_spec.specs.Machine.Merging.{real_object}
-use Rattle.vt_spec.specs.Machine.World.{Layer, Overlay, World, filesystem_numbered, open_layer, upper_object}
-use Rattle.vt_spec.specs.Machine.Invariants.{IsWorld}
-use Rattle.vt_spec.specs.TreeInvariant.{IsTree, entry_at}
-use Rattle.vt_spec.proofs.Trees.{led-append}
 use Rattle.vt_laws_trees.specs.Layers.Layers.Shown.{IsShown}
 use Rattle.vt_laws_trees.proofs.layers.layers.ShownAtPath.{computed}
 use Rattle.vt_laws_trees.proofs.layers.layers.ShownNames.{last_name}
 use Rattle.vt_laws_trees.proofs.layers.layers.UpperLine.{is_reached_in}
 use Rattle.vt_laws_trees.proofs.layers.layers.UpperShown.{real_at, way_to}
 use Rattle.vt_laws_trees.proofs.layers.layers.UpperWorld.{overlay_tree, real_named, shown_there}
-use Rattle.std.proofs.lemmas.Option.{same_Some}
-use Rattle.vt_spec.proofs.Options.{none_is_some}
 
 module _ (top : OpenLayer ℕ) (lower : List (OpenLayer ℕ)) (path : List (List ℕ)) where
   abbrev real_of_shown : Option (Shown ℕ) → Option ℕ

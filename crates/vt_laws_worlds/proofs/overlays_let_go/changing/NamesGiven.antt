@@ -1,24 +1,7 @@
 -- What loses its last name in the upper layer where a change gives a name of the overlay: at the most what the upper
 -- layer had at that name before the call.
 use Rattle.std.proofs.Common.{arith, ◌≡◌, refl, sym, ap, subst, ◌∙◌, ◌⊎◌, inl, inr, ⊎_elim, append-nil, true≢false, ℕ, nat_eq, Bool, true, false, cond, not, ◌&&◌, List, [], ◌∷◌, ◌++◌, map, Option, Some, None, is_some, option_to_list, unwrap_or}
-use Rattle.std.proofs.lemmas.Grind.{common_steps}
-use Rattle.std.proofs.lemmas.Bool.{not-true}
-use Rattle.vt_spec.specs.FileTree.{FileTree}
-use Rattle.vt_spec.specs.Language.Changes.{Change}
-use Rattle.vt_spec.specs.Language.Changes.Change.{AddName, CopyUp, Make, Move, Remove, SetAttr, SetBytes, SetMark}
-use Rattle.vt_spec.specs.Lists.{Fresh, evens, is_among, odds, then_some}
-use Rattle.vt_spec.specs.Machine.CopyUp.{Merge, Stack, copied_up, upper_of}
-use Rattle.vt_spec.specs.Machine.Filesystems.{stack_of, with_change}
-use Rattle.vt_spec.specs.Machine.Invariants.{IsWorld}
-use Rattle.vt_spec.specs.Machine.Mounts.{Location}
-use Rattle.vt_spec.specs.Machine.Descriptors.{with_descriptor}
-use Rattle.vt_spec.specs.Machine.Settled.{named_in, settled}
-use Rattle.vt_spec.specs.Machine.World.{Filesystem, Layer, Overlay, World, files_at, filesystem_numbered, is_overlay, mount_at, upper_object, with_task}
-use Rattle.vt_spec.specs.Tree.{entries_in, entry_named}
-use Rattle.vt_spec.specs.TreeInvariant.{HasName, entry_at}
-use Rattle.vt_spec.proofs.Lists.{among_from_contains}
-use Rattle.vt_spec.proofs.Nodes.{directory_used}
-use Rattle.vt_spec.proofs.Options.{none_is_some}
+use Rattle.vt_spec.proofs.Common.{AddName, Change, CopyUp, FileTree, Filesystem, Fresh, HasName, IsWorld, Layer, Location, Make, Merge, Move, Overlay, Remove, SetAttr, SetBytes, SetMark, Stack, World, among_from_contains, common_steps, copied_up, directory_used, entries_in, entry_at, entry_named, evens, files_at, filesystem_numbered, is_among, is_overlay, mount_at, named_in, none_is_some, not-true, odds, settled, stack_of, then_some, upper_object, upper_of, with_change, with_descriptor, with_task}
 use Rattle.vt_laws_trees.specs.Trees.{IsProper}
 use Rattle.vt_laws_trees.specs.Layers.Layers.ChangesUpper.{IsFitToChange}
 use Rattle.vt_laws_trees.proofs.layers.layers.CopyingEachChange.{among_second, by_evens, in_own_line, then_odds}

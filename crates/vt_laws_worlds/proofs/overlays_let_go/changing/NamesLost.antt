@@ -1,23 +1,6 @@
 -- What loses a name in the upper layer when an overlay changes.
 use Rattle.std.proofs.Common.{◌≡◌, ◌≢◌, refl, sym, ap, subst, ◌∙◌, ◌⊎◌, inl, inr, ⊎_elim, true≢false, arith, ℕ, ◌+◌, ◌*◌, nat_eq, Bool, true, false, not, List, [], ◌∷◌, ◌++◌, map, Option, Some, None, is_some, option_to_list}
-use Rattle.std.specs.List.{list_all}
-use Rattle.std.proofs.lemmas.Bool.{not-true}
-use Rattle.std.proofs.lemmas.Bool.Decides.{eqb_tells}
-use Rattle.vt_spec.specs.FileTree.{FileTree, targets_in}
-use Rattle.vt_spec.specs.Language.Changes.{Change, content_with_parent, node_with_attr, node_with_mark, node_with_parent, with_inode, with_moved, with_name, without_name, without_parent}
-use Rattle.vt_spec.specs.Language.Changes.Change.{AddName, CopyUp, Make, Move, Remove, SetAttr, SetBytes, SetMark}
-use Rattle.vt_spec.specs.Lists.{Fresh, evens, is_among, odds}
-use Rattle.vt_spec.specs.Machine.CopyUp.{Merge, Stack, copied_up, hides_directory, merge_changed, merge_with_link, merge_with_moved, merge_with_new, merge_without_name, name_left_by, shown_in_lowers_at, upper_directory_named, upper_of, whiteout_of, without_contents}
-use Rattle.vt_spec.specs.Machine.Filesystems.{stack_of, with_change}
-use Rattle.vt_spec.specs.Machine.Mounts.{Location}
-use Rattle.vt_spec.specs.Machine.Descriptors.{opened, overwritten, with_copy, with_descriptor}
-use Rattle.vt_spec.specs.Machine.Settled.{named_in, settled}
-use Rattle.vt_spec.specs.Machine.World.{Filesystem, Layer, Overlay, World, files_at, filesystem_numbered, mount_at, node_at, upper_object}
-use Rattle.vt_spec.specs.Machine.Invariants.{IsWorld}
-use Rattle.vt_spec.specs.Tree.{Node, bytes_in, entries_in, entry_named, node_with_bytes}
-use Rattle.vt_spec.specs.TreeInvariant.{HasName, entry_at}
-use Rattle.vt_spec.proofs.Lists.{among_from_contains}
-use Rattle.vt_spec.proofs.Nodes.{node_other, entries-node_with_bytes}
+use Rattle.vt_spec.proofs.Common.{AddName, Change, CopyUp, FileTree, Filesystem, Fresh, HasName, IsWorld, Layer, Location, Make, Merge, Move, Node, Overlay, Remove, SetAttr, SetBytes, SetMark, Stack, World, among_from_contains, among_targets, bytes_in, content_with_parent, copied_up, entries-node_with_attr, entries-node_with_bytes, entries-node_with_mark, entries-node_with_parent, entries-without_parent, entries_in, entry_at, entry_named, eqb_tells, evens, evens-distinct, files_at, filesystem_numbered, hides_directory, is_among, list_all, merge_changed, merge_with_link, merge_with_moved, merge_with_new, merge_without_name, mount_at, name_left_by, named_in, node_at, node_other, node_with_attr, node_with_bytes, node_with_mark, node_with_parent, none_is_some, not-true, odds, odds-distinct, opened, overwritten, part-changed_node, same_Some, settled, shown_in_lowers_at, stack_of, targets_in, upper_directory_named, upper_object, upper_of, whiteout_of, with_change, with_copy, with_descriptor, with_inode, with_moved, with_name, without_contents, without_name, without_parent}
 use Rattle.vt_laws_trees.specs.Layers.Layers.ChangesUpper.{IsFitToChange, copied_for, IsNewBy}
 use Rattle.vt_laws_trees.proofs.layers.layers.CopyingNames.{emptied_other, marked_entries}
 use Rattle.vt_laws_mounts.specs.LettingGo.FileChanges.{names_lost}
@@ -29,15 +12,10 @@ use Rattle.vt_laws_mounts.proofs.letting_go.leaving.NamesKept.{found_entry}
 use Rattle.vt_laws_mounts.proofs.letting_go.Trees.{named_among}
 use Rattle.vt_laws_worlds.specs.OverlaysLetGo.OverlayChanges.{CanChange, inodes_lost_with_upper, merge_after, merge_at, unnamed_by}
 use Rattle.vt_laws_worlds.specs.OverlaysLetGo.OverlayNames.{OnlyTheseLoseNames, OpenedCopiesKeepAll, OverlayChangesKeepAll, WrittenPartsInOverlaysKeepAll, names_under, under_name, upper_names_lost}
-use Rattle.vt_spec.proofs.FreshNumbers.{evens-distinct, odds-distinct}
 use Rattle.vt_laws_worlds.proofs.overlays_let_go.changing.NamesCopied.{Fine, IsFine, line_fine, one_place, put_same, take_same}
 use Rattle.vt_laws_worlds.proofs.overlays_let_go.changing.NamesFree.{names_free}
 use Rattle.vt_laws_worlds.proofs.overlays_let_go.changing.OverlayCalls.{goes_with_task}
 use Rattle.vt_laws_worlds.proofs.overlays_let_go.changing.OverlaysChanged.{fit, layer_there, overlay_changes_let_go, settles}
-use Rattle.std.proofs.lemmas.Option.{same_Some}
-use Rattle.vt_spec.proofs.Found.{among_targets}
-use Rattle.vt_spec.proofs.NodeChanges.{entries-node_with_attr, entries-node_with_mark, entries-node_with_parent, entries-without_parent, part-changed_node}
-use Rattle.vt_spec.proofs.Options.{none_is_some}
 
 -- an entry that is at this place
 at_place : (files : FileTree ℕ) (d directory : ℕ) (n name : List ℕ) (k : ℕ) → entry_at files.tree d n ≡ Some k

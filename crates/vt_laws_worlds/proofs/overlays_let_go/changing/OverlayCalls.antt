@@ -1,18 +1,6 @@
 -- What calls that change overlays let go of.
 use Rattle.std.proofs.Common.{arith, ◌≡◌, refl, sym, ap, subst, ◌∙◌, ℕ, nat_eq, eq-eqb, Bool, true, false, not, ◌||◌, ◌&&◌, List, [], map, ⊎_elim, is_some, Some}
-use Rattle.std.proofs.lemmas.Grind.{common_steps}
-use Rattle.std.proofs.lemmas.Bool.{and_parts, not-true, or_cases}
-use Rattle.vt_spec.proofs.Lists.{among_from_contains}
-use Rattle.vt_spec.specs.Language.Changes.{Change}
-use Rattle.vt_spec.specs.Language.Changes.Change.{Make, Move, Remove}
-use Rattle.vt_spec.specs.Lists.{Fresh, evens, is_among, odds}
-use Rattle.vt_spec.specs.Machine.Detach.{mounts_on, taken_away}
-use Rattle.vt_spec.specs.Machine.Filesystems.{with_change}
-use Rattle.vt_spec.specs.Machine.Mounts.{Location, Mount, mount_in}
-use Rattle.vt_spec.specs.Machine.Descriptors.{with_descriptor}
-use Rattle.vt_spec.specs.Machine.Settled.{filesystem_lives, is_located, is_mounted, mount_lives, settled, without_dead_mounts}
-use Rattle.vt_spec.specs.Machine.World.{Filesystem, Layer, Overlay, Task, World, mount_at, with_task}
-use Rattle.vt_spec.specs.Machine.Invariants.{IsWorld, is_there}
+use Rattle.vt_spec.proofs.Common.{Change, Filesystem, Fresh, IsWorld, Layer, Location, Make, Mount, Move, Overlay, Remove, Task, ToRemoveDirectory, ToRename, World, among_from_contains, and_parts, common_steps, evens, filesystem_lives, is_among, is_located, is_mounted, is_there, mount_at, mount_in, mount_lives, mounts_on, not-true, number-mount_in, odds, or_cases, settled, taken_away, with_change, with_descriptor, with_task, without_dead_mounts}
 use Rattle.vt_laws_trees.proofs.layers.layers.LowersWorld.{number_of_filesystem}
 use Rattle.vt_laws_mounts.specs.LettingGo.InUse.{HasTrees, UppersArePlain}
 use Rattle.vt_laws_mounts.specs.LettingGo.Leaving.{only_these_are_left, with_tasks}
@@ -33,8 +21,6 @@ use Rattle.vt_laws_worlds.specs.OverlaysLetGo.OverlayCalls.{MadeInOverlaysLetsGo
 use Rattle.vt_laws_worlds.specs.OverlaysLetGo.OverlayChanges.{CanChange, inodes_lost_with_upper}
 use Rattle.vt_laws_worlds.proofs.overlays_let_go.changing.MountsOfOthers.{removal_reached, removing_keeps_the_mount, replacing_keeps_the_mount}
 use Rattle.vt_laws_worlds.proofs.overlays_let_go.changing.OverlaysChanged.{HasThese, all_changed, all_changed_within, becomes, is_swap, merged, merged_there, new_merged, overlay_changes_let_go, reals_then, settles, swap_both, trees_then, uppers_then}
-use Rattle.vt_spec.proofs.Worlds.{number-mount_in}
-use Rattle.vt_spec.specs.Machine.Permits.Permit.{ToRemoveDirectory, ToRename}
 
 -- the mount of a location is there
 mount_there : (world : World ℕ) → IsWorld nat_eq world → (location : Location ℕ) → is_on_mount world location ≡ true

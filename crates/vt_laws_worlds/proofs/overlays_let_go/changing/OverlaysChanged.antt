@@ -1,23 +1,6 @@
 -- What goes when an overlay changes.
-use Rattle.std.proofs.Common.{arith, ◌≡◌, refl, sym, ap, subst, ◌∙◌, ◌⊎◌, inl, inr, ⊎_elim, true≢false, ne_eqb, ℕ, nat_eq, eqb-true, eq-eqb, Bool, true, false, cond, not, ◌||◌, ◌&&◌, List, [], find, map, Option, Some, None, is_some, option_to_list, unwrap_or}
-use Rattle.std.proofs.lemmas.Grind.{common_steps}
-use Rattle.std.proofs.lemmas.Bool.{and_parts, not-true, or_cases, cases_Bool}
-use Rattle.std.proofs.lemmas.List.Folds.{list_any-append}
-use Rattle.std.specs.List.{filter_map, list_all}
-use Rattle.std.specs.Prelude.{All}
-use Rattle.std.proofs.lemmas.List.Elements.{All-weaker}
-use Rattle.vt_spec.specs.FileTree.{FileTree}
-use Rattle.vt_spec.specs.Language.Changes.{Change}
-use Rattle.vt_spec.specs.Lists.{Fresh, holds_of, is_among}
-use Rattle.vt_spec.specs.Machine.CopyUp.{Merge, merge_changed}
-use Rattle.vt_spec.specs.Machine.Filesystems.{filesystem_changed, merge_of, overlay_changed, stack_of, with_change, with_files, with_merge}
-use Rattle.vt_spec.specs.Machine.Locked.{overlay_or}
-use Rattle.vt_spec.specs.Machine.Mounts.{Location}
-use Rattle.vt_spec.specs.Machine.Settled.{named_in, objects_of_overlay, settled}
-use Rattle.vt_spec.specs.Machine.World.{Filesystem, Layer, Overlay, Real, World, filesystem_at, filesystem_numbered, is_overlay, layers_of, mount_at, no_filesystem, replaced_if_numbered, shown_layers, upper_object}
-use Rattle.vt_spec.specs.Machine.Invariants.{IsWorld, is_plain_layer}
-use Rattle.vt_spec.specs.Tree.{Node, is_directory_node}
-use Rattle.vt_spec.specs.TreeInvariant.{HasName}
+use Rattle.std.proofs.Common.{arith, ◌≡◌, refl, sym, ap, subst, ◌∙◌, ◌⊎◌, inl, inr, ⊎_elim, true≢false, ne_eqb, ℕ, nat_eq, eqb-true, eq-eqb, Bool, true, false, cond, not, ◌||◌, ◌&&◌, List, [], find, map, Option, Some, None, is_some, option_to_list, unwrap_or, filter_map, All}
+use Rattle.vt_spec.proofs.Common.{All-weaker, Change, FileTree, Filesystem, Fresh, HasName, IsWorld, Layer, Location, Merge, Node, Overlay, Real, World, and_parts, cases_Bool, common_steps, filesystem_at, filesystem_changed, filesystem_numbered, holds_of, is_among, is_directory_node, is_overlay, is_plain_layer, layers_of, list_all, list_any-append, map_twice, merge_changed, merge_of, mount_at, named_in, no_filesystem, not-true, objects_of_overlay, or_cases, overlay_changed, overlay_or, replaced_if_numbered, settled, shown_layers, stack_of, upper_object, with_change, with_files, with_merge}
 use Rattle.vt_laws_trees.specs.Layers.Layers.ChangesUpper.{IsFitToChange}
 use Rattle.vt_laws_trees.proofs.layers.layers.LowersWorld.{number_of_filesystem}
 use Rattle.vt_laws_trees.proofs.layers.layers.UpperFit.{overlays_are_fit}
@@ -38,7 +21,6 @@ use Rattle.vt_laws_mounts.proofs.letting_go.leaving.TreesWithOverlays.{changed_t
 use Rattle.vt_laws_worlds.specs.OverlaysLetGo.OverlayChanges.{CanChange, OverlayChangesLetGo, inodes_lost_with_upper, merge_after, merge_at, unnamed_by}
 use Rattle.vt_laws_worlds.proofs.overlays_let_go.changing.Added.{Adds, adds}
 use Rattle.vt_laws_worlds.proofs.overlays_let_go.changing.Copied.{numbers_stay}
-use Rattle.vt_spec.proofs.Lists.{map_twice}
 
 -- an inode of a filesystem among those of one number
 of_number : (number : ℕ) (list : List ℕ) (filesystem inode : ℕ) → filesystem ≡ number → Among inode list

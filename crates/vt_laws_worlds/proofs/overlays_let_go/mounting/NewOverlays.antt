@@ -1,15 +1,6 @@
 -- Each inode of a newly mounted overlay has a name.
-use Rattle.std.proofs.Common.{◌≡◌, ◌≢◌, ◌≤◌, refl, sym, ap, subst, ◌∙◌, true≢false, ⊎_elim, ℕ, nat_eq, eq-eqb, Bool, true, ◌||◌, List, [], ◌∷◌, length, Option, Some, None, is_some, option_and_then}
-use Rattle.std.specs.Prelude.{option_map}
-use Rattle.std.proofs.lemmas.Bool.Decides.{eqb_tells}
-use Rattle.vt_spec.specs.Lists.{Fresh, evens, is_among, odds}
-use Rattle.vt_spec.specs.Machine.Layers.{OpenLayer, Shown, shown}
-use Rattle.vt_spec.specs.Machine.Merging.{Merged, MergedInode, inode_of}
-use Rattle.vt_spec.specs.Machine.NewMounts.{inode_count, overlay_filesystem}
-use Rattle.vt_spec.specs.Machine.Settled.{named_in}
-use Rattle.vt_spec.specs.Machine.World.{Filesystem}
-use Rattle.vt_spec.specs.Tree.{Tree}
-use Rattle.vt_spec.specs.TreeInvariant.{HasName, entry_at, led}
+use Rattle.std.proofs.Common.{◌≡◌, ◌≢◌, ◌≤◌, refl, sym, ap, subst, ◌∙◌, true≢false, ⊎_elim, ℕ, nat_eq, eq-eqb, Bool, true, ◌||◌, List, [], ◌∷◌, length, Option, Some, None, is_some, option_and_then, option_map}
+use Rattle.vt_spec.proofs.Common.{Filesystem, Fresh, HasName, Merged, MergedInode, OpenLayer, Shown, Tree, entry_at, eqb_tells, evens, evens-distinct, inode_count, inode_of, is_among, led, named_in, none_is_some, odds, odds-distinct, overlay_filesystem, same_Some, shown}
 use Rattle.vt_laws_trees.proofs.layers.directories.Fit.{new_overlay_is_tree, new_overlay_lists_numbers}
 use Rattle.vt_laws_trees.proofs.layers.layers.ShownDirectories.{AreOpen, last_of}
 use Rattle.vt_laws_trees.proofs.layers.layers.ShownMerged.{inodes, number}
@@ -25,9 +16,6 @@ use Rattle.vt_laws_mounts.proofs.letting_go.Lists.{all_pass, is_among_numbers, o
 use Rattle.vt_laws_mounts.proofs.letting_go.sweeps.OfWorlds.{locations_of_worlds_stand, worlds_are_settled}
 use Rattle.vt_laws_mounts.proofs.letting_go.Trees.{named_among}
 use Rattle.vt_laws_worlds.specs.OverlaysLetGo.NewOverlays.{NewMountsOfOverlaysKeepAll, NewOverlaysAreNamed}
-use Rattle.std.proofs.lemmas.Option.{same_Some}
-use Rattle.vt_spec.proofs.Options.{none_is_some}
-use Rattle.vt_spec.proofs.FreshNumbers.{odds-distinct, evens-distinct}
 
 -- what names lead to from the root is the root or has a name
 named_if_led : (tree : Tree ℕ) (path : List (List ℕ)) (n : ℕ) → n ≢ tree.root → led tree tree.root path ≡ Some n

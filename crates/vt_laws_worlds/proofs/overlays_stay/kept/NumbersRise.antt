@@ -1,22 +1,6 @@
 -- The numbers of filesystems rise after a permit.
 use Rattle.std.proofs.Common.{◌≡◌, refl, sym, ap, ◌∙◌, ℕ, nat_eq, nat_lt, Bool, true, false, ◌&&◌, List, [], ◌∷◌, ◌++◌, map, Option, Some, None}
-use Rattle.std.specs.List.{list_all}
-use Rattle.std.proofs.lemmas.Bool.{and_parts}
-use Rattle.vt_spec.specs.Language.Changes.Change.{CopyUp, Make, Move, Remove}
-use Rattle.vt_spec.specs.Language.Changes.{Change, changed}
-use Rattle.vt_spec.specs.Lists.{Fresh, evens, odds}
-use Rattle.vt_spec.specs.Machine.Apply.{apply}
-use Rattle.vt_spec.specs.Machine.Descriptors.{is_copied_up, pwritten, with_copy}
-use Rattle.vt_spec.specs.Machine.Detach.{going, without_mounts_on, without_replaced}
-use Rattle.vt_spec.specs.Machine.Filesystems.{filesystem_changed, overlay_changed, with_change, with_files}
-use Rattle.vt_spec.specs.Machine.Mounts.{Location}
-use Rattle.vt_spec.specs.Machine.Namespaces.{namespace_entered, unshared}
-use Rattle.vt_spec.specs.Machine.NewMounts.{plain_filesystem}
-use Rattle.vt_spec.specs.Machine.Permits.{Permit}
-use Rattle.vt_spec.specs.Machine.Permits.Permit.{ToChange, ToEnterNamespace, ToExit, ToMake, ToMountOverlay, ToMountPlain, ToOpen, ToOpenNew, ToRemoveDirectory, ToRename, ToSetType, ToUnmount, ToUnmountLazily, ToUnshare, ToWritePart}
-use Rattle.vt_spec.specs.Machine.Settled.{filesystem_lives, settled, without_dead_mounts}
-use Rattle.vt_spec.specs.Machine.World.{Filesystem, Layer, Overlay, Task, World, filesystem_at, mount_numbered, without_task}
-use Rattle.vt_spec.proofs.Worlds.{filesystems-taken_away, filesystems-without_replaced}
+use Rattle.vt_spec.proofs.Common.{Change, CopyUp, Filesystem, Fresh, Layer, Location, Make, Move, Overlay, Permit, Remove, Task, ToChange, ToEnterNamespace, ToExit, ToMake, ToMountOverlay, ToMountPlain, ToOpen, ToOpenNew, ToRemoveDirectory, ToRename, ToSetType, ToUnmount, ToUnmountLazily, ToUnshare, ToWritePart, World, and_parts, apply, changed, evens, filesystem_at, filesystem_changed, filesystem_lives, filesystems-taken_away, filesystems-without_replaced, going, is_copied_up, list_all, mount_numbered, namespace_entered, odds, overlay_changed, plain_filesystem, pwritten, settled, unshared, with_change, with_copy, with_files, without_dead_mounts, without_mounts_on, without_replaced, without_task}
 use Rattle.vt_laws_mounts.specs.LettingGo.TreesOverlays.{in_use_of}
 use Rattle.vt_laws_mounts.proofs.letting_go.sweeps.InUse.{after_first, after_second, number-first, number-second}
 use Rattle.vt_laws_mounts.proofs.ends.UnmountingEnds.{lazy_is_of_mounts}

@@ -1,16 +1,6 @@
 -- Overlays without an upper layer, after a permit and after the sweep.
 use Rattle.std.proofs.Common.{arith, ◌≡◌, refl, sym, ap, subst, ◌∙◌, inr, ℕ, nat_eq, Bool, true, false, true≢false, cond, not, ◌||◌, List, [], ◌∷◌, filter, is_some}
-use Rattle.std.proofs.lemmas.Grind.{common_steps}
-use Rattle.std.specs.List.{list_all, list_any}
-use Rattle.vt_spec.specs.Lists.{Fresh, is_among}
-use Rattle.vt_spec.specs.Machine.Apply.{apply}
-use Rattle.vt_spec.specs.Machine.Invariants.{IsWorld}
-use Rattle.vt_spec.specs.Machine.Locked.{of_overlay, overlay_or}
-use Rattle.vt_spec.specs.Machine.Permits.{Permit}
-use Rattle.vt_spec.specs.Machine.SameWorlds.{SameFilesystems}
-use Rattle.vt_spec.specs.Machine.Settled.{filesystem_lives, has_layer_on, is_mounted, only_used, only_used_by, settled, used_in, without_dead_in, without_dead_mounts}
-use Rattle.vt_spec.specs.Machine.World.{Filesystem, Task, World, is_overlay}
-use Rattle.vt_spec.proofs.Lists.{Among, all_from_among, among-filter, among_from_all, among-from_filter, among-from_map, none_among, none_from_among}
+use Rattle.vt_spec.proofs.Common.{Among, Filesystem, Fresh, IsWorld, Permit, SameFilesystems, Task, World, all_from_among, among-filter, among-from_filter, among-from_map, among_from_all, apply, common_steps, filesystem_lives, has_layer_on, is_among, is_mounted, is_overlay, list_all, list_any, none_among, none_from_among, of_overlay, only_used, only_used_by, overlay_or, settled, used_in, without_dead_in, without_dead_mounts}
 use Rattle.vt_laws_mounts.specs.LettingGo.Keeping.{has_only_named}
 use Rattle.vt_laws_mounts.specs.LettingGo.TreesOverlays.{in_use_of}
 use Rattle.vt_laws_mounts.proofs.letting_go.sweeps.UsesCounted.{mounted_while_counted}

@@ -1,11 +1,6 @@
 -- The trees of overlays that are left are as they were.
 use Rattle.std.proofs.Common.{◌≡◌, refl, sym, ap, subst, ◌∙◌, ℕ, nat_eq, Bool, true, false, true≢false, map, Option, Some}
-use Rattle.vt_spec.specs.Lists.{Fresh, is_among}
-use Rattle.vt_spec.specs.Machine.Invariants.{IsWorld}
-use Rattle.vt_spec.specs.Machine.Permits.{Permit}
-use Rattle.vt_spec.specs.Machine.Settled.{is_mounted}
-use Rattle.vt_spec.specs.Machine.World.{Filesystem, Overlay, Real, Task, World, filesystem_numbered, is_overlay}
-use Rattle.vt_spec.proofs.Lists.{Among, among-filter, among-from_filter}
+use Rattle.vt_spec.proofs.Common.{Among, Filesystem, Fresh, IsWorld, Overlay, Permit, Real, Task, World, among-filter, among-from_filter, filesystem_numbered, is_among, is_mounted, is_overlay}
 use Rattle.vt_laws_mounts.proofs.letting_go.sweeps.OfWorlds.{found_filesystem}
 use Rattle.vt_laws_trees.proofs.trees.TreesOfWorlds.{number_numbered}
 use Rattle.vt_laws_mounts.specs.Counts.BesideOverlays.{OverlaysHaveNoUpper}

@@ -1,10 +1,6 @@
 -- What a given permit leaves where no overlay has an upper layer.
 use Rattle.std.proofs.Common.{arith, ℕ, nat_eq}
-use Rattle.std.proofs.lemmas.Grind.{common_steps}
-use Rattle.vt_spec.specs.Lists.{Fresh}
-use Rattle.vt_spec.specs.Machine.Apply.{apply}
-use Rattle.vt_spec.specs.Machine.Permits.{Permit}
-use Rattle.vt_spec.specs.Machine.World.{Task, World}
+use Rattle.vt_spec.proofs.Common.{Fresh, Permit, Task, World, apply, common_steps}
 use Rattle.vt_laws_worlds.specs.Given.LeftWorlds.{IsGivenToTask}
 use Rattle.vt_laws_worlds.proofs.given.left.Permits.{given_permits_are_under_way_anywhere, given_permits_leave_every_world}
 use Rattle.vt_laws_worlds.proofs.one_text.same.SameWhole.{any_same_worlds_are_worlds}

@@ -1,13 +1,6 @@
 -- A given permit leaves the lower layers of overlays.
 use Rattle.std.proofs.Common.{◌≡◌, refl, sym, ap, subst, ◌∙◌, ℕ, nat_eq, true, true≢false, Option, Some, None, is_some}
-use Rattle.vt_spec.specs.Lists.{Fresh}
-use Rattle.vt_spec.specs.Machine.Apply.{apply}
-use Rattle.vt_spec.specs.Machine.Invariants.{IsWorld}
-use Rattle.vt_spec.specs.Machine.Outcomes.{Outcome, after}
-use Rattle.vt_spec.specs.Machine.Permits.{Permit}
-use Rattle.vt_spec.specs.Machine.Policy.{call_outcome}
-use Rattle.vt_spec.specs.Machine.Settled.{settled}
-use Rattle.vt_spec.specs.Machine.World.{Overlay, Task, World, filesystem_numbered, is_overlay}
+use Rattle.vt_spec.proofs.Common.{Fresh, IsWorld, Outcome, Overlay, Permit, Task, World, after, apply, call_outcome, filesystem_numbered, is_overlay, settled}
 use Rattle.vt_laws_rules.proofs.judged.CallsJudged.{call_is_judged_then_applied}
 use Rattle.vt_laws_worlds.proofs.given.left.Permits.{given_permits_leave_every_world}
 use Rattle.vt_laws_worlds.proofs.overlay_permits.worlds.EveryCall.{overlays_kept, under}

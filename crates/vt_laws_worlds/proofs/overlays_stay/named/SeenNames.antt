@@ -1,12 +1,6 @@
 -- What is seen along the paths of layers has a name.
 use Rattle.std.proofs.Common.{◌≡◌, ◌≢◌, refl, sym, ap, subst, ◌∙◌, ℕ, nat_eq, eq-eqb, Bool, true, false, true≢false, ◌||◌, Option, Some, None, is_some}
-use Rattle.std.proofs.lemmas.Bool.{or_parts}
-use Rattle.vt_spec.specs.Lists.{is_among, then_some}
-use Rattle.vt_spec.specs.Machine.Invariants.{SameObject, real_node}
-use Rattle.vt_spec.specs.Machine.Settled.{named_in}
-use Rattle.vt_spec.specs.Machine.World.{Filesystem, Overlay, Real, World, filesystem_numbered, is_overlay}
-use Rattle.vt_spec.specs.Tree.{Node}
-use Rattle.vt_spec.specs.TreeInvariant.{HasName}
+use Rattle.vt_spec.proofs.Common.{Filesystem, HasName, Node, Overlay, Real, SameObject, World, filesystem_numbered, is_among, is_overlay, named_in, or_parts, real_node, then_some}
 use Rattle.vt_laws_mounts.specs.LettingGo.InUse.{IsListedTree}
 use Rattle.vt_laws_mounts.specs.LettingGo.Keeping.{has_only_named}
 use Rattle.vt_laws_mounts.proofs.letting_go.Lists.{all_from_among, all_pass, is_among_numbers}

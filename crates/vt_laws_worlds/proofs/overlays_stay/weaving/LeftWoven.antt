@@ -1,7 +1,6 @@
 -- What a permit leaves is woven of plain filesystems and overlays.
 use Rattle.std.proofs.Common.{sym, ap, ◌∙◌, nat_eq, not, filter}
-use Rattle.vt_spec.specs.Machine.Settled.{is_mounted}
-use Rattle.vt_spec.specs.Machine.World.{is_overlay}
+use Rattle.vt_spec.proofs.Common.{is_mounted, is_overlay}
 use Rattle.vt_laws_worlds.specs.Permits.Left.{left_by}
 use Rattle.vt_laws_worlds.specs.OverlaysStay.Woven.{LeftWorldsAreWoven, are_rising, woven}
 use Rattle.vt_laws_worlds.proofs.overlays_stay.kept.NumbersRise.{numbers_rise_still}

@@ -1,13 +1,7 @@
 -- Lists of filesystems, woven by their numbers.
-use Rattle.std.proofs.lemmas.Grind.{common_steps}
-use Rattle.std.proofs.Common.{◌≡◌, refl, sym, ap, subst, ◌∙◌, ℕ, nat_eq, nat_lt, Bool, true, false, true≢false, cond, not, ◌&&◌, List, [], ◌∷◌, filter, find, Some, arith}
-use Rattle.std.specs.Prelude.{All}
-use Rattle.std.specs.List.{list_all}
-use Rattle.std.proofs.lemmas.Bool.{and_parts, ltb-true}
-use Rattle.std.proofs.lemmas.List.Elements.{All-head, All-tail}
+use Rattle.std.proofs.Common.{◌≡◌, refl, sym, ap, subst, ◌∙◌, ℕ, nat_eq, nat_lt, Bool, true, false, true≢false, cond, not, ◌&&◌, List, [], ◌∷◌, filter, find, Some, arith, All, ltb-true}
+use Rattle.vt_spec.proofs.Common.{All-head, All-tail, Filesystem, SameFilesystem, SameFilesystems, and_parts, common_steps, list_all}
 use Rattle.vt_laws_trees.proofs.runs.Permuted.{and_swapped}
-use Rattle.vt_spec.specs.Machine.SameWorlds.{SameFilesystem, SameFilesystems}
-use Rattle.vt_spec.specs.Machine.World.{Filesystem}
 use Rattle.vt_laws_worlds.specs.OverlaysStay.Woven.{PlainOnesAreFound, RisingListsAreWoven, WovenListsAreAlike, WovenListsAreFailing, WovenListsAreFiltered, WovenListsArePassing, WovenListsPassAll, are_rising, put_in, woven}
 
 abbrev is_before : Filesystem ℕ → Filesystem ℕ → Bool

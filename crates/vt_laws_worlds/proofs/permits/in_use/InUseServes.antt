@@ -1,14 +1,12 @@
 -- Which numbers a world keeps to, and which supplies serve it.
-use Rattle.std.proofs.lemmas.Grind.{common_steps}
-use Rattle.std.proofs.Common.{eq-eqb, eqb-true, ne_eqb, ◌≡◌, ◌≢◌, refl, sym, ◌∙◌, true≢false, ℕ, Bool, true, false, arith}
+use Rattle.std.proofs.Common.{eq-eqb, eqb-true, ne_eqb, ◌≡◌, ◌≢◌, refl, sym, ◌∙◌, true≢false, ℕ, Bool, true, false, arith, le-ltb}
+use Rattle.vt_spec.proofs.Common.{World, common_steps}
 use Rattle.vt_laws_rules.proofs.numbers.NamedWorlds.{named_is_kept}
 use Rattle.vt_laws_rules.proofs.numbers.Supports.{used_numbers_are_named}
 use Rattle.vt_laws_rules.specs.Numbers.{KeepsTo, LeavesOutTwo}
 use Rattle.vt_laws_worlds.proofs.one_text.in_use.InUseNamed.{any_worlds_have_numbers_in_use}
 use Rattle.vt_laws_worlds.specs.Permits.InUse.{CountsServeWorlds, HandedNumbersServeWorlds, WorldsHaveNumbersInUse, WorldsKeepToNumbersInUse, is_in_use}
 use Rattle.vt_laws_trees.specs.Runs.Handed.{counts_from, is_counted_before}
-use Rattle.vt_spec.specs.Machine.World.{World}
-use Rattle.std.proofs.lemmas.Bool.{le-ltb}
 
 pub worlds_have_numbers_in_use : WorldsHaveNumbersInUse
 worlds_have_numbers_in_use world whole plain = any_worlds_have_numbers_in_use world whole

@@ -1,9 +1,8 @@
 -- What a permit that a call is given leaves is a world.
 use Rattle.std.proofs.Common.{subst, ℕ, nat_eq}
+use Rattle.vt_spec.proofs.Common.{Outcome, apply}
 use Rattle.vt_laws_worlds.proofs.permits.same.SamePlain.{same_worlds_are_worlds}
 use Rattle.vt_laws_worlds.specs.Permits.Left.{GivenPermitsAreUnderWay, GivenPermitsLeaveWorlds, SameIsAWorldToo, left_by}
-use Rattle.vt_spec.specs.Machine.Apply.{apply}
-use Rattle.vt_spec.specs.Machine.Outcomes.{Outcome}
 use Rattle.vt_laws_worlds.proofs.worlds.CallsKept.{applied, unsettled}
 use Rattle.vt_laws_worlds.proofs.settling.SettledTasks.{settling_leaves_a_world}
 use Rattle.vt_laws_worlds.specs.Worlds.Kept.{IsWorldButForUse}

@@ -1,17 +1,11 @@
 -- Permits with other numbers.
-use Rattle.std.proofs.Common.{arith, ◌≡◌, true≢false, ℕ, Bool, true, Option}
-use Rattle.std.proofs.lemmas.Grind.{common_steps}
-use Rattle.std.specs.Prelude.{option_map}
+use Rattle.std.proofs.Common.{arith, ◌≡◌, true≢false, ℕ, Bool, true, Option, option_map}
+use Rattle.vt_spec.proofs.Common.{Change, Location, Permit, and_parts, common_steps, renamed_location}
 use Rattle.vt_laws_rules.specs.Numbers.{location_named, none_or}
 use Rattle.vt_laws_rules.proofs.numbers.Commuting.{Named, node_itself, option_itself, change_itself}
 use Rattle.vt_laws_rules.proofs.numbers.Renamings.{overlay_itself}
 use Rattle.vt_laws_rules.specs.Renaming.{Leaves, Renaming, renamed_change}
 use Rattle.vt_laws_worlds.specs.Permits.Named.{change_named, permit_named, renamed_permit}
-use Rattle.vt_spec.specs.Language.Changes.{Change}
-use Rattle.vt_spec.specs.Machine.Mounts.{Location}
-use Rattle.vt_spec.specs.Machine.Permits.{Permit}
-use Rattle.vt_spec.specs.Machine.Renaming.{renamed_location}
-use Rattle.std.proofs.lemmas.Bool.{and_parts}
 use Rattle.vt_laws_rules.proofs.numbers.NamedWorlds.{location_left, node_left, option_left}
 
 -- With each number for itself nothing is renamed.

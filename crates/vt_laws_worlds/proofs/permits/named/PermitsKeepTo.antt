@@ -1,5 +1,6 @@
 -- What a permit leaves has no other numbers than the world before, the permit and the supply.
 use Rattle.std.proofs.Common.{◌≡◌, sym, ap, ◌∙◌, ℕ, nat_eq, Bool, Option, Some, None}
+use Rattle.vt_spec.proofs.Common.{Fresh, Permit, Task, TaskName, World, apply, renamed, settled, task_called}
 use Rattle.vt_laws_rules.proofs.numbers.Renamings.{named_world, renamed_itself}
 use Rattle.vt_laws_rules.proofs.numbers.Commuting.{Named, commutes_nat}
 use Rattle.vt_laws_rules.specs.Renaming.{Renaming}
@@ -7,13 +8,6 @@ use Rattle.vt_laws_worlds.proofs.permits.named.NamedPermits.{named_permit, permi
 use Rattle.vt_laws_worlds.proofs.one_text.same.SameNumbers.{any_same_worlds_keep_to_numbers}
 use Rattle.vt_laws_worlds.specs.Permits.Left.{left_by}
 use Rattle.vt_laws_worlds.specs.Permits.Named.{renamed_permit, PermitsKeepToNumbers, SameKeepsToNumbersToo}
-use Rattle.vt_spec.specs.Language.Calls.{TaskName}
-use Rattle.vt_spec.specs.Lists.{Fresh}
-use Rattle.vt_spec.specs.Machine.Apply.{apply}
-use Rattle.vt_spec.specs.Machine.Permits.{Permit}
-use Rattle.vt_spec.specs.Machine.Renaming.{renamed}
-use Rattle.vt_spec.specs.Machine.Settled.{settled}
-use Rattle.vt_spec.specs.Machine.World.{Task, World, task_called}
 
 -- a supply and a permit beside a world
 abbrev pub Handed : Type 0 → Type 0

@@ -1,7 +1,6 @@
 -- Each change of a tree that a permit asks for is proper, and fits whoever keeps that tree alone.
 use Rattle.std.proofs.Common.{arith, eq-eqb, le-leb, leb-true, ltb-false, ne_eqb, ◌≡◌, ◌≢◌, refl, sym, ap, subst, ◌∙◌, ⊎_elim, true≢false, ℕ, zero, suc, ◌+◌, ◌*◌, nat_eq, nat_le, nat_lt, Bool, true, false, not, cond, List, [], ◌∷◌, ◌&&◌, ◌||◌, length, Option, Some, None, option_map, option_and_then}
-use Rattle.std.proofs.lemmas.Grind.{common_steps}
-use Rattle.std.specs.Prelude.{⊤}
+use Rattle.vt_spec.proofs.Common.{AddName, Allowed, Change, CopyUp, FileTree, Filesystem, Fits, Fresh, HasName, Inode, Inodes, IsDirectory, IsReached, IsTree, IsWorld, ListsNumbers, Location, Make, MayReplace, Move, Node, Permit, Remove, SetAttr, SetBytes, SetMark, Task, ToChange, ToList, ToMake, ToOpen, ToOpenNew, ToRead, ToReadPart, ToRemoveDirectory, ToRename, ToStat, ToWritePart, Tree, World, and_true_first, bytes_in, chain, chain_ends, chain_goes_on, common_steps, entry_at, evens, file_is_there, files_at, has_fit_names, has_fit_text, is_among, is_directory_node, is_empty, is_fit_filesystem, is_kind_in, is_no_larger, largest_file, led, mount_at, node_at, overwritten, parent_above, parent_in, reached_named, tree_of, ⊤}
 use Rattle.vt_laws_trees.specs.Calls.Inodes.{change_of, written_if_some}
 use Rattle.vt_laws_mounts.proofs.letting_go.Lists.{all_from_among, among_from_all, among_numbers, passes}
 use Rattle.vt_laws_worlds.proofs.permits.sees.SeesNames.{tree_here}
@@ -9,24 +8,7 @@ use Rattle.vt_laws_worlds.proofs.permits.sees.SeesTasks.{given_permits_are_seen_
 use Rattle.vt_laws_worlds.specs.Permits.Left.{IsGiven}
 use Rattle.vt_laws_worlds.specs.Permits.Sees.{GivenChangesAreProper, GivenChangesFit, SeesTo, SeesToChange, tree_at}
 use Rattle.vt_spec.specs.declared.attributes.Kind.TheVariants.{File}
-use Rattle.vt_spec.specs.FileTree.{FileTree, is_kind_in}
-use Rattle.vt_spec.specs.Language.Changes.{Change}
-use Rattle.vt_spec.specs.Language.Changes.Change.{AddName, CopyUp, Make, Move, Remove, SetAttr, SetBytes, SetMark}
-use Rattle.vt_spec.specs.Language.Limits.{largest_file}
-use Rattle.vt_spec.specs.Lists.{Fresh, chain, evens, is_among}
-use Rattle.vt_spec.specs.Machine.Mounts.{Location}
-use Rattle.vt_spec.specs.Machine.Descriptors.{overwritten}
-use Rattle.vt_spec.specs.Machine.Permits.{Permit}
-use Rattle.vt_spec.specs.Machine.Permits.Permit.{Allowed, ToChange, ToList, ToMake, ToOpen, ToOpenNew, ToRead, ToReadPart, ToRemoveDirectory, ToRename, ToStat, ToWritePart}
-use Rattle.vt_spec.specs.Machine.World.{Filesystem, Task, World, files_at, mount_at, node_at}
-use Rattle.vt_spec.specs.Machine.Invariants.{IsWorld, ListsNumbers, has_fit_names, has_fit_text, is_fit_filesystem, is_no_larger}
-use Rattle.vt_spec.specs.Fits.{Fits, MayReplace}
-use Rattle.vt_spec.specs.Inodes.{Inode, Inodes, parent_above, tree_of}
-use Rattle.vt_spec.specs.PathText.{is_empty}
-use Rattle.vt_spec.specs.Tree.{Node, Tree, bytes_in, is_directory_node, parent_in}
-use Rattle.vt_spec.specs.TreeInvariant.{HasName, IsDirectory, IsReached, IsTree, entry_at, led}
-use Rattle.vt_spec.proofs.Lists.{chain_ends, chain_goes_on}
-use Rattle.vt_spec.proofs.Trees.{parent_reached, reached_named}
+use Rattle.vt_spec.proofs.Trees.{parent_reached}
 use Rattle.vt_laws_trees.specs.Trees.{IsProper}
 use Rattle.vt_laws_trees.specs.Trees.Sizes.{IsFitChange}
 use Rattle.vt_laws_trees.proofs.trees.ChangesOfCalls.{mapped_none}
@@ -35,8 +17,6 @@ use Rattle.vt_laws_trees.proofs.trees.ChangesWithinSizes.{overwritten_length}
 use Rattle.vt_laws_worlds.proofs.worlds.CallsKept.{new_numbers}
 use Rattle.vt_laws_worlds.proofs.worlds.FitPermitsNamed.{all_permits_fit}
 use Rattle.vt_laws_worlds.specs.Worlds.Permits.{NamesWhatIsThere}
-use Rattle.vt_spec.proofs.NodeChanges.{file_is_there}
-use Rattle.vt_spec.proofs.Truths.{and_true_first}
 
 -- what a tree alone asks for beside that the change is proper
 abbrev More : Tree ℕ → Change ℕ → Type 0

@@ -1,20 +1,7 @@
 -- What the walks and the rules of calls that make, remove and rename see to.
-use Rattle.std.proofs.Common.{arith, Bool, None, ap, false, is_some, nat_eq, not, refl, sym, true, true≢false, ℕ, ⊎_elim, ◌&&◌, ◌||◌, ◌∙◌, ◌≡◌}
-use Rattle.std.proofs.lemmas.Grind.{common_steps}
-use Rattle.vt_spec.specs.Errors.{NoneFails}
-use Rattle.std.specs.List.{All}
+use Rattle.std.proofs.Common.{arith, Bool, None, ap, false, is_some, nat_eq, not, refl, sym, true, true≢false, ℕ, ⊎_elim, ◌&&◌, ◌||◌, ◌∙◌, ◌≡◌, All}
+use Rattle.vt_spec.proofs.Common.{Filesystem, HasOwnParents, IsNewIn, IsTree, IsWorld, ListsNumbers, Location, Looks, Node, NoneFails, Place, Task, World, common_steps, files_at, filesystem_at, is_directory_at, is_directory_node, is_special, looks_of, mount_at, name_of, new_name_rules, object_there, or_false_left}
 use Rattle.vt_laws_worlds.specs.Permits.Sees.{MayBeMade}
-use Rattle.vt_spec.proofs.Truths.{or_false_left}
-use Rattle.vt_spec.proofs.Walk.{new_name_rules}
-use Rattle.vt_spec.specs.Laws.Trees.{IsNewIn}
-use Rattle.vt_spec.specs.Machine.Invariants.{IsWorld, ListsNumbers}
-use Rattle.vt_spec.specs.Machine.Looks.{Looks, looks_of}
-use Rattle.vt_spec.specs.Machine.Mounts.{Location}
-use Rattle.vt_spec.specs.Machine.Rules.Removing.{object_there}
-use Rattle.vt_spec.specs.Machine.Walking.{Place, is_special, name_of}
-use Rattle.vt_spec.specs.Machine.World.{Filesystem, Task, World, files_at, filesystem_at, is_directory_at, mount_at}
-use Rattle.vt_spec.specs.Tree.{Node, is_directory_node}
-use Rattle.vt_spec.specs.TreeInvariant.{HasOwnParents, IsTree}
 use Rattle.vt_laws_trees.proofs.trees.ChangesOfCalls.{place_is_free}
 use Rattle.vt_laws_trees.proofs.trees.TreesOfWorlds.{numbered_all}
 use Rattle.vt_laws_trees.proofs.trees.TreesSizes.{IsFitWord, fit_name_of}

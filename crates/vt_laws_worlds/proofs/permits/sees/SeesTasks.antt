@@ -1,32 +1,13 @@
 -- What each call's judgement sees to.
-use Rattle.std.proofs.lemmas.Grind.{common_steps}
-use Rattle.std.proofs.Common.{List, Ok, Option, Some, [], ap, arith, eqb-true, false, inl, inr, is_some, le-leb, nat_eq, nat_le, not, refl, sym, true, true≢false, ℕ, ◌&&◌, ◌∙◌, ◌≡◌}
+use Rattle.std.proofs.Common.{List, Ok, Option, Some, [], ap, arith, eqb-true, false, inl, inr, is_some, le-leb, nat_eq, nat_le, not, refl, sym, true, true≢false, ℕ, ◌&&◌, ◌∙◌, ◌≡◌, length}
+use Rattle.vt_spec.proofs.Common.{Call, Fresh, Here, IsWorld, Looks, Node, Permit, Task, World, common_steps, deepest_name, descriptor_found, directory_walk, entries_in, entries_in-no_directory, file_mode, holds_of, is_directory_at, is_directory_node, is_directory_there, is_empty, is_kind_in, largest_file, longest_path, looks_of, most_forks, new_file, nil_from_not_some, node_at, object_there, or_parts, overfills, special_word, symlink_walk, task_called}
 use Rattle.std.proofs.Math.Nat.{mod-lt}
-use Rattle.std.proofs.lemmas.Bool.{or_parts}
-use Rattle.std.specs.Prelude.{length}
-use Rattle.vt_spec.proofs.Given.{descriptor_found}
 use Rattle.vt_laws_rules.proofs.given.Inversion.{calls_are_granted}
 use Rattle.vt_laws_rules.specs.Granted.{IsGranted, directory_made, symlink_made, whiteout_made}
 use Rattle.vt_laws_rules.specs.Granted.IsGranted.{changes_mark, changes_mode, changes_owner, changes_umask, closes, creates, creates_exclusively, drops_capabilities, forks, lists_directory, makes_directory, makes_hard_link, makes_symlink, makes_whiteout, mounts_overlayfs, opens, opens_existing, overwrites_file, reads_file, reads_part, reads_symlink, removes_directory, renames, unlinks, writes_new_file, writes_part}
 use Rattle.vt_laws_worlds.proofs.permits.sees.SeesNames.{made_as_file, made_at_new, old_mount, same_kind, tree_here}
 use Rattle.vt_laws_worlds.specs.Permits.Sees.{GivenPermitsAreSeenTo, SeesTo}
-use Rattle.vt_spec.proofs.NodeChanges.{entries_in-no_directory, nil_from_not_some}
-use Rattle.vt_spec.proofs.Worlds.{special_word}
-use Rattle.vt_spec.specs.FileTree.{is_kind_in}
-use Rattle.vt_spec.specs.Language.Calls.{Call}
-use Rattle.vt_spec.specs.Language.Limits.{deepest_name, largest_file, longest_path, most_forks}
-use Rattle.vt_spec.specs.Lists.{Fresh, holds_of}
-use Rattle.vt_spec.specs.Machine.Apply.{overfills}
-use Rattle.vt_spec.specs.Machine.Invariants.{IsWorld}
-use Rattle.vt_spec.specs.Machine.Looks.{Looks, looks_of}
-use Rattle.vt_spec.specs.Machine.Permits.{Permit}
-use Rattle.vt_spec.specs.Machine.Rows.{file_mode, new_file}
 use Rattle.vt_spec.specs.Machine.Rules.Conditions.{kind_at}
-use Rattle.vt_spec.specs.Machine.Rules.Removing.{object_there}
-use Rattle.vt_spec.specs.Machine.Walking.{Here, directory_walk, is_directory_there, symlink_walk}
-use Rattle.vt_spec.specs.Machine.World.{Task, World, is_directory_at, node_at, task_called}
-use Rattle.vt_spec.specs.PathText.{is_empty}
-use Rattle.vt_spec.specs.Tree.{Node, entries_in, is_directory_node}
 use Rattle.vt_spec.specs.declared.attributes.Kind.TheVariants.{Symlink as SymlinkKind}
 use Rattle.vt_laws_trees.proofs.trees.ChangesByLinks.{may_link}
 use Rattle.vt_laws_trees.proofs.trees.ChangesByRemoving.{may_move, old_removable}

@@ -1,14 +1,6 @@
 -- The namespaces of the mounts of a world in which a tree is attached do not go by the numbers of its copies.
-use Rattle.std.proofs.Common.{arith, ◌≡◌, refl, sym, ap, ◌∙◌, ℕ, nat_eq, eq-eqb, Bool, true, false, cond, ◌&&◌, List, [], ◌∷◌, ◌++◌, map, Option}
-use Rattle.std.proofs.lemmas.Grind.{common_steps}
-use Rattle.std.specs.Prelude.{flat_map}
-use Rattle.std.proofs.lemmas.List.{map-append}
-use Rattle.vt_spec.specs.Lists.{folded, rest_of}
-use Rattle.vt_spec.specs.Machine.Attach.{Copies, Graft, attached_by, copies_at, copy_at, graft_of, parts_of, pushed_up, twig_of}
-use Rattle.vt_spec.specs.Machine.Mounts.{Location, Mount, group_of, with_mount}
-use Rattle.vt_spec.specs.Machine.World.{World, mount_at}
-use Rattle.vt_spec.proofs.Worlds.{number-mount_in}
-use Rattle.vt_spec.proofs.Lists.{map_twice}
+use Rattle.std.proofs.Common.{arith, ◌≡◌, refl, sym, ap, ◌∙◌, ℕ, nat_eq, eq-eqb, Bool, true, false, cond, ◌&&◌, List, [], ◌∷◌, ◌++◌, map, Option, flat_map}
+use Rattle.vt_spec.proofs.Common.{Copies, Graft, Location, Mount, World, attached_by, common_steps, copies_at, copy_at, folded, graft_of, group_of, map-append, map_twice, mount_at, number-mount_in, parts_of, pushed_up, rest_of, twig_of, with_mount}
 
 abbrev pub namespaces_in : List (Mount ℕ) → List (Option ℕ)
 namespaces_in mounts = map (λ (mount : Mount ℕ). mount.namespace) mounts

@@ -1,16 +1,7 @@
 -- A filesystem that is added to a world changes no parts of an attachment.
 use Rattle.std.proofs.Common.{arith, ◌≡◌, ap, true≢false, ℕ, nat_eq, not, ◌&&◌, ◌∷◌, is_some}
-use Rattle.std.proofs.lemmas.Grind.{common_steps}
-use Rattle.std.proofs.lemmas.Bool.{and_parts}
-use Rattle.std.proofs.lemmas.List.Folds.{find-append}
+use Rattle.vt_spec.proofs.Common.{Filesystem, IsWorld, Location, Mount, World, and_parts, common_steps, filesystem_numbered, filter_alike, find-append, is_directory_under, mount_at, parts_of, receivers_of, takes_part, with_new_filesystem}
 use Rattle.vt_laws_mounts.proofs.letting_go.Lists.{Among, passes}
-use Rattle.vt_spec.specs.FileTree.{is_directory_under}
-use Rattle.vt_spec.specs.Machine.Attach.{parts_of, receivers_of, takes_part}
-use Rattle.vt_spec.specs.Machine.Invariants.{IsWorld}
-use Rattle.vt_spec.specs.Machine.Mounts.{Location, Mount}
-use Rattle.vt_spec.specs.Machine.NewMounts.{with_new_filesystem}
-use Rattle.vt_spec.specs.Machine.World.{Filesystem, World, filesystem_numbered, mount_at}
-use Rattle.vt_spec.proofs.Found.{filter_alike}
 pub use Rattle.vt_laws_mounts.proofs.mounts.Receivers.{receivers_there}
 
 module _ (world : World ℕ) (whole : IsWorld nat_eq world) (added : Filesystem ℕ) where

@@ -1,13 +1,6 @@
 -- What is attached at a mount that is in no peer group: only the numbers of copies are taken.
-use Rattle.std.proofs.lemmas.Grind.{common_steps}
-use Rattle.std.proofs.Common.{eq-eqb, ◌≡◌, sym, ap, subst, ◌∙◌, ℕ, suc, ◌+◌, ◌*◌, ◌<◌, nat_eq, Bool, true, false, cond, not, ◌&&◌, List, [], ◌∷◌, ◌++◌, length, map, filter, filter_map, Option, Some, None, option_map, if◌then◌else◌, arith}
-use Rattle.std.specs.Prelude.{unwrap_or}
-use Rattle.vt_spec.specs.Lists.{Fresh, folded, index_from, then_some, when}
-use Rattle.vt_spec.specs.Machine.Attach.{Copies, Graft, Twig, added_mounts, attach, attached_at, copies_from, copy_type, image, is_top, masters_with, nearest_image, index_in_rows, takes_part, twig_master, twig_of, with_moved_mounts}
-use Rattle.vt_spec.specs.Machine.Mounts.{Location, Mount, Propagation, group_of, index_of}
-use Rattle.vt_spec.specs.Machine.Receives.{is_member_of, receivers}
-use Rattle.vt_spec.specs.Machine.World.{World, mount_at}
-use Rattle.vt_spec.proofs.Worlds.{number-mount_in}
+use Rattle.std.proofs.Common.{eq-eqb, ◌≡◌, sym, ap, subst, ◌∙◌, ℕ, suc, ◌+◌, ◌*◌, ◌<◌, nat_eq, Bool, true, false, cond, not, ◌&&◌, List, [], ◌∷◌, ◌++◌, length, map, filter, filter_map, Option, Some, None, option_map, if◌then◌else◌, arith, unwrap_or}
+use Rattle.vt_spec.proofs.Common.{Copies, Fresh, Graft, Location, Mount, Propagation, Twig, World, added_mounts, attach, attached_at, common_steps, copies_from, copy_type, folded, group_of, image, index_from, index_in_rows, index_of, is_member_of, is_top, masters_with, mount_at, nearest_image, number-mount_in, receivers, takes_part, then_some, twig_master, twig_of, when, with_moved_mounts}
 
 -- an index in a list is less than its length
 place_bound : (test : Mount ℕ → Bool) (k : ℕ) (list : List (Mount ℕ)) (j : ℕ) → index_from test k list ≡ Some j

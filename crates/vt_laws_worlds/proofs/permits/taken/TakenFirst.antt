@@ -1,39 +1,14 @@
 -- Only the first numbers of a supply are taken.
-use Rattle.std.proofs.lemmas.Grind.{common_steps}
-use Rattle.std.proofs.Common.{◌≡◌, refl, sym, ap, subst, ◌∙◌, true≢false, ℕ, zero, suc, ◌+◌, ◌*◌, ◌<◌, nat_eq, Bool, true, false, cond, List, [], ◌∷◌, length, map, filter, Option, Some, None, find, arith}
-use Rattle.std.specs.Prelude.{unwrap_or, ◌==◌}
-use Rattle.std.specs.List.{list_all}
-use Rattle.std.proofs.lemmas.Bool.{and_parts}
+use Rattle.std.proofs.Common.{◌≡◌, refl, sym, ap, subst, ◌∙◌, true≢false, ℕ, zero, suc, ◌+◌, ◌*◌, ◌<◌, nat_eq, Bool, true, false, cond, List, [], ◌∷◌, length, map, filter, Option, Some, None, find, arith, unwrap_or, ◌==◌}
+use Rattle.vt_spec.proofs.Common.{Change, CopyUp, Fresh, IsWorld, Location, Make, Mount, MountFlags, Move, Namespace, Node, Overlay, Permit, Private, Propagation, Remove, SetBytes, Shared, Slave, Task, ToBind, ToChange, ToMake, ToMountOverlay, ToMountPlain, ToMove, ToOpen, ToOpenNew, ToPrivate, ToRemoveDirectory, ToRename, ToSetType, ToShared, ToSlave, ToUnbindable, ToUnshare, ToWritePart, Unbindable, World, among-from_map, among_from_list_all, among_numbers, and_parts, apply, attach, bind_tree, bytes_in, common_steps, filesystems-taken_away, group_of, has_one_root, index_of, is_copied_up, is_listed, is_root_mount, list_all, mount_in, mount_numbered, mount_tree, mounts_of, named_mounts, namespaces_ended, new_mount, new_plain, no_mount, node_at, numbers_by, odds, opened, overwritten, plain_filesystem, pwritten, retyped, settled, task_called, tree_from, with_change, with_copy, with_new_filesystem, with_new_inode, without_mounts_on, without_replaced}
 use Rattle.vt_laws_trees.proofs.runs.answered.PlainStays.{same_plain}
 use Rattle.vt_laws_worlds.proofs.permits.taken.TakenAttached.{copied_same, index_bound, moved_same}
 use Rattle.vt_laws_worlds.specs.Permits.Named.{permit_named}
 use Rattle.vt_laws_worlds.proofs.permits.taken.TakenTypes.{retyped_same}
 use Rattle.vt_laws_worlds.specs.Permits.Taken.{IsUngrouped, OnlyTheFirstAreTaken, is_ungrouped, numbers_taken}
-use Rattle.vt_spec.specs.Language.Calls.{MountFlags}
-use Rattle.vt_spec.specs.Language.Calls.TypeWord.{ToPrivate, ToShared, ToSlave, ToUnbindable}
-use Rattle.vt_spec.specs.Language.Changes.{Change}
-use Rattle.vt_spec.specs.Language.Changes.Change.{CopyUp, Make, Move, Remove, SetBytes}
-use Rattle.vt_spec.specs.Lists.{Fresh, odds}
-use Rattle.vt_spec.specs.Machine.Apply.{apply, with_new_inode}
-use Rattle.vt_spec.specs.Machine.Attach.{attach, bind_tree}
-use Rattle.vt_spec.specs.Machine.Detach.{without_mounts_on, without_replaced}
-use Rattle.vt_spec.specs.Machine.Filesystems.{with_change}
-use Rattle.vt_spec.specs.Machine.Mounts.{Location, Mount, Propagation, group_of, index_of, mount_in, mount_tree, no_mount, numbers_by, tree_from}
-use Rattle.vt_spec.specs.Machine.Mounts.Propagation.{Private, Shared, Slave, Unbindable}
-use Rattle.vt_spec.specs.Machine.Namespaces.{namespaces_ended, unshared_by}
-use Rattle.vt_spec.specs.Machine.Descriptors.{is_copied_up, opened, overwritten, pwritten, with_copy}
-use Rattle.vt_spec.specs.Machine.NewMounts.{new_mount, plain_filesystem, with_new_filesystem}
-use Rattle.vt_spec.specs.Machine.Permits.{Permit}
-use Rattle.vt_spec.specs.Machine.Permits.Permit.{ToBind, ToChange, ToMake, ToMountOverlay, ToMountPlain, ToMove, ToOpen, ToOpenNew, ToRemoveDirectory, ToRename, ToSetType, ToUnshare, ToWritePart}
-use Rattle.vt_spec.specs.Machine.Settled.{settled}
-use Rattle.vt_spec.specs.Machine.Types.{named_mounts, retyped}
-use Rattle.vt_spec.specs.Machine.World.{Namespace, Overlay, Task, World, mount_numbered, mounts_of, new_plain, node_at, task_called}
-use Rattle.vt_spec.specs.Machine.Invariants.{IsWorld, has_one_root, is_listed, is_root_mount}
-use Rattle.vt_spec.specs.Tree.{Node, bytes_in}
-use Rattle.vt_spec.proofs.Lists.{among_from_list_all, among_numbers, among-from_map}
+use Rattle.vt_spec.specs.Machine.Namespaces.{unshared_by}
 use Rattle.vt_laws_worlds.proofs.Plain.{plain_numbered}
 use Rattle.vt_laws_worlds.specs.Worlds.Kept.{IsPlain}
-use Rattle.vt_spec.proofs.Worlds.{filesystems-taken_away}
 use Rattle.vt_laws_trees.proofs.trees.TreesTasks.{called_there}
 
 -- the permit is not for the mount of an overlay

@@ -1,5 +1,6 @@
 -- A permit that a call is given names only numbers to which the world keeps.
 use Rattle.std.proofs.Common.{◌≡◌, refl, sym, ap, subst, ◌∙◌, ℕ, nat_eq, Bool, Option, Some, None, Ok, Err, ◌+◌, arith}
+use Rattle.vt_spec.proofs.Common.{Call, Fresh, IsWorld, Judgement, Permit, Task, TaskName, World, denial, judge_in, settled, task_called}
 use Rattle.vt_laws_rules.proofs.numbers.Renamings.{Handed, named_handed}
 use Rattle.vt_laws_rules.proofs.numbers.Commuting.{Named, commutes_nat}
 use Rattle.vt_laws_worlds.proofs.permits.named.NamedPermits.{permit_itself}
@@ -13,14 +14,6 @@ use Rattle.vt_laws_worlds.specs.Permits.Named.{renamed_permit}
 use Rattle.vt_laws_worlds.specs.Permits.Taken.{GivenCountsGoOn, GivenPermitsAreLeft, GivenPermitsKeepToTaken, counts_taken, handed_to}
 use Rattle.vt_laws_trees.specs.Runs.Handed.{is_counted_before}
 use Rattle.vt_spec.specs.declared.errors.Rule.TheVariants.{S2}
-use Rattle.vt_spec.specs.Errors.{denial}
-use Rattle.vt_spec.specs.Language.Calls.{Call, TaskName}
-use Rattle.vt_spec.specs.Lists.{Fresh}
-use Rattle.vt_spec.specs.Machine.Judge.{Judgement, judge_in}
-use Rattle.vt_spec.specs.Machine.Permits.{Permit}
-use Rattle.vt_spec.specs.Machine.Settled.{settled}
-use Rattle.vt_spec.specs.Machine.World.{Task, World, task_called}
-use Rattle.vt_spec.specs.Machine.Invariants.{IsWorld}
 use Rattle.vt_laws_worlds.proofs.worlds.FitPermitsNamed.{permits_fit}
 use Rattle.vt_laws_worlds.specs.Worlds.Kept.{IsPlain}
 use Rattle.vt_laws_worlds.specs.Worlds.Permits.{NamesWhatIsThere}

@@ -1,12 +1,9 @@
 -- A program's supply: counts with the number of an inode at its place.
-use Rattle.std.proofs.lemmas.Grind.{common_steps}
 use Rattle.std.proofs.Common.{eq-eqb, lt-ltb, ◌≡◌, refl, true≢false, ℕ, zero, suc, ◌+◌, ◌%◌, ◌/◌, ◌==◌, ◌<◌, nat_lt, true, cond, ◌&&◌, ◌||◌, arith}
-use Rattle.std.proofs.lemmas.Bool.{or_right}
+use Rattle.vt_spec.proofs.Common.{Permit, Task, World, common_steps, or_right}
 use Rattle.vt_laws_worlds.proofs.permits.taken.TakenNumbers.{counts_go_on}
 use Rattle.vt_laws_worlds.specs.Permits.Taken.{HandedCountsGoOn, counts_taken, handed_to, numbers_taken}
 use Rattle.vt_laws_trees.specs.Runs.Handed.{counts_from, is_counted_before}
-use Rattle.vt_spec.specs.Machine.Permits.{Permit}
-use Rattle.vt_spec.specs.Machine.World.{Task, World}
 
 -- a count that is taken is before those that are left over
 pub counted_here : (next taken k : ℕ) → k < taken → is_counted_before (next + taken) (counts_from next k) ≡ true

@@ -1,27 +1,10 @@
 -- A judgement does not go by the numbers handed in.
 use Rattle.std.proofs.Common.{arith, ◌≡◌, refl, sym, ap, ◌∙◌, true≢false, ℕ, nat_eq, nat_lt, Bool, true, false, List, [], ◌∷◌, length, map, filter, Ok}
-use Rattle.std.proofs.lemmas.Grind.{common_steps}
-use Rattle.std.specs.List.{list_any}
-use Rattle.std.proofs.lemmas.List.{length-map}
+use Rattle.vt_spec.proofs.Common.{Call, Copies, Fresh, IsWorld, Location, Looks, Mount, MountFlags, Namespace, Task, ToBind, ToMountPlain, ToMove, World, admin_rules, and_then, apply, bind_permit, bind_rules, bind_tree, common_steps, copies_from, destination_walk, has_too_many, holds_of, judge_in, length-map, list_any, looks_of, most_mounts, mount_at, mount_numbered, mount_plain_permit, mount_tree, move_permit, move_rules, new_mount, new_mount_rules, odds, overfills, parts_of, plain_filesystem, rest_of, source_walk, unless, walk_end, with_new_filesystem}
 use Rattle.vt_laws_mounts.proofs.letting_go.Lists.{filter-map}
 use Rattle.vt_laws_worlds.proofs.permits.taken.AttachedNamespaces.{attached_namespaces, namespaces_after, namespaces_in}
 use Rattle.vt_laws_worlds.proofs.permits.taken.PartsKept.{same_parts}
 use Rattle.vt_laws_worlds.specs.Permits.Taken.{GivenWithAnySupply, JudgementsDoNotSeeSupplies}
-use Rattle.vt_spec.specs.Errors.{and_then, unless}
-use Rattle.vt_spec.specs.Language.Calls.{Call, MountFlags}
-use Rattle.vt_spec.specs.Language.Limits.{most_mounts}
-use Rattle.vt_spec.specs.Lists.{Fresh, holds_of, odds, rest_of}
-use Rattle.vt_spec.specs.Machine.Apply.{apply, overfills}
-use Rattle.vt_spec.specs.Machine.Attach.{Copies, bind_tree, copies_from, has_too_many, parts_of}
-use Rattle.vt_spec.specs.Machine.Invariants.{IsWorld}
-use Rattle.vt_spec.specs.Machine.Judge.{bind_permit, judge_in, mount_plain_permit, move_permit}
-use Rattle.vt_spec.specs.Machine.Looks.{Looks, looks_of}
-use Rattle.vt_spec.specs.Machine.Mounts.{Location, Mount, mount_tree}
-use Rattle.vt_spec.specs.Machine.NewMounts.{new_mount, plain_filesystem, with_new_filesystem}
-use Rattle.vt_spec.specs.Machine.Permits.Permit.{ToBind, ToMountPlain, ToMove}
-use Rattle.vt_spec.specs.Machine.Rules.Mounting.{admin_rules, bind_rules, destination_walk, move_rules, new_mount_rules, source_walk}
-use Rattle.vt_spec.specs.Machine.Walking.{walk_end}
-use Rattle.vt_spec.specs.Machine.World.{Namespace, Task, World, mount_at, mount_numbered}
 use Rattle.vt_laws_trees.specs.Trees.Calls.{mounts_overlay}
 
 -- how many mounts a namespace has is told by the namespaces of the mounts

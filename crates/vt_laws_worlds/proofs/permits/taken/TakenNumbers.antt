@@ -1,6 +1,6 @@
 -- A world keeps to its numbers and to those that a permit takes.
-use Rattle.std.proofs.lemmas.Grind.{common_steps}
 use Rattle.std.proofs.Common.{◌≡◌, ◌∙◌, true≢false, ℕ, ◌≤◌, lt-ltb, ltb-true, true, arith}
+use Rattle.vt_spec.proofs.Common.{common_steps}
 use Rattle.vt_laws_worlds.proofs.permits.named.NamedPermits.{permit_left}
 use Rattle.vt_laws_worlds.proofs.permits.named.PermitsKeepTo.{left_renamed}
 use Rattle.vt_laws_worlds.proofs.permits.taken.TakenFirst.{only_the_first_are_taken}

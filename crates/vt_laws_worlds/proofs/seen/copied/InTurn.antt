@@ -1,15 +1,6 @@
 -- Copies that are planned, and made one in the other.
-use Rattle.std.proofs.Common.{◌≡◌, refl, sym, ap, subst, ◌∙◌, true≢false, arith, ℕ, zero, suc, nat_eq, true, List, [], ◌∷◌, ◌++◌, map, length, append_assoc, Option, Some, None, is_some, unwrap_or}
-use Rattle.std.proofs.lemmas.List.{append-nil, map-append}
-use Rattle.vt_spec.specs.Language.Changes.{changed}
-use Rattle.vt_spec.specs.Language.Changes.Change.{Make}
-use Rattle.vt_spec.specs.Lists.{Fresh, then_some}
-use Rattle.vt_spec.specs.Machine.CopyUp.{Merge, Stack}
-use Rattle.vt_spec.specs.Machine.Invariants.{SameObject, number_at_path}
-use Rattle.vt_spec.specs.Tree.{Node}
-use Rattle.vt_spec.specs.TreeInvariant.{entry_at}
-use Rattle.vt_spec.proofs.Options.{none_is_some}
-use Rattle.vt_spec.proofs.Trees.{found}
+use Rattle.std.proofs.Common.{◌≡◌, refl, sym, ap, subst, ◌∙◌, true≢false, arith, ℕ, zero, suc, nat_eq, true, List, [], ◌∷◌, ◌++◌, map, length, append_assoc, Option, Some, None, is_some, unwrap_or, append-nil}
+use Rattle.vt_spec.proofs.Common.{Fresh, Make, Merge, Node, SameObject, Stack, changed, entry_at, found, map-append, none_is_some, number_at_path, then_some}
 use Rattle.vt_laws_trees.proofs.layers.layers.ShownDirectories.{last_of}
 use Rattle.vt_laws_trees.proofs.layers.layers.ShownNames.{last_name}
 use Rattle.vt_laws_trees.proofs.layers.layers.ShownPaths.{length_longer, not_empty}

@@ -1,23 +1,12 @@
 -- Copies one prefix at a time.
-use Rattle.std.proofs.Common.{arith, ◌≡◌, ◌≢◌, refl, sym, ap, subst, ◌∙◌, ℕ, nat_eq, List, [], ◌∷◌, ◌++◌, length, Option, Some, None, is_some, unwrap_or}
-use Rattle.std.proofs.lemmas.Grind.{common_steps}
-use Rattle.std.specs.Prelude.{option_map}
+use Rattle.std.proofs.Common.{arith, ◌≡◌, ◌≢◌, refl, sym, ap, subst, ◌∙◌, ℕ, nat_eq, List, [], ◌∷◌, ◌++◌, length, Option, Some, None, is_some, unwrap_or, option_map, append-nil}
+use Rattle.vt_spec.proofs.Common.{FileTree, Fresh, Make, Merge, Node, SameObject, Stack, changed, common_steps, copied_up, last_or, none_is_some, number_at_path, rest_of, same_Some, then_some}
 use Rattle.vt_laws_trees.proofs.layers.layers.UpperShown.{without_last_of_longer}
-use Rattle.vt_spec.specs.FileTree.{FileTree}
-use Rattle.vt_spec.specs.Language.Changes.{changed}
-use Rattle.vt_spec.specs.Language.Changes.Change.{Make}
-use Rattle.vt_spec.specs.Lists.{Fresh, last_or, rest_of, then_some}
-use Rattle.vt_spec.specs.Machine.CopyUp.{Merge, Stack, copied_up}
-use Rattle.vt_spec.specs.Machine.Invariants.{SameObject, number_at_path}
-use Rattle.vt_spec.specs.Tree.{Node}
 use Rattle.vt_laws_trees.proofs.overlays.steps.WholeLines.{object_copied}
 use Rattle.vt_laws_worlds.specs.Merging.UpperChanges.{copied_to, copy_node, copy_over, node_seen, object_above}
 use Rattle.vt_laws_worlds.specs.Merging.UpperChanges.Place.{Named}
 use Rattle.vt_laws_worlds.proofs.merging.upper.Copying.{copied_longer, same_copied}
 use Rattle.vt_laws_worlds.proofs.merging.upper.Places.{copies_are_of_prefixes, path_there, prefixes_lead_to_copies}
-use Rattle.std.proofs.lemmas.List.{append-nil}
-use Rattle.std.proofs.lemmas.Option.{same_Some}
-use Rattle.vt_spec.proofs.Options.{none_is_some}
 use Rattle.vt_laws_worlds.specs.Seen.CopySteps.{CopiesGoStepByStep, CopiesShowTheSame}
 
 -- two inodes that look like one are copied alike

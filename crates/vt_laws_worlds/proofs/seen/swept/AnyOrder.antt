@@ -1,15 +1,7 @@
 -- Filesystems, inodes and groups go in any order before the sweep.
-use Rattle.std.proofs.Common.{arith, ◌≡◌, refl, sym, ap, subst, ◌∙◌, true≢false, ℕ, nat_eq, eqb-true, Bool, true, false, cond, not, ◌||◌, ◌&&◌, List, [], ◌∷◌, filter, None, is_some}
-use Rattle.std.proofs.lemmas.Grind.{common_steps}
-use Rattle.std.specs.Prelude.{All}
-use Rattle.std.proofs.lemmas.List.Elements.{All-filter, All-map}
-use Rattle.std.proofs.lemmas.Map.Views.{any-filter_same}
+use Rattle.std.proofs.Common.{arith, ◌≡◌, refl, sym, ap, subst, ◌∙◌, true≢false, ℕ, nat_eq, eqb-true, Bool, true, false, cond, not, ◌||◌, ◌&&◌, List, [], ◌∷◌, filter, None, is_some, All}
+use Rattle.vt_spec.proofs.Common.{All-filter, All-map, Filesystem, HasName, World, any-filter_same, common_steps, directory_used, filesystem_lives, folded, is_among, is_overlay, located_in, settled}
 use Rattle.vt_laws_mounts.proofs.letting_go.sweeps.WithOverlays.{upper_without, overlay_without}
-use Rattle.vt_spec.specs.Lists.{folded, is_among}
-use Rattle.vt_spec.specs.Machine.Settled.{filesystem_lives, located_in, settled}
-use Rattle.vt_spec.specs.Machine.World.{Filesystem, World, is_overlay}
-use Rattle.vt_spec.specs.TreeInvariant.{HasName}
-use Rattle.vt_spec.proofs.Nodes.{directory_used}
 use Rattle.vt_laws_trees.specs.Trees.{IsFileTree}
 use Rattle.vt_laws_trees.specs.Trees.Settling.{HasFileTrees, HoldsTree}
 use Rattle.vt_laws_trees.proofs.trees.TreesForgotten.{kept_file_tree, named_is_used}

@@ -1,12 +1,6 @@
 -- An inode that nothing uses may go before the sweep.
-use Rattle.std.proofs.Common.{◌≡◌, refl, sym, ap, ◌∙◌, true≢false, ℕ, nat_eq, eqb-true, Bool, true, false, cond, not, ◌||◌, ◌&&◌}
-use Rattle.std.specs.Prelude.{All}
-use Rattle.std.specs.List.{list_any}
-use Rattle.std.proofs.lemmas.Bool.{and_parts, not-true}
-use Rattle.std.proofs.lemmas.List.Elements.{All-filter}
-use Rattle.vt_spec.specs.Machine.Settled.{filesystem_lives, has_layer_on, is_mounted, objects_of_overlay, settled, without_dead_filesystems, without_dead_groups, without_dead_inodes, without_dead_mounts}
-use Rattle.vt_spec.specs.Machine.World.{Filesystem, World, is_overlay}
-use Rattle.vt_spec.proofs.Lists.{map_alike}
+use Rattle.std.proofs.Common.{◌≡◌, refl, sym, ap, ◌∙◌, true≢false, ℕ, nat_eq, eqb-true, Bool, true, false, cond, not, ◌||◌, ◌&&◌, All}
+use Rattle.vt_spec.proofs.Common.{All-filter, Filesystem, World, and_parts, filesystem_lives, has_layer_on, is_mounted, is_overlay, list_any, map_alike, not-true, objects_of_overlay, settled, without_dead_filesystems, without_dead_groups, without_dead_inodes, without_dead_mounts}
 use Rattle.vt_laws_mounts.specs.LettingGo.InUse.{HasTrees, IsListedTree, UppersArePlain, has_upper_in, is_inode_used}
 use Rattle.vt_laws_mounts.specs.LettingGo.OneByOne.{Inode}
 use Rattle.vt_laws_mounts.specs.LettingGo.Overlays.{RealsAreThere, let_go_in, without_inode_of}

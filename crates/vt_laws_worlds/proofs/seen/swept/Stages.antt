@@ -1,14 +1,7 @@
 -- Inodes that nothing uses may go before the sweep of inodes.
-use Rattle.std.proofs.Common.{arith, ◌≡◌, refl, sym, ap, subst, ◌∙◌, ⊎_elim, true≢false, ℕ, nat_eq, Bool, true, false, not, ◌||◌, ◌&&◌, List, [], map, filter, flat_map, ◌++◌, ◌∷◌}
-use Rattle.std.proofs.lemmas.Grind.{common_steps}
-use Rattle.std.specs.Prelude.{All}
-use Rattle.std.proofs.lemmas.Bool.{cases_Bool, not-true}
+use Rattle.std.proofs.Common.{arith, ◌≡◌, refl, sym, ap, subst, ◌∙◌, ⊎_elim, true≢false, ℕ, nat_eq, Bool, true, false, not, ◌||◌, ◌&&◌, List, [], map, filter, flat_map, ◌++◌, ◌∷◌, All}
+use Rattle.vt_spec.proofs.Common.{Filesystem, World, cases_Bool, common_steps, is_among, is_overlay, layers_in, layers_of, located_in, map_alike, map_twice, named_in, not-true, objects_of_overlay, of_overlay, only_used, only_used_of, used_in, without_dead_in, without_dead_inodes}
 use Rattle.vt_laws_mounts.proofs.letting_go.sweeps.WithOverlays.{upper_without, overlay_without}
-use Rattle.vt_spec.specs.Lists.{is_among}
-use Rattle.vt_spec.specs.Machine.Locked.{of_overlay}
-use Rattle.vt_spec.specs.Machine.Settled.{layers_in, located_in, named_in, objects_of_overlay, only_used, only_used_of, used_in, without_dead_in, without_dead_inodes}
-use Rattle.vt_spec.specs.Machine.World.{Filesystem, World, is_overlay, layers_of}
-use Rattle.vt_spec.proofs.Lists.{map_alike, map_twice}
 use Rattle.vt_laws_mounts.specs.LettingGo.InUse.{HasTrees, IsListedTree, UppersArePlain, has_upper_in, is_inode_used}
 use Rattle.vt_laws_mounts.specs.LettingGo.Overlays.{RealsAreThere}
 use Rattle.vt_laws_mounts.proofs.letting_go.Lists.{Among, among-append, among-append_left, among-append_right, among-filter_map, among-flat_map, among-from_filter, among-from_filter_map, among-from_flat_map, among-from_map, among_from_all, among_numbers, flat_map-map, flat_map_none, is_among_numbers}

@@ -1,10 +1,6 @@
 -- Mounts, filesystems and groups may go before the sweep.
 use Rattle.std.proofs.Common.{arith, ◌≡◌, ap, ◌∙◌, ℕ, nat_eq, Bool, false, not, ◌||◌, ◌&&◌, filter}
-use Rattle.std.proofs.lemmas.Grind.{common_steps}
-use Rattle.std.proofs.lemmas.Bool.{or_parts}
-use Rattle.vt_spec.proofs.Truths.{or_false_right}
-use Rattle.vt_spec.specs.Machine.Settled.{filesystem_lives, has_layer_on, is_mounted, mount_lives, without_dead_filesystems, without_dead_groups, without_dead_inodes, without_dead_mounts}
-use Rattle.vt_spec.specs.Machine.World.{Filesystem, World, with_mounts}
+use Rattle.vt_spec.proofs.Common.{Filesystem, World, common_steps, filesystem_lives, has_layer_on, is_mounted, mount_lives, or_false_right, or_parts, with_mounts, without_dead_filesystems, without_dead_groups, without_dead_inodes, without_dead_mounts}
 use Rattle.vt_spec.proofs.Lists.{none-filter}
 use Rattle.vt_laws_mounts.specs.LettingGo.OneByOne.{let_go_filesystem}
 use Rattle.vt_laws_mounts.proofs.letting_go.Lists.{any-filter, fails, filter_less, none_passes}

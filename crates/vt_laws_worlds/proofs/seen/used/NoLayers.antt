@@ -1,17 +1,6 @@
 -- No overlay has a layer in another.
-use Rattle.std.proofs.Common.{arith, ◌≡◌, refl, sym, ap, ◌∙◌, true≢false, ℕ, nat_eq, eqb-true, Bool, true, false, List, [], ◌∷◌, ◌++◌, map, filter, Option, Some, None, if◌then◌else◌}
-use Rattle.std.proofs.lemmas.Grind.{common_steps}
-use Rattle.std.proofs.lemmas.List.{append-nil}
-use Rattle.std.proofs.lemmas.List.Elements.{filter-append}
-use Rattle.std.specs.List.{filter_map, flat_map, list_all}
-use Rattle.std.specs.Prelude.{option_to_list}
-use Rattle.vt_spec.proofs.Truths.{and_true_left, and_true_right}
-use Rattle.vt_spec.specs.Lists.{holds_of}
-use Rattle.vt_spec.specs.Machine.Invariants.{is_plain_layer}
-use Rattle.vt_spec.specs.Machine.Locked.{of_overlay, overlay_or}
-use Rattle.vt_spec.specs.Machine.Settled.{located_in, named_in, objects_of_overlay, used_in}
-use Rattle.vt_spec.specs.Machine.World.{Filesystem, Layer, Overlay, World, filesystem_numbered, layers_of, upper_object}
-use Rattle.vt_spec.proofs.Found.{found_passes}
+use Rattle.std.proofs.Common.{arith, ◌≡◌, refl, sym, ap, ◌∙◌, true≢false, ℕ, nat_eq, eqb-true, Bool, true, false, List, [], ◌∷◌, ◌++◌, map, filter, Option, Some, None, if◌then◌else◌, append-nil, filter_map, flat_map, option_to_list}
+use Rattle.vt_spec.proofs.Common.{Filesystem, Layer, Overlay, World, and_true_left, and_true_right, common_steps, filesystem_numbered, filter-append, found_passes, holds_of, is_plain_layer, layers_of, list_all, located_in, named_in, objects_of_overlay, of_overlay, overlay_or, upper_object, used_in}
 use Rattle.vt_laws_trees.proofs.layers.layers.UpperWorld.{overlay_found}
 use Rattle.vt_laws_worlds.specs.Seen.InodeUses.{OverlaysAreUsedByLocations}
 

@@ -1,15 +1,6 @@
 -- What uses an inode of an overlay without a name.
-use Rattle.std.proofs.Common.{◌≡◌, ◌≢◌, refl, sym, ap, ◌∙◌, ⊎_elim, true≢false, ℕ, nat_eq, ne_eqb, eq-eqb, Bool, true, false, cond, ◌||◌, ◌++◌, List, [], ◌∷◌, Option, Some, None}
-use Rattle.std.specs.List.{find}
-use Rattle.std.proofs.lemmas.List.Folds.{list_any-append}
-use Rattle.vt_spec.specs.FileTree.{FileTree, targets_in}
-use Rattle.vt_spec.specs.Lists.{is_among}
-use Rattle.vt_spec.specs.Machine.Settled.{located_in, named_in}
-use Rattle.vt_spec.specs.Machine.World.{filesystem_numbered}
-use Rattle.vt_spec.specs.Tree.{entries_in}
-use Rattle.vt_spec.specs.TreeInvariant.{HasName, IsTree}
-use Rattle.vt_spec.proofs.NodeChanges.{found_is_named}
-use Rattle.vt_spec.proofs.Options.{none_is_some}
+use Rattle.std.proofs.Common.{◌≡◌, ◌≢◌, refl, sym, ap, ◌∙◌, ⊎_elim, true≢false, ℕ, nat_eq, ne_eqb, eq-eqb, Bool, true, false, cond, ◌||◌, ◌++◌, List, [], ◌∷◌, Option, Some, None, find}
+use Rattle.vt_spec.proofs.Common.{FileTree, HasName, IsTree, entries_in, filesystem_numbered, found_is_named, is_among, list_any-append, located_in, named_in, none_is_some, targets_in}
 use Rattle.vt_laws_trees.proofs.layers.layers.UpperWorld.{overlay_tree}
 use Rattle.vt_laws_mounts.proofs.letting_go.Lists.{Among, among-from_flat_map, among-from_map, among_numbers}
 use Rattle.vt_laws_worlds.specs.Seen.InodeUses.{UnnamedAreUsedWhereLocated}

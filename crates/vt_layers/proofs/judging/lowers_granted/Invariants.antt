@@ -1,5 +1,5 @@
 use Rattle.std.proofs.Common.{◌≡◌, map, take}
-use Rattle.vt_spec.specs.Machine.Rules.Mounting.{layer_at}
+use Rattle.vt_spec.proofs.Common.{layer_at}
 use Rattle.vt_location.specs.Locations.{location_of}
 use Rattle.vt_permits.specs.GrantValue.{layer_of}
 use Rattle.vt_layers.proofs.judging.lowers_granted.Given as goal

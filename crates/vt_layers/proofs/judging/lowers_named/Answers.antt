@@ -1,6 +1,5 @@
 use Rattle.std.proofs.Common.{Ok, ap, nat_eq, ◌∙◌}
-use Rattle.std.proofs.lemmas.Result.{err_from_is_err_and}
-use Rattle.vt_spec.specs.Machine.Rules.Mounting.{each_walked}
+use Rattle.vt_spec.proofs.Common.{each_walked, err_from_is_err_and}
 use Rattle.vt_tasks.specs.TaskValue.{task_of}
 use Rattle.vt_layers.specs.LayersValue.{first_lowers, lowers_alone, lowers_of}
 use Rattle.vt_layers.specs.MountValue.{layers_named}

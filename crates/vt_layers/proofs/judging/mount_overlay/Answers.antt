@@ -1,10 +1,6 @@
 use Rattle.std.proofs.Common.{Err, Ok, ap, map, nat_eq, refl, sym, ◌∙◌}
-use Rattle.std.proofs.lemmas.Result.{err_from_is_err_and}
+use Rattle.vt_spec.proofs.Common.{MountOverlay, ToMountOverlay as MeansToMount, err_from_is_err_and, layer_at, mount_overlay_permit, overlay_at}
 use Rattle.vt_spec.specs.declared.errors.Rule.TheVariants.{M2, M9}
-use Rattle.vt_spec.specs.Language.Calls.Call.{MountOverlay}
-use Rattle.vt_spec.specs.Machine.Judge.{mount_overlay_permit}
-use Rattle.vt_spec.specs.Machine.Permits.Permit.{ToMountOverlay as MeansToMount}
-use Rattle.vt_spec.specs.Machine.Rules.Mounting.{layer_at, overlay_at}
 use Rattle.vt_cred.specs.MountFlags.{flags_of}
 use Rattle.vt_location.specs.Locations.{location_of}
 use Rattle.vt_request.specs.Requests.{options_named}

@@ -1,6 +1,6 @@
 use Rattle.std.proofs.Common.{option_map, sym, ap, ◌∙◌}
+use Rattle.vt_spec.proofs.Common.{parts}
 use Rattle.vt_spec.specs.Language.Script.OptionItem.{LowerItem}
-use Rattle.vt_spec.specs.PathText.{parts}
 use Rattle.vt_layers.proofs.OptionLemmas.{lower_item-there}
 use Rattle.vt_layers.proofs.options.lower_item.Goals as goal
 

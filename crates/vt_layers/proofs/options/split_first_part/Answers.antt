@@ -1,6 +1,5 @@
-use Rattle.std.proofs.Common.{◌≡◌, ◌≢◌, ◌<◌, ◌+◌, ℕ, length, get_or, rules}
-use Rattle.std.proofs.lemmas.List.{take_rest}
-use Rattle.std.specs.List.{All}
+use Rattle.std.proofs.Common.{◌≡◌, ◌≢◌, ◌<◌, ◌+◌, ℕ, length, get_or, rules, All}
+use Rattle.vt_spec.proofs.Common.{take_rest}
 use Rattle.vt_text.proofs.PathWords.{parts_one}
 use Rattle.vt_layers.proofs.OptionLemmas.{parts_first}
 use Rattle.vt_layers.proofs.options.split_first_part.Goals as goal

@@ -1,7 +1,5 @@
 use Rattle.std.proofs.Common.{rules, ◌∙◌}
-use Rattle.std.proofs.lemmas.Iterator.{YieldsList-from_slice}
-use Rattle.std.proofs.lemmas.Iterator.Search.{any_from_yields_List}
-use Rattle.vt_spec.specs.Machine.Rules.Conditions.{is_overlay_at}
+use Rattle.vt_spec.proofs.Common.{YieldsList-from_slice, any_from_yields_List, is_overlay_at}
 use Rattle.vt_location.specs.Locations.{location_of}
 use Rattle.vt_layers.specs.declared.walks.Lower.{Lower}
 use Rattle.vt_layers.proofs.RuleLemmas.{list_any-map}

@@ -1,6 +1,5 @@
 use Rattle.std.proofs.Common.{◌≡◌, drop, nat_eq}
-use Rattle.vt_spec.specs.Lists.{any_pair}
-use Rattle.vt_spec.specs.Machine.Rules.Mounting.{one_under_another}
+use Rattle.vt_spec.proofs.Common.{any_pair, one_under_another}
 use Rattle.vt_layers.proofs.RuleLemmas.{layers_at}
 use Rattle.vt_layers.proofs.rules.some_under_another.Given as goal
 

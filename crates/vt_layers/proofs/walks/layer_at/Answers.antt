@@ -1,6 +1,5 @@
 use Rattle.std.proofs.Common.{ap, nat_eq, ◌∙◌}
-use Rattle.vt_spec.specs.Machine.Rules.Mounting.{source_walk}
-use Rattle.vt_spec.specs.Machine.Walking.{walk_end}
+use Rattle.vt_spec.proofs.Common.{source_walk, walk_end}
 use Rattle.vt_tasks.specs.TaskValue.{task_of}
 use Rattle.vt_walk.specs.WalkValue.{location_end}
 use Rattle.vt_layers.proofs.walks.layer_at.Goals as goal

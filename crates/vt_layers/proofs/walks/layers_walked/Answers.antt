@@ -1,6 +1,5 @@
 use Rattle.std.proofs.Common.{ap, nat_eq, ◌∙◌}
-use Rattle.std.proofs.lemmas.Result.{err_from_is_err_and}
-use Rattle.vt_spec.specs.Machine.Rules.Mounting.{each_walked, walked_if_given, work_walked}
+use Rattle.vt_spec.proofs.Common.{each_walked, err_from_is_err_and, walked_if_given, work_walked}
 use Rattle.vt_tasks.specs.TaskValue.{task_of}
 use Rattle.vt_layers.specs.LayersValue.{first_lowers}
 use Rattle.vt_layers.proofs.WalkLemmas.{all-walked, lowers-denied, upper-denied, work-denied}

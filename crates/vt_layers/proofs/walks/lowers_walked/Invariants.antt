@@ -1,5 +1,5 @@
 use Rattle.std.proofs.Common.{◌≡◌, ◌≤◌, length, nat_eq}
-use Rattle.vt_spec.specs.Machine.Rules.Mounting.{each_walked}
+use Rattle.vt_spec.proofs.Common.{each_walked}
 use Rattle.vt_tasks.specs.TaskValue.{task_of}
 use Rattle.vt_layers.specs.LayersValue.{first_lowers, lowers_of}
 use Rattle.vt_layers.proofs.WalkLemmas.{kept_before}

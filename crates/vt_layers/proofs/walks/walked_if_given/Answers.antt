@@ -1,4 +1,4 @@
-use Rattle.std.proofs.lemmas.Result.{err_from_is_err_and}
+use Rattle.vt_spec.proofs.Common.{err_from_is_err_and}
 use Rattle.vt_tasks.specs.TaskValue.{task_of}
 use Rattle.vt_layers.proofs.WalkLemmas.{given-refused}
 use Rattle.vt_layers.proofs.walks.walked_if_given.Goals as goal

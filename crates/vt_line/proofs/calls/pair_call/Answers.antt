@@ -1,5 +1,5 @@
 use Rattle.std.proofs.Common.{Some, ap, refl, rules, sym, ◌∙◌}
-use Rattle.vt_spec.specs.Language.Script.Version.{One}
+use Rattle.vt_spec.proofs.Common.{One}
 use Rattle.vt_line.specs.declared.names.CallName.TheVariants.{Pair}
 use Rattle.vt_line.proofs.CallLemmas.{pair_asked, pair_refused}
 use Rattle.vt_line.proofs.calls.pair_call.Goals as goal

@@ -1,5 +1,5 @@
 use Rattle.std.proofs.Common.{Some, ap, refl, rules, sym, ◌∙◌}
-use Rattle.vt_spec.specs.Language.Script.Version.{One}
+use Rattle.vt_spec.proofs.Common.{One}
 use Rattle.vt_line.specs.declared.names.CallName.TheVariants.{Path}
 use Rattle.vt_line.proofs.CallLemmas.{path_asked, path_refused}
 use Rattle.vt_line.proofs.calls.path_call.Goals as goal

@@ -1,6 +1,6 @@
 use Rattle.std.proofs.Common.{inl, sym, ap, ◌∙◌, subst}
-use Rattle.vt_spec.specs.Lists.{then_some}
-use Rattle.vt_spec.specs.Language.Script.{overlays, request_of_texts}
+use Rattle.vt_spec.proofs.Common.{request_of_texts, then_some}
+use Rattle.vt_spec.specs.Language.Script.{overlays}
 use Rattle.vt_line.specs.Calls.{IsRequestRead}
 use Rattle.vt_line.specs.Versions.{version_of}
 use Rattle.vt_line.proofs.RequestLemmas.{request-few}

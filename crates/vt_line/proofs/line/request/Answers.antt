@@ -1,5 +1,6 @@
 use Rattle.std.proofs.Common.{ap, subst, sym, ◌∙◌}
-use Rattle.vt_spec.specs.Language.Script.{overlays, request_of_texts}
+use Rattle.vt_spec.proofs.Common.{request_of_texts}
+use Rattle.vt_spec.specs.Language.Script.{overlays}
 use Rattle.vt_line.specs.Calls.{IsRequestRead}
 use Rattle.vt_line.specs.Versions.{version_of}
 use Rattle.vt_line.proofs.RequestLemmas.{request-plain}

@@ -1,13 +1,11 @@
 use Rattle.std.proofs.Common.{◌∷◌, ◌<◌, Err, length, option_map, sym, ap, ◌∙◌, subst}
-use Rattle.vt_spec.specs.Language.Script.{asked_by, overlays, task_word}
-use Rattle.vt_spec.specs.Language.Script.Request.{Calling}
-use Rattle.vt_spec.specs.Language.Script.Who.{Someone}
+use Rattle.vt_spec.proofs.Common.{Calling, Someone, asked_by, some_from_is_some, task_word}
+use Rattle.vt_spec.specs.Language.Script.{overlays}
 use Rattle.vt_request.specs.Requests.{call_of}
 use Rattle.vt_line.specs.Calls.{IsRequestRead, call_named}
 use Rattle.vt_line.specs.Versions.{version_of}
 use Rattle.vt_line.proofs.RequestLemmas.{if_some, request-long, request-refused, task-named}
 use Rattle.vt_line.proofs.line.task_call.Goals as goal
-use Rattle.vt_spec.proofs.Options.{some_from_is_some}
 
 pub returns-in-Err : goal.returns-in-Err
 returns-in-Err c =

@@ -1,5 +1,6 @@
 use Rattle.std.proofs.Common.{◌∷◌, ◌++◌, ◌≡◌, ◌∙◌, ℕ, List, append_assoc, codes, decimal, rules, subst, sym}
-use Rattle.vt_spec.specs.Language.Printed.{mount_line_words, mount_point_words, printed_line, spaced}
+use Rattle.vt_spec.proofs.Common.{mount_point_words, printed_line, spaced}
+use Rattle.vt_spec.specs.Language.Printed.{mount_line_words}
 use Rattle.vt_io.specs.Sink.{Prints, WroteFront}
 use Rattle.vt_io.proofs.Printing.{Prints-append, Wrote-append, WroteFront-longer, WroteFront-part}
 use Rattle.vt_request.specs.Answers.{mount_line_of}

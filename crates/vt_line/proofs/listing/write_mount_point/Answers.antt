@@ -1,5 +1,5 @@
 use Rattle.std.proofs.Common.{[], ◌∷◌, ◌++◌, option_map, rules}
-use Rattle.vt_spec.specs.Language.Printed.{mount_point_words, printed_spot, spaced}
+use Rattle.vt_spec.proofs.Common.{mount_point_words, printed_spot, spaced}
 use Rattle.vt_io.specs.Sink.{WroteFront}
 use Rattle.vt_io.proofs.Printing.{WroteFront-longer}
 use Rattle.vt_request.specs.Answers.{spot_of}

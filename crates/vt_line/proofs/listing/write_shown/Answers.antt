@@ -1,5 +1,6 @@
 use Rattle.std.proofs.Common.{[], ◌∷◌, ◌++◌, ℕ, List, append_assoc, decimal, refl, rules}
-use Rattle.vt_spec.specs.Language.Printed.{kind_word, printed_flags, printed_spot, printed_type, spaced}
+use Rattle.vt_spec.proofs.Common.{printed_spot, spaced}
+use Rattle.vt_spec.specs.Language.Printed.{kind_word, printed_flags, printed_type}
 use Rattle.vt_io.specs.Sink.{WroteFront}
 use Rattle.vt_io.proofs.Printing.{Wrote-append, WroteFront-part}
 use Rattle.vt_cred.specs.MountFlags.{flags_of}

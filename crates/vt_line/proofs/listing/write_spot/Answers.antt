@@ -1,5 +1,5 @@
 use Rattle.std.proofs.Common.{◌≡◌, ◌<◌, ◌∷◌, arith, length, sym, ap, ◌∙◌, subst}
-use Rattle.vt_spec.specs.Language.Printed.{printed_spot}
+use Rattle.vt_spec.proofs.Common.{printed_spot}
 use Rattle.vt_io.specs.Sink.{Prints}
 use Rattle.vt_io.proofs.Printing.{Prints-append}
 use Rattle.vt_request.specs.Answers.{spot_of}

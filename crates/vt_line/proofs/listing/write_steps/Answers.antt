@@ -1,7 +1,6 @@
-use Rattle.std.proofs.Common.{◌∷◌, ap, ◌∙◌, ℕ, rules}
+use Rattle.std.proofs.Common.{◌∷◌, ap, ◌∙◌, ℕ, rules, flat_map}
+use Rattle.vt_spec.proofs.Common.{printed_byte}
 use Rattle.std.specs.Global.{Vec}
-use Rattle.std.specs.List.{flat_map}
-use Rattle.vt_spec.specs.Language.Printed.{printed_byte}
 use Rattle.vt_io.specs.Sink.{WroteFront}
 use Rattle.vt_io.proofs.Printing.{WroteFront-append, WroteFront-longer, WroteFront-item}
 use Rattle.vt_line.specs.Printing.{printed_steps}

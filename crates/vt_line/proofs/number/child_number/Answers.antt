@@ -1,5 +1,5 @@
 use Rattle.std.proofs.Common.{◌≡◌, Some, rules}
-use Rattle.vt_spec.specs.Language.Script.{child_number}
+use Rattle.vt_spec.proofs.Common.{child_number}
 use Rattle.vt_line.proofs.NumberLemmas.{child_number-range}
 use Rattle.vt_line.proofs.number.child_number.Goals as goal
 

@@ -1,6 +1,5 @@
 use Rattle.std.proofs.Common.{◌≡◌, ◌+◌, ◌-◌, ◌*◌, ◌<◌, drop, get_or, sym, ap, arith}
-use Rattle.std.proofs.lemmas.List.{at_drop_more}
-use Rattle.vt_spec.specs.Language.Script.{value_from}
+use Rattle.vt_spec.proofs.Common.{at_drop_more, value_from}
 use Rattle.vt_line.proofs.NumberLemmas.{value_from-grows, number_in-large, digit-value}
 use Rattle.vt_line.proofs.number.number.Goals as goal
 

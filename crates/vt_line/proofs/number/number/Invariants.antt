@@ -1,5 +1,6 @@
 use Rattle.std.proofs.Common.{◌≡◌, ◌≤◌, drop}
-use Rattle.vt_spec.specs.Language.Script.{digits_below, value_from}
+use Rattle.vt_spec.proofs.Common.{value_from}
+use Rattle.vt_spec.specs.Language.Script.{digits_below}
 use Rattle.vt_line.proofs.number.number.Given as goal
 
 abbrev pub invariant-loop-byte : goal.invariant-loop-byte

@@ -1,5 +1,5 @@
 use Rattle.std.proofs.Common.{◌∷◌, refl, rules}
-use Rattle.vt_spec.specs.Language.Printed.{printed_member}
+use Rattle.vt_spec.proofs.Common.{printed_member}
 use Rattle.vt_io.specs.Sink.{WroteFront}
 use Rattle.vt_io.proofs.Printing.{WroteFront-item}
 use Rattle.vt_request.specs.Answers.{mount_place_of}

@@ -1,5 +1,6 @@
 use Rattle.std.proofs.Common.{[], ◌∷◌, ◌++◌, ◌∙◌, ℕ, List, ap, append_assoc, decimal, map, refl, rules}
-use Rattle.vt_spec.specs.Language.Printed.{number_or_dash, peer_line_words, printed_members, spaced}
+use Rattle.vt_spec.proofs.Common.{peer_line_words, spaced}
+use Rattle.vt_spec.specs.Language.Printed.{number_or_dash, printed_members}
 use Rattle.vt_io.specs.Sink.{WroteFront}
 use Rattle.vt_io.proofs.Printing.{Wrote-append, WroteFront-part}
 use Rattle.vt_request.specs.Answers.{mount_place_of, peer_line_of}

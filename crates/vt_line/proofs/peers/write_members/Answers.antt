@@ -1,5 +1,6 @@
 use Rattle.std.proofs.Common.{◌≡◌, ◌∷◌, ◌++◌, ap, map, subst, sym, ◌∙◌}
-use Rattle.vt_spec.specs.Language.Printed.{printed_member, printed_members}
+use Rattle.vt_spec.proofs.Common.{printed_member}
+use Rattle.vt_spec.specs.Language.Printed.{printed_members}
 use Rattle.vt_io.specs.Sink.{Prints}
 use Rattle.vt_io.proofs.Printing.{Prints-append}
 use Rattle.vt_request.specs.Answers.{mount_place_of}

@@ -1,5 +1,5 @@
 use Rattle.std.proofs.Common.{ap, rules}
-use Rattle.vt_spec.specs.Language.Printed.{peer_line_words, printed_line}
+use Rattle.vt_spec.proofs.Common.{peer_line_words, printed_line}
 use Rattle.vt_io.specs.Sink.{WroteFront}
 use Rattle.vt_io.proofs.Printing.{WroteFront-item}
 use Rattle.vt_request.specs.Answers.{peer_line_of}

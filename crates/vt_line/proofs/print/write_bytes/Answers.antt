@@ -1,6 +1,5 @@
-use Rattle.std.proofs.Common.{◌++◌, ◌∙◌, append_assoc, rules, arith}
-use Rattle.std.specs.List.{flat_map}
-use Rattle.vt_spec.specs.Language.Printed.{printed_byte}
+use Rattle.std.proofs.Common.{◌++◌, ◌∙◌, append_assoc, rules, arith, flat_map}
+use Rattle.vt_spec.proofs.Common.{printed_byte}
 use Rattle.vt_io.specs.Sink.{WroteFront}
 use Rattle.vt_io.proofs.Printing.{Wrote-append, WroteFront-part}
 use Rattle.vt_line.proofs.PrintLemmas.{escape, printed-front, printed-last, printed-escape}

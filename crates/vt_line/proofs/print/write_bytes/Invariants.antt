@@ -1,6 +1,5 @@
-use Rattle.std.proofs.Common.{◌≡◌, ℕ, List, ◌++◌, length}
-use Rattle.std.specs.List.{flat_map}
-use Rattle.vt_spec.specs.Language.Printed.{printed_byte}
+use Rattle.std.proofs.Common.{◌≡◌, ℕ, List, ◌++◌, length, flat_map}
+use Rattle.vt_spec.proofs.Common.{printed_byte}
 use Rattle.vt_io.specs.Sink.{Wrote}
 use Rattle.vt_line.proofs.print.write_bytes.Given as goal
 

@@ -1,6 +1,5 @@
 use Rattle.std.proofs.Common.{◌≡◌, ◌<◌, [], ◌∷◌, ◌++◌, codes, decimal, length, refl, subst, ◌∙◌, arith, rules, append_assoc}
-use Rattle.std.proofs.lemmas.Bool.Decides.{nat_tests}
-use Rattle.vt_spec.specs.Language.Printed.{printed_line, printed_text}
+use Rattle.vt_spec.proofs.Common.{nat_tests, printed_line, printed_text}
 use Rattle.vt_io.specs.Sink.{Prints, WroteFront}
 use Rattle.vt_io.proofs.Printing.{Prints-append, Wrote-append, WroteFront-longer, WroteFront-part}
 use Rattle.vt_line.proofs.PrintLemmas.{content_line, printed_text-plain}

@@ -1,5 +1,4 @@
-use Rattle.std.proofs.Common.{[], ◌++◌, ◌∷◌, ◌≡◌, ◌∙◌, ap, decimal, get_or, rules}
-use Rattle.std.proofs.lemmas.List.{append-nil}
+use Rattle.std.proofs.Common.{[], ◌++◌, ◌∷◌, ◌≡◌, ◌∙◌, ap, decimal, get_or, rules, append-nil}
 use Rattle.vt_io.specs.Sink.{WroteFront}
 use Rattle.vt_io.proofs.Printing.{WroteFront-item}
 use Rattle.vt_line.specs.Printing.{printed_numbers}

@@ -1,6 +1,6 @@
-use Rattle.std.proofs.Common.{◌≡◌, ap, subst, sym, ◌∙◌}
-use Rattle.std.specs.List.{flat_map}
-use Rattle.vt_spec.specs.Language.Printed.{printed_line, printed_rows}
+use Rattle.std.proofs.Common.{◌≡◌, ap, subst, sym, ◌∙◌, flat_map}
+use Rattle.vt_spec.proofs.Common.{printed_line}
+use Rattle.vt_spec.specs.Language.Printed.{printed_rows}
 use Rattle.vt_io.specs.Sink.{Prints}
 use Rattle.vt_request.specs.Answers.{answer_of}
 use Rattle.vt_line.specs.Printing.{printed_peers}

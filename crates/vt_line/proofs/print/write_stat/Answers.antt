@@ -1,5 +1,6 @@
 use Rattle.std.proofs.Common.{◌≡◌, ◌++◌, sym, ap, ◌∙◌, rules}
-use Rattle.vt_spec.specs.Language.Printed.{owner_words, spaced, stat_words}
+use Rattle.vt_spec.proofs.Common.{spaced}
+use Rattle.vt_spec.specs.Language.Printed.{owner_words, stat_words}
 use Rattle.vt_io.specs.Sink.{WroteFront}
 use Rattle.vt_io.proofs.Printing.{Prints-append, WroteFront-longer}
 use Rattle.vt_request.specs.Answers.{stat_line_of}

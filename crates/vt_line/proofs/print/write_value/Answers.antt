@@ -1,5 +1,5 @@
 use Rattle.std.proofs.Common.{◌≡◌, [], ◌++◌, sym, ap, ◌∙◌, rules}
-use Rattle.vt_spec.specs.Language.Printed.{printed_text, printed_value, spaced}
+use Rattle.vt_spec.proofs.Common.{printed_text, printed_value, spaced}
 use Rattle.vt_io.specs.Sink.{WroteFront}
 use Rattle.vt_io.proofs.Printing.{WroteFront-longer}
 use Rattle.vt_request.specs.Answers.{answer_of}

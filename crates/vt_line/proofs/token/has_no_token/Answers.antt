@@ -1,6 +1,5 @@
 use Rattle.std.proofs.Common.{◌≡◌, ◌≢◌, ◌<◌, [], length, get_or, rules, false}
-use Rattle.vt_spec.specs.Lists.{is_empty_list}
-use Rattle.vt_spec.specs.Language.Script.{raw_tokens}
+use Rattle.vt_spec.proofs.Common.{is_empty_list, raw_tokens}
 use Rattle.vt_text.proofs.PathWords.{words_between_none, words_between_some}
 use Rattle.vt_line.proofs.token.has_no_token.Goals as goal
 

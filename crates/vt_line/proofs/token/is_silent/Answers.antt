@@ -1,7 +1,6 @@
 use Rattle.std.proofs.Common.{ℕ, true, not, eqb, Option, option_map, sym, ap, ◌∙◌, rules, tests}
-use Rattle.std.proofs.lemmas.Iterator.{YieldsList-from_slice}
+use Rattle.vt_spec.proofs.Common.{YieldsList-from_slice, option_map_or}
 use Rattle.std.proofs.lemmas.Iterator.Search.{find_from_yields_List}
-use Rattle.std.specs.Option.{option_map_or}
 use Rattle.vt_line.proofs.TokenLemmas.{is_silent-first}
 use Rattle.vt_line.proofs.token.is_silent.Goals as goal
 

@@ -1,8 +1,6 @@
-use Rattle.std.proofs.Common.{◌||◌, ◌&&◌, ◌==◌, take, sym, ap, ◌∙◌}
-use Rattle.std.specs.List.{list_all}
-use Rattle.std.proofs.lemmas.List.{take_all}
+use Rattle.std.proofs.Common.{◌||◌, ◌&&◌, ◌==◌, take, sym, ap, ◌∙◌, take_all}
+use Rattle.vt_spec.proofs.Common.{is_plain, list_all}
 use Rattle.std.proofs.lemmas.List.Folds.{list_all_more}
-use Rattle.vt_spec.specs.Language.Script.{is_plain}
 use Rattle.vt_line.proofs.token.is_unescaped.Goals as goal
 
 pub loop-byte-preserved : goal.loop-byte-preserved

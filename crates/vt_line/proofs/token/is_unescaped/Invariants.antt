@@ -1,6 +1,5 @@
 use Rattle.std.proofs.Common.{◌≡◌, ◌||◌, ◌==◌, take}
-use Rattle.std.specs.List.{list_all}
-use Rattle.vt_spec.specs.Language.Script.{is_plain}
+use Rattle.vt_spec.proofs.Common.{is_plain, list_all}
 use Rattle.vt_line.proofs.token.is_unescaped.Given as goal
 
 abbrev pub invariant-loop-byte : goal.invariant-loop-byte

@@ -1,7 +1,5 @@
 use Rattle.std.proofs.Common.{◌≡◌, ◌≢◌, ◌<◌, ◌≤◌, ℕ, [], length, get_or, take, drop, sym, ap, ◌∙◌, ⊎_elim, arith, rules, add-zero, length-drop, get_or-drop}
-use Rattle.std.proofs.lemmas.Bool.{cases_lt}
-use Rattle.std.proofs.lemmas.List.{take_rest}
-use Rattle.vt_spec.specs.Language.Script.{raw_tokens}
+use Rattle.vt_spec.proofs.Common.{cases_lt, raw_tokens, take_rest}
 use Rattle.vt_text.proofs.PathWords.{words_between_none, words_between-drop, words_between_first}
 use Rattle.vt_line.proofs.token.split_first_token.Goals as goal
 

@@ -1,6 +1,6 @@
 use Rattle.std.proofs.Common.{◌≡◌, ◌≤◌, ◌+◌, drop, length}
+use Rattle.vt_spec.proofs.Common.{Between}
 use Rattle.vt_spec.specs.Language.Script.{spelled}
-use Rattle.vt_spec.specs.Language.Script.Reading.{Between}
 use Rattle.vt_line.specs.Tokens.{reading_of}
 use Rattle.vt_line.proofs.TokenLemmas.{read_before}
 use Rattle.vt_line.proofs.token.unescape.Given as goal

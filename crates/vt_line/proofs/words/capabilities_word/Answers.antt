@@ -1,12 +1,7 @@
-use Rattle.std.proofs.Common.{◌≡◌, ◌+◌, [], ◌∷◌, ◌++◌, Some, None, option_map, false, codes, eqb, length, drop, sym, ap, ◌∙◌, arith, rules, tests}
-use Rattle.std.specs.Str.{bytes_eq}
+use Rattle.std.proofs.Common.{◌≡◌, ◌+◌, [], ◌∷◌, ◌++◌, Some, None, option_map, false, codes, eqb, length, drop, sym, ap, ◌∙◌, arith, rules, tests, bytes_eq}
+use Rattle.vt_spec.proofs.Common.{YieldsList-end, YieldsList-from_slice_split, YieldsList-turn, capability_named, each_of, length_push, parts, with_first}
 use Rattle.std.specs.Int.Bits.{bit_or, or_zero_r}
-use Rattle.std.proofs.lemmas.List.{length_push}
-use Rattle.std.proofs.lemmas.Iterator.Splits.{YieldsList-from_slice_split}
-use Rattle.std.proofs.lemmas.Iterator.Consumers.{YieldsList-turn, YieldsList-end}
-use Rattle.vt_spec.specs.PathText.{parts}
 use Rattle.vt_spec.specs.Language.Calls.CapabilityWord.{These}
-use Rattle.vt_spec.specs.Language.Script.{each_of, with_first, capability_named}
 use Rattle.vt_cred.specs.Caps.{capability_bits}
 use Rattle.vt_line.proofs.Splits.{YieldsList-parts, each_of-more, each_of-end}
 use Rattle.vt_line.proofs.WordLemmas.{united, united-more, capabilities_word-names}

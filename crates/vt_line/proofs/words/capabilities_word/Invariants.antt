@@ -1,6 +1,5 @@
 use Rattle.std.proofs.Common.{◌≡◌, length, drop}
-use Rattle.vt_spec.specs.PathText.{parts}
-use Rattle.vt_spec.specs.Language.Script.{each_of, capability_named}
+use Rattle.vt_spec.proofs.Common.{capability_named, each_of, parts}
 use Rattle.vt_cred.specs.Caps.{capability_bits}
 use Rattle.vt_line.proofs.WordLemmas.{united}
 use Rattle.vt_line.proofs.words.capabilities_word.Given as goal

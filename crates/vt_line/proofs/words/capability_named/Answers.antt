@@ -1,5 +1,5 @@
 use Rattle.std.proofs.Common.{sym, ap, ◌∙◌}
-use Rattle.vt_spec.specs.Language.Script.{capability_named}
+use Rattle.vt_spec.proofs.Common.{capability_named}
 use Rattle.vt_line.proofs.WordLemmas.{find_name-capability, capability_named-no_text}
 use Rattle.vt_line.proofs.words.capability_named.Goals as goal
 

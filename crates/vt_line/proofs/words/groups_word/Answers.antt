@@ -1,11 +1,5 @@
-use Rattle.std.proofs.Common.{◌≡◌, ◌+◌, ◌≤◌, [], ◌∷◌, ◌++◌, Some, None, true, false, codes, eqb, length, drop, sym, ap, ◌∙◌, arith, rules, tests}
-use Rattle.std.specs.Str.{bytes_eq}
-use Rattle.std.proofs.lemmas.Bool.Decides.{nat_tests}
-use Rattle.std.proofs.lemmas.List.{append-nil, length_push}
-use Rattle.std.proofs.lemmas.Iterator.Splits.{YieldsList-from_slice_split}
-use Rattle.std.proofs.lemmas.Iterator.Consumers.{YieldsList-turn, YieldsList-end}
-use Rattle.vt_spec.specs.PathText.{parts}
-use Rattle.vt_spec.specs.Language.Script.{each_of, with_first, identity_word}
+use Rattle.std.proofs.Common.{◌≡◌, ◌+◌, ◌≤◌, [], ◌∷◌, ◌++◌, Some, None, true, false, codes, eqb, length, drop, sym, ap, ◌∙◌, arith, rules, tests, bytes_eq, append-nil}
+use Rattle.vt_spec.proofs.Common.{YieldsList-end, YieldsList-from_slice_split, YieldsList-turn, each_of, identity_word, length_push, nat_tests, parts, with_first}
 use Rattle.vt_line.proofs.Splits.{YieldsList-parts, each_of-more, each_of-end}
 use Rattle.vt_line.proofs.TokenLemmas.{read_before, read_before-first}
 use Rattle.vt_line.proofs.WordLemmas.{groups_word-few, groups_word-many, groups_word-wrong}

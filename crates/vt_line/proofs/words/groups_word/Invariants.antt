@@ -1,6 +1,5 @@
 use Rattle.std.proofs.Common.{◌≡◌, ◌≤◌, length, drop}
-use Rattle.vt_spec.specs.PathText.{parts}
-use Rattle.vt_spec.specs.Language.Script.{each_of, identity_word}
+use Rattle.vt_spec.proofs.Common.{each_of, identity_word, parts}
 use Rattle.vt_line.proofs.TokenLemmas.{read_before}
 use Rattle.vt_line.proofs.words.groups_word.Given as goal
 

@@ -1,5 +1,4 @@
-use Rattle.std.proofs.Common.{◌≡◌, ap, codes, is_some, rules, sym, true}
-use Rattle.std.specs.Str.{bytes_eq}
+use Rattle.std.proofs.Common.{◌≡◌, ap, codes, is_some, rules, sym, true, bytes_eq}
 use Rattle.vt_line.proofs.WordLemmas.{first_task}
 use Rattle.vt_line.proofs.words.is_task.Goals as goal
 

@@ -1,14 +1,9 @@
-use Rattle.std.proofs.Common.{◌≡◌, None, true, false, not, codes, eqb, is_some, length, drop, sym, ap, ◌∙◌, arith, rules, tests}
-use Rattle.std.specs.Str.{bytes_eq}
-use Rattle.std.proofs.lemmas.List.{length_push}
-use Rattle.std.proofs.lemmas.Iterator.Splits.{YieldsList-from_slice_split}
-use Rattle.std.proofs.lemmas.Iterator.Consumers.{YieldsList-at, YieldsList-turn, YieldsList-end}
-use Rattle.vt_spec.specs.PathText.{parts}
-use Rattle.vt_spec.specs.Language.Script.{each_of, child_number}
+use Rattle.std.proofs.Common.{◌≡◌, None, true, false, not, codes, eqb, is_some, length, drop, sym, ap, ◌∙◌, arith, rules, tests, bytes_eq}
+use Rattle.vt_spec.proofs.Common.{YieldsList-end, YieldsList-from_slice_split, YieldsList-turn, child_number, each_of, length_push, none_from_not_some, parts}
+use Rattle.std.proofs.lemmas.Iterator.Consumers.{YieldsList-at}
 use Rattle.vt_line.proofs.Splits.{YieldsList-parts, YieldsList-others, each_of-end, each_of-goes, each_of-none}
 use Rattle.vt_line.proofs.WordLemmas.{task_word-other, task_word-children}
 use Rattle.vt_line.proofs.words.is_task_of_parts.Goals as goal
-use Rattle.vt_spec.proofs.Options.{none_from_not_some}
 
 pub returns-then-ne : goal.returns-then-ne
 returns-then-ne c =

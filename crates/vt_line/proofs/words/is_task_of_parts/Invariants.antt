@@ -1,6 +1,5 @@
 use Rattle.std.proofs.Common.{◌≡◌, length, drop, is_some}
-use Rattle.vt_spec.specs.PathText.{parts}
-use Rattle.vt_spec.specs.Language.Script.{each_of, child_number}
+use Rattle.vt_spec.proofs.Common.{child_number, each_of, parts}
 use Rattle.vt_line.proofs.words.is_task_of_parts.Given as goal
 
 abbrev pub invariant-loop-part : goal.invariant-loop-part

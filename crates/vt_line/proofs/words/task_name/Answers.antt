@@ -1,5 +1,4 @@
-use Rattle.std.proofs.Common.{◌≡◌, codes, rules, true}
-use Rattle.std.specs.Str.{bytes_eq}
+use Rattle.std.proofs.Common.{◌≡◌, codes, rules, true, bytes_eq}
 use Rattle.vt_line.proofs.WordLemmas.{first_task}
 use Rattle.vt_line.proofs.words.task_name.Goals as goal
 

@@ -1,9 +1,6 @@
-use Rattle.std.proofs.Common.{◌≡◌, ◌+◌, ◌≤◌, [], ◌∷◌, ◌++◌, Some, None, true, false, eqb, is_some, length, drop, sym, ap, ◌∙◌, arith, rules, tests}
-use Rattle.std.proofs.lemmas.List.{append-nil, length_push}
-use Rattle.std.proofs.lemmas.Iterator.Splits.{YieldsList-from_slice_split}
-use Rattle.std.proofs.lemmas.Iterator.Consumers.{YieldsList-at, YieldsList-turn, YieldsList-end}
-use Rattle.vt_spec.specs.PathText.{parts}
-use Rattle.vt_spec.specs.Language.Script.{each_of, with_first, child_number, task_word}
+use Rattle.std.proofs.Common.{◌≡◌, ◌+◌, ◌≤◌, [], ◌∷◌, ◌++◌, Some, None, true, false, eqb, is_some, length, drop, sym, ap, ◌∙◌, arith, rules, tests, append-nil}
+use Rattle.vt_spec.proofs.Common.{YieldsList-end, YieldsList-from_slice_split, YieldsList-turn, child_number, each_of, length_push, parts, task_word, with_first}
+use Rattle.std.proofs.lemmas.Iterator.Consumers.{YieldsList-at}
 use Rattle.vt_line.proofs.Splits.{YieldsList-parts, YieldsList-skipped, each_of-end, each_of-more, each_of-none, long_enough, on_err}
 use Rattle.vt_line.proofs.TokenLemmas.{read_before, read_before-first}
 use Rattle.vt_line.proofs.WordLemmas.{task_word-some}

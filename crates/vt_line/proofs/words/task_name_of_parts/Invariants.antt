@@ -1,6 +1,5 @@
 use Rattle.std.proofs.Common.{◌≡◌, length, drop}
-use Rattle.vt_spec.specs.PathText.{parts}
-use Rattle.vt_spec.specs.Language.Script.{each_of, child_number}
+use Rattle.vt_spec.proofs.Common.{child_number, each_of, parts}
 use Rattle.vt_line.proofs.TokenLemmas.{read_before}
 use Rattle.vt_line.proofs.words.task_name_of_parts.Given as goal
 

@@ -1,5 +1,5 @@
 use Rattle.std.proofs.Common.{◌≡◌, ◌≢◌, ◌<◌, ◌==◌, ℕ, get_or, length, refl, ap, arith}
-use Rattle.std.proofs.lemmas.Bool.Decides.{nat_tests}
+use Rattle.vt_spec.proofs.Common.{nat_tests}
 use Rattle.vt_script.proofs.RunLemmas.{HasNoNewline-each, cut_at_newline}
 use Rattle.vt_lines.proofs.LineLemmas.{lines_of-cut, lines_of-one}
 use Rattle.vt_lines.proofs.lines.first_line.Goals as goal

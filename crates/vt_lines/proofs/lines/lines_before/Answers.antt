@@ -1,6 +1,5 @@
 use Rattle.std.proofs.Common.{◌≡◌, ◌<◌, ◌+◌, ◌++◌, ◌∷◌, ◌∙◌, [], ℕ, length, ap, append_assoc, arith, subst, sym}
-use Rattle.std.proofs.lemmas.Bool.Decides.{nat_tests}
-use Rattle.vt_spec.specs.Language.Script.{lines_of}
+use Rattle.vt_spec.proofs.Common.{lines_of, nat_tests}
 use Rattle.vt_script.specs.Progress.{whole_lines}
 use Rattle.vt_lines.proofs.LineLemmas.{count-next, split-next, whole-next}
 use Rattle.vt_lines.proofs.lines.lines_before.Goals as goal

@@ -1,5 +1,5 @@
 use Rattle.std.proofs.Common.{◌≡◌, ◌+◌, ◌++◌, ◌-◌, ℕ, length}
-use Rattle.vt_spec.specs.Language.Script.{lines_of}
+use Rattle.vt_spec.proofs.Common.{lines_of}
 use Rattle.vt_script.specs.Progress.{whole_lines}
 use Rattle.vt_lines.proofs.lines.lines_before.Given as goal
 

@@ -1,5 +1,5 @@
 use Rattle.std.proofs.Common.{Err, None, Ok, Result, Some, ap, arith, rules, sym, unwrap_or, ℕ, ◌∙◌, ◌+◌, ◌≡◌}
-use Rattle.std.proofs.lemmas.List.Sorted.{answers_always}
+use Rattle.vt_spec.proofs.Common.{answers_always}
 use Rattle.vt_mount.proofs.AttachedLemmas.{found_from}
 use Rattle.vt_listing.proofs.MountLines.{numbered_mount}
 use Rattle.vt_listing.proofs.mount_lines.mount_place.Goals as goal

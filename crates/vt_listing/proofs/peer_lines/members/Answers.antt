@@ -1,7 +1,5 @@
-use Rattle.std.proofs.Common.{ap, map, rules, ◌∙◌}
-use Rattle.std.specs.Prelude.{filter_map}
+use Rattle.std.proofs.Common.{ap, map, rules, ◌∙◌, filter_map, take_all}
 use Rattle.vt_location.specs.Numbers.{counted}
-use Rattle.std.proofs.lemmas.List.{take_all}
 use Rattle.vt_request.specs.Answers.{mount_place_of}
 use Rattle.vt_listing.specs.declared.peer_lines.Placed.{Placed}
 use Rattle.vt_listing.specs.GroupsListed.{member_place, placed_seen}

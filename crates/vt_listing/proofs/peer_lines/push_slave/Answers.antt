@@ -1,6 +1,5 @@
 use Rattle.std.proofs.Common.{ap, map, sym, ◌∙◌, ◌++◌, []}
-use Rattle.std.specs.List.{cons_option}
-use Rattle.std.proofs.lemmas.Result.{on_ok_weaker}
+use Rattle.vt_spec.proofs.Common.{cons_option, on_ok_weaker}
 use Rattle.vt_location.specs.declared.mounts.Propagation.{Propagation}
 use Rattle.vt_location.specs.MountValue.{propagation_of}
 use Rattle.vt_location.specs.Numbers.{counted}

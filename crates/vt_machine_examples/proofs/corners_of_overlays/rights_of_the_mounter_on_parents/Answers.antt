@@ -1,5 +1,5 @@
-use Rattle.std.specs.Prelude.{refl}
-use Rattle.vt_spec.specs.Machine.Run.{everything}
+use Rattle.std.proofs.Common.{refl}
+use Rattle.vt_spec.proofs.Common.{everything}
 use Rattle.vt_machine_examples.proofs.corners_of_overlays.rights_of_the_mounter_on_parents.Goals as goal
 
 pub returns : goal.returns

@@ -1,6 +1,5 @@
-use Rattle.std.specs.Prelude.{refl}
-use Rattle.vt_spec.specs.Language.Script.Version.{One, Two}
-use Rattle.vt_spec.specs.Machine.Run.{everything}
+use Rattle.std.proofs.Common.{refl}
+use Rattle.vt_spec.proofs.Common.{One, Two, everything}
 use Rattle.vt_machine_examples.proofs.credentials_links_descriptors.longest_path_and_name.Goals as goal
 
 pub returns : goal.returns

@@ -1,5 +1,5 @@
-use Rattle.std.specs.Prelude.{refl}
-use Rattle.vt_spec.specs.Machine.Run.{everything}
+use Rattle.std.proofs.Common.{refl}
+use Rattle.vt_spec.proofs.Common.{everything}
 use Rattle.vt_machine_examples.proofs.pivot_root.old_root_below_the_new_one.Goals as goal
 
 pub returns : goal.returns

@@ -1,6 +1,5 @@
-use Rattle.std.specs.Prelude.{refl}
-use Rattle.vt_spec.specs.Language.Script.Version.{One, Two}
-use Rattle.vt_spec.specs.Machine.Run.{everything}
+use Rattle.std.proofs.Common.{refl}
+use Rattle.vt_spec.proofs.Common.{One, Two, everything}
 use Rattle.vt_machine_examples.proofs.propagation.types_of_a_whole_tree.Goals as goal
 
 pub returns : goal.returns

@@ -1,5 +1,5 @@
-use Rattle.std.specs.Prelude.{refl}
-use Rattle.vt_spec.specs.Machine.Turns.{everything_in_turns}
+use Rattle.std.proofs.Common.{refl}
+use Rattle.vt_spec.proofs.Common.{everything_in_turns}
 use Rattle.vt_machine_examples.proofs.turns.directive_in_turns.Goals as goal
 
 pub returns : goal.returns

@@ -1,5 +1,4 @@
-use Rattle.std.proofs.Common.{[], ap, cond, nat_lt, not, rules, subst, sym, ◌∙◌, ◌+◌, ◌++◌, ◌≡◌, ◌∷◌}
-use Rattle.std.specs.Prelude.{insert, vec_len}
+use Rattle.std.proofs.Common.{[], ap, cond, nat_lt, not, rules, subst, sym, ◌∙◌, ◌+◌, ◌++◌, ◌≡◌, ◌∷◌, insert, vec_len}
 use Rattle.std.proofs.lemmas.List.Sorted.{IsPartitionPoint-from_clause}
 use Rattle.vt_location.specs.declared.numbers.MountId.{MountId}
 use Rattle.vt_mount.specs.Rising.{inserted}

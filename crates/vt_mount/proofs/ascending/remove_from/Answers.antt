@@ -1,5 +1,4 @@
-use Rattle.std.proofs.Common.{ap, arith, get_or, nat_lt, refl, rules, subst, sym, true, ◌∙◌, ◌≡◌}
-use Rattle.std.specs.Prelude.{vec_len}
+use Rattle.std.proofs.Common.{ap, arith, get_or, nat_lt, refl, rules, subst, sym, true, ◌∙◌, ◌≡◌, vec_len}
 use Rattle.std.proofs.lemmas.List.{get_or_read_under}
 use Rattle.std.proofs.lemmas.List.Sorted.{IsPartitionPoint-from_clause}
 use Rattle.vt_location.specs.declared.numbers.MountId.{MountId}

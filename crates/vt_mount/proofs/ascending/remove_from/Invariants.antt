@@ -1,5 +1,4 @@
-use Rattle.std.proofs.Common.{true, ◌≡◌, ◌≤◌}
-use Rattle.std.specs.Prelude.{vec_capacity, vec_len}
+use Rattle.std.proofs.Common.{true, ◌≡◌, ◌≤◌, vec_capacity, vec_len}
 use Rattle.vt_mount.specs.Rising.{rises}
 use Rattle.vt_mount.proofs.RisingLemmas.{others, parted}
 use Rattle.vt_mount.proofs.ascending.remove_from.Given as goal

@@ -1,5 +1,5 @@
 use Rattle.std.proofs.Common.{Some, cond, ◌≡◌, ap, subst, sym, ◌++◌, ◌∙◌, ◌∷◌, []}
-use Rattle.std.specs.Map.{lookup}
+use Rattle.vt_spec.proofs.Common.{lookup}
 use Rattle.vt_location.specs.MountValue.{mount_of}
 use Rattle.vt_location.specs.declared.numbers.MountId.{MountId}
 use Rattle.vt_mount.specs.Indexed.{IsIndexed}

@@ -1,6 +1,5 @@
-use Rattle.std.proofs.Common.{List, [], ap, subst, sym, ◌++◌, ◌∙◌, ◌∷◌}
-use Rattle.std.proofs.lemmas.List.{append_assoc, nil_from_length}
-use Rattle.std.specs.Prelude.{option_to_list}
+use Rattle.std.proofs.Common.{List, [], ap, subst, sym, ◌++◌, ◌∙◌, ◌∷◌, append_assoc, option_to_list}
+use Rattle.vt_spec.proofs.Common.{nil_from_length}
 use Rattle.vt_location.specs.declared.mounts.Mount.{Mount}
 use Rattle.vt_mount.specs.Reserved.{Reserves, mount_points_of, namespaces_of}
 use Rattle.vt_mount.proofs.MoveLemmas.{indexed-same}

@@ -1,5 +1,5 @@
-use Rattle.std.proofs.Common.{List, [], ap, arith, length, map, subst, sym, ◌++◌, ◌∙◌, ◌∷◌}
-use Rattle.std.proofs.lemmas.List.{append-nil, append_assoc, length-append, nil_from_length}
+use Rattle.std.proofs.Common.{List, [], ap, arith, length, map, subst, sym, ◌++◌, ◌∙◌, ◌∷◌, append-nil, append_assoc, length-append}
+use Rattle.vt_spec.proofs.Common.{nil_from_length}
 use Rattle.vt_mount.specs.declared.moving.NewPoint.{NewPoint}
 use Rattle.vt_mount.specs.Reserved.{Reserves, moved_places}
 use Rattle.vt_mount.specs.Moving.{all_moves, move_of, moved_to, moves_by, with_points}

@@ -1,6 +1,5 @@
-use Rattle.std.proofs.Common.{List, length, map, true, ◌+◌, ◌++◌, ◌≡◌, ◌≤◌}
-use Rattle.std.specs.List.{list_all}
-use Rattle.std.specs.Prelude.{vec_capacity, vec_len}
+use Rattle.std.proofs.Common.{List, length, map, true, ◌+◌, ◌++◌, ◌≡◌, ◌≤◌, vec_capacity, vec_len}
+use Rattle.vt_spec.proofs.Common.{list_all}
 use Rattle.indexmap.specs.IndexMap.{spare}
 use Rattle.vt_location.specs.declared.locations.Location.{Location}
 use Rattle.vt_location.specs.declared.numbers.NamespaceId.{NamespaceId}

@@ -1,5 +1,5 @@
 use Rattle.std.proofs.Common.{Some, ap, cond, refl, subst, sym, ◌++◌, ◌∙◌, ◌∷◌, []}
-use Rattle.std.specs.Option.{option_copied_mut}
+use Rattle.vt_spec.proofs.Common.{option_copied_mut}
 use Rattle.indexmap.specs.IndexMap.{spare}
 use Rattle.vt_mount.specs.declared.moving.Moved.{Moved}
 use Rattle.vt_mount.specs.Indexed.{IsIndexed}

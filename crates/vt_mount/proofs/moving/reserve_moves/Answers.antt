@@ -1,5 +1,5 @@
-use Rattle.std.proofs.Common.{ap, subst, sym, take, ◌++◌, ◌∙◌}
-use Rattle.std.proofs.lemmas.List.{take_all, take_more}
+use Rattle.std.proofs.Common.{ap, subst, sym, take, ◌++◌, ◌∙◌, take_all}
+use Rattle.vt_spec.proofs.Common.{take_more}
 use Rattle.vt_mount.specs.Reserved.{Reserves, moved_places}
 use Rattle.vt_mount.proofs.ReservedLemmas.{moved_places-last}
 use Rattle.vt_mount.proofs.MoveLemmas.{indexed-same}

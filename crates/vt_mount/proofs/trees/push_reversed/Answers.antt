@@ -1,9 +1,7 @@
 use Rattle.std.proofs.Common.{rules}
-use Rattle.std.proofs.lemmas.Iterator.{YieldsList-from_map}
-use Rattle.std.proofs.lemmas.Iterator.Adapters.{YieldsList-from_rev_slice, items_from_extend}
+use Rattle.vt_spec.proofs.Common.{OnOk_then, YieldsList-from_map, YieldsList-from_rev_slice, items_from_extend}
 use Rattle.vt_location.specs.declared.numbers.MountId.{MountId}
 use Rattle.vt_mount.proofs.trees.push_reversed.Goals as goal
-use Rattle.vt_spec.proofs.Options.{OnOk_then}
 
 pub returns : goal.returns
 returns c = OnOk_then c.extend.result (λ went. went.0) (items_from_extend c.extend.result c.extend.ensures.ran

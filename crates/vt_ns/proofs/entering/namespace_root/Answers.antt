@@ -1,9 +1,6 @@
 use Rattle.std.proofs.Common.{Some, ap, not, option_map, nat_eq, sym, ◌∙◌}
-use Rattle.std.proofs.lemmas.Option.{same_Some}
-use Rattle.vt_location.specs.Numbers.{counted}
-use Rattle.vt_location.specs.MountValue.{mount_of}
-use Rattle.vt_mount.specs.MountsValue.{mounts_in}
-use Rattle.vt_spec.specs.Machine.Mounts.{root_of, topmost}
+use Rattle.vt_spec.proofs.Common.{root_of, same_Some, topmost}
+use Rattle.vt_ns.proofs.Common.{counted, mount_of, mounts_in}
 use Rattle.vt_ns.proofs.entering.RootMounts.{listed_got, no_root_yet, none_is_some, root_found}
 use Rattle.vt_ns.proofs.entering.namespace_root.Goals as goal
 use Rattle.vt_ns.proofs.entering.namespace_root.Goals.{in-Some+else-is_none, in_default}

@@ -1,7 +1,6 @@
 use Rattle.std.proofs.Common.{◌≡◌, None, filter, find, is_some, nat_eq, not, take}
-use Rattle.vt_location.specs.Numbers.{counted}
-use Rattle.vt_mount.specs.MountsValue.{mounts_in}
-use Rattle.vt_spec.specs.Lists.{holds_of}
+use Rattle.vt_spec.proofs.Common.{holds_of}
+use Rattle.vt_ns.proofs.Common.{counted, mounts_in}
 use Rattle.vt_ns.proofs.entering.namespace_root.Given as goal
 
 -- those before the next have mount points

@@ -1,15 +1,10 @@
 use Rattle.std.proofs.Common.{Bool, List, [], ap, arith, fold, get_or, length, refl, suc, sym, take, true, ℕ, ◌&&◌, ◌++◌, ◌+◌, ◌<◌, ◌≡◌, ◌∙◌, ◌∷◌}
-use Rattle.std.specs.List.{list_all}
+use Rattle.vt_spec.proofs.Common.{list_all, list_all-append, opens_for_writing}
 use Rattle.std.proofs.Math.Seq.{take-suc}
-use Rattle.std.proofs.lemmas.List.Folds.{list_all-append}
 use Rattle.std.proofs.lemmas.List.Sums.{fold-append}
-use Rattle.vt_request.specs.Requests.{access_of}
-use Rattle.vt_spec.specs.Language.Calls.{opens_for_writing}
+use Rattle.vt_ns.proofs.Common.{Kept, access_of, kept, left_itself, left_twice, without_file, without_location}
 use Rattle.vt_tasks.specs.declared.descriptors.OpenFile.{OpenFile}
-use Rattle.vt_mounting.specs.Detach.NamespacesLeft.{is_small_file, without_file}
-use Rattle.vt_mounting.specs.Detach.Stored.{kept}
-use Rattle.vt_mounting.specs.Detach.Uses.{Kept, without_location}
-use Rattle.vt_mounting.proofs.detach.OverlaysListed.{left_itself, left_twice}
+use Rattle.vt_mounting.specs.Detach.NamespacesLeft.{is_small_file}
 use Rattle.vt_ns.proofs.exits.leave_files.Goals as goal
 
 -- the next file, behind those before it

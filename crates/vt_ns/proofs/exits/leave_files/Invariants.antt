@@ -1,8 +1,7 @@
-use Rattle.std.proofs.Common.{◌≡◌, true, take}
-use Rattle.std.specs.Prelude.{fold}
-use Rattle.std.specs.List.{list_all}
-use Rattle.vt_mounting.specs.Detach.NamespacesLeft.{is_small_file, without_file}
-use Rattle.vt_mounting.specs.Detach.Stored.{OverlaysLeft, kept}
+use Rattle.std.proofs.Common.{◌≡◌, true, take, fold}
+use Rattle.vt_spec.proofs.Common.{list_all}
+use Rattle.vt_ns.proofs.Common.{OverlaysLeft, kept, without_file}
+use Rattle.vt_mounting.specs.Detach.NamespacesLeft.{is_small_file}
 use Rattle.vt_ns.proofs.exits.leave_files.Given as goal
 
 -- those before the next are left

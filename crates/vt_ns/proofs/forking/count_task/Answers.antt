@@ -1,6 +1,6 @@
 use Rattle.std.proofs.Common.{ap, arith, refl, subst, sym, ◌∙◌, ◌<◌, IfSome}
-use Rattle.std.specs.Option.{option_copied_mut}
-use Rattle.vt_world.specs.WorldValue.{NamespaceEntry, entries_of}
+use Rattle.vt_spec.proofs.Common.{option_copied_mut}
+use Rattle.vt_ns.proofs.Common.{NamespaceEntry, entries_of}
 use Rattle.vt_ns.proofs.CountingLemmas.{nothing_counted, task_counted}
 use Rattle.vt_mounting.proofs.detach.NamespaceEntries.{entry_found}
 use Rattle.vt_ns.proofs.forking.count_task.Goals as goal

@@ -1,8 +1,6 @@
-use Rattle.std.proofs.Common.{None, Some, ap, arith, refl, subst, sym, ◌∙◌, ◌<◌, IfSome}
-use Rattle.std.specs.Prelude.{option_copied}
-use Rattle.std.proofs.lemmas.Bool.{ltb-true}
-use Rattle.std.proofs.lemmas.Bool.Decides.{nat_tests}
-use Rattle.vt_world.specs.WorldValue.{NamespaceEntry}
+use Rattle.std.proofs.Common.{None, Some, ap, arith, refl, subst, sym, ◌∙◌, ◌<◌, IfSome, option_copied, ltb-true}
+use Rattle.vt_spec.proofs.Common.{nat_tests}
+use Rattle.vt_ns.proofs.Common.{NamespaceEntry}
 use Rattle.vt_mounting.proofs.detach.NamespaceEntries.{entry_found}
 use Rattle.vt_ns.proofs.forking.has_room_for_task.Goals as goal
 

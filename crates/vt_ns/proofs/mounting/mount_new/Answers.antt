@@ -1,7 +1,7 @@
 use Rattle.std.proofs.Common.{ap, ◌∙◌, ◌++◌, ◌∷◌, []}
 use Rattle.vt_fs.specs.FilesystemsValue.{without}
 use Rattle.vt_mounting.proofs.attach.NewFilesystems.{removed_again}
-use Rattle.vt_store.specs.StoreValue.{StoreValue}
+use Rattle.vt_ns.proofs.Common.{StoreValue}
 use Rattle.vt_ns.proofs.mounting.mount_new.Goals as goal
 
 pub returns-in-Err-clause-err_store : goal.returns-in-Err-clause-err_store

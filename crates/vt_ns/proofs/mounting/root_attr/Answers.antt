@@ -1,5 +1,4 @@
-use Rattle.std.proofs.Common.{subst, ◌≡◌}
-use Rattle.std.specs.Prelude.{IfSome}
+use Rattle.std.proofs.Common.{subst, ◌≡◌, IfSome}
 use Rattle.vt_ns.proofs.mounting.root_attr.Goals as goal
 
 pub returns : goal.returns

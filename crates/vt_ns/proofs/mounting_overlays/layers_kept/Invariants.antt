@@ -1,6 +1,5 @@
 use Rattle.std.proofs.Common.{◌≡◌, map, take}
-use Rattle.vt_mounting.specs.Detach.Events.{layer_kept}
-use Rattle.vt_permits.specs.GrantValue.{layer_of}
+use Rattle.vt_ns.proofs.Common.{layer_kept, layer_of}
 use Rattle.vt_ns.proofs.mounting_overlays.layers_kept.Given as goal
 
 abbrev pub invariant-loop-lower : goal.invariant-loop-lower

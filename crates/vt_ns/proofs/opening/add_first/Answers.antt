@@ -1,4 +1,4 @@
-use Rattle.vt_spec.proofs.Options.{OnOk_then}
+use Rattle.vt_spec.proofs.Common.{OnOk_then}
 use Rattle.vt_mounting.proofs.attach.OpeningLemmas.{first_made}
 use Rattle.vt_ns.proofs.opening.add_first.Goals as goal
 

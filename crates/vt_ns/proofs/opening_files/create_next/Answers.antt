@@ -1,8 +1,7 @@
 use Rattle.std.proofs.Common.{nat_eq, subst}
-use Rattle.vt_fs.specs.FilesystemsValue.{ChangesInodes, node_seen}
-use Rattle.vt_location.specs.Locations.{number_of}
+use Rattle.vt_spec.proofs.Common.{Make}
+use Rattle.vt_ns.proofs.Common.{ChangesInodes, node_seen, number_of}
 use Rattle.vt_spec.specs.Inodes.{changed}
-use Rattle.vt_spec.specs.Language.Changes.Change.{Make}
 use Rattle.vt_ns.proofs.opening_files.create_next.Goals as goal
 
 pub returns-clause-ok : goal.returns-clause-ok

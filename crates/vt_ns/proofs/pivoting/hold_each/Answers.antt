@@ -1,7 +1,5 @@
 use Rattle.std.proofs.Common.{add-one, ap, arith, false, subst, sym, ◌+◌, ◌-◌, ◌≡◌, ◌∙◌, ℕ}
-use Rattle.vt_mounting.specs.Detach.Forking.{HasRoom}
-use Rattle.vt_mounting.specs.Detach.Stored.{kept}
-use Rattle.vt_mounting.specs.Detach.Uses.{with_location}
+use Rattle.vt_ns.proofs.Common.{HasRoom, kept, with_location}
 use Rattle.vt_ns.specs.Pivoting.{with_uses}
 use Rattle.vt_ns.proofs.CountingLemmas.{room_less, room_still}
 use Rattle.vt_ns.proofs.pivoting.hold_each.Goals as goal

@@ -1,6 +1,5 @@
 use Rattle.std.proofs.Common.{◌-◌, ◌≡◌}
-use Rattle.vt_mounting.specs.Detach.Forking.{HasRoom}
-use Rattle.vt_mounting.specs.Detach.Stored.{kept}
+use Rattle.vt_ns.proofs.Common.{HasRoom, kept}
 use Rattle.vt_ns.specs.Pivoting.{with_uses}
 use Rattle.vt_ns.proofs.pivoting.hold_each.Given as goal
 

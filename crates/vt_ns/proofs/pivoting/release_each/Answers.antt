@@ -1,11 +1,7 @@
 use Rattle.std.proofs.Common.{add-one, ap, arith, false, map, sym, ◌≡◌, ◌∙◌}
-use Rattle.vt_location.specs.Locations.{number_of}
-use Rattle.vt_location.specs.Numbers.{counted}
-use Rattle.vt_fs.specs.FilesystemsValue.{shown}
-use Rattle.vt_mounting.specs.Detach.Stored.{kept, merged_of}
-use Rattle.vt_mounting.specs.Detach.Uses.{inode_of, released_use, unpinned_in}
+use Rattle.vt_ns.proofs.Common.{counted, inode_of, kept, merged_of, number_of, shown, unpinned_in, unpins}
+use Rattle.vt_mounting.specs.Detach.Uses.{released_use}
 use Rattle.vt_ns.specs.Pivoting.{without_uses}
-use Rattle.vt_mounting.proofs.detach.Shown.{unpins}
 use Rattle.vt_ns.proofs.pivoting.release_each.Goals as goal
 
 pub loop-preserved : goal.loop-preserved

@@ -1,5 +1,5 @@
 use Rattle.std.proofs.Common.{◌≡◌}
-use Rattle.vt_mounting.specs.Detach.Stored.{kept}
+use Rattle.vt_ns.proofs.Common.{kept}
 use Rattle.vt_ns.specs.Pivoting.{without_uses}
 use Rattle.vt_ns.proofs.pivoting.release_each.Given as goal
 

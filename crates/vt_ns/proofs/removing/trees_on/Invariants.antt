@@ -1,7 +1,5 @@
 use Rattle.std.proofs.Common.{◌≡◌, ◌++◌, map, drop, flat_map}
-use Rattle.vt_location.specs.Numbers.{counted}
-use Rattle.vt_mount.specs.MountsValue.{mounts_in}
-use Rattle.vt_mounting.specs.Detach.Detached.{tree_numbers}
+use Rattle.vt_ns.proofs.Common.{counted, mounts_in, tree_numbers}
 use Rattle.vt_ns.proofs.removing.trees_on.Given as goal
 
 -- what is collected, and then the trees of the other mounts, are all trees

@@ -1,10 +1,7 @@
-use Rattle.std.proofs.Common.{length, map, refl, subst, sym}
-use Rattle.std.proofs.lemmas.List.{length-map}
-use Rattle.std.specs.Prelude.{IfOk}
-use Rattle.vt_location.specs.Numbers.{counted}
+use Rattle.std.proofs.Common.{length, map, refl, subst, sym, IfOk}
+use Rattle.vt_spec.proofs.Common.{Private, ToPrivate, ToUnbindable, Unbindable, length-map}
+use Rattle.vt_ns.proofs.Common.{counted}
 use Rattle.vt_request.specs.Requests.{type_word_of}
-use Rattle.vt_spec.specs.Language.Calls.TypeWord.{ToPrivate, ToUnbindable}
-use Rattle.vt_spec.specs.Machine.Mounts.Propagation.{Private, Unbindable}
 use Rattle.vt_ns.specs.Retyped.{IsRetyped}
 use Rattle.vt_ns.proofs.RetypedMounts.{set_retyped, shared_if_ok, slaves_retyped}
 use Rattle.vt_ns.proofs.retyping.change_types.Goals as goal

@@ -1,6 +1,6 @@
 use Rattle.std.proofs.Common.{◌≡◌, ◌++◌, ◌+◌, drop, map}
 use Rattle.vt_group.specs.Together.{pair_of}
-use Rattle.vt_location.specs.Numbers.{counted}
+use Rattle.vt_ns.proofs.Common.{counted}
 use Rattle.vt_ns.specs.Retyped.{with_counts}
 use Rattle.vt_ns.proofs.retyping.new_groups.Given as goal
 

@@ -1,8 +1,6 @@
-use Rattle.std.proofs.Common.{ap, map, ◌∙◌}
-use Rattle.std.proofs.lemmas.List.{take_all}
+use Rattle.std.proofs.Common.{ap, map, ◌∙◌, take_all}
 use Rattle.vt_location.specs.MountValue.{propagation_of}
-use Rattle.vt_location.specs.Numbers.{counted}
-use Rattle.vt_retype.specs.Retyping.{retyped}
+use Rattle.vt_ns.proofs.Common.{counted, retyped}
 use Rattle.vt_ns.specs.Retyped.{set_if}
 use Rattle.vt_ns.proofs.RetypedMounts.{none_set, set_next}
 use Rattle.vt_ns.proofs.retyping.set_all.Goals as goal

@@ -1,7 +1,6 @@
 use Rattle.std.proofs.Common.{◌≡◌, map, take}
 use Rattle.vt_location.specs.MountValue.{propagation_of}
-use Rattle.vt_location.specs.Numbers.{counted}
-use Rattle.vt_retype.specs.Retyping.{retyped}
+use Rattle.vt_ns.proofs.Common.{counted, retyped}
 use Rattle.vt_ns.specs.Retyped.{set_if}
 use Rattle.vt_ns.proofs.retyping.set_all.Given as goal
 

@@ -1,10 +1,10 @@
 use Rattle.std.proofs.Common.{ap, map, sym, ℕ, ◌∙◌}
+use Rattle.vt_spec.proofs.Common.{map_twice}
 use Rattle.vt_group.specs.Together.{pair_of}
-use Rattle.vt_location.specs.Numbers.{counted}
+use Rattle.vt_ns.proofs.Common.{counted}
 use Rattle.vt_retype.specs.Retyping.{shared_by}
 use Rattle.vt_ns.proofs.RetypedMounts.{each_numbered}
 use Rattle.vt_ns.proofs.retyping.share_all.Goals as goal
-use Rattle.vt_spec.proofs.Lists.{map_twice}
 
 pub returns-clause-types_ok : goal.returns-clause-types_ok
 returns-clause-types_ok c = c.in_ok-share.ensures.types_ok

@@ -1,6 +1,5 @@
 use Rattle.std.proofs.Common.{drop, map, ◌≡◌}
-use Rattle.vt_location.specs.Numbers.{counted}
-use Rattle.vt_mount.specs.MountsValue.{mounts_in}
+use Rattle.vt_ns.proofs.Common.{counted, mounts_in}
 use Rattle.vt_ns.specs.Unmounting.{are_ungrouped}
 use Rattle.vt_ns.proofs.unmounting.are_in_no_group.Given as goal
 

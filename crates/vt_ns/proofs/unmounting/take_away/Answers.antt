@@ -1,14 +1,7 @@
-use Rattle.std.proofs.Common.{ap, map, subst, true, ◌∙◌, ◌≡◌, List, []}
-use Rattle.std.specs.List.{list_all}
-use Rattle.std.proofs.lemmas.List.{append-nil}
+use Rattle.std.proofs.Common.{ap, map, subst, true, ◌∙◌, ◌≡◌, List, [], append-nil}
+use Rattle.vt_spec.proofs.Common.{list_all}
 use Rattle.vt_location.specs.declared.locations.Location.{Location}
-use Rattle.vt_location.specs.Locations.{location_of}
-use Rattle.vt_location.specs.Numbers.{counted}
-use Rattle.vt_mount.specs.MountsValue.{are_ascending, mounts_in}
-use Rattle.vt_mounting.specs.Attach.Planned.{Point, is_small, points_left, points_taken, with_planned}
-use Rattle.vt_mounting.specs.Detach.Detached.{LeaveTogether}
-use Rattle.vt_mounting.specs.Detach.Stored.{kept, merged_of}
-use Rattle.vt_mounting.proofs.detach.OverlaysListed.{left_still, left_twice}
+use Rattle.vt_ns.proofs.Common.{LeaveTogether, Point, are_ascending, counted, is_small, kept, left_still, left_twice, location_of, merged_of, mounts_in, points_left, points_taken, with_planned}
 use Rattle.vt_ns.proofs.unmounting.take_away.Goals as goal
 
 pub attach_planned-requires : goal.attach_planned-requires

@@ -1,5 +1,5 @@
 use Rattle.std.proofs.Common.{rules, ◌≡◌, ◌∙◌, ◌++◌, ◌+◌, ◌∷◌, [], Global, List, Some, Vec, ap, append_assoc, drop, map, sym, slice_get, ℕ}
-use Rattle.std.proofs.lemmas.List.{map-append}
+use Rattle.vt_spec.proofs.Common.{map-append}
 use Rattle.vt_overlay.proofs.merge.NamesTaken.{drop_named}
 use Rattle.vt_overlay.proofs.paths.names_from.Goals as goal
 

@@ -1,9 +1,5 @@
 use Rattle.std.proofs.Common.{ap, nat_eq, sym, ◌∙◌}
-use Rattle.vt_spec.specs.Machine.Judge.{attr_permit, chmod_permit}
-use Rattle.vt_spec.specs.Machine.Attributes.{attr_with_mode}
-use Rattle.vt_spec.specs.Machine.Rules.Attributes.{attr_at}
-use Rattle.vt_spec.specs.Machine.Walking.{object_walk, walk_end}
-use Rattle.vt_spec.specs.Rights.{owns}
+use Rattle.vt_spec.proofs.Common.{attr_at, attr_permit, attr_with_mode, chmod_permit, object_walk, owns, walk_end}
 use Rattle.vt_location.specs.Locations.{location_of}
 use Rattle.vt_tasks.specs.TaskValue.{task_of}
 use Rattle.vt_rules.proofs.Judged.{answers_alike}

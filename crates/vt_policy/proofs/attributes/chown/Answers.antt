@@ -1,9 +1,6 @@
 use Rattle.std.proofs.Common.{◌≡◌, ap, nat_eq, sym, ◌∙◌}
+use Rattle.vt_spec.proofs.Common.{attr_at, attr_permit, attr_with_owner, chown_permit, may_chown, object_walk, walk_end}
 use Rattle.vt_spec.specs.declared.attributes.Attr.{Attr}
-use Rattle.vt_spec.specs.Machine.Judge.{attr_permit, chown_permit}
-use Rattle.vt_spec.specs.Machine.Attributes.{attr_with_owner, may_chown}
-use Rattle.vt_spec.specs.Machine.Rules.Attributes.{attr_at}
-use Rattle.vt_spec.specs.Machine.Walking.{object_walk, walk_end}
 use Rattle.vt_location.specs.Locations.{location_of}
 use Rattle.vt_tasks.specs.TaskValue.{task_of}
 use Rattle.vt_rules.proofs.Judged.{answers_alike}

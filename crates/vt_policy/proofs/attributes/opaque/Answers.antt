@@ -1,19 +1,12 @@
 use Rattle.std.proofs.Common.{[], Ok, nat_eq, sym, ◌∙◌}
-use Rattle.std.proofs.lemmas.Result.{err_from_is_err_and}
+use Rattle.vt_spec.proofs.Common.{SetMark, ToChange, directory_walk, err_from_is_err_and, opaque_permit, opaque_rules, unless, unless-let_through, walk_end}
 use Rattle.vt_spec.specs.declared.errors.Rule.TheVariants.{K1}
-use Rattle.vt_spec.specs.Errors.{unless}
-use Rattle.vt_spec.specs.Language.Changes.Change.{SetMark}
-use Rattle.vt_spec.specs.Machine.Judge.{opaque_permit}
-use Rattle.vt_spec.specs.Machine.Permits.Permit.{ToChange}
-use Rattle.vt_spec.specs.Machine.Rules.Attributes.{opaque_rules}
-use Rattle.vt_spec.specs.Machine.Walking.{directory_walk, walk_end}
 use Rattle.vt_location.specs.Locations.{location_of}
 use Rattle.vt_tasks.specs.TaskValue.{task_of}
 use Rattle.vt_policy.proofs.MountLemmas.{reached}
 use Rattle.vt_rules.proofs.Refusals.{unless-stopped}
 use Rattle.vt_rules.proofs.Rows.{skipped}
 use Rattle.vt_policy.proofs.attributes.opaque.Goals as goal
-use Rattle.vt_spec.proofs.Refusals.{unless-let_through}
 
 pub returns-in_err-may_mark : goal.returns-in_err-may_mark
 unfolding opaque_permit

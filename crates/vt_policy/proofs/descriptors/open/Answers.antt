@@ -1,9 +1,6 @@
 use Rattle.std.proofs.Common.{[], length, nat_eq, nat_le, ◌∙◌, rules}
+use Rattle.vt_spec.proofs.Common.{NoCreation, most_descriptors, object_walk, open_file_permit, open_permit, walk_end}
 use Rattle.vt_spec.specs.declared.errors.Rule.TheVariants.{S3}
-use Rattle.vt_spec.specs.Language.Calls.Creation.{NoCreation}
-use Rattle.vt_spec.specs.Language.Limits.{most_descriptors}
-use Rattle.vt_spec.specs.Machine.Judge.{open_file_permit, open_permit}
-use Rattle.vt_spec.specs.Machine.Walking.{object_walk, walk_end}
 use Rattle.vt_location.specs.Locations.{location_of}
 use Rattle.vt_request.specs.Requests.{access_of}
 use Rattle.vt_tasks.specs.TaskValue.{task_of}

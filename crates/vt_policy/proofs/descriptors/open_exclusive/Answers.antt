@@ -1,8 +1,6 @@
 use Rattle.std.proofs.Common.{[], ap, is_some, nat_eq, sym, ◌∙◌}
+use Rattle.vt_spec.proofs.Common.{Exclusive, create_file_permit, is_special, new_walk, open_by_permit, walk_end}
 use Rattle.vt_spec.specs.declared.errors.Rule.TheVariants.{E1, E2}
-use Rattle.vt_spec.specs.Language.Calls.Creation.{Exclusive}
-use Rattle.vt_spec.specs.Machine.Judge.{create_file_permit, open_by_permit}
-use Rattle.vt_spec.specs.Machine.Walking.{is_special, new_walk, walk_end}
 use Rattle.vt_request.specs.Requests.{access_of}
 use Rattle.vt_tasks.specs.TaskValue.{task_of}
 use Rattle.vt_rules.proofs.Judged.{answers}

@@ -1,9 +1,6 @@
-use Rattle.std.proofs.Common.{[], ap, nat_eq, option_map, sym, ◌∙◌}
-use Rattle.std.specs.Prelude.{◌||◌}
+use Rattle.std.proofs.Common.{[], ap, nat_eq, option_map, sym, ◌∙◌, ◌||◌}
+use Rattle.vt_spec.proofs.Common.{OrCreate, create_file_permit, file_walk, is_special, open_by_permit, opened_or_created_permit, or_from, walk_end}
 use Rattle.vt_spec.specs.declared.errors.Rule.TheVariants.{E2}
-use Rattle.vt_spec.specs.Language.Calls.Creation.{OrCreate}
-use Rattle.vt_spec.specs.Machine.Judge.{create_file_permit, open_by_permit, opened_or_created_permit}
-use Rattle.vt_spec.specs.Machine.Walking.{file_walk, is_special, walk_end}
 use Rattle.vt_location.specs.Locations.{location_of}
 use Rattle.vt_request.specs.Requests.{access_of}
 use Rattle.vt_tasks.specs.TaskValue.{task_of}
@@ -11,7 +8,6 @@ use Rattle.vt_rules.proofs.Judged.{answers}
 use Rattle.vt_policy.proofs.PlaceLemmas.{went}
 use Rattle.vt_rules.proofs.Rows.{skipped}
 use Rattle.vt_policy.proofs.descriptors.open_or_create.Goals as goal
-use Rattle.std.proofs.lemmas.Bool.{or_from}
 
 pub returns-in-None : goal.returns-in-None
 returns-in-None g c =

@@ -1,10 +1,7 @@
 use Rattle.std.proofs.Common.{Err, Ok, Some, ap, false, not, option_copied, rules, sym, [], ◌∙◌, ◌∷◌, ◌≡◌}
+use Rattle.vt_spec.proofs.Common.{allows, is_kind, kind_of, unless}
 use Rattle.vt_spec.specs.declared.attributes.Kind.TheVariants.{White}
 use Rattle.vt_spec.specs.declared.errors.Rule.TheVariants.{B1}
-use Rattle.vt_spec.specs.Errors.{unless}
-use Rattle.vt_spec.specs.FileTree.{is_kind}
-use Rattle.vt_spec.specs.Rights.{allows}
-use Rattle.vt_spec.specs.Tree.{kind_of}
 use Rattle.vt_location.specs.Locations.{location_of}
 use Rattle.vt_looks.specs.Looking.{front}
 use Rattle.vt_tasks.specs.TaskValue.{task_of}

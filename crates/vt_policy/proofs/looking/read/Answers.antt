@@ -1,10 +1,5 @@
 use Rattle.std.proofs.Common.{Ok, nat_eq, ◌∙◌}
-use Rattle.std.proofs.lemmas.Result.{err_from_is_err_and}
-use Rattle.vt_spec.specs.Errors.{unless}
-use Rattle.vt_spec.specs.Machine.Judge.{read_permit}
-use Rattle.vt_spec.specs.Machine.Permits.Permit.{ToRead}
-use Rattle.vt_spec.specs.Machine.Rules.Looking.{read_rules}
-use Rattle.vt_spec.specs.Machine.Walking.{object_walk, walk_end}
+use Rattle.vt_spec.proofs.Common.{ToRead, err_from_is_err_and, object_walk, read_permit, read_rules, unless, walk_end}
 use Rattle.vt_location.specs.Locations.{location_of}
 use Rattle.vt_tasks.specs.TaskValue.{task_of}
 use Rattle.vt_policy.proofs.MountLemmas.{reached}

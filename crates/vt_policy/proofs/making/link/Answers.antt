@@ -1,18 +1,11 @@
 use Rattle.std.proofs.Common.{Ok, ap, nat_eq, sym, ◌∙◌}
-use Rattle.std.proofs.lemmas.Result.{err_from_is_err_and}
-use Rattle.vt_spec.specs.Language.Changes.Change.{AddName}
-use Rattle.vt_spec.specs.Machine.Judge.{hard_link_permit}
-use Rattle.vt_spec.specs.Machine.Rows.{linking}
-use Rattle.vt_spec.specs.Machine.Permits.Permit.{ToChange}
-use Rattle.vt_spec.specs.Machine.Rules.Making.{hard_link_rules}
-use Rattle.vt_spec.specs.Machine.Walking.{is_special, name_of}
+use Rattle.vt_spec.proofs.Common.{AddName, ToChange, err_from_is_err_and, hard_link_permit, hard_link_rules, is_special, linking, name_of, unless-let_through}
 use Rattle.vt_location.specs.Locations.{location_of}
 use Rattle.vt_tasks.specs.TaskValue.{task_of}
 use Rattle.vt_rules.proofs.Judged.{refused, without_memory}
 use Rattle.vt_rules.proofs.Refusals.{unless-stopped}
 use Rattle.vt_policy.proofs.PlaceLemmas.{link_asked}
 use Rattle.vt_policy.proofs.making.link.Goals as goal
-use Rattle.vt_spec.proofs.Refusals.{unless-let_through}
 
 pub returns-in_err-may_link : goal.returns-in_err-may_link
 returns-in_err-may_link g c =

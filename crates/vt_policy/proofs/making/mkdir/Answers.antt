@@ -1,17 +1,10 @@
 use Rattle.std.proofs.Common.{ℕ, Ok, ap, is_some, nat_eq, rules, sym, unwrap_or, ◌≡◌, ◌∙◌}
-use Rattle.std.proofs.lemmas.Result.{err_from_is_err_and}
-use Rattle.vt_spec.specs.Machine.Judge.{make_permit, mkdir_permit, unnumbered}
-use Rattle.vt_spec.specs.Machine.Permits.Permit.{ToMake}
-use Rattle.vt_spec.specs.Machine.Rules.Making.{make_rules}
-use Rattle.vt_spec.specs.Machine.Walking.{Place, is_special, name_of, new_walk, walk_end}
-use Rattle.vt_spec.specs.Tree.{Node, new_directory}
+use Rattle.vt_spec.proofs.Common.{Node, Place, ToMake, directory_mode, err_from_is_err_and, is_special, make_permit, make_rules, mkdir_permit, name_of, new_attr, new_directory, new_walk, unless-let_through, unnumbered, walk_end}
 use Rattle.vt_tasks.specs.TaskValue.{task_of}
 use Rattle.vt_rules.proofs.Judged.{refused, without_memory}
 use Rattle.vt_policy.proofs.PlaceLemmas.{is_some_mapped, made_asked}
 use Rattle.vt_rules.proofs.Refusals.{unless-stopped}
-use Rattle.vt_spec.specs.Machine.Rows.{directory_mode, new_attr}
 use Rattle.vt_policy.proofs.making.mkdir.Goals as goal
-use Rattle.vt_spec.proofs.Refusals.{unless-let_through}
 
 pub returns-in_err-may_make : goal.returns-in_err-may_make
 unfolding mkdir_permit

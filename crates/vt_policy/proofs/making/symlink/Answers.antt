@@ -1,22 +1,13 @@
 use Rattle.std.proofs.Common.{[], ℕ, Ok, ap, arith, is_some, le-ltb, length, nat_eq, rules, sym, ◌≡◌, ◌∙◌}
-use Rattle.std.proofs.lemmas.Result.{err_from_is_err_and}
-use Rattle.vt_spec.specs.Machine.Judge.{make_permit, symlink_permit, unnumbered}
-use Rattle.vt_spec.specs.Machine.Permits.Permit.{ToMake}
-use Rattle.vt_spec.specs.Machine.Rules.Making.{make_rules}
-use Rattle.vt_spec.specs.Machine.Walking.{Place, is_special, name_of, new_leaf_walk, walk_end}
-use Rattle.vt_spec.specs.PathText.{is_empty}
-use Rattle.vt_spec.specs.Tree.{Node}
+use Rattle.vt_spec.proofs.Common.{Node, Place, Symlink, ToMake, err_from_is_err_and, exact_attr, is_empty, is_special, make_permit, make_rules, name_of, new_leaf_walk, symlink_mode, symlink_permit, unless-let_through, unnumbered, walk_end}
 use Rattle.vt_permits.specs.GrantValue.{node_in}
 use Rattle.vt_tasks.specs.TaskValue.{task_of}
 use Rattle.vt_rules.proofs.Judged.{refused, without_memory}
 use Rattle.vt_policy.proofs.PlaceLemmas.{is_some_mapped, made_asked}
 use Rattle.vt_rules.proofs.Refusals.{unless-stopped}
 use Rattle.vt_spec.specs.declared.errors.Rule.TheVariants.{W1, W2}
-use Rattle.vt_spec.specs.Machine.Rows.{exact_attr, symlink_mode}
-use Rattle.vt_spec.specs.Tree.Content.{Symlink}
 use Rattle.vt_rules.proofs.Rows.{skipped}
 use Rattle.vt_policy.proofs.making.symlink.Goals as goal
-use Rattle.vt_spec.proofs.Refusals.{unless-let_through}
 
 pub returns-in_err-may_make : goal.returns-in_err-may_make
 unfolding symlink_permit

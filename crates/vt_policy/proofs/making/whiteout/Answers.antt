@@ -1,19 +1,11 @@
 use Rattle.std.proofs.Common.{ℕ, Ok, ap, nat_eq, rules, sym, ◌≡◌, ◌∙◌}
-use Rattle.std.proofs.lemmas.Result.{err_from_is_err_and}
-use Rattle.vt_spec.specs.Machine.Judge.{make_permit, whiteout_permit}
-use Rattle.vt_spec.specs.Machine.Permits.Permit.{ToMake}
-use Rattle.vt_spec.specs.Machine.Rows.{exact_attr}
-use Rattle.vt_spec.specs.Machine.Rules.Making.{whiteout_rules}
-use Rattle.vt_spec.specs.Machine.Walking.{name_of, new_leaf_walk, walk_end}
-use Rattle.vt_spec.specs.Tree.{Node}
-use Rattle.vt_spec.specs.Tree.Content.{Whiteout}
+use Rattle.vt_spec.proofs.Common.{Node, ToMake, Whiteout, err_from_is_err_and, exact_attr, make_permit, name_of, new_leaf_walk, unless-let_through, walk_end, whiteout_permit, whiteout_rules}
 use Rattle.vt_permits.specs.GrantValue.{node_in}
 use Rattle.vt_tasks.specs.TaskValue.{task_of}
 use Rattle.vt_rules.proofs.Judged.{refused, without_memory}
 use Rattle.vt_rules.proofs.Refusals.{unless-stopped}
 use Rattle.vt_policy.proofs.PlaceLemmas.{went}
 use Rattle.vt_policy.proofs.making.whiteout.Goals as goal
-use Rattle.vt_spec.proofs.Refusals.{unless-let_through}
 
 pub returns-in_err-may_make_whiteout : goal.returns-in_err-may_make_whiteout
 unfolding whiteout_permit

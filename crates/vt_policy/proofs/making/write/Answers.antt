@@ -1,15 +1,12 @@
-use Rattle.std.proofs.Common.{[], None, Some, ap, nat_eq, option_map, sym, ◌∙◌}
-use Rattle.std.specs.Prelude.{◌||◌}
+use Rattle.std.proofs.Common.{[], None, Some, ap, nat_eq, option_map, sym, ◌∙◌, ◌||◌}
+use Rattle.vt_spec.proofs.Common.{file_walk, is_special, or_from, walk_end, write_permit, written_permit}
 use Rattle.vt_spec.specs.declared.errors.Rule.TheVariants.{E2}
-use Rattle.vt_spec.specs.Machine.Judge.{write_permit, written_permit}
-use Rattle.vt_spec.specs.Machine.Walking.{file_walk, is_special, walk_end}
 use Rattle.vt_location.specs.Locations.{location_of}
 use Rattle.vt_tasks.specs.TaskValue.{task_of}
 use Rattle.vt_rules.proofs.Judged.{answers, answers_without}
 use Rattle.vt_policy.proofs.PlaceLemmas.{went}
 use Rattle.vt_rules.proofs.Rows.{skipped}
 use Rattle.vt_policy.proofs.making.write.Goals as goal
-use Rattle.std.proofs.lemmas.Bool.{or_from}
 
 pub returns-in-Some : goal.returns-in-Some
 unfolding write_permit

@@ -1,16 +1,12 @@
 use Rattle.std.proofs.Common.{nat_eq, refl, sym, ◌∙◌}
-use Rattle.std.proofs.lemmas.Result.{err_from_is_err_and}
+use Rattle.vt_spec.proofs.Common.{Bind, ToBind, bind_permit, err_from_is_err_and, or_from}
 use Rattle.vt_spec.specs.declared.errors.Rule.TheVariants.{M2, M3}
-use Rattle.vt_spec.specs.Language.Calls.Call.{Bind}
-use Rattle.vt_spec.specs.Machine.Judge.{bind_permit}
-use Rattle.vt_spec.specs.Machine.Permits.Permit.{ToBind}
 use Rattle.vt_location.specs.Locations.{location_of}
 use Rattle.vt_tasks.specs.TaskValue.{task_of}
 use Rattle.vt_rules.proofs.Judged.{no_receivers}
 use Rattle.vt_policy.proofs.MountLemmas.{bind_asked}
 use Rattle.vt_rules.proofs.Rows.{skipped}
 use Rattle.vt_policy.proofs.mounting.bind.Goals as goal
-use Rattle.std.proofs.lemmas.Bool.{or_from}
 
 pub returns-in_err-overfills : goal.returns-in_err-overfills
 returns-in_err-overfills g c =

@@ -1,9 +1,7 @@
 use Rattle.std.proofs.Common.{[], ◌∷◌, is_some, not, Ok}
-use Rattle.std.proofs.lemmas.Result.{err_from_is_err_and}
+use Rattle.vt_spec.proofs.Common.{ToUnmountLazily, err_from_is_err_and, lazy_permit}
 use Rattle.vt_spec.specs.declared.errors.Rule.TheVariants.{M10}
-use Rattle.vt_spec.specs.Machine.Judge.{lazy_permit}
 use Rattle.vt_spec.specs.Machine.Looks.{mount_at}
-use Rattle.vt_spec.specs.Machine.Permits.Permit.{ToUnmountLazily}
 use Rattle.vt_tasks.specs.TaskValue.{task_of}
 use Rattle.vt_policy.proofs.MountLemmas.{root_refused}
 use Rattle.vt_policy.proofs.mounting.lazy.Goals as goal

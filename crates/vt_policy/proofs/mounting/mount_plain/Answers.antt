@@ -1,9 +1,6 @@
 use Rattle.std.proofs.Common.{nat_eq, refl, sym, ◌∙◌}
-use Rattle.std.proofs.lemmas.Result.{err_from_is_err_and}
+use Rattle.vt_spec.proofs.Common.{MountPlain, ToMountPlain, err_from_is_err_and, mount_plain_permit}
 use Rattle.vt_spec.specs.declared.errors.Rule.TheVariants.{M2}
-use Rattle.vt_spec.specs.Language.Calls.Call.{MountPlain}
-use Rattle.vt_spec.specs.Machine.Judge.{mount_plain_permit}
-use Rattle.vt_spec.specs.Machine.Permits.Permit.{ToMountPlain}
 use Rattle.vt_cred.specs.MountFlags.{flags_of}
 use Rattle.vt_location.specs.Locations.{location_of}
 use Rattle.vt_tasks.specs.TaskValue.{task_of}

@@ -1,10 +1,7 @@
 use Rattle.std.proofs.Common.{Err, nat_eq, ap, is_some, not, sym, ◌∙◌}
-use Rattle.std.proofs.lemmas.Result.{err_from_is_err_and}
+use Rattle.vt_spec.proofs.Common.{MoveMount, ToMove, err_from_is_err_and, move_permit}
 use Rattle.vt_spec.specs.declared.errors.Rule.TheVariants.{M10, M9}
-use Rattle.vt_spec.specs.Language.Calls.Call.{MoveMount}
-use Rattle.vt_spec.specs.Machine.Judge.{move_permit}
 use Rattle.vt_spec.specs.Machine.Looks.{mount_at}
-use Rattle.vt_spec.specs.Machine.Permits.Permit.{ToMove}
 use Rattle.vt_location.specs.Locations.{location_of}
 use Rattle.vt_tasks.specs.TaskValue.{task_of}
 use Rattle.vt_rules.proofs.Judged.{no_receivers_of_move, refused_before}

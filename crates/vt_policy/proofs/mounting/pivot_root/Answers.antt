@@ -1,12 +1,9 @@
 use Rattle.std.proofs.Common.{Ok, nat_eq, sym, ◌∙◌}
-use Rattle.std.proofs.lemmas.Result.{err_from_is_err_and}
-use Rattle.vt_spec.specs.Machine.Permits.Permit.{ToPivot}
-use Rattle.vt_spec.specs.Machine.Rules.Mounting.{pivot_rules}
+use Rattle.vt_spec.proofs.Common.{ToPivot, err_from_is_err_and, pivot_rules, unless-let_through}
 use Rattle.vt_location.specs.Locations.{location_of}
 use Rattle.vt_tasks.specs.TaskValue.{task_of}
 use Rattle.vt_policy.proofs.MountLemmas.{pivot_asked}
 use Rattle.vt_rules.proofs.Refusals.{unless-stopped}
-use Rattle.vt_spec.proofs.Refusals.{unless-let_through}
 use Rattle.vt_policy.proofs.mounting.pivot_root.Goals as goal
 
 pub returns-in_err-may_pivot : goal.returns-in_err-may_pivot

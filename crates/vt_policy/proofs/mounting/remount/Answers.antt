@@ -1,8 +1,6 @@
 use Rattle.std.proofs.Common.{[], ◌∷◌, ◌&&◌, Ok}
-use Rattle.std.proofs.lemmas.Result.{err_from_is_err_and}
+use Rattle.vt_spec.proofs.Common.{ToSetFlags, err_from_is_err_and, remount_permit}
 use Rattle.vt_spec.specs.declared.errors.Rule.TheVariants.{M8}
-use Rattle.vt_spec.specs.Machine.Judge.{remount_permit}
-use Rattle.vt_spec.specs.Machine.Permits.Permit.{ToSetFlags}
 use Rattle.vt_cred.specs.MountFlags.{flags_of}
 use Rattle.vt_tasks.specs.TaskValue.{task_of}
 use Rattle.vt_policy.proofs.MountLemmas.{root_refused}

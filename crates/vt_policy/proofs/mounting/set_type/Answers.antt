@@ -1,7 +1,5 @@
 use Rattle.std.proofs.Common.{[], Ok}
-use Rattle.std.proofs.lemmas.Result.{err_from_is_err_and}
-use Rattle.vt_spec.specs.Machine.Judge.{type_permit}
-use Rattle.vt_spec.specs.Machine.Permits.Permit.{ToSetType}
+use Rattle.vt_spec.proofs.Common.{ToSetType, err_from_is_err_and, type_permit}
 use Rattle.vt_request.specs.Requests.{type_word_of}
 use Rattle.vt_tasks.specs.TaskValue.{task_of}
 use Rattle.vt_policy.proofs.MountLemmas.{root_refused}

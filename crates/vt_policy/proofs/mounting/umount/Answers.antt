@@ -1,10 +1,7 @@
 use Rattle.std.proofs.Common.{[], ◌∷◌, is_some, nat_eq, not, Ok}
-use Rattle.std.proofs.lemmas.Result.{err_from_is_err_and}
+use Rattle.vt_spec.proofs.Common.{ToUnmount, Umount, err_from_is_err_and, umount_permit}
 use Rattle.vt_spec.specs.declared.errors.Rule.TheVariants.{M10, M8}
-use Rattle.vt_spec.specs.Language.Calls.Call.{Umount}
-use Rattle.vt_spec.specs.Machine.Judge.{umount_permit}
 use Rattle.vt_spec.specs.Machine.Looks.{mount_at}
-use Rattle.vt_spec.specs.Machine.Permits.Permit.{ToUnmount}
 use Rattle.vt_tasks.specs.TaskValue.{task_of}
 use Rattle.vt_rules.proofs.Judged.{refused_before}
 use Rattle.vt_policy.proofs.MountLemmas.{root_refused}

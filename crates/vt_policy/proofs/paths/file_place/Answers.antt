@@ -1,5 +1,5 @@
 use Rattle.std.proofs.Common.{ap, nat_eq, ◌∙◌}
-use Rattle.vt_spec.specs.Machine.Walking.{file_walk, walk_end}
+use Rattle.vt_spec.proofs.Common.{file_walk, walk_end}
 use Rattle.vt_tasks.specs.TaskValue.{task_of}
 use Rattle.vt_walk.specs.WalkValue.{place_end}
 use Rattle.vt_policy.proofs.WalkEnds.{ends_at_place, refused_place}

@@ -1,5 +1,5 @@
 use Rattle.std.proofs.Common.{ap, nat_eq, ◌∙◌}
-use Rattle.vt_spec.specs.Machine.Walking.{object_walk, walk_end}
+use Rattle.vt_spec.proofs.Common.{object_walk, walk_end}
 use Rattle.vt_tasks.specs.TaskValue.{task_of}
 use Rattle.vt_walk.specs.WalkValue.{location_end}
 use Rattle.vt_policy.proofs.WalkEnds.{found_ends_at, found_refused_by}

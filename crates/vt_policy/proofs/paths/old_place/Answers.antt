@@ -1,5 +1,5 @@
 use Rattle.std.proofs.Common.{ap, nat_eq, ◌∙◌}
-use Rattle.vt_spec.specs.Machine.Walking.{old_walk, walk_end}
+use Rattle.vt_spec.proofs.Common.{old_walk, walk_end}
 use Rattle.vt_tasks.specs.TaskValue.{task_of}
 use Rattle.vt_walk.specs.WalkValue.{place_end}
 use Rattle.vt_policy.proofs.WalkEnds.{ends_at_old_place, refused_old_place}

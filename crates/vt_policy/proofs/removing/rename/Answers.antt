@@ -1,11 +1,6 @@
 use Rattle.std.proofs.Common.{Ok, ap, false, nat_eq, sym, true, unwrap_or, ◌∙◌}
-use Rattle.std.proofs.lemmas.Result.{err_from_is_err_and}
-use Rattle.vt_spec.specs.Lists.{holds_of}
-use Rattle.vt_spec.specs.Machine.Judge.{rename_permit}
+use Rattle.vt_spec.proofs.Common.{Allowed, ToRename, err_from_is_err_and, holds_of, is_one_object, is_special, name_of, rename_new_walk, rename_permit, rename_rules, same_object_rules, unless-let_through, walk_end}
 use Rattle.vt_spec.specs.Machine.Looks.{is_directory_at}
-use Rattle.vt_spec.specs.Machine.Permits.Permit.{Allowed, ToRename}
-use Rattle.vt_spec.specs.Machine.Rules.Removing.{is_one_object, rename_new_walk, rename_rules, same_object_rules}
-use Rattle.vt_spec.specs.Machine.Walking.{is_special, name_of, walk_end}
 use Rattle.vt_location.specs.Locations.{location_of}
 use Rattle.vt_permits.specs.GrantValue.{rename_permit as granted_permit}
 use Rattle.vt_tasks.specs.TaskValue.{task_of}
@@ -13,7 +8,6 @@ use Rattle.vt_rules.proofs.Judged.{refused, without_memory}
 use Rattle.vt_policy.proofs.PlaceLemmas.{rename_asked}
 use Rattle.vt_rules.proofs.Refusals.{unless-stopped}
 use Rattle.vt_policy.proofs.removing.rename.Goals as goal
-use Rattle.vt_spec.proofs.Refusals.{unless-let_through}
 
 pub returns-in_err-may_stay : goal.returns-in_err-may_stay
 returns-in_err-may_stay g c =

@@ -1,17 +1,12 @@
 use Rattle.std.proofs.Common.{Ok, ap, nat_eq, sym, unwrap_or, ◌∙◌}
-use Rattle.std.proofs.lemmas.Result.{err_from_is_err_and}
-use Rattle.vt_spec.specs.Machine.Judge.{rmdir_permit}
-use Rattle.vt_spec.specs.Machine.Permits.Permit.{ToRemoveDirectory}
-use Rattle.vt_spec.specs.Machine.Rules.Removing.{rmdir_rules}
+use Rattle.vt_spec.proofs.Common.{ToRemoveDirectory, err_from_is_err_and, name_of, rmdir_permit, rmdir_rules, unless-let_through}
 use Rattle.vt_looks.specs.Places.{last_of}
-use Rattle.vt_spec.specs.Machine.Walking.{name_of}
 use Rattle.vt_location.specs.Locations.{location_of}
 use Rattle.vt_tasks.specs.TaskValue.{task_of}
 use Rattle.vt_rules.proofs.Judged.{refused, without_memory}
 use Rattle.vt_policy.proofs.PlaceLemmas.{rmdir_asked}
 use Rattle.vt_rules.proofs.Refusals.{unless-stopped}
 use Rattle.vt_policy.proofs.removing.rmdir.Goals as goal
-use Rattle.vt_spec.proofs.Refusals.{unless-let_through}
 
 pub returns-in_err-may_rmdir : goal.returns-in_err-may_rmdir
 returns-in_err-may_rmdir g c =

@@ -1,17 +1,11 @@
 use Rattle.std.proofs.Common.{Ok, ap, nat_eq, sym, unwrap_or, ◌∙◌}
-use Rattle.std.proofs.lemmas.Result.{err_from_is_err_and}
-use Rattle.vt_spec.specs.Language.Changes.Change.{Remove}
-use Rattle.vt_spec.specs.Machine.Judge.{unlink_permit}
-use Rattle.vt_spec.specs.Machine.Permits.Permit.{ToChange}
-use Rattle.vt_spec.specs.Machine.Rules.Removing.{removing, unlink_rules}
-use Rattle.vt_spec.specs.Machine.Walking.{is_special, name_of}
+use Rattle.vt_spec.proofs.Common.{Remove, ToChange, err_from_is_err_and, is_special, name_of, removing, unless-let_through, unlink_permit, unlink_rules}
 use Rattle.vt_location.specs.Locations.{location_of}
 use Rattle.vt_tasks.specs.TaskValue.{task_of}
 use Rattle.vt_rules.proofs.Judged.{refused, without_memory}
 use Rattle.vt_policy.proofs.PlaceLemmas.{unlink_asked}
 use Rattle.vt_rules.proofs.Refusals.{unless-stopped}
 use Rattle.vt_policy.proofs.removing.unlink.Goals as goal
-use Rattle.vt_spec.proofs.Refusals.{unless-let_through}
 
 pub returns-in_err-may_unlink : goal.returns-in_err-may_unlink
 returns-in_err-may_unlink g c =

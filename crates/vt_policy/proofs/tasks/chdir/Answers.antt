@@ -1,16 +1,10 @@
 use Rattle.std.proofs.Common.{Ok, nat_eq, ◌∙◌}
-use Rattle.std.proofs.lemmas.Result.{err_from_is_err_and}
-use Rattle.vt_spec.specs.Errors.{unless}
-use Rattle.vt_spec.specs.Machine.Judge.{chdir_permit}
-use Rattle.vt_spec.specs.Machine.Permits.Permit.{ToSetDirectory}
-use Rattle.vt_spec.specs.Machine.Rules.Tasks.{enter_rules}
-use Rattle.vt_spec.specs.Machine.Walking.{directory_walk, walk_end}
+use Rattle.vt_spec.proofs.Common.{ToSetDirectory, chdir_permit, directory_walk, enter_rules, err_from_is_err_and, unless, unless-let_through, walk_end}
 use Rattle.vt_location.specs.Locations.{location_of}
 use Rattle.vt_tasks.specs.TaskValue.{task_of}
 use Rattle.vt_policy.proofs.MountLemmas.{reached}
 use Rattle.vt_rules.proofs.Refusals.{unless-stopped}
 use Rattle.vt_policy.proofs.tasks.chdir.Goals as goal
-use Rattle.vt_spec.proofs.Refusals.{unless-let_through}
 
 pub returns-in_err-may_enter : goal.returns-in_err-may_enter
 unfolding chdir_permit

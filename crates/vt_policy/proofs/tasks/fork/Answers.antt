@@ -1,9 +1,5 @@
 use Rattle.std.proofs.Common.{Ok, Some}
-use Rattle.std.proofs.lemmas.Result.{err_from_is_err_and}
-use Rattle.vt_spec.specs.Machine.Judge.{fork_permit}
-use Rattle.vt_spec.specs.Machine.Tasks.{child_credentials}
-use Rattle.vt_spec.specs.Machine.Permits.Permit.{ToFork}
-use Rattle.vt_spec.specs.Machine.Rules.Tasks.{fork_rules}
+use Rattle.vt_spec.proofs.Common.{ToFork, child_credentials, err_from_is_err_and, fork_permit, fork_rules}
 use Rattle.vt_request.specs.Requests.{fork_words_of}
 use Rattle.vt_tasks.specs.TaskValue.{task_of}
 use Rattle.vt_rules.proofs.Judged.{refused}

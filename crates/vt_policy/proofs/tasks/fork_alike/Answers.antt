@@ -1,6 +1,5 @@
 use Rattle.std.proofs.Common.{None, Ok, ap, sym, ◌∙◌}
-use Rattle.vt_spec.specs.Machine.Judge.{fork_permit}
-use Rattle.vt_spec.specs.Machine.Permits.Permit.{ToFork}
+use Rattle.vt_spec.proofs.Common.{ToFork, fork_permit}
 use Rattle.vt_tasks.specs.TaskValue.{task_of}
 use Rattle.vt_policy.proofs.ForkLemmas.{forked_alike}
 use Rattle.vt_rules.proofs.Judged.{without_memory}

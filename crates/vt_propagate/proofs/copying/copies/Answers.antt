@@ -1,6 +1,5 @@
 use Rattle.std.proofs.Common.{ap, length, sym, ◌∙◌, ◌*◌}
-use Rattle.std.proofs.lemmas.Result.{IfOk-weaker}
-use Rattle.std.proofs.lemmas.List.{length-map}
+use Rattle.vt_spec.proofs.Common.{IfOk-weaker, length-map}
 use Rattle.vt_location.specs.MountValue.{mount_of}
 use Rattle.vt_propagate.specs.Copying.{as_kept, copied, parts_seen, tree_seen}
 use Rattle.vt_propagate.proofs.Attached.{length-rows}

@@ -1,5 +1,5 @@
 use Rattle.std.proofs.Common.{◌∙◌}
-use Rattle.std.proofs.lemmas.Result.{IfOk-weaker}
+use Rattle.vt_spec.proofs.Common.{IfOk-weaker}
 use Rattle.vt_propagate.specs.declared.numbering.Copying.{Copying}
 use Rattle.vt_propagate.proofs.copying.Planning.{first_part, groups_planned}
 use Rattle.vt_propagate.proofs.copying.new_groups.Goals as goal

@@ -1,8 +1,5 @@
-use Rattle.std.proofs.Common.{ap, map, nat_eq, subst, sym, ◌∙◌}
-use Rattle.std.specs.Prelude.{All}
-use Rattle.vt_spec.specs.Machine.Detach.{taken_away}
-use Rattle.vt_spec.specs.Machine.Receives.{regrouped}
-use Rattle.vt_spec.specs.Machine.World.{with_mounts}
+use Rattle.std.proofs.Common.{ap, map, nat_eq, subst, sym, ◌∙◌, All}
+use Rattle.vt_spec.proofs.Common.{regrouped, taken_away, with_mounts}
 use Rattle.vt_propagate.specs.Falling.{FallsTo, LeavesBy, left_by, point_of}
 use Rattle.vt_propagate.proofs.Found.{counts}
 use Rattle.vt_propagate.proofs.detaching.unmount.Goals as goal

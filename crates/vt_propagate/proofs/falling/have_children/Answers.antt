@@ -1,8 +1,5 @@
 use Rattle.std.proofs.Common.{nat_eq, refl, rules, ◌∙◌}
-use Rattle.std.specs.List.{list_any}
-use Rattle.std.proofs.lemmas.Iterator.{YieldsList-from_slice}
-use Rattle.std.proofs.lemmas.Iterator.Search.{any_from_yields_List}
-use Rattle.vt_spec.specs.Machine.Mounts.{stands_on}
+use Rattle.vt_spec.proofs.Common.{YieldsList-from_slice, any_from_yields_List, list_any, stands_on}
 use Rattle.vt_location.specs.declared.numbers.MountId.{MountId}
 use Rattle.vt_location.specs.Numbers.{counted}
 use Rattle.vt_mount.specs.MountsValue.{mounts_in}

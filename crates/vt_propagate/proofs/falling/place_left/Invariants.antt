@@ -1,5 +1,5 @@
 use Rattle.std.proofs.Common.{length, nat_eq, ◌-◌, ◌≡◌}
-use Rattle.vt_spec.specs.Machine.Detach.{mount_point_of_parent}
+use Rattle.vt_spec.proofs.Common.{mount_point_of_parent}
 use Rattle.vt_location.specs.Locations.{location_of}
 use Rattle.vt_mount.specs.MountsValue.{mounts_in}
 use Rattle.vt_mount.proofs.PointLemmas.{end_of}

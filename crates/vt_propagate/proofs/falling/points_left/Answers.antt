@@ -1,6 +1,5 @@
-use Rattle.std.proofs.Common.{ap, subst, sym, ◌∙◌}
-use Rattle.std.proofs.lemmas.Result.{IfOk-weaker}
-use Rattle.std.specs.Prelude.{All}
+use Rattle.std.proofs.Common.{ap, subst, sym, ◌∙◌, All}
+use Rattle.vt_spec.proofs.Common.{IfOk-weaker}
 use Rattle.vt_mount.specs.MountsValue.{are_ascending}
 use Rattle.vt_propagate.specs.Falling.{FallsTo, LeavesBy, all_points_left}
 use Rattle.vt_propagate.proofs.falling.Fallen.{each_falls, leaves}

@@ -1,8 +1,5 @@
-use Rattle.std.proofs.Common.{◌≡◌, ◌∙◌, ◌+◌, ap, arith, sym, refl, ℕ, Bool, true, false, cond, Option, Some, nat_eq, eq-eqb, ne_eqb}
-use Rattle.std.specs.Prelude.{if◌then◌else◌, unwrap_or}
-use Rattle.std.specs.HashMap.{get}
-use Rattle.std.proofs.lemmas.Bool.{eqb-false, eqb-true}
-use Rattle.vt_spec.specs.Lists.{holds_of}
+use Rattle.std.proofs.Common.{◌≡◌, ◌∙◌, ◌+◌, ap, arith, sym, refl, ℕ, Bool, true, false, cond, Option, Some, nat_eq, eq-eqb, ne_eqb, if◌then◌else◌, unwrap_or, eqb-true}
+use Rattle.vt_spec.proofs.Common.{eqb-false, get, holds_of}
 use Rattle.vt_location.specs.declared.numbers.NamespaceId.{NamespaceId}
 use Rattle.vt_propagate.proofs.filling.count_one.Goals as goal
 use Rattle.vt_mount.specs.Indexes.{same_namespace}

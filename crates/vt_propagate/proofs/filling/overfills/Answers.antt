@@ -1,6 +1,5 @@
-use Rattle.std.proofs.Common.{refl, sym, ◌∙◌}
-use Rattle.std.specs.Prelude.{unwrap_or}
-use Rattle.std.specs.HashMap.{get}
+use Rattle.std.proofs.Common.{refl, sym, ◌∙◌, unwrap_or}
+use Rattle.vt_spec.proofs.Common.{get}
 use Rattle.vt_location.specs.declared.numbers.NamespaceId.{NamespaceId}
 use Rattle.vt_mount.specs.MountsValue.{mounts_in}
 use Rattle.vt_propagate.specs.Filling.{parts_in}

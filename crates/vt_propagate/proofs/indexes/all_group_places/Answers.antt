@@ -1,7 +1,5 @@
 use Rattle.std.proofs.Common.{ap, false, nat_eq, option_map, sym, ◌∙◌}
-use Rattle.std.specs.HashMap.{get}
-use Rattle.vt_spec.specs.Lists.{holds_of}
-use Rattle.vt_spec.specs.Machine.Receives.{is_member_of}
+use Rattle.vt_spec.proofs.Common.{get, holds_of, is_member_of}
 use Rattle.vt_location.specs.Numbers.{counted, group_number}
 use Rattle.vt_mount.proofs.EntryLemmas.{same_count}
 use Rattle.vt_propagate.proofs.Places.{or_none, place_noted}

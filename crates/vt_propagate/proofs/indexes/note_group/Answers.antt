@@ -1,9 +1,8 @@
 use Rattle.std.proofs.Common.{sym, ◌∙◌}
-use Rattle.std.specs.HashMap.{get}
+use Rattle.vt_spec.proofs.Common.{get, none_from_not_some}
 use Rattle.vt_location.specs.declared.numbers.GroupId.{GroupId}
 use Rattle.vt_propagate.proofs.Places.{noted}
 use Rattle.vt_propagate.proofs.indexes.note_group.Goals as goal
-use Rattle.vt_spec.proofs.Options.{none_from_not_some}
 use Rattle.vt_group.specs.Sets.{same_group}
 
 pub returns-in_ok-insert : goal.returns-in_ok-insert

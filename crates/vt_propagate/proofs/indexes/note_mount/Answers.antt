@@ -1,10 +1,9 @@
 use Rattle.std.proofs.Common.{sym, ◌∙◌}
-use Rattle.std.specs.HashMap.{get}
+use Rattle.vt_spec.proofs.Common.{get, none_from_not_some}
 use Rattle.vt_location.specs.declared.numbers.MountId.{MountId}
 use Rattle.vt_mount.specs.Listed.{same_id}
 use Rattle.vt_propagate.proofs.Places.{noted}
 use Rattle.vt_propagate.proofs.indexes.note_mount.Goals as goal
-use Rattle.vt_spec.proofs.Options.{none_from_not_some}
 
 pub returns-in_ok-insert : goal.returns-in_ok-insert
 returns-in_ok-insert c = noted (λ (id : MountId). id.count) (λ a b same i. record { count = same i })

@@ -1,4 +1,4 @@
-use Rattle.std.proofs.lemmas.Result.{IfOk-weaker}
+use Rattle.vt_spec.proofs.Common.{IfOk-weaker}
 use Rattle.vt_propagate.proofs.indexes.places.Goals as goal
 
 pub returns : goal.returns

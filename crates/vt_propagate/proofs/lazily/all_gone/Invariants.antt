@@ -1,6 +1,5 @@
 use Rattle.std.proofs.Common.{drop, nat_eq, ℕ, ◌≡◌}
-use Rattle.vt_spec.specs.Machine.Invariants.{MountInvariants}
-use Rattle.vt_spec.specs.Machine.World.{World}
+use Rattle.vt_spec.proofs.Common.{MountInvariants, World}
 use Rattle.vt_propagate.specs.Falling.{HasJust}
 use Rattle.vt_propagate.specs.LazyUnmounts.{lazy_events}
 use Rattle.vt_propagate.specs.Seen.{IsSeen}

@@ -1,5 +1,5 @@
 use Rattle.std.proofs.Common.{ap, arith, eqb-true, suc, sym, vec_len, [], ◌++◌, ◌+◌, ◌-◌, ◌≡◌, ◌∷◌, ◌∙◌}
-use Rattle.std.proofs.lemmas.List.{map-append}
+use Rattle.vt_spec.proofs.Common.{map-append}
 use Rattle.vt_location.specs.Numbers.{counted}
 use Rattle.vt_location.specs.declared.numbers.MountId.{MountId}
 use Rattle.vt_mount.specs.MountsValue.{mounts_in}

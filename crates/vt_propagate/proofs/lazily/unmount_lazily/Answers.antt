@@ -1,5 +1,4 @@
-use Rattle.std.proofs.Common.{map, subst}
-use Rattle.std.specs.Prelude.{All}
+use Rattle.std.proofs.Common.{map, subst, All}
 use Rattle.vt_propagate.specs.Falling.{FallsTo, LeavesBy, point_of}
 use Rattle.vt_propagate.proofs.Found.{counts}
 use Rattle.vt_propagate.proofs.lazily.unmount_lazily.Goals as goal

@@ -1,7 +1,6 @@
 use Rattle.std.proofs.Common.{rules, nat_eq, ◌∙◌}
+use Rattle.vt_spec.proofs.Common.{YieldsList-from_slice, position_from_yields_List}
 use Rattle.std.proofs.lemmas.Iterator.Adapters.{position_from-zero}
-use Rattle.std.proofs.lemmas.Iterator.{YieldsList-from_slice}
-use Rattle.std.proofs.lemmas.Iterator.Search.{position_from_yields_List}
 use Rattle.vt_location.specs.declared.mounts.Mount.{Mount}
 use Rattle.vt_location.specs.MountValue.{mount_of}
 use Rattle.vt_location.specs.Numbers.{counted}

@@ -1,6 +1,5 @@
 use Rattle.std.proofs.Common.{ap, length, map, nat_eq, subst, sym, ◌∙◌}
-use Rattle.std.proofs.lemmas.Result.{IfOk-weaker}
-use Rattle.std.specs.Map.{lookup}
+use Rattle.vt_spec.proofs.Common.{IfOk-weaker, lookup}
 use Rattle.vt_location.specs.Locations.{location_of}
 use Rattle.vt_location.specs.MountValue.{mount_of}
 use Rattle.vt_mount.specs.MountsValue.{are_ascending, mounts_in}

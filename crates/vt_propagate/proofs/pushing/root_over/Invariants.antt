@@ -1,5 +1,5 @@
 use Rattle.std.proofs.Common.{drop, map, nat_eq, ◌≡◌}
-use Rattle.vt_spec.specs.Machine.Mounts.{child_at}
+use Rattle.vt_spec.proofs.Common.{child_at}
 use Rattle.vt_location.specs.Locations.{location_of}
 use Rattle.vt_location.specs.MountValue.{mount_of}
 use Rattle.vt_propagate.proofs.pushing.root_over.Given as goal

@@ -1,6 +1,5 @@
-use Rattle.std.proofs.Common.{Some, ap, arith, length, map, nat_eq, option_map, suc, sym, ◌+◌, ◌-◌, ◌≡◌, ◌∙◌}
-use Rattle.vt_spec.specs.Machine.Mounts.{Location, child_at, root_of}
-use Rattle.std.proofs.Common.{ℕ}
+use Rattle.std.proofs.Common.{Some, ap, arith, length, map, nat_eq, option_map, suc, sym, ◌+◌, ◌-◌, ◌≡◌, ◌∙◌, ℕ}
+use Rattle.vt_spec.proofs.Common.{Location, child_at, root_of}
 use Rattle.vt_location.specs.Locations.{location_of}
 use Rattle.vt_location.specs.MountValue.{mount_of}
 use Rattle.vt_mount.proofs.PointLemmas.{end-more, end_of}

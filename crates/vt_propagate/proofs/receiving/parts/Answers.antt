@@ -1,10 +1,9 @@
-use Rattle.std.proofs.Common.{◌≡◌, ◌∙◌, Some, ap, refl, sym}
-use Rattle.std.proofs.lemmas.Result.{IfOk-weaker}
+use Rattle.std.proofs.Common.{◌≡◌, ◌∙◌, Some, ap, refl, sym, option_map}
+use Rattle.vt_spec.proofs.Common.{IfOk-weaker}
 use Rattle.vt_location.specs.Locations.{location_of}
 use Rattle.vt_location.specs.MountValue.{mount_of}
 use Rattle.vt_location.specs.Numbers.{counted}
 use Rattle.vt_mount.specs.MountsValue.{mounts_in}
-use Rattle.std.specs.Prelude.{option_map}
 use Rattle.vt_propagate.proofs.Found.{counts, numbered}
 use Rattle.vt_propagate.proofs.TakingPart.{parts-found}
 use Rattle.vt_propagate.proofs.receiving.parts.Goals as goal

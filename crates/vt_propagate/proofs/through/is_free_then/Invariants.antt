@@ -1,6 +1,5 @@
 use Rattle.std.proofs.Common.{drop, ◌≡◌}
-use Rattle.std.specs.List.{list_all}
-use Rattle.vt_spec.specs.Lists.{holds_of}
+use Rattle.vt_spec.proofs.Common.{holds_of, list_all}
 use Rattle.vt_location.specs.MountValue.{mount_of}
 use Rattle.vt_mount.specs.MountsValue.{mounts_in}
 use Rattle.vt_propagate.specs.Through.{rests_on_root}

@@ -1,6 +1,5 @@
-use Rattle.std.proofs.Common.{◌∙◌, ap, arith, option_map}
-use Rattle.vt_spec.specs.Machine.Mounts.{Mount, child_at, root_of}
-use Rattle.std.proofs.Common.{nat_eq, ℕ}
+use Rattle.std.proofs.Common.{◌∙◌, ap, arith, option_map, nat_eq, ℕ}
+use Rattle.vt_spec.proofs.Common.{Mount, child_at, root_of}
 use Rattle.vt_location.specs.declared.numbers.MountId.{MountId}
 use Rattle.vt_location.specs.MountValue.{mount_of}
 use Rattle.vt_location.specs.Numbers.{counted}

@@ -1,7 +1,5 @@
-use Rattle.std.proofs.Common.{ap, option_map, sym, ◌∙◌}
-use Rattle.std.specs.Prelude.{if◌then◌else◌}
-use Rattle.vt_spec.specs.Machine.Mounts.{is_unbindable}
-use Rattle.vt_spec.specs.Machine.Mounts.Propagation.{Unbindable}
+use Rattle.std.proofs.Common.{ap, option_map, sym, ◌∙◌, if◌then◌else◌}
+use Rattle.vt_spec.proofs.Common.{Unbindable, is_unbindable}
 use Rattle.vt_group.specs.Grouping.{propagation_in}
 use Rattle.vt_location.specs.MountValue.{mount_of, propagation_of}
 use Rattle.vt_location.specs.Numbers.{counted}

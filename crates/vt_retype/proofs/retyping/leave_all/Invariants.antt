@@ -1,7 +1,5 @@
-use Rattle.std.proofs.Common.{map, nat_eq, take}
-use Rattle.vt_spec.specs.Machine.Receives.{regrouped}
-use Rattle.vt_spec.specs.Machine.World.{World}
-use Rattle.std.proofs.Common.{ℕ}
+use Rattle.std.proofs.Common.{map, nat_eq, take, ℕ}
+use Rattle.vt_spec.proofs.Common.{World, regrouped}
 use Rattle.vt_location.specs.Numbers.{counted}
 use Rattle.vt_group.specs.Grouping.{Has}
 use Rattle.vt_group.specs.Together.{as_private, with_changed}

@@ -1,6 +1,5 @@
-use Rattle.std.proofs.Common.{map, nat_eq, refl, subst, sym, take, ◌∙◌}
-use Rattle.std.proofs.lemmas.List.{take_all}
-use Rattle.vt_spec.specs.Machine.Receives.{regrouped}
+use Rattle.std.proofs.Common.{map, nat_eq, refl, subst, sym, take, ◌∙◌, take_all}
+use Rattle.vt_spec.proofs.Common.{regrouped}
 use Rattle.vt_location.specs.Numbers.{counted}
 use Rattle.vt_group.specs.Grouping.{Has}
 use Rattle.vt_group.specs.Together.{as_slave, with_changed}

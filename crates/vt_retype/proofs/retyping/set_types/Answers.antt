@@ -1,6 +1,5 @@
-use Rattle.std.proofs.Common.{ap, map, ◌∙◌}
-use Rattle.std.proofs.lemmas.List.{take_all}
-use Rattle.vt_spec.specs.Lists.{folded}
+use Rattle.std.proofs.Common.{ap, map, ◌∙◌, take_all}
+use Rattle.vt_spec.proofs.Common.{folded}
 use Rattle.vt_group.specs.Together.{typed}
 use Rattle.vt_retype.specs.Retyping.{with_type_in}
 use Rattle.vt_retype.proofs.Retyped.{typed_next}

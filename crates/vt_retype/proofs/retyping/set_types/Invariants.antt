@@ -1,5 +1,5 @@
 use Rattle.std.proofs.Common.{◌≡◌, map, take}
-use Rattle.vt_spec.specs.Lists.{folded}
+use Rattle.vt_spec.proofs.Common.{folded}
 use Rattle.vt_group.specs.Together.{typed}
 use Rattle.vt_retype.specs.Retyping.{with_type_in}
 use Rattle.vt_retype.proofs.retyping.set_types.Given as goal

@@ -1,5 +1,4 @@
-use Rattle.std.proofs.Common.{ap, map, ◌∙◌}
-use Rattle.std.proofs.lemmas.List.{take_all}
+use Rattle.std.proofs.Common.{ap, map, ◌∙◌, take_all}
 use Rattle.vt_location.specs.Numbers.{counted}
 use Rattle.vt_retype.specs.Retyping.{shared_by}
 use Rattle.vt_retype.proofs.Retyped.{none_shared, shared_next}

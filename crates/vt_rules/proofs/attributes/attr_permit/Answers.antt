@@ -1,12 +1,8 @@
 use Rattle.std.proofs.Common.{Ok}
-use Rattle.std.proofs.lemmas.Result.{err_from_is_err_and}
-use Rattle.vt_spec.specs.Language.Changes.Change.{SetAttr}
-use Rattle.vt_spec.specs.Machine.Permits.Permit.{ToChange}
-use Rattle.vt_spec.specs.Machine.Rules.Attributes.{attr_rules}
+use Rattle.vt_spec.proofs.Common.{SetAttr, ToChange, attr_rules, err_from_is_err_and, unless-let_through}
 use Rattle.vt_location.specs.Locations.{location_of}
 use Rattle.vt_rules.proofs.Refusals.{unless-stopped}
 use Rattle.vt_rules.proofs.attributes.attr_permit.Goals as goal
-use Rattle.vt_spec.proofs.Refusals.{unless-let_through}
 
 pub returns-in_err-may_set_attr : goal.returns-in_err-may_set_attr
 returns-in_err-may_set_attr g c =

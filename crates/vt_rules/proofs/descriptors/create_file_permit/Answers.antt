@@ -1,14 +1,10 @@
 use Rattle.std.proofs.Common.{rules, Ok, [], nat_eq, ◌∙◌}
-use Rattle.std.proofs.lemmas.Result.{err_from_is_err_and}
-use Rattle.vt_spec.specs.Machine.Judge.{create_file_permit, open_new_permit, unnumbered}
-use Rattle.vt_spec.specs.Machine.Rows.{new_file}
-use Rattle.vt_spec.specs.Machine.Rules.Making.{make_rules}
+use Rattle.vt_spec.proofs.Common.{create_file_permit, err_from_is_err_and, make_rules, new_file, open_new_permit, unless-let_through, unnumbered}
 use Rattle.vt_request.specs.Requests.{access_of}
 use Rattle.vt_tasks.specs.TaskValue.{task_of}
 use Rattle.vt_rules.proofs.Judged.{refused, without_memory}
 use Rattle.vt_rules.proofs.Refusals.{unless-stopped}
 use Rattle.vt_rules.proofs.descriptors.create_file_permit.Goals as goal
-use Rattle.vt_spec.proofs.Refusals.{unless-let_through}
 
 pub returns-in_err-may_make : goal.returns-in_err-may_make
 returns-in_err-may_make g c meant is =

@@ -1,13 +1,10 @@
 use Rattle.std.proofs.Common.{Ok}
-use Rattle.std.proofs.lemmas.Result.{err_from_is_err_and}
-use Rattle.vt_spec.specs.Machine.Permits.Permit.{ToOpen}
-use Rattle.vt_spec.specs.Machine.Rules.Descriptors.{open_rules}
+use Rattle.vt_spec.proofs.Common.{ToOpen, err_from_is_err_and, open_rules, unless-let_through}
 use Rattle.vt_location.specs.Locations.{location_of}
 use Rattle.vt_request.specs.Requests.{access_of}
 use Rattle.vt_tasks.specs.TaskValue.{task_of}
 use Rattle.vt_rules.proofs.Refusals.{unless-stopped}
 use Rattle.vt_rules.proofs.descriptors.open_file_permit.Goals as goal
-use Rattle.vt_spec.proofs.Refusals.{unless-let_through}
 
 pub returns-in_err-may_open : goal.returns-in_err-may_open
 returns-in_err-may_open g c =

@@ -1,5 +1,5 @@
 use Rattle.std.proofs.Common.{ap, arith, ◌∙◌}
-use Rattle.vt_spec.specs.Tree.{new_directory}
+use Rattle.vt_spec.proofs.Common.{new_directory}
 use Rattle.vt_permits.specs.GrantValue.{node_in, number_beside}
 use Rattle.vt_rules.proofs.NumbersBeside.{own_number_beside}
 use Rattle.vt_rules.proofs.making.empty_directory.Goals as goal

@@ -1,15 +1,11 @@
 use Rattle.std.proofs.Common.{rules, Ok, None, arith, le-ltb, length, nat_eq, ◌∙◌}
-use Rattle.std.proofs.lemmas.Result.{err_from_is_err_and}
+use Rattle.vt_spec.proofs.Common.{err_from_is_err_and, file_mode, make_permit, make_rules, new_file, unless-let_through, unnumbered, written_permit}
 use Rattle.vt_spec.specs.declared.errors.Rule.TheVariants.{E6}
-use Rattle.vt_spec.specs.Machine.Judge.{make_permit, unnumbered, written_permit}
-use Rattle.vt_spec.specs.Machine.Rows.{file_mode, new_file}
-use Rattle.vt_spec.specs.Machine.Rules.Making.{make_rules}
 use Rattle.vt_tasks.specs.TaskValue.{task_of}
 use Rattle.vt_rules.proofs.Judged.{refused, without_memory}
 use Rattle.vt_rules.proofs.Refusals.{unless-stopped}
 use Rattle.vt_rules.proofs.Rows.{skipped}
 use Rattle.vt_rules.proofs.making.new_file_permit.Goals as goal
-use Rattle.vt_spec.proofs.Refusals.{unless-let_through}
 
 pub returns-in_err-may_make : goal.returns-in_err-may_make
 returns-in_err-may_make g c meant is =

@@ -1,14 +1,9 @@
 use Rattle.std.proofs.Common.{Ok, ap, ◌∙◌}
-use Rattle.std.proofs.lemmas.Result.{err_from_is_err_and}
-use Rattle.vt_spec.specs.Errors.{unless}
-use Rattle.vt_spec.specs.Language.Changes.Change.{SetBytes}
-use Rattle.vt_spec.specs.Machine.Permits.Permit.{ToChange}
-use Rattle.vt_spec.specs.Machine.Rules.Making.{rewrite_rules}
+use Rattle.vt_spec.proofs.Common.{SetBytes, ToChange, err_from_is_err_and, rewrite_rules, unless, unless-let_through}
 use Rattle.vt_location.specs.Locations.{location_of}
 use Rattle.vt_tasks.specs.TaskValue.{task_of}
 use Rattle.vt_rules.proofs.Refusals.{unless-stopped}
 use Rattle.vt_rules.proofs.making.rewrite_permit.Goals as goal
-use Rattle.vt_spec.proofs.Refusals.{unless-let_through}
 
 pub returns-in_err-may_rewrite : goal.returns-in_err-may_rewrite
 returns-in_err-may_rewrite g c place =

@@ -1,8 +1,6 @@
 use Rattle.std.proofs.Common.{ap, arith, nat_eq, suc, sym, ◌+◌, ◌-◌, ◌≡◌, ◌∙◌}
-use Rattle.std.specs.List.{list_any}
-use Rattle.vt_spec.specs.Lists.{chain, rest_of}
+use Rattle.vt_spec.proofs.Common.{Location, chain, list_any, rest_of}
 use Rattle.vt_spec.specs.Machine.Looks.{mount_at}
-use Rattle.vt_spec.specs.Machine.Mounts.{Location}
 use Rattle.vt_location.specs.Locations.{location_of}
 use Rattle.vt_location.specs.Numbers.{counted}
 use Rattle.vt_rules.proofs.Climbing.{any_here, none_above, rest_above, rest_more}

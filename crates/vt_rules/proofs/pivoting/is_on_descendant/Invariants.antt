@@ -1,8 +1,6 @@
 use Rattle.std.proofs.Common.{nat_eq, ◌-◌, ◌≡◌}
-use Rattle.std.specs.List.{list_any}
-use Rattle.vt_spec.specs.Lists.{chain, rest_of}
+use Rattle.vt_spec.proofs.Common.{chain, is_on_descendant, list_any, rest_of}
 use Rattle.vt_spec.specs.Machine.Looks.{mount_at}
-use Rattle.vt_spec.specs.Machine.Rules.Mounting.{is_on_descendant}
 use Rattle.vt_location.specs.Locations.{location_of}
 use Rattle.vt_location.specs.Numbers.{counted}
 use Rattle.vt_rules.proofs.pivoting.is_on_descendant.Given as goal

@@ -1,9 +1,6 @@
 use Rattle.std.proofs.Common.{ap, arith, nat_eq, suc, sym, ◌&&◌, ◌+◌, ◌-◌, ◌≡◌, ◌∙◌}
-use Rattle.std.proofs.Math.Bool.{or-false}
-use Rattle.std.specs.List.{list_any}
-use Rattle.vt_spec.specs.Lists.{chain}
+use Rattle.vt_spec.proofs.Common.{Location, chain, list_any, or-false}
 use Rattle.vt_spec.specs.Machine.Looks.{mount_at}
-use Rattle.vt_spec.specs.Machine.Mounts.{Location}
 use Rattle.vt_location.specs.Locations.{location_of}
 use Rattle.vt_rules.proofs.Climbing.{any_above, any_here, any_last}
 use Rattle.vt_rules.proofs.pivoting.lies_under.Goals as goal

@@ -1,8 +1,6 @@
 use Rattle.std.proofs.Common.{nat_eq, ◌&&◌, ◌-◌, ◌≡◌}
-use Rattle.std.specs.List.{list_any}
-use Rattle.vt_spec.specs.Lists.{chain}
+use Rattle.vt_spec.proofs.Common.{chain, lies_under_location, list_any}
 use Rattle.vt_spec.specs.Machine.Looks.{mount_at}
-use Rattle.vt_spec.specs.Machine.Rules.Mounting.{lies_under_location}
 use Rattle.vt_location.specs.Locations.{location_of}
 use Rattle.vt_rules.proofs.pivoting.lies_under.Given as goal
 

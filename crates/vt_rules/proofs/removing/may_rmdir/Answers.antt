@@ -1,10 +1,6 @@
 use Rattle.std.proofs.Common.{Ok, ap, not, sym, ◌∙◌}
-use Rattle.std.proofs.lemmas.Bool.{or_from}
+use Rattle.vt_spec.proofs.Common.{Remove, has_no_upper, is_read_only, name_of, or_from, unless}
 use Rattle.vt_spec.specs.declared.errors.Rule.TheVariants.{E3, E4, F1, F2, L1, P1}
-use Rattle.vt_spec.specs.Errors.{unless}
-use Rattle.vt_spec.specs.Language.Changes.Change.{Remove}
-use Rattle.vt_spec.specs.Machine.Rules.Conditions.{has_no_upper, is_read_only}
-use Rattle.vt_spec.specs.Machine.Walking.{name_of}
 use Rattle.vt_location.specs.Locations.{location_of}
 use Rattle.vt_tasks.specs.TaskValue.{task_of}
 use Rattle.vt_rules.specs.Tables.{remove_rules}

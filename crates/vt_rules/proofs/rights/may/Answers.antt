@@ -1,5 +1,5 @@
 use Rattle.std.proofs.Common.{Some, ap, ◌∙◌}
-use Rattle.vt_spec.specs.Rights.{allows}
+use Rattle.vt_spec.proofs.Common.{allows}
 use Rattle.vt_cred.specs.Rights.{right_bits}
 use Rattle.vt_location.specs.Locations.{location_of}
 use Rattle.vt_looks.specs.Looking.{front}

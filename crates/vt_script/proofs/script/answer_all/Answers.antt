@@ -1,5 +1,5 @@
 use Rattle.std.proofs.Common.{Err, inl, [], refl, sym, ap, ◌∙◌, ◌++◌, take, append_assoc, append-nil, length-take, arith}
-use Rattle.std.proofs.lemmas.Result.{err_from_is_err_and}
+use Rattle.vt_spec.proofs.Common.{err_from_is_err_and}
 use Rattle.vt_script.specs.SessionValue.{state_of}
 use Rattle.vt_script.proofs.SessionLemmas.{fed_nothing, fed_then, broke_then}
 use Rattle.vt_script.proofs.ToldLemmas.{whole_held, broke_held, ends_well, ends_badly}

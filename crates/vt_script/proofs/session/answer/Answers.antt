@@ -1,8 +1,7 @@
 use Rattle.std.proofs.Common.{◌≡◌, ◌⊎◌, ◌<◌, length, None, ap, sym, subst, ◌∙◌, IsSomeAnd, Ok, Err}
-use Rattle.vt_spec.specs.Language.Printed.{reply_line}
-use Rattle.vt_spec.specs.Language.Script.{overlays, request_of}
+use Rattle.vt_spec.proofs.Common.{longest_line, reply_line, request_of}
+use Rattle.vt_spec.specs.Language.Script.{overlays}
 use Rattle.vt_io.specs.Sink.{Prints}
-use Rattle.vt_spec.specs.Language.Limits.{longest_line}
 use Rattle.vt_line.specs.Calls.{TakesMemory}
 use Rattle.vt_line.specs.Lines.{IsSilent, IsSpoken, IsReadingOf}
 use Rattle.vt_line.specs.Versions.{version_of}

@@ -1,5 +1,4 @@
-use Rattle.std.proofs.Common.{ap, arith, ◌∙◌}
-use Rattle.std.proofs.lemmas.Bool.{le-leb, leb-true}
+use Rattle.std.proofs.Common.{ap, arith, ◌∙◌, le-leb, leb-true}
 use Rattle.vt_location.specs.declared.locations.NodeRef.{NodeRef}
 use Rattle.vt_store.proofs.LayersCounted.{IsAt, layer_used, mounts_are_shown}
 use Rattle.vt_store.proofs.layers.has_room.Goals as goal

@@ -1,6 +1,5 @@
-use Rattle.std.proofs.Common.{arith, ap, drop, false, is_some, map, option_copied, rules, sym, true, ◌+◌, ◌<◌, ◌||◌, ◌∙◌, ◌≡◌}
-use Rattle.std.specs.List.{list_any}
-use Rattle.std.specs.Prelude.{count_by}
+use Rattle.std.proofs.Common.{arith, ap, drop, false, is_some, map, option_copied, rules, sym, true, ◌+◌, ◌<◌, ◌||◌, ◌∙◌, ◌≡◌, count_by}
+use Rattle.vt_spec.proofs.Common.{list_any}
 use Rattle.vt_fs.specs.FilesystemsValue.{filled_from}
 use Rattle.vt_location.proofs.NumberLemmas.{exchanged_slot}
 use Rattle.vt_location.specs.Locations.{inode_of}

@@ -1,6 +1,5 @@
-use Rattle.std.proofs.Common.{drop, length, map, ◌≡◌}
-use Rattle.std.specs.List.{list_any}
-use Rattle.std.specs.Prelude.{count_by, is_some}
+use Rattle.std.proofs.Common.{drop, length, map, ◌≡◌, count_by, is_some}
+use Rattle.vt_spec.proofs.Common.{list_any}
 use Rattle.vt_fs.specs.FilesystemsValue.{files_at, filled_from}
 use Rattle.vt_location.specs.Locations.{inode_of}
 use Rattle.vt_location.specs.Numbers.{exchanged}

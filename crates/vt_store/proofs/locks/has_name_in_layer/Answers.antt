@@ -1,12 +1,11 @@
 use Rattle.std.proofs.Common.{arith, ap, option_copied, subst, sym, ◌<◌, ◌∙◌}
-use Rattle.std.specs.List.{list_any}
+use Rattle.vt_spec.proofs.Common.{list_any, node_in}
 use Rattle.vt_fs.specs.FilesystemsValue.{files_at}
 use Rattle.vt_fs.specs.Laws.{ParentsAreNamed}
 use Rattle.vt_location.proofs.NumberLemmas.{exchanged_slot}
 use Rattle.vt_location.specs.Locations.{inode_of}
 use Rattle.vt_location.specs.Numbers.{inode_number}
 use Rattle.vt_location.specs.declared.locations.InodeRef.{InodeRef}
-use Rattle.vt_spec.specs.Inodes.{node_in}
 use Rattle.vt_store.proofs.AloneNamed.{alone_decides, alone_small}
 use Rattle.vt_store.proofs.locks.has_name_in_layer.Goals as goal
 use Rattle.vt_store.specs.Locks.{directory_lies_in_overlay, names_in_layer}

@@ -1,12 +1,9 @@
 use Rattle.std.proofs.Common.{Bool, List, Some, ap, cond, false, nat_eq, option_copied, option_map, rules, sym, true, ℕ, ◌&&◌, ◌∙◌, ◌≡◌}
-use Rattle.std.specs.List.{list_any}
+use Rattle.vt_spec.proofs.Common.{is_directory, is_directory_node, is_directory_under, is_file_under, kind_of, list_any}
 use Rattle.vt_fs.specs.FilesystemsValue.{Filesystems, files_at, node_seen}
 use Rattle.vt_location.specs.declared.locations.NodeRef.{NodeRef}
 use Rattle.vt_location.specs.Locations.{inode_of}
 use Rattle.vt_overlay.specs.declared.merge.layers.LayerRef.{LayerRef}
-use Rattle.vt_spec.specs.FileTree.{is_directory_under, is_file_under}
-use Rattle.vt_spec.specs.Rights.{is_directory}
-use Rattle.vt_spec.specs.Tree.{is_directory_node, kind_of}
 use Rattle.vt_store.proofs.AnyNamed.{named_in_one, none_stands}
 use Rattle.vt_store.proofs.Locked.{directory_seen}
 use Rattle.vt_store.proofs.locks.lies_in_any.Goals.{in_default-via-in-Some+else-is_directory, in_default-via-in_default}

@@ -1,12 +1,11 @@
 use Rattle.std.proofs.Common.{arith, ap, false, is_some, option_copied, option_map, rules, Some, subst, sym, true, ◌<◌, ◌&&◌, ◌∙◌, ◌≡◌}
-use Rattle.std.specs.List.{list_any}
+use Rattle.vt_spec.proofs.Common.{entries_of, list_any}
 use Rattle.vt_fs.specs.FilesystemsValue.{files_at, node_seen}
 use Rattle.vt_fs.specs.Laws.{ParentsAreNamed}
 use Rattle.vt_location.specs.declared.locations.NodeRef.{NodeRef}
 use Rattle.vt_location.specs.declared.numbers.FilesystemId.{FilesystemId}
 use Rattle.vt_location.specs.Locations.{inode_of}
 use Rattle.vt_node.specs.Ranks.{name_ranked}
-use Rattle.vt_spec.specs.Tree.{entries_of}
 use Rattle.vt_store.proofs.Locked.{has_name}
 use Rattle.vt_store.proofs.locks.names_in_layer.Goals as goal
 use Rattle.vt_store.specs.Locks.{directory_lies_in_overlay}

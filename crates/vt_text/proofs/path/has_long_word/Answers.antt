@@ -1,7 +1,5 @@
 use Rattle.std.proofs.Common.{◌≡◌, ◌≢◌, ◌≤◌, ◌<◌, ◌+◌, ◌-◌, ℕ, length, get_or, drop, refl, sym, ap, subst, ◌∙◌, arith, length-take, length-drop, get_or-take}
-use Rattle.std.proofs.lemmas.List.{take_rest}
-use Rattle.vt_spec.specs.PathText.{words}
-use Rattle.vt_spec.specs.Language.Limits.{longest_name}
+use Rattle.vt_spec.proofs.Common.{longest_name, take_rest, words}
 use Rattle.vt_text.proofs.Limits.{some_long, no_long_word, long_word_after, long_word_here}
 use Rattle.vt_text.proofs.path.has_long_word.Goals as goal
 

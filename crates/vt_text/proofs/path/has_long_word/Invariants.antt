@@ -1,5 +1,5 @@
 use Rattle.std.proofs.Common.{◌≡◌, length}
-use Rattle.vt_spec.specs.PathText.{words}
+use Rattle.vt_spec.proofs.Common.{words}
 use Rattle.vt_text.proofs.Limits.{some_long}
 use Rattle.vt_text.proofs.path.has_long_word.Given as goal
 

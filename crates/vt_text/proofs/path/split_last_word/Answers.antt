@@ -1,6 +1,5 @@
 use Rattle.std.proofs.Common.{◌≡◌, ◌≢◌, ◌<◌, ◌+◌, ◌-◌, [], length, get_or, take, sym, ap, ◌∙◌, ⊎_elim, arith, rules, get_or-take, length-take-le}
-use Rattle.std.proofs.lemmas.Bool.{cases_lt}
-use Rattle.vt_spec.specs.PathText.{words}
+use Rattle.vt_spec.proofs.Common.{cases_lt, words}
 use Rattle.vt_text.proofs.PathWords.{words_between_none, words_between-take, words_between_last}
 use Rattle.vt_text.proofs.path.split_last_word.Goals as goal
 

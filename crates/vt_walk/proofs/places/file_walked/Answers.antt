@@ -1,6 +1,5 @@
 use Rattle.std.proofs.Common.{◌≡◌, Err, Ok, Some, ap, arith, option_map, sym, unwrap_or, ◌∙◌}
-use Rattle.std.proofs.lemmas.Result.{err_from_is_err_and}
-use Rattle.vt_spec.specs.Machine.Walking.{symlink_of}
+use Rattle.vt_spec.proofs.Common.{err_from_is_err_and, symlink_of}
 use Rattle.vt_location.specs.declared.locations.Location.{Location}
 use Rattle.vt_location.specs.Locations.{location_of}
 use Rattle.vt_looks.specs.declared.places.Place.{Place}

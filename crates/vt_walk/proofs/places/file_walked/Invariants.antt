@@ -1,5 +1,5 @@
 use Rattle.std.proofs.Common.{◌≡◌, ◌-◌, false, option_copied}
-use Rattle.vt_spec.specs.Machine.Walking.{walk_start}
+use Rattle.vt_spec.proofs.Common.{walk_start}
 use Rattle.vt_tasks.specs.TaskValue.{task_of}
 use Rattle.vt_walk.specs.PlainWalks.{file_walked}
 use Rattle.vt_walk.specs.WalkValue.{IsLent, here_of}

@@ -1,5 +1,5 @@
 use Rattle.std.proofs.Common.{◌-◌, ◌<◌, ap, arith, length, refl, reverse}
-use Rattle.std.proofs.lemmas.Result.{err_from_is_err_and}
+use Rattle.vt_spec.proofs.Common.{err_from_is_err_and}
 use Rattle.vt_location.specs.Locations.{location_of}
 use Rattle.vt_tasks.specs.TaskValue.{task_of}
 use Rattle.vt_walk.proofs.PendingWalked.{first-begun, first-denied, link-begun, link-denied, link_passed-as, slash-denied, top-ended, top-refused}

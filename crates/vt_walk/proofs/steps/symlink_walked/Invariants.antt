@@ -1,5 +1,5 @@
-use Rattle.vt_walk.specs.PlainWalks.{followed}
 use Rattle.std.proofs.Common.{◌≡◌, ◌+◌, ◌*◌, ◌≤◌, Some, length, option_copied, reverse}
+use Rattle.vt_walk.specs.PlainWalks.{followed}
 use Rattle.vt_tasks.specs.TaskValue.{task_of}
 use Rattle.vt_walk.specs.PendingTexts.{link_passed, texts_walked}
 use Rattle.vt_walk.specs.WalkValue.{IsLent, here_of}

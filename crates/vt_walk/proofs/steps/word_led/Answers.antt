@@ -1,7 +1,5 @@
 use Rattle.std.proofs.Common.{ap, nat_eq, sym, ◌∙◌}
-use Rattle.vt_spec.specs.Errors.{and_then}
-use Rattle.std.proofs.lemmas.Result.{err_from_is_err_and}
-use Rattle.vt_spec.specs.Machine.Walking.{search_rules, stepped}
+use Rattle.vt_spec.proofs.Common.{and_then, err_from_is_err_and, search_rules, stepped}
 use Rattle.vt_location.specs.Locations.{location_of}
 use Rattle.vt_tasks.specs.TaskValue.{task_of}
 use Rattle.vt_walk.proofs.RefusalLemmas.{unless-and_then, unless-stopped}

@@ -1,6 +1,6 @@
-use Rattle.vt_walk.specs.PlainWalks.{followed}
 use Rattle.std.proofs.Common.{◌∙◌}
-use Rattle.std.proofs.lemmas.Result.{err_from_is_err_and}
+use Rattle.vt_spec.proofs.Common.{err_from_is_err_and}
+use Rattle.vt_walk.specs.PlainWalks.{followed}
 use Rattle.vt_tasks.specs.TaskValue.{task_of}
 use Rattle.vt_walk.proofs.PendingWalked.{link_passed-as}
 use Rattle.vt_walk.specs.WalkValue.{here_of}

@@ -1,6 +1,5 @@
 use Rattle.std.proofs.Common.{ap, option_copied, refl, sym, ◌∙◌, ℕ}
-use Rattle.std.proofs.lemmas.Result.{err_from_is_err_and}
-use Rattle.vt_spec.specs.Machine.Walking.{Here}
+use Rattle.vt_spec.proofs.Common.{Here, err_from_is_err_and}
 use Rattle.vt_location.specs.declared.locations.Location.{Location}
 use Rattle.vt_location.specs.Locations.{location_of}
 use Rattle.vt_tasks.specs.TaskValue.{task_of}

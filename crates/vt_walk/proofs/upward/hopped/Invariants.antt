@@ -1,6 +1,6 @@
 use Rattle.std.proofs.Common.{◌≡◌, ◌-◌, nat_eq}
-use Rattle.vt_spec.specs.Lists.{chain, last_or}
-use Rattle.vt_spec.specs.Machine.Walking.{hop, hops}
+use Rattle.vt_spec.proofs.Common.{chain, hops, last_or}
+use Rattle.vt_spec.specs.Machine.Walking.{hop}
 use Rattle.vt_location.specs.Locations.{location_of}
 use Rattle.vt_tasks.specs.TaskValue.{task_of}
 use Rattle.vt_walk.proofs.upward.hopped.Given as goal

@@ -1,9 +1,7 @@
 use Rattle.std.proofs.Common.{[], nat_eq, ◌∷◌}
-use Rattle.std.proofs.lemmas.Result.{err_from_is_err_and}
+use Rattle.vt_spec.proofs.Common.{at_topmost, err_from_is_err_and, source_walk, walk_unless}
 use Rattle.vt_spec.specs.declared.errors.Rule.TheVariants.{W8}
 use Rattle.vt_spec.specs.Machine.Looks.{topmost}
-use Rattle.vt_spec.specs.Machine.Rules.Mounting.{at_topmost, source_walk}
-use Rattle.vt_spec.specs.Machine.Walking.{walk_unless}
 use Rattle.vt_tasks.specs.TaskValue.{task_of}
 use Rattle.vt_walk.proofs.WalkEnds.{location-refused}
 use Rattle.vt_walk.proofs.walks.destination_walk.Goals as goal

@@ -1,5 +1,5 @@
 use Rattle.std.proofs.Common.{Err, Ok, ap, sym, ◌∙◌}
-use Rattle.std.proofs.lemmas.Result.{err_from_is_err_and}
+use Rattle.vt_spec.proofs.Common.{err_from_is_err_and}
 use Rattle.vt_tasks.specs.TaskValue.{task_of}
 use Rattle.vt_walk.proofs.WalksOfPaths.{symlink_walk-by, symlink_walk-slash}
 use Rattle.vt_looks.specs.Places.{last_of}

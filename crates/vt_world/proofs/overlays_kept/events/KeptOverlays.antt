@@ -1,19 +1,6 @@
 -- A permit leaves an overlay of a store as it was.
-use Rattle.std.proofs.Common.{◌≡◌, refl, sym, ap, subst, ◌∙◌, inl, inr, ◌+◌, ◌≤◌, ◌++◌, ◌∷◌, ℕ, zero, suc, nat_eq, Bool, true, false, if◌then◌else◌, List, [], length, map, find, Option, Some, None, option_map, unwrap_or, arith}
-use Rattle.std.specs.Prelude.{All, Contains, filter_map, slice_get}
-use Rattle.std.proofs.lemmas.List.Elements.{All-cons, All-head, All-nil, All-tail}
-use Rattle.std.proofs.lemmas.Option.{same_Some}
-use Rattle.vt_spec.proofs.Lists.{Among, among-map, contains_from_among}
-use Rattle.vt_spec.proofs.Options.{none_is_some}
-use Rattle.vt_spec.specs.Lists.{Fresh, holds_of, last_or, then_some, without_last}
-use Rattle.vt_spec.specs.Machine.Invariants.{IsWorld}
-use Rattle.vt_spec.specs.Machine.Layers.{OpenLayer, at_path, names_shown, node_at_path, paths_from, shown}
-use Rattle.vt_spec.specs.Machine.Merging.{is_root_path, layer_node, merged_at, real_object}
-use Rattle.vt_spec.specs.Machine.Permits.{Permit}
-use Rattle.vt_spec.specs.Machine.World.{Layer, Overlay, Real, Task, World, filesystem_numbered, is_overlay, open_layer}
-use Rattle.vt_spec.specs.Machine.World.Real.{Lower, Upper}
-use Rattle.vt_spec.specs.Rights.{Credentials, is_directory}
-use Rattle.vt_spec.specs.Tree.{Entries, Node, Tree, entries_in, is_directory_node}
+use Rattle.std.proofs.Common.{◌≡◌, refl, sym, ap, subst, ◌∙◌, inl, inr, ◌+◌, ◌≤◌, ◌++◌, ◌∷◌, ℕ, zero, suc, nat_eq, Bool, true, false, if◌then◌else◌, List, [], length, map, find, Option, Some, None, option_map, unwrap_or, arith, All, Contains, filter_map, slice_get}
+use Rattle.vt_spec.proofs.Common.{All-cons, All-head, All-nil, All-tail, Among, Credentials, Entries, Fresh, IsWorld, Layer, Lower, Node, OpenLayer, Overlay, Permit, Real, Task, Tree, Upper, World, among-map, at_path, contains_from_among, entries_in, filesystem_numbered, holds_of, is_directory, is_directory_node, is_overlay, is_root_path, last_or, layer_node, merged_at, names_shown, node_at_path, none_is_some, open_layer, paths_from, real_object, same_Some, shown, then_some, without_last}
 use Rattle.vt_laws_mounts.specs.Counts.BesideOverlays.{OverlaysHaveNoUpper}
 use Rattle.vt_laws_mounts.specs.Counts.OverlaysStay.{OverlaysAreNamed}
 use Rattle.vt_laws_trees.specs.Layers.Layers.Untouched.{IsKept}

@@ -1,20 +1,6 @@
 -- The inodes of an overlay, in the order of their numbers.
-use Rattle.std.proofs.Common.{◌≡◌, refl, sym, ap, subst, ◌∙◌, inl, inr, ℕ, nat_eq, eq-eqb, eqb-true, Bool, true, false, true≢false, cond, ◌||◌, List, [], ◌∷◌, map, find, Option, Some, None, option_map, is_some, unwrap_or}
-use Rattle.std.specs.Prelude.{filter_map}
-use Rattle.std.specs.declared.cmp.Ordering.TheVariants.{Equal}
-use Rattle.std.specs.List.{cons_option}
-use Rattle.std.specs.FinMap.{nat_cmp-IsAntisymmetric}
-use Rattle.std.specs.FinMap.Entries.{same_entries}
-use Rattle.std.specs.Map.{lookup}
-use Rattle.vt_spec.proofs.Found.{found_among, found_passes}
-use Rattle.vt_spec.proofs.Options.{none_is_some}
-use Rattle.vt_spec.specs.Machine.Invariants.{real_shown}
-use Rattle.vt_spec.specs.Lists.{holds_of, is_among, then_some}
-use Rattle.vt_spec.specs.Machine.Layers.{OpenLayer, Shown, paths_from, shown}
-use Rattle.vt_spec.specs.Machine.Merging.{Merged, MergedInode, layer_node, real_object}
-use Rattle.vt_spec.specs.Machine.World.{Real}
-use Rattle.vt_spec.specs.Machine.World.Real.{Lower}
-use Rattle.vt_spec.specs.Tree.{Node}
+use Rattle.std.proofs.Common.{◌≡◌, refl, sym, ap, subst, ◌∙◌, inl, inr, ℕ, nat_eq, eq-eqb, eqb-true, Bool, true, false, true≢false, cond, ◌||◌, List, [], ◌∷◌, map, find, Option, Some, None, option_map, is_some, unwrap_or, filter_map, Equal}
+use Rattle.vt_spec.proofs.Common.{Lower, Merged, MergedInode, Node, OpenLayer, Real, Shown, cons_option, found_among, found_passes, holds_of, is_among, layer_node, lookup, nat_cmp-IsAntisymmetric, none_is_some, paths_from, real_object, real_shown, same_entries, shown, then_some}
 use Rattle.vt_laws_mounts.proofs.letting_go.Lists.{Among, among-filter_map, among-from_filter_map, among_numbers, held_number, is_among_numbers}
 use Rattle.vt_laws_trees.proofs.layers.layers.ShownDirectories.{AreOpen}
 use Rattle.vt_laws_trees.specs.Overlays.MergedTrees.{entries_shown, layers_shown, node_as, parent_shown}

@@ -1,11 +1,6 @@
 -- Real objects are what their paths lead to.
-use Rattle.std.proofs.Common.{◌≡◌, refl, sym, ap, ◌∙◌, ℕ, false, List, Option, Some, None, option_map}
-use Rattle.std.specs.Prelude.{slice_get}
-use Rattle.std.proofs.lemmas.Option.{same_Some, slice_get-map}
-use Rattle.vt_spec.specs.Lists.{then_some}
-use Rattle.vt_spec.specs.Machine.Layers.{OpenLayer, Shown, at_path, shown}
-use Rattle.vt_spec.specs.Machine.Merging.{Merged, real_object}
-use Rattle.vt_spec.specs.Machine.World.{Real}
+use Rattle.std.proofs.Common.{◌≡◌, refl, sym, ap, ◌∙◌, ℕ, false, List, Option, Some, None, option_map, slice_get}
+use Rattle.vt_spec.proofs.Common.{Merged, OpenLayer, Real, Shown, at_path, real_object, same_Some, shown, slice_get-map, then_some}
 use Rattle.vt_laws_trees.proofs.layers.layers.ShownAtPath.{computed}
 use Rattle.vt_laws_trees.specs.Overlays.TreesSeen.{real_by}
 use Rattle.vt_fs.specs.FilesystemsValue.{Filesystems}

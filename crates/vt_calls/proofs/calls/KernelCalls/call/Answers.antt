@@ -1,5 +1,5 @@
 use Rattle.std.proofs.Common.{ap}
-use Rattle.std.proofs.lemmas.Result.{err_from_is_err_and}
+use Rattle.vt_spec.proofs.Common.{err_from_is_err_and}
 use Rattle.vt_request.specs.Requests.{call_of}
 use Rattle.vt_world.specs.WorldValue.{WorldValue}
 use Rattle.vt_calls.proofs.Numbered.{ends_seen}

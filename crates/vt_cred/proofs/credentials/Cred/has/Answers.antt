@@ -1,6 +1,5 @@
 use Rattle.std.proofs.Common.{rules}
-use Rattle.std.proofs.lemmas.Bool.Decides.{Decides-at}
-use Rattle.vt_spec.specs.Rights.{has_all}
+use Rattle.vt_spec.proofs.Common.{Decides-at, has_all}
 use Rattle.vt_cred.specs.Caps.{capability_bits}
 use Rattle.vt_cred.proofs.BitLemmas.{Decides-has_all}
 use Rattle.vt_cred.proofs.credentials.Cred.has.Goals as goal

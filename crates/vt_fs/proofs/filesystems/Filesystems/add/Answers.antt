@@ -1,5 +1,5 @@
 use Rattle.std.proofs.Common.{◌≡◌, ap, arith, refl, sym, ◌∙◌, nat_eq}
-use Rattle.vt_spec.specs.Inodes.{one_directory}
+use Rattle.vt_spec.proofs.Common.{one_directory}
 use Rattle.vt_location.specs.Numbers.{inode_number}
 use Rattle.vt_fs.specs.FilesystemsValue.{FilesystemEntry, inodes_seen}
 use Rattle.vt_fs.proofs.Entries.{added}

@@ -1,5 +1,5 @@
 use Rattle.std.proofs.Common.{rules, ◌≡◌, ap, subst, sym, ◌∙◌, Err, OnErr}
-use Rattle.vt_spec.specs.Language.Changes.Change.{Make}
+use Rattle.vt_spec.proofs.Common.{Make}
 use Rattle.vt_location.specs.Locations.{number_of}
 use Rattle.vt_location.specs.Numbers.{exchanged}
 use Rattle.vt_fs.specs.FilesystemsValue.{node_seen, with_tree}

@@ -1,5 +1,4 @@
-use Rattle.std.proofs.Common.{ap, sym, ◌∙◌, option_map}
-use Rattle.std.specs.Prelude.{option_copied}
+use Rattle.std.proofs.Common.{ap, sym, ◌∙◌, option_map, option_copied}
 use Rattle.vt_fs.specs.FilesystemsValue.{entry_of}
 use Rattle.vt_fs.proofs.Entries.{tree_of-held}
 use Rattle.vt_fs.proofs.filesystems.Filesystems.get.Goals as goal

@@ -1,5 +1,5 @@
 use Rattle.std.proofs.Common.{Some, None, ap, inl, inr, option_map, refl, sym, ◌∙◌}
-use Rattle.std.specs.Option.{option_copied_mut}
+use Rattle.vt_spec.proofs.Common.{option_copied_mut}
 use Rattle.vt_fs.specs.FilesystemsValue.{entry_of, held, held_with_tree}
 use Rattle.vt_fs.proofs.Entries.{held_apart, tree_of-held, writes}
 use Rattle.vt_fs.proofs.filesystems.Filesystems.get_mut.Goals as goal

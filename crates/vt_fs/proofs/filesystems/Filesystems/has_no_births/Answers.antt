@@ -1,5 +1,4 @@
-use Rattle.std.proofs.Common.{None, Some, ap, sym, ◌∙◌, option_map}
-use Rattle.std.specs.Prelude.{option_copied}
+use Rattle.std.proofs.Common.{None, Some, ap, sym, ◌∙◌, option_map, option_copied}
 use Rattle.vt_fs.specs.FilesystemsValue.{entry_of}
 use Rattle.vt_fs.proofs.Entries.{held_apart, tree_of-held}
 use Rattle.vt_fs.proofs.Nowhere.{nowhere_else, nowhere_there}

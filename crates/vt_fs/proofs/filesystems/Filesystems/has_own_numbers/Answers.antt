@@ -1,6 +1,5 @@
-use Rattle.std.proofs.Common.{ap, sym, ◌∙◌, option_map}
-use Rattle.std.specs.Prelude.{option_copied}
-use Rattle.vt_spec.specs.Inodes.{Inodes, renamed_inode}
+use Rattle.std.proofs.Common.{ap, sym, ◌∙◌, option_map, option_copied}
+use Rattle.vt_spec.proofs.Common.{Inodes, renamed_inode}
 use Rattle.vt_location.specs.Numbers.{exchanged}
 use Rattle.vt_fs.specs.FilesystemsValue.{inodes_seen, seen_in}
 use Rattle.vt_location.proofs.NumberLemmas.{no_slot}

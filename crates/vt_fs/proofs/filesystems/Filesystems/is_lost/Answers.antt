@@ -1,8 +1,8 @@
 use Rattle.std.proofs.Common.{ap, nat_eq, subst, sym, ◌∙◌}
+use Rattle.vt_spec.proofs.Common.{is_removed}
 use Rattle.vt_location.specs.declared.numbers.FilesystemId.{FilesystemId}
 use Rattle.vt_location.specs.Locations.{number_of}
 use Rattle.vt_fs.specs.FilesystemsValue.{files_at}
-use Rattle.vt_spec.specs.FileTree.{is_removed}
 use Rattle.vt_fs.specs.Laws.{ParentsAreNamed}
 use Rattle.vt_fs.proofs.Nowhere.{not_lost_at_root}
 use Rattle.vt_fs.proofs.PathsFound.{root_is}

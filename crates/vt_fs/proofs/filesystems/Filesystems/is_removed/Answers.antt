@@ -1,11 +1,11 @@
 use Rattle.std.proofs.Common.{ap, sym, ◌∙◌, nat_eq, true, false}
+use Rattle.vt_spec.proofs.Common.{not_turned}
 use Rattle.vt_location.specs.Locations.{number_of}
 use Rattle.vt_fs.specs.FilesystemsValue.{files_at, inodes_at}
 use Rattle.vt_fs.proofs.Nowhere.{removed_there}
 use Rattle.vt_fs.proofs.Parents.{removed_by_parent, root_stays}
 use Rattle.vt_fs.proofs.Standing.{own_there, root_there}
 use Rattle.vt_fs.proofs.filesystems.Filesystems.is_removed.Goals as goal
-use Rattle.vt_spec.proofs.Truths.{not_turned}
 
 pub returns-then-ne : goal.returns-then-ne
 returns-then-ne c =

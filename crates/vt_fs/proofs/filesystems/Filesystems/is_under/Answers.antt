@@ -1,8 +1,7 @@
-use Rattle.std.proofs.Common.{ap, sym, ◌∙◌}
+use Rattle.std.proofs.Common.{ap, sym, ◌∙◌, subst}
 use Rattle.vt_location.specs.Locations.{number_of}
 use Rattle.vt_location.specs.Numbers.{exchanged}
 use Rattle.vt_location.specs.declared.numbers.FilesystemId.{FilesystemId}
-use Rattle.std.proofs.Common.{subst}
 use Rattle.vt_fs.specs.FilesystemsValue.{IsNowhere, entry_at, inodes_at, numbers_seen}
 use Rattle.vt_fs.proofs.Nowhere.{over_none, under_none}
 use Rattle.vt_fs.proofs.Numbers.{numbers_counted}

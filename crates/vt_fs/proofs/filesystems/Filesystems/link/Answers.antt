@@ -1,6 +1,5 @@
 use Rattle.std.proofs.Common.{is_some, ap, sym, ◌∙◌}
-use Rattle.std.proofs.lemmas.Result.{on_err_weaker, on_ok_weaker}
-use Rattle.vt_spec.specs.Language.Changes.Change.{AddName}
+use Rattle.vt_spec.proofs.Common.{AddName, on_err_weaker, on_ok_weaker}
 use Rattle.vt_location.specs.Locations.{number_of}
 use Rattle.vt_location.specs.declared.numbers.FilesystemId.{FilesystemId}
 use Rattle.vt_fs.specs.FilesystemsValue.{files_at}

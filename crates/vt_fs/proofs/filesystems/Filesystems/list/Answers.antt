@@ -1,5 +1,5 @@
 use Rattle.std.proofs.Common.{sym, subst, ◌≡◌, IfOk, List, ℕ, map}
-use Rattle.vt_spec.specs.Tree.{names_in}
+use Rattle.vt_spec.proofs.Common.{names_in}
 use Rattle.vt_fs.proofs.Standing.{empty_there, plain_there}
 use Rattle.vt_fs.proofs.filesystems.Filesystems.list.Goals as goal
 

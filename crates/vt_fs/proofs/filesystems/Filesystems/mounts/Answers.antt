@@ -1,5 +1,4 @@
-use Rattle.std.proofs.Common.{ap, sym, ◌∙◌, option_map, Option, unwrap_or}
-use Rattle.std.specs.Prelude.{option_copied}
+use Rattle.std.proofs.Common.{ap, sym, ◌∙◌, option_map, Option, unwrap_or, option_copied}
 use Rattle.vt_fs.specs.FilesystemsValue.{FilesystemEntry, entry_at, no_entry}
 use Rattle.vt_fs.proofs.Entries.{entry_of-held, of_count}
 use Rattle.vt_fs.proofs.filesystems.Filesystems.mounts.Goals as goal

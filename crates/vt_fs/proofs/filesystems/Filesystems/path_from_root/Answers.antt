@@ -1,5 +1,5 @@
 use Rattle.std.proofs.Common.{◌≡◌, sym, subst, IfOk, List, ℕ, Option, nat_eq, map, option_map}
-use Rattle.vt_spec.specs.FileTree.{path_down}
+use Rattle.vt_spec.proofs.Common.{path_down}
 use Rattle.vt_location.specs.declared.numbers.FilesystemId.{FilesystemId}
 use Rattle.vt_location.specs.Locations.{number_of}
 use Rattle.vt_fs.specs.Trees.Paths.{NamesDirectoriesOnce}

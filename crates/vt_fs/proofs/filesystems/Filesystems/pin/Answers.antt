@@ -1,6 +1,5 @@
 use Rattle.std.proofs.Common.{ap, refl, subst, sym, ◌∙◌, ◌↔◌, ◌≡◌, IsErr, ℕ}
-use Rattle.std.proofs.lemmas.Result.{on_err_weaker, on_ok_weaker}
-use Rattle.std.specs.Option.{option_copied_mut}
+use Rattle.vt_spec.proofs.Common.{on_err_weaker, on_ok_weaker, option_copied_mut}
 use Rattle.vt_fs.specs.Trees.Slots.{most_uses}
 use Rattle.vt_fs.proofs.Standing.{kept, nothing_changes, pins, standing_of, uses_there}
 use Rattle.vt_fs.proofs.Nowhere.{pinned_none, unchanged}

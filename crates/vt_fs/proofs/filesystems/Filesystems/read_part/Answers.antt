@@ -1,5 +1,5 @@
 use Rattle.std.proofs.Common.{sym, subst, ◌≡◌, [], IfOk, IsOk, List, ℕ, drop, take}
-use Rattle.vt_spec.specs.Tree.{bytes_in}
+use Rattle.vt_spec.proofs.Common.{bytes_in}
 use Rattle.vt_fs.proofs.Standing.{plain_there}
 use Rattle.vt_fs.proofs.filesystems.Filesystems.read_part.Goals as goal
 

@@ -1,5 +1,5 @@
 use Rattle.std.proofs.Common.{◌-◌, ap, refl, sym, ◌∙◌}
-use Rattle.std.specs.Option.{option_copied_mut}
+use Rattle.vt_spec.proofs.Common.{option_copied_mut}
 use Rattle.vt_fs.specs.FilesystemsValue.{held}
 use Rattle.vt_fs.proofs.Entries.{writes, writes_none}
 use Rattle.vt_fs.proofs.filesystems.Filesystems.release_mount.Goals.{in-Some, in_default}

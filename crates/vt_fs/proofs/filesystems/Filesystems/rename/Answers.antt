@@ -1,11 +1,8 @@
-use Rattle.std.proofs.Common.{is_some, ap, sym, ◌∙◌}
-use Rattle.std.proofs.lemmas.Result.{on_err_weaker, on_ok_weaker}
-use Rattle.std.specs.Prelude.{option_map}
-use Rattle.vt_spec.specs.Language.Changes.Change.{Move}
+use Rattle.std.proofs.Common.{is_some, ap, sym, ◌∙◌, option_map}
+use Rattle.vt_spec.proofs.Common.{Move, is_directory_node, on_err_weaker, on_ok_weaker}
 use Rattle.vt_location.specs.Locations.{number_of}
 use Rattle.vt_location.specs.declared.numbers.FilesystemId.{FilesystemId}
 use Rattle.vt_fs.specs.FilesystemsValue.{files_at}
-use Rattle.vt_spec.specs.Tree.{is_directory_node}
 use Rattle.vt_location.specs.Numbers.{exchanged}
 use Rattle.vt_fs.proofs.Nowhere.{directory_has_slot, inode_has_slot, parent_has_slot, slot_there}
 use Rattle.vt_fs.proofs.Standing.{changes, directory_exists, directory_there, entry_there, kept, outside_there, replaced_there, slot_named, standing_of}

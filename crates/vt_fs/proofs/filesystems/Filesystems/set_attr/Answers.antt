@@ -1,6 +1,5 @@
 use Rattle.std.proofs.Common.{ap, refl, sym, ◌∙◌}
-use Rattle.std.specs.Option.{option_copied_mut}
-use Rattle.vt_spec.specs.Language.Changes.Change.{SetAttr}
+use Rattle.vt_spec.proofs.Common.{SetAttr, option_copied_mut}
 use Rattle.vt_fs.proofs.Standing.{changes, nothing_changes, standing_of}
 use Rattle.vt_fs.proofs.Nowhere.{attr_none, unchanged}
 use Rattle.vt_fs.proofs.filesystems.Filesystems.set_attr.Goals as goal

@@ -1,6 +1,5 @@
 use Rattle.std.proofs.Common.{ap, refl, sym, ◌∙◌}
-use Rattle.std.specs.Option.{option_copied_mut}
-use Rattle.vt_spec.specs.Language.Changes.Change.{SetMark}
+use Rattle.vt_spec.proofs.Common.{SetMark, option_copied_mut}
 use Rattle.vt_fs.proofs.Standing.{changes, nothing_changes, standing_of}
 use Rattle.vt_fs.proofs.Nowhere.{mark_none, unchanged}
 use Rattle.vt_fs.proofs.filesystems.Filesystems.set_opaque.Goals as goal

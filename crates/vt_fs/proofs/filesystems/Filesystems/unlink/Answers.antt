@@ -1,5 +1,5 @@
 use Rattle.std.proofs.Common.{is_some, ap, sym, ◌∙◌}
-use Rattle.vt_spec.specs.Language.Changes.Change.{Remove}
+use Rattle.vt_spec.proofs.Common.{Remove}
 use Rattle.vt_location.specs.Locations.{number_of}
 use Rattle.vt_location.specs.declared.numbers.FilesystemId.{FilesystemId}
 use Rattle.vt_fs.specs.FilesystemsValue.{files_at}

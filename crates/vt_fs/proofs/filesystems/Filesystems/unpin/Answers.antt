@@ -1,5 +1,5 @@
 use Rattle.std.proofs.Common.{ap, refl, sym, ◌∙◌}
-use Rattle.std.specs.Option.{option_copied_mut}
+use Rattle.vt_spec.proofs.Common.{option_copied_mut}
 use Rattle.vt_fs.proofs.Standing.{nothing_changes, standing_of, unpins}
 use Rattle.vt_fs.proofs.Nowhere.{unpinned_none, unchanged}
 use Rattle.vt_fs.proofs.filesystems.Filesystems.unpin.Goals as goal

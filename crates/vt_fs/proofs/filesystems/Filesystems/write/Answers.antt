@@ -1,6 +1,5 @@
 use Rattle.std.proofs.Common.{ap, refl, sym, ◌∙◌}
-use Rattle.std.specs.Option.{option_copied_mut}
-use Rattle.vt_spec.specs.Language.Changes.Change.{SetBytes}
+use Rattle.vt_spec.proofs.Common.{SetBytes, option_copied_mut}
 use Rattle.vt_fs.proofs.Standing.{changes, directory_there, nothing_changes, standing_of}
 use Rattle.vt_fs.proofs.Nowhere.{bytes_none, unchanged}
 use Rattle.vt_fs.proofs.filesystems.Filesystems.write.Goals as goal

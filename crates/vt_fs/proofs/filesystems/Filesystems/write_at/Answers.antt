@@ -1,11 +1,6 @@
 use Rattle.std.proofs.Common.{ap, refl, subst, sym, ◌∙◌, ◌+◌, ◌<◌, length, List, Bool, ℕ, IsTrue}
-use Rattle.std.proofs.lemmas.Result.{on_err_weaker, on_ok_weaker}
-use Rattle.std.specs.Option.{option_copied_mut}
-use Rattle.vt_spec.specs.Language.Changes.Change.{SetBytes}
+use Rattle.vt_spec.proofs.Common.{SetBytes, bytes_in, is_kind_in, on_err_weaker, on_ok_weaker, option_copied_mut, overwritten}
 use Rattle.vt_spec.specs.declared.attributes.Kind.TheVariants.{File}
-use Rattle.vt_spec.specs.FileTree.{is_kind_in}
-use Rattle.vt_spec.specs.Machine.Descriptors.{overwritten}
-use Rattle.vt_spec.specs.Tree.{bytes_in}
 use Rattle.vt_fs.specs.Trees.TreeValue.{tree_of}
 use Rattle.vt_fs.proofs.Standing.{changes, directory_there, kept, nothing_changes, plain_there, standing_of}
 use Rattle.vt_fs.proofs.Nowhere.{bytes_none, unchanged}

@@ -1,5 +1,5 @@
 use Rattle.std.proofs.Common.{nat_eq, ap, ◌∙◌}
-use Rattle.vt_spec.specs.Inodes.{unpinned}
+use Rattle.vt_spec.proofs.Common.{unpinned}
 use Rattle.vt_fs.proofs.tree.changes.remove_object.Goals as goal
 
 pub returns : goal.returns

@@ -1,5 +1,5 @@
 use Rattle.std.proofs.Common.{sym}
-use Rattle.std.proofs.lemmas.Result.{on_ok_weaker}
+use Rattle.vt_spec.proofs.Common.{on_ok_weaker}
 use Rattle.vt_fs.proofs.tree.InodeLemmas.{written-through}
 use Rattle.vt_fs.proofs.tree.changes.write_bytes.Goals as goal
 

@@ -1,8 +1,6 @@
-use Rattle.std.proofs.Common.{None, Some, ap, cond, is_some, refl, sym, ◌∙◌}
+use Rattle.std.proofs.Common.{None, Some, ap, cond, is_some, refl, sym, ◌∙◌, nat_cmp}
+use Rattle.vt_spec.proofs.Common.{keys_of, lookup, option_copied_mut, option_flatten, remove_entry}
 use Rattle.std.specs.BTreeMap.{is_at}
-use Rattle.std.specs.Map.{keys_of, lookup, remove_entry}
-use Rattle.std.specs.Option.{option_copied_mut, option_flatten}
-use Rattle.std.specs.Ordering.{nat_cmp}
 use Rattle.vt_group.specs.ByNumber.{has_room, value_at, values_of}
 use Rattle.vt_group.proofs.Reserving.{none_removed, none_updated, room_stays, values_ascend, values_removed, values_updated}
 use Rattle.vt_group.proofs.by_number.ByNumber.clear.Goals as goal

@@ -1,5 +1,5 @@
-use Rattle.std.proofs.Common.{ap, sym, ◌∙◌}
-use Rattle.std.specs.Option.{option_copied, option_flatten}
+use Rattle.std.proofs.Common.{ap, sym, ◌∙◌, option_copied}
+use Rattle.vt_spec.proofs.Common.{option_flatten}
 use Rattle.vt_group.specs.ByNumber.{value_at}
 use Rattle.vt_group.proofs.Reserving.{value_found}
 use Rattle.vt_group.proofs.by_number.ByNumber.get.Goals as goal

@@ -1,5 +1,5 @@
 use Rattle.std.proofs.Common.{None, ap, sym, ◌∙◌}
-use Rattle.vt_spec.proofs.Options.{none_from_not_some}
+use Rattle.vt_spec.proofs.Common.{none_from_not_some}
 use Rattle.vt_group.specs.ByNumber.{value_at}
 use Rattle.vt_group.proofs.Reserving.{value_found, values_kept}
 use Rattle.vt_group.proofs.by_number.ByNumber.release.Goals as goal

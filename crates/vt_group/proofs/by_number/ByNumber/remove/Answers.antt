@@ -1,8 +1,6 @@
-use Rattle.std.proofs.Common.{None, ap, cond, refl, sym, ◌∙◌}
+use Rattle.std.proofs.Common.{None, ap, cond, refl, sym, ◌∙◌, nat_cmp}
+use Rattle.vt_spec.proofs.Common.{option_flatten, remove_entry}
 use Rattle.std.specs.BTreeMap.{is_at}
-use Rattle.std.specs.Map.{remove_entry}
-use Rattle.std.specs.Option.{option_flatten}
-use Rattle.std.specs.Ordering.{nat_cmp}
 use Rattle.vt_group.specs.ByNumber.{value_at}
 use Rattle.vt_group.proofs.Reserving.{value_found, values_ascend, values_removed, values_updated}
 use Rattle.vt_group.proofs.by_number.ByNumber.remove.Goals as goal

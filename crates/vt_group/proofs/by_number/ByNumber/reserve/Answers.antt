@@ -1,5 +1,5 @@
 use Rattle.std.proofs.Common.{◌≡◌, Bool, None, Some, ap, cond, false, is_some, nat_eq, refl, sym, true, true≢false, ◌∙◌}
-use Rattle.std.specs.Option.{option_flatten}
+use Rattle.vt_spec.proofs.Common.{option_flatten}
 use Rattle.vt_group.specs.ByNumber.{has_room}
 use Rattle.vt_group.proofs.Reserving.{room_found, room_stays, values_kept}
 use Rattle.vt_group.proofs.by_number.ByNumber.reserve.Goals as goal

@@ -1,7 +1,6 @@
-use Rattle.std.proofs.Common.{Some, ap, cond, is_some, refl, sym, true≢false, ◌∙◌}
-use Rattle.std.specs.BTreeMap.{insert_entry, is_at}
-use Rattle.std.specs.Option.{option_copied_mut, option_flatten}
-use Rattle.std.specs.Ordering.{nat_cmp}
+use Rattle.std.proofs.Common.{Some, ap, cond, is_some, refl, sym, true≢false, ◌∙◌, nat_cmp}
+use Rattle.vt_spec.proofs.Common.{insert_entry, option_copied_mut, option_flatten}
+use Rattle.std.specs.BTreeMap.{is_at}
 use Rattle.vt_group.specs.ByNumber.{has_room, value_at}
 use Rattle.vt_group.proofs.Reserving.{room_found, room_stays, value_found, values_ascend, values_set, values_updated}
 use Rattle.vt_group.proofs.by_number.ByNumber.set.Goals as goal

@@ -1,6 +1,5 @@
-use Rattle.std.proofs.Common.{◌≡◌, ◌+◌, Some, ap, arith, cond, is_some, refl, sym, true≢false, ◌∙◌}
-use Rattle.std.specs.Option.{option_copied_mut}
-use Rattle.std.specs.Prelude.{unwrap_or}
+use Rattle.std.proofs.Common.{◌≡◌, ◌+◌, Some, ap, arith, cond, is_some, refl, sym, true≢false, ◌∙◌, unwrap_or}
+use Rattle.vt_spec.proofs.Common.{option_copied_mut}
 use Rattle.vt_group.specs.Sets.{same_group}
 use Rattle.vt_group.specs.Types.{count_of, counts_group}
 use Rattle.vt_group.proofs.Counted.{count_updated, entries_kept}

@@ -1,7 +1,5 @@
-use Rattle.std.proofs.Common.{Some, ap, is_some, refl, sym, ◌∙◌}
-use Rattle.std.specs.Map.{lookup}
-use Rattle.std.specs.Prelude.{unwrap_or}
-use Rattle.vt_spec.proofs.Options.{none_from_not_some}
+use Rattle.std.proofs.Common.{Some, ap, is_some, refl, sym, ◌∙◌, unwrap_or}
+use Rattle.vt_spec.proofs.Common.{lookup, none_from_not_some}
 use Rattle.vt_group.specs.Sets.{same_group}
 use Rattle.vt_group.specs.Types.{count_of, counts_group}
 use Rattle.vt_group.proofs.Counted.{count_kept, entries_kept}

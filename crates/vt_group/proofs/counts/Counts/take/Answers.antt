@@ -1,7 +1,5 @@
-use Rattle.std.proofs.Common.{Some, ap, arith, cond, is_some, refl, sym, ◌∙◌}
-use Rattle.std.proofs.Common.{eq-eqb}
-use Rattle.std.specs.Option.{option_copied_mut}
-use Rattle.std.specs.Prelude.{unwrap_or}
+use Rattle.std.proofs.Common.{Some, ap, arith, cond, is_some, refl, sym, ◌∙◌, eq-eqb, unwrap_or}
+use Rattle.vt_spec.proofs.Common.{option_copied_mut}
 use Rattle.vt_group.specs.Types.{count_of, counts_group}
 use Rattle.vt_group.proofs.Counted.{count_updated, entries_kept}
 use Rattle.vt_group.proofs.counts.Counts.take.Goals as goal

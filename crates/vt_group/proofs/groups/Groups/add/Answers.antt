@@ -1,5 +1,5 @@
 use Rattle.std.proofs.Common.{ap, map, subst, sym, ◌∙◌}
-use Rattle.vt_spec.specs.Lists.{folded}
+use Rattle.vt_spec.proofs.Common.{folded}
 use Rattle.vt_group.specs.Additions.{typed_pair}
 use Rattle.vt_group.specs.ByNumber.{Numbered, value_at}
 use Rattle.vt_group.specs.Grouping.{Has}

@@ -1,5 +1,5 @@
 use Rattle.std.proofs.Common.{◌≡◌, ◌⊎◌, ◌||◌, ℕ, map, nat_eq, true}
-use Rattle.vt_spec.specs.Lists.{is_among}
+use Rattle.vt_spec.proofs.Common.{is_among}
 use Rattle.vt_location.specs.Numbers.{counted}
 use Rattle.vt_group.specs.Receiving.{is_noted, receives_from}
 use Rattle.vt_group.proofs.groups.Groups.add_relatives.Given as goal

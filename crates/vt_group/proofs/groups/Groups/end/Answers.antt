@@ -1,7 +1,5 @@
-use Rattle.std.proofs.Common.{◌≡◌, List, None, Option, Some, ap, eq-eqb, is_some, map, nat_eq, option_map, refl, subst, sym, true≢false, ◌∙◌, ℕ}
-use Rattle.vt_spec.specs.Lists.{holds_of}
-use Rattle.vt_spec.specs.Machine.Mounts.{group_of}
-use Rattle.std.specs.Prelude.{filter_map, if◌then◌else◌}
+use Rattle.std.proofs.Common.{◌≡◌, List, None, Option, Some, ap, eq-eqb, is_some, map, nat_eq, option_map, refl, subst, sym, true≢false, ◌∙◌, ℕ, filter_map, if◌then◌else◌}
+use Rattle.vt_spec.proofs.Common.{group_of, holds_of}
 use Rattle.vt_location.specs.declared.mounts.Propagation.{Propagation}
 use Rattle.vt_location.specs.declared.numbers.GroupId.{GroupId}
 use Rattle.vt_location.specs.MountValue.{propagation_of}

@@ -1,16 +1,11 @@
-use Rattle.std.proofs.Common.{◌≡◌, Some, ap, false, is_some, nat_eq, sym, true, true≢false, ◌∙◌}
-use Rattle.std.proofs.lemmas.Option.{same_Some}
-use Rattle.std.specs.List.{list_any}
+use Rattle.std.proofs.Common.{◌≡◌, Some, ap, false, is_some, nat_eq, sym, true, true≢false, ◌∙◌, nat_cmp}
+use Rattle.vt_spec.proofs.Common.{group_of, list_any, remove_entry, same_Some, then_some}
 use Rattle.std.specs.BTreeMap.{is_at}
-use Rattle.std.specs.Map.{remove_entry}
-use Rattle.std.specs.Ordering.{nat_cmp}
 use Rattle.vt_location.specs.declared.mounts.Propagation.{Propagation}
 use Rattle.vt_location.specs.declared.mounts.Propagation.TheVariants.{Private, Shared, Slave, Unbindable}
 use Rattle.vt_location.specs.declared.numbers.GroupId.{GroupId}
 use Rattle.vt_location.specs.MountValue.{propagation_of}
 use Rattle.vt_location.specs.Numbers.{counted, group_number}
-use Rattle.vt_spec.specs.Lists.{then_some}
-use Rattle.vt_spec.specs.Machine.Mounts.{group_of}
 use Rattle.vt_group.specs.Grouping.{propagation_in}
 use Rattle.vt_group.specs.Indexed.{group_of_kind}
 use Rattle.vt_group.specs.Steps.{is_member}

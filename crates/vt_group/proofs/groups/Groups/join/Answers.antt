@@ -1,11 +1,9 @@
 use Rattle.std.proofs.Common.{sym, subst, nat_eq}
-use Rattle.vt_spec.specs.Machine.Mounts.Propagation.{Shared}
-use Rattle.vt_spec.specs.Machine.Receives.{regrouped}
+use Rattle.vt_spec.proofs.Common.{OnOk_then, Shared, regrouped}
 use Rattle.vt_group.specs.Grouping.{Has, with_propagation}
 use Rattle.vt_location.specs.Numbers.{counted}
 use Rattle.vt_group.proofs.Changes.{join_regroups}
 use Rattle.vt_group.proofs.groups.Groups.join.Goals as goal
-use Rattle.vt_spec.proofs.Options.{OnOk_then}
 
 pub returns-clause-ok : goal.returns-clause-ok
 returns-clause-ok c = OnOk_then c.set.result (λ new world has live is.

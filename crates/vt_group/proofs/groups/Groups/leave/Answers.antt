@@ -1,12 +1,8 @@
-use Rattle.std.proofs.Common.{◌≡◌, true}
+use Rattle.std.proofs.Common.{◌≡◌, true, ap, sym, subst, ◌∙◌, map, nat_eq}
+use Rattle.vt_spec.proofs.Common.{Private, group_of, regrouped, remove_entry}
 use Rattle.vt_group.specs.ByNumber.{value_at}
 use Rattle.vt_group.specs.Indexed.{group_at, is_listed, mount_at}
 use Rattle.vt_group.proofs.Invariant.{left_each}
-use Rattle.std.proofs.Common.{ap, sym, subst, ◌∙◌, map, nat_eq}
-use Rattle.std.specs.Map.{remove_entry}
-use Rattle.vt_spec.specs.Machine.Mounts.{group_of}
-use Rattle.vt_spec.specs.Machine.Mounts.Propagation.{Private}
-use Rattle.vt_spec.specs.Machine.Receives.{regrouped}
 use Rattle.vt_group.specs.Grouping.{Grouping, Has, are_rising, propagation_in, with_propagation}
 use Rattle.vt_group.specs.Leaving.{lost_group, type_once_ended}
 use Rattle.vt_group.proofs.EndedTypes.{rising_numbers}

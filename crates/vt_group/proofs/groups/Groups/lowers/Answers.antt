@@ -1,5 +1,5 @@
 use Rattle.std.proofs.Common.{◌≡◌, ap, is_some, nat_eq, subst, sym, true, ◌∙◌}
-use Rattle.std.specs.Map.{lookup}
+use Rattle.vt_spec.proofs.Common.{lookup}
 use Rattle.vt_group.specs.Grouping.{master_in}
 use Rattle.vt_group.specs.Indexed.{group_at}
 use Rattle.vt_group.specs.Receiving.{is_in}

@@ -1,5 +1,5 @@
 use Rattle.std.proofs.Common.{ap, sym, ◌∙◌}
-use Rattle.vt_spec.specs.Machine.Mounts.{group_of}
+use Rattle.vt_spec.proofs.Common.{group_of}
 use Rattle.vt_location.specs.Numbers.{counted, group_number}
 use Rattle.vt_group.specs.Grouping.{propagation_in}
 use Rattle.vt_group.proofs.Changes.{group_shared}

@@ -1,5 +1,5 @@
 use Rattle.std.proofs.Common.{◌∙◌}
-use Rattle.std.proofs.lemmas.Result.{IfOk-weaker}
+use Rattle.vt_spec.proofs.Common.{IfOk-weaker}
 use Rattle.vt_location.specs.Numbers.{counted}
 use Rattle.vt_group.proofs.Receiving.{receivers_found}
 use Rattle.vt_group.proofs.groups.Groups.receivers.Goals as goal

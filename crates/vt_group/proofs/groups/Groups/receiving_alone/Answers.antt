@@ -1,5 +1,4 @@
-use Rattle.std.proofs.Common.{◌≡◌, ◌∙◌, ◌||◌, Bool, Some, ap, eq-eqb, false, nat_eq, refl, subst, sym, true, ℕ}
-use Rattle.std.proofs.lemmas.Bool.{eqb-true}
+use Rattle.std.proofs.Common.{◌≡◌, ◌∙◌, ◌||◌, Bool, Some, ap, eq-eqb, false, nat_eq, refl, subst, sym, true, ℕ, eqb-true}
 use Rattle.vt_location.specs.Numbers.{counted}
 use Rattle.vt_group.specs.Receiving.{Reaches, is_noted, receivers_from, receives_from}
 use Rattle.vt_group.proofs.groups.Found.{reaches_first}

@@ -1,6 +1,5 @@
-use Rattle.std.proofs.Common.{◌≡◌, ◌<◌, ◌∷◌, ◌++◌, ◌||◌, [], Bool, take, length-append, ap, arith, get_or, length, nat_eq, sym, true, ◌∙◌, ℕ}
-use Rattle.std.proofs.lemmas.List.{take_all}
-use Rattle.vt_spec.specs.Machine.Mounts.{source_of}
+use Rattle.std.proofs.Common.{◌≡◌, ◌<◌, ◌∷◌, ◌++◌, ◌||◌, [], Bool, take, length-append, ap, arith, get_or, length, nat_eq, sym, true, ◌∙◌, ℕ, take_all}
+use Rattle.vt_spec.proofs.Common.{source_of}
 use Rattle.vt_location.specs.declared.numbers.GroupId.{GroupId}
 use Rattle.vt_location.specs.Numbers.{counted, group_number}
 use Rattle.vt_group.specs.Grouping.{propagation_in}

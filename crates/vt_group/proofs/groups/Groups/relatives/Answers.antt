@@ -1,7 +1,5 @@
 use Rattle.std.proofs.Common.{◌≡◌, ap, is_some, map, nat_eq, subst, sym, true, ◌∙◌}
-use Rattle.std.specs.Map.{lookup}
-use Rattle.vt_spec.specs.Lists.{is_among}
-use Rattle.vt_spec.specs.Machine.Mounts.{source_of}
+use Rattle.vt_spec.proofs.Common.{is_among, lookup, source_of}
 use Rattle.vt_location.specs.Numbers.{counted}
 use Rattle.vt_group.specs.Grouping.{propagation_in}
 use Rattle.vt_group.specs.Indexed.{mount_at}

@@ -1,12 +1,9 @@
-use Rattle.std.proofs.Common.{◌≡◌, true}
+use Rattle.std.proofs.Common.{◌≡◌, true, Some, ap, cond, map, refl, ◌∙◌, nat_cmp}
+use Rattle.vt_spec.proofs.Common.{group_of, insert_entry, lookup}
 use Rattle.vt_group.specs.ByNumber.{value_at}
 use Rattle.vt_group.specs.Indexed.{group_at, is_listed, mount_at}
 use Rattle.vt_group.proofs.Invariant.{put_each}
-use Rattle.std.proofs.Common.{Some, ap, cond, map, refl, ◌∙◌}
-use Rattle.std.specs.BTreeMap.{insert_entry, is_at}
-use Rattle.std.specs.Map.{lookup}
-use Rattle.std.specs.Ordering.{nat_cmp}
-use Rattle.vt_spec.specs.Machine.Mounts.{group_of}
+use Rattle.std.specs.BTreeMap.{is_at}
 use Rattle.vt_location.specs.Numbers.{counted}
 use Rattle.vt_location.specs.MountValue.{propagation_of}
 use Rattle.vt_group.specs.Grouping.{Grouping, propagation_in}

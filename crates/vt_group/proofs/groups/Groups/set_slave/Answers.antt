@@ -1,8 +1,6 @@
-use Rattle.std.proofs.Common.{◌≡◌, ap, is_some, map, refl, sym, true, ◌||◌, ◌∙◌}
-use Rattle.std.specs.BTreeMap.{insert_entry, is_at}
-use Rattle.std.specs.List.{list_any}
-use Rattle.std.specs.Ordering.{nat_cmp}
-use Rattle.vt_spec.specs.Machine.Mounts.{group_of}
+use Rattle.std.proofs.Common.{◌≡◌, ap, is_some, map, refl, sym, true, ◌||◌, ◌∙◌, nat_cmp}
+use Rattle.vt_spec.proofs.Common.{group_of, insert_entry, list_any}
+use Rattle.std.specs.BTreeMap.{is_at}
 use Rattle.vt_location.specs.declared.mounts.Propagation.TheVariants.{Shared, Slave}
 use Rattle.vt_location.specs.MountValue.{propagation_of}
 use Rattle.vt_location.specs.Numbers.{counted, group_number}

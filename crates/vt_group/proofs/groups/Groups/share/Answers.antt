@@ -1,7 +1,5 @@
 use Rattle.std.proofs.Common.{ap, map, nat_eq, refl, subst, sym, ℕ, ◌∙◌}
-use Rattle.vt_spec.specs.Language.Calls.TypeWord.{ToShared}
-use Rattle.vt_spec.specs.Lists.{folded}
-use Rattle.vt_spec.specs.Machine.Types.{retyped}
+use Rattle.vt_spec.proofs.Common.{ToShared, folded, retyped}
 use Rattle.vt_group.specs.Additions.{typed_pair}
 use Rattle.vt_group.specs.ByNumber.{Numbered, value_at}
 use Rattle.vt_group.specs.Listing.{EachShared}

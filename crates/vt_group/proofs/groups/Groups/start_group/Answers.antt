@@ -1,13 +1,6 @@
-use Rattle.std.proofs.Common.{◌≡◌, None, Option, Some, ap, cond, false, is_some, map, nat_eq, option_map, refl, subst, sym, true, true≢false, ℕ, ◌∙◌}
-use Rattle.std.specs.BTreeMap.{insert_entry, is_at}
-use Rattle.std.specs.Map.{lookup}
-use Rattle.std.specs.Ordering.{nat_cmp}
-use Rattle.std.specs.Prelude.{IfSome}
-use Rattle.vt_spec.specs.Machine.Mounts.{group_of}
-use Rattle.vt_spec.specs.Machine.Mounts.Propagation.{Shared}
-use Rattle.vt_spec.specs.Machine.Receives.{has_members, regrouped}
-use Rattle.vt_spec.specs.Machine.World.{World}
-use Rattle.vt_spec.proofs.Options.{OnOk_then}
+use Rattle.std.proofs.Common.{◌≡◌, None, Option, Some, ap, cond, false, is_some, map, nat_eq, option_map, refl, subst, sym, true, true≢false, ℕ, ◌∙◌, nat_cmp, IfSome}
+use Rattle.vt_spec.proofs.Common.{OnOk_then, Shared, World, group_of, has_members, insert_entry, lookup, regrouped}
+use Rattle.std.specs.BTreeMap.{is_at}
 use Rattle.vt_location.specs.MountValue.{propagation_of}
 use Rattle.vt_location.specs.Numbers.{counted, group_number}
 use Rattle.vt_location.specs.declared.mounts.Propagation.TheVariants.{Shared as SharedIn}

@@ -1,5 +1,4 @@
-use Rattle.std.proofs.Common.{subst}
-use Rattle.std.proofs.lemmas.List.{take_all}
+use Rattle.std.proofs.Common.{subst, take_all}
 use Rattle.vt_group.specs.Listing.{EachJoined}
 use Rattle.vt_group.proofs.Coming.{each_joined_still, joined_more}
 use Rattle.vt_group.proofs.index.Index.join_all.Goals as goal

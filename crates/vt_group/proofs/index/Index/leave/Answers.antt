@@ -1,5 +1,5 @@
 use Rattle.std.proofs.Common.{ap, ◌∙◌}
-use Rattle.vt_spec.specs.Lists.{then_some}
+use Rattle.vt_spec.proofs.Common.{then_some}
 use Rattle.vt_group.specs.declared.index.Index.{Index}
 use Rattle.vt_group.specs.Indexed.{source_of_kind}
 use Rattle.vt_group.specs.Names.{names_of, names_of_any}

@@ -1,5 +1,4 @@
-use Rattle.std.proofs.Common.{subst}
-use Rattle.std.proofs.lemmas.List.{take_all}
+use Rattle.std.proofs.Common.{subst, take_all}
 use Rattle.vt_group.specs.Listing.{EachListed}
 use Rattle.vt_group.proofs.Coming.{each_listed_still, listed_more}
 use Rattle.vt_group.proofs.index.Index.list_all.Goals as goal

@@ -1,5 +1,4 @@
-use Rattle.std.proofs.Common.{subst}
-use Rattle.std.proofs.lemmas.List.{take_all}
+use Rattle.std.proofs.Common.{subst, take_all}
 use Rattle.vt_group.specs.Listing.{EachShared}
 use Rattle.vt_group.proofs.Coming.{each_shared_still, shared_more}
 use Rattle.vt_group.proofs.index.Index.share.Goals as goal

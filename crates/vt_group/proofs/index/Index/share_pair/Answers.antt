@@ -1,5 +1,4 @@
-use Rattle.std.proofs.Common.{subst}
-use Rattle.std.specs.Prelude.{OnOk}
+use Rattle.std.proofs.Common.{subst, OnOk}
 use Rattle.vt_group.specs.Listing.{IsShared}
 use Rattle.vt_group.proofs.index.Index.share_pair.Goals as goal
 

@@ -1,5 +1,5 @@
 use Rattle.std.proofs.Common.{ap, arith, length, ◌∙◌}
-use Rattle.std.specs.List.{list_any}
+use Rattle.vt_spec.proofs.Common.{list_any}
 use Rattle.vt_group.specs.Sets.{has, same_group, same_id}
 use Rattle.vt_group.proofs.name_list.NameList.keep_used.Goals as goal
 

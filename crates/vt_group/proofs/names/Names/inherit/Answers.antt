@@ -1,7 +1,5 @@
-use Rattle.std.proofs.Common.{◌≡◌, ◌+◌, ◌≤◌, ◌++◌, ◌∙◌, ap, arith, false, is_some, sym, true, Some, []}
-use Rattle.std.specs.List.{list_any}
-use Rattle.std.specs.Option.{option_copied_mut}
-use Rattle.std.specs.Prelude.{unwrap_or}
+use Rattle.std.proofs.Common.{◌≡◌, ◌+◌, ◌≤◌, ◌++◌, ◌∙◌, ap, arith, false, is_some, sym, true, Some, [], unwrap_or}
+use Rattle.vt_spec.proofs.Common.{list_any, option_copied_mut}
 use Rattle.vt_group.specs.Names.{count_names, names_of}
 use Rattle.vt_group.specs.Sets.{same_group}
 use Rattle.vt_group.proofs.names.NamesLemmas.{all_of_both, any_of_first, any_of_second, count_taken, count_written, no_more, one_has, one_keeps, others_keep}

@@ -1,6 +1,6 @@
 use Rattle.std.proofs.Common.{Some, ap, arith, sym, ◌∙◌}
+use Rattle.vt_spec.proofs.Common.{option_copied_mut}
 use Rattle.std.proofs.lemmas.Map.Steps.{set_value_same}
-use Rattle.std.specs.Option.{option_copied_mut}
 use Rattle.vt_group.specs.Names.{count_names}
 use Rattle.vt_group.specs.Sets.{same_group}
 use Rattle.vt_group.proofs.names.Names.notes_unused.Goals as goal

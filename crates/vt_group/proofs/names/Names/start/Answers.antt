@@ -1,5 +1,5 @@
 use Rattle.std.proofs.Common.{arith, ap, cond, length, ◌∙◌, Some}
-use Rattle.std.specs.Map.{lookup}
+use Rattle.vt_spec.proofs.Common.{lookup}
 use Rattle.vt_group.specs.Names.{count_names, names_of}
 use Rattle.vt_group.specs.Sets.{same_group}
 use Rattle.vt_group.proofs.names.NamesLemmas.{count_inserted, none_kept, one_keeps}

@@ -1,7 +1,5 @@
 use Rattle.std.proofs.Common.{ap, cond, is_some, option_map, sym, unwrap_or, ◌∙◌, ◌∷◌, Some, []}
-use Rattle.std.proofs.lemmas.Bool.{false≢true}
-use Rattle.std.specs.Map.{lookup}
-use Rattle.std.specs.Option.{option_copied_mut}
+use Rattle.vt_spec.proofs.Common.{false≢true, lookup, option_copied_mut}
 use Rattle.vt_group.specs.declared.set.Set.{Set}
 use Rattle.vt_group.specs.declared.sets.Sets.{Sets}
 use Rattle.vt_group.specs.Sets.{elements, same_group}

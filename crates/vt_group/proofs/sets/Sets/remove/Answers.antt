@@ -1,6 +1,5 @@
 use Rattle.std.proofs.Common.{ap, cond, is_some, option_map, sym, unwrap_or, ◌∙◌, None, Some, []}
-use Rattle.std.specs.List.{list_any}
-use Rattle.std.specs.Option.{option_copied_mut}
+use Rattle.vt_spec.proofs.Common.{list_any, option_copied_mut}
 use Rattle.vt_group.specs.declared.sets.Sets.{Sets}
 use Rattle.vt_group.specs.Sets.{elements, same_group}
 use Rattle.vt_group.proofs.SetsLemmas.{dropped-empty, has-left, kept-written}

@@ -1,5 +1,5 @@
 use Rattle.std.proofs.Common.{ap, ltb, ◌∙◌}
-use Rattle.std.specs.List.{list_any}
+use Rattle.vt_spec.proofs.Common.{list_any}
 use Rattle.vt_group.specs.Types.{is_in_group}
 use Rattle.vt_group.proofs.Counted.{counted_any}
 use Rattle.vt_group.proofs.types.Types.has_members.Goals as goal

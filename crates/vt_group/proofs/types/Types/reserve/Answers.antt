@@ -1,7 +1,6 @@
-use Rattle.std.proofs.Common.{ap, subst, sym, ◌∙◌}
+use Rattle.std.proofs.Common.{ap, subst, sym, ◌∙◌, nat_cmp}
+use Rattle.vt_spec.proofs.Common.{keys_of}
 use Rattle.std.specs.List.Sorted.{IsStrictlySortedBy}
-use Rattle.std.specs.Map.{keys_of}
-use Rattle.std.specs.Ordering.{nat_cmp}
 use Rattle.vt_group.specs.Types.{count_members}
 use Rattle.vt_group.proofs.types.Types.reserve.Goals as goal
 

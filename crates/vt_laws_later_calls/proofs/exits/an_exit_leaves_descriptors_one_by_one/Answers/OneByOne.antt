@@ -1,6 +1,6 @@
 -- Descriptors are closed one after the other, with a sweep after each, and then the task ends.
 use Rattle.std.proofs.Common.{arith, ◌≡◌, refl, sym, ap, subst, ◌∙◌, ℕ, nat_eq, Bool, true, false, cond, not, List, [], ◌∷◌, Option, Some, None, filter, flat_map, map}
-use Rattle.std.proofs.lemmas.Grind.{common_steps}
+use Rattle.vt_spec.proofs.Common.{Fresh, Location, MountInvariants, Task, TaskName, ToExit, World, all_locations, apply, common_steps, locations_of, namespaces_ended, replaced_if_called, same_name, same_name_itself, settled, task_called, with_task, without_descriptor}
 use Rattle.vt_laws_mounts.proofs.letting_go.ends.EndsInTurn.{one_sweep_for_exits_with_overlays}
 use Rattle.vt_laws_mounts.proofs.letting_go.leaving.LeftOneByOne.{one_sweep_with_overlays}
 use Rattle.vt_laws_mounts.proofs.letting_go.leaving.PlacesLeft.{comes_nowhere_itself, location_among}
@@ -11,17 +11,6 @@ use Rattle.vt_laws_mounts.specs.LettingGo.InUse.{HasTrees, UppersArePlain}
 use Rattle.vt_laws_mounts.specs.LettingGo.Leaving.{comes_nowhere, is_location_among, with_sweeps}
 use Rattle.vt_laws_mounts.specs.LettingGo.LeavingOverlays.{IsSettled}
 use Rattle.vt_laws_mounts.specs.LettingGo.Overlays.{RealsAreThere}
-use Rattle.vt_spec.proofs.Worlds.{same_name_itself}
-use Rattle.vt_spec.specs.Language.Calls.{TaskName, same_name}
-use Rattle.vt_spec.specs.Lists.{Fresh}
-use Rattle.vt_spec.specs.Machine.Apply.{apply}
-use Rattle.vt_spec.specs.Machine.Invariants.{MountInvariants}
-use Rattle.vt_spec.specs.Machine.Mounts.{Location}
-use Rattle.vt_spec.specs.Machine.Namespaces.{namespaces_ended}
-use Rattle.vt_spec.specs.Machine.Descriptors.{without_descriptor}
-use Rattle.vt_spec.specs.Machine.Permits.Permit.{ToExit}
-use Rattle.vt_spec.specs.Machine.Settled.{settled}
-use Rattle.vt_spec.specs.Machine.World.{Task, World, all_locations, locations_of, replaced_if_called, task_called, with_task}
 use Rattle.vt_laws_worlds.proofs.kept.MountsAlike.{same_mounts}
 use Rattle.vt_laws_worlds.proofs.worlds.CallsKept.{name_found}
 use Rattle.vt_laws_later_calls.specs.Exits.{ExitLeavesOneByOne, closed_by, closed_in}

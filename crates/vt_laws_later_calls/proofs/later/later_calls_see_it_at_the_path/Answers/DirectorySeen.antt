@@ -1,27 +1,8 @@
 -- A directory that was renamed is found at its new path, by whoever stands outside of it, and its old path is missing.
 use Rattle.std.proofs.Common.{◌≡◌, refl, sym, ap, subst, ◌∙◌, inl, inr, ◌⊎◌, ⊎_elim, true≢false, ℕ, nat_eq, Bool, true, false, cond, List, Option, Some, None, is_some, map, Ok, Err}
-use Rattle.std.proofs.lemmas.Option.{same_Some}
+use Rattle.vt_spec.proofs.Common.{Credentials, Done, Fresh, IsWorld, Location, Ls, Lstat, Names, Node, Place, Rename, Serves, StatLine, Task, TaskName, ToRename, Told, World, denial, directory_walk, entries_in, entry_named, execute_right, files_at, is_directory_at, is_directory_node, is_directory_there, is_one_object, looks_of, may as may_do, mount_at, mount_in, name_of, names_in, new_walk, node_allows, node_at, object_there, old_leaf_walk, place_walk, policy, raised_task, read_right, same_Some, stat_line, stepped, task_called}
 use Rattle.vt_spec.specs.declared.errors.Rule.{Rule}
 use Rattle.vt_spec.specs.declared.errors.Rule.TheVariants.{C1, W4, W6}
-use Rattle.vt_spec.specs.Errors.{denial}
-use Rattle.vt_spec.specs.Language.Answers.{StatLine}
-use Rattle.vt_spec.specs.Language.Answers.Answer.{Done, Names, Told}
-use Rattle.vt_spec.specs.Language.Calls.{TaskName}
-use Rattle.vt_spec.specs.Language.Calls.Call.{Ls, Lstat, Rename}
-use Rattle.vt_spec.specs.Lists.{Fresh}
-use Rattle.vt_spec.specs.Machine.Invariants.{IsWorld}
-use Rattle.vt_spec.specs.Machine.Looks.{looks_of, may as may_do}
-use Rattle.vt_spec.specs.Machine.Mounts.{Location, mount_in}
-use Rattle.vt_spec.specs.Machine.Apply.{stat_line}
-use Rattle.vt_spec.specs.Machine.Permits.Permit.{ToRename}
-use Rattle.vt_spec.specs.Machine.Policy.{policy, raised_task}
-use Rattle.vt_spec.specs.Machine.Rightful.{node_allows}
-use Rattle.vt_spec.specs.Machine.Rules.Removing.{is_one_object, object_there}
-use Rattle.vt_spec.specs.Machine.Run.{Serves}
-use Rattle.vt_spec.specs.Machine.Walking.{Place, directory_walk, is_directory_there, name_of, new_walk, old_leaf_walk, place_walk, stepped}
-use Rattle.vt_spec.specs.Machine.World.{Task, World, files_at, is_directory_at, mount_at, node_at, task_called}
-use Rattle.vt_spec.specs.Rights.{Credentials, execute_right, read_right}
-use Rattle.vt_spec.specs.Tree.{Node, entries_in, entry_named, is_directory_node, names_in}
 use Rattle.vt_laws_trees.specs.Layers.Layers.Untouched.{IsKept}
 use Rattle.vt_laws_worlds.specs.Permits.Sees.{MayBeRenamed}
 use Rattle.vt_laws_worlds.specs.Worlds.Kept.{IsPlain}

@@ -1,33 +1,8 @@
 -- An object that was renamed, over another one or not, is found where its new name leads, with what it had; the old
 -- name is missing.
-use Rattle.std.proofs.Common.{◌≡◌, refl, sym, ap, subst, ◌∙◌, inl, inr, ◌⊎◌, ⊎_elim, true≢false, ℕ, nat_eq, Bool, true, false, cond, not, ◌&&◌, List, [], ◌∷◌, Option, Some, None, is_some, Ok, Err}
-use Rattle.std.specs.Prelude.{length, map, unwrap_or}
-use Rattle.std.proofs.lemmas.Bool.{or_parts}
-use Rattle.std.proofs.lemmas.Option.{same_Some}
+use Rattle.std.proofs.Common.{◌≡◌, refl, sym, ap, subst, ◌∙◌, inl, inr, ◌⊎◌, ⊎_elim, true≢false, ℕ, nat_eq, Bool, true, false, cond, not, ◌&&◌, List, [], ◌∷◌, Option, Some, None, is_some, Ok, Err, length, map, unwrap_or}
+use Rattle.vt_spec.proofs.Common.{Done, Fresh, IsWorld, LastWord, Location, Looks, Ls, Lstat, Names, Node, Permit, Place, Rename, Serves, Task, TaskName, ToRename, Told, World, and_then-Ok, denial, directory_from_entry, ends_in_slash, entries_in, entry_at, entry_named, files_at, holds_of, is_directory, is_directory_at, is_directory_node, is_directory_there, is_mount_point_anywhere, is_one_object, is_special, looks_of, mount_at, name_of, names_in, new_walk, node_allows, node_at, object_there, old_leaf_walk, old_walk, old_word_rules, or_parts, passing, place_walk, policy, read_right, rename_new_walk, rename_permit, rename_rules, renamed_permit, same_Some, same_ok, stat_line, stepped, task_called, walk_end}
 use Rattle.vt_spec.specs.declared.errors.Rule.TheVariants.{C1, W3, W6}
-use Rattle.vt_spec.specs.Errors.{denial}
-use Rattle.vt_spec.specs.Language.Answers.Answer.{Done, Names, Told}
-use Rattle.vt_spec.specs.Language.Calls.{TaskName}
-use Rattle.vt_spec.specs.Language.Calls.Call.{Ls, Lstat, Rename}
-use Rattle.vt_spec.specs.Lists.{Fresh, holds_of}
-use Rattle.vt_spec.specs.Machine.Invariants.{IsWorld}
-use Rattle.vt_spec.specs.Machine.Judge.{rename_permit, renamed_permit}
-use Rattle.vt_spec.specs.Machine.Looks.{Looks, looks_of}
-use Rattle.vt_spec.specs.Machine.Mounts.{Location}
-use Rattle.vt_spec.specs.Machine.Apply.{stat_line}
-use Rattle.vt_spec.specs.Machine.Permits.{Permit}
-use Rattle.vt_spec.specs.Machine.Permits.Permit.{ToRename}
-use Rattle.vt_spec.specs.Machine.Policy.{policy}
-use Rattle.vt_spec.specs.Machine.Rightful.{node_allows}
-use Rattle.vt_spec.specs.Machine.Rules.Conditions.{is_mount_point_anywhere}
-use Rattle.vt_spec.specs.Machine.Rules.Removing.{is_one_object, object_there, old_word_rules, rename_new_walk, rename_rules}
-use Rattle.vt_spec.specs.Machine.Run.{Serves}
-use Rattle.vt_spec.specs.Machine.Walking.{LastWord, Place, is_directory_there, is_special, name_of, new_walk, old_leaf_walk, old_walk, place_walk, stepped, walk_end}
-use Rattle.vt_spec.specs.Machine.World.{Task, World, files_at, is_directory_at, mount_at, node_at, task_called}
-use Rattle.vt_spec.specs.PathText.{ends_in_slash}
-use Rattle.vt_spec.specs.Rights.{is_directory, read_right}
-use Rattle.vt_spec.specs.Tree.{Node, entries_in, entry_named, is_directory_node, names_in}
-use Rattle.vt_spec.specs.TreeInvariant.{entry_at}
 use Rattle.vt_laws_worlds.specs.Permits.Sees.{MayBeRenamed}
 use Rattle.vt_laws_worlds.proofs.permits.sees.SeesNames.{tree_here}
 use Rattle.vt_laws_trees.specs.Layers.Layers.Untouched.{IsKept}
@@ -41,14 +16,11 @@ use Rattle.vt_laws_later_calls.proofs.MadeSeen.{Never, surely}
 use Rattle.vt_laws_later_calls.proofs.Opened.{walk_ended}
 use Rattle.vt_laws_later_calls.proofs.Readers.{own_name, stepped_by}
 use Rattle.vt_laws_later_calls.proofs.Stays.{called_own}
-use Rattle.vt_spec.proofs.Refusals.{passing, same_ok}
 use Rattle.vt_laws_later_calls.proofs.later.later_calls_see_it_at_the_path.Answers.RenamedSeen.{itself_leads}
 use Rattle.vt_laws_later_calls.proofs.later.later_calls_see_it_at_the_path.Answers.Unlinked.{Missing, old_parts}
 use Rattle.vt_laws_later_calls.proofs.Ways.{both_walked, same_end, walk_passing}
 use Rattle.vt_laws_later_calls.proofs.WaysPlaces.{NamedPlace, directory_named_too, front_too, named_place, parent_known, symlink_missing, symlink_named_too}
 use Rattle.vt_laws_later_calls.proofs.WaysStay.{node_in, tree_in}
-use Rattle.vt_spec.proofs.NodeChanges.{directory_from_entry}
-use Rattle.vt_spec.proofs.Options.{and_then-Ok}
 
 -- what a granted rename of two names of two objects was permitted
 pub record NamesParts (looks : Looks ℕ) (task : Task ℕ) (old new : List ℕ) (from to : Place ℕ)

@@ -1,28 +1,7 @@
 -- A name more leads to the object of the old one.
-use Rattle.std.proofs.Common.{◌≡◌, ◌≢◌, refl, sym, ap, subst, ◌∙◌, inl, inr, true≢false, ℕ, nat_eq, eqb-true, true, false, List, Some, is_some, Ok}
-use Rattle.std.specs.Prelude.{option_to_list, Bool}
-use Rattle.std.proofs.lemmas.Option.{same_Some}
-use Rattle.std.proofs.lemmas.Bool.{not-false}
-use Rattle.vt_spec.specs.Language.Answers.Answer.{Done, Told}
-use Rattle.vt_spec.specs.Language.Calls.{TaskName}
-use Rattle.vt_spec.specs.Language.Calls.Call.{LinkTo, Lstat}
-use Rattle.vt_spec.specs.Language.Changes.{Change, changed}
-use Rattle.vt_spec.specs.Lists.{Fresh}
-use Rattle.vt_spec.specs.Machine.Apply.{apply, stat_line}
-use Rattle.vt_spec.specs.Machine.Filesystems.{with_change}
-use Rattle.vt_spec.specs.Machine.Looks.{Looks, looks_of}
+use Rattle.std.proofs.Common.{◌≡◌, ◌≢◌, refl, sym, ap, subst, ◌∙◌, inl, inr, true≢false, ℕ, nat_eq, eqb-true, true, false, List, Some, is_some, Ok, option_to_list, Bool}
+use Rattle.vt_spec.proofs.Common.{Change, Done, Fresh, Here, IsWorld, LinkTo, Location, Looks, Lstat, Permit, Place, Serves, Task, TaskName, ToChange, Told, World, apply, changed, directory_used, entries_in, entry_named, files_at, is_directory_at, is_directory_node, is_special, linking, looks_of, name_of, node_at, not-false, place_walk, policy, raised_task, same_Some, stat_line, symlink_walk, task_called, topmost, with_change}
 use Rattle.vt_spec.specs.Machine.Looks as Look
-use Rattle.vt_spec.specs.Machine.Mounts.{Location, topmost}
-use Rattle.vt_spec.specs.Machine.Rows.{linking}
-use Rattle.vt_spec.specs.Machine.Permits.{Permit}
-use Rattle.vt_spec.specs.Machine.Permits.Permit.{ToChange}
-use Rattle.vt_spec.specs.Machine.Policy.{policy, raised_task}
-use Rattle.vt_spec.specs.Machine.Run.{Serves}
-use Rattle.vt_spec.specs.Machine.Walking.{Here, Place, is_special, name_of, place_walk, symlink_walk}
-use Rattle.vt_spec.specs.Machine.World.{Task, World, files_at, is_directory_at, node_at, task_called}
-use Rattle.vt_spec.specs.Machine.Invariants.{IsWorld}
-use Rattle.vt_spec.specs.Tree.{entries_in, entry_named, is_directory_node}
-use Rattle.vt_spec.proofs.Nodes.{directory_used}
 use Rattle.vt_laws_trees.specs.Calls.Inodes.{change_of}
 use Rattle.vt_laws_worlds.specs.Permits.Sees.{SeesTo}
 use Rattle.vt_laws_worlds.proofs.permits.sees.SeesNames.{tree_here}

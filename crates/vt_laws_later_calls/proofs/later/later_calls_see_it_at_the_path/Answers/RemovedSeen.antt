@@ -1,26 +1,8 @@
 -- The name of a directory that was removed is missing.
-use Rattle.std.proofs.Common.{◌≡◌, refl, sym, ap, subst, ◌∙◌, inl, inr, ◌⊎◌, ℕ, nat_eq, true, false, ◌||◌, List, Some, None, is_some, Ok, Err}
-use Rattle.std.proofs.lemmas.Option.{same_Some}
+use Rattle.std.proofs.Common.{◌≡◌, refl, sym, ap, subst, ◌∙◌, inl, inr, ◌⊎◌, ℕ, nat_eq, true, false, ◌||◌, List, Some, None, is_some, Ok, Err, Bool}
+use Rattle.vt_spec.proofs.Common.{Done, Fresh, IsWorld, Location, Looks, Lstat, Permit, Place, Rmdir, Serves, Task, TaskName, ToRemoveDirectory, World, denial, entries_in, entry_named, execute_right, is_directory_at, is_directory_node, is_special, looks_of, may, mount_at, mount_numbered, name_of, node_allows, node_at, object_there, old_walk, place_walk, policy, raised_task, same_Some, special_word, task_called}
 use Rattle.vt_spec.specs.declared.errors.Deny.{Deny}
 use Rattle.vt_spec.specs.declared.errors.Rule.TheVariants.{W4, W6, W8}
-use Rattle.vt_spec.specs.Errors.{denial}
-use Rattle.vt_spec.specs.Language.Answers.Answer.{Done}
-use Rattle.vt_spec.specs.Language.Calls.{TaskName}
-use Rattle.vt_spec.specs.Language.Calls.Call.{Lstat, Rmdir}
-use Rattle.vt_spec.specs.Lists.{Fresh}
-use Rattle.vt_spec.specs.Machine.Invariants.{IsWorld}
-use Rattle.vt_spec.specs.Machine.Looks.{Looks, looks_of, may}
-use Rattle.vt_spec.specs.Machine.Mounts.{Location}
-use Rattle.vt_spec.specs.Machine.Permits.{Permit}
-use Rattle.vt_spec.specs.Machine.Permits.Permit.{ToRemoveDirectory}
-use Rattle.vt_spec.specs.Machine.Policy.{policy, raised_task}
-use Rattle.vt_spec.specs.Machine.Rightful.{node_allows}
-use Rattle.vt_spec.specs.Machine.Rules.Removing.{object_there}
-use Rattle.vt_spec.specs.Machine.Run.{Serves}
-use Rattle.vt_spec.specs.Machine.Walking.{Place, is_special, name_of, old_walk, place_walk}
-use Rattle.vt_spec.specs.Machine.World.{Task, World, is_directory_at, mount_at, mount_numbered, node_at, task_called}
-use Rattle.vt_spec.specs.Rights.{execute_right}
-use Rattle.vt_spec.specs.Tree.{entries_in, entry_named, is_directory_node}
 use Rattle.vt_laws_mounts.proofs.mounts.MountsPlaces.{same_location_itself}
 use Rattle.vt_laws_worlds.specs.Worlds.Kept.{IsPlain}
 use Rattle.vt_laws_later_calls.specs.Later.{IsOneInode}
@@ -35,8 +17,6 @@ use Rattle.vt_laws_later_calls.proofs.Ways.{LeadsToo, same_end}
 use Rattle.vt_laws_later_calls.proofs.later.WaysLeft.{Known, node_here, ways_lead}
 use Rattle.vt_laws_later_calls.proofs.WaysPlaces.{named_place, symlink_missing}
 use Rattle.vt_laws_later_calls.proofs.WaysStay.{StandsAs, node_in}
-use Rattle.vt_spec.proofs.Worlds.{special_word}
-use Rattle.std.specs.Prelude.{Bool}
 use Rattle.vt_laws_rules.specs.Granted.{IsGranted}
 use Rattle.vt_laws_rules.specs.Granted.IsGranted.{removes_directory}
 

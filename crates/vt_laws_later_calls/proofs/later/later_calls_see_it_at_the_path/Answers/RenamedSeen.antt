@@ -1,35 +1,8 @@
 -- An object that was renamed is found by its new name, and the old one is missing.
-use Rattle.std.proofs.Common.{◌≡◌, ◌≢◌, refl, sym, ap, subst, ◌∙◌, inl, inr, ◌⊎◌, ⊎_elim, true≢false, ℕ, nat_eq, Bool, true, false, not, ◌&&◌, List, [], ◌∷◌, Option, Some, None, is_some, option_map, Ok, Err}
-use Rattle.std.specs.Prelude.{option_to_list, unwrap_or}
-use Rattle.std.proofs.lemmas.Option.{same_Some}
+use Rattle.std.proofs.Common.{◌≡◌, ◌≢◌, refl, sym, ap, subst, ◌∙◌, inl, inr, ◌⊎◌, ⊎_elim, true≢false, ℕ, nat_eq, Bool, true, false, not, ◌&&◌, List, [], ◌∷◌, Option, Some, None, is_some, option_map, Ok, Err, option_to_list, unwrap_or}
+use Rattle.vt_spec.proofs.Common.{Change, Done, Fresh, IsWorld, Location, Looks, Lstat, Move, Permit, Place, Rename, Serves, StatLine, Task, TaskName, ToRename, Told, World, and_then-Ok, apply, changed, denial, directory_from_entry, directory_used, entries_in, entry_at, entry_named, execute_right, files_at, holds_of, is_directory_at, is_directory_node, is_directory_there, is_one_object, is_special, looks_of, mount_at, mounter_allows, name_of, new_walk, node_at, object_there, old_leaf_walk, old_walk, old_word_rules, passing, place_walk, policy, raised_task, rename_new_walk, rename_permit, rename_rules, renamed_permit, same_Some, same_ok, stat_line, stepped, task_called, topmost, walk_end, with_change}
 use Rattle.vt_spec.specs.declared.errors.Deny.{Deny}
 use Rattle.vt_spec.specs.declared.errors.Rule.TheVariants.{W3, W6}
-use Rattle.vt_spec.specs.Errors.{denial}
-use Rattle.vt_spec.specs.Language.Answers.{StatLine}
-use Rattle.vt_spec.specs.Language.Answers.Answer.{Done, Told}
-use Rattle.vt_spec.specs.Language.Calls.{TaskName}
-use Rattle.vt_spec.specs.Language.Calls.Call.{Lstat, Rename}
-use Rattle.vt_spec.specs.Language.Changes.{Change, changed}
-use Rattle.vt_spec.specs.Language.Changes.Change.{Move}
-use Rattle.vt_spec.specs.Lists.{Fresh, holds_of}
-use Rattle.vt_spec.specs.Machine.Apply.{apply, stat_line}
-use Rattle.vt_spec.specs.Machine.Filesystems.{with_change}
-use Rattle.vt_spec.specs.Machine.Judge.{rename_permit, renamed_permit}
-use Rattle.vt_spec.specs.Machine.Looks.{Looks, looks_of}
-use Rattle.vt_spec.specs.Machine.Mounts.{Location, topmost}
-use Rattle.vt_spec.specs.Machine.Permits.{Permit}
-use Rattle.vt_spec.specs.Machine.Permits.Permit.{ToRename}
-use Rattle.vt_spec.specs.Machine.Policy.{policy, raised_task}
-use Rattle.vt_spec.specs.Machine.Rightful.{mounter_allows}
-use Rattle.vt_spec.specs.Machine.Rules.Removing.{is_one_object, object_there, old_word_rules, rename_new_walk, rename_rules}
-use Rattle.vt_spec.specs.Machine.Run.{Serves}
-use Rattle.vt_spec.specs.Machine.Walking.{Place, is_directory_there, is_special, name_of, new_walk, old_leaf_walk, old_walk, place_walk, stepped, walk_end}
-use Rattle.vt_spec.specs.Machine.World.{Task, World, files_at, is_directory_at, mount_at, node_at, task_called}
-use Rattle.vt_spec.specs.Machine.Invariants.{IsWorld}
-use Rattle.vt_spec.specs.Rights.{execute_right}
-use Rattle.vt_spec.specs.Tree.{entries_in, entry_named, is_directory_node}
-use Rattle.vt_spec.specs.TreeInvariant.{entry_at}
-use Rattle.vt_spec.proofs.Nodes.{directory_used}
 use Rattle.vt_laws_trees.specs.Calls.Inodes.{change_of}
 use Rattle.vt_laws_mounts.specs.LettingGo.FileChanges.{IsMoved}
 use Rattle.vt_laws_worlds.specs.Permits.Sees.{MayBeRenamed, SeesTo}
@@ -48,15 +21,12 @@ use Rattle.vt_laws_later_calls.proofs.MadeSeen.{Never, new_parts, no_slash_there
 use Rattle.vt_laws_later_calls.proofs.Opened.{walk_ended}
 use Rattle.vt_laws_later_calls.proofs.OpenedNew.{given_of}
 use Rattle.vt_laws_later_calls.proofs.Readers.{KnownToo, MayLook, all_stands, caller, known_there, leads, own_name, raised_credentials, raised_stands, seen_at, seen_there, stepped_by, uncovered}
-use Rattle.vt_spec.proofs.Refusals.{passing, same_ok}
 use Rattle.vt_laws_later_calls.proofs.Stays.{called_own}
 use Rattle.vt_laws_later_calls.proofs.later.later_calls_see_it_at_the_path.Answers.Unlinked.{Missing, old_parts}
 use Rattle.vt_laws_later_calls.proofs.Ways.{LeadsToo, both_walked, same_end, walk_passing}
 use Rattle.vt_laws_later_calls.proofs.WaysChanges.{RightsStay, TreeStays, moved_entry, moved_missing, moved_object, rights_moved, ways_moved}
 use Rattle.vt_laws_later_calls.proofs.WaysPlaces.{named_place, symlink_missing, symlink_named_too}
 use Rattle.vt_laws_later_calls.proofs.WaysStay.{StandsAs, node_in}
-use Rattle.vt_spec.proofs.NodeChanges.{directory_from_entry}
-use Rattle.vt_spec.proofs.Options.{and_then-Ok}
 
 -- walks of a world lead where they lead
 pub itself_leads : (Refused : Deny → Type 0) (world : World ℕ) (is : IsWorld nat_eq world) → IsPlain world

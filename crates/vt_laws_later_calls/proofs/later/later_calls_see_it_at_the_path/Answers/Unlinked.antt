@@ -1,26 +1,8 @@
 -- A name that was removed is missing.
-use Rattle.std.proofs.Common.{◌≡◌, refl, sym, ap, subst, ◌∙◌, inl, inr, ℕ, nat_eq, true, false, not, ◌&&◌, List, [], ◌∷◌, Some, None, is_some, Ok, Err}
-use Rattle.std.proofs.lemmas.Option.{same_Some}
+use Rattle.std.proofs.Common.{◌≡◌, refl, sym, ap, subst, ◌∙◌, inl, inr, ℕ, nat_eq, true, false, not, ◌&&◌, List, [], ◌∷◌, Some, None, is_some, Ok, Err, Bool}
+use Rattle.vt_spec.proofs.Common.{Change, Done, Fresh, IsWorld, Looks, Lstat, Permit, Place, Serves, Task, TaskName, ToChange, Unlink, World, apply, denial, directory_from_entry, directory_used, entries_in, entry_named, files_at, is_directory_at, is_directory_there, is_special, looks_of, name_of, node_at, object_there, old_walk, place_walk, policy, raised_task, removing, same_Some, task_called}
 use Rattle.vt_spec.specs.declared.errors.Deny.{Deny}
 use Rattle.vt_spec.specs.declared.errors.Rule.TheVariants.{W3, W6}
-use Rattle.vt_spec.specs.Errors.{denial}
-use Rattle.vt_spec.specs.Language.Answers.Answer.{Done}
-use Rattle.vt_spec.specs.Language.Calls.{TaskName}
-use Rattle.vt_spec.specs.Language.Calls.Call.{Lstat, Unlink}
-use Rattle.vt_spec.specs.Language.Changes.{Change}
-use Rattle.vt_spec.specs.Lists.{Fresh}
-use Rattle.vt_spec.specs.Machine.Apply.{apply}
-use Rattle.vt_spec.specs.Machine.Looks.{Looks, looks_of}
-use Rattle.vt_spec.specs.Machine.Permits.{Permit}
-use Rattle.vt_spec.specs.Machine.Permits.Permit.{ToChange}
-use Rattle.vt_spec.specs.Machine.Policy.{policy, raised_task}
-use Rattle.vt_spec.specs.Machine.Run.{Serves}
-use Rattle.vt_spec.specs.Machine.Rules.Removing.{object_there, removing}
-use Rattle.vt_spec.specs.Machine.Walking.{Place, is_directory_there, is_special, name_of, old_walk, place_walk}
-use Rattle.vt_spec.specs.Machine.World.{Task, World, files_at, is_directory_at, node_at, task_called}
-use Rattle.vt_spec.specs.Machine.Invariants.{IsWorld}
-use Rattle.vt_spec.specs.Tree.{entries_in, entry_named}
-use Rattle.vt_spec.proofs.Nodes.{directory_used}
 use Rattle.vt_laws_trees.specs.Calls.Inodes.{change_of}
 use Rattle.vt_laws_worlds.specs.Permits.Sees.{SeesTo}
 use Rattle.vt_laws_worlds.proofs.permits.sees.SeesNames.{tree_here}
@@ -36,8 +18,6 @@ use Rattle.vt_laws_later_calls.proofs.Ways.{both_walked, walk_passing}
 use Rattle.vt_laws_later_calls.proofs.WaysChanges.{name_missing, rights_removed, ways_removed}
 use Rattle.vt_laws_later_calls.proofs.WaysPlaces.{named_place, symlink_missing}
 use Rattle.vt_laws_later_calls.proofs.WaysStay.{StandsAs}
-use Rattle.vt_spec.proofs.NodeChanges.{directory_from_entry}
-use Rattle.std.specs.Prelude.{Bool}
 use Rattle.vt_laws_rules.specs.Granted.{IsGranted}
 use Rattle.vt_laws_rules.specs.Granted.IsGranted.{unlinks}
 

@@ -1,24 +1,12 @@
 -- A file that write found or made is found again, by the symlinks that led to its place.
-use Rattle.std.proofs.lemmas.Grind.{common_steps}
-use Rattle.std.proofs.Common.{◌≡◌, refl, sym, ap, subst, ◌∙◌, inl, inr, true≢false, ℕ, zero, suc, ◌-◌, ◌≤◌, nat_eq, Bool, true, false, ◌||◌, List, [], ◌∷◌, reverse, Option, Some, None, option_map, Result, Ok, arith}
-use Rattle.std.specs.Prelude.{unwrap_or}
-use Rattle.std.proofs.lemmas.Option.{same_Some}
-use Rattle.std.proofs.lemmas.Bool.{not-false, or_parts}
+use Rattle.std.proofs.Common.{◌≡◌, refl, sym, ap, subst, ◌∙◌, inl, inr, true≢false, ℕ, zero, suc, ◌-◌, ◌≤◌, nat_eq, Bool, true, false, ◌||◌, List, [], ◌∷◌, reverse, Option, Some, None, option_map, Result, Ok, arith, unwrap_or}
+use Rattle.vt_spec.proofs.Common.{Dot, DotDot, Here, LastWord, Location, Looks, Named, NoWord, NoneFails, Place, Stop, Task, and_then, and_then-Ok, common_steps, ends_in_slash, entered, entry_location, final_word, follow_rules, if_symlink, is_special, last_word, name_of, not-false, object_named, or_parts, passing, placed, same_Some, same_ok, search_rules, slash_rules, start_of, stepped, steps_at, stopped_by, symlink_of, symlink_start, symlink_text, symlink_there, symlink_walked, then_some, then_walk, unless, walk_unless, word_walked, words, words_walked}
 use Rattle.vt_spec.specs.declared.errors.Deny.{Deny}
-use Rattle.vt_spec.specs.Errors.{NoneFails, and_then, unless}
-use Rattle.vt_spec.specs.FileTree.{symlink_text}
-use Rattle.vt_spec.specs.Lists.{then_some}
-use Rattle.vt_spec.specs.Machine.Looks.{Looks, is_directory_at, topmost}
-use Rattle.vt_spec.specs.Machine.Mounts.{Location}
-use Rattle.vt_spec.specs.Machine.Walking.{Here, LastWord, Place, Stop, entered, entry_location, file_or_symlink, file_walked, final_word, follow_rules, followed, prefix_walked, if_symlink, is_special, last_word, name_of, object_named, placed, search_rules, slash_rules, start_of, stepped, steps_at, stopped_by, symlink_of, symlink_start, symlink_there, symlink_walked, then_walk, walk_unless, word_walked, words_walked}
-use Rattle.vt_spec.specs.Machine.Walking.LastWord.{Dot, DotDot, Named, NoWord}
-use Rattle.vt_spec.specs.Machine.World.{Task}
-use Rattle.vt_spec.specs.PathText.{ends_in_slash, words}
+use Rattle.vt_spec.specs.Machine.Looks.{is_directory_at, topmost}
+use Rattle.vt_spec.specs.Machine.Walking.{file_or_symlink, file_walked, followed, prefix_walked}
 use Rattle.vt_laws_worlds.proofs.worlds.Reached.{directory_no_link}
-use Rattle.vt_spec.proofs.Refusals.{passing, same_ok}
 use Rattle.vt_laws_later_calls.proofs.Ways.{LeadsToo, at, both_walked, not_stopped, positive, same_end, start_known, start_same, walk_passed, walk_passing, word_too, words_lead}
 use Rattle.vt_laws_later_calls.proofs.WaysPlaces.{EndsThere, last_too, placed_at, through}
-use Rattle.vt_spec.proofs.Options.{and_then-Ok}
 
 -- links are followed so deep
 abbrev pub followed_to : ℕ → Looks ℕ → Task ℕ → Location ℕ → Here ℕ → List ℕ → Result (Here ℕ) (Stop ℕ)

@@ -1,39 +1,11 @@
 -- Bytes that were written at a path are read there.
-use Rattle.std.proofs.lemmas.Grind.{common_steps}
 use Rattle.std.proofs.Common.{◌≡◌, refl, sym, ap, subst, ◌∙◌, inl, inr, ◌⊎◌, ℕ, nat_eq, Bool, true, false, cond, ◌||◌, List, [], ◌∷◌, length, reverse, Option, Some, None, is_some, ok_or, Ok, Err, nat_lt, arith}
-use Rattle.std.proofs.lemmas.Option.{same_Some}
-use Rattle.std.proofs.lemmas.Bool.{or_parts}
+use Rattle.vt_spec.proofs.Common.{Bytes, Change, Content, Directory, Done, Fresh, IsWorld, Location, Looks, Node, Permit, Place, Read, Regular, Serves, SetBytes, Symlink, Task, TaskName, ToChange, Whiteout, World, Write, allows, and_then-Ok, apply, changed, common_steps, denial, ends_in_slash, file_mode, file_walk, file_word_rules, files_at, is_absolute, is_directory_at, is_directory_node, is_kind, is_kind_in, is_special, kind_of, largest_file, looks_of, make_permit, make_rules, name_of, new_attr, new_file, node_at, node_with_bytes, object_walk, or_parts, passing, path_text, policy, raised_task, read_right, rewrite_rules, same_Some, same_ok, stepped, symlink_text, task_called, unnumbered, walk_end, walk_start, with_change, words, words_walked, write_permit, written_permit}
 use Rattle.vt_spec.specs.declared.attributes.Attr.{Attr}
 use Rattle.vt_spec.specs.declared.attributes.Kind.TheVariants.{File, White}
 use Rattle.vt_spec.specs.declared.errors.Deny.{Deny}
 use Rattle.vt_spec.specs.declared.errors.Rule.TheVariants.{C1, E6, W6}
-use Rattle.vt_spec.specs.Errors.{denial}
-use Rattle.vt_spec.specs.FileTree.{is_kind, is_kind_in, symlink_text}
-use Rattle.vt_spec.specs.Language.Answers.Answer.{Bytes, Done}
-use Rattle.vt_spec.specs.Language.Calls.{TaskName}
-use Rattle.vt_spec.specs.Language.Calls.Call.{Read, Write}
-use Rattle.vt_spec.specs.Language.Changes.{Change, changed}
-use Rattle.vt_spec.specs.Language.Changes.Change.{SetBytes}
-use Rattle.vt_spec.specs.Language.Limits.{largest_file}
-use Rattle.vt_spec.specs.Lists.{Fresh}
-use Rattle.vt_spec.specs.Machine.Apply.{apply}
-use Rattle.vt_spec.specs.Machine.Filesystems.{with_change}
-use Rattle.vt_spec.specs.Machine.Judge.{make_permit, unnumbered, write_permit, written_permit}
-use Rattle.vt_spec.specs.Machine.Looks.{Looks, looks_of}
-use Rattle.vt_spec.specs.Machine.Mounts.{Location}
-use Rattle.vt_spec.specs.Machine.Rows.{file_mode, new_attr, new_file}
-use Rattle.vt_spec.specs.Machine.Permits.{Permit}
-use Rattle.vt_spec.specs.Machine.Permits.Permit.{ToChange}
-use Rattle.vt_spec.specs.Machine.Policy.{policy, raised_task}
-use Rattle.vt_spec.specs.Machine.Rules.Making.{file_word_rules, make_rules, rewrite_rules}
-use Rattle.vt_spec.specs.Machine.Run.{Serves}
-use Rattle.vt_spec.specs.Machine.Walking.{Place, file_walk, file_walked, is_special, name_of, new_name_rules, object_walk, path_text, stepped, walk_end, walk_start, words_walked}
-use Rattle.vt_spec.specs.Machine.World.{Task, World, files_at, is_directory_at, node_at, task_called}
-use Rattle.vt_spec.specs.Machine.Invariants.{IsWorld}
-use Rattle.vt_spec.specs.PathText.{ends_in_slash, is_absolute, words}
-use Rattle.vt_spec.specs.Rights.{allows, read_right}
-use Rattle.vt_spec.specs.Tree.{Content, Node, is_directory_node, kind_of, node_with_bytes}
-use Rattle.vt_spec.specs.Tree.Content.{Directory, Regular, Symlink, Whiteout}
+use Rattle.vt_spec.specs.Machine.Walking.{file_walked, new_name_rules}
 use Rattle.vt_laws_trees.specs.Calls.Inodes.{change_of}
 use Rattle.vt_laws_trees.specs.Trees.{IsFileTree}
 use Rattle.vt_laws_trees.proofs.trees.ChangesNodes.{changed_node_there}
@@ -51,13 +23,11 @@ use Rattle.vt_laws_later_calls.proofs.MadeSeen.{Never, made_leads, maker, new_st
 use Rattle.vt_laws_later_calls.proofs.Opened.{walk_ended}
 use Rattle.vt_laws_later_calls.proofs.Readers.{MayLook, all_stands, caller, leads, named_last, own_name, raised_credentials, raised_stands, seen_at, uncovered}
 use Rattle.vt_laws_later_calls.proofs.Stays.{called_own}
-use Rattle.vt_spec.proofs.Refusals.{passing, same_ok}
 use Rattle.vt_laws_later_calls.proofs.Ways.{EndsAt, LeadsToo, both_walked, start_known, walk_passed, walk_passing}
 use Rattle.vt_laws_later_calls.proofs.WaysChanges.{TreeStays, rights_with_bytes, ways_with_bytes}
 use Rattle.vt_laws_later_calls.proofs.later.later_calls_see_it_at_the_path.Answers.WaysFiles.{IsFilePlace, file_place, file_too, followed_to}
 use Rattle.vt_laws_later_calls.proofs.WaysPlaces.{EndsThere, begun, path_parsed}
 use Rattle.vt_laws_later_calls.proofs.WaysStay.{StandsAs}
-use Rattle.vt_spec.proofs.Options.{and_then-Ok}
 
 -- what the walk of a file did
 record FileParts (looks : Looks ℕ) (task : Task ℕ) (path : List ℕ) (place : Place ℕ) : Type 0 where

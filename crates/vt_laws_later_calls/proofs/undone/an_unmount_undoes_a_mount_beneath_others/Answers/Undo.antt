@@ -1,15 +1,6 @@
 -- An unmount undoes a new mount and a bind of one mount, where mounts stood at receivers.
 use Rattle.std.proofs.Common.{◌≡◌, ◌⊎◌, false, inl, option_map, refl, subst, sym, true, nat_eq, unwrap_or, ℕ, []}
-use Rattle.vt_spec.proofs.Lists.{Among, among-filter, among_from_contains, contains_from_among}
-use Rattle.vt_spec.specs.Lists.{Fresh}
-use Rattle.vt_spec.specs.Machine.Attach.{bound, receivers_of, takes_part}
-use Rattle.vt_spec.specs.Machine.Detach.{may_go}
-use Rattle.vt_spec.specs.Machine.Mounts.{Location, Mount, group_of, stands_at}
-use Rattle.vt_spec.specs.Machine.Mounts.Propagation.{Shared}
-use Rattle.vt_spec.specs.Machine.NewMounts.{new_mount, with_new_filesystem}
-use Rattle.vt_spec.specs.Machine.Receives.{receivers, receives}
-use Rattle.vt_spec.specs.Machine.World.{Filesystem, World, mount_at, mount_numbered}
-use Rattle.vt_spec.specs.Language.Calls.{MountFlags}
+use Rattle.vt_spec.proofs.Common.{Among, Filesystem, Fresh, Location, Mount, MountFlags, Shared, World, among-filter, among_from_contains, bound, contains_from_among, group_of, may_go, mount_at, mount_numbered, new_mount, receivers, receivers_of, receives, stands_at, takes_part, with_new_filesystem}
 use Rattle.vt_laws_mounts.specs.Mounts.Propagation.{world_after}
 use Rattle.vt_laws_mounts.proofs.attached.BindsStand.{binds_keep_numbers, binds_keep_places, binds_keep_standing, new_mounts_keep_numbers, new_mounts_keep_places, new_mounts_keep_standing}
 use Rattle.vt_laws_mounts.proofs.propagation.PropagationPremises.{binds_can, new_mounts_can}

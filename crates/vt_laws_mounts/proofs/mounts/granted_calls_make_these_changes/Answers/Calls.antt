@@ -1,34 +1,12 @@
 -- What a granted call makes of the mounts.
-use Rattle.std.proofs.Common.{arith, ◌≡◌, refl, sym, ap, ◌∙◌, false, Bool, List, Ok, Some, nat_eq, ok_or, ℕ, option_map, true≢false}
-use Rattle.std.proofs.lemmas.Grind.{common_steps}
-use Rattle.vt_spec.specs.Language.Calls.Call.{Bind, Exit, Lazy, MountOverlay, MountPlain, MoveMount, PivotRoot, Remount, Rmdir, SetType, Setns, Unshare, Rename}
+use Rattle.std.proofs.Common.{arith, ◌≡◌, refl, sym, ap, ◌∙◌, false, Bool, List, Ok, Some, nat_eq, ok_or, ℕ, option_map, true≢false, true}
+use Rattle.vt_spec.proofs.Common.{Bind, Call, Done, Exit, Fresh, Here, LayerLocations, Lazy, Looks, Mount, MountFlags, MountOverlay, MountPlain, MoveMount, OverlayWords, Permit, PivotRoot, Place, Remount, Rename, Rmdir, SetType, Setns, Task, TaskName, ToBind, ToEnterNamespace, ToMountOverlay, ToMountPlain, ToMove, ToPivot, ToSetFlags, ToSetType, ToUnmountLazily, TypeWord, Unshare, World, apply, bound_at, common_steps, denial, destination_walk, directory_walk, is_directory_there, is_one_object, layers_walked, lazily_unmounted, looks_of, mount_at, mounted, moved_to, moving, namespace_entered, namespaces_ended, object_there, odds, old_leaf_walk, old_walk, overfills, overlay_at, overlay_mounted, pivoted, plain_filesystem, removing, rename_new_walk, same_ok, source_walk, task_called, unshared, walk_end, with_flags, with_type, without_mounts_on, without_replaced, without_task}
 use Rattle.vt_laws_mounts.specs.Mounts.Granted.{BindBinds, ExitEnds, LazyUnmounts, MountMounts, MoveMoves, OverlayMounts, PivotPivots, RemountSetsFlags, RmdirTakesMounts, SetnsEnters, TypeIsSet, UnshareCopies, RenameOfOneObject, RenameReplaces}
-use Rattle.vt_spec.specs.Language.Calls.{Call, MountFlags, OverlayWords, TaskName, TypeWord}
-use Rattle.vt_spec.specs.Language.Answers.Answer.{Done}
-use Rattle.vt_spec.specs.Lists.{Fresh, odds}
-use Rattle.vt_spec.specs.Machine.Walking.{Here, Place, walk_end, directory_walk, old_walk, is_directory_there, old_leaf_walk}
 use Rattle.vt_spec.specs.declared.errors.Rule.TheVariants.{S2}
-use Rattle.vt_spec.specs.Machine.Rules.Mounting.{LayerLocations, destination_walk, layers_walked, overlay_at, source_walk}
-use Rattle.vt_spec.proofs.Tables.{overlay_mounted}
-use Rattle.vt_spec.specs.Machine.Attach.{bound_at, moved_to}
-use Rattle.vt_spec.specs.Machine.NewMounts.{mounted, plain_filesystem}
-use Rattle.vt_spec.specs.Machine.World.{Task, World, mount_at, task_called, with_flags, without_task}
-use Rattle.vt_spec.specs.Errors.{denial}
-use Rattle.vt_spec.specs.Machine.Detach.{lazily_unmounted, without_mounts_on, without_replaced}
 use Rattle.vt_laws_mounts.proofs.mounts.MountsLeft.{mounts-with_change}
-use Rattle.vt_spec.specs.Machine.Namespaces.{namespace_entered, namespaces_ended, pivoted, unshared}
-use Rattle.vt_spec.specs.Machine.Rules.Removing.{object_there, removing, moving, is_one_object, rename_new_walk}
-use Rattle.vt_spec.specs.Machine.Types.{with_type}
-use Rattle.std.specs.Prelude.{true}
 use Rattle.vt_laws_rules.specs.Granted.{AreNames, IsGranted}
 use Rattle.vt_laws_rules.specs.Granted.IsGranted.{binds, changes_flags, changes_type, enters_namespace, exits, keeps_names, mounts_overlayfs, mounts_tmpfs, moves_mount, pivots_root, removes_directory, renames, unmounts_lazily, unshares}
 use Rattle.vt_laws_mounts.proofs.mounts.MountsGranted.{leaves_mounts, one_end}
-use Rattle.vt_spec.proofs.Refusals.{same_ok}
-use Rattle.vt_spec.specs.Machine.Apply.{apply, overfills}
-use Rattle.vt_spec.specs.Machine.Looks.{Looks, looks_of}
-use Rattle.vt_spec.specs.Machine.Mounts.{Mount}
-use Rattle.vt_spec.specs.Machine.Permits.{Permit}
-use Rattle.vt_spec.specs.Machine.Permits.Permit.{ToBind, ToEnterNamespace, ToMountOverlay, ToMountPlain, ToMove, ToPivot, ToSetFlags, ToSetType, ToUnmountLazily}
 
 module _ (fresh : Fresh ℕ) (world : World ℕ) (task : Task ℕ) where
   abbrev looks : Looks ℕ

@@ -1,22 +1,12 @@
 -- The list of mounts after an unshare.
 use Rattle.std.proofs.Common.{arith, ◌≡◌, refl, sym, ap, ◌∙◌, List, [], None, eq-eqb, eqb-true, true≢false, Option, Some, flat_map, map, nat_eq, option_map, unwrap_or, ℕ, ◌+◌, ◌∷◌, inl, inr}
-use Rattle.std.proofs.lemmas.Grind.{common_steps}
+use Rattle.vt_spec.proofs.Common.{Among, Fresh, Location, Mount, MountInvariants, Serves, Spot, Task, World, among-filter, among-from_filter, common_steps, copied_mount, each_once, evens, filesystem_numbered, groups_shown, holds_of, index_from, is_overlay, location_on_copy, mount_line, mount_numbered, mount_point_spot, mounts_of, number_among, numbers_by, odds, odds-distinct, path_down, served-distinct, spot_of, type_line, unshared}
 use Rattle.std.proofs.lemmas.List.Folds.{flat_map-map}
-use Rattle.vt_spec.proofs.Lists.{Among, among-filter, among-from_filter}
-use Rattle.vt_spec.specs.FileTree.{path_down}
-use Rattle.vt_spec.specs.Machine.Listing.{groups_shown, mount_line, number_among, mount_point_spot, root_spot, spot_of, type_line}
-use Rattle.vt_spec.specs.Lists.{Fresh, each_once, evens, holds_of, odds, index_from}
-use Rattle.vt_spec.specs.Machine.Mounts.{Location, Mount, numbers_by}
-use Rattle.vt_spec.specs.Machine.Namespaces.{copied_mount, location_on_copy, unshared}
-use Rattle.vt_spec.specs.Language.Answers.{Spot}
-use Rattle.vt_spec.specs.Machine.Run.{Serves}
-use Rattle.vt_spec.specs.Machine.World.{Task, World, filesystem_numbered, is_overlay, mount_numbered, mounts_of}
-use Rattle.vt_spec.specs.Machine.Invariants.{MountInvariants}
+use Rattle.vt_spec.specs.Machine.Listing.{root_spot}
 use Rattle.vt_laws_mounts.specs.Mounts.Propagation.{UnshareListsOthersTheSame, UnshareListsTheSame}
 use Rattle.vt_laws_mounts.proofs.mounts.MountsNumbered.{is_one_of, one_index}
 use Rattle.vt_laws_mounts.proofs.namespaces.Unsharing.{itself, parent_of, copy_found, old_found}
 use Rattle.vt_laws_mounts.proofs.namespaces.UnsharingNamespaces.{unshare_copies_mounts, unshare_leaves_namespaces}
-use Rattle.vt_spec.proofs.FreshNumbers.{odds-distinct, served-distinct}
 use Rattle.vt_laws_mounts.specs.Mounts.Ending.{is_in}
 
 pub map_alike : {A B C : Type 0} (f : A → C) (g : B → C) (h : A → B) (xs : List A)

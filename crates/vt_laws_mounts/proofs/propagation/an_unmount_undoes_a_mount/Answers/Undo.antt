@@ -1,10 +1,6 @@
 -- An unmount undoes a new mount and a bind of one mount.
 use Rattle.std.proofs.Common.{nat_eq, ℕ, false}
-use Rattle.vt_spec.proofs.Lists.{contains_from_among}
-use Rattle.vt_spec.specs.Machine.Attach.{bound}
-use Rattle.vt_spec.specs.Machine.Mounts.{Location}
-use Rattle.vt_spec.specs.Machine.NewMounts.{new_mount, with_new_filesystem}
-use Rattle.vt_spec.specs.Machine.World.{World}
+use Rattle.vt_spec.proofs.Common.{Location, World, bound, contains_from_among, new_mount, with_new_filesystem}
 use Rattle.vt_laws_mounts.specs.Mounts.Propagation.{NothingAtReceivers, UnmountUndoesBind, UnmountUndoesNewMount}
 use Rattle.vt_laws_mounts.proofs.attached.BindsStand.{binds_keep_places, new_mounts_keep_places}
 use Rattle.vt_laws_mounts.proofs.propagation.PropagationPremises.{binds_can, new_mounts_can}

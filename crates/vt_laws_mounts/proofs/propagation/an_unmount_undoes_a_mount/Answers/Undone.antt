@@ -1,18 +1,6 @@
 -- An unmount of a mount that was attached: the others are as they were before.
-use Rattle.std.proofs.Common.{arith, ◌≡◌, refl, sym, ap, subst, ◌∙◌, true, false, nat_eq, ℕ, List, None, Option, Some, [], filter, flat_map, inl, inr, is_some, map, true≢false, ⊎_elim, ◌++◌, ◌∷◌, ◌⊎◌, eqb-true}
-use Rattle.std.proofs.lemmas.Grind.{common_steps}
-use Rattle.std.specs.Prelude.{Contains}
-use Rattle.std.proofs.lemmas.Bool.{false_from_ne_true}
-use Rattle.std.proofs.lemmas.Option.{same_Some}
-use Rattle.std.specs.List.{list_any}
-use Rattle.vt_spec.proofs.Lists.{Among, among-append, among-from_filter, among-from_flat_map, among-from_map, among_from_contains, any_among, any_from_among, contains_from_among, filter_none, none_from_among}
-use Rattle.vt_spec.specs.Machine.Attach.{Copies, copies_from, graft_of, parts_of, receivers_of, takes_part}
-use Rattle.vt_spec.specs.Machine.Detach.{may_go, only_cover, unmounted, going}
-use Rattle.vt_spec.specs.Lists.{Fresh, holds_of, is_among, rest_of}
-use Rattle.vt_spec.specs.Machine.Mounts.{Location, Mount, Propagation, detached, group_of, is_shared, source_of, stands_at, stands_on}
-use Rattle.vt_spec.specs.Machine.Mounts.Propagation.{Private, Shared, Slave, Unbindable}
-use Rattle.vt_spec.specs.Machine.Receives.{has_members, is_member_of, receives, lost_a_group}
-use Rattle.vt_spec.specs.Machine.World.{World, mount_at, mount_numbered}
+use Rattle.std.proofs.Common.{arith, ◌≡◌, refl, sym, ap, subst, ◌∙◌, true, false, nat_eq, ℕ, List, None, Option, Some, [], filter, flat_map, inl, inr, is_some, map, true≢false, ⊎_elim, ◌++◌, ◌∷◌, ◌⊎◌, eqb-true, Contains}
+use Rattle.vt_spec.proofs.Common.{Among, Copies, Fresh, Location, Mount, Private, Propagation, Shared, Slave, Unbindable, World, among-append, among-from_filter, among-from_flat_map, among-from_map, among_from_contains, any_among, any_from_among, common_steps, contains_from_among, copies_from, detached, false_from_ne_true, filter_none, going, graft_of, group_of, has_members, holds_of, is_among, is_member_of, is_shared, list_any, lost_a_group, may_go, mount_at, mount_numbered, none_from_among, number-mount_in, only_cover, parts_of, receivers_of, receives, rest_of, same_Some, source_of, stands_at, stands_on, takes_part, unmounted}
 use Rattle.vt_laws_mounts.specs.Mounts.Attaching.{OneNumberAMount, is_mount}
 use Rattle.vt_laws_mounts.specs.Mounts.MountPoints.{OneMountAMountPoint}
 use Rattle.vt_laws_mounts.specs.Mounts.Propagation.{Attachment, CanAttach, IsPart, copy_of, number_at, world_after}
@@ -36,7 +24,7 @@ use Rattle.vt_laws_mounts.proofs.propagation.PropagationUp.{heard, hears, lives_
 use Rattle.vt_laws_mounts.proofs.mounts.Receivers.{receives_completely, receives_soundly, receiver_receives}
 use Rattle.vt_laws_mounts.proofs.ends.Unmounting.{root_mounts_stay, unmount_keeps_the_order, what_goes_is_detached, what_stays_keeps, what_stays_keeps_its_place, what_stays_keeps_its_type, groups_keep_their_masters, middle}
 use Rattle.vt_laws_mounts.proofs.ends.UnmountingGoes.{what_goes_is_named}
-use Rattle.vt_spec.proofs.Worlds.{master-regrouped_by, number-mount_in}
+use Rattle.vt_spec.proofs.Worlds.{master-regrouped_by}
 use Rattle.vt_laws_mounts.proofs.propagation.OneAttached.{one_of, later_number, part_old, hears_group}
 
 -- No mount stands at the node of the place on a mount that receives from the destination's group

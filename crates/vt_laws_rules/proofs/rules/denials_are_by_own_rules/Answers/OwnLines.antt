@@ -1,24 +1,13 @@
 -- Lines are refused by their own rules.
 use Rattle.std.proofs.Common.{arith, refl, ℕ, nat_eq, Bool, true, false, List, [], ◌∷◌, ◌++◌, Option, Some, None, Result, Ok, Err}
-use Rattle.std.proofs.lemmas.Grind.{common_steps}
-use Rattle.std.specs.List.{list_any}
+use Rattle.vt_spec.proofs.Common.{Answered, AskPeers, AskSealed, Asking, Calling, Directive, Fresh, Grammar, Outcome, Request, Silent, Step, World, common_steps, denial, directed, judged, line_step_by, list_any, request_of, requested, spoken_step}
 use Rattle.vt_laws_rules.proofs.rules.Outcomes.{IsOwn, RefusesOwn, among_more, error_is}
 use Rattle.vt_laws_rules.proofs.rules.OwnRules.{policy_refuses_own}
 use Rattle.vt_laws_rules.specs.RuleOrder.{DeniedLineIsOwn, rules_of, rules_of_request}
 use Rattle.vt_spec.specs.declared.errors.Deny.{Deny}
 use Rattle.vt_spec.specs.declared.errors.Rule.{Rule}
 use Rattle.vt_spec.specs.declared.errors.Rule.TheVariants.{S1, S2, S5}
-use Rattle.vt_spec.specs.Errors.{denial}
-use Rattle.vt_spec.specs.Language.Calls.{Directive}
-use Rattle.vt_spec.specs.Language.Calls.Directive.{AskPeers, AskSealed}
-use Rattle.vt_spec.specs.Lists.{Fresh}
-use Rattle.vt_spec.specs.Machine.Outcomes.{Outcome, judged}
-use Rattle.vt_spec.specs.Machine.Run.{Step, line_step_by, requested, spoken_step}
-use Rattle.vt_spec.specs.Machine.Run.Step.{Answered, Silent}
-use Rattle.vt_spec.specs.Language.Script.{Grammar, Request, request_of}
-use Rattle.vt_spec.specs.Language.Script.Request.{Asking, Calling}
-use Rattle.vt_spec.specs.Machine.Sealed.{directed, no_such_task}
-use Rattle.vt_spec.specs.Machine.World.{World}
+use Rattle.vt_spec.specs.Machine.Sealed.{no_such_task}
 
 -- a step is refused by those rules alone
 abbrev StepRefusesOwn : List Rule → Step ℕ → Type 0

@@ -1,18 +1,13 @@
 -- The rules of walks are in order, but for those of links and of slashes.
 use Rattle.std.proofs.Common.{arith, ◌≡◌, refl, ℕ, nat_eq, Bool, true, false, not, ◌&&◌, is_some, [], ◌∷◌, ◌++◌, Option, Some, None, ok_or, Result, Ok, Err, IfErr, cond}
-use Rattle.std.proofs.lemmas.Grind.{common_steps}
+use Rattle.vt_spec.proofs.Common.{LastWord, Location, Place, Rules, Stop, Task, World, and_from, common_steps, denial, is_lost, then_walk, unless, walk_end, walk_unless}
 use Rattle.vt_laws_rules.proofs.rules.Outcomes.{error_is}
 use Rattle.vt_laws_rules.specs.RuleOrder.{MissingBeforeSlash, RemovedBeforeSlash, RemovedBeforeSlashOfRename, StepRulesInOrder}
 use Rattle.vt_laws_rules.specs.RuleRanks.{IsInOrder}
 use Rattle.vt_spec.specs.declared.errors.Deny.{Deny}
 use Rattle.vt_spec.specs.declared.errors.Rule.{Rule}
 use Rattle.vt_spec.specs.declared.errors.Rule.TheVariants.{W3, W6, W8}
-use Rattle.vt_spec.specs.Errors.{Rules, denial, unless}
-use Rattle.vt_spec.specs.Machine.Mounts.{Location}
-use Rattle.vt_spec.specs.Machine.Walking.{LastWord, Place, Stop, then_walk, walk_end, walk_unless}
-use Rattle.vt_spec.proofs.Walk.{entry_location, hops, is_directory_there, is_lost, is_top, place_walk, search_rules, stepped}
-use Rattle.vt_spec.specs.Machine.World.{Task, World}
-use Rattle.std.proofs.lemmas.Bool.{and_from}
+use Rattle.vt_spec.proofs.Walk.{entry_location, hops, is_directory_there, is_top, place_walk, search_rules, stepped}
 
 module _ (world : World ℕ) (task : Task ℕ) (here : Location ℕ) where
   -- a refusal that comes after the search rules in order

@@ -1,42 +1,13 @@
 -- Each call is answered by what it asks: its first rules, its walks, and its last table.
-use Rattle.std.proofs.Common.{arith, ◌≡◌, refl, subst, sym, ℕ, nat_eq, Bool, true, false, not, List, [], ◌∷◌, ◌++◌, ◌||◌, Option, Some, None, ok_or, Result, Ok, Err, is_ok, length, nat_lt, unwrap_or, is_some, option_map}
-use Rattle.std.proofs.lemmas.Grind.{common_steps}
-use Rattle.std.specs.Prelude.{is_err, is_none}
-use Rattle.std.specs.Result.{result_err}
-use Rattle.vt_spec.specs.Machine.Looks.{looks_of}
+use Rattle.std.proofs.Common.{arith, ◌≡◌, refl, subst, sym, ℕ, nat_eq, Bool, true, false, not, List, [], ◌∷◌, ◌++◌, ◌||◌, Option, Some, None, ok_or, Result, Ok, Err, is_ok, length, nat_lt, unwrap_or, is_some, option_map, is_err, is_none}
+use Rattle.vt_spec.proofs.Common.{Access, Allowed, Bind, Call, Chdir, Chmod, Chown, Chroot, Close, Exclusive, Exec, Fork, Fresh, Judgement, Lazy, LinkTo, Location, Ls, Lstat, MakeWhiteout, Mkdir, MountFlags, MountOverlay, MountPlain, MoveMount, NoCreation, Opaque, OpenFile, OrCreate, Outcome, OverlayWords, PivotRoot, Place, Pread, Pwrite, Read, Readlink, Remount, Rename, Rmdir, Rules, SetType, Setns, Stat, Symlink, SymlinkAt, Task, TaskName, Umount, Unlink, Unshare, World, Write, admin_rules, after, and_then, apply, attr_with_mode, attr_with_owner, bind_permit, bound_at, call_outcome, cap_sys_admin, cap_sys_chroot, chdir_permit, child_credentials, chmod_permit, chown_permit, chroot_permit, close_permit, common_steps, denial, descriptor_rules, directory_mode, evens, exact_attr, exec_permit, file_mode, file_word_rules, filesystems_changed_by, finished, finished_by, fork_permit, fork_rules, hard_link_permit, is_special, judge_in, largest_file, lazy_permit, linking, list_permit, looks_of, lstat_permit, making, may_chown, mkdir_permit, mount_overlay_permit, mount_plain_permit, mounted, move_permit, moved_to, new_attr, new_directory, new_file, object_there, odds, old_word_rules, only_looks, opaque_permit, open_permit, opened_or_created_permit, overfills, overlay_mounted, overlay_permit_by, owns, pivot_permit, plain_filesystem, policy, pread_permit, pwrite_permit, read_permit, readlink_permit, remount_permit, rename_permit, renamed_permit, result_err, rmdir_permit, rmdir_word_rules, setns_permit, stat_permit, symlink_mode, symlink_permit, symlink_text_rules, task_called, type_permit, umount_permit, unless, unlink_permit, unshare_permit, walk_end, whiteout_permit, write_permit, written_permit}
 use Rattle.vt_spec.specs.declared.errors.Deny.{Deny}
 use Rattle.vt_spec.specs.declared.errors.Rule.{Rule}
 use Rattle.vt_spec.specs.declared.errors.Rule.TheVariants.{E1, E2, E6, K1, S2, S4}
-use Rattle.vt_spec.specs.Errors.{Rules, and_then, denial, unless}
-use Rattle.vt_spec.specs.Language.Calls.{Access, Call, MountFlags, OverlayWords, TaskName}
-use Rattle.vt_spec.specs.Language.Calls.Call.{Bind, Chdir, Chmod, Chown, Chroot, Close, Exec, Fork, Lazy, LinkTo, Ls, Lstat, MakeWhiteout, Mkdir, MountOverlay, MountPlain, MoveMount, Opaque, OpenFile, PivotRoot, Pread, Pwrite, Read, Readlink, Remount, Rename, Rmdir, SetType, Setns, Stat, SymlinkAt, Umount, Unlink, Unshare, Write}
-use Rattle.vt_spec.specs.Language.Calls.Creation.{Exclusive, NoCreation, OrCreate}
-use Rattle.vt_spec.specs.Lists.{Fresh, evens, odds}
-use Rattle.vt_spec.specs.Machine.Mounts.{Location}
-use Rattle.vt_spec.proofs.Tables.{attr_at, attr_rules, opaque_rules, open_rules, pwrite_rules, exec_rules, list_rules, read_rules, readlink_rules, hard_link_rules, make_rules, new_rules, rewrite_rules, whiteout_rules, bind_rules, destination_walk, layer_rules, layers_walked, lazy_rules, move_rules, new_mount_rules, overlay_at, overlay_mounted, pivot_rules, remount_rules, source_walk, type_rules, umount_rules, is_one_object, rename_new_walk, rename_rules, rmdir_rules, same_object_rules, unlink_rules, enter_rules}
-use Rattle.vt_spec.specs.Machine.Attributes.{attr_with_mode, attr_with_owner, may_chown}
-use Rattle.vt_spec.specs.Machine.Rules.Descriptors.{descriptor_rules}
-use Rattle.vt_spec.specs.Machine.Rows.{directory_mode, exact_attr, file_mode, lacks, linking, making, new_attr, new_file, symlink_mode}
-use Rattle.vt_spec.specs.Machine.Rules.Making.{file_word_rules, symlink_text_rules}
-use Rattle.vt_spec.specs.Language.Limits.{largest_file}
-use Rattle.vt_spec.specs.Machine.Rules.Mounting.{admin_rules}
-use Rattle.vt_spec.specs.Machine.Attach.{bound_at, moved_to}
-use Rattle.vt_spec.specs.Machine.NewMounts.{mounted, plain_filesystem}
-use Rattle.vt_spec.specs.Machine.Rules.Removing.{object_there, old_word_rules, rmdir_word_rules}
-use Rattle.vt_spec.specs.Machine.Tasks.{child_credentials}
-use Rattle.vt_spec.specs.Machine.Rules.Tasks.{fork_rules}
-use Rattle.vt_spec.specs.Machine.Walking.{Place, is_special, walk_end}
+use Rattle.vt_spec.proofs.Tables.{attr_at, attr_rules, opaque_rules, open_rules, pwrite_rules, exec_rules, list_rules, read_rules, readlink_rules, hard_link_rules, make_rules, new_rules, rewrite_rules, whiteout_rules, bind_rules, destination_walk, layer_rules, layers_walked, lazy_rules, move_rules, new_mount_rules, overlay_at, pivot_rules, remount_rules, source_walk, type_rules, umount_rules, is_one_object, rename_new_walk, rename_rules, rmdir_rules, same_object_rules, unlink_rules, enter_rules}
+use Rattle.vt_spec.specs.Machine.Rows.{lacks}
 use Rattle.vt_spec.proofs.Walk.{directory_walk, file_walk, is_directory_there, symlink_walk, new_leaf_walk, new_walk, object_walk, old_leaf_walk, old_walk}
-use Rattle.vt_spec.specs.Machine.World.{Task, World, task_called}
-use Rattle.vt_spec.specs.Rights.{cap_sys_admin, cap_sys_chroot, owns}
-use Rattle.vt_spec.specs.Tree.{new_directory}
-use Rattle.vt_spec.specs.Tree.Content.{Symlink}
 use Rattle.vt_laws_rules.specs.Asked.{asked_first, asked_last, asked_of_creation, asked_of_open, asked_of_overlay, asked_of_rename, asked_of_write}
-use Rattle.vt_spec.specs.Machine.Judge.{judge_in, Judgement, bind_permit, chdir_permit, chmod_permit, chown_permit, chroot_permit, close_permit, exec_permit, fork_permit, hard_link_permit, lazy_permit, list_permit, lstat_permit, mkdir_permit, mount_overlay_permit, mount_plain_permit, move_permit, opaque_permit, open_permit, opened_or_created_permit, overlay_permit_by, pivot_permit, pread_permit, pwrite_permit, read_permit, readlink_permit, remount_permit, rename_permit, renamed_permit, rmdir_permit, setns_permit, stat_permit, symlink_permit, type_permit, umount_permit, unlink_permit, unshare_permit, whiteout_permit, write_permit, written_permit}
-use Rattle.vt_spec.specs.Machine.Outcomes.{Outcome, after}
-use Rattle.vt_spec.specs.Machine.Policy.{call_outcome, filesystems_changed_by, finished, finished_by, only_looks, policy}
-use Rattle.vt_spec.specs.Machine.Apply.{apply, overfills}
-use Rattle.vt_spec.specs.Machine.Permits.Permit.{Allowed}
 
 -- what is left of a call once its walks are done
 abbrev pub decided : Result Rules Deny → Result Bool Deny

@@ -1,6 +1,6 @@
 -- Of the rules that fail, the least answers a call.
 use Rattle.std.proofs.Common.{◌≡◌, ◌∙◌, ◌+◌, refl, sym, subst, ap, ℕ, nat_eq, true, ok_or, [], ◌∷◌, Result, Ok, Err, IfOk}
-use Rattle.std.specs.Result.{result_err}
+use Rattle.vt_spec.proofs.Common.{Call, Fresh, Rules, Task, World, after, call_outcome, denial, filesystems_changed_by, finished, judge_in, policy, result_err, unless}
 use Rattle.vt_laws_rules.proofs.rules.the_least_rule_answers.Answers.AskedRules.{asked, decided, policy_asked}
 use Rattle.vt_laws_rules.proofs.rules.the_least_rule_answers.Answers.LeastRule.{before_least, denied_as, front_in_order, least_as, none_fails, refused_as, table_least}
 use Rattle.vt_laws_rules.proofs.rules.TableOrder.{first_in_order, last_in_order}
@@ -9,13 +9,6 @@ use Rattle.vt_laws_rules.specs.RuleOrder.{FirstRulesAnswer, LastRulesAnswer, NoT
 use Rattle.vt_laws_rules.specs.RuleRanks.{IsInOrderAfterWalk, rank}
 use Rattle.vt_spec.specs.declared.errors.Deny.{Deny}
 use Rattle.vt_spec.specs.declared.errors.Rule.TheVariants.{S2, W1, W9}
-use Rattle.vt_spec.specs.Errors.{Rules, denial, unless}
-use Rattle.vt_spec.specs.Language.Calls.{Call}
-use Rattle.vt_spec.specs.Lists.{Fresh}
-use Rattle.vt_spec.specs.Machine.Outcomes.{after}
-use Rattle.vt_spec.specs.Machine.Judge.{judge_in}
-use Rattle.vt_spec.specs.Machine.Policy.{call_outcome, filesystems_changed_by, finished, policy}
-use Rattle.vt_spec.specs.Machine.World.{Task, World}
 
 pub no_task_is_refused : NoTaskIsRefused
 no_task_is_refused fresh world name call none = subst (λ found. (after world (ok_or found (denial S2)) (λ task.

@@ -1,17 +1,11 @@
 -- In a table that is in the policy's order, the first rule that fails is the least of those that fail.
-use Rattle.std.proofs.lemmas.Grind.{common_steps}
-use Rattle.std.proofs.Common.{◌≡◌, ◌≢◌, refl, subst, ap, ℕ, ◌+◌, ◌*◌, ◌≤◌, Bool, true, false, ◌||◌, nat_le, List, [], ◌∷◌, ◌++◌, drop, Result, Ok, Err, arith}
-use Rattle.std.specs.Prelude.{IsErrAnd, slice_index}
-use Rattle.std.specs.Result.{result_err}
-use Rattle.std.specs.Str.{bytes_eq}
-use Rattle.std.proofs.lemmas.Bool.{and_parts, leb-true, or_left, and_from}
-use Rattle.std.proofs.lemmas.Slice.Eq.{bytes_eq-Decides}
+use Rattle.std.proofs.Common.{◌≡◌, ◌≢◌, refl, subst, ap, ℕ, ◌+◌, ◌*◌, ◌≤◌, Bool, true, false, ◌||◌, nat_le, List, [], ◌∷◌, ◌++◌, drop, Result, Ok, Err, arith, IsErrAnd, slice_index, bytes_eq, leb-true}
+use Rattle.vt_spec.proofs.Common.{Rules, and_from, and_parts, bytes_eq-Decides, common_steps, or_left, result_err, unless, value_from}
 use Rattle.vt_laws_rules.specs.Asked.{IsAnsweredByLeast, IsLeastOf, failing}
 use Rattle.vt_laws_rules.specs.RuleRanks.{is_among, is_in_order_from, letters, place_of_letter, rank}
 use Rattle.vt_spec.specs.declared.errors.Deny.{Deny}
 use Rattle.vt_spec.specs.declared.errors.Rule.{Rule}
-use Rattle.vt_spec.specs.Errors.{Rules, rule_name, unless}
-use Rattle.vt_spec.specs.Language.Script.{value_from}
+use Rattle.vt_spec.specs.Errors.{rule_name}
 
 either_so : {P : Type 0} (a b : Bool) → (a || b) ≡ true → (a ≡ true → P) → (b ≡ true → P) → P
 either_so true b e first second = first refl

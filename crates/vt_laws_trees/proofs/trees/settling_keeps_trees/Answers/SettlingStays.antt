@@ -1,23 +1,10 @@
 -- What has a name, and what a task is at, stays where what nothing uses goes.
-use Rattle.std.proofs.Common.{arith, eqb-true, ◌≡◌, refl, sym, ap, subst, ◌∙◌, true≢false, ℕ, nat_eq, eq-eqb, Bool, true, false, not, cond, List, [], ◌∷◌, ◌++◌, map, ◌&&◌, ◌||◌, ⊎_elim, Some, None, is_some}
-use Rattle.std.proofs.lemmas.Grind.{common_steps}
-use Rattle.std.specs.Prelude.{filter_map, unwrap_or}
-use Rattle.std.specs.List.{filter, find, list_any}
-use Rattle.std.proofs.lemmas.List.Elements.{All-filter}
-use Rattle.std.proofs.lemmas.List.Folds.{list_any-append}
-use Rattle.std.proofs.lemmas.Bool.{and_parts, or_right}
-use Rattle.vt_spec.specs.Tree.{entries_in, entry_named}
-use Rattle.vt_spec.specs.TreeInvariant.{HasName, entry_at}
-use Rattle.vt_spec.specs.Lists.{is_among}
-use Rattle.vt_spec.specs.Machine.Mounts.{Location, Mount, mount_in, no_mount, root_of, same_location}
-use Rattle.vt_spec.specs.Machine.Settled.{filesystem_lives, has_layer_on, is_located, is_mounted, located_in, mount_lives, only_used, settled, used_in, without_dead_filesystems, without_dead_in, without_dead_mounts}
-use Rattle.vt_spec.specs.Machine.World.{Filesystem, World, all_locations, filesystem_numbered, is_overlay, mount_at, no_filesystem, node_at}
-use Rattle.vt_spec.proofs.Nodes.{none_is_not}
+use Rattle.std.proofs.Common.{arith, eqb-true, ◌≡◌, refl, sym, ap, subst, ◌∙◌, true≢false, ℕ, nat_eq, eq-eqb, Bool, true, false, not, cond, List, [], ◌∷◌, ◌++◌, map, ◌&&◌, ◌||◌, ⊎_elim, Some, None, is_some, filter_map, unwrap_or, filter, find}
+use Rattle.vt_spec.proofs.Common.{All-filter, Filesystem, HasName, Location, Mount, World, all_locations, and_parts, common_steps, entries_in, entry_at, entry_named, filesystem_lives, filesystem_numbered, has_layer_on, is_among, is_located, is_mounted, is_overlay, list_any, list_any-append, located_in, mount_at, mount_in, mount_lives, no_filesystem, no_mount, node_at, none_is_not, number-only_used, only_used, or_right, root_of, same_location, same_location_is, settled, used_in, without_dead_filesystems, without_dead_in, without_dead_mounts}
 use Rattle.vt_laws_trees.specs.Trees.{IsFileTree}
 use Rattle.vt_laws_trees.specs.Trees.Settling.{HasFileTrees, HoldsTree, LocatedStays, NamedStays}
 use Rattle.vt_laws_trees.proofs.trees.TreesForgotten.{among_located, entry_used, named_is_used, used_stays, without_dead_in_is}
 use Rattle.vt_laws_trees.proofs.trees.TreesOfWorlds.{number_numbered, numbered, numbered_all}
-use Rattle.vt_spec.proofs.Worlds.{number-only_used, same_location_is}
 
 -- A filesystem of a shorter list, where those of its number stay
 filtered : (stays : ℕ → Bool) (number : ℕ) (list : List (Filesystem ℕ)) → stays number ≡ true

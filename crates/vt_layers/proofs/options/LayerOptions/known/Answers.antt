@@ -1,5 +1,5 @@
 use Rattle.std.proofs.Common.{◌≡◌, ap, false, is_some, sym, true, ◌∙◌}
-use Rattle.vt_spec.specs.Language.Calls.{OverlayWords}
+use Rattle.vt_spec.proofs.Common.{OverlayWords}
 use Rattle.vt_layers.proofs.GrantLemmas.{is_some-map, known_none, known_some, known_upper, none_there}
 use Rattle.vt_layers.proofs.options.LayerOptions.known.Goals as goal
 

@@ -1,5 +1,5 @@
 use Rattle.std.proofs.Common.{◌≡◌}
-use Rattle.vt_spec.specs.Language.Script.{options_of}
+use Rattle.vt_spec.proofs.Common.{options_of}
 use Rattle.vt_layers.proofs.OptionLemmas.{left_of}
 use Rattle.vt_layers.proofs.options.LayerOptions.parse.Given as goal
 

@@ -1,5 +1,6 @@
 use Rattle.std.proofs.Common.{rules}
-use Rattle.vt_spec.specs.Language.Script.{overlays, request_of}
+use Rattle.vt_spec.proofs.Common.{request_of}
+use Rattle.vt_spec.specs.Language.Script.{overlays}
 use Rattle.vt_line.specs.Lines.{IsSpoken}
 use Rattle.vt_line.specs.Versions.{version_of}
 use Rattle.vt_line.proofs.RequestLemmas.{read-grammar, read-memory, read-reading, read-refused, read-silent}

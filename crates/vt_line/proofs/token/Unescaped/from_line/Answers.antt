@@ -1,10 +1,6 @@
-use Rattle.std.proofs.Common.{◌≡◌, ◌+◌, ◌-◌, [], ◌∷◌, ◌++◌, Some, None, true, cond, not, eqb, length, length-append, drop, sum, sym, ap, ◌∙◌, arith, rules, tests}
-use Rattle.std.proofs.lemmas.List.{append-nil, length_push}
+use Rattle.std.proofs.Common.{◌≡◌, ◌+◌, ◌-◌, [], ◌∷◌, ◌++◌, Some, None, true, cond, not, eqb, length, length-append, drop, sum, sym, ap, ◌∙◌, arith, rules, tests, append-nil}
+use Rattle.vt_spec.proofs.Common.{YieldsList-end, YieldsList-from_filter, YieldsList-from_slice_split, YieldsList-turn, each_of, length_push, nat_tests, raw_tokens, token_text, with_first}
 use Rattle.std.proofs.lemmas.List.Sums.{sum_by-drop_more}
-use Rattle.std.proofs.lemmas.Bool.Decides.{nat_tests}
-use Rattle.std.proofs.lemmas.Iterator.Splits.{YieldsList-from_slice_split}
-use Rattle.std.proofs.lemmas.Iterator.Consumers.{YieldsList-from_filter, YieldsList-turn, YieldsList-end}
-use Rattle.vt_spec.specs.Language.Script.{each_of, raw_tokens, token_text, with_first}
 use Rattle.vt_line.specs.Tokens.{cut}
 use Rattle.vt_line.proofs.Splits.{each_of-end, each_of-more, each_of-none}
 use Rattle.vt_line.proofs.TokenLemmas.{YieldsList-tokens, few_texts-few, few_texts-many, few_texts-wrong, read_before, read_before-first, appended, not_appended, cut-push, sum-push, tokens-length}

@@ -1,6 +1,5 @@
-use Rattle.std.proofs.Common.{◌≡◌, ◌≤◌, ◌+◌, drop, length, sum}
-use Rattle.std.specs.List.{sum_by}
-use Rattle.vt_spec.specs.Language.Script.{each_of, raw_tokens, token_text}
+use Rattle.std.proofs.Common.{◌≡◌, ◌≤◌, ◌+◌, drop, length, sum, sum_by}
+use Rattle.vt_spec.proofs.Common.{each_of, raw_tokens, token_text}
 use Rattle.vt_line.specs.Tokens.{cut}
 use Rattle.vt_line.proofs.TokenLemmas.{read_before}
 use Rattle.vt_line.proofs.token.Unescaped.from_line.Given as goal

@@ -1,7 +1,6 @@
 use Rattle.std.proofs.Common.{◌≡◌, ap, sym, ◌∙◌}
+use Rattle.vt_spec.proofs.Common.{is_empty_list, raw_tokens}
 use Rattle.std.specs.Bool.{then_some}
-use Rattle.vt_spec.specs.Language.Script.{raw_tokens}
-use Rattle.vt_spec.specs.Lists.{is_empty_list}
 use Rattle.vt_line.specs.Tokens.{cut, words_left}
 use Rattle.vt_line.proofs.WordLemmas.{cut_end, words_end}
 use Rattle.vt_line.proofs.words.Words.end.Goals as goal

@@ -1,12 +1,9 @@
-use Rattle.std.proofs.Common.{ap, find, nat_eq, option_map, rules, sym, ◌∙◌, ℕ}
-use Rattle.std.specs.Prelude.{filter_map}
-use Rattle.std.proofs.lemmas.List.{take_all}
+use Rattle.std.proofs.Common.{ap, find, nat_eq, option_map, rules, sym, ◌∙◌, ℕ, filter_map, take_all}
+use Rattle.vt_spec.proofs.Common.{Mount, each_once}
 use Rattle.vt_location.specs.MountValue.{mount_of}
 use Rattle.vt_location.specs.Numbers.{counted}
 use Rattle.vt_mount.specs.MountsValue.{mounts_in}
 use Rattle.vt_mount.proofs.AttachedLemmas.{attached_picked}
-use Rattle.vt_spec.specs.Lists.{each_once}
-use Rattle.vt_spec.specs.Machine.Mounts.{Mount}
 use Rattle.vt_listing.proofs.MountLines.{next_seen, none_seen, numbers_of}
 use Rattle.vt_listing.proofs.table.MountTable.filesystems_in.Goals as goal
 use Rattle.vt_listing.proofs.table.MountTable.filesystems_in.Goals.{in-Some+in_ok-insert, in_default}

@@ -1,8 +1,7 @@
-use Rattle.std.proofs.Common.{◌≡◌, find, map, nat_eq, option_map, take}
-use Rattle.std.specs.Prelude.{filter_map}
+use Rattle.std.proofs.Common.{◌≡◌, find, map, nat_eq, option_map, take, filter_map}
+use Rattle.vt_spec.proofs.Common.{each_once}
 use Rattle.vt_location.specs.Numbers.{counted}
 use Rattle.vt_mount.specs.MountsValue.{mounts_in}
-use Rattle.vt_spec.specs.Lists.{each_once}
 use Rattle.vt_listing.proofs.table.MountTable.filesystems_in.Given as goal
 
 abbrev pub invariant-loop-id : goal.invariant-loop-id

@@ -1,15 +1,11 @@
-use Rattle.std.proofs.Common.{List, ap, find, nat_eq, option_map, rules, sym, ◌∙◌, ℕ}
-use Rattle.std.specs.Prelude.{filter_map, flat_map}
-use Rattle.std.proofs.lemmas.List.{take_all}
+use Rattle.std.proofs.Common.{List, ap, find, nat_eq, option_map, rules, sym, ◌∙◌, ℕ, filter_map, flat_map, take_all}
+use Rattle.vt_spec.proofs.Common.{Mount, each_once, groups_shown}
 use Rattle.std.proofs.lemmas.List.Folds.{flat_map-map}
 use Rattle.vt_location.specs.MountValue.{mount_of}
 use Rattle.vt_location.specs.Numbers.{counted}
 use Rattle.vt_mount.specs.Attached.{attached_in}
 use Rattle.vt_mount.specs.MountsValue.{mounts_in}
 use Rattle.vt_mount.proofs.AttachedLemmas.{attached_picked}
-use Rattle.vt_spec.specs.Lists.{each_once}
-use Rattle.vt_spec.specs.Machine.Listing.{groups_shown}
-use Rattle.vt_spec.specs.Machine.Mounts.{Mount}
 use Rattle.vt_listing.specs.GroupsListed.{group_numbers}
 use Rattle.vt_listing.specs.Shown.{world_shown}
 use Rattle.vt_listing.proofs.MountLines.{next_groups, no_groups}

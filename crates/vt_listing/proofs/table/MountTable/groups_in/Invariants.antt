@@ -1,9 +1,7 @@
-use Rattle.std.proofs.Common.{◌≡◌, find, map, nat_eq, option_map, take}
-use Rattle.std.specs.Prelude.{filter_map, flat_map}
+use Rattle.std.proofs.Common.{◌≡◌, find, map, nat_eq, option_map, take, filter_map, flat_map}
+use Rattle.vt_spec.proofs.Common.{each_once, groups_shown}
 use Rattle.vt_location.specs.Numbers.{counted}
 use Rattle.vt_mount.specs.MountsValue.{mounts_in}
-use Rattle.vt_spec.specs.Lists.{each_once}
-use Rattle.vt_spec.specs.Machine.Listing.{groups_shown}
 use Rattle.vt_listing.specs.Shown.{world_shown}
 use Rattle.vt_listing.proofs.table.MountTable.groups_in.Given as goal
 

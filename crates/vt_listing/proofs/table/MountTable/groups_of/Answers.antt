@@ -1,9 +1,5 @@
-use Rattle.std.proofs.Common.{ap, nat_eq, rules, ◌∙◌, ℕ}
-use Rattle.std.specs.Prelude.{flat_map}
-use Rattle.vt_spec.specs.Lists.{each_once}
-use Rattle.vt_spec.specs.Machine.Listing.{groups_in_type}
-use Rattle.vt_spec.specs.Machine.Mounts.{Propagation}
-use Rattle.std.proofs.lemmas.List.{take_all}
+use Rattle.std.proofs.Common.{ap, nat_eq, rules, ◌∙◌, ℕ, flat_map, take_all}
+use Rattle.vt_spec.proofs.Common.{Propagation, each_once, groups_in_type}
 use Rattle.vt_listing.specs.Shown.{world_shown}
 use Rattle.vt_listing.specs.GroupsListed.{all_seen}
 use Rattle.vt_listing.proofs.ListedPeers.{next_kind}

@@ -1,7 +1,5 @@
-use Rattle.std.proofs.Common.{◌≡◌, nat_eq, take}
-use Rattle.std.specs.Prelude.{flat_map}
-use Rattle.vt_spec.specs.Lists.{each_once}
-use Rattle.vt_spec.specs.Machine.Listing.{groups_in_type}
+use Rattle.std.proofs.Common.{◌≡◌, nat_eq, take, flat_map}
+use Rattle.vt_spec.proofs.Common.{each_once, groups_in_type}
 use Rattle.vt_listing.specs.Shown.{world_shown}
 use Rattle.vt_listing.specs.GroupsListed.{all_seen, group_numbers}
 use Rattle.vt_listing.proofs.table.MountTable.groups_of.Given as goal

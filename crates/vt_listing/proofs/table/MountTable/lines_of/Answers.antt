@@ -1,8 +1,6 @@
-use Rattle.std.proofs.Common.{Some, ap, map, rules, sym, ◌∙◌}
-use Rattle.std.specs.Prelude.{filter_map}
+use Rattle.std.proofs.Common.{Some, ap, map, rules, sym, ◌∙◌, filter_map, take_all}
 use Rattle.vt_location.specs.declared.numbers.GroupId.{GroupId}
 use Rattle.vt_spec.specs.Language.Answers as answers
-use Rattle.std.proofs.lemmas.List.{take_all}
 use Rattle.vt_mount.proofs.AttachedLemmas.{next_made}
 use Rattle.vt_listing.specs.Shown.{world_shown}
 use Rattle.vt_listing.specs.GroupsListed.{group_numbers, line_by}

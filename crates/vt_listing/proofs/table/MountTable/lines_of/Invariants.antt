@@ -1,5 +1,4 @@
-use Rattle.std.proofs.Common.{Some, ◌≡◌, map, take}
-use Rattle.std.specs.Prelude.{filter_map}
+use Rattle.std.proofs.Common.{Some, ◌≡◌, map, take, filter_map}
 use Rattle.vt_listing.specs.Shown.{world_shown}
 use Rattle.vt_listing.specs.GroupsListed.{group_numbers, line_by}
 use Rattle.vt_request.specs.Answers.{peer_line_of}

@@ -1,9 +1,8 @@
 use Rattle.std.proofs.Common.{ap, nat_eq, ◌∙◌, ℕ}
+use Rattle.vt_spec.proofs.Common.{World, groups_seen, number_among, type_line}
 use Rattle.vt_cred.specs.MountFlags.{flags_of}
 use Rattle.vt_location.specs.MountValue.{propagation_of}
 use Rattle.vt_location.specs.Numbers.{counted}
-use Rattle.vt_spec.specs.Machine.Listing.{groups_seen, number_among, type_line}
-use Rattle.vt_spec.specs.Machine.World.{World}
 use Rattle.vt_listing.specs.Shown.{world_shown}
 use Rattle.vt_listing.proofs.ShownWorlds.{same_world}
 use Rattle.vt_listing.proofs.table.MountTable.mount_line.Goals as goal

@@ -1,7 +1,5 @@
-use Rattle.std.proofs.Common.{List, Some, ap, find, map, nat_eq, option_map, rules, sym, ◌∙◌, ℕ}
-use Rattle.std.specs.Prelude.{filter, filter_map}
-use Rattle.vt_spec.specs.Lists.{holds_of}
-use Rattle.std.proofs.lemmas.List.{take_all}
+use Rattle.std.proofs.Common.{List, Some, ap, find, map, nat_eq, option_map, rules, sym, ◌∙◌, ℕ, filter, filter_map, take_all}
+use Rattle.vt_spec.proofs.Common.{Mount, holds_of, mount_line}
 use Rattle.vt_location.specs.MountValue.{mount_of}
 use Rattle.vt_location.specs.Numbers.{counted}
 use Rattle.vt_mount.specs.Attached.{attached_in}
@@ -9,8 +7,6 @@ use Rattle.vt_mount.specs.MountsValue.{mounts_in}
 use Rattle.vt_mount.proofs.AttachedLemmas.{attached_picked, attached_rising, next_made, none_made}
 use Rattle.vt_request.specs.Answers.{mount_line_of}
 use Rattle.vt_spec.specs.Language.Answers as answers
-use Rattle.vt_spec.specs.Machine.Listing.{mount_line}
-use Rattle.vt_spec.specs.Machine.Mounts.{Mount}
 use Rattle.vt_listing.proofs.table.MountTable.mount_lines.Goals as goal
 use Rattle.vt_listing.proofs.table.MountTable.mount_lines.Goals.{in-Some+in_ok-line+in_ok-push, in_default}
 

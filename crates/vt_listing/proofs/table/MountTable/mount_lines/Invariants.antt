@@ -1,10 +1,8 @@
-use Rattle.std.proofs.Common.{◌≡◌, find, map, nat_eq, option_map, take, ℕ}
-use Rattle.std.specs.Prelude.{filter_map}
+use Rattle.std.proofs.Common.{◌≡◌, find, map, nat_eq, option_map, take, ℕ, filter_map}
+use Rattle.vt_spec.proofs.Common.{World, mount_line}
 use Rattle.vt_location.specs.Numbers.{counted}
 use Rattle.vt_mount.specs.MountsValue.{mounts_in}
 use Rattle.vt_request.specs.Answers.{mount_line_of}
-use Rattle.vt_spec.specs.Machine.Listing.{mount_line}
-use Rattle.vt_spec.specs.Machine.World.{World}
 use Rattle.vt_mount.specs.Attached.{attached_in}
 use Rattle.vt_listing.specs.Shown.{IsShown}
 use Rattle.vt_listing.proofs.table.MountTable.mount_lines.Given as goal

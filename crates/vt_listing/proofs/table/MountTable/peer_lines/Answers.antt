@@ -1,11 +1,6 @@
-use Rattle.std.proofs.Common.{ap, nat_eq, ◌∙◌, ℕ}
-use Rattle.std.specs.Prelude.{filter_map, flat_map}
-use Rattle.std.proofs.lemmas.Result.{IfOk-weaker}
+use Rattle.std.proofs.Common.{ap, nat_eq, ◌∙◌, ℕ, filter_map, flat_map}
+use Rattle.vt_spec.proofs.Common.{IfOk-weaker, Propagation, World, each_once, groups_in_type, peer_lines}
 use Rattle.vt_location.specs.Numbers.{counted}
-use Rattle.vt_spec.specs.Lists.{each_once}
-use Rattle.vt_spec.specs.Machine.Listing.{groups_in_type, peer_lines}
-use Rattle.vt_spec.specs.Machine.Mounts.{Propagation}
-use Rattle.vt_spec.specs.Machine.World.{World}
 use Rattle.vt_listing.specs.GroupsListed.{all_seen, group_numbers, member_place, placed_from, slave_place}
 use Rattle.vt_listing.proofs.ListedPeers.{all_namespaces, lines_kept, lines_so}
 use Rattle.vt_listing.proofs.ShownWorlds.{beside, same_world}

@@ -1,6 +1,5 @@
-use Rattle.std.proofs.Common.{ap, arith, map, rules, ◌∙◌}
+use Rattle.std.proofs.Common.{ap, arith, map, rules, ◌∙◌, take_all}
 use Rattle.vt_location.specs.Numbers.{counted}
-use Rattle.std.proofs.lemmas.List.{take_all}
 use Rattle.vt_listing.specs.Shown.{world_shown}
 use Rattle.vt_listing.specs.GroupsListed.{placed_from}
 use Rattle.vt_listing.proofs.ListedPeers.{next_placed}

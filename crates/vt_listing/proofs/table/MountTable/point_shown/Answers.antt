@@ -1,10 +1,9 @@
-use Rattle.std.proofs.Common.{Some, ap, map, nat_eq, option_map, sym, ◌∙◌, ℕ}
+use Rattle.std.proofs.Common.{Some, ap, map, nat_eq, option_map, sym, ◌∙◌, ℕ, Option}
 use Rattle.vt_location.specs.declared.locations.Location.{Location}
 use Rattle.vt_location.specs.Locations.{location_of}
 use Rattle.vt_spec.specs.Language.Answers as answers
 use Rattle.vt_spec.specs.Machine.Listing as listing
 use Rattle.vt_spec.specs.Machine.Mounts as meant
-use Rattle.std.specs.Prelude.{Option}
 use Rattle.vt_listing.proofs.table.MountTable.point_shown.Goals as goal
 
 pub returns-in_ok-mount_point_spot-in-Some : goal.returns-in_ok-mount_point_spot-in-Some

@@ -1,12 +1,10 @@
-use Rattle.std.proofs.Common.{ap, arith, find, nat_eq, option_map, rules, sym, ◌++◌, ◌∷◌, [], ◌∙◌, ℕ}
-use Rattle.std.specs.Prelude.{filter_map}
-use Rattle.std.proofs.lemmas.List.{map-append, map-id, take_all}
+use Rattle.std.proofs.Common.{ap, arith, find, nat_eq, option_map, rules, sym, ◌++◌, ◌∷◌, [], ◌∙◌, ℕ, filter_map, map-id, take_all}
+use Rattle.vt_spec.proofs.Common.{Mount, map-append}
 use Rattle.vt_location.specs.MountValue.{mount_of}
 use Rattle.vt_location.specs.Numbers.{counted}
 use Rattle.vt_mount.specs.Attached.{attached_in}
 use Rattle.vt_mount.specs.MountsValue.{mounts_in}
 use Rattle.vt_mount.proofs.AttachedLemmas.{attached_picked}
-use Rattle.vt_spec.specs.Machine.Mounts.{Mount}
 use Rattle.vt_listing.specs.GroupsListed.{all_seen, placed_seen}
 use Rattle.vt_listing.proofs.ListedPeers.{each_placed, mounts_next, mounts_same}
 use Rattle.vt_listing.proofs.table.MountTable.push_placed.Goals as goal

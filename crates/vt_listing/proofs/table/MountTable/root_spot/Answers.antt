@@ -1,5 +1,5 @@
 use Rattle.std.proofs.Common.{ap, ◌∙◌}
-use Rattle.vt_spec.specs.Machine.Listing.{spot_of}
+use Rattle.vt_spec.proofs.Common.{spot_of}
 use Rattle.vt_listing.proofs.MountPaths.{root_there}
 use Rattle.vt_listing.proofs.table.MountTable.root_spot.Goals as goal
 

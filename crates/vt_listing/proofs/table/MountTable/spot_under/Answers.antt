@@ -1,5 +1,5 @@
 use Rattle.std.proofs.Common.{sym, ap, eqb-true, rules, ◌∙◌}
-use Rattle.vt_spec.specs.Machine.Listing.{spot_of}
+use Rattle.vt_spec.proofs.Common.{spot_of}
 use Rattle.vt_listing.proofs.MountPaths.{spot_apart}
 use Rattle.vt_listing.proofs.table.MountTable.spot_under.Goals as goal
 

@@ -1,6 +1,4 @@
-use Rattle.std.proofs.Common.{[], subst, sym, ◌++◌}
-use Rattle.std.specs.Prelude.{option_to_list}
-use Rattle.std.proofs.lemmas.List.{append-nil}
+use Rattle.std.proofs.Common.{[], subst, sym, ◌++◌, option_to_list, append-nil}
 use Rattle.vt_mount.specs.Reserved.{Reserves}
 use Rattle.vt_mount.proofs.ReservedLemmas.{reserves-first}
 use Rattle.vt_mount.proofs.indexes.Indexes.enter.Goals as goal

@@ -1,5 +1,4 @@
-use Rattle.std.proofs.Common.{[], subst, ◌++◌}
-use Rattle.std.specs.Prelude.{option_to_list}
+use Rattle.std.proofs.Common.{[], subst, ◌++◌, option_to_list}
 use Rattle.vt_location.specs.declared.numbers.NamespaceId.{NamespaceId}
 use Rattle.vt_mount.specs.Reserved.{Reserves}
 use Rattle.vt_mount.specs.Indexes.{same_namespace}

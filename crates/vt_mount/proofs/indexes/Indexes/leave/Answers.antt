@@ -1,7 +1,7 @@
 use Rattle.std.proofs.Common.{ap, sym, ◌∙◌}
+use Rattle.vt_spec.proofs.Common.{holds_of}
 use Rattle.vt_location.specs.declared.locations.Location.{Location}
 use Rattle.vt_location.specs.declared.locations.NodeRef.{NodeRef}
-use Rattle.vt_spec.specs.Lists.{holds_of}
 use Rattle.vt_location.specs.SameNodes.{same_node}
 use Rattle.vt_mount.specs.Indexes.{listed_at, listed_over, same_place, taken}
 use Rattle.vt_mount.proofs.indexes.Indexes.leave.Goals as goal

@@ -1,4 +1,4 @@
-use Rattle.std.specs.Prelude.{option_to_list, ◌++◌}
+use Rattle.std.proofs.Common.{option_to_list, ◌++◌}
 use Rattle.vt_mount.proofs.KeptLemmas.{on-ok}
 use Rattle.vt_mount.proofs.indexes.Indexes.reserve.Goals as goal
 

@@ -1,5 +1,5 @@
 use Rattle.std.proofs.Common.{None, Some, [], ap, rules, ◌≡◌}
-use Rattle.std.specs.Map.{lookup}
+use Rattle.vt_spec.proofs.Common.{lookup}
 use Rattle.vt_mount.specs.Rising.{inserted}
 use Rattle.vt_mount.proofs.KeptLemmas.{on-err, on-ok}
 use Rattle.vt_mount.proofs.ListedLemmas.{list_changed, list_kept, list_under, listed_changed}

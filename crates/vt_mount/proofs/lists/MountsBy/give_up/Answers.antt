@@ -1,5 +1,5 @@
 use Rattle.std.proofs.Common.{Some, ap, is_some, sym, ◌∙◌}
-use Rattle.std.specs.Option.{option_copied_mut}
+use Rattle.vt_spec.proofs.Common.{option_copied_mut}
 use Rattle.vt_mount.proofs.ListedLemmas.{list_kept}
 use Rattle.vt_mount.proofs.lists.MountsBy.give_up.Goals as goal
 

@@ -1,5 +1,5 @@
 use Rattle.std.proofs.Common.{None, Some, ap, filter, not, sym, ◌∙◌}
-use Rattle.std.specs.Option.{option_copied_mut}
+use Rattle.vt_spec.proofs.Common.{option_copied_mut}
 use Rattle.indexmap.specs.IndexMap.{set_value_at}
 use Rattle.vt_mount.specs.Rising.{same_id}
 use Rattle.vt_mount.proofs.ListedLemmas.{found-dropped, found-set_there, list_changed, no_mounts, on-some}

@@ -1,5 +1,5 @@
 use Rattle.std.proofs.Common.{Some, ap, filter, is_some, not, sym, ◌∙◌}
-use Rattle.std.specs.Option.{option_copied_mut}
+use Rattle.vt_spec.proofs.Common.{option_copied_mut}
 use Rattle.vt_mount.specs.Rising.{same_id}
 use Rattle.vt_mount.proofs.ListedLemmas.{list_changed}
 use Rattle.vt_mount.proofs.lists.MountsBy.take_out.Goals as goal

@@ -1,8 +1,5 @@
-use Rattle.std.proofs.Common.{ℕ, ◌≡◌, ◌-◌, ap, arith, suc, sym, ◌∙◌}
-use Rattle.std.proofs.lemmas.List.{take_all}
-use Rattle.std.proofs.lemmas.List.Folds.{list_any_at}
-use Rattle.std.specs.List.{list_any}
-use Rattle.vt_spec.specs.Machine.Mounts.{Mount, is_unbindable}
+use Rattle.std.proofs.Common.{ℕ, ◌≡◌, ◌-◌, ap, arith, suc, sym, ◌∙◌, take_all}
+use Rattle.vt_spec.proofs.Common.{Mount, is_unbindable, list_any, list_any_at}
 use Rattle.vt_location.specs.declared.numbers.MountId.{MountId}
 use Rattle.vt_location.specs.Numbers.{counted}
 use Rattle.vt_mount.specs.MountsValue.{mounts_in}

@@ -1,6 +1,5 @@
 use Rattle.std.proofs.Common.{◌≡◌, ◌-◌, false, nat_eq, take}
-use Rattle.std.specs.List.{list_any}
-use Rattle.vt_spec.specs.Machine.Mounts.{is_unbindable, mount_in, tree_from}
+use Rattle.vt_spec.proofs.Common.{is_unbindable, list_any, mount_in, tree_from}
 use Rattle.vt_location.specs.Numbers.{counted}
 use Rattle.vt_mount.specs.MountsValue.{mounts_in}
 use Rattle.vt_mount.proofs.mounts.Mounts.+has_unbindable_within.Given as goal

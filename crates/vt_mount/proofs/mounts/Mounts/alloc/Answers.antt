@@ -1,5 +1,5 @@
 use Rattle.std.proofs.Common.{ap, sym, ◌%◌, ◌==◌, ◌∙◌}
-use Rattle.std.specs.List.{list_all}
+use Rattle.vt_spec.proofs.Common.{list_all}
 use Rattle.vt_mount.specs.MountsValue.{are_ascending, mounts_in}
 use Rattle.vt_mount.specs.Sources.{has_counted_source}
 use Rattle.vt_mount.proofs.MoveLemmas.{ascending-kept, counted-kept}

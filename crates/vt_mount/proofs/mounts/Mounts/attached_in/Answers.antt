@@ -1,5 +1,5 @@
 use Rattle.std.proofs.Common.{ap, filter, nat_eq, sym, ◌∙◌}
-use Rattle.vt_spec.specs.Lists.{holds_of}
+use Rattle.vt_spec.proofs.Common.{holds_of}
 use Rattle.vt_location.specs.Numbers.{counted}
 use Rattle.vt_mount.specs.Indexes.{is_in}
 use Rattle.vt_mount.specs.MountsValue.{are_ascending, in_order, mounts_in}

@@ -1,6 +1,5 @@
-use Rattle.std.proofs.Common.{◌≡◌, ap, true, rules, nat_eq, option_map, sym, ◌∙◌}
-use Rattle.std.specs.Prelude.{slice_get}
-use Rattle.vt_spec.specs.Machine.Mounts.{child_at, stands_at}
+use Rattle.std.proofs.Common.{◌≡◌, ap, true, rules, nat_eq, option_map, sym, ◌∙◌, slice_get}
+use Rattle.vt_spec.proofs.Common.{child_at, stands_at}
 use Rattle.vt_location.specs.Locations.{is_small_node, location_of}
 use Rattle.vt_location.specs.Numbers.{counted}
 use Rattle.vt_mount.specs.Indexes.{is_at}

@@ -1,5 +1,5 @@
 use Rattle.std.proofs.Common.{ap, nat_eq, sym, ◌∙◌}
-use Rattle.vt_spec.specs.Machine.Mounts.{children, stands_on}
+use Rattle.vt_spec.proofs.Common.{children, stands_on}
 use Rattle.vt_location.specs.Numbers.{counted}
 use Rattle.vt_mount.specs.Indexes.{is_on}
 use Rattle.vt_mount.specs.MountsValue.{are_ascending, in_order, mounts_in}

@@ -1,6 +1,5 @@
 use Rattle.std.proofs.Common.{ap, refl, subst, sym, ◌∙◌}
-use Rattle.std.specs.Option.{option_copied_mut}
-use Rattle.vt_spec.specs.Machine.Mounts.{detached}
+use Rattle.vt_spec.proofs.Common.{detached, option_copied_mut}
 use Rattle.vt_mount.specs.Indexed.{IsIndexed}
 use Rattle.vt_mount.specs.MountsValue.{MountEntry, in_order}
 use Rattle.vt_mount.proofs.KeptLemmas.{detached_kept, indexed-left, loses-detached, slots-detached}

@@ -1,5 +1,4 @@
-use Rattle.std.proofs.Common.{None, Some, ap, option_map, sym, ◌∙◌}
-use Rattle.std.specs.Prelude.{option_copied}
+use Rattle.std.proofs.Common.{None, Some, ap, option_map, sym, ◌∙◌, option_copied}
 use Rattle.vt_location.specs.MountValue.{mount_of}
 use Rattle.vt_mount.proofs.EntryLemmas.{mount-found}
 use Rattle.vt_mount.proofs.mounts.Mounts.get.Goals as goal

@@ -1,5 +1,5 @@
 use Rattle.std.proofs.Common.{◌≡◌, List, ap, length, nat_eq, not, refl, suc, sym, ◌∙◌, [], ◌∷◌}
-use Rattle.vt_spec.specs.Machine.Mounts.{stands_on}
+use Rattle.vt_spec.proofs.Common.{stands_on}
 use Rattle.vt_location.specs.declared.numbers.MountId.{MountId}
 use Rattle.vt_location.specs.Numbers.{counted}
 use Rattle.vt_mount.specs.MountsValue.{mounts_in}

@@ -1,7 +1,6 @@
-use Rattle.std.proofs.Common.{Bool, Some, false, ap, lt-ltb, nat_lt, option_map, refl, subst, sym, true≢false, ℕ, ◌&&◌, ◌<◌, ◌≡◌, ◌∙◌}
-use Rattle.std.specs.Prelude.{unwrap_or}
+use Rattle.std.proofs.Common.{Bool, Some, false, ap, lt-ltb, nat_lt, option_map, refl, subst, sym, true≢false, ℕ, ◌&&◌, ◌<◌, ◌≡◌, ◌∙◌, unwrap_or}
+use Rattle.vt_spec.proofs.Common.{option_copied_mut}
 use Rattle.vt_location.specs.Numbers.{counted}
-use Rattle.std.specs.Option.{option_copied_mut}
 use Rattle.vt_mount.specs.Indexed.{IsIndexed}
 use Rattle.vt_mount.specs.MountsValue.{changed, entries_of, held, held_kept, in_order, released}
 use Rattle.vt_mount.proofs.WriteLemmas.{entries-unwritten, entries-written, indexed-written, is-written, not-written, released-all}

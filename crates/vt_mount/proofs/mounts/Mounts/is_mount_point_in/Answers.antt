@@ -1,9 +1,5 @@
-use Rattle.std.proofs.Common.{◌≡◌, ap, true, rules, nat_eq, ◌∙◌, ℕ}
-use Rattle.std.specs.Prelude.{find}
-use Rattle.std.proofs.lemmas.Iterator.{YieldsList-from_slice}
-use Rattle.std.proofs.lemmas.Iterator.Search.{any_from_yields_List}
-use Rattle.vt_spec.specs.Lists.{holds_of}
-use Rattle.vt_spec.specs.Machine.Mounts.{Mount}
+use Rattle.std.proofs.Common.{◌≡◌, ap, true, rules, nat_eq, ◌∙◌, ℕ, find}
+use Rattle.vt_spec.proofs.Common.{Mount, YieldsList-from_slice, any_from_yields_List, holds_of}
 use Rattle.vt_location.specs.declared.numbers.MountId.{MountId}
 use Rattle.vt_location.specs.Locations.{is_small_node, number_of}
 use Rattle.vt_location.specs.Numbers.{counted}

@@ -1,5 +1,5 @@
 use Rattle.std.proofs.Common.{None, ap, refl, subst, sym, ◌∙◌}
-use Rattle.std.specs.Option.{option_copied_mut}
+use Rattle.vt_spec.proofs.Common.{option_copied_mut}
 use Rattle.vt_mount.specs.Indexed.{IsIndexed}
 use Rattle.vt_mount.specs.Moving.{lifted_entry}
 use Rattle.vt_mount.specs.MountsValue.{in_order}

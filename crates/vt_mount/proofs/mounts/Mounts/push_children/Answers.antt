@@ -1,10 +1,10 @@
 use Rattle.std.proofs.Common.{ap, arith, suc, sym, ◌-◌, ◌≡◌, ◌∙◌, ◌∷◌}
+use Rattle.vt_spec.proofs.Common.{OnOk_then}
 use Rattle.vt_location.specs.Numbers.{counted}
 use Rattle.vt_mount.specs.MountsValue.{mounts_in}
 use Rattle.vt_mount.specs.Waiting.{to_come}
 use Rattle.vt_mount.proofs.TreeLemmas.{next-deep, next-flat}
 use Rattle.vt_mount.proofs.mounts.Mounts.push_children.Goals as goal
-use Rattle.vt_spec.proofs.Options.{OnOk_then}
 
 pub returns : goal.returns
 returns c =

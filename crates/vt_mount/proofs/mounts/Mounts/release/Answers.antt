@@ -1,5 +1,5 @@
 use Rattle.std.proofs.Common.{ap, refl, subst, sym, ◌∙◌}
-use Rattle.std.specs.Option.{option_copied_mut}
+use Rattle.vt_spec.proofs.Common.{option_copied_mut}
 use Rattle.vt_mount.specs.Indexed.{IsIndexed}
 use Rattle.vt_mount.specs.MountsValue.{released, released_kept, entries_of, in_order}
 use Rattle.vt_mount.proofs.WriteLemmas.{entries-written, indexed-written, is-written, not-written}

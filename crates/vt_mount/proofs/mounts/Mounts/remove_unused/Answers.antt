@@ -1,10 +1,9 @@
-use Rattle.std.proofs.Common.{None, Some, ap, arith, cond, inl, inr, is_some, sym, true, ◌∙◌, ◌≡◌}
-use Rattle.std.specs.Prelude.{option_copied}
+use Rattle.std.proofs.Common.{None, Some, ap, arith, cond, inl, inr, is_some, sym, true, ◌∙◌, ◌≡◌, option_copied}
+use Rattle.vt_spec.proofs.Common.{holds_of}
 use Rattle.vt_location.specs.MountValue.{mount_of}
 use Rattle.vt_location.specs.Numbers.{counted}
 use Rattle.vt_mount.specs.MountsValue.{is_unused, without}
 use Rattle.vt_mount.proofs.EntryLemmas.{entry-found, is_some_mapped, mount-found, unused_kept, used_kept}
-use Rattle.vt_spec.specs.Lists.{holds_of}
 use Rattle.vt_mount.proofs.mounts.Mounts.remove_unused.Goals as goal
 use Rattle.vt_mount.proofs.mounts.Mounts.remove_unused.Goals.{then-is_some-via-then-is_some, then-is_some-via-else-is_some+then-kept-gt0}
 

@@ -1,6 +1,5 @@
-use Rattle.std.proofs.Common.{None, Some, ap, option_map, sym, ◌∙◌}
-use Rattle.std.specs.Prelude.{option_copied}
-use Rattle.vt_spec.specs.Machine.Mounts.{root_of}
+use Rattle.std.proofs.Common.{None, Some, ap, option_map, sym, ◌∙◌, option_copied}
+use Rattle.vt_spec.proofs.Common.{root_of}
 use Rattle.vt_location.specs.Locations.{location_of}
 use Rattle.vt_location.specs.Numbers.{counted}
 use Rattle.vt_mount.proofs.PointLemmas.{child-found}

@@ -1,5 +1,5 @@
 use Rattle.std.proofs.Common.{length, nat_eq, option_map, ◌-◌, ◌≡◌}
-use Rattle.vt_spec.specs.Machine.Mounts.{child_at, root_of}
+use Rattle.vt_spec.proofs.Common.{child_at, root_of}
 use Rattle.vt_location.specs.Locations.{location_of}
 use Rattle.vt_mount.specs.MountsValue.{mounts_in}
 use Rattle.vt_mount.proofs.PointLemmas.{end_of}

@@ -1,11 +1,11 @@
 use Rattle.std.proofs.Common.{ap, arith, length, sym, [], ◌++◌, ◌≡◌, ◌∙◌}
+use Rattle.vt_spec.proofs.Common.{nil_from_length}
 use Rattle.vt_location.specs.Numbers.{counted}
 use Rattle.vt_mount.specs.MountsValue.{mounts_in}
 use Rattle.vt_mount.specs.Waiting.{to_come}
 use Rattle.vt_mount.proofs.PlaceLemmas.{counts}
 use Rattle.vt_mount.proofs.TreeLemmas.{numbers-whole, told-all, told-more}
 use Rattle.vt_mount.proofs.mounts.Mounts.tree.Goals as goal
-use Rattle.std.proofs.lemmas.List.{nil_from_length}
 
 pub loop-next-smaller : goal.loop-next-smaller
 loop-next-smaller c =

@@ -1,5 +1,4 @@
-use Rattle.std.proofs.Common.{None, Some, ap, option_map, sym, ◌∙◌}
-use Rattle.std.specs.Prelude.{option_copied, unwrap_or}
+use Rattle.std.proofs.Common.{None, Some, ap, option_map, sym, ◌∙◌, option_copied, unwrap_or}
 use Rattle.vt_mount.proofs.EntryLemmas.{entry-found}
 use Rattle.vt_mount.proofs.mounts.Mounts.uses.Goals as goal
 

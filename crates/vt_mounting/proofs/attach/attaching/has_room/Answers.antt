@@ -1,7 +1,5 @@
-use Rattle.std.proofs.Common.{ap, sym, true, true≢false, ◌&&◌, ◌≡◌, ◌∙◌}
-use Rattle.std.specs.Prelude.{nat_le}
-use Rattle.vt_fs.specs.FilesystemsValue.{shown}
-use Rattle.vt_location.specs.Numbers.{counted}
+use Rattle.std.proofs.Common.{ap, sym, true, true≢false, ◌&&◌, ◌≡◌, ◌∙◌, nat_le}
+use Rattle.vt_mounting.proofs.Common.{counted, shown}
 use Rattle.vt_mounting.specs.Attach.Room as meant
 use Rattle.vt_mounting.specs.Detach.Uses.{mounts_shown}
 use Rattle.vt_mounting.proofs.detach.Shown.{mounts_are_shown}

@@ -1,6 +1,6 @@
 use Rattle.std.proofs.Common.{◌≡◌, take, true}
-use Rattle.std.specs.List.{list_all}
-use Rattle.vt_fs.specs.FilesystemsValue.{shown}
+use Rattle.vt_spec.proofs.Common.{list_all}
+use Rattle.vt_mounting.proofs.Common.{shown}
 use Rattle.vt_mounting.specs.Attach.Room.{has_room, has_small_nodes}
 use Rattle.vt_mounting.proofs.attach.attaching.have_room.Given as goal
 

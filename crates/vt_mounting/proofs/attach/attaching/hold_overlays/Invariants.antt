@@ -1,5 +1,5 @@
 use Rattle.std.proofs.Common.{◌≡◌, map, take}
-use Rattle.vt_spec.specs.Lists.{folded}
+use Rattle.vt_spec.proofs.Common.{folded}
 use Rattle.vt_mounting.specs.Detach.Stored.{OverlaysStay, merged_of}
 use Rattle.vt_mounting.specs.Detach.Uses.{merged_by}
 use Rattle.vt_mounting.proofs.attach.attaching.hold_overlays.Given as goal

@@ -1,6 +1,5 @@
-use Rattle.std.proofs.Common.{ap, ◌∙◌}
-use Rattle.std.specs.Prelude.{nat_le}
-use Rattle.vt_location.specs.Locations.{number_of}
+use Rattle.std.proofs.Common.{ap, ◌∙◌, nat_le}
+use Rattle.vt_mounting.proofs.Common.{number_of}
 use Rattle.vt_mounting.proofs.attach.RoomLemmas.{uses_are_shown}
 use Rattle.vt_mounting.proofs.attach.attaching.node_has_room.Goals as goal
 

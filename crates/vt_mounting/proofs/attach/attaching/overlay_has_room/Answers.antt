@@ -1,7 +1,5 @@
-use Rattle.std.proofs.Common.{ap, arith, is_some, rules, sym, ◌≡◌, ◌∙◌}
-use Rattle.std.specs.Prelude.{nat_le}
-use Rattle.std.proofs.lemmas.Bool.{le-leb}
-use Rattle.vt_store.proofs.Woven.{some_copied}
+use Rattle.std.proofs.Common.{ap, arith, is_some, rules, sym, ◌≡◌, ◌∙◌, nat_le, le-leb}
+use Rattle.vt_mounting.proofs.Common.{some_copied}
 use Rattle.vt_mounting.proofs.attach.OverlayCounts.{mounts_are_merged, none_merged, overlay_there}
 use Rattle.vt_mounting.proofs.attach.attaching.overlay_has_room.Goals as goal
 

@@ -1,5 +1,5 @@
 use Rattle.std.proofs.Common.{◌≡◌, map, take, true}
-use Rattle.std.specs.List.{list_all}
+use Rattle.vt_spec.proofs.Common.{list_all}
 use Rattle.vt_mounting.specs.Attach.Room.{merged_has_room}
 use Rattle.vt_mounting.specs.Detach.Stored.{merged_of}
 use Rattle.vt_mounting.proofs.attach.attaching.overlays_have_room.Given as goal

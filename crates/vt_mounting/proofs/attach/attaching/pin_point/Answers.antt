@@ -1,8 +1,6 @@
-use Rattle.std.proofs.Common.{ap, arith, nat_eq, subst, sym, true, ◌≡◌, ◌≤◌, ◌∙◌}
-use Rattle.std.proofs.lemmas.Bool.{leb-true}
-use Rattle.vt_fs.specs.FilesystemsValue.{ChangesInodes, inodes_at, shown}
-use Rattle.vt_location.specs.Locations.{number_of}
-use Rattle.vt_spec.specs.Inodes.{pinned, uses_in}
+use Rattle.std.proofs.Common.{ap, arith, nat_eq, subst, sym, true, ◌≡◌, ◌≤◌, ◌∙◌, leb-true}
+use Rattle.vt_spec.proofs.Common.{pinned, uses_in}
+use Rattle.vt_mounting.proofs.Common.{ChangesInodes, inodes_at, number_of, shown}
 use Rattle.vt_mounting.specs.Attach.Room.{most_counted, point_has_room}
 use Rattle.vt_mounting.specs.Detach.Uses.{pinned_at}
 use Rattle.vt_mounting.proofs.attach.RoomLemmas.{not_refused, uses_are_shown}

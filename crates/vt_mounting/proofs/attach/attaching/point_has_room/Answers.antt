@@ -1,5 +1,5 @@
 use Rattle.std.proofs.Common.{ap, sym, ◌∙◌}
-use Rattle.vt_fs.specs.FilesystemsValue.{shown}
+use Rattle.vt_mounting.proofs.Common.{shown}
 use Rattle.vt_mounting.specs.Attach.Room as meant
 use Rattle.vt_mounting.proofs.attach.attaching.point_has_room.Goals as goal
 

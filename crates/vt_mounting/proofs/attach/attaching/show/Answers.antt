@@ -1,8 +1,6 @@
 use Rattle.std.proofs.Common.{ap, arith, nat_eq, subst, sym, true, ◌+◌, ◌≡◌, ◌∙◌}
-use Rattle.vt_fs.specs.FilesystemsValue.{ChangesInodes, entry_at, inodes_at, shown, with_changed}
-use Rattle.vt_location.specs.Locations.{number_of}
-use Rattle.vt_location.specs.Numbers.{counted}
-use Rattle.vt_spec.specs.Inodes.{pinned, uses_in}
+use Rattle.vt_spec.proofs.Common.{pinned, uses_in}
+use Rattle.vt_mounting.proofs.Common.{ChangesInodes, counted, entry_at, inodes_at, number_of, shown, with_changed}
 use Rattle.vt_mounting.specs.Attach.Room.{most_counted, point_has_room}
 use Rattle.vt_mounting.specs.Detach.Uses.{inode_of, mounted_in, mounts_shown, pinned_at, pinned_in}
 use Rattle.vt_mounting.proofs.attach.RoomLemmas.{filesystem_has_room, holds, mounts_at, not_refused, pinned_mounts, point_room_left, root_has_room}

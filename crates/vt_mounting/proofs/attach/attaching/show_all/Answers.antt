@@ -1,5 +1,5 @@
 use Rattle.std.proofs.Common.{arith}
-use Rattle.vt_fs.specs.FilesystemsValue.{shown}
+use Rattle.vt_mounting.proofs.Common.{shown}
 use Rattle.vt_mounting.proofs.attach.RoomLemmas.{room_at}
 use Rattle.vt_mounting.proofs.attach.attaching.show_all.Goals as goal
 

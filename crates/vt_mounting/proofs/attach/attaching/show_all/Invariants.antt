@@ -1,6 +1,6 @@
 use Rattle.std.proofs.Common.{◌≡◌, take}
-use Rattle.vt_fs.specs.FilesystemsValue.{shown}
-use Rattle.vt_spec.specs.Lists.{folded}
+use Rattle.vt_spec.proofs.Common.{folded}
+use Rattle.vt_mounting.proofs.Common.{shown}
 use Rattle.vt_mounting.specs.Detach.Uses.{shown_by}
 use Rattle.vt_mounting.proofs.attach.attaching.show_all.Given as goal
 

@@ -1,9 +1,6 @@
-use Rattle.std.proofs.Common.{Some, ap, find, map, nat_eq, option_map, rules, sym, ◌∙◌}
-use Rattle.vt_location.specs.MountValue.{mount_of}
-use Rattle.vt_location.specs.Numbers.{counted}
-use Rattle.vt_mount.specs.MountsValue.{mounts_in}
+use Rattle.std.proofs.Common.{Some, ap, find, map, nat_eq, option_map, rules, sym, ◌∙◌, take_all}
+use Rattle.vt_mounting.proofs.Common.{counted, mount_of, mounts_in}
 use Rattle.vt_mounting.specs.Attach.BoundMounts.{bound_mounts, rooted_at}
-use Rattle.std.proofs.lemmas.List.{take_all as all_taken}
 use Rattle.vt_mount.proofs.AttachedLemmas.{next_made, none_made}
 use Rattle.vt_mounting.proofs.attach.bound.bound_mounts.Goals as goal
 use Rattle.vt_mounting.proofs.attach.bound.bound_mounts.Goals.{in-Some+in_ok-push, in_default}
@@ -30,4 +27,4 @@ loop-id-preserved c =
 
 pub returns : goal.returns
 returns c = c.loop-id.invariant ∙ ap (bound_mounts c.args.source (mounts_in c.args.mounts.now))
-    (all_taken c.loop-id.id-index c.args.origins.now (let done = c.loop-id-test.false in search rules))
+    (take_all c.loop-id.id-index c.args.origins.now (let done = c.loop-id-test.false in search rules))

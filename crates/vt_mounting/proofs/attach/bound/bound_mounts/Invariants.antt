@@ -1,6 +1,5 @@
 use Rattle.std.proofs.Common.{◌≡◌, map, take}
-use Rattle.vt_location.specs.MountValue.{mount_of}
-use Rattle.vt_mount.specs.MountsValue.{mounts_in}
+use Rattle.vt_mounting.proofs.Common.{mount_of, mounts_in}
 use Rattle.vt_mounting.specs.Attach.BoundMounts.{bound_mounts}
 use Rattle.vt_mounting.proofs.attach.bound.bound_mounts.Given as goal
 

@@ -1,15 +1,10 @@
 use Rattle.std.proofs.Common.{List, ap, map, nat_eq, refl, [], ◌++◌, ◌∷◌, ◌≡◌, ◌∙◌}
+use Rattle.vt_spec.proofs.Common.{holds_of}
 use Rattle.vt_location.specs.declared.locations.Location.{Location}
 use Rattle.vt_location.specs.declared.mounts.Mount.{Mount}
-use Rattle.vt_location.specs.Locations.{location_of}
-use Rattle.vt_location.specs.MountValue.{mount_of}
-use Rattle.vt_location.specs.Numbers.{counted}
-use Rattle.vt_mount.specs.MountsValue.{are_ascending, mounts_in}
-use Rattle.vt_spec.specs.Lists.{holds_of}
-use Rattle.vt_mount.specs.Attached.{attached_in}
+use Rattle.vt_mounting.proofs.Common.{are_ascending, ascending_filter, attached_in, counted, location_of, mount_of, mounts_in}
 use Rattle.vt_mounting.specs.Attach.Planned.{with_planned}
 use Rattle.vt_mounting.specs.Detach.Uses.{Kept, with_attached}
-use Rattle.vt_mount.proofs.AttachedLemmas.{ascending_filter}
 use Rattle.vt_mounting.proofs.attach.UnsharingLemmas.{copies_ascend}
 use Rattle.vt_mounting.proofs.attach.copying.attach_copies.Goals as goal
 

@@ -1,15 +1,8 @@
-use Rattle.std.proofs.Common.{Some, ap, arith, find, map, nat_eq, option_map, rules, sym, ◌∙◌, ℕ}
-use Rattle.std.specs.Prelude.{filter_map}
-use Rattle.vt_laws_mounts.proofs.letting_go.Lists.{among-from_filter}
-use Rattle.vt_location.specs.MountValue.{mount_of}
-use Rattle.vt_location.specs.Numbers.{counted}
-use Rattle.vt_mount.specs.MountsValue.{mounts_in}
-use Rattle.vt_spec.specs.Lists.{holds_of}
-use Rattle.vt_spec.specs.Machine.Mounts.{Mount}
-use Rattle.vt_mount.specs.Attached.{attached_in}
+use Rattle.std.proofs.Common.{Some, ap, arith, find, map, nat_eq, option_map, rules, sym, ◌∙◌, ℕ, filter_map, take_all}
+use Rattle.vt_spec.proofs.Common.{Mount, holds_of}
+use Rattle.vt_mounting.proofs.Common.{among-from_filter, ascending_filter, attached_in, counted, mount_of, mounts_in}
 use Rattle.vt_mounting.specs.Attach.Copying.{copied_by}
-use Rattle.std.proofs.lemmas.List.{take_all as all_taken}
-use Rattle.vt_mount.proofs.AttachedLemmas.{as_many, ascending_filter, ascending_found, next_made, none_made, picked, rising_ids}
+use Rattle.vt_mount.proofs.AttachedLemmas.{as_many, ascending_found, next_made, none_made, picked, rising_ids}
 use Rattle.vt_mounting.proofs.attach.copying.copies.Goals as goal
 use Rattle.vt_mounting.proofs.attach.copying.copies.Goals.{in-Some+in_ok-push, in_default}
 
@@ -53,7 +46,7 @@ returns c =
     let change : Mount ℕ → Mount ℕ = copied_by c.args.next all in
     c.loop-id.invariant ∙ ap (filter_map (λ id. option_map change
     (find (λ mount. nat_eq (counted id.count) mount.number) (mounts_in c.args.mounts.now))))
-    (all_taken c.loop-id.id-index c.attached_in-originals.result.now (let done = c.loop-id-test.false in search rules))
+    (take_all c.loop-id.id-index c.attached_in-originals.result.now (let done = c.loop-id-test.false in search rules))
     ∙ picked change (mounts_in c.args.mounts.now) all c.attached_in-originals.result.now c.attached_in-originals.ensures.are
     (λ mount m. ascending_found (mounts_in c.args.mounts.now) c.attached_in-originals.ensures.order mount
     (among-from_filter (λ mount. holds_of (nat_eq (counted c.args.namespace.count)) mount.namespace)

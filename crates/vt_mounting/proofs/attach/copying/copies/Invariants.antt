@@ -1,9 +1,5 @@
-use Rattle.std.proofs.Common.{◌≡◌, map, find, nat_eq, option_map, take}
-use Rattle.std.specs.Prelude.{filter_map}
-use Rattle.vt_location.specs.MountValue.{mount_of}
-use Rattle.vt_location.specs.Numbers.{counted}
-use Rattle.vt_mount.specs.MountsValue.{mounts_in}
-use Rattle.vt_mount.specs.Attached.{attached_in}
+use Rattle.std.proofs.Common.{◌≡◌, map, find, nat_eq, option_map, take, filter_map}
+use Rattle.vt_mounting.proofs.Common.{attached_in, counted, mount_of, mounts_in}
 use Rattle.vt_mounting.specs.Attach.Copying.{copied_by}
 use Rattle.vt_mounting.proofs.attach.copying.copies.Given as goal
 

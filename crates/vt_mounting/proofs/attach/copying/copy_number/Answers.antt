@@ -1,6 +1,6 @@
 use Rattle.std.proofs.Common.{ap, rules, ◌∙◌}
-use Rattle.std.proofs.lemmas.List.Sorted.{answers_always}
-use Rattle.vt_location.specs.Numbers.{counted}
+use Rattle.vt_spec.proofs.Common.{answers_always}
+use Rattle.vt_mounting.proofs.Common.{counted}
 use Rattle.vt_mount.proofs.AttachedLemmas.{found_place}
 use Rattle.vt_mounting.proofs.attach.CopyLemmas.{numbered_so}
 use Rattle.vt_mounting.proofs.attach.copying.copy_number.Goals as goal

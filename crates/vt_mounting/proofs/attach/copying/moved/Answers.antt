@@ -1,12 +1,8 @@
 use Rattle.std.proofs.Common.{ap, cond, nat_eq, sym, ◌∙◌}
-use Rattle.vt_location.specs.Locations.{location_of}
-use Rattle.vt_location.specs.Numbers.{counted}
-use Rattle.vt_mount.specs.MountsValue.{mounts_in}
-use Rattle.vt_spec.specs.Lists.{holds_of}
-use Rattle.vt_spec.specs.Machine.Namespaces.{location_on_copy}
-use Rattle.vt_mount.specs.Attached.{attached_in}
+use Rattle.vt_spec.proofs.Common.{holds_of, location_on_copy}
+use Rattle.vt_mounting.proofs.Common.{ascending_filter, attached_in, counted, location_of, mounts_in}
 use Rattle.vt_mounting.specs.Attach.Copying.{copy_numbers}
-use Rattle.vt_mount.proofs.AttachedLemmas.{ascending_filter, found_among, rising_ids}
+use Rattle.vt_mount.proofs.AttachedLemmas.{found_among, rising_ids}
 use Rattle.vt_mounting.proofs.attach.copying.moved.Goals as goal
 
 pub on_copy-requires-clause-order : goal.on_copy-requires-clause-order

@@ -1,13 +1,10 @@
-use Rattle.std.proofs.Common.{List, ap, length, map, subst, sym, ℕ, ◌++◌, ◌-◌, ◌≡◌, ◌∙◌}
-use Rattle.std.specs.List.{list_all}
-use Rattle.std.specs.Prelude.{drop, take}
+use Rattle.std.proofs.Common.{List, ap, length, map, subst, sym, ℕ, ◌++◌, ◌-◌, ◌≡◌, ◌∙◌, drop, take, length-drop}
+use Rattle.vt_spec.proofs.Common.{list_all}
 use Rattle.std.proofs.Math.Seq.{take-length}
-use Rattle.std.proofs.lemmas.List.{drop-map, length-drop}
+use Rattle.std.proofs.lemmas.List.{drop-map}
 use Rattle.vt_group.specs.declared.groups.NewGroup.{NewGroup}
-use Rattle.vt_group.specs.Together.{GrowsTo, new_group, typed}
+use Rattle.vt_mounting.proofs.Common.{GrowsTo, are_ascending, mount_of, mounts_in, new_group, typed}
 use Rattle.vt_location.specs.declared.mounts.Mount.{Mount}
-use Rattle.vt_location.specs.MountValue.{mount_of}
-use Rattle.vt_mount.specs.MountsValue.{are_ascending, mounts_in}
 use Rattle.vt_mounting.specs.Attach.Moved.{top_point, typed_all, with_types}
 use Rattle.vt_mounting.specs.Attach.Planned.{Point, is_small, points_left, points_taken, with_planned}
 use Rattle.vt_mounting.specs.Attach.Room.{has_small_nodes}

@@ -1,11 +1,7 @@
 use Rattle.std.proofs.Common.{List, ap, map, subst, sym, ◌++◌, ◌≡◌, ◌∙◌}
 use Rattle.vt_group.specs.declared.groups.NewGroup.{NewGroup}
-use Rattle.vt_group.specs.Together.{new_group}
+use Rattle.vt_mounting.proofs.Common.{AttachesBy, MovesOnce, are_ascending, mount_of, mounts_in, new_group}
 use Rattle.vt_location.specs.declared.mounts.Mount.{Mount}
-use Rattle.vt_location.specs.MountValue.{mount_of}
-use Rattle.vt_mount.specs.MountsValue.{are_ascending, mounts_in}
-use Rattle.vt_propagate.specs.Attaching.{AttachesBy}
-use Rattle.vt_propagate.specs.Pushing.{MovesOnce}
 use Rattle.vt_mounting.specs.Attach.Planned.{Point}
 use Rattle.vt_mounting.specs.Attach.PlannedUses.{point_seen}
 use Rattle.vt_mounting.proofs.attach.overlaid.attach_overlay.Goals as goal

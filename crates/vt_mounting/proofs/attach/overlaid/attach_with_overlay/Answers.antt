@@ -1,13 +1,9 @@
 use Rattle.std.proofs.Common.{List, Some, [], ap, arith, length, map, refl, subst, sym, true, ◌*◌, ◌+◌, ◌++◌, ◌-◌, ◌∷◌, ◌≡◌, ◌∙◌, ◌≤◌}
-use Rattle.std.specs.List.{list_all}
-use Rattle.std.proofs.lemmas.List.{length-map, map-append}
-use Rattle.vt_fs.specs.FilesystemsValue.{Filesystems, Shown, shown}
+use Rattle.vt_spec.proofs.Common.{folded, length-map, list_all, map-append}
+use Rattle.vt_mounting.proofs.Common.{Filesystems, Overlays, Shown, StoreValue, lowers_in, shown, with_layers, without_overlay}
 use Rattle.vt_location.specs.declared.locations.Location.{Location}
 use Rattle.vt_mount.specs.declared.moving.Moved.{Moved}
-use Rattle.vt_spec.specs.Lists.{folded}
-use Rattle.vt_store.specs.LayersHeld.{HaveRoomFor, lowers_in, new_overlay, with_layers}
-use Rattle.vt_store.specs.OverlaysValue.{Overlays, without_overlay}
-use Rattle.vt_store.specs.StoreValue.{StoreValue}
+use Rattle.vt_store.specs.LayersHeld.{HaveRoomFor, new_overlay}
 use Rattle.vt_mounting.specs.Attach.Planned.{Point, left_of, pinned_by, points_taken, taken_of, unpinned_by}
 use Rattle.vt_mounting.specs.Attach.Room.{has_room, merged_has_room, most_counted, point_has_room}
 use Rattle.vt_mounting.specs.Detach.Stored.{layer_of, merged_of}

@@ -1,10 +1,8 @@
 use Rattle.std.proofs.Common.{List, Some, ap, arith, length, map, refl, subst, sym, true, ◌*◌, ◌+◌, ◌-◌, ◌≡◌, ◌∙◌}
-use Rattle.std.specs.List.{list_all}
-use Rattle.std.proofs.lemmas.List.{length-map}
-use Rattle.vt_fs.specs.FilesystemsValue.{Shown, shown}
+use Rattle.vt_spec.proofs.Common.{folded, length-map, list_all}
+use Rattle.vt_mounting.proofs.Common.{Shown, shown}
 use Rattle.vt_location.specs.declared.locations.Location.{Location}
 use Rattle.vt_mount.specs.declared.moving.Moved.{Moved}
-use Rattle.vt_spec.specs.Lists.{folded}
 use Rattle.vt_mounting.specs.Attach.Planned.{left_of, pinned_by, points_taken, taken_of, unpinned_by}
 use Rattle.vt_mounting.specs.Attach.Room.{has_room, most_counted, point_has_room}
 use Rattle.vt_mounting.specs.Detach.Stored.{merged_of}

@@ -1,6 +1,6 @@
 use Rattle.std.proofs.Common.{◌≡◌, Some, take, true}
-use Rattle.std.specs.List.{list_all}
-use Rattle.vt_fs.specs.FilesystemsValue.{shown}
+use Rattle.vt_spec.proofs.Common.{list_all}
+use Rattle.vt_mounting.proofs.Common.{shown}
 use Rattle.vt_mounting.specs.Attach.Planned.{Point}
 use Rattle.vt_mounting.specs.Attach.Room.{point_has_room}
 use Rattle.vt_mounting.proofs.attach.planned.places_have_room.Given as goal

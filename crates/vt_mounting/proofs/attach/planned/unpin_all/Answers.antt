@@ -1,7 +1,6 @@
-use Rattle.std.proofs.Common.{ap, ◌∙◌}
-use Rattle.std.proofs.lemmas.List.{take_all}
-use Rattle.vt_fs.specs.FilesystemsValue.{shown}
-use Rattle.vt_spec.specs.Lists.{folded}
+use Rattle.std.proofs.Common.{ap, ◌∙◌, take_all}
+use Rattle.vt_spec.proofs.Common.{folded}
+use Rattle.vt_mounting.proofs.Common.{shown}
 use Rattle.vt_mounting.specs.Attach.Planned.{left_of, unpinned_by}
 use Rattle.vt_mounting.proofs.attach.PlannedMoves.{unpinned_next}
 use Rattle.vt_mounting.proofs.attach.planned.unpin_all.Goals as goal

@@ -1,8 +1,6 @@
-use Rattle.std.proofs.Common.{ap, sym, ◌∙◌}
-use Rattle.std.specs.Prelude.{option_to_list}
-use Rattle.vt_fs.specs.FilesystemsValue.{shown}
-use Rattle.vt_location.specs.Locations.{number_of}
-use Rattle.vt_spec.specs.Lists.{folded}
+use Rattle.std.proofs.Common.{ap, sym, ◌∙◌, option_to_list}
+use Rattle.vt_spec.proofs.Common.{folded}
+use Rattle.vt_mounting.proofs.Common.{number_of, shown}
 use Rattle.vt_mounting.specs.Attach.Planned.{unpinned_by}
 use Rattle.vt_mounting.proofs.detach.Shown.{unpins}
 use Rattle.vt_mounting.proofs.attach.planned.unpin_point.Goals as goal

@@ -1,10 +1,5 @@
 use Rattle.std.proofs.Common.{◌≡◌, Some, None, ap, refl, subst, sym, map, option_map, ◌∙◌}
-use Rattle.vt_fs.specs.FilesystemsValue.{shown}
-use Rattle.vt_location.specs.Locations.{location_of, number_of}
-use Rattle.vt_location.specs.MountValue.{mount_of}
-use Rattle.vt_location.specs.Numbers.{counted}
-use Rattle.vt_store.specs.OverlaysValue.{Overlays}
-use Rattle.vt_store.specs.StoreValue.{StoreValue}
+use Rattle.vt_mounting.proofs.Common.{Overlays, StoreValue, counted, location_of, mount_of, number_of, shown}
 use Rattle.vt_mounting.specs.Detach.Stored.{OverlaysLeft, kept, merged_of}
 use Rattle.vt_mounting.specs.Detach.Uses.{let_go_mount, unpinned_at, unpinned_in, without_attachment}
 use Rattle.vt_mounting.proofs.detach.MountsUnplaced.{detach_none, point_seen}

@@ -1,5 +1,5 @@
 use Rattle.std.proofs.Common.{map, drop}
-use Rattle.vt_location.specs.Numbers.{counted}
+use Rattle.vt_mounting.proofs.Common.{counted}
 use Rattle.vt_mounting.specs.Detach.Detached.{LeaveInTurn}
 use Rattle.vt_mounting.specs.Detach.Stored.{OverlaysLeft, kept}
 use Rattle.vt_mounting.specs.Detach.Uses.{Kept}

@@ -1,5 +1,5 @@
 use Rattle.std.proofs.Common.{map}
-use Rattle.vt_location.specs.Numbers.{counted}
+use Rattle.vt_mounting.proofs.Common.{counted}
 use Rattle.vt_mounting.specs.Detach.Stored.{kept}
 use Rattle.vt_mounting.proofs.detach.FollowedTypes.{turn_sourceless, turn_typed}
 use Rattle.vt_mounting.proofs.detach.detaching.detach_together.Goals as goal

@@ -1,13 +1,9 @@
-use Rattle.std.proofs.Common.{[], ap, filter, length, map, nat_eq, refl, subst, sym, ◌++◌, ◌<◌, ◌∙◌, ◌≡◌, ◌∷◌}
-use Rattle.std.specs.Option.{option_copied}
-use Rattle.vt_fs.specs.FilesystemsValue.{shown}
-use Rattle.vt_spec.specs.Machine.Receives.{regrouped}
-use Rattle.vt_location.specs.Numbers.{counted}
-use Rattle.vt_group.specs.Grouping.{Grouping, Has, no_groups}
-use Rattle.vt_group.specs.Together.{as_private, with_changed}
+use Rattle.std.proofs.Common.{[], ap, filter, length, map, nat_eq, refl, subst, sym, ◌++◌, ◌<◌, ◌∙◌, ◌≡◌, ◌∷◌, option_copied}
+use Rattle.vt_spec.proofs.Common.{regrouped}
+use Rattle.vt_mounting.proofs.Common.{Grouping, Has, StillTyped, as_private, counted, no_groups, shown, typed_entry}
+use Rattle.vt_group.specs.Together.{with_changed}
 use Rattle.vt_group.proofs.Together.{left_live, none_yet, one_more_private}
-use Rattle.vt_retype.specs.Retyping.{typed_entry}
-use Rattle.vt_retype.proofs.Left.{StillTyped, still_at_first, still_done, still_next}
+use Rattle.vt_retype.proofs.Left.{still_at_first, still_done, still_next}
 use Rattle.vt_mounting.specs.Detach.NamespacesLeft.{AreDetached, Detached, is_attached_in}
 use Rattle.vt_mounting.specs.Detach.Stored.{kept, merged_of}
 use Rattle.vt_mounting.specs.Detach.Uses.{Kept, without_attachment}

@@ -1,18 +1,12 @@
 use Rattle.std.proofs.Common.{List, filter, length, nat_eq, ℕ}
-use Rattle.vt_spec.specs.Machine.Receives.{regrouped}
-use Rattle.vt_spec.specs.Machine.World.{World}
-use Rattle.vt_location.specs.Numbers.{counted}
-use Rattle.vt_group.specs.Grouping.{Has}
-use Rattle.vt_group.specs.Together.{as_private, with_changed}
-use Rattle.vt_mount.specs.MountsValue.{MountEntry}
+use Rattle.vt_spec.proofs.Common.{World, regrouped}
+use Rattle.vt_mounting.proofs.Common.{AllGroupsLive, AreTyped, Has, MountEntry, StillTyped, as_private, counted}
+use Rattle.vt_group.specs.Together.{with_changed}
 use Rattle.vt_retype.specs.Leaving.{OnlyTypesChange}
-use Rattle.vt_retype.specs.Retyping.{AreTyped}
-use Rattle.vt_retype.proofs.Left.{StillTyped}
 use Rattle.vt_mounting.specs.Detach.NamespacesLeft.{AreDetached, Detached, is_attached_in}
 use Rattle.vt_mounting.specs.Detach.Stored.{OverlaysLeft, kept}
 use Rattle.vt_mounting.proofs.detach.TypesAside.{gone_numbers}
 use Rattle.vt_mounting.proofs.detach.ending.end_namespace.Given as goal
-use Rattle.vt_laws_mounts.specs.Mounts.Receivers.{AllGroupsLive}
 
 -- those that are gone were detached one after the other, and have left their groups; the mounts that their detaching
 -- alone leaves differ in types only

@@ -1,8 +1,7 @@
-use Rattle.std.proofs.Common.{ap, refl, sym, ◌∙◌}
-use Rattle.std.proofs.lemmas.Bool.{le-leb, lt-leb}
-use Rattle.std.specs.Map.{remove_entry}
-use Rattle.std.specs.Option.{option_copied_mut}
-use Rattle.vt_location.specs.Numbers.{counted}
+use Rattle.std.proofs.Common.{ap, refl, sym, ◌∙◌, le-leb}
+use Rattle.vt_spec.proofs.Common.{option_copied_mut, remove_entry}
+use Rattle.std.proofs.lemmas.Bool.{lt-leb}
+use Rattle.vt_mounting.proofs.Common.{counted}
 use Rattle.vt_mounting.specs.Detach.Stored.{kept}
 use Rattle.vt_mounting.proofs.detach.EndingLemmas.{absent_left, absent_mounts, fewer_left, fewer_mounts, last_left, last_mounts}
 use Rattle.vt_mounting.proofs.detach.OverlaysListed.{left_itself}

@@ -1,7 +1,5 @@
 use Rattle.std.proofs.Common.{ap, map, ◌∙◌}
-use Rattle.vt_fs.specs.FilesystemsValue.{shown}
-use Rattle.vt_location.specs.Locations.{number_of}
-use Rattle.vt_location.specs.Numbers.{counted}
+use Rattle.vt_mounting.proofs.Common.{counted, number_of, shown}
 use Rattle.vt_mounting.specs.Detach.Stored.{merged_of}
 use Rattle.vt_mounting.specs.Detach.Uses.{pinned_in}
 use Rattle.vt_mounting.proofs.detach.Shown.{pins}

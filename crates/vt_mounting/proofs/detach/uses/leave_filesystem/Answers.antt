@@ -1,7 +1,5 @@
 use Rattle.std.proofs.Common.{ap, refl, sym, is_some, ◌∙◌}
-use Rattle.vt_fs.specs.FilesystemsValue.{shown}
-use Rattle.vt_location.specs.Numbers.{counted}
-use Rattle.vt_store.proofs.Woven.{some_copied}
+use Rattle.vt_mounting.proofs.Common.{counted, shown, some_copied}
 use Rattle.vt_mounting.specs.Detach.Uses.{let_go_filesystem, released_in}
 use Rattle.vt_mounting.proofs.detach.OverlaysListed.{left_itself}
 use Rattle.vt_mounting.proofs.detach.StoresLeft.{merged_leaves, merged_there, plain_leaves}

@@ -1,9 +1,5 @@
 use Rattle.std.proofs.Common.{ap, cond, is_some, refl, ◌∙◌, sym}
-use Rattle.vt_fs.specs.FilesystemsValue.{shown}
-use Rattle.vt_location.specs.Locations.{number_of}
-use Rattle.vt_location.specs.MountValue.{mount_of}
-use Rattle.vt_location.specs.Numbers.{counted}
-use Rattle.vt_mount.specs.MountsValue.{without}
+use Rattle.vt_mounting.proofs.Common.{counted, mount_of, number_of, shown, without}
 use Rattle.vt_mounting.specs.Detach.Stored.{kept}
 use Rattle.vt_mounting.specs.Detach.Uses.{Kept, merged_at, shown_left_by, unpinned_in}
 use Rattle.vt_mounting.proofs.detach.OverlaysListed.{left_itself}

@@ -1,5 +1,5 @@
 use Rattle.std.proofs.Common.{ap, sym, ◌∙◌}
-use Rattle.vt_spec.specs.Tree.{entry_named}
+use Rattle.vt_spec.proofs.Common.{entry_named}
 use Rattle.vt_node.proofs.ListedLemmas.{find-listed}
 use Rattle.vt_node.proofs.entries.DirectoryEntries.entry.Goals as goal
 

@@ -1,9 +1,7 @@
 use Rattle.std.proofs.Common.{ap, sym, ◌∙◌, is_some, true≢false}
-use Rattle.std.specs.FinMap.Entries.{is_sorted}
-use Rattle.vt_spec.specs.Tree.{entry_named, name_cmp, with_entry}
+use Rattle.vt_spec.proofs.Common.{entry_named, is_sorted, name_cmp, passes, with_entry}
 use Rattle.vt_node.proofs.ListedLemmas.{find-listed, is_sorted-listed, listed-insert}
 use Rattle.vt_node.proofs.entries.DirectoryEntries.insert.Goals as goal
-use Rattle.vt_spec.proofs.Nodes.{passes}
 
 -- two lists in order that answer alike are one
 pub returns-clause-ok : goal.returns-clause-ok

@@ -1,8 +1,8 @@
 use Rattle.std.proofs.Common.{length, sym, ap, ◌∙◌}
+use Rattle.vt_spec.proofs.Common.{nil_from_length}
 use Rattle.vt_node.specs.Listed.{listed}
 use Rattle.vt_node.proofs.ListedLemmas.{none-listed}
 use Rattle.vt_node.proofs.entries.DirectoryEntries.is_empty.Goals as goal
-use Rattle.std.proofs.lemmas.List.{nil_from_length}
 
 pub returns : goal.returns
 returns c =

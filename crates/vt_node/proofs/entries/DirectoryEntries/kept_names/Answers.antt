@@ -1,7 +1,5 @@
-use Rattle.std.proofs.Common.{map, subst, sym, ℕ, ◌∙◌}
-use Rattle.std.specs.List.Sorted.{IsPermutation}
-use Rattle.std.specs.Map.{keys_of}
-use Rattle.vt_spec.specs.Tree.{Entries}
+use Rattle.std.proofs.Common.{map, subst, sym, ℕ, ◌∙◌, IsPermutation}
+use Rattle.vt_spec.proofs.Common.{Entries, keys_of}
 use Rattle.vt_node.proofs.KeptNames.{names-listed}
 use Rattle.vt_node.proofs.entries.DirectoryEntries.kept_names.Goals as goal
 

@@ -1,14 +1,8 @@
-use Rattle.std.proofs.Common.{rules, ◌≡◌, sym, ap, ◌∙◌, ℕ, List, nat_eq, Some, None, option_copied, option_map, position}
-use Rattle.std.specs.Prelude.{find}
-use Rattle.std.specs.FinMap.Entries.{is_sorted}
-use Rattle.std.specs.Map.{values_of}
-use Rattle.std.proofs.lemmas.Iterator.{YieldsList-from_slice}
-use Rattle.std.proofs.lemmas.Iterator.Search.{position_from_yields_List}
-use Rattle.vt_spec.specs.Tree.{entry_named, name_cmp}
+use Rattle.std.proofs.Common.{rules, ◌≡◌, sym, ap, ◌∙◌, ℕ, List, nat_eq, Some, None, option_copied, option_map, position, find}
+use Rattle.vt_spec.proofs.Common.{YieldsList-from_slice, entry_named, is_sorted, name_cmp, passes, position_from_yields_List, values_of}
 use Rattle.vt_node.proofs.ListedLemmas.{find-listed, is_sorted-listed}
 use Rattle.vt_node.proofs.Named.{first_name, leads, leads_there, unlisted}
 use Rattle.vt_node.proofs.entries.DirectoryEntries.name_of.Goals as goal
-use Rattle.vt_spec.proofs.Nodes.{passes}
 
 pub returns-in_err-place : goal.returns-in_err-place
 returns-in_err-place c =

@@ -1,5 +1,5 @@
 use Rattle.std.proofs.Common.{map, sym, ap, ◌∙◌, true≢false}
-use Rattle.std.specs.Map.{keys_of}
+use Rattle.vt_spec.proofs.Common.{keys_of}
 use Rattle.vt_node.proofs.ListedLemmas.{none-listed}
 use Rattle.vt_node.proofs.SortedNames.{sorted_names}
 use Rattle.vt_node.proofs.entries.DirectoryEntries.names.Goals as goal

@@ -1,6 +1,5 @@
-use Rattle.std.proofs.Common.{◌≡◌, ◌+◌, ◌≤◌, ◌&&◌, ◌∙◌, ap, arith, false, length, nat_eq, sym, true}
-use Rattle.std.specs.Ordering.{is_lt}
-use Rattle.vt_spec.specs.Tree.{name_cmp}
+use Rattle.std.proofs.Common.{◌≡◌, ◌+◌, ◌≤◌, ◌&&◌, ◌∙◌, ap, arith, false, length, nat_eq, sym, true, is_lt}
+use Rattle.vt_spec.proofs.Common.{name_cmp}
 use Rattle.vt_node.specs.Ranks.{rank_among}
 use Rattle.vt_node.proofs.RankLemmas.{AreColumns, before, count-listed, counted_all, counted_to, counts_none, counts_one, is_smaller, key_at}
 use Rattle.vt_node.proofs.entries.DirectoryEntries.rank_of.Goals as goal

@@ -1,5 +1,5 @@
 use Rattle.std.proofs.Common.{ap, ◌∙◌}
-use Rattle.vt_spec.specs.Language.Changes.{without_entry}
+use Rattle.vt_spec.proofs.Common.{without_entry}
 use Rattle.vt_node.proofs.ListedLemmas.{listed-remove}
 use Rattle.vt_node.proofs.entries.DirectoryEntries.remove.Goals as goal
 

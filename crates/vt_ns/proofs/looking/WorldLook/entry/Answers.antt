@@ -1,16 +1,12 @@
-use Rattle.std.proofs.Common.{ap, option_map, rules, subst, sym, ◌≡◌, ◌∙◌, ℕ}
-use Rattle.std.specs.Prelude.{IfSome, Option, option_copied}
-use Rattle.vt_spec.specs.Tree.{Node, entries_in, entry_named}
-use Rattle.vt_location.specs.Locations.{location_of, number_of}
+use Rattle.std.proofs.Common.{ap, option_map, rules, subst, sym, ◌≡◌, ◌∙◌, ℕ, IfSome, Option, option_copied}
+use Rattle.vt_spec.proofs.Common.{Node, entries_in, entry_named}
+use Rattle.vt_ns.proofs.Common.{IsHeld, lent_in, location_of, number_of, store_stands}
 use Rattle.vt_looks.specs.declared.look.Entry.{Entry}
 use Rattle.vt_overlay.specs.declared.nodes.Entry.{Entry as Found}
-use Rattle.vt_store.specs.StoreValue.{lent_in}
-use Rattle.vt_mounting.proofs.detach.StoreShown.{store_stands}
 use Rattle.vt_ns.proofs.looking.LooksKept.{node_is, object_beside, object_is, seen_if_lent}
 use Rattle.vt_ns.proofs.looking.LostKept.{entry_stays_found}
 use Rattle.vt_ns.proofs.looking.WorldLook.entry.Goals as goal
 use Rattle.vt_ns.specs.contracts.world.World.{the_view}
-use Rattle.vt_world.specs.Held.{IsHeld}
 
 pub entry-requires : goal.entry-requires
 entry-requires c = record {

@@ -1,12 +1,8 @@
 use Rattle.std.proofs.Common.{◌∙◌, ap, nat_eq, sym}
-use Rattle.std.proofs.lemmas.Bool.{not-true}
-use Rattle.std.specs.List.{list_any}
-use Rattle.vt_spec.specs.Machine.Mounts.{stands_on}
-use Rattle.vt_location.specs.Numbers.{counted}
-use Rattle.vt_mount.specs.MountsValue.{mounts_in}
+use Rattle.vt_spec.proofs.Common.{list_any, not-true, stands_on}
+use Rattle.vt_ns.proofs.Common.{WorldValue, counted, mounts_in}
 use Rattle.vt_ns.proofs.looking.LooksKept.{bare_top}
 use Rattle.vt_ns.proofs.looking.WorldLook.ground.Goals as goal
-use Rattle.vt_world.specs.WorldValue.{WorldValue}
 
 pub returns : goal.returns
 returns c =

@@ -1,5 +1,5 @@
 use Rattle.std.proofs.Common.{sym}
-use Rattle.vt_location.specs.Locations.{location_of}
+use Rattle.vt_ns.proofs.Common.{location_of}
 use Rattle.vt_ns.proofs.looking.UppersAsked.{no_lower_directory}
 use Rattle.vt_ns.proofs.looking.WorldLook.has_lower_directory.Goals as goal
 

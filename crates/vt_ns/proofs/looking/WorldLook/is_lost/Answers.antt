@@ -1,5 +1,5 @@
 use Rattle.std.proofs.Common.{rules, eqb-true, sym, ◌∙◌}
-use Rattle.vt_mounting.proofs.detach.StoreShown.{parents_named_in, store_stands}
+use Rattle.vt_ns.proofs.Common.{parents_named_in, store_stands}
 use Rattle.vt_ns.proofs.looking.LooksKept.{lost_apart, lost_is, lost_missing}
 use Rattle.vt_ns.proofs.looking.StoreLooked.{store_rooted}
 use Rattle.vt_ns.proofs.looking.WorldLook.is_lost.Goals as goal

@@ -1,6 +1,6 @@
 use Rattle.std.proofs.Common.{◌∙◌, rules, nat_eq, sym}
-use Rattle.vt_spec.specs.Lists.{holds_of}
-use Rattle.vt_location.specs.Numbers.{counted}
+use Rattle.vt_spec.proofs.Common.{holds_of}
+use Rattle.vt_ns.proofs.Common.{counted}
 use Rattle.vt_ns.proofs.looking.LooksKept.{no_points, points_seen}
 use Rattle.vt_ns.proofs.looking.WorldLook.is_mount_point_in.Goals as goal
 use Rattle.vt_ns.specs.contracts.world.World.{the_view}

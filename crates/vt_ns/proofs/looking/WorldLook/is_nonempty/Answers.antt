@@ -1,8 +1,6 @@
-use Rattle.std.proofs.Common.{ap, rules, not, sym, ◌∙◌, ℕ}
-use Rattle.std.specs.Prelude.{Option}
-use Rattle.vt_spec.specs.Lists.{is_empty_list}
-use Rattle.vt_spec.specs.Tree.{Node, entries_in}
-use Rattle.vt_mounting.proofs.detach.StoreShown.{store_stands}
+use Rattle.std.proofs.Common.{ap, rules, not, sym, ◌∙◌, ℕ, Option}
+use Rattle.vt_spec.proofs.Common.{Node, entries_in, is_empty_list}
+use Rattle.vt_ns.proofs.Common.{store_stands}
 use Rattle.vt_ns.proofs.looking.LooksKept.{no_node, node_is}
 use Rattle.vt_ns.proofs.looking.WorldLook.is_nonempty.Goals as goal
 use Rattle.vt_ns.specs.contracts.world.World.{the_view}

@@ -1,5 +1,5 @@
 use Rattle.std.proofs.Common.{ap, is_some, ◌∙◌}
-use Rattle.vt_location.specs.Locations.{location_of}
+use Rattle.vt_ns.proofs.Common.{location_of}
 use Rattle.vt_ns.proofs.looking.OverlaysLooked.{mounted_by_some, only_below_is}
 use Rattle.vt_ns.proofs.looking.WorldLook.is_only_below.Goals as goal
 

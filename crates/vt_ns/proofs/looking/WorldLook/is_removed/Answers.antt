@@ -1,5 +1,5 @@
 use Rattle.std.proofs.Common.{ap, rules, not, sym, ◌∙◌}
-use Rattle.vt_mounting.proofs.detach.StoreShown.{parents_named_in, store_stands}
+use Rattle.vt_ns.proofs.Common.{parents_named_in, store_stands}
 use Rattle.vt_ns.proofs.looking.LooksKept.{removed_is, removed_unseen}
 use Rattle.vt_ns.proofs.looking.WorldLook.is_removed.Goals as goal
 use Rattle.vt_ns.specs.contracts.world.World.{the_view}

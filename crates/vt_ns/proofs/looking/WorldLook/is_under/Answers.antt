@@ -1,5 +1,5 @@
 use Rattle.std.proofs.Common.{ap, rules, eqb-true, nat_eq, sym, ◌&&◌, ◌∙◌}
-use Rattle.vt_mounting.proofs.detach.StoreShown.{parents_named_in, store_stands}
+use Rattle.vt_ns.proofs.Common.{parents_named_in, store_stands}
 use Rattle.vt_ns.proofs.looking.LooksKept.{under_apart, under_is}
 use Rattle.vt_ns.proofs.looking.WorldLook.is_under.Goals as goal
 use Rattle.vt_ns.proofs.looking.WorldLook.is_under.Goals.{else-is_seen-via-else-is_seen, else-is_seen-via-then-is_seen+else-eq}

@@ -1,9 +1,7 @@
 use Rattle.std.proofs.Common.{ap, option_copied, option_map, sym, ◌∙◌}
-use Rattle.vt_spec.specs.Machine.Rightful.{node_allows}
-use Rattle.vt_spec.specs.Rights.{Credentials}
+use Rattle.vt_spec.proofs.Common.{Credentials, node_allows}
 use Rattle.vt_cred.specs.Rights.{right_bits}
-use Rattle.vt_location.specs.Locations.{location_of}
-use Rattle.vt_overlay.specs.MergedTree.{OverlayValue}
+use Rattle.vt_ns.proofs.Common.{OverlayValue, location_of}
 use Rattle.vt_ns.proofs.looking.OverlaysLooked.{mounter_is, nobody_is}
 use Rattle.vt_ns.proofs.looking.WorldLook.mounter_may.Goals as goal
 

@@ -1,6 +1,6 @@
 use Rattle.std.proofs.Common.{Ok, ap, sym}
-use Rattle.vt_spec.specs.Errors.{unless}
-use Rattle.vt_location.specs.Locations.{location_of}
+use Rattle.vt_spec.proofs.Common.{unless}
+use Rattle.vt_ns.proofs.Common.{location_of}
 use Rattle.vt_ns.proofs.looking.UppersAsked.{unasked}
 use Rattle.vt_ns.proofs.looking.WorldLook.mounter_may_change.Goals as goal
 

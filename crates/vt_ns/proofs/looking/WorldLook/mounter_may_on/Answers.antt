@@ -1,6 +1,6 @@
 use Rattle.std.proofs.Common.{ap, not, ◌∙◌}
 use Rattle.vt_cred.specs.Rights.{right_bits}
-use Rattle.vt_location.specs.Locations.{location_of}
+use Rattle.vt_ns.proofs.Common.{location_of}
 use Rattle.vt_ns.proofs.looking.OverlaysLooked.{granted_is, nobody_is, nobody_mounted}
 use Rattle.vt_ns.proofs.looking.WorldLook.mounter_may_on.Goals as goal
 use Rattle.vt_ns.specs.contracts.world.World.{the_view}

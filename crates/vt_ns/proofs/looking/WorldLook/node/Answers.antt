@@ -1,5 +1,5 @@
 use Rattle.std.proofs.Common.{rules, sym, ◌∙◌}
-use Rattle.vt_mounting.proofs.detach.StoreShown.{store_stands}
+use Rattle.vt_ns.proofs.Common.{store_stands}
 use Rattle.vt_ns.proofs.looking.LooksKept.{no_object, object_is}
 use Rattle.vt_ns.proofs.looking.WorldLook.node.Goals as goal
 use Rattle.vt_ns.specs.contracts.world.World.{the_view}

@@ -1,13 +1,10 @@
-use Rattle.std.proofs.Common.{ap, rules, subst, sym, ◌∙◌, ℕ}
-use Rattle.std.specs.Prelude.{Option}
-use Rattle.vt_spec.specs.Tree.{Node, parent_in}
-use Rattle.vt_location.specs.Locations.{location_of, number_of}
-use Rattle.vt_mounting.proofs.detach.StoreShown.{store_stands}
+use Rattle.std.proofs.Common.{ap, rules, subst, sym, ◌∙◌, ℕ, Option}
+use Rattle.vt_spec.proofs.Common.{Node, parent_in}
+use Rattle.vt_ns.proofs.Common.{IsHeld, location_of, number_of, store_stands}
 use Rattle.vt_ns.proofs.looking.LooksKept.{no_node, node_is}
 use Rattle.vt_ns.proofs.looking.LostKept.{parent_stays_found}
 use Rattle.vt_ns.proofs.looking.WorldLook.parent.Goals as goal
 use Rattle.vt_ns.specs.contracts.world.World.{the_view}
-use Rattle.vt_world.specs.Held.{IsHeld}
 
 pub parent-requires : goal.parent-requires
 parent-requires c = store_stands (the_view c.self.inside) c.self.inside.store c.self.invariant

@@ -1,11 +1,7 @@
 use Rattle.std.proofs.Common.{ap, arith, eqb-true, false, nat_eq, subst, suc, sym, ◌+◌, ◌-◌, ◌≡◌, ◌∙◌}
-use Rattle.vt_location.specs.Locations.{location_of}
-use Rattle.vt_location.specs.Numbers.{counted}
-use Rattle.vt_mount.specs.MountsValue.{mounts_in}
-use Rattle.vt_world.specs.Held.{IsHeld}
+use Rattle.vt_ns.proofs.Common.{IsHeld, counted, counted_test, location_of, mounts_in}
 use Rattle.vt_ns.proofs.mount_looks.Climbing.{meets, met_above, met_from, met_here, met_nowhere}
 use Rattle.vt_ns.proofs.mount_looks.WorldLookAtMounts.is_at_or_below.Goals as goal
-use Rattle.vt_location.proofs.NumberLemmas.{counted_test}
 
 pub returns-then-eq : goal.returns-then-eq
 returns-then-eq c =

@@ -1,6 +1,5 @@
 use Rattle.std.proofs.Common.{length, ◌-◌, ◌≡◌}
-use Rattle.vt_location.specs.Numbers.{counted}
-use Rattle.vt_mount.specs.MountsValue.{mounts_in}
+use Rattle.vt_ns.proofs.Common.{counted, mounts_in}
 use Rattle.vt_ns.proofs.mount_looks.Climbing.{meets}
 use Rattle.vt_ns.proofs.mount_looks.WorldLookAtMounts.is_at_or_below.Given as goal
 

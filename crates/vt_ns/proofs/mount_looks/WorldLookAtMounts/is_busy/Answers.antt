@@ -1,11 +1,9 @@
 use Rattle.std.proofs.Common.{ap, nat_eq, ◌∙◌}
-use Rattle.vt_spec.specs.Machine.Detach.{is_busy}
-use Rattle.vt_location.specs.Numbers.{counted}
-use Rattle.vt_world.specs.WorldValue.{WorldValue, world_of}
+use Rattle.vt_spec.proofs.Common.{is_busy}
+use Rattle.vt_ns.proofs.Common.{WorldValue, counted, is_seen, world_of}
 use Rattle.vt_ns.specs.contracts.world.World.{the_view}
 use Rattle.vt_ns.proofs.WorldSeen.{uses_seen}
 use Rattle.vt_ns.proofs.mount_looks.WorldLookAtMounts.is_busy.Goals as goal
-use Rattle.vt_mounting.proofs.attach.Binding.{is_seen}
 
 pub returns-clause-ok : goal.returns-clause-ok
 returns-clause-ok c =

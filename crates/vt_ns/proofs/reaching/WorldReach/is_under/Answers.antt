@@ -1,8 +1,5 @@
 use Rattle.std.proofs.Common.{ap, eqb-true, rules, subst, sym, ◌∙◌}
-use Rattle.vt_location.specs.Locations.{number_of}
-use Rattle.vt_location.specs.Numbers.{counted}
-use Rattle.vt_world.specs.Held.{IsHeld}
-use Rattle.vt_mounting.proofs.detach.StoreShown.{parents_named_in, store_stands}
+use Rattle.vt_ns.proofs.Common.{IsHeld, counted, number_of, parents_named_in, store_stands}
 use Rattle.vt_ns.specs.LyingUnder.{lies_under}
 use Rattle.vt_ns.proofs.looking.StoreLooked.{under_shown}
 use Rattle.vt_ns.proofs.reaching.LyingUnder.{lies_apart}

@@ -1,6 +1,5 @@
 use Rattle.vt_layers.specs.LayersValue.{lowers_of}
-use Rattle.vt_tasks.specs.TaskValue.{task_of}
-use Rattle.vt_mounting.specs.Detach.Looking.{looks_of_value}
+use Rattle.vt_ns.proofs.Common.{looks_of_value, task_of}
 use Rattle.vt_ns.proofs.LayersInUse.{none_in_use}
 use Rattle.vt_ns.proofs.world.World.are_written_to.Goals as goal
 

@@ -1,25 +1,15 @@
 use Rattle.std.proofs.Common.{ap, arith, length, map, false, nat_eq, refl, subst, sym, true, ◌≡◌, ◌+◌, ◌*◌, ◌∙◌}
-use Rattle.vt_location.specs.Locations.{location_of}
-use Rattle.vt_location.specs.MountValue.{mount_of}
+use Rattle.vt_spec.proofs.Common.{bind_tree, is_located_well, parts_of}
+use Rattle.vt_ns.proofs.Common.{Becomes, IsDone, IsGrafted, Permits, WorldValue, done_in_store, kept, kept_of, left_still, location_of, merged_of, mount_of, with_store, world_of}
 use Rattle.vt_propagate.specs.declared.copying.Counts.{Counts}
 use Rattle.vt_propagate.specs.declared.copying.Graft.{Graft}
-use Rattle.vt_spec.specs.Machine.Attach.{bind_tree, parts_of}
-use Rattle.vt_spec.specs.Machine.Invariants.{is_located_well}
 use Rattle.vt_permits.specs.GrantValue.{attachment_permit}
 use Rattle.vt_permits.specs.declared.grant.Attachment.TheVariants.{Bind}
 use Rattle.vt_ns.specs.contracts.world.World.{the_view}
-use Rattle.vt_mounting.specs.Detach.Events.{Becomes, Permits}
-use Rattle.vt_world.specs.WorldValue.{WorldValue, world_of}
-use Rattle.vt_mounting.proofs.detach.OverlaysListed.{done_in_store, left_still}
-use Rattle.vt_mounting.proofs.detach.Staying.{IsDone}
 use Rattle.vt_mounting.proofs.attach.Binding.{bind_is_done, may_bind, source_there}
-use Rattle.vt_mounting.specs.Attach.Grafted.{IsGrafted}
 use Rattle.vt_ns.specs.Counting.{counted_for}
 use Rattle.vt_ns.proofs.world.Counted.{counted_so}
 use Rattle.vt_ns.proofs.world.BoundEvents.{bind_place_there, parts_found, place_mounted}
-use Rattle.vt_world.specs.StoredWorld.{with_store}
-use Rattle.vt_mounting.specs.Detach.Stored.{kept, merged_of}
-use Rattle.vt_mounting.specs.Detach.Uses.{kept_of}
 use Rattle.vt_ns.proofs.world.StoresKept.{kept_is}
 use Rattle.vt_ns.proofs.world.World.bind.Goals as goal
 

@@ -1,13 +1,7 @@
-use Rattle.std.proofs.Common.{ap, filter, length, nat_eq, sym, [], ◌++◌, ◌∙◌, ◌∷◌}
-use Rattle.std.specs.Prelude.{flat_map}
-use Rattle.std.proofs.lemmas.List.{append-nil}
-use Rattle.vt_location.specs.Locations.{location_of}
-use Rattle.vt_mount.proofs.PlaceLemmas.{counts, numbers}
-use Rattle.vt_mount.specs.MountsValue.{mounts_in}
-use Rattle.vt_laws_mounts.proofs.mounts.MountsFound.{number_found}
-use Rattle.vt_spec.specs.Machine.Attach.{bind_tree, bindable_children, bindable_tree, stands_under}
+use Rattle.std.proofs.Common.{ap, filter, length, nat_eq, sym, [], ◌++◌, ◌∙◌, ◌∷◌, flat_map, append-nil}
+use Rattle.vt_spec.proofs.Common.{bind_tree, bindable_children, bindable_tree, stands_under}
+use Rattle.vt_ns.proofs.Common.{counts, location_of, mounts_in, number_found, numbers, world_of}
 use Rattle.vt_ns.specs.Trees.{bindable_to_come}
-use Rattle.vt_world.specs.WorldValue.{world_of}
 use Rattle.vt_ns.proofs.world.World.bind_tree.Goals as goal
 
 pub returns-then-not-recursive : goal.returns-then-not-recursive

@@ -1,10 +1,7 @@
 use Rattle.std.proofs.Common.{length, map, nat_eq, true, ◌++◌, ◌≡◌}
-use Rattle.vt_location.specs.Locations.{location_of}
-use Rattle.vt_mount.proofs.PlaceLemmas.{counts}
-use Rattle.vt_mount.specs.MountsValue.{mounts_in}
-use Rattle.vt_spec.specs.Machine.Attach.{bind_tree}
+use Rattle.vt_spec.proofs.Common.{bind_tree}
+use Rattle.vt_ns.proofs.Common.{counts, location_of, mounts_in, world_of}
 use Rattle.vt_ns.specs.Trees.{bindable_to_come}
-use Rattle.vt_world.specs.WorldValue.{world_of}
 use Rattle.vt_ns.proofs.world.World.bind_tree.Given as goal
 
 -- what is told, and then what is still to come, is the tree

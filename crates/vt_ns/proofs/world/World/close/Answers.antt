@@ -1,20 +1,10 @@
 use Rattle.std.proofs.Common.{ap, map, option_map, subst, sym, ◌≡◌, ◌∙◌}
-use Rattle.vt_laws_mounts.proofs.letting_go.Lists.{passes}
-use Rattle.vt_spec.specs.Language.Calls.{opens_for_writing}
-use Rattle.vt_spec.specs.Machine.Permits.Permit.{ToClose}
-use Rattle.vt_request.specs.Requests.{access_of}
+use Rattle.vt_spec.proofs.Common.{ToClose, opens_for_writing}
+use Rattle.vt_ns.proofs.Common.{Becomes, IsDone, Permits, WorldValue, access_of, after, done_in_store, kept, kept_of, merged_of, overlays_of_store, passes, remade, without_location}
 use Rattle.vt_tasks.specs.Open.{numbered}
 use Rattle.vt_tasks.specs.TasksValue.{has_files_in_order}
 use Rattle.vt_ns.specs.contracts.world.World.{the_view}
-use Rattle.vt_mounting.specs.Detach.Events.{Becomes, Permits}
-use Rattle.vt_mounting.specs.Detach.Uses.{kept_of, without_location}
 use Rattle.vt_mounting.proofs.detach.Closing.{file_is_closed, nothing_is_closed}
-use Rattle.vt_mounting.proofs.detach.OverlaysListed.{done_in_store}
-use Rattle.vt_mounting.proofs.detach.Remaining.{remade}
-use Rattle.vt_mounting.proofs.detach.Staying.{IsDone, after}
-use Rattle.vt_world.specs.WorldValue.{WorldValue}
-use Rattle.vt_world.specs.StoredWorld.{overlays_of_store}
-use Rattle.vt_mounting.specs.Detach.Stored.{kept, merged_of}
 use Rattle.vt_ns.proofs.world.StoresKept.{kept_is}
 use Rattle.vt_ns.proofs.world.World.close.Goals as goal
 

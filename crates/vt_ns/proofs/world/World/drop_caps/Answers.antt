@@ -1,9 +1,9 @@
-use Rattle.vt_spec.specs.Machine.Permits.Permit.{ToSetCredentials}
-use Rattle.vt_spec.specs.Machine.Tasks.{with_dropped}
-use Rattle.vt_cred.specs.Caps.{capability_bits}
-use Rattle.vt_mounting.specs.Detach.Events.{Becomes, Permits, credentials_called}
 use Rattle.std.proofs.Common.{sym, subst}
-use Rattle.vt_mounting.proofs.detach.Staying.{after, caps_are_dropped}
+use Rattle.vt_spec.proofs.Common.{ToSetCredentials, with_dropped}
+use Rattle.vt_cred.specs.Caps.{capability_bits}
+use Rattle.vt_ns.proofs.Common.{Becomes, Permits, after}
+use Rattle.vt_mounting.specs.Detach.Events.{credentials_called}
+use Rattle.vt_mounting.proofs.detach.Staying.{caps_are_dropped}
 use Rattle.vt_ns.specs.contracts.world.World.{the_view}
 use Rattle.vt_ns.proofs.world.World.drop_caps.Goals as goal
 

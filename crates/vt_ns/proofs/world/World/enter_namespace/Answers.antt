@@ -1,20 +1,12 @@
 use Rattle.std.proofs.Common.{ap, false, map, option_map, rules, subst, sym, true, ◌≡◌, ◌∙◌}
-use Rattle.vt_location.specs.Locations.{location_of}
-use Rattle.vt_location.specs.Numbers.{counted}
-use Rattle.vt_spec.specs.Machine.Permits.Permit.{ToEnterNamespace}
+use Rattle.vt_spec.proofs.Common.{ToEnterNamespace}
+use Rattle.vt_ns.proofs.Common.{Becomes, IsDone, OverlaysLeft, Permits, WorldValue, counted, done_in_store, entries_of, kept, kept_of, left_itself, left_twice, location_of, merged_of, overlays_of_store, with_location, without_location}
 use Rattle.vt_tasks.specs.TasksValue.{left_of}
 use Rattle.vt_ns.specs.contracts.world.World.{the_view}
-use Rattle.vt_mounting.specs.Detach.Events.{Becomes, Permits}
 use Rattle.vt_mounting.specs.Detach.NamespacesLeft.{MountsAreLeft, namespace_entry, with_one_task_less}
-use Rattle.vt_mounting.specs.Detach.Uses.{kept_of, with_location, without_location}
-use Rattle.vt_world.specs.WorldValue.{WorldValue, entries_of}
 use Rattle.vt_ns.proofs.CountingLemmas.{room_left}
 use Rattle.vt_mounting.proofs.detach.Entered.{namespace_has_a_root, task_enters}
 use Rattle.vt_ns.specs.Entering.{HasRoomToEnter}
-use Rattle.vt_mounting.proofs.detach.OverlaysListed.{done_in_store, left_itself, left_twice}
-use Rattle.vt_mounting.proofs.detach.Staying.{IsDone}
-use Rattle.vt_world.specs.StoredWorld.{overlays_of_store}
-use Rattle.vt_mounting.specs.Detach.Stored.{OverlaysLeft, kept, merged_of}
 use Rattle.vt_ns.proofs.world.StoresKept.{kept_is}
 use Rattle.vt_ns.proofs.world.World.enter_namespace.Goals as goal
 use Rattle.vt_ns.proofs.world.World.enter_namespace.Goals.{then-not-has_room-via-then-not-has_room, then-not-has_room-via-else-not-has_room+then-not-has_room_for_task}

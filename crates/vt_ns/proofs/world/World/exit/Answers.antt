@@ -1,16 +1,8 @@
 use Rattle.std.proofs.Common.{ap, false, fold, map, option_map, subst, sym, ◌≡◌, ◌∙◌}
-use Rattle.vt_spec.specs.Machine.Permits.Permit.{ToExit}
-use Rattle.vt_tasks.specs.TaskValue.{task_of}
+use Rattle.vt_spec.proofs.Common.{ToExit}
+use Rattle.vt_ns.proofs.Common.{Becomes, IsDone, OverlaysLeft, Permits, WorldValue, done_in_store, entries_of, kept, kept_of, left_twice, merged_of, overlays_of_store, task_of, without_file, without_location}
 use Rattle.vt_ns.specs.contracts.world.World.{the_view}
-use Rattle.vt_mounting.specs.Detach.Events.{Becomes, Permits}
-use Rattle.vt_mounting.specs.Detach.NamespacesLeft.{without_file}
-use Rattle.vt_mounting.specs.Detach.Stored.{OverlaysLeft, kept, merged_of}
-use Rattle.vt_mounting.specs.Detach.Uses.{kept_of, without_location}
-use Rattle.vt_world.specs.WorldValue.{WorldValue, entries_of}
 use Rattle.vt_mounting.proofs.detach.Exiting.{task_exits}
-use Rattle.vt_mounting.proofs.detach.OverlaysListed.{done_in_store, left_twice}
-use Rattle.vt_mounting.proofs.detach.Staying.{IsDone}
-use Rattle.vt_world.specs.StoredWorld.{overlays_of_store}
 use Rattle.vt_ns.proofs.world.StoresKept.{kept_is}
 use Rattle.vt_ns.proofs.world.World.exit.Goals as goal
 

@@ -1,16 +1,10 @@
 use Rattle.std.proofs.Common.{ap, false, map, option_copied, option_map, rules, subst, sym, ◌≡◌, ◌∙◌}
-use Rattle.vt_spec.specs.Machine.Permits.Permit.{ToFork}
-use Rattle.vt_tasks.specs.TaskValue.{task_of}
+use Rattle.vt_spec.proofs.Common.{ToFork}
+use Rattle.vt_ns.proofs.Common.{Becomes, IsDone, Permits, WorldValue, entries_of, kept, kept_of, merged_of, overlays_of_store, task_of, with_location}
 use Rattle.vt_ns.specs.contracts.world.World.{the_view}
-use Rattle.vt_mounting.specs.Detach.Events.{Becomes, Permits}
-use Rattle.vt_world.specs.WorldValue.{WorldValue, entries_of}
 use Rattle.vt_ns.proofs.CountingLemmas.{room_left}
 use Rattle.vt_ns.proofs.world.ForkedTasks.{may_fork, task_is_forked}
 use Rattle.vt_ns.proofs.world.RemainingTasks.{remade_in}
-use Rattle.vt_mounting.proofs.detach.Staying.{IsDone}
-use Rattle.vt_world.specs.StoredWorld.{overlays_of_store}
-use Rattle.vt_mounting.specs.Detach.Stored.{kept, merged_of}
-use Rattle.vt_mounting.specs.Detach.Uses.{kept_of, with_location}
 use Rattle.vt_ns.proofs.world.StoresKept.{kept_is, same_in_store}
 use Rattle.vt_ns.proofs.world.World.fork.Goals as goal
 

@@ -1,11 +1,8 @@
 use Rattle.std.proofs.Common.{ap, arith, length, nat_eq, sym, ◌≡◌, ◌∙◌}
-use Rattle.std.proofs.lemmas.Result.{IfOk-weaker}
-use Rattle.vt_cred.specs.MountFlags.{flags_of}
-use Rattle.vt_location.specs.Locations.{location_of}
+use Rattle.vt_spec.proofs.Common.{IfOk-weaker, bind_tree}
+use Rattle.vt_ns.proofs.Common.{flags_of, location_of, world_of}
 use Rattle.vt_permits.specs.GrantValue.{attachment_permit}
-use Rattle.vt_spec.specs.Machine.Attach.{bind_tree}
 use Rattle.vt_mounting.specs.Detach.Looking.{overfills_of}
-use Rattle.vt_world.specs.WorldValue.{world_of}
 use Rattle.vt_ns.proofs.Overfilling.{bind_overfills, plain_overfills, tree_sized}
 use Rattle.vt_ns.proofs.world.World.has_too_many.Goals as goal
 

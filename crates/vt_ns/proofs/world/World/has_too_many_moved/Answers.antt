@@ -1,14 +1,7 @@
 use Rattle.std.proofs.Common.{Some, ap, arith, drop, find, length, map, nat_eq, not, refl, subst, sym, take, true, ◌-◌, ◌≡◌, ◌∙◌, ℕ}
-use Rattle.std.proofs.lemmas.Result.{IfOk-weaker}
-use Rattle.vt_location.specs.Locations.{location_of}
-use Rattle.vt_location.specs.MountValue.{mount_of}
-use Rattle.vt_location.specs.Numbers.{counted}
-use Rattle.vt_mount.specs.MountsValue.{mounts_in}
+use Rattle.vt_spec.proofs.Common.{IfOk-weaker, Mount, attached_by, mount_in, mount_tree}
+use Rattle.vt_ns.proofs.Common.{IsHeld, WorldValue, counted, location_of, mount_of, mounts_in, world_of}
 use Rattle.vt_propagate.specs.Filling.{GrowsBy}
-use Rattle.vt_spec.specs.Machine.Attach.{attached_by}
-use Rattle.vt_spec.specs.Machine.Mounts.{Mount, mount_in, mount_tree}
-use Rattle.vt_world.specs.Held.{IsHeld}
-use Rattle.vt_world.specs.WorldValue.{WorldValue, world_of}
 use Rattle.vt_ns.proofs.Overfilling.{absent_grows, moves_from, new, none_found, nowhere_moved, rest_kept, tree, tree_sized}
 use Rattle.vt_ns.proofs.world.World.has_too_many_moved.Goals as goal
 

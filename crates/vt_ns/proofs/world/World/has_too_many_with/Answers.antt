@@ -1,10 +1,6 @@
 use Rattle.std.proofs.Common.{ap, map, not, refl, subst, sym, ◌∙◌}
-use Rattle.std.proofs.lemmas.Result.{IfOk-weaker}
-use Rattle.vt_location.specs.Locations.{location_of}
-use Rattle.vt_location.specs.MountValue.{mount_of}
-use Rattle.vt_mount.specs.MountsValue.{mounts_in}
-use Rattle.vt_world.specs.Held.{IsHeld}
-use Rattle.vt_world.specs.WorldValue.{WorldValue}
+use Rattle.vt_spec.proofs.Common.{IfOk-weaker}
+use Rattle.vt_ns.proofs.Common.{IsHeld, WorldValue, location_of, mount_of, mounts_in}
 use Rattle.vt_ns.proofs.Overfilling.{none_found, nothing_added}
 use Rattle.vt_ns.proofs.world.World.has_too_many_with.Goals as goal
 

@@ -1,5 +1,5 @@
-use Rattle.std.proofs.lemmas.Result.{IfOk-weaker}
-use Rattle.vt_location.specs.Locations.{location_of}
+use Rattle.vt_spec.proofs.Common.{IfOk-weaker}
+use Rattle.vt_ns.proofs.Common.{location_of}
 use Rattle.vt_ns.proofs.Overfilling.{overlay_overfills}
 use Rattle.vt_ns.proofs.world.World.has_too_many_with_overlay.Goals as goal
 

@@ -1,13 +1,10 @@
 use Rattle.std.proofs.Common.{sym, subst, arith, OnOk}
-use Rattle.vt_location.specs.Locations.{number_of}
-use Rattle.vt_spec.specs.Language.Changes.Change.{AddName}
+use Rattle.vt_spec.proofs.Common.{AddName}
+use Rattle.vt_ns.proofs.Common.{Becomes, Permits, change_fits, number_of, with_store}
 use Rattle.vt_permits.specs.GrantValue.{make_permit}
 use Rattle.vt_permits.specs.declared.grant.MakeGrant.TheVariants.{Link}
 use Rattle.vt_ns.specs.contracts.world.World.{the_view}
-use Rattle.vt_mounting.specs.Detach.Events.{Becomes, Permits}
-use Rattle.vt_mounting.proofs.detach.FileEvents.{change_fits}
 use Rattle.vt_ns.proofs.world.FileAnswers.{linked_in, linked_is_kept, link_is_answered}
-use Rattle.vt_world.specs.StoredWorld.{with_store}
 use Rattle.vt_ns.proofs.world.PlainStored.{answered_stored}
 use Rattle.vt_ns.proofs.world.World.link.Goals as goal
 

@@ -1,9 +1,7 @@
 use Rattle.std.proofs.Common.{map, rules, subst, ◌≡◌, IfOk}
-use Rattle.vt_location.specs.Locations.{location_of}
-use Rattle.vt_spec.specs.Tree.{names_in}
+use Rattle.vt_spec.proofs.Common.{names_in}
+use Rattle.vt_ns.proofs.Common.{IsHeld, location_of, store_stands}
 use Rattle.vt_ns.specs.contracts.world.World.{the_view}
-use Rattle.vt_world.specs.Held.{IsHeld}
-use Rattle.vt_mounting.proofs.detach.StoreShown.{store_stands}
 use Rattle.vt_ns.proofs.looking.LooksKept.{node_is, seen_if_there}
 use Rattle.vt_ns.proofs.world.ListedWorlds.{listed_there}
 use Rattle.vt_ns.proofs.world.World.list.Goals as goal

@@ -3,9 +3,8 @@ use Rattle.vt_location.proofs.NodeLemmas.{here_is_own}
 use Rattle.vt_permits.specs.GrantValue.{make_permit}
 use Rattle.vt_permits.specs.declared.grant.MakeGrant.TheVariants.{Node}
 use Rattle.vt_ns.specs.contracts.world.World.{the_view}
-use Rattle.vt_mounting.specs.Detach.Events.{Becomes, Permits}
+use Rattle.vt_ns.proofs.Common.{Becomes, Permits, with_store}
 use Rattle.vt_ns.proofs.world.FileMaking.{make_fits, make_is_done, new_in_directory}
-use Rattle.vt_world.specs.StoredWorld.{with_store}
 use Rattle.vt_ns.proofs.world.PlainStored.{files_stored}
 use Rattle.vt_ns.proofs.world.World.make.Goals as goal
 

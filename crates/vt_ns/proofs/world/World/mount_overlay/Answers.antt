@@ -1,18 +1,8 @@
-use Rattle.std.proofs.Common.{[], ap, arith, false, length, map, refl, subst, sym, ℕ, Some, slice_get, ◌≡◌, ◌+◌, ◌*◌, ◌<◌, ◌∙◌, ◌∷◌, nat_eq, option_copied, option_map}
-use Rattle.std.specs.Prelude.{All}
-use Rattle.std.proofs.lemmas.Option.{same_Some}
-use Rattle.vt_location.specs.Locations.{location_of}
-use Rattle.vt_location.specs.MountValue.{mount_of}
-use Rattle.vt_permits.specs.GrantValue.{layer_of}
+use Rattle.std.proofs.Common.{[], ap, arith, false, length, map, refl, subst, sym, ℕ, Some, slice_get, ◌≡◌, ◌+◌, ◌*◌, ◌<◌, ◌∙◌, ◌∷◌, nat_eq, option_copied, option_map, All}
+use Rattle.vt_spec.proofs.Common.{Task, parts_of, same_Some}
+use Rattle.vt_ns.proofs.Common.{IsHeld, WorldValue, layer_kept, layer_of, location_of, mount_of, task_of, with_store, world_of}
 use Rattle.vt_propagate.specs.declared.copying.Counts.{Counts}
 use Rattle.vt_propagate.specs.declared.copying.Graft.{Graft}
-use Rattle.vt_spec.specs.Machine.Attach.{parts_of}
-use Rattle.vt_spec.specs.Machine.World.{Task}
-use Rattle.vt_tasks.specs.TaskValue.{task_of}
-use Rattle.vt_world.specs.Held.{IsHeld}
-use Rattle.vt_world.specs.StoredWorld.{with_store}
-use Rattle.vt_world.specs.WorldValue.{WorldValue, world_of}
-use Rattle.vt_mounting.specs.Detach.Events.{layer_kept}
 use Rattle.vt_ns.specs.OverlayMounts.{IsPlainLayer, MountsOverlay, PermitsOverlay}
 use Rattle.vt_ns.specs.contracts.world.World.{the_view}
 use Rattle.vt_ns.proofs.world.BoundEvents.{parts_found}

@@ -1,28 +1,15 @@
 use Rattle.std.proofs.Common.{[], ap, arith, false, length, map, refl, subst, sym, ℕ, ◌≡◌, ◌+◌, ◌*◌, ◌∙◌, ◌∷◌, nat_eq, ◌++◌}
-use Rattle.vt_cred.specs.MountFlags.{flags_of}
-use Rattle.vt_location.specs.Locations.{location_of}
-use Rattle.vt_location.specs.MountValue.{mount_of}
-use Rattle.vt_location.specs.Numbers.{counted, inode_number}
+use Rattle.vt_spec.proofs.Common.{ToMountPlain, new_mount, parts_of}
+use Rattle.vt_ns.proofs.Common.{Becomes, IsDone, IsGrafted, Permits, WorldValue, counted, done_in_store, flags_of, inode_number, kept, kept_of, kept_with, left_still, location_of, merged_of, mount_of, with_store, world_of}
 use Rattle.vt_propagate.specs.declared.copying.Counts.{Counts}
 use Rattle.vt_propagate.specs.declared.copying.Graft.{Graft}
-use Rattle.vt_spec.specs.Machine.Attach.{parts_of}
 use Rattle.vt_spec.specs.Machine.Mounts as meant
-use Rattle.vt_spec.specs.Machine.NewMounts.{new_mount}
-use Rattle.vt_spec.specs.Machine.Permits.Permit.{ToMountPlain}
 use Rattle.vt_ns.specs.contracts.world.World.{the_view}
-use Rattle.vt_mounting.specs.Detach.Events.{Becomes, Permits}
-use Rattle.vt_world.specs.WorldValue.{WorldValue, world_of}
-use Rattle.vt_mounting.proofs.detach.OverlaysListed.{done_in_store, left_still}
-use Rattle.vt_mounting.proofs.detach.Staying.{IsDone}
 use Rattle.vt_mounting.proofs.attach.NewBase.{destination_there}
 use Rattle.vt_mounting.proofs.attach.NewFilesystems.{next_is_above}
 use Rattle.vt_mounting.proofs.attach.NewMounts.{may_mount, new_mount_is_done}
 use Rattle.vt_ns.proofs.world.Counted.{as_many_mounts}
 use Rattle.vt_ns.proofs.world.BoundEvents.{parts_found, place_mounted}
-use Rattle.vt_world.specs.StoredWorld.{with_store}
-use Rattle.vt_mounting.specs.Attach.Grafted.{IsGrafted}
-use Rattle.vt_mounting.specs.Detach.Stored.{kept, merged_of}
-use Rattle.vt_mounting.specs.Detach.Uses.{kept_of, kept_with}
 use Rattle.vt_ns.proofs.world.StoresKept.{kept_is}
 use Rattle.vt_ns.proofs.world.World.mount_plain.Goals as goal
 

@@ -1,11 +1,7 @@
 use Rattle.std.proofs.Common.{ap, nat_eq, option_map, sym, ◌∙◌, ℕ}
-use Rattle.std.proofs.lemmas.Option.{same_Some}
-use Rattle.std.proofs.lemmas.Result.{IfOk-weaker}
+use Rattle.vt_spec.proofs.Common.{IfOk-weaker, Task, World, mount_lines, same_Some, task_called}
 use Rattle.vt_location.specs.declared.numbers.NamespaceId.{NamespaceId}
-use Rattle.vt_location.specs.Numbers.{counted}
-use Rattle.vt_spec.specs.Machine.Listing.{mount_lines}
-use Rattle.vt_spec.specs.Machine.World.{Task, World, task_called}
-use Rattle.vt_world.specs.WorldValue.{WorldValue, world_of}
+use Rattle.vt_ns.proofs.Common.{WorldValue, counted, world_of}
 use Rattle.vt_ns.proofs.world.World.mounts.Goals as goal
 
 pub mount_lines-requires : goal.mount_lines-requires

@@ -1,15 +1,7 @@
-use Rattle.std.proofs.Common.{None, Option, Some, ap, find, is_some, map, nat_eq, refl, sym, true, unwrap_or, ℕ, ◌≡◌, ◌∙◌}
-use Rattle.std.proofs.lemmas.Result.{IfOk-weaker}
-use Rattle.std.specs.Prelude.{option_map}
-use Rattle.vt_location.specs.MountValue.{mount_of}
-use Rattle.vt_location.specs.Numbers.{counted}
-use Rattle.vt_mount.specs.MountsValue.{mounts_in}
-use Rattle.vt_spec.specs.Machine.Mounts.{Mount, mount_tree, no_mount}
-use Rattle.vt_spec.specs.Machine.World.{mount_numbered}
+use Rattle.std.proofs.Common.{None, Option, Some, ap, find, is_some, map, nat_eq, refl, sym, true, unwrap_or, ℕ, ◌≡◌, ◌∙◌, option_map}
+use Rattle.vt_spec.proofs.Common.{IfOk-weaker, Mount, mount_numbered, mount_tree, no_mount}
+use Rattle.vt_ns.proofs.Common.{AreOf, WorldValue, counted, is_some_mapped, mount_of, mounts_in, world_of}
 use Rattle.vt_ns.specs.contracts.world.World.{the_view}
-use Rattle.vt_mount.specs.Attached.{AreOf}
-use Rattle.vt_world.specs.WorldValue.{WorldValue, world_of}
-use Rattle.vt_mounting.proofs.detach.Shown.{is_some_mapped}
 use Rattle.vt_ns.proofs.world.MovedEvents.{tree_below}
 use Rattle.vt_ns.proofs.world.World.mounts_below.Goals as goal
 

@@ -1,11 +1,6 @@
 use Rattle.std.proofs.Common.{ap, map, nat_eq, rules, subst, sym, true, ◌≡◌, ◌∙◌}
-use Rattle.std.proofs.lemmas.Result.{IfOk-weaker}
-use Rattle.vt_location.specs.Locations.{is_small_node, location_of}
-use Rattle.vt_location.specs.Numbers.{counted}
-use Rattle.vt_spec.specs.Machine.Attach.{bind_tree}
-use Rattle.vt_spec.specs.Machine.Invariants.{is_located_well}
-use Rattle.vt_mount.specs.Attached.{AreOf}
-use Rattle.vt_world.specs.WorldValue.{WorldValue, world_of}
+use Rattle.vt_spec.proofs.Common.{IfOk-weaker, bind_tree, is_located_well}
+use Rattle.vt_ns.proofs.Common.{AreOf, WorldValue, counted, is_small_node, location_of, world_of}
 use Rattle.vt_mounting.proofs.attach.TreeBinding.{tree_bound}
 use Rattle.vt_ns.specs.contracts.world.World.{the_view}
 use Rattle.vt_ns.proofs.world.World.mounts_bound.Goals as goal

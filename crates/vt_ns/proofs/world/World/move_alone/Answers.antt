@@ -1,19 +1,9 @@
-use Rattle.std.proofs.Common.{Ok, Err, OnOk, Result, ap, arith, false, nat_eq, refl, rules, subst, sym, true, ℕ, ◌≡◌, ◌∙◌}
-use Rattle.std.specs.Prelude.{IsErr, ◌↔◌}
-use Rattle.vt_fs.specs.FilesystemsValue.{shown}
+use Rattle.std.proofs.Common.{Ok, Err, OnOk, Result, ap, arith, false, nat_eq, refl, rules, subst, sym, true, ℕ, ◌≡◌, ◌∙◌, IsErr, ◌↔◌}
+use Rattle.vt_spec.proofs.Common.{ToMove, is_shared, mount_at, mount_numbered}
+use Rattle.vt_ns.proofs.Common.{Becomes, IsDone, Permits, WorldValue, counted, inode_of, is_small_node, location_of, number_of, pinned_in, pins, shown, unpinned_in, unpins, with_store, world_of}
 use Rattle.vt_location.specs.declared.locations.Location.{Location}
-use Rattle.vt_location.specs.Locations.{is_small_node, location_of, number_of}
-use Rattle.vt_location.specs.Numbers.{counted}
-use Rattle.vt_spec.specs.Machine.Permits.Permit.{ToMove}
-use Rattle.vt_spec.specs.Machine.Mounts.{is_shared}
-use Rattle.vt_spec.specs.Machine.World.{mount_at, mount_numbered}
 use Rattle.vt_ns.specs.contracts.world.World.{the_view}
-use Rattle.vt_mounting.specs.Detach.Events.{Becomes, Permits}
-use Rattle.vt_mounting.specs.Detach.Uses.{inode_of, pinned_in, unpinned_at, unpinned_in}
-use Rattle.vt_world.specs.StoredWorld.{with_store}
-use Rattle.vt_world.specs.WorldValue.{WorldValue, world_of}
-use Rattle.vt_mounting.proofs.detach.Shown.{pins, unpins}
-use Rattle.vt_mounting.proofs.detach.Staying.{IsDone}
+use Rattle.vt_mounting.specs.Detach.Uses.{unpinned_at}
 use Rattle.vt_ns.proofs.world.MovedEvents.{moved_in_store}
 use Rattle.vt_ns.proofs.world.World.move_alone.Goals as goal
 use Rattle.vt_ns.proofs.world.World.move_alone.Goals.{In_default}

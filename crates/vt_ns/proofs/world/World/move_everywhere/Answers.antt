@@ -1,28 +1,15 @@
 use Rattle.std.proofs.Common.{ap, arith, is_some, length, map, nat_eq, refl, subst, sym, true, ◌≡◌, ◌+◌, ◌*◌, ◌∙◌}
-use Rattle.vt_location.specs.Locations.{location_of}
-use Rattle.vt_location.specs.MountValue.{mount_of}
-use Rattle.vt_location.specs.Numbers.{counted}
-use Rattle.vt_mount.specs.MountsValue.{mounts_in}
+use Rattle.vt_spec.proofs.Common.{ToMove, is_shared, mount_at, mount_numbered, mount_tree, parts_of}
+use Rattle.vt_ns.proofs.Common.{Becomes, IsDone, Permits, WorldValue, counted, done_in_store, kept, kept_of, left_still, location_of, merged_of, mount_of, mounts_in, with_store, world_of}
 use Rattle.vt_propagate.specs.declared.copying.Counts.{Counts}
 use Rattle.vt_propagate.specs.declared.copying.Graft.{Graft}
-use Rattle.vt_spec.specs.Machine.Attach.{parts_of}
-use Rattle.vt_spec.specs.Machine.Mounts.{is_shared, mount_tree}
-use Rattle.vt_spec.specs.Machine.World.{mount_at, mount_numbered}
-use Rattle.vt_spec.specs.Machine.Permits.Permit.{ToMove}
 use Rattle.vt_ns.specs.contracts.world.World.{the_view}
-use Rattle.vt_mounting.specs.Detach.Events.{Becomes, Permits}
-use Rattle.vt_world.specs.WorldValue.{WorldValue, world_of}
-use Rattle.vt_mounting.proofs.detach.OverlaysListed.{done_in_store, left_still}
-use Rattle.vt_mounting.proofs.detach.Staying.{IsDone}
 use Rattle.vt_mounting.proofs.attach.MovedDone.{may_move, move_is_done}
 use Rattle.vt_mounting.specs.Attach.Moved.{IsMovedBy}
 use Rattle.vt_ns.specs.Counting.{counted_for}
 use Rattle.vt_ns.proofs.world.Counted.{counted_so}
 use Rattle.vt_ns.proofs.world.BoundEvents.{parts_found, place_mounted}
 use Rattle.vt_ns.proofs.world.MovedEvents.{move_place_there, moved_there}
-use Rattle.vt_world.specs.StoredWorld.{with_store}
-use Rattle.vt_mounting.specs.Detach.Stored.{kept, merged_of}
-use Rattle.vt_mounting.specs.Detach.Uses.{kept_of}
 use Rattle.vt_ns.proofs.world.StoresKept.{kept_is}
 use Rattle.vt_ns.proofs.world.World.move_everywhere.Goals as goal
 

@@ -1,8 +1,7 @@
 use Rattle.std.proofs.Common.{ap, map, ◌∙◌, ℕ}
+use Rattle.vt_spec.proofs.Common.{Namespace}
 use Rattle.vt_location.specs.declared.numbers.NamespaceId.{NamespaceId}
-use Rattle.vt_location.specs.Numbers.{counted}
-use Rattle.vt_spec.specs.Machine.World.{Namespace}
-use Rattle.vt_world.specs.WorldValue.{WorldValue, namespace_of}
+use Rattle.vt_ns.proofs.Common.{WorldValue, counted, namespace_of}
 use Rattle.vt_ns.proofs.world.ListedWorlds.{namespaces_kept}
 use Rattle.vt_ns.proofs.world.World.namespaces.Goals as goal
 

@@ -1,12 +1,8 @@
 use Rattle.std.proofs.Common.{◌≡◌, sym, ap, subst, ◌∙◌, nat_eq, Some, None, arith}
-use Rattle.vt_spec.specs.Machine.World.{mount_numbered}
-use Rattle.vt_fs.specs.FilesystemsValue.{inodes_at}
-use Rattle.vt_location.proofs.NodeLemmas.{here_number}
-use Rattle.vt_location.specs.Locations.{location_of}
-use Rattle.vt_location.specs.Numbers.{counted, inode_number}
+use Rattle.vt_spec.proofs.Common.{mount_numbered}
+use Rattle.vt_ns.proofs.Common.{counted, here_number, inode_number, inodes_at, location_of, world_of}
 use Rattle.vt_ns.specs.contracts.world.World.{the_view}
 use Rattle.vt_ns.specs.Vacancy.{NextInodeIsVacant}
-use Rattle.vt_world.specs.WorldValue.{world_of}
 use Rattle.vt_ns.proofs.world.VacantNumbers.{next_is_vacant, none_is_vacant}
 use Rattle.vt_ns.proofs.world.World.next_inode_is_vacant.Goals as goal
 

@@ -1,12 +1,7 @@
 use Rattle.std.proofs.Common.{sym, subst, ◌∙◌, map}
-use Rattle.vt_location.specs.Locations.{location_of}
-use Rattle.vt_request.specs.Requests.{access_of}
-use Rattle.vt_spec.specs.Machine.Permits.Permit.{ToOpen}
+use Rattle.vt_spec.proofs.Common.{ToOpen}
+use Rattle.vt_ns.proofs.Common.{Becomes, Permits, access_of, location_of, merged_of, with_location, with_store}
 use Rattle.vt_ns.specs.contracts.world.World.{the_view}
-use Rattle.vt_mounting.specs.Detach.Events.{Becomes, Permits}
-use Rattle.vt_mounting.specs.Detach.Stored.{merged_of}
-use Rattle.vt_mounting.specs.Detach.Uses.{with_location}
-use Rattle.vt_world.specs.StoredWorld.{with_store}
 use Rattle.vt_ns.proofs.world.FilesOpened.{file_is_opened, may_open_more}
 use Rattle.vt_ns.proofs.world.StoresKept.{kept_is, same_in_store}
 use Rattle.vt_ns.proofs.world.World.open.Goals as goal

@@ -1,24 +1,16 @@
-use Rattle.std.proofs.Common.{◌≡◌, sym, subst, ap, ◌∙◌, arith, nat_eq, rules, ℕ, Result, Ok, Err, IfSome, OnOk, refl, map}
-use Rattle.std.specs.Prelude.{IsErr}
-use Rattle.vt_spec.specs.Language.Changes.Change.{Make}
+use Rattle.std.proofs.Common.{◌≡◌, sym, subst, ap, ◌∙◌, arith, nat_eq, rules, ℕ, Result, Ok, Err, IfSome, OnOk, refl, map, IsErr}
+use Rattle.vt_spec.proofs.Common.{Make, uses_in}
 use Rattle.vt_permits.specs.GrantValue.{descriptor_permit}
 use Rattle.vt_permits.specs.declared.grant.DescriptorGrant.TheVariants.{OpenNew}
-use Rattle.vt_spec.specs.Inodes.{changed, uses_in}
-use Rattle.vt_fs.specs.FilesystemsValue.{ChangesInodes, inodes_at, node_seen}
+use Rattle.vt_spec.specs.Inodes.{changed}
+use Rattle.vt_ns.proofs.Common.{Becomes, ChangesInodes, Permits, access_of, changed as changed_mounts, counted, inodes_at, merged_seen, node_seen, number_of, pins, with_store}
 use Rattle.vt_location.specs.declared.births.Birth.TheVariants.{Here}
 use Rattle.vt_location.specs.declared.locations.NodeRef.{NodeRef}
 use Rattle.vt_location.proofs.NodeLemmas.{here_is_own}
-use Rattle.vt_location.specs.Locations.{number_of}
-use Rattle.vt_location.specs.Numbers.{counted}
-use Rattle.vt_mount.specs.MountsValue.{changed as changed_mounts, held}
+use Rattle.vt_mount.specs.MountsValue.{held}
 use Rattle.vt_mount.proofs.KeptLemmas.{of-ok}
-use Rattle.vt_request.specs.Requests.{access_of}
 use Rattle.vt_ns.specs.contracts.world.World.{the_view}
-use Rattle.vt_mounting.specs.Detach.Events.{Becomes, Permits}
 use Rattle.vt_ns.proofs.world.OpeningNew.{has_next, make_fits, may_open_one, new_in_directory, new_opens, next_is_numbered, used_once}
-use Rattle.vt_mounting.proofs.detach.Shown.{pins}
-use Rattle.vt_world.specs.StoredWorld.{with_store}
-use Rattle.vt_mounting.specs.Detach.Uses.{merged_seen}
 use Rattle.vt_ns.proofs.world.PlainStored.{done_plainly}
 use Rattle.vt_ns.proofs.world.World.open_new.Goals as goal
 

@@ -1,6 +1,6 @@
 use Rattle.std.proofs.Common.{ap, option_map, sym, ◌∙◌}
 use Rattle.vt_location.specs.Numbers.{mount_number}
-use Rattle.vt_overlay.specs.MergedTree.{OverlayValue}
+use Rattle.vt_ns.proofs.Common.{OverlayValue}
 use Rattle.vt_ns.specs.contracts.world.World.{the_view}
 use Rattle.vt_ns.proofs.looking.OverlaysLooked.{mounter_shown, nobody_mounted}
 use Rattle.vt_ns.proofs.world.World.overlay_on.Goals as goal

@@ -1,10 +1,8 @@
 use Rattle.std.proofs.Common.{refl, subst}
-use Rattle.std.proofs.lemmas.Result.{IfOk-weaker}
-use Rattle.vt_propagate.specs.Seen.{IsSeen}
-use Rattle.vt_world.specs.WorldValue.{world_of}
+use Rattle.vt_spec.proofs.Common.{IfOk-weaker}
+use Rattle.vt_ns.proofs.Common.{IsSeen, is_seen, world_of}
 use Rattle.vt_ns.specs.contracts.world.World.{the_view}
 use Rattle.vt_ns.proofs.world.World.parts_at.Goals as goal
-use Rattle.vt_mounting.proofs.attach.Binding.{is_seen}
 
 pub returns : goal.returns
 returns c = record {

@@ -1,9 +1,7 @@
 use Rattle.std.proofs.Common.{ap, map, ◌∙◌, ℕ}
-use Rattle.std.proofs.lemmas.Result.{IfOk-weaker}
+use Rattle.vt_spec.proofs.Common.{IfOk-weaker, Namespace}
 use Rattle.vt_location.specs.declared.numbers.NamespaceId.{NamespaceId}
-use Rattle.vt_location.specs.Numbers.{counted}
-use Rattle.vt_spec.specs.Machine.World.{Namespace}
-use Rattle.vt_world.specs.WorldValue.{WorldValue, namespace_of, world_of}
+use Rattle.vt_ns.proofs.Common.{WorldValue, counted, namespace_of, world_of}
 use Rattle.vt_ns.proofs.world.ListedWorlds.{namespaces_kept}
 use Rattle.vt_ns.proofs.world.World.peers.Goals as goal
 

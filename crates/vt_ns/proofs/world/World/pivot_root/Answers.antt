@@ -1,22 +1,9 @@
-use Rattle.std.proofs.Common.{Err, IfSome, Ok, OnOk, Result, ap, arith, is_some, map, nat_eq, option_copied, option_map, refl, rules, subst, sym, true, ℕ, ◌≡◌, ◌∙◌}
-use Rattle.std.specs.Prelude.{IsErr, ◌↔◌}
+use Rattle.std.proofs.Common.{Err, IfSome, Ok, OnOk, Result, ap, arith, is_some, map, nat_eq, option_copied, option_map, refl, rules, subst, sym, true, ℕ, ◌≡◌, ◌∙◌, IsErr, ◌↔◌}
+use Rattle.vt_spec.proofs.Common.{ToPivot, mount_numbered}
 use Rattle.vt_location.specs.declared.locations.Location.{Location}
-use Rattle.vt_location.specs.Locations.{is_small_node, location_of, number_of}
-use Rattle.vt_location.specs.MountValue.{mount_of}
-use Rattle.vt_location.specs.Numbers.{counted}
-use Rattle.vt_spec.specs.Machine.Permits.Permit.{ToPivot}
-use Rattle.vt_spec.specs.Machine.World.{mount_numbered}
-use Rattle.vt_tasks.specs.TaskValue.{task_of}
+use Rattle.vt_ns.proofs.Common.{Becomes, IsDone, Permits, WorldValue, counted, is_small_node, is_some_mapped, kept, kept_with, location_of, merged_of, merged_seen, mount_of, number_of, overlays_of_store, pins, remade, task_of, unpins, world_of}
 use Rattle.vt_ns.specs.contracts.world.World.{the_view}
-use Rattle.vt_mounting.specs.Detach.Events.{Becomes, Permits}
-use Rattle.vt_world.specs.WorldValue.{WorldValue, world_of}
-use Rattle.vt_mounting.proofs.detach.Remaining.{remade}
-use Rattle.vt_mounting.proofs.detach.Shown.{is_some_mapped, pins, unpins}
-use Rattle.vt_mounting.proofs.detach.Staying.{IsDone}
 use Rattle.vt_ns.proofs.world.PivotedEvents.{new_is_placed, room_to_enter, root_is_found, root_is_pivoted}
-use Rattle.vt_world.specs.StoredWorld.{overlays_of_store}
-use Rattle.vt_mounting.specs.Detach.Stored.{kept, merged_of}
-use Rattle.vt_mounting.specs.Detach.Uses.{kept_with, merged_seen}
 use Rattle.vt_ns.specs.Pivoting.{with_uses}
 use Rattle.vt_ns.proofs.world.StoresKept.{kept_is, same_in_store}
 use Rattle.vt_ns.proofs.world.World.pivot_root.Goals as goal

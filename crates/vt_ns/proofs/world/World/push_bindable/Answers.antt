@@ -1,17 +1,9 @@
 use Rattle.std.proofs.Common.{ap, arith, rules, subst, suc, sym, nat_eq, ◌-◌, ◌≡◌, ◌∙◌, ◌∷◌}
-use Rattle.std.proofs.lemmas.Iterator.{YieldsList-from_map}
-use Rattle.std.proofs.lemmas.Iterator.Adapters.{YieldsList-from_rev_slice, items_from_extend}
-use Rattle.std.proofs.lemmas.Iterator.Consumers.{YieldsList-from_filter}
-use Rattle.vt_location.specs.Numbers.{counted}
-use Rattle.vt_mount.proofs.PlaceLemmas.{numbers}
-use Rattle.vt_mount.specs.MountsValue.{mounts_in}
-use Rattle.vt_spec.specs.Machine.Mounts.{children}
-use Rattle.vt_world.specs.Held.{IsHeld}
+use Rattle.vt_spec.proofs.Common.{OnOk_then, YieldsList-from_filter, YieldsList-from_map, YieldsList-from_rev_slice, children, items_from_extend}
+use Rattle.vt_ns.proofs.Common.{IsHeld, WorldValue, counted, mounts_in, numbers}
 use Rattle.vt_ns.specs.Trees.{bindable_to_come}
-use Rattle.vt_world.specs.WorldValue.{WorldValue}
 use Rattle.vt_ns.proofs.world.BoundTrees.{bindable, bindable_kids, branch_of, next-deep, next-flat}
 use Rattle.vt_ns.proofs.world.World.push_bindable.Goals as goal
-use Rattle.vt_spec.proofs.Options.{OnOk_then}
 
 pub returns-then-branch-eq0 : goal.returns-then-branch-eq0
 returns-then-branch-eq0 c = next-flat

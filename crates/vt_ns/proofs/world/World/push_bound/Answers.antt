@@ -1,22 +1,10 @@
-use Rattle.std.proofs.Common.{ap, filter, length, map, rules, subst, sym, nat_eq, ◌&&◌, ◌≡◌, ◌∙◌, ◌++◌}
-use Rattle.std.specs.Prelude.{reverse}
-use Rattle.std.proofs.lemmas.Iterator.{YieldsList-from_map}
-use Rattle.std.proofs.lemmas.Iterator.Adapters.{YieldsList-from_rev_slice, items_from_extend}
-use Rattle.std.proofs.lemmas.Iterator.Consumers.{YieldsList-from_filter}
-use Rattle.std.proofs.lemmas.List.{length-map}
+use Rattle.std.proofs.Common.{ap, filter, length, map, rules, subst, sym, nat_eq, ◌&&◌, ◌≡◌, ◌∙◌, ◌++◌, reverse}
+use Rattle.vt_spec.proofs.Common.{OnOk_then, YieldsList-from_filter, YieldsList-from_map, YieldsList-from_rev_slice, bindable_children, children, items_from_extend, length-map, mount_in, stands_under}
 use Rattle.vt_location.specs.declared.numbers.MountId.{MountId}
-use Rattle.vt_location.specs.Locations.{location_of}
-use Rattle.vt_location.specs.Numbers.{counted}
-use Rattle.vt_mount.proofs.PlaceLemmas.{numbers}
-use Rattle.vt_mount.specs.MountsValue.{MountEntry, mounts_in}
-use Rattle.vt_spec.specs.Machine.Attach.{bindable_children, stands_under}
-use Rattle.vt_spec.specs.Machine.Mounts.{children, mount_in}
-use Rattle.vt_world.specs.Held.{IsHeld}
+use Rattle.vt_ns.proofs.Common.{IsHeld, MountEntry, WorldValue, counted, location_of, mounts_in, numbers, world_of}
 use Rattle.vt_ns.specs.Trees.{bindable_to_come}
-use Rattle.vt_world.specs.WorldValue.{WorldValue, world_of}
 use Rattle.vt_ns.proofs.world.BoundTrees.{bindable, bound_kids, branch_of, chosen-come}
 use Rattle.vt_ns.proofs.world.World.push_bound.Goals as goal
-use Rattle.vt_spec.proofs.Options.{OnOk_then}
 
 pub returns : goal.returns
 returns c =

@@ -1,10 +1,6 @@
 use Rattle.std.proofs.Common.{ap, is_some, rules, nat_eq, ◌∙◌}
-use Rattle.vt_spec.specs.Machine.World.{mount_at}
-use Rattle.vt_location.specs.Locations.{location_of, number_of}
-use Rattle.vt_mounting.proofs.detach.StoreShown.{store_stands}
-use Rattle.vt_mounting.specs.Detach.Looking.{looks_of_value}
-use Rattle.vt_world.specs.Lent.{lent_of_world}
-use Rattle.vt_world.specs.WorldValue.{world_of}
+use Rattle.vt_spec.proofs.Common.{mount_at}
+use Rattle.vt_ns.proofs.Common.{lent_of_world, location_of, looks_of_value, number_of, store_stands, world_of}
 use Rattle.vt_ns.proofs.looking.LooksKept.{object_is, seen_if_there}
 use Rattle.vt_ns.proofs.world.ReadableFiles.{lent_there, readable_there}
 use Rattle.vt_ns.proofs.world.World.readable.Goals as goal

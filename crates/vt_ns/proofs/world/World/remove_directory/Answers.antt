@@ -2,10 +2,9 @@ use Rattle.std.proofs.Common.{rules, ◌≡◌, ◌≢◌, sym, subst, arith, le
 use Rattle.vt_permits.specs.GrantValue.{remove_permit}
 use Rattle.vt_permits.specs.declared.grant.RemoveGrant.TheVariants.{Directory}
 use Rattle.vt_ns.specs.contracts.world.World.{the_view}
-use Rattle.vt_mounting.specs.Detach.Events.{Becomes, Permits}
+use Rattle.vt_ns.proofs.Common.{Becomes, Permits, with_store}
 use Rattle.vt_ns.proofs.world.DirectoryRemoved.{directory_goes, directory_goes_alone}
 use Rattle.vt_ns.proofs.world.FileRemoving.{removal_fits, removed_in, removed_is_kept}
-use Rattle.vt_world.specs.StoredWorld.{with_store}
 use Rattle.vt_ns.proofs.world.World.remove_directory.Goals as goal
 use Rattle.vt_ns.proofs.world.World.remove_directory.Goals.{then-not-is_empty, else-not-is_empty}
 

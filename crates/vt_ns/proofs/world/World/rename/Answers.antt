@@ -1,10 +1,9 @@
 use Rattle.std.proofs.Common.{rules, ◌≡◌, ◌≢◌, sym, subst, arith, length}
 use Rattle.vt_permits.specs.GrantValue.{rename_permit}
 use Rattle.vt_ns.specs.contracts.world.World.{the_view}
-use Rattle.vt_mounting.specs.Detach.Events.{Becomes, Permits}
+use Rattle.vt_ns.proofs.Common.{Becomes, Permits, with_store}
 use Rattle.vt_ns.proofs.world.FileRenaming.{rename_fits, renamed_is_kept, renamed_object, renamed_to}
 use Rattle.vt_ns.proofs.world.RenamedOver.{rename_over, rename_stays}
-use Rattle.vt_world.specs.StoredWorld.{with_store}
 use Rattle.vt_ns.proofs.world.World.rename.Goals as goal
 use Rattle.vt_ns.proofs.world.World.rename.Goals.{then-not-is_empty, else-not-is_empty}
 

@@ -1,11 +1,8 @@
 use Rattle.std.proofs.Common.{sym, subst, arith}
-use Rattle.vt_location.specs.Locations.{location_of, number_of}
-use Rattle.vt_spec.specs.Language.Changes.Change.{SetAttr}
-use Rattle.vt_spec.specs.Machine.Permits.Permit.{ToChange}
+use Rattle.vt_spec.proofs.Common.{SetAttr, ToChange}
+use Rattle.vt_ns.proofs.Common.{Becomes, Permits, location_of, number_of, with_store}
 use Rattle.vt_ns.specs.contracts.world.World.{the_view}
-use Rattle.vt_mounting.specs.Detach.Events.{Becomes, Permits}
 use Rattle.vt_mounting.proofs.detach.FileEvents.{attr_is_set}
-use Rattle.vt_world.specs.StoredWorld.{with_store}
 use Rattle.vt_ns.proofs.world.PlainStored.{files_stored}
 use Rattle.vt_ns.proofs.world.World.set_attr.Goals as goal
 

@@ -1,16 +1,8 @@
 use Rattle.std.proofs.Common.{ap, false, map, option_map, subst, sym, ◌≡◌, ◌∙◌}
-use Rattle.vt_location.specs.Locations.{location_of}
-use Rattle.vt_spec.specs.Machine.Permits.Permit.{ToSetDirectory}
+use Rattle.vt_spec.proofs.Common.{ToSetDirectory}
+use Rattle.vt_ns.proofs.Common.{Becomes, IsDone, Permits, WorldValue, done_in_store, kept, kept_of, left_itself, left_twice, location_of, merged_of, overlays_of_store, remade, with_location, without_location}
 use Rattle.vt_ns.specs.contracts.world.World.{the_view}
-use Rattle.vt_mounting.specs.Detach.Events.{Becomes, Permits}
-use Rattle.vt_mounting.specs.Detach.Uses.{kept_of, with_location, without_location}
-use Rattle.vt_mounting.proofs.detach.OverlaysListed.{done_in_store, left_itself, left_twice}
 use Rattle.vt_mounting.proofs.detach.Places.{directory_is_set}
-use Rattle.vt_mounting.proofs.detach.Remaining.{remade}
-use Rattle.vt_mounting.proofs.detach.Staying.{IsDone}
-use Rattle.vt_world.specs.WorldValue.{WorldValue}
-use Rattle.vt_world.specs.StoredWorld.{overlays_of_store}
-use Rattle.vt_mounting.specs.Detach.Stored.{kept, merged_of}
 use Rattle.vt_ns.proofs.world.StoresKept.{kept_is}
 use Rattle.vt_ns.proofs.world.World.set_directory.Goals as goal
 

@@ -1,12 +1,8 @@
 use Rattle.std.proofs.Common.{sym, subst}
-use Rattle.vt_cred.specs.MountFlags.{flags_of}
-use Rattle.vt_location.specs.Numbers.{counted}
-use Rattle.vt_spec.specs.Machine.Permits.Permit.{ToSetFlags}
+use Rattle.vt_spec.proofs.Common.{ToSetFlags}
+use Rattle.vt_ns.proofs.Common.{Becomes, IsDone, Permits, counted, flags_of, remade}
 use Rattle.vt_ns.specs.contracts.world.World.{the_view}
-use Rattle.vt_mounting.specs.Detach.Events.{Becomes, Permits}
-use Rattle.vt_mounting.proofs.detach.Remaining.{remade}
 use Rattle.vt_mounting.proofs.detach.TypesSet.{flags_are_set}
-use Rattle.vt_mounting.proofs.detach.Staying.{IsDone}
 use Rattle.vt_ns.proofs.world.World.set_flags.Goals as goal
 
 pub invariant_of-self : goal.invariant_of-self

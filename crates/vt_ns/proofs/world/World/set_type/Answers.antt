@@ -1,18 +1,13 @@
 use Rattle.std.proofs.Common.{[], ◌∷◌, ap, map, nat_eq, subst, sym, ◌≡◌, ◌∙◌}
+use Rattle.vt_spec.proofs.Common.{ToSetType, named_mounts}
 use Rattle.vt_location.specs.declared.numbers.MountId.{MountId}
-use Rattle.vt_location.specs.Numbers.{counted}
+use Rattle.vt_ns.proofs.Common.{Becomes, Permits, WorldValue, counted, mounts_in, numbers_of, world_of}
 use Rattle.vt_laws_mounts.proofs.letting_go.leaving.PlacesLeft.{number_found}
-use Rattle.vt_mount.specs.MountsValue.{mounts_in}
 use Rattle.vt_request.specs.Requests.{type_word_of}
-use Rattle.vt_spec.specs.Machine.Permits.Permit.{ToSetType}
-use Rattle.vt_spec.specs.Machine.Types.{named_mounts}
 use Rattle.vt_ns.specs.contracts.world.World.{the_view}
 use Rattle.vt_ns.specs.Retyped.{IsRetyped, counted_after}
-use Rattle.vt_mounting.specs.Detach.Events.{Becomes, Permits}
-use Rattle.vt_world.specs.WorldValue.{WorldValue, world_of}
 use Rattle.vt_ns.proofs.world.TypesDone.{types_done}
 use Rattle.vt_ns.proofs.world.World.set_type.Goals as goal
-use Rattle.vt_laws_mounts.specs.Mounts.Attaching.{numbers_of}
 
 pub invariant_of-self-then-recursive : goal.invariant_of-self-then-recursive
 invariant_of-self-then-recursive c =

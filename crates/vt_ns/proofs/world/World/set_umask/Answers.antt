@@ -1,8 +1,8 @@
-use Rattle.vt_spec.specs.Machine.Permits.Permit.{ToSetUmask}
 use Rattle.std.proofs.Common.{sym, subst}
-use Rattle.vt_mounting.proofs.detach.Staying.{after, umask_is_set}
+use Rattle.vt_spec.proofs.Common.{ToSetUmask}
+use Rattle.vt_ns.proofs.Common.{Becomes, Permits, after}
+use Rattle.vt_mounting.proofs.detach.Staying.{umask_is_set}
 use Rattle.vt_ns.specs.contracts.world.World.{the_view}
-use Rattle.vt_mounting.specs.Detach.Events.{Becomes, Permits}
 use Rattle.vt_ns.proofs.world.World.set_umask.Goals as goal
 
 pub invariant_of-self : goal.invariant_of-self

@@ -1,5 +1,5 @@
-use Rattle.std.proofs.lemmas.Result.{IfOk-weaker}
-use Rattle.vt_world.specs.WorldValue.{world_of}
+use Rattle.vt_spec.proofs.Common.{IfOk-weaker}
+use Rattle.vt_ns.proofs.Common.{world_of}
 use Rattle.vt_ns.proofs.world.World.spot_of.Goals as goal
 
 pub mount_point_spot-requires : goal.mount_point_spot-requires

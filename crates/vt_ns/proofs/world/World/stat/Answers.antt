@@ -1,9 +1,6 @@
 use Rattle.std.proofs.Common.{ap, is_some, nat_eq, option_copied, sym, ◌∙◌}
-use Rattle.vt_spec.specs.Machine.Apply.{stat_line}
-use Rattle.vt_spec.specs.Machine.World.{mount_at, node_at}
-use Rattle.vt_location.specs.Locations.{location_of, number_of}
-use Rattle.vt_world.specs.Lent.{lent_of_world}
-use Rattle.vt_world.specs.WorldValue.{world_of}
+use Rattle.vt_spec.proofs.Common.{mount_at, node_at, stat_line}
+use Rattle.vt_ns.proofs.Common.{lent_of_world, location_of, number_of, world_of}
 use Rattle.vt_ns.specs.Told.{told_by}
 use Rattle.vt_ns.proofs.looking.MarksTold.{none_lent, told_is}
 use Rattle.vt_ns.proofs.looking.OverlaysLooked.{mounted_by_some, overlay_is}

@@ -1,6 +1,5 @@
 use Rattle.std.proofs.Common.{ap}
-use Rattle.vt_world.specs.WorldValue.{WorldValue}
-use Rattle.vt_mounting.proofs.detach.StoreShown.{store_stands}
+use Rattle.vt_ns.proofs.Common.{WorldValue, store_stands}
 use Rattle.vt_ns.specs.contracts.world.World.{the_view}
 use Rattle.vt_ns.proofs.world.World.store.Goals as goal
 

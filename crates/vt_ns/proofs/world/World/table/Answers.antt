@@ -1,12 +1,8 @@
 use Rattle.std.proofs.Common.{ap, nat_eq, ◌∙◌}
-use Rattle.vt_spec.specs.FileTree.{ancestors}
-use Rattle.vt_spec.specs.Machine.World.{filesystem_numbered, is_overlay}
-use Rattle.vt_location.specs.Numbers.{counted}
-use Rattle.vt_world.specs.WorldValue.{WorldValue, world_of}
+use Rattle.vt_spec.proofs.Common.{ancestors, filesystem_numbered, is_overlay}
+use Rattle.vt_ns.proofs.Common.{WorldValue, counted, files_shown, mounts_in, store_stands, world_of}
 use Rattle.vt_group.specs.Grouping.{master_in}
-use Rattle.vt_mount.specs.MountsValue.{mounts_in}
 use Rattle.vt_ns.specs.contracts.world.World.{the_view}
-use Rattle.vt_mounting.proofs.detach.StoreShown.{files_shown, store_stands}
 use Rattle.vt_ns.proofs.looking.StoreLooked.{above_shown, overlay_shown}
 use Rattle.vt_ns.proofs.world.ListedWorlds.{named_once}
 use Rattle.vt_ns.proofs.world.World.table.Goals as goal

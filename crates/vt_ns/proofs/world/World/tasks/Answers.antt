@@ -1,5 +1,5 @@
 use Rattle.std.proofs.Common.{ap}
-use Rattle.vt_world.specs.WorldValue.{WorldValue}
+use Rattle.vt_ns.proofs.Common.{WorldValue}
 use Rattle.vt_ns.proofs.world.World.tasks.Goals as goal
 
 pub returns : goal.returns

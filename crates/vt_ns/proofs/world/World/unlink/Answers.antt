@@ -1,13 +1,10 @@
 use Rattle.std.proofs.Common.{sym, subst, arith}
-use Rattle.vt_location.specs.Locations.{number_of}
-use Rattle.vt_spec.specs.Language.Changes.Change.{Remove}
+use Rattle.vt_spec.proofs.Common.{Remove}
+use Rattle.vt_ns.proofs.Common.{Becomes, Permits, change_fits, number_of, with_store}
 use Rattle.vt_permits.specs.GrantValue.{remove_permit}
 use Rattle.vt_permits.specs.declared.grant.RemoveGrant.TheVariants.{Unlink}
 use Rattle.vt_ns.specs.contracts.world.World.{the_view}
-use Rattle.vt_mounting.specs.Detach.Events.{Becomes, Permits}
-use Rattle.vt_mounting.proofs.detach.FileEvents.{change_fits}
 use Rattle.vt_ns.proofs.world.FileAnswers.{unlinked_in, unlinked_is_kept, unlink_is_done}
-use Rattle.vt_world.specs.StoredWorld.{with_store}
 use Rattle.vt_ns.proofs.world.PlainStored.{files_stored}
 use Rattle.vt_ns.proofs.world.World.unlink.Goals as goal
 

@@ -1,18 +1,10 @@
 use Rattle.std.proofs.Common.{sym, subst, true, ◌≡◌, map, ap, ◌∙◌}
-use Rattle.std.proofs.lemmas.Bool.{and_parts, not-true}
-use Rattle.vt_location.specs.Numbers.{counted}
-use Rattle.vt_mount.specs.MountsValue.{mounts_in}
-use Rattle.vt_spec.specs.Machine.Permits.Permit.{ToUnmount}
+use Rattle.vt_spec.proofs.Common.{ToUnmount, and_parts, not-true}
+use Rattle.vt_ns.proofs.Common.{Becomes, IsDone, Permits, WorldValue, counted, done_in_store, merged_of, mounts_in, with_store}
 use Rattle.vt_ns.specs.contracts.world.World.{the_view}
 use Rattle.vt_ns.specs.Unmounting.{unmounts_alone}
-use Rattle.vt_mounting.specs.Detach.Events.{Becomes, Permits}
-use Rattle.vt_mounting.specs.Detach.Stored.{merged_of}
 use Rattle.vt_mounting.specs.Detach.Uses.{without_attachment}
-use Rattle.vt_mounting.proofs.detach.OverlaysListed.{done_in_store}
-use Rattle.vt_mounting.proofs.detach.Staying.{IsDone}
 use Rattle.vt_mounting.proofs.detach.UnmountedAlone.{unmount_is_done}
-use Rattle.vt_world.specs.StoredWorld.{with_store}
-use Rattle.vt_world.specs.WorldValue.{WorldValue}
 use Rattle.vt_ns.proofs.world.StoresKept.{kept_is}
 use Rattle.vt_ns.proofs.world.World.unmount_alone.Goals as goal
 

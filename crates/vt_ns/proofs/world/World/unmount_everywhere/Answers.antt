@@ -1,21 +1,10 @@
 use Rattle.std.proofs.Common.{map, refl, subst, sym, List, ℕ}
-use Rattle.std.proofs.lemmas.List.Sorted.{IsPermutation-map}
+use Rattle.vt_spec.proofs.Common.{IsPermutation-map, ToUnmount, World}
 use Rattle.vt_location.specs.declared.numbers.MountId.{MountId as MountNumber}
-use Rattle.vt_location.specs.Numbers.{counted}
-use Rattle.vt_propagate.specs.Seen.{IsSeen}
-use Rattle.vt_spec.specs.Machine.Permits.Permit.{ToUnmount}
-use Rattle.vt_spec.specs.Machine.World.{World}
+use Rattle.vt_ns.proofs.Common.{Becomes, IsDone, IsSeen, Permits, Point, WorldValue, counted, done_in_store, kept, kept_of, merged_of, with_store, world_of}
 use Rattle.vt_ns.specs.contracts.world.World.{the_view}
-use Rattle.vt_mounting.specs.Detach.Events.{Becomes, Permits}
-use Rattle.vt_world.specs.WorldValue.{WorldValue, world_of}
-use Rattle.vt_mounting.proofs.detach.OverlaysListed.{done_in_store}
-use Rattle.vt_mounting.proofs.detach.Staying.{IsDone}
-use Rattle.vt_mounting.specs.Detach.Stored.{kept, merged_of}
-use Rattle.vt_mounting.specs.Detach.Uses.{kept_of}
-use Rattle.vt_mounting.specs.Attach.Planned.{Point}
 use Rattle.vt_ns.specs.Unmounting.{GoTogether}
 use Rattle.vt_ns.proofs.world.UnmountedEverywhere.{unmounted_everywhere}
-use Rattle.vt_world.specs.StoredWorld.{with_store}
 use Rattle.vt_ns.proofs.world.StoresKept.{kept_is}
 use Rattle.vt_ns.proofs.world.World.unmount_everywhere.Goals as goal
 

@@ -1,18 +1,9 @@
 use Rattle.std.proofs.Common.{not, map, sym, subst, true, List, ◌&&◌, ◌≡◌, ℕ}
-use Rattle.std.proofs.lemmas.Bool.{and_parts, not-true}
-use Rattle.vt_location.specs.Numbers.{counted}
-use Rattle.vt_mount.specs.MountsValue.{mounts_in}
-use Rattle.vt_spec.specs.Machine.Permits.Permit.{ToUnmountLazily}
+use Rattle.vt_spec.proofs.Common.{ToUnmountLazily, and_parts, not-true}
+use Rattle.vt_ns.proofs.Common.{Becomes, IsDone, LeaveInTurn, Permits, WorldValue, counted, done_in_store, kept, merged_of, mounts_in, tree_numbers, with_store}
 use Rattle.vt_ns.specs.contracts.world.World.{the_view}
 use Rattle.vt_ns.specs.Unmounting.{are_ungrouped, stands_on_shared}
-use Rattle.vt_mounting.specs.Detach.Detached.{LeaveInTurn, tree_numbers}
-use Rattle.vt_mounting.specs.Detach.Events.{Becomes, Permits}
-use Rattle.vt_mounting.specs.Detach.Stored.{kept, merged_of}
-use Rattle.vt_mounting.proofs.detach.OverlaysListed.{done_in_store}
-use Rattle.vt_mounting.proofs.detach.Staying.{IsDone}
 use Rattle.vt_mounting.proofs.detach.UnmountedLazily.{lazy_unmount_is_done}
-use Rattle.vt_world.specs.StoredWorld.{with_store}
-use Rattle.vt_world.specs.WorldValue.{WorldValue}
 use Rattle.vt_ns.proofs.world.StoresKept.{kept_is}
 use Rattle.vt_ns.proofs.world.World.unmount_tree_alone.Goals as goal
 

@@ -1,29 +1,15 @@
 use Rattle.std.proofs.Common.{Bool, ap, arith, length, nat_eq, not, option_copied, option_map, refl, subst, sym, ℕ, ◌*◌, ◌+◌, ◌≤◌, ◌∙◌, ◌≡◌, ◌++◌, ◌∷◌, [], map}
-use Rattle.std.proofs.lemmas.List.{length-map}
-use Rattle.std.proofs.lemmas.List.Filters.{length-filter_both}
-use Rattle.vt_spec.specs.Lists.{holds_of}
-use Rattle.vt_spec.specs.Machine.Mounts.{Mount}
-use Rattle.vt_mount.specs.MountsValue.{MountEntry, mounts_in}
+use Rattle.vt_spec.proofs.Common.{Mount, ToUnshare, holds_of, length-filter_both, length-map}
+use Rattle.vt_ns.proofs.Common.{Becomes, IsDone, MountEntry, OverlaysLeft, Permits, WorldValue, changed_called, counted, done_in_store, entries_of, kept, kept_of, left_still, left_twice, location_of, merged_of, mounts_in, overlays_of_store, task_of}
 use Rattle.vt_location.specs.declared.numbers.NamespaceId.{NamespaceId}
-use Rattle.vt_location.specs.Locations.{location_of}
-use Rattle.vt_location.specs.Numbers.{counted}
 use Rattle.vt_mount.proofs.KeptLemmas.{not-err, of-ok}
-use Rattle.vt_spec.specs.Machine.Permits.Permit.{ToUnshare}
-use Rattle.vt_tasks.specs.TaskValue.{task_of}
-use Rattle.vt_tasks.specs.TasksValue.{changed_called}
 use Rattle.vt_ns.specs.contracts.world.World.{the_view}
 use Rattle.vt_mount.specs.Attached.{attached_in}
 use Rattle.vt_mounting.specs.Attach.Copying.{CopiesAttached, with_use_moved}
-use Rattle.vt_mounting.specs.Detach.Stored.{OverlaysLeft, kept, merged_of}
-use Rattle.vt_mounting.specs.Detach.Uses.{kept_of, overlays_kept, with_attached}
-use Rattle.vt_mounting.specs.Detach.Events.{Becomes, Permits}
-use Rattle.vt_world.specs.WorldValue.{WorldValue, entries_of}
+use Rattle.vt_mounting.specs.Detach.Uses.{overlays_kept, with_attached}
 use Rattle.vt_mount.proofs.AttachedLemmas.{as_many}
-use Rattle.vt_mounting.proofs.detach.OverlaysListed.{done_in_store, left_still, left_twice}
-use Rattle.vt_mounting.proofs.detach.Staying.{IsDone}
 use Rattle.vt_mounting.proofs.attach.TasksUnshared.{task_is_unshared}
 use Rattle.vt_mounting.proofs.attach.UnsharingLemmas.{namespace_added, numbers_before, uses_left, uses_left_then, writers_left, writers_left_then}
-use Rattle.vt_world.specs.StoredWorld.{overlays_of_store}
 use Rattle.vt_ns.proofs.world.StoresKept.{kept_is}
 use Rattle.vt_ns.proofs.world.World.unshare.Goals as goal
 

@@ -1,12 +1,8 @@
 use Rattle.std.proofs.Common.{sym, subst, arith}
-use Rattle.vt_location.specs.Locations.{location_of, number_of}
-use Rattle.vt_spec.specs.Language.Changes.Change.{SetBytes}
-use Rattle.vt_spec.specs.Machine.Permits.Permit.{ToChange}
+use Rattle.vt_spec.proofs.Common.{SetBytes, ToChange}
+use Rattle.vt_ns.proofs.Common.{Becomes, Permits, change_fits, location_of, number_of, with_store}
 use Rattle.vt_ns.specs.contracts.world.World.{the_view}
-use Rattle.vt_mounting.specs.Detach.Events.{Becomes, Permits}
-use Rattle.vt_mounting.proofs.detach.FileEvents.{change_fits}
 use Rattle.vt_ns.proofs.world.FileAnswers.{write_is_done}
-use Rattle.vt_world.specs.StoredWorld.{with_store}
 use Rattle.vt_ns.proofs.world.PlainStored.{files_stored}
 use Rattle.vt_ns.proofs.world.World.write.Goals as goal
 

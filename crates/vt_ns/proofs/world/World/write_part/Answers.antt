@@ -1,12 +1,9 @@
 use Rattle.std.proofs.Common.{sym, subst, arith, OnOk}
-use Rattle.vt_location.specs.Locations.{location_of}
+use Rattle.vt_ns.proofs.Common.{Becomes, IsHeld, Permits, location_of, with_store}
 use Rattle.vt_permits.specs.GrantValue.{write_permit}
 use Rattle.vt_permits.specs.declared.grant.WriteGrant.TheVariants.{Part}
 use Rattle.vt_ns.specs.contracts.world.World.{the_view}
-use Rattle.vt_mounting.specs.Detach.Events.{Becomes, Permits}
 use Rattle.vt_ns.proofs.world.FileParts.{no_bytes, nothing_is_written, some_bytes, write_part_fits, write_part_is_answered}
-use Rattle.vt_world.specs.Held.{IsHeld}
-use Rattle.vt_world.specs.StoredWorld.{with_store}
 use Rattle.vt_ns.proofs.world.PlainStored.{answered_stored}
 use Rattle.vt_ns.proofs.world.World.write_part.Goals as goal
 

@@ -1,5 +1,4 @@
-use Rattle.std.proofs.Common.{◌≡◌, ◌≢◌, ◌∙◌, ◌+◌, arith, ap, eq-eqb, false, nat_eq, not, refl, suc, sym, true, true≢false}
-use Rattle.std.specs.Prelude.{is_some}
+use Rattle.std.proofs.Common.{◌≡◌, ◌≢◌, ◌∙◌, ◌+◌, arith, ap, eq-eqb, false, nat_eq, not, refl, suc, sym, true, true≢false, is_some}
 use Rattle.vt_fs.specs.Trees.TreeValue.{tree_of}
 use Rattle.vt_overlay.specs.Merge.Climbed.{climbed, name_up}
 use Rattle.vt_overlay.proofs.merge.GoingUp.{came_from_above, climbed_once, comes_from_above, copied_some, ends_unnamed, leads_from_above, named_more, once_in_slots}

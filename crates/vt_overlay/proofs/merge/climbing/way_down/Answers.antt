@@ -1,6 +1,5 @@
-use Rattle.std.proofs.Common.{Some, ap, subst, sym, rules, ◌≡◌, ◌∙◌}
-use Rattle.std.specs.Prelude.{IfSome, option_copied}
-use Rattle.vt_spec.specs.TreeInvariant.{IsDirectory, IsTree, led}
+use Rattle.std.proofs.Common.{Some, ap, subst, sym, rules, ◌≡◌, ◌∙◌, IfSome, option_copied}
+use Rattle.vt_spec.proofs.Common.{IsDirectory, IsTree, led}
 use Rattle.vt_location.specs.Locations.{inode_of}
 use Rattle.vt_overlay.proofs.merge.TreesLent.{tree_lent}
 use Rattle.vt_overlay.proofs.merge.climbing.way_down.Goals as goal

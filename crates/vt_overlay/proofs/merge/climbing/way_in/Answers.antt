@@ -1,5 +1,5 @@
 use Rattle.std.proofs.Common.{Some, ap, sym, ◌≡◌, ◌∙◌}
-use Rattle.vt_spec.specs.TreeInvariant.{led}
+use Rattle.vt_spec.proofs.Common.{led}
 use Rattle.vt_location.specs.declared.numbers.FilesystemId.{FilesystemId}
 use Rattle.vt_location.specs.Locations.{inode_of}
 use Rattle.vt_location.specs.Numbers.{exchanged}

@@ -1,5 +1,4 @@
-use Rattle.std.proofs.Common.{rules, ◌≡◌, ◌∙◌, ap, sym, None, Some, option_map}
-use Rattle.std.specs.Prelude.{option_copied}
+use Rattle.std.proofs.Common.{rules, ◌≡◌, ◌∙◌, ap, sym, None, Some, option_map, option_copied}
 use Rattle.vt_location.specs.Locations.{inode_of}
 use Rattle.vt_location.specs.Numbers.{exchanged}
 use Rattle.vt_fs.specs.Trees.TreeValue.{tree_of}

@@ -1,6 +1,5 @@
-use Rattle.std.proofs.Common.{◌∙◌, ap, sym}
-use Rattle.std.specs.Prelude.{option_copied}
-use Rattle.vt_spec.specs.TreeInvariant.{led}
+use Rattle.std.proofs.Common.{◌∙◌, ap, sym, option_copied}
+use Rattle.vt_spec.proofs.Common.{led}
 use Rattle.vt_location.specs.Locations.{inode_of}
 use Rattle.vt_fs.specs.FilesystemsValue.{files_at}
 use Rattle.vt_overlay.specs.Merge.LayerValue.{cut_on}

@@ -1,7 +1,5 @@
-use Rattle.std.proofs.Common.{rules, ◌≡◌, ◌∙◌, ◌+◌, ◌||◌, None, Some, ap, drop, false, sym, true}
-use Rattle.std.specs.Prelude.{option_copied}
-use Rattle.vt_spec.specs.Machine.Views.{hides}
-use Rattle.vt_spec.specs.TreeInvariant.{entry_at}
+use Rattle.std.proofs.Common.{rules, ◌≡◌, ◌∙◌, ◌+◌, ◌||◌, None, Some, ap, drop, false, sym, true, option_copied}
+use Rattle.vt_spec.proofs.Common.{entry_at, hides}
 use Rattle.vt_location.specs.declared.numbers.FilesystemId.{FilesystemId}
 use Rattle.vt_location.specs.Locations.{inode_of}
 use Rattle.vt_overlay.specs.Merge.LayerValue.{cut_on, tree_seen}

@@ -1,6 +1,5 @@
-use Rattle.std.proofs.Common.{◌≡◌, ◌||◌, drop}
-use Rattle.std.specs.Prelude.{option_copied}
-use Rattle.vt_spec.specs.TreeInvariant.{led}
+use Rattle.std.proofs.Common.{◌≡◌, ◌||◌, drop, option_copied}
+use Rattle.vt_spec.proofs.Common.{led}
 use Rattle.vt_location.specs.Locations.{inode_of}
 use Rattle.vt_overlay.specs.Merge.LayerValue.{cut_on, tree_seen}
 use Rattle.vt_overlay.proofs.merge.following.follow_in.Given as goal

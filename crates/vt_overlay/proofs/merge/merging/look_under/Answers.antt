@@ -1,4 +1,4 @@
-use Rattle.std.specs.Prelude.{option_copied}
+use Rattle.std.proofs.Common.{option_copied}
 use Rattle.vt_overlay.proofs.merge.EntriesFound.{directory_further}
 use Rattle.vt_overlay.proofs.merge.TreesLent.{nothing_found, object_found}
 use Rattle.vt_overlay.proofs.merge.merging.look_under.Goals as goal

@@ -1,6 +1,5 @@
-use Rattle.std.proofs.Common.{◌∙◌, ◌∷◌, ◌≤◌, [], All, ap, map, subst, sym, take}
-use Rattle.std.proofs.lemmas.List.{append-nil, take_all}
-use Rattle.vt_spec.specs.Machine.Layers.{shown, view_of}
+use Rattle.std.proofs.Common.{◌∙◌, ◌∷◌, ◌≤◌, [], All, ap, map, subst, sym, take, append-nil, take_all}
+use Rattle.vt_spec.proofs.Common.{shown, view_of}
 use Rattle.vt_laws_trees.specs.Layers.Layers.Directories.{shown_in}
 use Rattle.vt_laws_trees.proofs.layers.directories.Under.{placed_show_the_same}
 use Rattle.vt_overlay.specs.Merge.EntryValue.{IsMergedAt}

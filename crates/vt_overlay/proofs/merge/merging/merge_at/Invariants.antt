@@ -1,5 +1,5 @@
 use Rattle.std.proofs.Common.{◌≡◌, ◌≢◌, ◌++◌, [], All, List, take, ℕ}
-use Rattle.vt_spec.specs.Machine.Layers.{shown}
+use Rattle.vt_spec.proofs.Common.{shown}
 use Rattle.vt_laws_trees.specs.Layers.Layers.Directories.{shown_in}
 use Rattle.vt_overlay.specs.Merge.EntryValue.{IsMergedAt}
 use Rattle.vt_overlay.specs.Merge.LayerValue.{layers_of, placed_views}

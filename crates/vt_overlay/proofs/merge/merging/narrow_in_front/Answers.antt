@@ -1,5 +1,5 @@
 use Rattle.std.proofs.Common.{◌∙◌, ◌++◌, ◌∷◌, [], arith, refl, take}
-use Rattle.std.proofs.lemmas.List.Elements.{All-nil}
+use Rattle.vt_spec.proofs.Common.{All-nil}
 use Rattle.vt_overlay.specs.Merge.EntryValue.{IsMergedAt}
 use Rattle.vt_overlay.proofs.merge.Narrowed.{last_kept, led_kept, next_kept}
 use Rattle.vt_overlay.proofs.merge.UnderNames.{all_merged}

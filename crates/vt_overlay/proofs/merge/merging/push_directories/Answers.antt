@@ -1,5 +1,5 @@
 use Rattle.std.proofs.Common.{◌∙◌, [], All, arith, subst, sym}
-use Rattle.std.proofs.lemmas.List.Elements.{All-push}
+use Rattle.vt_spec.proofs.Common.{All-push}
 use Rattle.vt_overlay.specs.Merge.EntryValue.{IsMergedAt}
 use Rattle.vt_overlay.proofs.merge.Narrowed.{one_placed, own_merged}
 use Rattle.vt_overlay.proofs.merge.merging.push_directories.Goals as goal

@@ -1,6 +1,6 @@
 use Rattle.std.proofs.Common.{◌≡◌, ◌≤◌, ◌++◌, [], All, drop, map}
+use Rattle.vt_spec.proofs.Common.{view_of}
 use Rattle.arrayvec.specs.ArrayVec.{array_vec_len}
-use Rattle.vt_spec.specs.Machine.Layers.{view_of}
 use Rattle.vt_fs.specs.FilesystemsValue.{Filesystems}
 use Rattle.vt_laws_trees.specs.Layers.Layers.Directories.{placed, placed_from}
 use Rattle.vt_overlay.specs.Merge.EntryValue.{IsMergedAt}

@@ -1,7 +1,6 @@
 use Rattle.std.proofs.Common.{rules, Bool, Bor, Global, List, Vec, ◌≡◌, ◌∙◌, ◌&&◌, ◌||◌, ap, nat_eq, sym, take, ℕ}
+use Rattle.vt_spec.proofs.Common.{list_any, pointwise}
 use Rattle.std.proofs.lemmas.List.Folds.{list_any_more}
-use Rattle.std.specs.Cmp.Lexicographic.{pointwise}
-use Rattle.std.specs.List.{list_any}
 use Rattle.indexmap.specs.IndexSet.{insert_key}
 use Rattle.vt_overlay.specs.Merge.LayerValue.{is_white_under}
 use Rattle.vt_overlay.proofs.merge.NamesHad.{is_name}

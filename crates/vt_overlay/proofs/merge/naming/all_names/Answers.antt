@@ -1,7 +1,5 @@
-use Rattle.std.proofs.Common.{rules, ◌≡◌, ◌∙◌, ◌++◌, [], map, subst, sym}
-use Rattle.std.proofs.lemmas.List.{append-nil, at_drop_all}
-use Rattle.std.proofs.lemmas.List.Sorted.{IsPermutation-refl}
-use Rattle.std.specs.List.Sorted.{IsPermutation}
+use Rattle.std.proofs.Common.{rules, ◌≡◌, ◌∙◌, ◌++◌, [], map, subst, sym, append-nil, IsPermutation}
+use Rattle.vt_spec.proofs.Common.{IsPermutation-refl, at_drop_all}
 use Rattle.vt_overlay.specs.Merge.LayerValue.{names_had}
 use Rattle.vt_overlay.proofs.merge.NamesHad.{names_more}
 use Rattle.vt_overlay.proofs.merge.naming.all_names.Goals as goal

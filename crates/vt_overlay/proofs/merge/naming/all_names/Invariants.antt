@@ -1,5 +1,4 @@
-use Rattle.std.proofs.Common.{◌++◌, drop, map}
-use Rattle.std.specs.List.Sorted.{IsPermutation}
+use Rattle.std.proofs.Common.{◌++◌, drop, map, IsPermutation}
 use Rattle.vt_overlay.specs.Merge.LayerValue.{names_had}
 use Rattle.vt_overlay.proofs.merge.naming.all_names.Given as goal
 

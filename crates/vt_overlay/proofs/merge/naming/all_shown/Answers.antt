@@ -1,7 +1,5 @@
 use Rattle.std.proofs.Common.{rules, Bool, Global, List, Vec, ap, ◌∷◌, ◌||◌, [], is_some, not, ℕ}
-use Rattle.std.proofs.lemmas.Fn.{filter_same}
-use Rattle.std.proofs.lemmas.List.{nil_from_length}
-use Rattle.std.specs.List.{list_any}
+use Rattle.vt_spec.proofs.Common.{filter_same, list_any, nil_from_length}
 use Rattle.vt_laws_trees.specs.Layers.Layers.Directories.{shown_in}
 use Rattle.vt_overlay.specs.Merge.LayerValue.{placed_views}
 use Rattle.vt_overlay.proofs.merge.NamesHad.{is_name}

@@ -1,7 +1,5 @@
-use Rattle.std.proofs.Common.{◌∙◌, ap, sym}
-use Rattle.std.proofs.lemmas.List.{take_all}
-use Rattle.std.proofs.lemmas.List.Folds.{list_any_at}
-use Rattle.std.specs.List.{list_any}
+use Rattle.std.proofs.Common.{◌∙◌, ap, sym, take_all}
+use Rattle.vt_spec.proofs.Common.{list_any, list_any_at}
 use Rattle.vt_laws_trees.specs.Layers.Layers.Directories.{shown_in}
 use Rattle.vt_overlay.specs.Merge.LayerValue.{layers_of, placed_views}
 use Rattle.vt_overlay.proofs.merge.NamesThere.{has_names_if, has_none_if, shows_own}

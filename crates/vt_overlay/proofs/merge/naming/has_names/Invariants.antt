@@ -1,5 +1,5 @@
 use Rattle.std.proofs.Common.{◌≡◌, false, take}
-use Rattle.std.specs.List.{list_any}
+use Rattle.vt_spec.proofs.Common.{list_any}
 use Rattle.vt_overlay.proofs.merge.NamesThere.{shows_own}
 use Rattle.vt_overlay.proofs.merge.naming.has_names.Given as goal
 

@@ -1,6 +1,5 @@
-use Rattle.std.proofs.Common.{rules, Some, ◌≡◌, ◌∙◌, ap, map, subst, sym}
-use Rattle.std.specs.List.Sorted.{IsPermutation}
-use Rattle.vt_spec.specs.Tree.{names_in}
+use Rattle.std.proofs.Common.{rules, Some, ◌≡◌, ◌∙◌, ap, map, subst, sym, IsPermutation}
+use Rattle.vt_spec.proofs.Common.{names_in}
 use Rattle.vt_location.specs.Locations.{inode_of}
 use Rattle.vt_fs.specs.FilesystemsValue.{files_at, node_seen}
 use Rattle.vt_overlay.proofs.merge.NamesHad.{names_seen}

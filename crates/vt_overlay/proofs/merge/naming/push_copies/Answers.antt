@@ -1,5 +1,5 @@
-use Rattle.std.proofs.Common.{rules, Global, List, Vec, ◌≡◌, ◌∙◌, ◌++◌, ◌∷◌, [], ap, append_assoc, get_or, map, sym, take, ℕ}
-use Rattle.std.proofs.lemmas.List.{append-nil, map-append, take_all, take_more}
+use Rattle.std.proofs.Common.{rules, Global, List, Vec, ◌≡◌, ◌∙◌, ◌++◌, ◌∷◌, [], ap, append_assoc, get_or, map, sym, take, ℕ, append-nil, take_all}
+use Rattle.vt_spec.proofs.Common.{map-append, take_more}
 use Rattle.vt_overlay.proofs.merge.naming.push_copies.Goals as goal
 
 abbrev bytes : List (Vec ℕ Global) → List (List ℕ)

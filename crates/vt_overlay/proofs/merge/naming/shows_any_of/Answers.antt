@@ -1,5 +1,5 @@
 use Rattle.std.proofs.Common.{Bool, Global, List, Vec, ◌∙◌, ◌∷◌, [], is_some, sym, ℕ}
-use Rattle.std.proofs.lemmas.List.Sorted.{list_any-IsPermutation}
+use Rattle.vt_spec.proofs.Common.{list_any-IsPermutation}
 use Rattle.vt_laws_trees.specs.Layers.Layers.Directories.{shown_in}
 use Rattle.vt_laws_trees.proofs.layers.layers.ShownFronts.{list_any_of_map}
 use Rattle.vt_overlay.specs.Merge.LayerValue.{placed_views}

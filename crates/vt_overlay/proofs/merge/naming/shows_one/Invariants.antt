@@ -1,5 +1,5 @@
 use Rattle.std.proofs.Common.{◌≡◌, ◌∷◌, [], false, is_some, take}
-use Rattle.std.specs.List.{list_any}
+use Rattle.vt_spec.proofs.Common.{list_any}
 use Rattle.vt_laws_trees.specs.Layers.Layers.Directories.{shown_in}
 use Rattle.vt_overlay.specs.Merge.LayerValue.{placed_views}
 use Rattle.vt_overlay.proofs.merge.naming.shows_one.Given as goal

@@ -1,6 +1,5 @@
-use Rattle.std.proofs.Common.{rules, ◌∙◌, ap}
-use Rattle.std.proofs.lemmas.List.{take_all}
-use Rattle.std.specs.List.{list_any}
+use Rattle.std.proofs.Common.{rules, ◌∙◌, ap, take_all}
+use Rattle.vt_spec.proofs.Common.{list_any}
 use Rattle.vt_overlay.specs.Merge.LayerValue.{is_white_under}
 use Rattle.vt_overlay.proofs.merge.NamesHad.{is_name}
 use Rattle.vt_overlay.proofs.merge.NamesShown.{whites_more}

@@ -1,5 +1,5 @@
 use Rattle.std.proofs.Common.{List, ◌≡◌, take, ℕ}
-use Rattle.std.specs.List.{list_any}
+use Rattle.vt_spec.proofs.Common.{list_any}
 use Rattle.vt_overlay.specs.Merge.LayerValue.{is_white_under}
 use Rattle.vt_overlay.proofs.merge.NamesHad.{is_name}
 use Rattle.vt_overlay.proofs.merge.naming.whiteouts_of.Given as goal

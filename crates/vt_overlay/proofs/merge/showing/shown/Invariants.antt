@@ -1,6 +1,5 @@
 use Rattle.std.proofs.Common.{◌≡◌, drop, map}
-use Rattle.vt_spec.specs.Machine.Layers.{view_of}
-use Rattle.vt_spec.specs.Machine.Views.{shown_from}
+use Rattle.vt_spec.proofs.Common.{shown_from, view_of}
 use Rattle.vt_overlay.specs.Merge.LayerValue.{layers_of}
 use Rattle.vt_overlay.proofs.merge.showing.shown.Given as goal
 

@@ -1,9 +1,6 @@
-use Rattle.std.proofs.Common.{◌≡◌, ◌∙◌, ◌++◌, ◌∷◌, ◌≤◌, ℕ, [], Bool, List, Some, ap, arith, drop, false, length, not, suc, sym, true, true≢false, zero, slice_get}
-use Rattle.std.proofs.lemmas.List.{take-append-drop, take_all, take_more_same}
-use Rattle.std.proofs.lemmas.Option.{get_or_from_slice_get, same_Some, slice_get_within}
-use Rattle.std.specs.Cmp.Lexicographic.{bytes_decides}
-use Rattle.std.specs.Str.{bytes_eq}
-use Rattle.vt_spec.proofs.Options.{none_is_some}
+use Rattle.std.proofs.Common.{◌≡◌, ◌∙◌, ◌++◌, ◌∷◌, ◌≤◌, ℕ, [], Bool, List, Some, ap, arith, drop, false, length, not, suc, sym, true, true≢false, zero, slice_get, take-append-drop, take_all, bytes_eq}
+use Rattle.vt_spec.proofs.Common.{bytes_decides, get_or_from_slice_get, none_is_some, same_Some, slice_get_within}
+use Rattle.std.proofs.lemmas.List.{take_more_same}
 use Rattle.vt_overlay.proofs.merge.ways.starts_with.Goals as goal
 
 found_in_front : (front rest : List (List ℕ)) (n : ℕ) (name : List ℕ) → slice_get front n ≡ Some name

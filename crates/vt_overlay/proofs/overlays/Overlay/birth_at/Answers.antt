@@ -1,9 +1,5 @@
-use Rattle.std.proofs.Common.{None, Some, ap, arith, option_map, rules, sym, ◌≡◌, ◌≢◌, ◌≤◌, ◌-◌, ◌∙◌, [], length, slice_get}
-use Rattle.std.proofs.lemmas.Option.{same_Some, slice_get_within}
-use Rattle.std.specs.Prelude.{if◌then◌else◌}
-use Rattle.vt_spec.specs.Lists.{last_or, without_last}
-use Rattle.vt_spec.specs.Machine.Layers.{at_path}
-use Rattle.vt_spec.specs.Tree.{entries_in, is_directory_node}
+use Rattle.std.proofs.Common.{None, Some, ap, arith, option_map, rules, sym, ◌≡◌, ◌≢◌, ◌≤◌, ◌-◌, ◌∙◌, [], length, slice_get, if◌then◌else◌}
+use Rattle.vt_spec.proofs.Common.{at_path, entries_in, is_directory_node, last_or, same_Some, slice_get_within, without_last}
 use Rattle.vt_location.specs.declared.numbers.FilesystemId.{FilesystemId}
 use Rattle.vt_location.specs.Locations.{inode_of}
 use Rattle.vt_location.specs.Numbers.{exchanged}

@@ -1,6 +1,5 @@
 use Rattle.std.proofs.Common.{Some, ap, option_map, sym, ◌≡◌, ◌∙◌}
-use Rattle.vt_spec.specs.Lists.{then_some}
-use Rattle.vt_spec.specs.Machine.Layers.{shown}
+use Rattle.vt_spec.proofs.Common.{shown, then_some}
 use Rattle.vt_location.specs.Locations.{number_of}
 use Rattle.vt_overlay.specs.Merge.LayerValue.{layers_of, seen_of}
 use Rattle.vt_overlay.proofs.EntriesShown.{is_at_path, leads_to}

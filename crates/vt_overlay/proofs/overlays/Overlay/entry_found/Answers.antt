@@ -1,7 +1,6 @@
-use Rattle.std.proofs.Common.{Some, ap, option_map, sym, true≢false, ◌≡◌, ◌∙◌}
-use Rattle.std.specs.Prelude.{is_some, option_copied}
+use Rattle.std.proofs.Common.{Some, ap, option_map, sym, true≢false, ◌≡◌, ◌∙◌, is_some, option_copied}
+use Rattle.vt_spec.proofs.Common.{is_kind_in}
 use Rattle.vt_spec.specs.declared.attributes.Kind.TheVariants.{White}
-use Rattle.vt_spec.specs.FileTree.{is_kind_in}
 use Rattle.vt_location.specs.Locations.{number_of}
 use Rattle.vt_fs.specs.FilesystemsValue.{node_seen}
 use Rattle.vt_overlay.specs.Alike.{real_lent}

@@ -1,7 +1,5 @@
-use Rattle.std.proofs.Common.{◌++◌, ◌∷◌, [], ap, length, subst, sym, ◌≡◌, ◌≤◌, ◌<◌, ◌∙◌}
-use Rattle.std.specs.Prelude.{IfSome}
-use Rattle.vt_spec.proofs.Options.{none_is_some}
-use Rattle.vt_spec.specs.Machine.Layers.{shown}
+use Rattle.std.proofs.Common.{◌++◌, ◌∷◌, [], ap, length, subst, sym, ◌≡◌, ◌≤◌, ◌<◌, ◌∙◌, IfSome}
+use Rattle.vt_spec.proofs.Common.{none_is_some, shown}
 use Rattle.vt_overlay.specs.Merge.EntryValue.{IsFirstEntry}
 use Rattle.vt_overlay.specs.Merge.LayerValue.{layers_of}
 use Rattle.vt_overlay.specs.declared.merge.layers.MergedDirectory.{MergedDirectory}

@@ -1,5 +1,4 @@
-use Rattle.std.proofs.Common.{ap, option_map, sym, ◌∙◌}
-use Rattle.std.specs.Prelude.{option_copied}
+use Rattle.std.proofs.Common.{ap, option_map, sym, ◌∙◌, option_copied}
 use Rattle.vt_location.specs.Locations.{number_of}
 use Rattle.vt_overlay.specs.Merge.LayerValue.{seen_of}
 use Rattle.vt_overlay.specs.Alike.{front}

@@ -1,6 +1,5 @@
 use Rattle.std.proofs.Common.{ap, not, sym, ◌≡◌, ◌∙◌}
-use Rattle.vt_spec.specs.Lists.{is_empty_list}
-use Rattle.vt_spec.specs.Machine.Layers.{names_shown}
+use Rattle.vt_spec.proofs.Common.{is_empty_list, names_shown}
 use Rattle.vt_overlay.specs.Merge.LayerValue.{layers_of}
 use Rattle.vt_location.specs.Locations.{number_of}
 use Rattle.vt_overlay.specs.MergedTree.{OverlayValue, merged_tree}

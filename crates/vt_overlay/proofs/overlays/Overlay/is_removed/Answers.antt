@@ -1,5 +1,5 @@
 use Rattle.std.proofs.Common.{rules, List, None, Option, Some, is_none, sym, ◌≡◌, ◌∙◌, nat_eq, ℕ}
-use Rattle.vt_spec.specs.FileTree.{is_removed}
+use Rattle.vt_spec.proofs.Common.{is_removed}
 use Rattle.vt_location.specs.Locations.{number_of}
 use Rattle.vt_overlay.specs.MergedTree.{directory_path, merged_tree}
 use Rattle.vt_overlay.proofs.DirectoriesUnder.{not_removed, removed, some_number}

@@ -1,6 +1,5 @@
 use Rattle.std.proofs.Common.{ap, map, sym, ◌≡◌, ◌∙◌}
-use Rattle.std.proofs.lemmas.Result.{IfOk-weaker}
-use Rattle.vt_spec.specs.Machine.Layers.{names_shown}
+use Rattle.vt_spec.proofs.Common.{IfOk-weaker, names_shown}
 use Rattle.vt_overlay.specs.Merge.LayerValue.{layers_of}
 use Rattle.vt_location.specs.Locations.{number_of}
 use Rattle.vt_overlay.specs.MergedTree.{OverlayValue}

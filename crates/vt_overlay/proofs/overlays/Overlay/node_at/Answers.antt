@@ -1,7 +1,5 @@
 use Rattle.std.proofs.Common.{None, Some, ap, option_map, sym, ◌≡◌, ◌∙◌, slice_get}
-use Rattle.std.proofs.lemmas.Option.{same_Some}
-use Rattle.vt_spec.proofs.Options.{none_is_some}
-use Rattle.vt_spec.specs.Machine.Layers.{shown}
+use Rattle.vt_spec.proofs.Common.{none_is_some, same_Some, shown}
 use Rattle.vt_location.specs.declared.locations.NodeRef.{NodeRef}
 use Rattle.vt_location.specs.declared.numbers.FilesystemId.{FilesystemId}
 use Rattle.vt_location.specs.Locations.{inode_of, number_of}

@@ -1,9 +1,5 @@
-use Rattle.std.proofs.Common.{None, Some, ap, arith, option_map, rules, subst, sym, ℕ, ◌≡◌, ◌≢◌, ◌++◌, ◌∷◌, ◌∙◌, [], slice_get}
-use Rattle.std.proofs.lemmas.Option.{same_Some}
-use Rattle.std.specs.Prelude.{option_copied}
-use Rattle.vt_spec.proofs.Options.{none_is_some}
-use Rattle.vt_spec.specs.Machine.Layers.{Shown, shown}
-use Rattle.vt_spec.specs.TreeInvariant.{IsDirectory, led}
+use Rattle.std.proofs.Common.{None, Some, ap, arith, option_map, rules, subst, sym, ℕ, ◌≡◌, ◌≢◌, ◌++◌, ◌∷◌, ◌∙◌, [], slice_get, option_copied}
+use Rattle.vt_spec.proofs.Common.{IsDirectory, Shown, led, none_is_some, same_Some, shown}
 use Rattle.vt_location.specs.declared.locations.InodeRef.{InodeRef}
 use Rattle.vt_location.specs.declared.locations.NodeRef.{NodeRef}
 use Rattle.vt_location.specs.Locations.{inode_of, number_of}

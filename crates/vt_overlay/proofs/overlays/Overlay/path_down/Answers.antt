@@ -1,5 +1,5 @@
 use Rattle.std.proofs.Common.{rules, ◌≡◌, ◌∙◌, Some, ap, drop, false, length, map, sym, true}
-use Rattle.std.proofs.Math.Seq.{drop-append_seam}
+use Rattle.vt_spec.proofs.Common.{drop-append_seam}
 use Rattle.vt_location.specs.Locations.{number_of}
 use Rattle.vt_overlay.specs.MergedTree.{directory_path}
 use Rattle.vt_overlay.proofs.DirectoriesUnder.{under_by_ways, under_no_directory, under_no_top}

@@ -1,5 +1,4 @@
-use Rattle.std.proofs.Common.{ap, option_map, subst, sym, ◌≡◌, ◌∙◌, slice_get}
-use Rattle.std.specs.Prelude.{IsSome}
+use Rattle.std.proofs.Common.{ap, option_map, subst, sym, ◌≡◌, ◌∙◌, slice_get, IsSome}
 use Rattle.vt_location.proofs.NodeLemmas.{small_parts}
 use Rattle.vt_location.specs.Births.{IsSmallBirth}
 use Rattle.vt_location.specs.Locations.{number_of}

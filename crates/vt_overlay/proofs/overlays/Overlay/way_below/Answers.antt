@@ -1,6 +1,5 @@
-use Rattle.std.proofs.Common.{None, Some, ap, arith, rules, subst, sym, ◌≡◌, ◌≢◌, ◌∙◌, length}
-use Rattle.std.specs.Prelude.{slice_get}
-use Rattle.vt_spec.specs.TreeInvariant.{IsDirectory, led}
+use Rattle.std.proofs.Common.{None, Some, ap, arith, rules, subst, sym, ◌≡◌, ◌≢◌, ◌∙◌, length, slice_get}
+use Rattle.vt_spec.proofs.Common.{IsDirectory, led}
 use Rattle.vt_overlay.proofs.BirthsFound.{Birthplace, files, inode_number_is, is_shown, its_parent, no_inode, no_layer, no_names, no_way, not_its_parent, object, other_rank, shown_elsewhere, some_names, start, way_of_root}
 use Rattle.vt_overlay.proofs.overlays.Overlay.way_below.Goals as goal
 

@@ -1,5 +1,4 @@
-use Rattle.std.proofs.Common.{Some, arith, rules, sym, ◌<◌, ◌≡◌, ◌≢◌, ◌∙◌}
-use Rattle.std.specs.Prelude.{slice_get}
+use Rattle.std.proofs.Common.{Some, arith, rules, sym, ◌<◌, ◌≡◌, ◌≢◌, ◌∙◌, slice_get}
 use Rattle.vt_overlay.proofs.RootFound.{no_top, other_slot, way_result}
 use Rattle.vt_overlay.proofs.overlays.Overlay.way_to_root.Goals as goal
 

@@ -1,6 +1,5 @@
-use Rattle.std.proofs.Common.{◌≡◌, ◌++◌, drop, flat_map, map}
+use Rattle.std.proofs.Common.{◌≡◌, ◌++◌, drop, flat_map, map, ℕ}
 use Rattle.vt_spec.specs.Machine.Mounts as meant
-use Rattle.std.proofs.Common.{ℕ}
 use Rattle.vt_location.specs.MountValue.{mount_of}
 use Rattle.vt_propagate.specs.Copying.{as_kept, copied, parts_seen, tree_seen}
 use Rattle.vt_propagate.proofs.numbering.Copying.all_copies.Given as goal

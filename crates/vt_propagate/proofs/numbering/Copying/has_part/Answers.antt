@@ -1,5 +1,5 @@
 use Rattle.std.proofs.Common.{ap, is_some, nat_eq, ◌∙◌}
-use Rattle.vt_spec.specs.Machine.Receives.{is_member_of}
+use Rattle.vt_spec.proofs.Common.{is_member_of}
 use Rattle.vt_location.specs.Numbers.{counted}
 use Rattle.vt_propagate.specs.Copying.{parts_seen}
 use Rattle.vt_propagate.proofs.Places.{is_some-place}

@@ -1,5 +1,5 @@
 use Rattle.std.proofs.Common.{◌≡◌, ◌∙◌, ◌+◌, ◌-◌, suc, arith, nat_eq, sym}
-use Rattle.vt_spec.specs.Machine.Receives.{has_members}
+use Rattle.vt_spec.proofs.Common.{has_members}
 use Rattle.vt_group.specs.Grouping.{master_in}
 use Rattle.vt_propagate.specs.Copying.{parts_seen}
 use Rattle.vt_location.specs.Numbers.{counted}

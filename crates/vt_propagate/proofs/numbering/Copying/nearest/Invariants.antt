@@ -1,6 +1,5 @@
 use Rattle.std.proofs.Common.{◌≡◌, ◌-◌, find, nat_eq}
-use Rattle.vt_spec.specs.Lists.{chain}
-use Rattle.vt_spec.specs.Machine.Receives.{has_members}
+use Rattle.vt_spec.proofs.Common.{chain, has_members}
 use Rattle.vt_group.specs.Grouping.{master_in}
 use Rattle.vt_propagate.specs.Copying.{parts_seen}
 use Rattle.vt_location.specs.Numbers.{counted}

@@ -1,5 +1,4 @@
-use Rattle.std.proofs.Common.{ap, ◌∙◌}
-use Rattle.std.specs.Prelude.{unwrap_or}
+use Rattle.std.proofs.Common.{ap, ◌∙◌, unwrap_or}
 use Rattle.vt_propagate.proofs.Places.{place_within}
 use Rattle.vt_propagate.proofs.numbering.Copying.part_index.Goals as goal
 

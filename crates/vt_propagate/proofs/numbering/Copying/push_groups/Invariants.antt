@@ -1,5 +1,4 @@
-use Rattle.std.proofs.Common.{◌≡◌, ◌++◌, drop, map}
-use Rattle.std.specs.Prelude.{filter_map}
+use Rattle.std.proofs.Common.{◌≡◌, ◌++◌, drop, map, filter_map}
 use Rattle.vt_location.specs.MountValue.{mount_of}
 use Rattle.vt_propagate.specs.Copying.{as_kept, made, new_group, tree_seen}
 use Rattle.vt_propagate.proofs.numbering.Copying.push_groups.Given as goal

@@ -1,5 +1,5 @@
 use Rattle.std.proofs.Common.{refl}
-use Rattle.std.proofs.lemmas.Result.{err_from_is_err_and}
+use Rattle.vt_spec.proofs.Common.{err_from_is_err_and}
 use Rattle.vt_script.proofs.SessionLemmas.{fed_line, broke_line}
 use Rattle.vt_script.proofs.session.Session.end_line.Goals as goal
 

@@ -1,5 +1,5 @@
 use Rattle.std.proofs.Common.{ap, [], ℕ}
-use Rattle.vt_spec.specs.Machine.World.{World}
+use Rattle.vt_spec.proofs.Common.{World}
 use Rattle.vt_line.specs.Versions.{version_of}
 use Rattle.vt_answers.proofs.SpareNumbers.{numbers_opened}
 use Rattle.vt_script.specs.Progress.{Moment}

@@ -1,5 +1,5 @@
-use Rattle.std.proofs.Common.{ap, arith, length, subst, sym, take, ◌+◌, ◌++◌, ◌-◌, ◌∙◌, ◌∷◌, ◌≡◌, [], append-nil, append_assoc, get_or}
-use Rattle.std.proofs.lemmas.List.{take_more, take_all}
+use Rattle.std.proofs.Common.{ap, arith, length, subst, sym, take, ◌+◌, ◌++◌, ◌-◌, ◌∙◌, ◌∷◌, ◌≡◌, [], append-nil, append_assoc, get_or, take_all}
+use Rattle.vt_spec.proofs.Common.{take_more}
 use Rattle.vt_store.specs.LayersAt.{AreCounted, HasRoomForLayers}
 use Rattle.vt_store.specs.LayerTests.{layer_at}
 use Rattle.vt_store.proofs.LayersTallied.{room_for_fewer}

@@ -1,7 +1,5 @@
 use Rattle.std.proofs.Common.{arith, ap, false, nat_eq, sym, true, ◌-◌, ◌<◌, ◌∙◌, ◌≡◌}
-use Rattle.std.specs.List.{list_any}
-use Rattle.vt_spec.specs.Lists.{chain}
-use Rattle.vt_spec.specs.Inodes.{parent_above}
+use Rattle.vt_spec.proofs.Common.{chain, list_any, parent_above}
 use Rattle.vt_fs.specs.Trees.TreeValue.{inodes_of}
 use Rattle.vt_store.proofs.LayersAbove.{passes_above, passes_first, passes_root}
 use Rattle.vt_store.proofs.layer_counts.LayerCounts.has_above.Invariants.{is_at}

@@ -1,8 +1,7 @@
 use Rattle.std.proofs.Common.{Bool, nat_eq, ℕ, ◌≡◌}
-use Rattle.std.specs.List.{list_any}
+use Rattle.vt_spec.proofs.Common.{chain, list_any, parent_above}
 use Rattle.vt_location.specs.declared.numbers.FilesystemId.{FilesystemId}
-use Rattle.vt_spec.specs.Inodes.{ancestors, parent_above}
-use Rattle.vt_spec.specs.Lists.{chain}
+use Rattle.vt_spec.specs.Inodes.{ancestors}
 use Rattle.vt_store.specs.LayersAt.{has_layer_at}
 use Rattle.vt_store.specs.declared.layer_counts.LayerCounts.{LayerCounts}
 use Rattle.vt_fs.specs.Trees.TreeValue.{inodes_of}

@@ -1,5 +1,5 @@
 use Rattle.std.proofs.Common.{arith, drop, subst, ◌+◌, ◌++◌}
-use Rattle.std.proofs.lemmas.List.{drop_all, drop_more}
+use Rattle.vt_spec.proofs.Common.{drop_all, drop_more}
 use Rattle.vt_store.specs.LayersAt.{AreCounted}
 use Rattle.vt_store.specs.LayerTests.{layer_at}
 use Rattle.vt_store.proofs.layer_counts.LayerCounts.take.Goals as goal

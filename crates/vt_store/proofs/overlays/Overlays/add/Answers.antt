@@ -1,6 +1,5 @@
-use Rattle.std.proofs.Common.{Err, Ok, Result, [], ap, arith, nat_lt, subst, sym, ◌++◌, ◌<◌, ◌∙◌, ◌∷◌}
-use Rattle.std.specs.List.{list_all}
-use Rattle.std.specs.Prelude.{IsOk, OnOk}
+use Rattle.std.proofs.Common.{Err, Ok, Result, [], ap, arith, nat_lt, subst, sym, ◌++◌, ◌<◌, ◌∙◌, ◌∷◌, IsOk, OnOk}
+use Rattle.vt_spec.proofs.Common.{list_all}
 use Rattle.indexmap.specs.IndexMap.{spare}
 use Rattle.vt_overlay.specs.MergedTree.{OverlayValue}
 use Rattle.vt_store.proofs.KeptOverlays.{added}

@@ -1,5 +1,5 @@
 use Rattle.std.proofs.Common.{ap, ◌∙◌}
-use Rattle.std.specs.List.{list_any}
+use Rattle.vt_spec.proofs.Common.{list_any}
 use Rattle.vt_store.proofs.LayersOver.{layers_in}
 use Rattle.vt_store.proofs.overlays.Overlays.have_layer_in.Goals as goal
 use Rattle.vt_store.specs.Locks.{overlay_stands_in}

@@ -1,8 +1,7 @@
 use Rattle.std.proofs.Common.{None, Option, Some, ap, arith, nat_eq, option_copied, option_map, refl, sym, ◌<◌, ◌∙◌, ◌≡◌}
-use Rattle.std.specs.List.{list_any}
+use Rattle.vt_spec.proofs.Common.{list_any, none_is_some}
 use Rattle.vt_fs.specs.FilesystemsValue.{FilesystemEntry, entry_of}
 use Rattle.vt_location.specs.Locations.{inode_of}
-use Rattle.vt_spec.proofs.Options.{none_is_some}
 use Rattle.vt_spec.specs.Inodes.{ancestors}
 use Rattle.vt_store.proofs.LayersOver.{layers_above, layers_alone}
 use Rattle.vt_store.proofs.overlays.Overlays.have_layer_over.Goals as goal

@@ -1,5 +1,5 @@
 use Rattle.std.proofs.Common.{◌-◌, ap, refl, subst, sym, ◌∙◌}
-use Rattle.std.specs.Option.{option_copied_mut}
+use Rattle.vt_spec.proofs.Common.{option_copied_mut}
 use Rattle.vt_store.specs.OverlaysValue.{AreKept, kept_overlays}
 use Rattle.vt_store.proofs.KeptOverlays.{writes, writes_none}
 use Rattle.vt_store.proofs.LayersKept.{kept_written}

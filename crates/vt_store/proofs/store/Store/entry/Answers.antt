@@ -1,5 +1,5 @@
 use Rattle.std.proofs.Common.{ap, ◌∙◌}
-use Rattle.vt_spec.specs.Tree.{entries_in, entry_named}
+use Rattle.vt_spec.proofs.Common.{entries_in, entry_named}
 use Rattle.vt_location.specs.Locations.{number_of}
 use Rattle.vt_store.specs.OverlaysValue.{overlay_of}
 use Rattle.vt_store.specs.StoreValue.{StoreValue, lent_in}

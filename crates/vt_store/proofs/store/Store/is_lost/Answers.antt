@@ -1,5 +1,5 @@
 use Rattle.std.proofs.Common.{ap, nat_eq, not, option_copied, subst, sym, ℕ, ◌||◌, ◌∙◌}
-use Rattle.vt_spec.specs.FileTree.{FileTree, is_directory_under, is_removed}
+use Rattle.vt_spec.proofs.Common.{FileTree, is_directory_under, is_removed}
 use Rattle.vt_location.specs.Locations.{number_of}
 use Rattle.vt_fs.specs.Laws.{LieUnderRoot, ParentsAreNamed, is_lost_under}
 use Rattle.vt_store.specs.StoreValue.{StoreValue, files_in}

@@ -1,6 +1,5 @@
 use Rattle.std.proofs.Common.{ap, option_copied, sym, ◌∙◌, not}
-use Rattle.vt_spec.specs.Lists.{is_empty_list}
-use Rattle.vt_spec.specs.Tree.{entries_in}
+use Rattle.vt_spec.proofs.Common.{entries_in, is_empty_list}
 use Rattle.vt_location.specs.Locations.{number_of}
 use Rattle.vt_store.specs.StoreValue.{StoreValue}
 use Rattle.vt_store.proofs.Lending.{empty-seen}

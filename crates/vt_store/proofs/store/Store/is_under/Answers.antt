@@ -1,5 +1,5 @@
 use Rattle.std.proofs.Common.{ap, option_copied, subst, sym, ℕ, ◌∙◌, nat_eq}
-use Rattle.vt_spec.specs.FileTree.{FileTree, is_directory_under}
+use Rattle.vt_spec.proofs.Common.{FileTree, is_directory_under}
 use Rattle.vt_location.specs.Locations.{number_of}
 use Rattle.vt_fs.specs.Laws.{ParentsAreNamed}
 use Rattle.vt_store.specs.StoreValue.{StoreValue}

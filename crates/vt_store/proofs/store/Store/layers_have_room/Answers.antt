@@ -1,5 +1,4 @@
-use Rattle.std.proofs.Common.{ap, length, subst, true, ◌≡◌}
-use Rattle.std.specs.Prelude.{◌↔◌}
+use Rattle.std.proofs.Common.{ap, length, subst, true, ◌≡◌, ◌↔◌}
 use Rattle.vt_fs.specs.FilesystemsValue.{Filesystems, shown}
 use Rattle.vt_store.specs.LayersHeld.{HaveRoomFor}
 use Rattle.vt_store.specs.StoreValue.{StoreValue}

@@ -1,5 +1,5 @@
 use Rattle.std.proofs.Common.{IfOk, ap, map, option_copied, subst, sym, ◌≡◌, ◌∙◌}
-use Rattle.vt_spec.specs.Tree.{entries_in, names_in}
+use Rattle.vt_spec.proofs.Common.{entries_in, names_in}
 use Rattle.vt_location.specs.Locations.{number_of}
 use Rattle.vt_store.specs.StoreValue.{StoreValue}
 use Rattle.vt_store.proofs.Looked.{over_few, over_layers, over_node, plain_node}

@@ -1,5 +1,4 @@
-use Rattle.std.proofs.Common.{None, Option, Some, ap, option_copied, option_map, refl, sym, true≢false, ◌∙◌, ◌≡◌}
-use Rattle.std.specs.Prelude.{IsSome}
+use Rattle.std.proofs.Common.{None, Option, Some, ap, option_copied, option_map, refl, sym, true≢false, ◌∙◌, ◌≡◌, IsSome}
 use Rattle.vt_location.specs.Locations.{number_of}
 use Rattle.vt_fs.specs.FilesystemsValue.{node_seen}
 use Rattle.vt_overlay.proofs.EntriesShown.{lent_is_shown}

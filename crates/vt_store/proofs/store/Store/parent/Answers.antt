@@ -1,6 +1,5 @@
 use Rattle.std.proofs.Common.{ap, option_copied, option_map, sym, ◌∙◌}
-use Rattle.vt_spec.specs.Lists.{when}
-use Rattle.vt_spec.specs.Tree.{is_directory_node, parent_in}
+use Rattle.vt_spec.proofs.Common.{is_directory_node, parent_in, when}
 use Rattle.vt_location.specs.Locations.{number_of}
 use Rattle.vt_store.specs.StoreValue.{StoreValue, files_in}
 use Rattle.vt_store.proofs.Looked.{no_directory, over_few, over_layers, over_node, plain_node, when_is}

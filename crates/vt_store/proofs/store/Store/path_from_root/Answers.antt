@@ -1,6 +1,5 @@
-use Rattle.std.proofs.Common.{IfOk, ap, map, nat_eq, option_copied, option_map, refl, subst, sym, ℕ, ◌≡◌, ◌∙◌}
-use Rattle.std.specs.Prelude.{IfSome}
-use Rattle.vt_spec.specs.FileTree.{FileTree, path_down}
+use Rattle.std.proofs.Common.{IfOk, ap, map, nat_eq, option_copied, option_map, refl, subst, sym, ℕ, ◌≡◌, ◌∙◌, IfSome}
+use Rattle.vt_spec.proofs.Common.{FileTree, path_down}
 use Rattle.vt_location.specs.Locations.{number_of}
 use Rattle.vt_fs.specs.Trees.Paths.{NamesDirectoriesOnce}
 use Rattle.vt_overlay.specs.MergedTree.{merged_files, merged_tree}

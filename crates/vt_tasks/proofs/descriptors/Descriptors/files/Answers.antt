@@ -1,9 +1,9 @@
-use Rattle.vt_location.specs.Locations.{location_of}
 use Rattle.std.proofs.Common.{ap, ◌∙◌, map}
+use Rattle.vt_spec.proofs.Common.{opens_for_writing}
+use Rattle.vt_location.specs.Locations.{location_of}
 use Rattle.vt_request.specs.Requests.{access_of}
 use Rattle.vt_tasks.proofs.OpenLemmas.{files-opened, writes-opened}
 use Rattle.vt_tasks.proofs.descriptors.Descriptors.files.Goals as goal
-use Rattle.vt_spec.specs.Language.Calls.{opens_for_writing}
 
 pub returns-clause-locations : goal.returns-clause-locations
 returns-clause-locations c = ap (map (λ held. location_of held.location)) (c.as_slice.ensures ∙ c.values.ensures.rest)

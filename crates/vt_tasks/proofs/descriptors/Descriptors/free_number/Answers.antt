@@ -1,5 +1,5 @@
 use Rattle.std.proofs.Common.{◌+◌, ap, sym, ◌∙◌, cond, ne_eqb}
-use Rattle.vt_spec.specs.Machine.Descriptors.{free_from}
+use Rattle.vt_spec.proofs.Common.{free_from}
 use Rattle.vt_tasks.proofs.OpenLemmas.{free_in, free_in-keys}
 use Rattle.vt_tasks.proofs.descriptors.Descriptors.free_number.Goals as goal
 

@@ -1,5 +1,4 @@
-use Rattle.std.proofs.Common.{ap, ◌∙◌, nat_eq, option_map}
-use Rattle.std.specs.Prelude.{find}
+use Rattle.std.proofs.Common.{ap, ◌∙◌, nat_eq, option_map, find}
 use Rattle.vt_tasks.specs.Open.{numbered}
 use Rattle.vt_tasks.proofs.OpenLemmas.{find-opened}
 use Rattle.vt_tasks.proofs.descriptors.Descriptors.get.Goals as goal

@@ -1,5 +1,5 @@
 use Rattle.std.proofs.Common.{◌≡◌, ◌≤◌, ap, sym, ◌∙◌, length, arith}
-use Rattle.vt_spec.specs.Machine.Descriptors.{free_from, inserted}
+use Rattle.vt_spec.proofs.Common.{free_from, inserted}
 use Rattle.vt_tasks.specs.Open.{are_ascending, numbered}
 use Rattle.vt_tasks.proofs.OpenLemmas.{ascending-inserted, entries-inserted, length-opened, lookup-free, opened, opened-inserted}
 use Rattle.vt_tasks.proofs.descriptors.Descriptors.insert.Goals as goal

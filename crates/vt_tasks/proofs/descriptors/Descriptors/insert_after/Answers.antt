@@ -1,6 +1,5 @@
 use Rattle.std.proofs.Common.{IfOk, IsOk, OnOk, ap, arith, false, inr, is_err, length, refl, sym, true, true≢false, Err, Ok, Result, ◌∙◌, ◌≡◌, ◌≤◌}
-use Rattle.std.proofs.lemmas.Result.{err_from_is_err_and}
-use Rattle.vt_spec.specs.Machine.Descriptors.{free_from, inserted}
+use Rattle.vt_spec.proofs.Common.{err_from_is_err_and, free_from, inserted}
 use Rattle.vt_tasks.specs.Open.{are_ascending, numbered}
 use Rattle.vt_tasks.proofs.OpenLemmas.{ascending-inserted, entries-inserted, length-opened, lookup-free, opened, opened-inserted}
 use Rattle.vt_tasks.proofs.descriptors.Descriptors.insert_after.Goals as goal

@@ -1,5 +1,4 @@
-use Rattle.std.proofs.Common.{ap, ◌∙◌, nat_eq, option_map, filter, not}
-use Rattle.std.specs.Prelude.{find}
+use Rattle.std.proofs.Common.{ap, ◌∙◌, nat_eq, option_map, filter, not, find}
 use Rattle.vt_tasks.specs.Open.{are_ascending, numbered}
 use Rattle.vt_tasks.proofs.OpenLemmas.{ascending-removed, find-opened, opened, opened-removed}
 use Rattle.vt_tasks.proofs.descriptors.Descriptors.remove.Goals as goal

@@ -1,5 +1,5 @@
 use Rattle.std.proofs.Common.{false, sym, ◌∙◌}
-use Rattle.vt_spec.proofs.Truths.{not_turned}
+use Rattle.vt_spec.proofs.Common.{not_turned}
 use Rattle.vt_tasks.proofs.PlacesCounted.{places_told}
 use Rattle.vt_tasks.proofs.task.Task.places_at.Goals as goal
 

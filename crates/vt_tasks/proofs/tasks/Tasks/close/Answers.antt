@@ -1,9 +1,5 @@
-use Rattle.std.proofs.Common.{nat_eq, not, arith, ap, sym, refl, ◌∙◌, option_map}
-use Rattle.std.specs.List.{list_all}
-use Rattle.std.specs.Option.{option_and_then, option_copied_mut}
-use Rattle.vt_spec.specs.Machine.Descriptors.{without_descriptor}
-use Rattle.vt_spec.specs.Machine.Rules.Descriptors.{descriptor_numbered}
-use Rattle.vt_spec.specs.Machine.Invariants.{are_ascending_from}
+use Rattle.std.proofs.Common.{nat_eq, not, arith, ap, sym, refl, ◌∙◌, option_map, option_and_then}
+use Rattle.vt_spec.proofs.Common.{are_ascending_from, descriptor_numbered, list_all, option_copied_mut, without_descriptor}
 use Rattle.vt_tasks.specs.Open.{numbered}
 use Rattle.vt_tasks.specs.TaskValue.{task_of}
 use Rattle.vt_tasks.specs.TasksValue.{called, changed_called, has_files_in_order, in_order, tasks_of}

@@ -1,9 +1,7 @@
 use Rattle.std.proofs.Common.{ℕ, arith, ap, sym, refl, subst, ◌∙◌}
-use Rattle.std.specs.Option.{option_copied_mut}
+use Rattle.vt_spec.proofs.Common.{Task, option_copied_mut, with_dropped}
 use Rattle.vt_cred.specs.Caps.{capability_bits}
 use Rattle.vt_cred.specs.declared.capabilities.Caps.{Caps}
-use Rattle.vt_spec.specs.Machine.Tasks.{with_dropped}
-use Rattle.vt_spec.specs.Machine.World.{Task}
 use Rattle.vt_tasks.specs.TaskValue.{task_of}
 use Rattle.vt_tasks.specs.TasksValue.{AreKept, changed_called, in_order, tasks_of}
 use Rattle.vt_tasks.proofs.KeptTasks.{changed-absent, written-change, written-fit}

@@ -1,14 +1,10 @@
-use Rattle.std.proofs.Common.{ℕ, ◌≡◌, ap, rules, sym, refl, subst, ◌∙◌, option_map, Some}
-use Rattle.std.specs.Prelude.{option_copied}
-use Rattle.std.specs.Option.{option_copied_mut}
+use Rattle.std.proofs.Common.{ℕ, ◌≡◌, ap, rules, sym, refl, subst, ◌∙◌, option_map, Some, option_copied}
+use Rattle.vt_spec.proofs.Common.{Task, TaskName, child_name, option_copied_mut}
 use Rattle.std.specs.declared.vec.Vec.{Vec}
 use Rattle.std.specs.declared.alloc.Global.{Global}
 use Rattle.std.specs.declared.hash.BuildHasherDefault.{BuildHasherDefault}
 use Rattle.std.specs.declared.hash.FoldHasher.{FoldHasher}
 use Rattle.indexmap.specs.IndexMap.{IndexMap, get_by}
-use Rattle.vt_spec.specs.Language.Calls.{TaskName}
-use Rattle.vt_spec.specs.Machine.Tasks.{child_name}
-use Rattle.vt_spec.specs.Machine.World.{Task}
 use Rattle.vt_tasks.specs.declared.task.Task.{Task as Held}
 use Rattle.vt_tasks.specs.TaskValue.{task_of}
 use Rattle.vt_tasks.specs.TasksValue.{AreKept, Tasks, called, forked, in_order, tasks_of}

@@ -1,12 +1,10 @@
 use Rattle.std.proofs.Common.{ap, arith, sym, refl, ◌∙◌, option_map}
-use Rattle.std.specs.Option.{option_copied_mut}
-use Rattle.vt_spec.specs.Machine.Descriptors.{free_number}
+use Rattle.vt_spec.proofs.Common.{OnOk_then, free_number, option_copied_mut}
 use Rattle.vt_tasks.specs.TaskValue.{task_of}
 use Rattle.vt_tasks.specs.TasksValue.{called, changed_called, tasks_of, with_open}
 use Rattle.vt_tasks.proofs.KeptTasks.{called-absent, called-found, written-change, written-fit, written-same}
 use Rattle.vt_tasks.proofs.TasksLemmas.{granted-so, granted-there, ok-equal, on-err, opened-in_order, opened-under, there-mut}
 use Rattle.vt_tasks.proofs.tasks.Tasks.open_after.Goals as goal
-use Rattle.vt_spec.proofs.Options.{OnOk_then}
 
 pub unwrap-task-requires : goal.unwrap-task-requires
 unwrap-task-requires g c =

@@ -1,6 +1,5 @@
 use Rattle.std.proofs.Common.{◌≡◌, IsSome, arith, ap, length, map, sym, subst, true≢false, ◌∙◌}
-use Rattle.std.specs.Option.{option_copied_mut}
-use Rattle.std.specs.Map.{keys_of}
+use Rattle.vt_spec.proofs.Common.{keys_of, option_copied_mut}
 use Rattle.vt_location.specs.MountValue.{mount_of}
 use Rattle.vt_location.specs.Numbers.{counted}
 use Rattle.vt_tasks.specs.TasksValue.{AreKept, births_of, tasks_of}

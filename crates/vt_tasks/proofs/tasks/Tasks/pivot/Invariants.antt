@@ -1,6 +1,5 @@
 use Rattle.std.proofs.Common.{◌≡◌, nat_eq}
-use Rattle.std.specs.Map.{keys_of}
-use Rattle.vt_spec.specs.Machine.Namespaces.{pivoted_task}
+use Rattle.vt_spec.proofs.Common.{keys_of, pivoted_task}
 use Rattle.vt_location.specs.MountValue.{mount_of}
 use Rattle.vt_location.specs.Numbers.{counted}
 use Rattle.vt_tasks.specs.TasksValue.{births_of, tasks_of}

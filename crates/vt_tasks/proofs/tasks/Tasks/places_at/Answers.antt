@@ -1,6 +1,4 @@
-use Rattle.std.proofs.Common.{ap, arith, ◌∙◌}
-use Rattle.std.specs.Prelude.{sum_by}
-use Rattle.std.proofs.lemmas.List.{take_all}
+use Rattle.std.proofs.Common.{ap, arith, ◌∙◌, sum_by, take_all}
 use Rattle.vt_location.specs.Locations.{location_of}
 use Rattle.vt_location.specs.Numbers.{counted}
 use Rattle.vt_tasks.specs.Counts.{all_places_at}

@@ -1,5 +1,5 @@
 use Rattle.std.proofs.Common.{arith, ap, sym, refl, ◌∙◌, option_map, Some}
-use Rattle.std.specs.Option.{option_copied_mut}
+use Rattle.vt_spec.proofs.Common.{option_copied_mut}
 use Rattle.vt_location.specs.Locations.{location_of}
 use Rattle.vt_tasks.specs.TaskValue.{task_of}
 use Rattle.vt_tasks.specs.TasksValue.{called, changed_called, in_order, tasks_of}

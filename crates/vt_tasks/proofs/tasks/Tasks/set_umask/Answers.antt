@@ -1,5 +1,5 @@
 use Rattle.std.proofs.Common.{arith, ap, sym, refl, subst, ◌∙◌}
-use Rattle.std.specs.Option.{option_copied_mut}
+use Rattle.vt_spec.proofs.Common.{option_copied_mut}
 use Rattle.vt_tasks.specs.TasksValue.{AreKept, changed_called, in_order, tasks_of}
 use Rattle.vt_tasks.proofs.KeptTasks.{changed-absent, written-change, written-fit}
 use Rattle.vt_tasks.proofs.tasks.Tasks.set_umask.Goals as goal

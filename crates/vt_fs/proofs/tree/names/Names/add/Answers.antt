@@ -1,5 +1,5 @@
 use Rattle.std.proofs.Common.{ap, arith, length, refl, subst, sym, ◌+◌, ◌<◌, ◌∙◌}
-use Rattle.std.proofs.lemmas.List.{length-map}
+use Rattle.vt_spec.proofs.Common.{length-map}
 use Rattle.vt_fs.proofs.tree.NamesCounted.{count_changed, counts}
 use Rattle.vt_fs.proofs.tree.names.Names.add.Goals as goal
 use Rattle.vt_fs.specs.Trees.Names.{count_of}

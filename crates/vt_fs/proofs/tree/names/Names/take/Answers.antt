@@ -1,6 +1,5 @@
 use Rattle.std.proofs.Common.{ap, arith, length, refl, sym, true≢false, ⊎_elim, ◌-◌, ◌∙◌, ◌≡◌}
-use Rattle.std.proofs.lemmas.Bool.{cases_lt}
-use Rattle.std.proofs.lemmas.List.{length-map}
+use Rattle.vt_spec.proofs.Common.{cases_lt, length-map}
 use Rattle.vt_fs.proofs.tree.NamesCounted.{count_absent, count_changed, counts}
 use Rattle.vt_fs.proofs.tree.names.Names.take.Goals as goal
 use Rattle.vt_fs.proofs.tree.names.Names.take.Goals.{in-Some, in_default}

@@ -1,5 +1,5 @@
 use Rattle.std.proofs.Common.{◌≤◌, None, ap, arith, length, ◌∙◌, sym}
-use Rattle.std.proofs.lemmas.List.{get_or_past}
+use Rattle.vt_spec.proofs.Common.{get_or_past}
 use Rattle.vt_fs.specs.Trees.Slots.{slot_at}
 use Rattle.vt_fs.proofs.tree.slots.Slots.numbers_fit.Goals as goal
 

@@ -1,5 +1,5 @@
 use Rattle.std.proofs.Common.{◌≤◌, None, sym, ap, ◌∙◌, arith}
-use Rattle.vt_spec.specs.Inodes.{uses_in}
+use Rattle.vt_spec.proofs.Common.{uses_in}
 use Rattle.vt_fs.specs.Trees.Slots.{slot_at, put_at}
 use Rattle.vt_fs.proofs.tree.SlotLemmas.{get-updates, used_once_less-last}
 use Rattle.vt_fs.proofs.tree.slots.Slots.release.Goals as goal

@@ -1,6 +1,6 @@
 use Rattle.std.proofs.Common.{◌≡◌, nat_eq, ap, ◌∙◌, refl}
-use Rattle.vt_spec.specs.Inodes.{with_changed, with_new}
-use Rattle.vt_spec.specs.Tree.{node_with_entry}
+use Rattle.vt_spec.proofs.Common.{node_with_entry, with_changed}
+use Rattle.vt_spec.specs.Inodes.{with_new}
 use Rattle.vt_fs.specs.Trees.Slots.{inodes_in}
 use Rattle.vt_fs.specs.Trees.TreeValue.{inodes_of}
 use Rattle.vt_fs.proofs.tree.InodeLemmas.{inodes-created}

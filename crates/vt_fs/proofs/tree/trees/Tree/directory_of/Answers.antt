@@ -1,15 +1,11 @@
-use Rattle.std.proofs.Common.{ap, is_some, nat_eq, option_copied, sym, true, ◌∙◌, ◌≡◌}
+use Rattle.std.proofs.Common.{ap, is_some, nat_eq, option_copied, sym, true, ◌∙◌, ◌≡◌, subst}
+use Rattle.vt_spec.proofs.Common.{entries_of, is_among, targets_in, tree_of as nodes_of}
 use Rattle.vt_node.specs.Ranks.{name_ranked}
-use Rattle.vt_spec.specs.FileTree.{targets_in}
-use Rattle.vt_spec.specs.Lists.{is_among}
-use Rattle.vt_spec.specs.Tree.{entries_of}
 use Rattle.vt_fs.proofs.tree.NameCounts.{alone, ranked_among}
 use Rattle.vt_fs.proofs.tree.trees.Tree.directory_of.Goals as goal
 use Rattle.vt_fs.specs.Trees.Names.{AloneNames, count_of}
 use Rattle.vt_fs.specs.Trees.Slots.{inodes_in}
 use Rattle.vt_fs.specs.Trees.TreeValue.{tree_of}
-use Rattle.vt_spec.specs.Inodes.{tree_of as nodes_of}
-use Rattle.std.proofs.Common.{subst}
 
 -- one name at most is counted, and the directory has one
 pub returns : goal.returns

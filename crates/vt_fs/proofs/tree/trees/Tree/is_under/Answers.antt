@@ -1,6 +1,5 @@
 use Rattle.std.proofs.Common.{◌≡◌, ◌<◌, ◌-◌, refl, false, nat_eq, sym, ap, ◌∙◌, arith}
-use Rattle.vt_spec.specs.Lists.{chain, is_among}
-use Rattle.vt_spec.specs.Inodes.{parent_above}
+use Rattle.vt_spec.proofs.Common.{chain, is_among, parent_above}
 use Rattle.vt_fs.specs.Trees.TreeValue.{inodes_of}
 use Rattle.vt_fs.proofs.tree.InodeLemmas.{climb}
 use Rattle.vt_fs.proofs.tree.trees.Tree.is_under.Goals as goal

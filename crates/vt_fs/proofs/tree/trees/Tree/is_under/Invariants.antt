@@ -1,6 +1,6 @@
 use Rattle.std.proofs.Common.{◌≡◌, nat_eq}
-use Rattle.vt_spec.specs.Lists.{chain, is_among}
-use Rattle.vt_spec.specs.Inodes.{is_directory_under, parent_above}
+use Rattle.vt_spec.proofs.Common.{chain, is_among, parent_above}
+use Rattle.vt_spec.specs.Inodes.{is_directory_under}
 use Rattle.vt_fs.specs.Trees.TreeValue.{inodes_of}
 use Rattle.vt_fs.proofs.tree.trees.Tree.is_under.Given as goal
 

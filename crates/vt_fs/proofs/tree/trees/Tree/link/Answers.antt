@@ -1,6 +1,6 @@
 use Rattle.std.proofs.Common.{◌≡◌, nat_eq, ap, ◌∙◌, arith, refl}
-use Rattle.vt_spec.specs.Inodes.{pinned, uses_in, with_name}
-use Rattle.vt_spec.specs.Tree.{node_with_entry}
+use Rattle.vt_spec.proofs.Common.{node_with_entry, pinned, uses_in}
+use Rattle.vt_spec.specs.Inodes.{with_name}
 use Rattle.vt_fs.specs.Trees.Slots.{inodes_in, slot_at}
 use Rattle.vt_fs.specs.Trees.TreeValue.{inodes_of}
 use Rattle.vt_fs.proofs.tree.InodeLemmas.{inodes-acquired, uses-with_changed}

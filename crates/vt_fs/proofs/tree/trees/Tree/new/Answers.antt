@@ -1,12 +1,9 @@
 use Rattle.std.proofs.Common.{◌≡◌, ap, nat_eq, ℕ, ◌∙◌}
-use Rattle.vt_spec.specs.Inodes.{one_directory}
-use Rattle.vt_spec.specs.Tree.{Node, entries_of}
+use Rattle.vt_spec.proofs.Common.{Node, entries_of, node_in, one_directory, tree_of}
 use Rattle.vt_fs.specs.Trees.Slots.{Slots, slot_at, slots_len}
 use Rattle.vt_fs.proofs.tree.InodeLemmas.{inodes-root}
-use Rattle.vt_spec.specs.Inodes.{tree_of as nodes_of}
 use Rattle.vt_fs.proofs.tree.NamesKept.{new_keeps, none_named}
 use Rattle.vt_fs.specs.Trees.Slots.{inodes_in}
-use Rattle.vt_spec.specs.Inodes.{node_in}
 use Rattle.vt_fs.proofs.tree.trees.Tree.new.Goals as goal
 
 -- the one inode is the root
@@ -30,5 +27,5 @@ invariant_of-result c =
     new_keeps (inodes c.reserve.new.self) (inodes c.insert_reserved.new.self)
     c.insert_reserved.result c.new_directory.result _ c.insert_reserved.ensures.inserted
     (ap (λ (node : Node ℕ). entries_of node.content) c.new_directory.ensures)
-    (none_named (nodes_of (inodes c.reserve.new.self)) _
+    (none_named (tree_of (inodes c.reserve.new.self)) _
     (λ number. ap (λ (slots : Slots). node_in (slot_at slots number)) empty))

@@ -1,9 +1,8 @@
 use Rattle.std.proofs.Common.{rules, ◌≡◌, sym, ap, ◌∙◌, true, false, nat_eq, map, Some}
-use Rattle.std.proofs.lemmas.List.{map-append}
+use Rattle.vt_spec.proofs.Common.{map-append, not_turned}
 use Rattle.vt_fs.specs.Trees.TreeValue.{inodes_of}
 use Rattle.vt_fs.proofs.PathLemmas.{arrives, goes_on, map-reverse}
 use Rattle.vt_fs.proofs.tree.trees.Tree.path_down.Goals as goal
-use Rattle.vt_spec.proofs.Truths.{not_turned}
 
 pub loop-alloc-preserved : goal.loop-alloc-preserved
 loop-alloc-preserved c =

@@ -1,6 +1,5 @@
 use Rattle.std.proofs.Common.{◌≡◌, map, nat_eq}
-use Rattle.vt_spec.specs.FileTree.{named_parent}
-use Rattle.vt_spec.specs.Lists.{chain}
+use Rattle.vt_spec.proofs.Common.{chain, named_parent}
 use Rattle.vt_fs.specs.Trees.Paths.{path_in}
 use Rattle.vt_fs.specs.Trees.TreeValue.{inodes_of, tree_of}
 use Rattle.vt_fs.proofs.PathLemmas.{path_from}

@@ -1,6 +1,5 @@
 use Rattle.std.proofs.Common.{nat_eq, ap, ◌∙◌}
-use Rattle.std.proofs.lemmas.Result.{on_ok_weaker}
-use Rattle.vt_spec.specs.Inodes.{pinned}
+use Rattle.vt_spec.proofs.Common.{on_ok_weaker, pinned}
 use Rattle.vt_fs.specs.Trees.TreeValue.{inodes_of}
 use Rattle.vt_fs.proofs.tree.InodeLemmas.{inodes-acquired}
 use Rattle.vt_fs.proofs.tree.NamesKept.{either_counted, pin_keeps}

@@ -1,13 +1,9 @@
 use Rattle.std.proofs.Common.{◌≡◌, ℕ, Some, arith, nat_eq, ap, sym, ◌-◌, ◌∙◌, refl}
-use Rattle.std.specs.FinMap.Entries.{is_sorted}
-use Rattle.vt_spec.specs.Inodes.{Inodes, with_changed, without_replaced}
-use Rattle.vt_spec.specs.Language.Changes.{node_with_parent, node_without_entry}
-use Rattle.vt_spec.specs.Tree.{entries_in, name_cmp, node_with_entry}
-use Rattle.vt_spec.specs.TreeInvariant.{entry_at}
+use Rattle.vt_spec.proofs.Common.{Inodes, entries_in, entry_at, is_sorted, name_cmp, node_with_entry, node_with_parent, node_without_entry, tree_of as nodes_of, with_changed}
+use Rattle.vt_spec.specs.Inodes.{without_replaced}
 use Rattle.vt_fs.specs.Trees.Slots.{inodes_in, put_at}
 use Rattle.vt_fs.specs.Trees.TreeValue.{inodes_of, tree_of}
 use Rattle.vt_fs.proofs.tree.MoveLemmas.{moved, replaced_other}
-use Rattle.vt_spec.specs.Inodes.{tree_of as nodes_of}
 use Rattle.vt_fs.proofs.tree.NamesKept.{counted_as, name_moved, replaced_counted, replaced_keeps}
 use Rattle.vt_fs.proofs.tree.NameCounts.{most_weaker, one_if_some}
 use Rattle.vt_fs.specs.Trees.Names.{NamesAtMost, count_of}

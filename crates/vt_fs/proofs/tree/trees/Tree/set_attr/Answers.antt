@@ -1,8 +1,6 @@
 use Rattle.std.proofs.Common.{nat_eq, ap, refl, ◌∙◌}
-use Rattle.vt_spec.specs.Language.Changes.{node_with_attr}
-use Rattle.vt_spec.specs.Inodes.{with_changed}
+use Rattle.vt_spec.proofs.Common.{entries-node_with_attr, node_with_attr, with_changed}
 use Rattle.vt_fs.specs.Trees.TreeValue.{inodes_of}
-use Rattle.vt_spec.proofs.NodeChanges.{entries-node_with_attr}
 use Rattle.vt_fs.proofs.tree.NamesKept.{change_keeps, counted_as}
 use Rattle.vt_fs.specs.Trees.Slots.{inodes_in}
 use Rattle.vt_fs.proofs.tree.trees.Tree.set_attr.Goals as goal

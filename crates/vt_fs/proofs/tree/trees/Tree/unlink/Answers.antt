@@ -1,10 +1,9 @@
 use Rattle.std.proofs.Common.{Some, nat_eq, ap, ◌∙◌, refl}
-use Rattle.vt_spec.specs.Language.Changes.{node_without_entry}
-use Rattle.vt_spec.specs.Inodes.{with_changed, without_replaced}
+use Rattle.vt_spec.proofs.Common.{entry_at, node_without_entry, with_changed}
+use Rattle.vt_spec.specs.Inodes.{without_replaced}
 use Rattle.vt_fs.specs.Trees.TreeValue.{inodes_of}
 use Rattle.vt_fs.proofs.tree.NamesKept.{counted_as, name_less, replaced_keeps}
 use Rattle.vt_fs.specs.Trees.Slots.{inodes_in}
-use Rattle.vt_spec.specs.TreeInvariant.{entry_at}
 use Rattle.vt_fs.specs.Trees.TreeValue.{tree_of}
 use Rattle.vt_fs.proofs.tree.trees.Tree.unlink.Goals as goal
 

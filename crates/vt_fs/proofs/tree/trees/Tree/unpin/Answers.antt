@@ -1,5 +1,5 @@
 use Rattle.std.proofs.Common.{nat_eq, ap, refl, ◌∙◌}
-use Rattle.vt_spec.specs.Inodes.{unpinned}
+use Rattle.vt_spec.proofs.Common.{unpinned}
 use Rattle.vt_fs.specs.Trees.TreeValue.{inodes_of}
 use Rattle.vt_fs.proofs.tree.NamesKept.{counted_as, unpin_keeps}
 use Rattle.vt_fs.specs.Trees.Slots.{inodes_in}

@@ -1,10 +1,6 @@
 use Rattle.std.proofs.Common.{nat_eq, ap, ◌∙◌}
-use Rattle.std.proofs.lemmas.Result.{on_ok_weaker}
-use Rattle.vt_spec.specs.Machine.Descriptors.{overwritten}
-use Rattle.vt_spec.specs.Inodes.{with_changed}
-use Rattle.vt_spec.specs.Tree.{bytes_in, node_with_bytes}
+use Rattle.vt_spec.proofs.Common.{bytes_in, entries-node_with_bytes, node_with_bytes, on_ok_weaker, overwritten, with_changed}
 use Rattle.vt_fs.specs.Trees.TreeValue.{inodes_of, tree_of}
-use Rattle.vt_spec.proofs.Nodes.{entries-node_with_bytes}
 use Rattle.vt_fs.proofs.tree.NamesKept.{change_keeps, either_counted}
 use Rattle.vt_fs.specs.Trees.Slots.{inodes_in, node_at}
 use Rattle.vt_fs.proofs.tree.trees.Tree.write_at.Goals as goal

@@ -1,14 +1,7 @@
 -- Looks at counted inodes and at the tree.
 use Rattle.std.proofs.Common.{arith, ◌≡◌, refl, sym, ap, ◌∙◌, ⊎_elim, ℕ, zero, suc, nat_eq, Bool, true, false, true≢false, cond, ◌||◌, List, [], ◌∷◌, length, Option, Some, None}
-use Rattle.std.proofs.lemmas.Grind.{common_steps}
-use Rattle.vt_spec.specs.FileTree.{has_entry_to, named_parent}
-use Rattle.vt_spec.specs.Lists.{chain, is_among, when}
-use Rattle.vt_spec.specs.Tree.{Node, Tree, entries_in, is_directory_node, parent_in}
-use Rattle.vt_spec.specs.TreeInvariant.{HasOwnParents, IsTree}
+use Rattle.vt_spec.proofs.Common.{HasOwnParents, IsTree, Node, Tree, among_targets, cases_Bool, chain, common_steps, entries_in, has_entry_to, is_among, is_directory_node, named_parent, or-false, parent_in, when}
 use Rattle.vt_laws_mounts.specs.Counts.Looking.{CountedTreeIsTheTree, DirectoriesLieAlike}
-use Rattle.std.proofs.Math.Bool.{or-false}
-use Rattle.std.proofs.lemmas.Bool.{cases_Bool}
-use Rattle.vt_spec.proofs.Found.{among_targets}
 
 pub counted_tree_is_the_tree : CountedTreeIsTheTree
 counted_tree_is_the_tree world filesystem inodes counted =

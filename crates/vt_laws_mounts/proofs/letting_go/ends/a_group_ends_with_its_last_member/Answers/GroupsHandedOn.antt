@@ -1,17 +1,8 @@
 -- A group that loses its last member hands its slaves on.
 use Rattle.std.proofs.Common.{arith, ◌≡◌, refl, ap, ℕ, suc, nat_eq, eqb-true, eq-eqb, Bool, true, false, find, length, true≢false, Option, Some, None, option_to_list}
-use Rattle.std.proofs.lemmas.Grind.{common_steps}
-use Rattle.std.specs.List.{list_all, list_any}
-use Rattle.std.proofs.lemmas.Bool.{and_parts, or_parts, cases_Bool}
-use Rattle.vt_spec.specs.Lists.{chain}
-use Rattle.vt_spec.specs.Machine.Mounts.{Propagation, source_of}
-use Rattle.vt_spec.specs.Machine.Mounts.Propagation.{Private, Shared, Slave, Unbindable}
-use Rattle.vt_spec.specs.Machine.Receives.{has_members, heir, inherited, is_lost_group, lost_a_group, regrouped, regrouped_by}
-use Rattle.vt_spec.specs.Machine.World.{World}
+use Rattle.vt_spec.proofs.Common.{Private, Propagation, Shared, Slave, Unbindable, World, and_parts, cases_Bool, chain, common_steps, find-chain_start, has_members, heir, inherited, is_lost_group, list_all, list_any, lost_a_group, map_alike, or_parts, regrouped, regrouped_by, source_of}
 use Rattle.vt_laws_mounts.specs.LettingGo.Groups.{GroupsLiveBut, NoGroupIsHandedOn, OneGroupIsHandedOn, hand_on, handed_on, is_group_or_lives, master_handed_on}
 use Rattle.vt_laws_mounts.proofs.letting_go.Lists.{fails, map_same, one_passes, or_second, passes}
-use Rattle.vt_spec.proofs.Found.{find-chain_start}
-use Rattle.vt_spec.proofs.Lists.{map_alike}
 
 find_after_start : (p : ℕ → Bool) (next : ℕ → Option ℕ) (n a : ℕ) → p a ≡ false
     → list_all p (option_to_list (next a)) ≡ true → find p (chain (suc n) next a) ≡ next a

@@ -1,32 +1,12 @@
 -- What a call tells its task may read.
 use Rattle.std.proofs.Common.{◌≡◌, refl, sym, ap, inl, inr, ◌⊎◌, true≢false, ℕ, nat_eq, Bool, true, false, List, [], take, drop, Some, Result, Ok}
-use Rattle.vt_spec.specs.Errors.{NoneFails}
+use Rattle.vt_spec.proofs.Common.{Access, Answer, Bytes, Call, Descriptor, Fresh, Location, Names, NoneFails, Opened, Permit, Place, Pread, Task, ToOpen, World, apply, bytes_in, descriptor_found, descriptor_numbered, is_copied_up, is_kind_in, looks_of, name_of, names_in, new_file, node_allows, node_at, open_new_permit, open_rules, opened, overfills, read_right, with_copy, with_new_inode}
 use Rattle.vt_laws_trees.specs.Calls.Effects.{BytesAreToldByRight, NamesAreToldByRight, OpensAreByRight, TellsOf}
 use Rattle.vt_laws_trees.specs.Calls.Effects.TellsOf.{a_directory, a_symlink, an_object}
 use Rattle.vt_spec.specs.declared.attributes.Kind.TheVariants.{Symlink}
 use Rattle.vt_spec.specs.declared.errors.Deny.{Deny}
-use Rattle.vt_spec.specs.FileTree.{is_kind_in}
-use Rattle.vt_spec.specs.Language.Answers.{Answer}
-use Rattle.vt_spec.specs.Language.Answers.Answer.{Bytes, Names, Opened}
-use Rattle.vt_spec.specs.Language.Calls.{Access, Call}
-use Rattle.vt_spec.specs.Language.Calls.Call.{Pread}
-use Rattle.vt_spec.specs.Lists.{Fresh}
-use Rattle.vt_spec.specs.Machine.Apply.{apply, with_new_inode, overfills}
-use Rattle.vt_spec.specs.Machine.Judge.{open_new_permit}
-use Rattle.vt_spec.specs.Machine.Looks.{looks_of}
-use Rattle.vt_spec.specs.Machine.Mounts.{Location}
-use Rattle.vt_spec.specs.Machine.Descriptors.{is_copied_up, opened, with_copy}
-use Rattle.vt_spec.specs.Machine.Rows.{new_file}
-use Rattle.vt_spec.specs.Machine.Permits.{Permit}
-use Rattle.vt_spec.specs.Machine.Permits.Permit.{ToOpen}
-use Rattle.vt_spec.specs.Machine.Rightful.{node_allows}
-use Rattle.vt_spec.specs.Machine.Rules.Descriptors.{access_rights, descriptor_numbered, open_rules}
-use Rattle.vt_spec.specs.Machine.Walking.{Place, name_of}
-use Rattle.vt_spec.specs.Machine.World.{Descriptor, Task, World, node_at}
-use Rattle.vt_spec.specs.Rights.{read_right}
-use Rattle.vt_spec.specs.Tree.{bytes_in, names_in}
+use Rattle.vt_spec.specs.Machine.Rules.Descriptors.{access_rights}
 use Rattle.vt_laws_trees.proofs.trees.TreesWalked.{not_true}
-use Rattle.vt_spec.proofs.Given.{descriptor_found}
 use Rattle.vt_laws_rules.proofs.given.Inversion.{calls_are_granted}
 use Rattle.vt_laws_rules.specs.Granted.{IsGranted}
 use Rattle.vt_laws_rules.specs.Granted.IsGranted.{creates, creates_exclusively, lists_directory, opens, opens_existing, reads_file, reads_part, reads_symlink}

@@ -1,16 +1,12 @@
 -- A call changes no inode but those that its paths and descriptors lead it to.
 use Rattle.std.proofs.Common.{◌≡◌, refl, sym, ap, ◌∙◌, inl, inr, ◌⊎◌, ℕ, nat_eq, Option, None, Ok, Err}
+use Rattle.vt_spec.proofs.Common.{Judgement, Node, judge_in, looks_of, overfills, policy}
 use Rattle.vt_laws_trees.proofs.calls.inodes.InodesOwn.{calls_change_their_own}
 use Rattle.vt_laws_trees.proofs.calls.inodes.InodesSettled.{inode_after_call}
 use Rattle.vt_laws_trees.proofs.calls.inodes.calls_keep_to_their_paths.Answers.ReachedWalks.{granted_spares}
 use Rattle.vt_laws_trees.specs.Calls.Reached.{CallsKeepToTheirPaths}
-use Rattle.vt_spec.specs.Machine.Judge.{Judgement, judge_in}
-use Rattle.vt_spec.specs.Machine.Policy.{policy}
-use Rattle.vt_spec.specs.Tree.{Node}
 use Rattle.vt_laws_rules.proofs.given.Inversion.{calls_are_granted}
 use Rattle.vt_laws_trees.specs.Trees.Settling.{inode_in}
-use Rattle.vt_spec.specs.Machine.Apply.{overfills}
-use Rattle.vt_spec.specs.Machine.Looks.{looks_of}
 
 pub calls_keep_to_their_paths : CallsKeepToTheirPaths
 calls_keep_to_their_paths fresh world name call task filesystem number plain no_overlay is apart root =

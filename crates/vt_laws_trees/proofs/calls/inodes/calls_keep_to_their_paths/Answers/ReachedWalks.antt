@@ -1,29 +1,11 @@
 -- What a permit names lies where the walks of its call lead, or its descriptors are.
-use Rattle.std.proofs.Common.{arith, Result, ap, eqb-true, is_some, map, nat_eq, option_map, refl, subst, sym, true≢false, ◌&&◌, ◌∙◌}
-use Rattle.std.proofs.lemmas.Grind.{common_steps}
-use Rattle.std.proofs.Math.Bool.{and-false}
-use Rattle.std.proofs.lemmas.Bool.{or_parts}
-use Rattle.std.specs.Prelude.{Bool, List, None, Ok, Option, Some, [], false, option_to_list, true, unwrap_or, ℕ, ⊤, ◌++◌, ◌||◌, ◌∷◌, ◌≡◌}
+use Rattle.std.proofs.Common.{arith, Result, ap, eqb-true, is_some, map, nat_eq, option_map, refl, subst, sym, true≢false, ◌&&◌, ◌∙◌, Bool, List, None, Ok, Option, Some, [], false, option_to_list, true, unwrap_or, ℕ, ◌++◌, ◌||◌, ◌∷◌, ◌≡◌}
+use Rattle.vt_spec.proofs.Common.{Call, Descriptor, Fresh, Location, Looks, Permit, Place, Rules, Stop, Task, ToRename, ToWritePart, World, and-false, common_steps, descriptor_found, entries_in, entry_named, evens, is_among, is_special, looks_of, mount_at, mount_numbered, name_of, node_at, object_there, or_false_left, or_parts, overfills, rename_new_walk, special_word, walk_unless, ⊤}
 use Rattle.vt_laws_trees.specs.Calls.Inodes.{is_own}
 use Rattle.vt_laws_trees.specs.Calls.Reached.{directory_and_new, directory_and_new_at, directory_and_object_at, directory_at, file_or_new, file_or_new_at, is_at_one_of, is_new_root, nothing_or_new, nothing_or_new_at, object_at, reached_by}
-use Rattle.vt_spec.proofs.Given.{descriptor_found}
 use Rattle.vt_laws_rules.specs.Granted.{IsGranted}
 use Rattle.vt_laws_rules.specs.Granted.IsGranted.{changes_mark, changes_mode, changes_owner, creates, creates_exclusively, makes_directory, makes_hard_link, makes_symlink, makes_whiteout, mounts_tmpfs, overwrites_file, removes_directory, renames, unlinks, writes_new_file, writes_part}
-use Rattle.vt_spec.proofs.Truths.{or_false_left}
-use Rattle.vt_spec.proofs.Worlds.{special_word}
-use Rattle.vt_spec.specs.Errors.{Rules}
-use Rattle.vt_spec.specs.Language.Calls.{Call}
-use Rattle.vt_spec.specs.Lists.{Fresh, evens, is_among}
-use Rattle.vt_spec.specs.Machine.Apply.{overfills}
-use Rattle.vt_spec.specs.Machine.Looks.{Looks, looks_of}
-use Rattle.vt_spec.specs.Machine.Mounts.{Location}
-use Rattle.vt_spec.specs.Machine.Permits.{Permit}
-use Rattle.vt_spec.specs.Machine.Permits.Permit.{ToRename, ToWritePart}
-use Rattle.vt_spec.specs.Machine.Rules.Removing.{object_there, rename_new_walk}
-use Rattle.vt_spec.specs.Machine.Walking.{Place, Stop, is_special, name_of, walk_unless}
 use Rattle.vt_spec.proofs.Walk.{directory_walk, file_walk, is_directory_there, new_leaf_walk, new_walk, object_walk, old_leaf_walk, old_walk, symlink_walk}
-use Rattle.vt_spec.specs.Machine.World.{Descriptor, Task, World, mount_at, mount_numbered, node_at}
-use Rattle.vt_spec.specs.Tree.{entries_in, entry_named}
 use Rattle.vt_laws_trees.proofs.trees.TreesWalked.{IsNewPlace, IsOldPlace, IsPlace, at_end, ends_new_walk, ends_old_leaf_walk, ends_old_walk, not_true, place_named}
 
 -- a walk that is only checked further ended before

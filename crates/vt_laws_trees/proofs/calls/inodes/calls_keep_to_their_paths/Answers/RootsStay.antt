@@ -1,34 +1,12 @@
 -- The root of a filesystem stays its root, as long as the filesystem is there.
 use Rattle.std.proofs.Common.{arith, ◌≡◌, refl, sym, ap, subst, ◌∙◌, inl, inr, ◌⊎◌, true≢false, ℕ, ◌+◌, nat_eq, eqb-true, eq-eqb, Bool, true, false, not, cond, ◌||◌, List, [], ◌∷◌, ◌++◌, map, filter, find, Option, Some, None, is_some, option_map, Ok, Err, ok_or}
-use Rattle.std.proofs.lemmas.Grind.{common_steps}
-use Rattle.std.proofs.lemmas.Option.{same_Some}
+use Rattle.vt_spec.proofs.Common.{AddName, Change, CopyUp, FileTree, Filesystem, Fresh, Judgement, Layer, Location, Make, Merge, Move, Node, Outcome, Overlay, Permit, Remove, SetAttr, SetBytes, SetMark, Stack, Task, ToChange, ToEnterNamespace, ToExit, ToMake, ToMountOverlay, ToMountPlain, ToOpen, ToOpenNew, ToRemoveDirectory, ToRename, ToSetType, ToUnmount, ToUnmountLazily, ToUnshare, ToWritePart, World, after, apply, changed, common_steps, copied_each, copied_up, copy_of, denial, denied, evens, filesystem_at, filesystem_changed, filesystem_lives, filesystem_numbered, filesystems-taken_away, filesystems-without_replaced, filesystems_changed_by, finished, finished_by, hides_directory, is_copied_up, is_in_upper, is_overlay, judge_in, line_to, merge_changed, merge_of, merge_with_link, merge_with_moved, merge_with_new, merge_without_name, mount_at, name_left, no_filesystem, odds, only_looks, only_used, only_used_by, overlay_changed, plain_filesystem, pwritten, raised_if_changed, replaced_if_numbered, same_Some, settled, shown_in_lowers_at, stack_of, task_called, unshared, upper_directory_named, upper_of, used_in, with_change, with_copy, with_files, with_moved, without_contents, without_dead_filesystems, without_dead_in, without_dead_mounts, without_replaced, without_task}
 use Rattle.vt_laws_trees.specs.Calls.Reached.{RootsStay, root_in}
 use Rattle.vt_laws_rules.proofs.judged.CallsJudged.{policy_judges_then_applies}
 use Rattle.vt_spec.specs.declared.errors.Rule.TheVariants.{S2}
-use Rattle.vt_spec.specs.Errors.{denial}
-use Rattle.vt_spec.specs.FileTree.{FileTree}
-use Rattle.vt_spec.specs.Language.Changes.{Change, changed, with_moved}
-use Rattle.vt_spec.specs.Language.Changes.Change.{AddName, CopyUp, Make, Move, Remove, SetAttr, SetBytes, SetMark}
-use Rattle.vt_spec.specs.Lists.{Fresh, evens, odds}
-use Rattle.vt_spec.specs.Machine.Apply.{apply}
-use Rattle.vt_spec.specs.Machine.CopyUp.{Merge, Stack, copied_each, copied_up, copy_of, hides_directory, is_in_upper, line_to, merge_changed, merge_with_link, merge_with_moved, merge_with_new, merge_without_name, name_left, shown_in_lowers_at, upper_directory_named, upper_of, without_contents}
-use Rattle.vt_spec.specs.Machine.Detach.{without_replaced}
-use Rattle.vt_spec.specs.Machine.Filesystems.{filesystem_changed, merge_of, overlay_changed, raised_if_changed, stack_of, with_change, with_files}
-use Rattle.vt_spec.specs.Machine.Judge.{Judgement, judge_in}
-use Rattle.vt_spec.specs.Machine.Mounts.{Location}
-use Rattle.vt_spec.specs.Machine.Namespaces.{unshared}
-use Rattle.vt_spec.specs.Machine.Descriptors.{is_copied_up, pwritten, with_copy}
-use Rattle.vt_spec.specs.Machine.NewMounts.{plain_filesystem}
-use Rattle.vt_spec.specs.Machine.Outcomes.{Outcome, after, denied}
-use Rattle.vt_spec.specs.Machine.Permits.{Permit}
-use Rattle.vt_spec.specs.Machine.Permits.Permit.{ToChange, ToEnterNamespace, ToExit, ToMake, ToMountOverlay, ToMountPlain, ToOpen, ToOpenNew, ToRemoveDirectory, ToRename, ToSetType, ToUnmount, ToUnmountLazily, ToUnshare, ToWritePart}
-use Rattle.vt_spec.specs.Machine.Policy.{filesystems_changed_by, finished, finished_by, only_looks}
-use Rattle.vt_spec.specs.Machine.Settled.{filesystem_lives, only_used, only_used_by, settled, used_in, without_dead_filesystems, without_dead_in, without_dead_mounts}
-use Rattle.vt_spec.specs.Machine.World.{Filesystem, Layer, Overlay, Task, World, filesystem_at, filesystem_numbered, is_overlay, mount_at, no_filesystem, replaced_if_numbered, task_called, without_task}
-use Rattle.vt_spec.specs.Tree.{Node}
 use Rattle.vt_laws_trees.proofs.trees.TreesOfWorlds.{number_numbered, numbered}
 use Rattle.vt_laws_trees.proofs.trees.ChangesByOthers.{lazily_filesystems, typed_filesystems}
-use Rattle.vt_spec.proofs.Worlds.{filesystems-taken_away, filesystems-without_replaced, root-emptied, root-marked, root-name_left_by}
+use Rattle.vt_spec.proofs.Worlds.{root-emptied, root-marked, root-name_left_by}
 
 -- a change of a tree leaves its root
 changed_root : (files : FileTree ℕ) (change : Change ℕ) → (changed nat_eq files change).tree.root ≡ files.tree.root

@@ -1,7 +1,6 @@
 -- One step of a program.
 use Rattle.std.proofs.Common.{arith, ◌≡◌, subst, ℕ, ◌+◌, ◌%◌, nat_eq, true, false}
-use Rattle.std.proofs.lemmas.Grind.{common_steps}
-use Rattle.std.specs.List.{list_all}
+use Rattle.vt_spec.proofs.Common.{Mount, Permit, Serves, World, common_steps, list_all}
 use Rattle.vt_laws_rules.specs.Numbers.{KeepsTo}
 use Rattle.vt_laws_worlds.proofs.permits.in_use.InUseServes.{counts_serve_worlds, handed_numbers_serve_worlds}
 use Rattle.vt_laws_worlds.proofs.permits.left.PermitsLeave.{given_permits_leave_worlds}
@@ -16,10 +15,6 @@ use Rattle.vt_laws_worlds.specs.Permits.Left.{left_by}
 use Rattle.vt_laws_worlds.specs.Permits.Steps.{StepsAreGiven, StepsKeepWorlds, StepsStayUngrouped, makes_inode}
 use Rattle.vt_laws_worlds.specs.Permits.Taken.{counts_taken, handed_to, is_ungrouped}
 use Rattle.vt_laws_trees.specs.Runs.Handed.{counts_from, is_counted_before}
-use Rattle.vt_spec.specs.Machine.Mounts.{Mount}
-use Rattle.vt_spec.specs.Machine.Permits.{Permit}
-use Rattle.vt_spec.specs.Machine.Run.{Serves}
-use Rattle.vt_spec.specs.Machine.World.{World}
 
 module _ (next inode : ℕ) (world : World ℕ) (counted : KeepsTo (is_counted_before next) world)
     (even : inode % 2 ≡ 0) where

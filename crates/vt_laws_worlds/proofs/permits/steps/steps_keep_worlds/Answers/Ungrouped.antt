@@ -1,40 +1,14 @@
 -- Where no mount is in a group none is afterwards, if none is made shared.
-use Rattle.std.proofs.Common.{arith, ◌≡◌, refl, sym, ap, subst, ◌∙◌, ⊎_elim, true≢false, ℕ, zero, suc, nat_eq, Bool, true, false, cond, ◌&&◌, List, [], ◌∷◌, ◌++◌, map, filter, flat_map, length, Option, Some, None}
-use Rattle.std.proofs.lemmas.Grind.{common_steps}
-use Rattle.std.specs.Prelude.{All, option_map}
-use Rattle.std.specs.List.{list_all}
-use Rattle.std.proofs.lemmas.Bool.{and_parts}
+use Rattle.std.proofs.Common.{arith, ◌≡◌, refl, sym, ap, subst, ◌∙◌, ⊎_elim, true≢false, ℕ, zero, suc, nat_eq, Bool, true, false, cond, ◌&&◌, List, [], ◌∷◌, ◌++◌, map, filter, flat_map, length, Option, Some, None, All, option_map}
+use Rattle.vt_spec.proofs.Common.{Change, Copies, CopyUp, Filesystem, Fresh, Location, Make, Mount, Move, Permit, Private, Propagation, Remove, SetBytes, Shared, Slave, Task, ToBind, ToChange, ToEnterNamespace, ToExit, ToMake, ToMountOverlay, ToMountPlain, ToMove, ToOpen, ToOpenNew, ToPivot, ToPrivate, ToRemoveDirectory, ToRename, ToSetFlags, ToSetType, ToShared, ToSlave, ToUnbindable, ToUnmount, ToUnmountLazily, ToUnshare, ToWritePart, Twig, TypeWord, Unbindable, World, added_mounts, after_going, all-filter, all-map, and_parts, apply, attach, bind_tree, bindable_children, bindable_tree, bytes_in, children, common_steps, copied_mount, copies_from, deepest_first, detached, evens, filesystem_at, filesystem_changed, filesystems-taken_away, folded, holds_of, inherited, is_copied_up, is_in_ended, is_overlay, list_all, mount_at, mount_lives, mount_numbered, mount_point_left, mount_tree, mounts_of, named_mounts, namespace_entered, namespaces_ended, new_mount, node_at, numbers_by, odds, overwritten, pivoted_mount, plain_filesystem, pwritten, regrouped, retyped_mount, settled, stands_on, stands_under, taken_away, type_after, unmounted_if_there, unshared, with_change, with_copy, with_mount, with_mounts, with_moved_mounts, with_new_filesystem, with_new_groups, with_type, without_mounts_on, without_replaced, without_task}
 use Rattle.vt_laws_mounts.proofs.letting_go.Lists.{Among, all_pass, among-from_filter, among-from_flat_map, passes}
 use Rattle.vt_laws_worlds.proofs.permits.taken.TakenAttached.{at_destination, copy_by, twigs}
 use Rattle.vt_laws_worlds.proofs.permits.taken.TakenFirst.{IsNoOverlay, found_ungrouped}
 use Rattle.vt_laws_worlds.proofs.permits.taken.TakenTypes.{found_is, makes_groups, tree_is}
 use Rattle.vt_laws_worlds.specs.Permits.Steps.{makes_shared}
 use Rattle.vt_laws_worlds.specs.Permits.Taken.{IsUngrouped, is_ungrouped}
-use Rattle.vt_spec.specs.Language.Calls.{TypeWord}
-use Rattle.vt_spec.specs.Language.Calls.TypeWord.{ToPrivate, ToShared, ToSlave, ToUnbindable}
-use Rattle.vt_spec.specs.Language.Changes.{Change}
-use Rattle.vt_spec.specs.Language.Changes.Change.{CopyUp, Make, Move, Remove, SetBytes}
-use Rattle.vt_spec.specs.Lists.{Fresh, evens, folded, holds_of, odds}
-use Rattle.vt_spec.specs.Machine.Apply.{apply}
-use Rattle.vt_spec.specs.Machine.Attach.{Copies, Twig, added_mounts, attach, bind_tree, bindable_children, bindable_tree, copies_from, stands_under, with_moved_mounts}
-use Rattle.vt_spec.specs.Machine.Detach.{after_going, deepest_first, mount_point_left, taken_away, unmounted_if_there, without_mounts_on, without_replaced}
-use Rattle.vt_spec.specs.Machine.Filesystems.{filesystem_changed, with_change}
-use Rattle.vt_spec.specs.Machine.Mounts.{Location, Mount, Propagation, children, detached, mount_tree, numbers_by, stands_on, with_mount}
-use Rattle.vt_spec.specs.Machine.Mounts.Propagation.{Private, Shared, Slave, Unbindable}
-use Rattle.vt_spec.specs.Machine.Namespaces.{copied_mount, is_in_ended, namespace_entered, namespaces_ended, pivoted_mount, unshared}
-use Rattle.vt_spec.specs.Machine.Descriptors.{is_copied_up, overwritten, pwritten, with_copy}
-use Rattle.vt_spec.specs.Machine.NewMounts.{new_mount, plain_filesystem, with_new_filesystem}
-use Rattle.vt_spec.specs.Machine.Permits.{Permit}
-use Rattle.vt_spec.specs.Machine.Permits.Permit.{ToBind, ToChange, ToEnterNamespace, ToExit, ToMake, ToMountOverlay, ToMountPlain, ToMove, ToOpen, ToOpenNew, ToPivot, ToRemoveDirectory, ToRename, ToSetFlags, ToSetType, ToUnmount, ToUnmountLazily, ToUnshare, ToWritePart}
-use Rattle.vt_spec.specs.Machine.Receives.{inherited, regrouped}
-use Rattle.vt_spec.specs.Machine.Settled.{mount_lives, settled}
-use Rattle.vt_spec.specs.Machine.Types.{named_mounts, retyped_mount, type_after, with_new_groups, with_type}
-use Rattle.vt_spec.specs.Machine.World.{Filesystem, Task, World, filesystem_at, is_overlay, mount_at, mount_numbered, mounts_of, node_at, with_mounts, without_task}
-use Rattle.vt_spec.specs.Tree.{bytes_in}
-use Rattle.vt_spec.proofs.Lists.{all-filter, all-map}
 use Rattle.vt_laws_worlds.proofs.Plain.{plain_numbered}
 use Rattle.vt_laws_worlds.specs.Worlds.Kept.{IsPlain}
-use Rattle.vt_spec.proofs.Worlds.{filesystems-taken_away}
 
 abbrev free : Mount ℕ → Bool
 free mount = is_ungrouped mount.propagation

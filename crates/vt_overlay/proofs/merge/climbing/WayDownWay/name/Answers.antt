@@ -1,5 +1,4 @@
-use Rattle.std.proofs.Common.{Some, [], ap, arith, length, sym, true≢false, ◌-◌, ◌<◌, ◌≡◌, ◌∙◌}
-use Rattle.std.specs.Prelude.{is_some, option_copied, slice_get, unwrap_or}
+use Rattle.std.proofs.Common.{Some, [], ap, arith, length, sym, true≢false, ◌-◌, ◌<◌, ◌≡◌, ◌∙◌, is_some, option_copied, slice_get, unwrap_or}
 use Rattle.vt_fs.specs.Trees.TreeValue.{tree_of}
 use Rattle.vt_overlay.proofs.merge.GoingUp.{length-names_up, name_at}
 use Rattle.vt_overlay.proofs.merge.climbing.WayDownWay.name.Goals as goal
