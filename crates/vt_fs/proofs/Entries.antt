@@ -5,11 +5,11 @@ use Rattle.std.specs.List.{IsDistinct}
 use Rattle.indexmap.specs.IndexMap.{IndexMap, WritesThrough, get_by}
 use Rattle.vt_location.specs.declared.numbers.FilesystemId.{FilesystemId}
 use Rattle.vt_location.specs.InOrder.{in_order_by}
-use Rattle.vt_fs.specs.declared.filesystems.Filesystem.{Filesystem as Held}
+use Rattle.vt_fs.specs.declared.filesystems.Filesystem.{Filesystem}
 use Rattle.vt_fs.specs.FilesystemsValue.{FilesystemEntry, Filesystems, entries_in, entry_at, entry_of, held, held_entry, no_entry, with_changed, without}
 use Rattle.vt_location.proofs.OrderLemmas.{IsChanged, apart-below, change_kept, changed-by, in_order-changed, in_order-last, in_order-removed, is_above, length-in_order, looked-in_order, rises, rises-in_order}
-pub use Rattle.vt_spec.proofs.Truths.{or_false_left as or_first}
-pub use Rattle.vt_spec.proofs.Truths.{or_false_right as or_second}
+pub use Rattle.vt_spec.proofs.Truths.{or_false_left}
+pub use Rattle.vt_spec.proofs.Truths.{or_false_right}
 
 -- the equality of numbers as the map compares them, and the test by which it finds one
 abbrev pub key_eq : FilesystemId → FilesystemId → Bool
@@ -28,18 +28,18 @@ whole : (x y : FilesystemId) → x.count ≡ y.count → x ≡ y
 whole x y is = ap (λ n. record { count = n }) is
 
 -- what is kept, in the order of the counts
-abbrev in_order : List (FilesystemId × Held) → List (FilesystemId × Held)
+abbrev in_order : List (FilesystemId × Filesystem) → List (FilesystemId × Filesystem)
 in_order es = in_order_by count_of es
 
 -- an entry of this count
-abbrev pub of_count : ℕ → Held → FilesystemEntry
+abbrev pub of_count : ℕ → Filesystem → FilesystemEntry
 of_count f filesystem = record { count = f; tree = filesystem.tree; mounts = filesystem.mounts }
 
 same : (a b : ℕ) → nat_eq a b ≡ true → b ≡ a
 same a b e = sym (eqb-true a b e)
 
 -- the first filesystem is found under its count
-pub first_found : (id first : FilesystemId) (x : Held) (es : List (FilesystemId × Held))
+pub first_found : (id first : FilesystemId) (x : Filesystem) (es : List (FilesystemId × Filesystem))
     → Some (first, x) ≡ slice_get es 0 → key_eq first id ≡ true → Some x ≡ lookup (is_key id.count) es
 first_found id first x [] at is = absurd cc
 first_found id first x (e ∷ es) at is =
@@ -49,7 +49,7 @@ first_found id first x (e ∷ es) at is =
 
 module _ (f : ℕ) where
   -- a count finds the filesystem that it is the key of
-  entry_of-entries : (es : List (FilesystemId × Held))
+  entry_of-entries : (es : List (FilesystemId × Filesystem))
       → entry_of (entries_in es) f ≡ option_map (of_count f) (lookup (is_key f) es)
   entry_of-entries [] = refl
   entry_of-entries (e ∷ es) = by (nat_eq f e.0.count) (same f e.0.count) (entry_of-entries es)
@@ -61,14 +61,14 @@ module _ (f : ℕ) where
       by true is rest = λ i. Some (of_count (is refl i) e.1)
       by false is rest = rest
 
-  pub entry_of-held : (es : List (FilesystemId × Held))
+  pub entry_of-held : (es : List (FilesystemId × Filesystem))
       → entry_of (held es) f ≡ option_map (of_count f) (lookup (is_key f) es)
   entry_of-held es = entry_of-entries (in_order es) ∙ ap (option_map (of_count f)) (looked-in_order count_of (id_of f) es)
 
   -- the filesystem of a count is changed
-  entries-changed : (written : Held → Held) (change : FilesystemEntry → FilesystemEntry)
-      → ((k : ℕ) (one : Held) → of_count k (written one) ≡ change (of_count k one))
-      → (kept : List (FilesystemId × Held))
+  entries-changed : (written : Filesystem → Filesystem) (change : FilesystemEntry → FilesystemEntry)
+      → ((k : ℕ) (one : Filesystem) → of_count k (written one) ≡ change (of_count k one))
+      → (kept : List (FilesystemId × Filesystem))
       → entries_in (map (change_kept count_of (id_of f) written) kept) ≡ with_changed f change (entries_in kept)
   entries-changed written change so [] = refl
   entries-changed written change so (e ∷ kept) =
@@ -78,9 +78,9 @@ module _ (f : ℕ) where
       by true = so e.0.count e.1
       by false = refl
 
-  held-changed : (written : Held → Held) (change : FilesystemEntry → FilesystemEntry)
-      (es new : List (FilesystemId × Held))
-      → ((k : ℕ) (one : Held) → of_count k (written one) ≡ change (of_count k one))
+  held-changed : (written : Filesystem → Filesystem) (change : FilesystemEntry → FilesystemEntry)
+      (es new : List (FilesystemId × Filesystem))
+      → ((k : ℕ) (one : Filesystem) → of_count k (written one) ≡ change (of_count k one))
       → IsChanged count_of (id_of f) written es new → held new ≡ with_changed f change (held es)
   held-changed written change es new so writes =
       ap entries_in (in_order-changed count_of whole (id_of f) written es new writes)
@@ -98,7 +98,7 @@ module _ (f : ℕ) where
       by false absent rest = ap (λ l. e ∷ l) (rest absent)
 
   -- the filesystem of a count is removed
-  entries-without : (kept : List (FilesystemId × Held))
+  entries-without : (kept : List (FilesystemId × Filesystem))
       → entries_in (filter (λ one. not (nat_eq f one.0.count)) kept) ≡ without f (entries_in kept)
   entries-without [] = refl
   entries-without (e ∷ kept) = by (nat_eq f e.0.count) (entries-without kept)
@@ -110,54 +110,55 @@ module _ (f : ℕ) where
       by true rest = rest
       by false rest = ap (λ l. held_entry e ∷ l) rest
 
-  pub removed : (es new : List (FilesystemId × Held))
+  pub removed : (es new : List (FilesystemId × Filesystem))
       → ((q : FilesystemId) → lookup (key_eq q) new ≡ cond (nat_eq f q.count) None (lookup (key_eq q) es))
       → held new ≡ without f (held es)
   removed es new goes =
       ap entries_in (in_order-removed count_of whole (id_of f) es new goes) ∙ entries-without (in_order es)
 
 -- no two have the same count
-none_same : (k : ℕ) (es : List (FilesystemId × Held)) → AllByRecursion (λ y. nat_eq k y.count ≡ false) (keys_of es)
+none_same : (k : ℕ) (es : List (FilesystemId × Filesystem)) → AllByRecursion (λ y. nat_eq k y.count ≡ false)
+    (keys_of es)
     → list_any (λ (other : FilesystemEntry). nat_eq k other.count) (entries_in es) ≡ false
 none_same k [] apart = refl
 none_same k (e ∷ es) apart = λ i. apart.0 i || none_same k es apart.1 i
 
-counts_apart : (kept : List (FilesystemId × Held)) → T (rises count_of kept)
+counts_apart : (kept : List (FilesystemId × Filesystem)) → T (rises count_of kept)
     → any_pair (λ (a b : FilesystemEntry). nat_eq a.count b.count) (entries_in kept) ≡ false
 counts_apart [] rising = refl
 counts_apart (e ∷ kept) rising = λ i. none_same e.0.count kept (apart-below count_of e.0 kept (T_and_left _ _ rising)) i
     || counts_apart kept (T_and_right _ _ rising) i
 
-pub held_apart : (es : List (FilesystemId × Held)) (fs : Filesystems) → held es ≡ fs
+pub held_apart : (es : List (FilesystemId × Filesystem)) (fs : Filesystems) → held es ≡ fs
     → any_pair (λ (a b : FilesystemEntry). nat_eq a.count b.count) fs ≡ false
 held_apart es fs view = ap (any_pair (λ (a b : FilesystemEntry). nat_eq a.count b.count)) (sym view)
     ∙ counts_apart (in_order es) (rises-in_order count_of es)
 
 -- what the map has under a count is the tree of the filesystem of that count
-pub tree_of-held : (f : ℕ) (es : List (FilesystemId × Held)) (o : Option Held) → o ≡ lookup (is_key f) es
-    → option_map (λ (found : Held). found.tree) o
+pub tree_of-held : (f : ℕ) (es : List (FilesystemId × Filesystem)) (o : Option Filesystem) → o ≡ lookup (is_key f) es
+    → option_map (λ (found : Filesystem). found.tree) o
     ≡ option_map (λ (entry : FilesystemEntry). entry.tree) (entry_of (held es) f)
-tree_of-held f es o is = ap (option_map (λ (found : Held). found.tree)) is ∙ both (lookup (is_key f) es)
+tree_of-held f es o is = ap (option_map (λ (found : Filesystem). found.tree)) is ∙ both (lookup (is_key f) es)
     ∙ ap (option_map (λ (entry : FilesystemEntry). entry.tree)) (sym (entry_of-held f es))
   where
-    both : (o : Option Held) → option_map (λ (found : Held). found.tree) o
+    both : (o : Option Filesystem) → option_map (λ (found : Filesystem). found.tree) o
         ≡ option_map (λ (entry : FilesystemEntry). entry.tree) (option_map (of_count f) o)
     both None = refl
     both (Some found) = refl
 
 -- How many mounts show a filesystem
 
-pub mounts_of-held : (f : ℕ) (es : List (FilesystemId × Held)) (fs : Filesystems) (x : Held) → held es ≡ fs
+pub mounts_of-held : (f : ℕ) (es : List (FilesystemId × Filesystem)) (fs : Filesystems) (x : Filesystem) → held es ≡ fs
     → lookup (is_key f) es ≡ Some x → (entry_at fs f).mounts ≡ x.mounts
 mounts_of-held f es fs x view found = ap (λ fs. (entry_at fs f).mounts) (sym view)
     ∙ ap (λ (o : Option FilesystemEntry). (unwrap_or o (no_entry f)).mounts)
     (entry_of-held f es ∙ ap (option_map (of_count f)) found)
 
 -- what was written to the filesystem of a count, and what is written to none
-pub writes : {S : Type 0} (f : ℕ) (written : Held → Held) (change : FilesystemEntry → FilesystemEntry)
-    (m n : IndexMap FilesystemId Held S) (fs : Filesystems) (x w : Held) → held m.entries ≡ fs
+pub writes : {S : Type 0} (f : ℕ) (written : Filesystem → Filesystem) (change : FilesystemEntry → FilesystemEntry)
+    (m n : IndexMap FilesystemId Filesystem S) (fs : Filesystems) (x w : Filesystem) → held m.entries ≡ fs
     → get_by (is_key f) m ≡ Some x → w ≡ written x
-    → ((k : ℕ) (one : Held) → of_count k (written one) ≡ change (of_count k one))
+    → ((k : ℕ) (one : Filesystem) → of_count k (written one) ≡ change (of_count k one))
     → WritesThrough key_eq (is_key f) m w n → held n.entries ≡ with_changed f change fs
 writes f written change m n fs x w view there is so through = held-changed f written change m.entries n.entries so
     (changed-by count_of whole (id_of f) written m.entries n.entries x w there is (through.3 some).0)
@@ -166,24 +167,25 @@ writes f written change m n fs x w view there is so through = held-changed f wri
     some : IsSome (get_by (is_key f) m)
     some = ap is_some there
 
-pub writes_none : (f : ℕ) (change : FilesystemEntry → FilesystemEntry) (es new : List (FilesystemId × Held))
+pub writes_none : (f : ℕ) (change : FilesystemEntry → FilesystemEntry) (es new : List (FilesystemId × Filesystem))
     (fs : Filesystems) → held es ≡ fs → lookup (is_key f) es ≡ None → new ≡ es → held new ≡ with_changed f change fs
 writes_none f change es new fs view absent is = ap held is ∙ view ∙ sym (absent_changed f change fs
     (ap (λ fs. entry_of fs f) (sym view) ∙ entry_of-held f es ∙ ap (option_map (of_count f)) absent))
 
 -- A new filesystem
 
-entries_behind : (e : FilesystemId × Held) (kept : List (FilesystemId × Held))
+entries_behind : (e : FilesystemId × Filesystem) (kept : List (FilesystemId × Filesystem))
     → entries_in (kept ++ e ∷ []) ≡ entries_in kept ++ held_entry e ∷ []
 entries_behind e [] = refl
 entries_behind e (first ∷ kept) = ap (λ l. held_entry first ∷ l) (entries_behind e kept)
 
-above_entries : (k : FilesystemId) (kept : List (FilesystemId × Held))
+above_entries : (k : FilesystemId) (kept : List (FilesystemId × Filesystem))
     → list_all (λ (entry : FilesystemEntry). nat_lt entry.count k.count) (entries_in kept) ≡ is_above count_of k kept
 above_entries k [] = refl
 above_entries k (e ∷ kept) = ap (λ b. nat_lt e.0.count k.count && b) (above_entries k kept)
 
-pub added : (es new : List (FilesystemId × Held)) (fs : Filesystems) (k : FilesystemId) (x : Held) → held es ≡ fs
+pub added : (es new : List (FilesystemId × Filesystem)) (fs : Filesystems) (k : FilesystemId) (x : Filesystem) → held
+    es ≡ fs
     → list_all (λ (entry : FilesystemEntry). nat_lt entry.count k.count) fs ≡ true
     → ((q : FilesystemId) → lookup (key_eq q) new ≡ cond (key_eq k q) (Some x) (lookup (key_eq q) es))
     → held new ≡ fs ++ held_entry (k, x) ∷ []
@@ -196,11 +198,12 @@ added es new fs k x view above comes = ap entries_in (in_order-last count_of who
 
 -- As many as are kept
 
-length_entries : (kept : List (FilesystemId × Held)) → length (entries_in kept) ≡ length kept
+length_entries : (kept : List (FilesystemId × Filesystem)) → length (entries_in kept) ≡ length kept
 length_entries [] = refl
 length_entries (e ∷ kept) = ap suc (length_entries kept)
 
-pub held_length : (es : List (FilesystemId × Held)) (fs : Filesystems) → held es ≡ fs → IsDistinct key_eq (keys_of es)
+pub held_length : (es : List (FilesystemId × Filesystem)) (fs : Filesystems) → held es ≡ fs → IsDistinct key_eq
+    (keys_of es)
     → length es ≡ length fs
 held_length es fs view distinct =
     sym (length-in_order count_of es distinct) ∙ sym (length_entries (in_order es)) ∙ ap length view

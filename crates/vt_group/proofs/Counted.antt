@@ -11,7 +11,7 @@ use Rattle.vt_group.specs.Indexed.{group_of_kind}
 use Rattle.vt_group.specs.Sets.{same_group}
 use Rattle.vt_group.specs.Types.{AreCounted, count_members, count_of, counts_group, is_in_group, one_in}
 use Rattle.vt_group.proofs.IndexLemmas.{itself}
-use Rattle.vt_group.proofs.SetsLemmas.{same_id}
+use Rattle.vt_group.proofs.SetsLemmas.{same_number}
 
 none_below : {X : Type 0} (mount low : ℕ) (es : List (ℕ × X)) → nat_cmp mount low ≡ Less
     → AllByRecursion (λ other. nat_cmp low other ≡ Less) (keys_of es) → lookup (is_at (nat_cmp mount)) es ≡ None
@@ -127,7 +127,7 @@ module _ (old new : List (GroupId × ℕ)) (group : GroupId) (found : Option ℕ
   count_kept is at = count_updated at ∙ by (same_group group at) refl
     where
       by : (b : Bool) → same_group group at ≡ b → cond b (unwrap_or found 0) (count_of old at) ≡ count_of old at
-      by true same = is ∙ ap (count_of old) (sym (same_id group at same))
+      by true same = is ∙ ap (count_of old) (sym (same_number group at same))
       by false apart = refl
 
   -- groups keep their entries where the entry is written

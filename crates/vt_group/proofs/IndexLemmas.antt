@@ -10,7 +10,7 @@ use Rattle.vt_group.specs.declared.sets.Sets.{Sets}
 use Rattle.vt_group.specs.Indexed.{has_source, is_listed, is_relative, source_of_kind}
 use Rattle.vt_group.specs.Names.{KeepsNames, Named, is_under, names_of}
 use Rattle.vt_group.specs.Sets.{has, same_group}
-use Rattle.vt_group.proofs.SetsLemmas.{same_id}
+use Rattle.vt_group.proofs.SetsLemmas.{same_number}
 
 module _ {A : Type 0} (p q : A → Bool) where
   one_more : (x : A) (xs : List A) → (p x ≡ true → q x ≡ true) → (list_any p xs ≡ true → list_any q xs ≡ true)
@@ -79,9 +79,9 @@ any-kept count at number ids left is some there = ap (list_any (λ id. nat_eq nu
 pub relative_of_source : (index : Index) (mount : MountId) (kind : Propagation) (group : GroupId)
     → has_source group kind ≡ true → is_listed index mount kind ≡ true → is_relative index mount group ≡ true
 relative_of_source index mount (Shared own) group source listed =
-    ap (is_relative index mount) (sym (same_id group own source)) ∙ listed
+    ap (is_relative index mount) (sym (same_number group own source)) ∙ listed
 relative_of_source index mount (Slave master) group source listed =
-    ap (is_relative index mount) (sym (same_id group master source)) ∙ listed
+    ap (is_relative index mount) (sym (same_number group master source)) ∙ listed
 relative_of_source index mount Private group source listed = absurd (true≢false (sym source))
 relative_of_source index mount Unbindable group source listed = absurd (true≢false (sym source))
 
@@ -103,9 +103,9 @@ unlisted_still Was Is types mount found is others own other kind at = by (nat_eq
 -- a type with one source does not have another
 pub apart_source : (lost group : GroupId) (kind : Propagation) → has_source lost kind ≡ false
     → has_source group kind ≡ true → same_group lost group ≡ false
-apart_source lost group (Shared own) apart source = ap (same_group lost) (sym (same_id group own source)) ∙ apart
+apart_source lost group (Shared own) apart source = ap (same_group lost) (sym (same_number group own source)) ∙ apart
 apart_source lost group (Slave master) apart source =
-    ap (same_group lost) (sym (same_id group master source)) ∙ apart
+    ap (same_group lost) (sym (same_number group master source)) ∙ apart
 apart_source lost group Private apart source = absurd (true≢false (sym source))
 apart_source lost group Unbindable apart source = absurd (true≢false (sym source))
 
@@ -126,13 +126,13 @@ apart_from_each name at names none among = by (same_group name at) refl
   where
     by : (b : Bool) → same_group name at ≡ b → same_group name at ≡ false
     by true same = absurd (true≢false (sym among
-        ∙ ap (λ (id : GroupId). list_any (λ other. same_group other id) names) (same_id name at same) ∙ none))
+        ∙ ap (λ (id : GroupId). list_any (λ other. same_group other id) names) (same_number name at same) ∙ none))
     by false apart = apart
 
 -- the source of a type is the group that it names
 pub source_told_kind : (group : GroupId) (kind : Propagation) → has_source group kind ≡ true
     → source_of_kind kind ≡ Some group
-source_told_kind group (Shared own) source = ap Some (same_id group own source)
-source_told_kind group (Slave master) source = ap Some (same_id group master source)
+source_told_kind group (Shared own) source = ap Some (same_number group own source)
+source_told_kind group (Slave master) source = ap Some (same_number group master source)
 source_told_kind group Private source = absurd (true≢false (sym source))
 source_told_kind group Unbindable source = absurd (true≢false (sym source))

@@ -7,8 +7,8 @@ use Rattle.vt_group.specs.declared.sets.Sets.{Sets}
 use Rattle.vt_group.specs.Sets.{elements, has, kept_in, same_group}
 
 -- groups that are the same are one
-pub same_id : (a b : GroupId) → same_group a b ≡ true → b ≡ a
-same_id a b same = λ i. record { count = sym (eqb-true a.count b.count same) i }
+pub same_number : (a b : GroupId) → same_group a b ≡ true → b ≡ a
+same_number a b same = λ i. record { count = sym (eqb-true a.count b.count same) i }
 
 module _ {T : Type 0} (eq : T → T → Bool) (old new : Sets T) (group : GroupId) where
   -- another set under the group
@@ -30,7 +30,8 @@ module _ {T : Type 0} (eq : T → T → Bool) (old new : Sets T) (group : GroupI
   has-onto was now keeps is other stays at there = ap (list_any (eq other)) (keeps at) ∙ by (same_group group at) refl
     where
       by : (b : Bool) → same_group group at ≡ b → list_any (eq other) (if b then now else kept_in at old) ≡ true
-      by true same = stays (ap (list_any (eq other)) (sym is ∙ ap (λ id. kept_in id old) (sym (same_id group at same))) ∙ there)
+      by true same = stays
+          (ap (list_any (eq other)) (sym is ∙ ap (λ id. kept_in id old) (sym (same_number group at same))) ∙ there)
       by false apart = there
 
   -- and all but the one that was removed
@@ -46,7 +47,7 @@ module _ {T : Type 0} (eq : T → T → Bool) (old new : Sets T) (group : GroupI
       by : (b : Bool) → same_group group at ≡ b → (b && eq one other) ≡ false
           → list_any (eq other) (if b then now else kept_in at old) ≡ true
       by true same apart = stays other apart
-          (ap (list_any (eq other)) (sym is ∙ ap (λ id. kept_in id old) (sym (same_id group at same))) ∙ there)
+          (ap (list_any (eq other)) (sym is ∙ ap (λ id. kept_in id old) (sym (same_number group at same))) ∙ there)
       by false differ apart = there
 
 -- an entry that is dropped is not found

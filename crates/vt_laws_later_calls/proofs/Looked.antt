@@ -2,7 +2,7 @@
 use Rattle.std.proofs.Common.{arith, ◌≡◌, refl, ap, ◌∙◌, ℕ, nat_eq, Bool, true, false, cond, not, ◌||◌, ◌&&◌, List, [], ◌∷◌, Option, Some, Ok, Err, ok_or, Result}
 use Rattle.vt_spec.proofs.Common.{Answer, Bytes, Call, Content, Credentials, Fresh, Here, Judgement, Ls, Lstat, Names, Node, Outcome, Read, Readlink, Regular, Stat, Stop, Task, TaskName, ToList, ToRead, ToStat, Told, World, after, allows, and_then, apply, bytes_in, call_outcome, common_steps, denial, execute_right, filesystems_changed_by, finished, is_directory_node, is_kind_in, judge_in, kind_of, list_permit, lstat_permit, mount_at, mounter_allows, names_in, node_allows, node_at, policy, read_permit, read_right, readlink_permit, stat_line, stat_permit, task_called, unless, walk_end}
 use Rattle.vt_spec.specs.declared.attributes.Attr.{Attr}
-use Rattle.vt_spec.specs.declared.attributes.Kind.TheVariants.{File, Symlink as SymlinkKind}
+use Rattle.vt_spec.specs.declared.attributes.Kind.TheVariants.{File, Symlink}
 use Rattle.vt_spec.specs.declared.errors.Rule.TheVariants.{B1, C1, E5, S2}
 use Rattle.vt_spec.proofs.Tables.{list_rules, read_rules, readlink_rules}
 use Rattle.vt_spec.proofs.Walk.{directory_walk, object_walk, symlink_walk}
@@ -66,7 +66,7 @@ module _ (world : World ℕ) (fresh : Fresh ℕ) (name : TaskName) (task : Task 
       ∙ ap (λ r. answer_of (and_then (walk_end r) (λ (here : Here ℕ). Ok (ToStat here.location)))) walk
 
   pub readlink_of : (here : Here ℕ) → symlink_walk nat_eq world task path ≡ Ok here
-      → is_kind_in SymlinkKind (node_at nat_eq world here.location) ≡ true
+      → is_kind_in Symlink (node_at nat_eq world here.location) ≡ true
       → (policy nat_eq fresh world name (Readlink path)).answer
       ≡ Ok (Bytes (bytes_in (node_at nat_eq world here.location)))
   unfolding readlink_permit

@@ -1,7 +1,7 @@
 -- The descriptor of an open is on the file that is there, or with creat on a new one, which is empty.
 use Rattle.std.proofs.Common.{arith, ◌≡◌, refl, sym, ap, subst, ◌∙◌, true≢false, ℕ, nat_eq, eq-eqb, true, false, cond, List, [], take, drop, Some, None, Ok, find, Bool}
 use Rattle.vt_spec.proofs.Common.{Access, Answer, Bytes, Call, Creation, Descriptor, Exclusive, FileTree, Fresh, Here, IsWorld, Location, Looks, Make, NoCreation, Node, OpenFile, Opened, OrCreate, Outcome, Permit, Place, Serves, Task, TaskName, ToOpen, World, apply, bytes_in, changed, common_steps, descriptor_numbered, directory_used, evens, file_walk, files_at, filesystem_numbered, free_number, is_directory_node, is_special, is_within_limits, looks_of, mount_at, mount_in, name_of, new_file, new_walk, node_at, node_with_entry, none_is_not, object_walk, odds, open_new_permit, opened, opens_for_reading, opens_for_writing, policy, raised_task, same_Some, same_name, task_called, with_descriptor, with_inode, with_new_inode, with_task}
-use Rattle.vt_laws_mounts.proofs.letting_go.Lists.{passes}
+use Rattle.vt_laws_mounts.proofs.letting_go.Lists.{among_from_list_all}
 use Rattle.vt_laws_trees.specs.Trees.Calls.{mounts_overlay}
 use Rattle.vt_laws_trees.specs.Trees.Limits.{names_few_groups}
 use Rattle.vt_laws_trees.proofs.trees.ChangesNodes.{elsewhere}
@@ -58,7 +58,8 @@ module _ (world : World ℕ) (fresh : Fresh ℕ) (name : TaskName) (task : Task 
       (sym (name_found world name task called))
 
   in_order : is_within_limits task ≡ true
-  in_order = passes is_within_limits world.tasks is.tasks.small_tasks task (called_there world.tasks name task called)
+  in_order = among_from_list_all is_within_limits world.tasks is.tasks.small_tasks task
+      (called_there world.tasks name task called)
 
   found : descriptor_numbered new_task number ≡ Some new_descriptor
   found = ap (λ n. find (λ (d : Descriptor ℕ). nat_eq n d.number) new_task.descriptors) is_free

@@ -4,7 +4,7 @@ use Rattle.vt_spec.proofs.Common.{Bytes, Call, Descriptor, Done, Filesystem, Fre
 use Rattle.std.proofs.lemmas.List.{length-replicate}
 use Rattle.vt_spec.specs.declared.attributes.Kind.TheVariants.{File}
 use Rattle.vt_spec.specs.declared.errors.Rule.TheVariants.{S4}
-use Rattle.vt_laws_mounts.proofs.letting_go.Lists.{Among, among-map, passes}
+use Rattle.vt_laws_mounts.proofs.letting_go.Lists.{Among, among-map, among_from_list_all}
 use Rattle.vt_laws_worlds.specs.Worlds.Kept.{IsPlain}
 use Rattle.vt_laws_worlds.proofs.worlds.SeenTrees.{change_of_plain, changed_one, found_new, old_number}
 use Rattle.vt_laws_trees.proofs.trees.TreesOfWorlds.{numbered}
@@ -94,8 +94,8 @@ open_regular : (world : World ℕ) (name : TaskName) (task : Task ℕ) (number :
     → IsWorld nat_eq world → task_called world name ≡ Some task → descriptor_numbered task number ≡ Some descriptor
     → is_kind_in File (node_at nat_eq world descriptor.location) ≡ true
 open_regular world name task number descriptor is called found =
-    passes (λ (d : Descriptor ℕ). is_kind_in File (node_at nat_eq world d.location)) task.descriptors
-    (passes (has_regular_files_open nat_eq world) world.tasks is.tasks.open_files task
+    among_from_list_all (λ (d : Descriptor ℕ). is_kind_in File (node_at nat_eq world d.location)) task.descriptors
+    (among_from_list_all (has_regular_files_open nat_eq world) world.tasks is.tasks.open_files task
     (called_there world.tasks name task called))
     descriptor (found_among (λ (d : Descriptor ℕ). nat_eq number d.number) task.descriptors descriptor found)
 

@@ -7,7 +7,7 @@ use Rattle.vt_spec.proofs.Walk.{stepped}
 use Rattle.vt_laws_mounts.specs.Mounts.Attaching.{numbers_of}
 use Rattle.vt_laws_mounts.proofs.mounts.MountsFound.{found_there}
 use Rattle.vt_laws_trees.specs.Trees.{IsFileTree}
-use Rattle.vt_laws_trees.proofs.trees.TreesEntered.{chain_ends}
+use Rattle.vt_laws_trees.proofs.trees.TreesEntered.{chain_ends_at}
 use Rattle.vt_laws_worlds.proofs.permits.sees.SeesNames.{tree_here}
 use Rattle.vt_laws_worlds.specs.Worlds.Kept.{IsPlain}
 use Rattle.vt_laws_worlds.proofs.Plain.{plain_numbered}
@@ -178,10 +178,10 @@ module _ (world later : World ℕ) (is : IsWorld nat_eq world) (plain : IsPlain 
 
   top_known : (here : Location ℕ) → KnownDirectory here → KnownDirectory (top here)
   top_known here known = (
-    chain_ends (IsFoundDirectory world is task) (hop nat_eq world task) hop_known
+    chain_ends_at (IsFoundDirectory world is task) (hop nat_eq world task) hop_known
         (length world.mounts) here here known.0,
     subst (IsFoundDirectory later is_later reader) (top_same here)
-        (chain_ends (IsFoundDirectory later is_later reader) (hop nat_eq later reader) hop_known_later
+        (chain_ends_at (IsFoundDirectory later is_later reader) (hop nat_eq later reader) hop_known_later
         (length later.mounts) here here known.1),
   )
 

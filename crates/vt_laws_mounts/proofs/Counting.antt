@@ -2,7 +2,7 @@
 use Rattle.std.proofs.Common.{◌≡◌, ℕ, Bool, true, false, cond, ◌+◌, ◌*◌, ◌≤◌, ◌++◌, ◌||◌, List, [], ◌∷◌, map, filter, length, nat_eq, Option, None, Some, flat_map, suc, refl, sym, ap, ◌∙◌, arith, true≢false, inl, inr, append_assoc, eq-eqb, find, unwrap_or, eqb-true, length-append}
 use Rattle.vt_spec.proofs.Common.{Among, Copies, Graft, Location, Mount, World, among-from_map, among-map, attached_by, common_steps, copies_at, copy_at, filter-append, folded, graft_of, group_of, holds_of, is_among, is_among_numbers, length-map, list_any, map_alike, mount_at, mount_in, no_mount, none_among, or_parts, parts_of, pushed_up, receivers_of, takes_part, twig_of, with_mount}
 use Rattle.vt_laws_mounts.specs.Mounts.Attaching.{numbers_of, OneNumberAMount}
-use Rattle.vt_laws_mounts.proofs.mounts.MountsFound.{number_found}
+use Rattle.vt_laws_mounts.proofs.mounts.MountsFound.{number-mount_in}
 use Rattle.vt_laws_mounts.proofs.mounts.MountsReplaced.{found-with_mount_other, found_itself, numbers-with_mount, one_number_by_numbers}
 use Rattle.vt_laws_mounts.specs.Mounts.Ending.{count_in, is_in}
 
@@ -255,7 +255,7 @@ module _ (world : World ℕ) (place : Location ℕ) where
     -- a mount that moves keeps its number
     keeps_number : (mount : Mount ℕ) → (there_now mount).number ≡ mount.number
     keeps_number mount = ap (λ b. cond b mount.number (new.copy (mount_at nat_eq world place).number mount.number))
-        (eq-eqb (mount_at nat_eq world place).number place.mount (number_found world.mounts place.mount))
+        (eq-eqb (mount_at nat_eq world place).number place.mount (number-mount_in world.mounts place.mount))
 
     -- at the destination the mounts themselves come
     come : copies_at nat_eq world new (graft new true tree) parts (mount_at nat_eq world place) ≡ map there_now tree

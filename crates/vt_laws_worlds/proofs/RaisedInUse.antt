@@ -4,11 +4,10 @@ use Rattle.vt_spec.proofs.Common.{All-map, All-weaker, Filesystem, IsWorld, Laye
 use Rattle.vt_laws_mounts.specs.LettingGo.InUse.{AllInUse, is_inode_used}
 use Rattle.vt_laws_mounts.proofs.letting_go.sweeps.InUse.{nothing_goes}
 use Rattle.vt_laws_mounts.proofs.letting_go.Lists.{any-map, flat_map-map}
-use Rattle.vt_laws_mounts.proofs.letting_go.sweeps.OfWorlds.{all_in_use}
 use Rattle.vt_laws_worlds.specs.Worlds.Kept.{IsPlain, IsWorldButForUse}
 use Rattle.vt_laws_worlds.proofs.Plain.{plain_overlays}
 use Rattle.vt_laws_worlds.proofs.Raised.{counted, unsettled_counted}
-pub use Rattle.vt_laws_mounts.proofs.letting_go.sweeps.OfWorlds.{all_in_use as worlds_are_in_use}
+pub use Rattle.vt_laws_mounts.proofs.letting_go.sweeps.OfWorlds.{all_in_use}
 
 -- the invariants of a world are those while a call is under way, and that nothing goes
 pub unsettled_of : (world : World ℕ) → IsWorld nat_eq world → IsPlain world → IsWorldButForUse world

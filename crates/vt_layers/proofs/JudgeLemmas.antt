@@ -1,6 +1,6 @@
 -- Layers that options name, and mounts of overlays judged by them.
 use Rattle.std.proofs.Common.{◌≡◌, ◌≤◌, ℕ, Bool, true, false, [], ◌∷◌, Result, Ok, Err, Option, None, Some, length, take, nat_eq, refl, sym, ap, ◌∙◌, arith, length-take-le, List, is_some, nat_lt, not, ◌&&◌, take_all}
-use Rattle.vt_spec.proofs.Common.{Call, Here, Judgement, LayerLocations, Location, Looks, MountFlags, OverlayWords, Permit, Rules, Task, ToMountOverlay as MeansToMount, and_then, cap_sys_admin, denial, destination_walk, has_single_lower, is_empty_list, lacks, layer_rules, layers_walked, most_lowers, mount_overlay_permit, nat_tests, new_mount_rules, overlay_at, overlay_permit_by, rest_of, unless, unless-let_through, unless-refused, walk_end}
+use Rattle.vt_spec.proofs.Common.{Call, Here, Judgement, LayerLocations, Location, Looks, MountFlags, OverlayWords, Permit, Rules, Task, ToMountOverlay, and_then, cap_sys_admin, denial, destination_walk, has_single_lower, is_empty_list, lacks, layer_rules, layers_walked, most_lowers, mount_overlay_permit, nat_tests, new_mount_rules, overlay_at, overlay_permit_by, rest_of, unless, unless-let_through, unless-refused, walk_end}
 use Rattle.vt_spec.specs.declared.errors.Deny.{Deny}
 use Rattle.vt_spec.specs.declared.errors.Rule.TheVariants.{K1, O2, S5}
 use Rattle.vt_permits.specs.Memory.{JudgesByReceivers}
@@ -106,7 +106,7 @@ module _ (looks : Looks ℕ) (task : Task ℕ) where
 
     abbrev asked : Location ℕ → Layers → Judgement ℕ
     asked place layers =
-        let permit = MeansToMount place (overlay_at looks task layers) flags in
+        let permit = ToMountOverlay place (overlay_at looks task layers) flags in
         unless (new_mount_rules nat_eq looks task place (overfills permit)) (Ok permit)
 
     by_layers : (place : Location ℕ) (options : Option OverlayWords)

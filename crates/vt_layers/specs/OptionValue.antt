@@ -2,7 +2,7 @@
 use Rattle.std.specs.Borrow.{Bor}
 use Rattle.std.specs.Prelude.{List, None, Option, Some, [], ℕ}
 use Rattle.vt_spec.specs.Language.Script.{OptionItem as ItemMeant}
-use Rattle.vt_spec.specs.Language.Script.OptionItem.{LowerItem, OffItem as MeansOff, UpperItem, WorkItem}
+use Rattle.vt_spec.specs.Language.Script.OptionItem.{LowerItem, OffItem, UpperItem, WorkItem}
 use Rattle.vt_spec.specs.PathText.{parts}
 use Rattle.vt_layers.specs.declared.options.OptionItem.{OptionItem}
 use Rattle.vt_layers.specs.declared.options.OptionItem.TheVariants.{Lowers, Off, Upper, Work}
@@ -17,4 +17,4 @@ abbrev pub item_of : OptionItem → ItemMeant
 item_of (Lowers paths) = LowerItem (parts 58 paths.now)
 item_of (Upper path) = UpperItem path.now
 item_of (Work path) = WorkItem path.now
-item_of Off = MeansOff
+item_of Off = OffItem

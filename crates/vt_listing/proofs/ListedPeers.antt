@@ -8,7 +8,7 @@ use Rattle.vt_location.specs.declared.numbers.NamespaceId.{NamespaceId}
 use Rattle.vt_location.specs.Numbers.{counted}
 use Rattle.vt_spec.specs.Machine.Listing.{all_attached, attached_in, is_slave_of, peer_line}
 use Rattle.vt_mount.proofs.AttachedLemmas.{picked_next}
-use Rattle.vt_mount.proofs.EntryLemmas.{same_count}
+use Rattle.vt_mount.proofs.EntryLemmas.{counted_test}
 use Rattle.vt_group.specs.Sets.{same_group}
 use Rattle.vt_request.specs.declared.answer.MountPlace.{MountPlace}
 use Rattle.vt_request.specs.Answers.{mount_place_of}
@@ -52,7 +52,7 @@ pub added_under : (own group : GroupId) (at : MountPlace) (old new : List MountP
     ≡ map mount_place_of old ++ cons_option (when (nat_eq (counted group.count) (counted own.count)) (mount_place_of at)) []
 added_under own group at old new is = ap (map mount_place_of) is ∙ by (same_group group own)
     ∙ ap (λ b. map mount_place_of old ++ cons_option (when b (mount_place_of at)) [])
-    (sym (same_count group.count own.count))
+    (sym (counted_test group.count own.count))
   where
     by : (b : Bool) → map mount_place_of (if b then old ++ at ∷ [] else old)
         ≡ map mount_place_of old ++ cons_option (when b (mount_place_of at)) []

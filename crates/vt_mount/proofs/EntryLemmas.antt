@@ -12,8 +12,8 @@ use Rattle.vt_mount.specs.Listed.{same_id}
 use Rattle.vt_mount.specs.MountsValue.{MountEntry, changed, entries_of, entry_numbered, entry_of, in_order, is_unused, mount_kept, mounts_in, without}
 use Rattle.vt_mount.proofs.IndexLemmas.{same_mount_id}
 use Rattle.vt_mount.proofs.OrderLemmas.{change_kept, found, found-in_order, in_order-changed, in_order-last, in_order-removed, is_above, length-in_order, tied, without_kept}
-use Rattle.vt_location.proofs.NumberLemmas.{counted_test, counted_less}
-pub use Rattle.vt_location.proofs.NumberLemmas.{counted_test as same_count}
+use Rattle.vt_location.proofs.NumberLemmas.{counted_less}
+pub use Rattle.vt_location.proofs.NumberLemmas.{counted_test}
 
 abbrev pub entries : List (MountId × Mounted) → List MountEntry
 entries kept = map entry_of kept

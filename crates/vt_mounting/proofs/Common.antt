@@ -12,8 +12,8 @@ pub use Rattle.vt_laws_mounts.proofs.counts.overlays.FilesystemUses.{no_upper_is
 pub use Rattle.vt_laws_mounts.proofs.counts.overlays.Living.{overlays_use_filesystems}
 pub use Rattle.vt_laws_mounts.proofs.counts.using.Exchanged.{uses_are_exchanged_beside_overlays}
 pub use Rattle.vt_laws_mounts.proofs.counts.using.Places.{exchanges_follow, locations_use_mounts, mount_is_placed}
-pub use Rattle.vt_laws_mounts.proofs.letting_go.Lists.{Among, all_from_among, all_pass, among-append, among-append_left, among-append_right, among-filter, among-filter_map, among-flat_map, among-from_filter, among-from_flat_map, among-from_map, among-map, among_from_all, among_numbers, any-filter, any-map, any_passes, fails, filter-map, filter_alike, filter_all, filter_less, filter_twice, flat_map_alike, found_in, is_among_left, is_among_numbers, map_same, none_passes, one_passes, or_first, or_second, passes}
-pub use Rattle.vt_laws_mounts.proofs.letting_go.leaving.PlacesLeft.{found_is_there, found_itself, number_found}
+pub use Rattle.vt_laws_mounts.proofs.letting_go.Lists.{Among, all_from_among, among-append, among-append_left, among-append_right, among-filter, among-filter_map, among-flat_map, among-from_filter, among-from_flat_map, among-from_map, among-map, among_from_all, among_from_list_all, among_numbers, any-filter, any-map, any_among, any_from_among, filter-map, filter_alike, filter_all, filter_less, filter_twice, flat_map_alike, found_in, is_among_left, is_among_numbers, list_all_from_among, map_same, none_among, none_from_among, or_left, or_right}
+pub use Rattle.vt_laws_mounts.proofs.letting_go.leaving.PlacesLeft.{found_is_there, found_itself, number-mount_in}
 pub use Rattle.vt_laws_mounts.proofs.letting_go.sweeps.OfWorlds.{found_filesystem, mounts_of_worlds_stand, worlds_have_trees}
 pub use Rattle.vt_laws_mounts.proofs.letting_go.sweeps.OneByOne.{mounts_go_one_by_one}
 pub use Rattle.vt_laws_mounts.proofs.letting_go.sweeps.UpperUses.{times_append}
@@ -41,7 +41,7 @@ pub use Rattle.vt_laws_rules.specs.Numbers.{KeepsTo, location_named}
 pub use Rattle.vt_laws_trees.proofs.runs.answered.AlikeWorlds.{alike_from_same, sameness_is_an_equivalence}
 pub use Rattle.vt_laws_trees.proofs.trees.TreesOfWorlds.{number_numbered, numbered_all}
 pub use Rattle.vt_laws_trees.specs.Runs.Handed.{counts_from, handed_from, is_counted_before}
-pub use Rattle.vt_laws_worlds.proofs.RaisedInUse.{worlds_are_in_use}
+pub use Rattle.vt_laws_worlds.proofs.RaisedInUse.{all_in_use}
 pub use Rattle.vt_laws_worlds.proofs.one_text.same.SameNumbers.{any_same_worlds_keep_to_numbers}
 pub use Rattle.vt_laws_worlds.proofs.one_text.same.SameWhole.{any_same_worlds_are_worlds}
 pub use Rattle.vt_laws_worlds.proofs.overlays_read.Swept.{same_worlds_have_layers_alike}
@@ -51,7 +51,7 @@ pub use Rattle.vt_laws_worlds.proofs.permits.in_use.InUseServes.{leaves_two}
 pub use Rattle.vt_laws_worlds.proofs.permits.named.PermitsKeepTo.{permits_keep_to_numbers}
 pub use Rattle.vt_laws_worlds.proofs.permits.taken.TakenAttached.{index_bound}
 pub use Rattle.vt_laws_worlds.proofs.permits.taken.TakenNumbers.{counted_later}
-pub use Rattle.vt_laws_worlds.proofs.worlds.Roots.{directory_there}
+pub use Rattle.vt_laws_worlds.proofs.worlds.Roots.{directory_is_there}
 pub use Rattle.vt_laws_worlds.specs.Given.LeftWorlds.{IsGivenToTask}
 pub use Rattle.vt_laws_worlds.specs.OverlaysRead.Writers.{WritersHaveLayers}
 pub use Rattle.vt_laws_worlds.specs.OverlaysStay.Woven.{are_rising, put_in, woven}

@@ -3,10 +3,10 @@ pub use Rattle.vt_cred.specs.MountFlags.{flags_of}
 pub use Rattle.vt_fs.specs.FilesystemsValue.{ChangesInodes, FilesystemEntry, Filesystems, Shown, entry_of, files_at, filesystem_seen, inodes_at, inodes_seen, next_seen, no_entry, node_seen, shown, shown_entry}
 pub use Rattle.vt_group.proofs.Others.{has_ordered}
 pub use Rattle.vt_group.specs.Grouping.{Grouping, Has}
-pub use Rattle.vt_laws_mounts.proofs.letting_go.Lists.{Among, all_from_among, among-append_right, among-from_filter, among-from_map, among-map, among_from_all, is_among_numbers, passes}
+pub use Rattle.vt_laws_mounts.proofs.letting_go.Lists.{Among, all_from_among, among-append_right, among-from_filter, among-from_map, among-map, among_from_all, among_from_list_all, is_among_numbers}
 pub use Rattle.vt_laws_mounts.proofs.letting_go.leaving.PlacesLeft.{found_is_there, found_itself}
 pub use Rattle.vt_laws_mounts.proofs.letting_go.sweeps.OfWorlds.{mounts_of_worlds_stand}
-pub use Rattle.vt_laws_mounts.proofs.mounts.MountsFound.{number_found}
+pub use Rattle.vt_laws_mounts.proofs.mounts.MountsFound.{number-mount_in}
 pub use Rattle.vt_laws_mounts.specs.Counts.OverlaysStay.{layer_count}
 pub use Rattle.vt_laws_mounts.specs.Counts.Using.{Exchanges}
 pub use Rattle.vt_laws_mounts.specs.LettingGo.Counts.{mount_uses, mounts_showing, times}
@@ -18,11 +18,11 @@ pub use Rattle.vt_laws_trees.proofs.runs.answered.AlikeWorlds.{sameness_is_an_eq
 pub use Rattle.vt_laws_trees.proofs.trees.TreesOfWorlds.{numbered_all}
 pub use Rattle.vt_laws_trees.specs.Runs.Handed.{counts_from, is_counted_before}
 pub use Rattle.vt_laws_trees.specs.Trees.{IsFileTree}
-pub use Rattle.vt_laws_worlds.proofs.RaisedInUse.{worlds_are_in_use}
+pub use Rattle.vt_laws_worlds.proofs.RaisedInUse.{all_in_use}
 pub use Rattle.vt_laws_worlds.proofs.overlays_stay.left.Given.{given_permits_are_under_way_without_upper}
 pub use Rattle.vt_laws_worlds.proofs.permits.sees.SeesFit.{given_changes_fit}
 pub use Rattle.vt_laws_worlds.proofs.permits.sees.SeesTasks.{given_permits_are_seen_to}
-pub use Rattle.vt_laws_worlds.proofs.worlds.Roots.{directory_there}
+pub use Rattle.vt_laws_worlds.proofs.worlds.Roots.{directory_is_there}
 pub use Rattle.vt_laws_worlds.specs.Permits.Named.{permit_named}
 pub use Rattle.vt_laws_worlds.specs.Permits.Sees.{SeesTo}
 pub use Rattle.vt_laws_worlds.specs.Worlds.Kept.{IsUnderWay}
@@ -44,7 +44,7 @@ pub use Rattle.vt_mounting.proofs.detach.FileEvents.{IsSmall, change_fits, chang
 pub use Rattle.vt_mounting.proofs.detach.FilesSeen.{IsLocated, IsPlainAt, also_there, kept_there, located, located_filesystem, located_inodes, nodes_named}
 pub use Rattle.vt_mounting.proofs.detach.Finishing.{IsApplied}
 pub use Rattle.vt_mounting.proofs.detach.Keeping.{IsKeptBut}
-pub use Rattle.vt_mounting.proofs.detach.LazilyUnmounted.{trees_numbers}
+pub use Rattle.vt_mounting.proofs.detach.LazilyUnmounted.{numbers_of_trees}
 pub use Rattle.vt_mounting.proofs.detach.LocationsSeen.{seen_where_located}
 pub use Rattle.vt_mounting.proofs.detach.MountsGone.{found_mapped}
 pub use Rattle.vt_mounting.proofs.detach.Moving.{Moves, Use, inodes_of_uses}

@@ -8,7 +8,7 @@ use Rattle.vt_ns.proofs.Common.{IsHeld, WorldValue, among-from_filter, counted, 
 use Rattle.vt_laws_mounts.proofs.mounts.MountsFound.{found_in}
 use Rattle.vt_laws_mounts.proofs.mounts.Standing.{trees_have_each_once}
 use Rattle.vt_laws_worlds.proofs.permits.taken.PartsKept.{receivers_there, same_parts}
-use Rattle.vt_propagate.specs.Filling.{GrowsBy, MovesFrom, mount_count}
+use Rattle.vt_propagate.specs.Filling.{GrowsBy, MovesFrom, count_in}
 use Rattle.vt_propagate.proofs.Counting.{absent_counted, added_counted, moved_all}
 use Rattle.vt_laws_worlds.proofs.worlds.FewMounts.{shrinks_few}
 use Rattle.vt_mounting.proofs.detach.Leaving.{none_among}
@@ -24,8 +24,8 @@ module _ (mounts : List (Mount ℕ)) (place : Location ℕ)
       (sym same) ∙ ap (λ o. unwrap_or o (no_mount place.mount)) none
 
   no_parts : (world : World ℕ) → mounts ≡ world.mounts → (size namespace : ℕ)
-      → mount_count (parts_of nat_eq world place) namespace * size ≡ 0
-  no_parts world same size namespace = ap (λ mount. mount_count (mount
+      → count_in (parts_of nat_eq world place) namespace * size ≡ 0
+  no_parts world same size namespace = ap (λ mount. count_in (mount
       ∷ filter (takes_part nat_eq world place) (receivers_of nat_eq world mount)) namespace * size)
       (missing_at world same) ∙ (let zero : 0 * size ≡ 0 = omega arith in zero)
 
@@ -112,11 +112,11 @@ module _ (value : WorldValue) (held : IsHeld value) (number : ℕ) (place : Loca
     abbrev others : List (Mount ℕ)
     others = rest_of (parts_of nat_eq (world_of value) place)
 
-    counted_so : (namespace : ℕ) → mount_count moved.mounts namespace
-        ≡ mount_count (mounts_in value.mounts) namespace + mount_count others namespace * 1
+    counted_so : (namespace : ℕ) → count_in moved.mounts namespace
+        ≡ count_in (mounts_in value.mounts) namespace + count_in others namespace * 1
     counted_so namespace = absent_counted world place new tree (no_mount number) alone
         (none_among number (mounts_in value.mounts) missing) namespace
-        ∙ ap (λ list. mount_count (mounts_in value.mounts) namespace + mount_count others namespace * length list) alone
+        ∙ ap (λ list. count_in (mounts_in value.mounts) namespace + count_in others namespace * length list) alone
 
     -- where no mount has the number only copies are added
     pub absent_grows : GrowsBy (world_of value) (attached_by nat_eq (world_of value) new place true tree)
@@ -135,8 +135,8 @@ module _ (value : WorldValue) (held : IsHeld value) (number : ℕ) (place : Loca
     adds_nothing none = sym (shrinks_few world moved (
       λ namespace.
           let all = counted_so namespace in
-          let zero : mount_count others namespace * 1 ≡ 0 =
-          ap (λ one. mount_count (filter (takes_part nat_eq world place)
+          let zero : count_in others namespace * 1 ≡ 0 =
+          ap (λ one. count_in (filter (takes_part nat_eq world place)
           (receivers_of nat_eq world one)) namespace * 1)
           (missing_at (mounts_in value.mounts) place none world refl) in
           omega (arith, all, zero),

@@ -10,7 +10,7 @@ use Rattle.vt_location.specs.declared.numbers.NamespaceId.{NamespaceId}
 use Rattle.vt_location.specs.MountValue.{mount_of}
 use Rattle.vt_location.specs.Numbers.{counted}
 use Rattle.vt_group.proofs.IndexLemmas.{any_still}
-use Rattle.vt_mount.proofs.EntryLemmas.{same_count}
+use Rattle.vt_mount.proofs.EntryLemmas.{counted_test}
 use Rattle.vt_propagate.specs.Filling.{GrowsBy, MovesFrom, is_overfilled, leaving, parts_in}
 use Rattle.vt_propagate.specs.declared.filling.Load.{Load}
 use Rattle.vt_propagate.proofs.Found.{numbered}
@@ -33,7 +33,7 @@ parts_counted parts namespace = all parts ∙ length-filter (is_part_in namespac
         by : (o : Option NamespaceId) → holds_of (nat_eq (counted namespace.count))
             (option_map (λ n. counted n.count) o) ≡ holds_of (same_namespace namespace) o
         by None = refl
-        by (Some other) = same_count namespace.count other.count
+        by (Some other) = counted_test namespace.count other.count
 
     grow : (b : Bool) (part : Kept) (parts : List Kept)
         → length (filter (is_in (counted namespace.count)) (map mount_of parts))
@@ -241,7 +241,7 @@ module _ (world : World ℕ) (place : Location ℕ) where
                   (holds_of (nat_eq (counted namespace.count)) (option_map (λ n. counted n.count) o)) (length tree) 0
                   ≡ cond (holds_of (same_namespace namespace) o) load.count 0
               by None = refl
-              by (Some other) = λ i. cond (same_count namespace.count other.count i) (size i) 0
+              by (Some other) = λ i. cond (counted_test namespace.count other.count i) (size i) 0
 
           exact : (namespace : NamespaceId) → count_in moved.mounts (counted namespace.count)
               ≡ count_in world.mounts (counted namespace.count) - leaving load namespace + count_in parts

@@ -2,11 +2,11 @@
 use Rattle.std.proofs.Common.{◌≡◌, ℕ, Bool, true, false, cond, ◌||◌, suc, List, [], ◌∷◌, map, nat_eq, Option, Some, refl, sym, ap, ◌∙◌, eq-eqb, ne_eqb, eqb-true, find}
 use Rattle.vt_spec.proofs.Common.{chain, chain_goes_on, eqb-false, list_any}
 use Rattle.vt_location.specs.Numbers.{counted}
-use Rattle.vt_mount.proofs.EntryLemmas.{same_count}
+use Rattle.vt_mount.proofs.EntryLemmas.{counted_test}
 
 -- numbers are compared as counts are, either way round
 pub turned_count : (a b : ℕ) → nat_eq a b ≡ nat_eq (counted b) (counted a)
-turned_count a b = turned ∙ sym (same_count b a)
+turned_count a b = turned ∙ sym (counted_test b a)
   where
     turned : nat_eq a b ≡ nat_eq b a
     turned = by (nat_eq b a) (eqb-true b a) (eqb-false b a)

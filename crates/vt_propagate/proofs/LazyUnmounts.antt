@@ -9,7 +9,7 @@ use Rattle.vt_mount.specs.MountsValue.{MountEntry}
 use Rattle.vt_mount.proofs.PointLemmas.{end-here}
 use Rattle.vt_laws_mounts.proofs.ends.EndingLazy.{IsUnderWay, begun, childless, lazy_unmount_keeps_mounts, next}
 use Rattle.vt_laws_mounts.proofs.ends.EndingOrder.{is_taken_in_turn, taken_in_turn}
-use Rattle.vt_laws_mounts.proofs.mounts.MountsFound.{number_found}
+use Rattle.vt_laws_mounts.proofs.mounts.MountsFound.{number-mount_in}
 use Rattle.vt_laws_mounts.proofs.mounts.Standing.{LiesIn, lies_in_tree, stand}
 use Rattle.vt_laws_mounts.proofs.mounts.Standing.LiesIn.{itself, under}
 use Rattle.vt_laws_mounts.proofs.ends.Unmounting.{kept_by_number}
@@ -72,7 +72,7 @@ goes_itself now kept number alone = by (mount_numbered nat_eq now number).mount_
     by : (o : Option (Location ℕ)) → (mount_numbered nat_eq now number).mount_point ≡ o
         → is_going nat_eq (going nat_eq now (mount_numbered nat_eq now number)) number ≡ true
     by None e = ap (λ p. is_going nat_eq (going_at nat_eq now (mount_numbered nat_eq now number) p) number) e
-        ∙ head_among number (mount_numbered nat_eq now number).number [] (sym (number_found now.mounts number))
+        ∙ head_among number (mount_numbered nat_eq now number).number [] (sym (number-mount_in now.mounts number))
     by (Some place) e = the_mount_itself_goes now number place kept.one_child e alone
 
 -- what stands in a tree stands in the namespace of its top
@@ -127,7 +127,7 @@ pub lazy_unmounts_take_the_tree : LazyUnmountsTakeTheTree
 lazy_unmounts_take_the_tree world number kept there =
     all_from_among (λ mount. Contains (gone_lazily world number) mount.number)
     (mount_tree nat_eq world.mounts (mount_numbered nat_eq world number)) (λ mount m.
-    let lies = subst (λ top. LiesIn world top mount.number) (number_found world.mounts number)
+    let lies = subst (λ top. LiesIn world top mount.number) (number-mount_in world.mounts number)
     (lies_in_tree world kept.one_number kept.standing (length world.mounts) (mount_numbered nat_eq world number)
     mount m) in
     contains_from_among (gone_lazily world number) mount.number (among_numbers (gone_lazily world number) mount.number

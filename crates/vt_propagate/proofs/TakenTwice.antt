@@ -10,9 +10,9 @@ use Rattle.vt_laws_mounts.specs.Mounts.Invariants.{OneNumberEach}
 use Rattle.vt_laws_mounts.specs.Mounts.Standing.{AllStand}
 use Rattle.vt_laws_mounts.proofs.GroupsKept.{taking_away_keeps_groups}
 use Rattle.vt_laws_mounts.proofs.GroupsLiving.{all_live, tested_live}
-use Rattle.vt_laws_mounts.proofs.mounts.MountsFound.{number_found}
+use Rattle.vt_laws_mounts.proofs.mounts.MountsFound.{number-mount_in}
 use Rattle.vt_laws_mounts.proofs.mounts.Standing.{rank, rank_bounded, rank_child}
-use Rattle.vt_laws_mounts.proofs.ends.Unmounting.{all_but_mounts, middle, number_after, numbers_taken, root_stays, staying_is_placed, taken}
+use Rattle.vt_laws_mounts.proofs.ends.Unmounting.{all_but_mounts, middle, number-after_going, numbers_taken, root_stays, staying_is_placed, taken}
 use Rattle.vt_propagate.specs.LazyUnmounts.{PartsGoAtOnce}
 use Rattle.vt_laws_mounts.proofs.Groups.{group-inherited, mounts-regrouped, members-regrouped}
 use Rattle.vt_laws_mounts.specs.Mounts.Receivers.{AllGroupsLive}
@@ -84,7 +84,7 @@ module _ (world : World ℕ) (first second : List ℕ) where
       → (mount_at nat_eq left place).mount_point ≡ Some (end_of falls (length world.mounts) below)
   fallen_point place below stays e = ap (λ (mount : Mount ℕ). mount.mount_point) (taken world first place.mount)
       ∙ ap (λ (mount : Mount ℕ). mount.mount_point) (staying_is_placed world first (mount_at nat_eq world place)
-      (ap (is_going nat_eq first) (number_found world.mounts place.mount) ∙ stays))
+      (ap (is_going nat_eq first) (number-mount_in world.mounts place.mount) ∙ stays))
       ∙ ap (option_map (mount_point_left nat_eq world first)) e
 
   fall_further : (a b c : ℕ) (place below : Location ℕ) → down place ≡ Some below
@@ -181,7 +181,7 @@ module _ (world : World ℕ) (first second : List ℕ) where
 
   twice_goes : (mount : Mount ℕ)
       → is_going nat_eq second (after_going nat_eq world first mount).number ≡ is_going nat_eq second mount.number
-  twice_goes mount = ap (is_going nat_eq second) (number_after world first mount)
+  twice_goes mount = ap (is_going nat_eq second) (number-after_going world first mount)
 
   mounts_then : secondly.mounts ≡ map twice world.mounts
   mounts_then = ap (map (after_going nat_eq left second)) (mounts-regrouped firstly)

@@ -10,8 +10,7 @@ use Rattle.vt_location.specs.declared.numbers.NamespaceId.{NamespaceId}
 use Rattle.vt_location.specs.Numbers.{counted}
 use Rattle.vt_propagate.specs.declared.filling.Load.{Load}
 use Rattle.vt_mount.specs.Indexes.{same_namespace, is_in as is_part_in}
-use Rattle.vt_laws_mounts.specs.Mounts.Ending.{count_in}
-pub use Rattle.vt_laws_mounts.specs.Mounts.Ending.{count_in as mount_count}
+pub use Rattle.vt_laws_mounts.specs.Mounts.Ending.{count_in}
 
 abbrev pub parts_in : List Mount → NamespaceId → ℕ
 parts_in parts namespace = count_by (is_part_in namespace) parts

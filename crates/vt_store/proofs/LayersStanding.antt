@@ -10,7 +10,7 @@ use Rattle.vt_store.specs.Laws.{HasOwnNumbers, IsSameTree, OverlaysStandStill, W
 use Rattle.vt_store.specs.OverlaysValue.{OverlayEntry}
 use Rattle.vt_store.specs.StoreValue.{StandsOnLayers, StoreValue, filesystem_found, filesystem_in, filesystems_of, overlay_filesystem, overlay_in}
 use Rattle.vt_store.proofs.Woven.{among-woven, is_plain}
-use Rattle.vt_store.proofs.Woven.{is_overlay as is_overlay_in}
+use Rattle.vt_store.proofs.Woven.{is_overlay_in}
 
 -- what holds of all holds of the one at a place
 pub all_at : {A : Type 0} (P : A → Type 0) (list : List A) → All P list → (place : ℕ) (a : A)

@@ -147,8 +147,8 @@ module _ (store : StoreValue) (count : ℕ) where
   files_plain none = sym (ap (λ (filesystem : Filesystem ℕ). filesystem.files) (is_plain none))
 
   -- it is an overlay if there is one of its count
-  pub is_overlay : is_some (overlay_in store count) ≡ is_some (filesystem_in store count).overlay
-  is_overlay = by (overlay_in store count) refl
+  pub is_overlay_in : is_some (overlay_in store count) ≡ is_some (filesystem_in store count).overlay
+  is_overlay_in = by (overlay_in store count) refl
     where
       by : (o : Option OverlayValue) → overlay_in store count ≡ o
           → is_some o ≡ is_some (filesystem_in store count).overlay

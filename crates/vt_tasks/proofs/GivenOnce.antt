@@ -1,8 +1,8 @@
 -- Names are given once, and no two tasks have one name.
 use Rattle.std.proofs.Common.{◌≡◌, ◌≢◌, ℕ, ◌+◌, ◌≤◌, ◌<◌, Bool, true, false, cond, ◌&&◌, List, [], ◌∷◌, ◌++◌, filter, not, nat_eq, Option, Some, None, refl, sym, ap, ◌∙◌, true≢false, arith, eq-eqb, ne_eqb, nat_le, eqb-true, leb-true, le-leb}
-use Rattle.vt_spec.proofs.Common.{Credentials, Task, TaskName, all-filter, and_from, and_true_left, and_true_right, child_name, child_of, list_all, list_any, name-replaced_if_called, or_from, or_parts, pair-filter, pair-map, pointwise, replaced_if_called, same_name, same_name-swapped, same_name_itself, same_task_name}
+use Rattle.vt_spec.proofs.Common.{Credentials, Task, TaskName, all-filter, and_from, and_true_left, and_true_right, child_name, child_of, list_all, list_any, name-replaced_if_called, or_from, or_parts, pair-filter, pair-map, pointwise, replaced_if_called, same_name, same_name-swapped, same_name_itself}
 use Rattle.vt_tasks.specs.TasksValue.{AreNamedApart, Tasks, are_given_once, called, forked_once, has_given, is_of_forks, names_of, replaced, with_child_behind, without_called}
-pub use Rattle.vt_spec.proofs.Worlds.{same_task_name as same_names}
+pub use Rattle.vt_spec.proofs.Worlds.{same_task_name}
 
 names_differ : (a b : TaskName) → same_name a b ≡ false → a ≢ b
 names_differ a b differs same = true≢false (sym (same_name_itself a) ∙ ap (same_name a) same ∙ differs)

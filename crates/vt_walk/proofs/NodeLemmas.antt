@@ -6,7 +6,7 @@ use Rattle.vt_location.specs.Locations.{location_of}
 use Rattle.vt_walk.specs.WalkValue.{IsLent, IsNodeAt}
 use Rattle.vt_location.specs.declared.numbers.MountId.{MountId}
 use Rattle.vt_looks.specs.Looking.{front, front_of}
-use Rattle.vt_spec.specs.declared.attributes.Kind.TheVariants.{Symlink as SymlinkKind}
+use Rattle.vt_spec.specs.declared.attributes.Kind.TheVariants.{Symlink}
 
 -- mounts of one count are one
 pub same-mount : (a b : MountId) → not (nat_eq a.count b.count) ≡ false → a ≡ b
@@ -24,7 +24,7 @@ symlink-alike None None e = refl
 symlink-alike None (Some other) e = absurd cc
 symlink-alike (Some one) None e = absurd cc
 symlink-alike (Some one) (Some other) e =
-    ap (λ shown. when (is_kind SymlinkKind shown.kind) shown.bytes) (same_Some (front_of one) (front_of other) e)
+    ap (λ shown. when (is_kind Symlink shown.kind) shown.bytes) (same_Some (front_of one) (front_of other) e)
 
 -- the text of the symlink at a location, by what is lent for it
 pub text-there : (looks : Looks ℕ) (real : Location ℕ → Option (Node ℕ))

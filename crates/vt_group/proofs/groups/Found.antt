@@ -11,7 +11,7 @@ use Rattle.vt_group.specs.Grouping.{Grouping, master_in}
 use Rattle.vt_group.specs.Receiving.{IsLonger, Reaches, is_in}
 use Rattle.vt_group.specs.Sets.{same_group}
 use Rattle.vt_group.proofs.Listing.{counted_same}
-use Rattle.vt_group.proofs.SetsLemmas.{same_id}
+use Rattle.vt_group.proofs.SetsLemmas.{same_number}
 use Rattle.vt_location.proofs.NumberLemmas.{counted_test}
 
 -- groups in lists
@@ -100,7 +100,7 @@ module _ (keys new : List GroupId) (lower : GroupId) (is : new ≡ insert_key sa
 pub own_master : (found : Option GroupId) (group : GroupId) → option_eq same_group found (Some group) ≡ true
     → option_map group_number found ≡ Some (group_number group)
 own_master None group same = absurd (true≢false (sym same))
-own_master (Some one) group same = ap (λ (g : GroupId). Some (group_number g)) (sym (same_id one group same))
+own_master (Some one) group same = ap (λ (g : GroupId). Some (group_number g)) (sym (same_number one group same))
 
 -- one that is found not to be the group is not
 pub other_master : (found : Option GroupId) (group : GroupId) → option_eq same_group found (Some group) ≡ false

@@ -1,6 +1,6 @@
 -- The mounts that receive from a group, in order of attachment.
 use Rattle.std.proofs.Common.{◌≡◌, ℕ, Bool, true, false, cond, List, [], ◌∷◌, ◌||◌, map, nat_eq, nat_lt, Some, option_map, refl, sym, ap, ◌∙◌, true≢false, arith, eq-eqb, lt-ltb, ne_eqb, eqb-true, ltb-true, ltb-false, nat_cmp, Less, unwrap_or}
-use Rattle.vt_spec.proofs.Common.{AllByRecursion, Private as MeansPrivate, and_from, and_parts, holds_of, keys_of, list_all, list_any, lookup, sorted_head, sorted_tail, source_of}
+use Rattle.vt_spec.proofs.Common.{AllByRecursion, Private, and_from, and_parts, holds_of, keys_of, list_all, list_any, lookup, sorted_head, sorted_tail, source_of}
 use Rattle.std.specs.BTreeMap.{is_at}
 use Rattle.std.specs.List.Sorted.{IsStrictlySortedBy}
 use Rattle.vt_location.specs.declared.mounts.Propagation.{Propagation}
@@ -145,22 +145,22 @@ module _ (found : ℕ → Bool) where
 
   counts_found : (count : ℕ) (es : List (ℕ × Propagation)) → are_rising (keys_of es) ≡ true
       → list_any (nat_eq count) (counts_from es)
-      ≡ holds_of found (source_of (unwrap_or (option_map propagation_of (lookup (is_at (nat_cmp count)) es)) MeansPrivate))
+      ≡ holds_of found (source_of (unwrap_or (option_map propagation_of (lookup (is_at (nat_cmp count)) es)) Private))
   unfolding counts_from
   counts_found count [] rising = refl
   counts_found count (e ∷ es) rising =
       let parts = and_parts (list_all (nat_lt e.0) (keys_of es)) (are_rising (keys_of es)) rising in
       by (nat_eq count e.0) refl (receives e.1) refl (above_counts e.0 es parts.0) (counts_found count es parts.1)
       ∙ ap (λ b. holds_of found (source_of (unwrap_or (option_map propagation_of
-      (cond b (Some e.1) (lookup (is_at (nat_cmp count)) es))) MeansPrivate))) (sym (at_nat count e.0))
+      (cond b (Some e.1) (lookup (is_at (nat_cmp count)) es))) Private))) (sym (at_nat count e.0))
     where
       by : (b : Bool) → nat_eq count e.0 ≡ b → (r : Bool) → receives e.1 ≡ r
           → list_all (nat_lt e.0) (counts_from es) ≡ true → list_any (nat_eq count) (counts_from es)
           ≡ holds_of found (source_of (unwrap_or (option_map propagation_of
-          (lookup (is_at (nat_cmp count)) es)) MeansPrivate))
+          (lookup (is_at (nat_cmp count)) es)) Private))
           → list_any (nat_eq count) (cond r (e.0 ∷ counts_from es) (counts_from es))
           ≡ holds_of found (source_of (unwrap_or (option_map propagation_of
-          (cond b (Some e.1) (lookup (is_at (nat_cmp count)) es))) MeansPrivate))
+          (cond b (Some e.1) (lookup (is_at (nat_cmp count)) es))) Private))
       by true is true r above rest = ap (λ b. b || list_any (nat_eq count) (counts_from es)) is ∙ sym r
       by true is false r above rest = ap (λ n. list_any (nat_eq n) (counts_from es)) (eqb-true count e.0 is)
           ∙ none_above e.0 (counts_from es) above ∙ sym r
@@ -181,12 +181,12 @@ counted_counts (id ∷ ids) = ap (λ l. counted id.count ∷ l) (counted_counts 
 pub receivers_noted : (found : ℕ → Bool) (es : List (ℕ × Propagation)) (ids : List MountId)
     → IsStrictlySortedBy nat_cmp (keys_of es) → IsStrictlySortedBy nat_cmp (map (λ id. id.count) ids)
     → ((count : ℕ) → is_noted ids count
-    ≡ holds_of found (source_of (unwrap_or (lookup (nat_eq (counted count)) (map numbered_peer es)) MeansPrivate)))
+    ≡ holds_of found (source_of (unwrap_or (lookup (nat_eq (counted count)) (map numbered_peer es)) Private)))
     → map (λ id. counted id.count) ids ≡ receivers_from found (map numbered_peer es)
 receivers_noted found es ids sorted sorted_too noted =
     let rising = rises (keys_of es) sorted in
     counted_counts ids ∙ ap (map counted) (same_numbers (map (λ id. id.count) ids) (counts_from found es)
     (rises (map (λ id. id.count) ids) sorted_too) (counts_rise found es rising)
     (λ count. sym (noted_counts count ids) ∙ noted count
-    ∙ ap (λ kind. holds_of found (source_of (unwrap_or kind MeansPrivate))) (lookup-numbered propagation_of count es)
+    ∙ ap (λ kind. holds_of found (source_of (unwrap_or kind Private))) (lookup-numbered propagation_of count es)
     ∙ sym (counts_found found count es rising))) ∙ receivers_counted found es

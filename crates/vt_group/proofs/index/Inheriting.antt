@@ -11,7 +11,7 @@ use Rattle.vt_group.specs.Indexed.{is_listed, is_lower, is_relative}
 use Rattle.vt_group.specs.Names.{Named, names_of}
 use Rattle.vt_group.specs.Sets.{same_group}
 use Rattle.vt_group.proofs.IndexLemmas.{}
-use Rattle.vt_group.proofs.SetsLemmas.{same_id}
+use Rattle.vt_group.proofs.SetsLemmas.{same_number}
 
 -- a group that has a name is named
 pub named_by : (names : Named) (group : GroupId) (test : GroupId → Bool) → list_any test (names_of names group) ≡ true
@@ -26,7 +26,7 @@ apart_from : (lost group : GroupId) → (Shared group ≡ Shared lost → ⊥) �
 apart_from lost group apart = by (same_group lost group) refl
   where
     by : (b : Bool) → same_group lost group ≡ b → same_group lost group ≡ false
-    by true same = absurd (apart (ap Shared (same_id lost group same)))
+    by true same = absurd (apart (ap Shared (same_number lost group same)))
     by false differ = differ
 
 module _ (lost heir : GroupId) where
@@ -38,7 +38,7 @@ module _ (lost heir : GroupId) where
     where
       by : (b : Bool) → same_group was lost ≡ b → (if b then Some heir else Some was) ≡ Some upper → P upper
       by true same is = Rattle.std.proofs.Common.subst P (same_Some heir upper is)
-          (own (Rattle.std.proofs.Common.subst Q (sym (same_id was lost same)) holds))
+          (own (Rattle.std.proofs.Common.subst Q (sym (same_number was lost same)) holds))
       by false differ is = Rattle.std.proofs.Common.subst P (same_Some was upper is)
           (kept was (nat_eq-swapped was.count lost.count false differ) holds)
 

@@ -7,7 +7,7 @@ use Rattle.indexmap.proofs.MapLemmas.{Found-position, Missing-position, swap_rem
 use Rattle.vt_location.specs.declared.numbers.GroupId.{GroupId}
 use Rattle.vt_group.specs.Names.{Named, count_names, names_of}
 use Rattle.vt_group.specs.Sets.{same_group}
-use Rattle.vt_group.proofs.SetsLemmas.{same_id}
+use Rattle.vt_group.proofs.SetsLemmas.{same_number}
 
 -- how many names there are
 
@@ -100,7 +100,7 @@ module _ (old new : Named) (group : GroupId) (found : Option (List GroupId))
       by : (b : Bool) → same_group group at ≡ b → list_any test (names_of new at) ≡ true
       by true same =
           ap (list_any test) (names_updated at ∙ ap (λ b. cond b (unwrap_or found []) (names_of old at)) same)
-          ∙ so (ap (λ (g : GroupId). list_any test (names_of old g)) (sym (same_id group at same)) ∙ any)
+          ∙ so (ap (λ (g : GroupId). list_any test (names_of old g)) (sym (same_number group at same)) ∙ any)
       by false apart = others_keep at test apart any
 
   -- this group has what its new names have

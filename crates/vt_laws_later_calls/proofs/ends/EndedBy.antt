@@ -7,7 +7,7 @@ use Rattle.vt_laws_rules.specs.Given.{IsFor}
 use Rattle.vt_laws_rules.proofs.given.GivenPermits.{permits_are_for_their_calls}
 use Rattle.vt_laws_mounts.specs.LettingGo.InUse.{has_upper_in}
 use Rattle.vt_laws_mounts.specs.LettingGo.Overlays.{let_go_plain}
-use Rattle.vt_laws_mounts.proofs.letting_go.Lists.{fails}
+use Rattle.vt_laws_mounts.proofs.letting_go.Lists.{none_among}
 use Rattle.vt_laws_worlds.specs.OverlaysLetGo.NamesGiven.{takes_a_name}
 use Rattle.vt_laws_worlds.specs.OverlayPermits.Asked.{change_asked}
 use Rattle.vt_laws_worlds.specs.OverlayPermits.Changed.{numbers_left}
@@ -141,7 +141,7 @@ module _ (world : World ℕ) (fresh : Fresh ℕ) (call : Call) (is : IsWorld nat
         has_none : has_upper_in filesystem (filesystem_numbered nat_eq world taken.merged) ≡ false
         has_none = numbered_anyhow (λ f. has_upper_in filesystem f ≡ false) taken.merged world.filesystems
             (all_from_among (λ f. has_upper_in filesystem f ≡ false) world.filesystems
-            (λ f m. fails (has_upper_in filesystem) world.filesystems none f m)) refl
+            (λ f m. none_among (has_upper_in filesystem) world.filesystems none f m)) refl
 
     swept_remains : (is_kind_in White (inode_in world filesystem number) ≡ false)
         ⊎ (list_any (has_upper_in filesystem) world.filesystems ≡ false) → IsThere left → IsThere (settled nat_eq left)

@@ -2,7 +2,7 @@
 use Rattle.std.proofs.Common.{arith, ◌≡◌, ap, inr, ℕ, nat_eq, false, []}
 use Rattle.vt_spec.proofs.Common.{Call, Filesystem, Fresh, Layer, Overlay, Task, World, common_steps, holds_of, is_overlay, list_any, none_from_not_some, overlay_or}
 use Rattle.vt_laws_mounts.specs.LettingGo.InUse.{has_upper_in}
-use Rattle.vt_laws_mounts.proofs.letting_go.Lists.{among_from_all, none_passes}
+use Rattle.vt_laws_mounts.proofs.letting_go.Lists.{among_from_all, none_from_among}
 use Rattle.vt_laws_worlds.proofs.Plain.{plain_numbered}
 use Rattle.vt_laws_worlds.specs.Worlds.Kept.{IsPlain}
 use Rattle.vt_laws_later_calls.specs.Ends.{OnlyTheseEndInodes, OtherCallsLeaveAll, TypesLeaveAllButMasters}
@@ -18,7 +18,7 @@ none_replaced world plain fresh task call = grind (arith, common_steps, plain_nu
 -- and none has an upper layer
 no_upper : (world : World ℕ) → IsPlain world → (filesystem : ℕ)
     → list_any (has_upper_in filesystem) world.filesystems ≡ false
-no_upper world plain filesystem = none_passes (has_upper_in filesystem) world.filesystems (λ f m.
+no_upper world plain filesystem = none_from_among (has_upper_in filesystem) world.filesystems (λ f m.
     ap (overlay_or false (λ (overlay : Overlay ℕ). holds_of (λ (layer : Layer ℕ).
     nat_eq filesystem layer.filesystem) overlay.upper))
     (none_from_not_some f.overlay (among_from_all (λ (g : Filesystem ℕ).

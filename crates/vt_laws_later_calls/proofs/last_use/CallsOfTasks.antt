@@ -3,7 +3,7 @@ use Rattle.std.proofs.Common.{◌≡◌, refl, sym, ap, subst, append_assoc, ◌
 use Rattle.vt_spec.proofs.Common.{Descriptor, IsWorld, Location, Task, World, all_locations, among_from_contains, and_parts, any_pair, are_ascending_from, flat_map-append, is_within_limits, locations_of, map-append, namespaces_ended, nat_eq-swapped, nat_tests, replaced_if_called, same_name, same_name-swapped, same_name_itself, with_task, without_descriptor}
 use Rattle.vt_laws_mounts.specs.LettingGo.Ends.{without_namespace}
 use Rattle.vt_laws_mounts.specs.LettingGo.Leaving.{with_tasks}
-use Rattle.vt_laws_mounts.proofs.letting_go.Lists.{Among, none_passes, passes}
+use Rattle.vt_laws_mounts.proofs.letting_go.Lists.{Among, among_from_list_all, none_from_among}
 use Rattle.vt_laws_later_calls.specs.LastUse.{CloseTakesItsFilesystem, CloseTakesItsInode, ExitEndsItsNamespace, task_count}
 use Rattle.vt_laws_later_calls.proofs.Opened.{descriptors_in_order}
 use Rattle.vt_laws_later_calls.proofs.last_use.LastLocations.{location_takes_its_filesystem}
@@ -52,7 +52,7 @@ at_least least (first ∷ rest) order d m = ⊎_elim (λ is. ap (λ (x : Descrip
 no_two : (least : ℕ) (list : List (Descriptor ℕ)) → are_ascending_from least list ≡ true
     → any_pair numbered_alike list ≡ false
 no_two least [] order = refl
-no_two least (first ∷ rest) order = (λ i. none_passes (numbered_alike first) rest
+no_two least (first ∷ rest) order = (λ i. none_from_among (numbered_alike first) rest
     (λ d m. apart first.number d.number (at_least (first.number + 1) rest parts.1 d m)) i
     || no_two (first.number + 1) rest parts.1 i)
   where
@@ -77,7 +77,8 @@ module _ (world : World ℕ) (whole : IsWorld nat_eq world) (task : Task ℕ) (t
   of : IsSplit numbered_alike task.descriptors descriptor
   of = split_around numbered_alike (λ d. eq-eqb d.number d.number refl) (λ a b. nat_eq-swapped a.number b.number false)
       task.descriptors (no_two 0 task.descriptors (descriptors_in_order task
-      (passes is_within_limits world.tasks whole.tasks.small_tasks task (among_from_contains world.tasks task there))))
+      (among_from_list_all is_within_limits world.tasks whole.tasks.small_tasks task
+      (among_from_contains world.tasks task there))))
       descriptor (among_from_contains task.descriptors descriptor is_open)
 
   abbrev own : List (Descriptor ℕ) → List (Location ℕ)

@@ -9,7 +9,7 @@ use Rattle.vt_laws_mounts.specs.LettingGo.Counts.{member_count, times}
 use Rattle.vt_laws_mounts.specs.LettingGo.Groups.{GroupsLiveBut, OneGroupIsHandedOn, hand_on, is_group_or_lives}
 use Rattle.vt_laws_mounts.specs.LettingGo.InUse.{AllInUse}
 use Rattle.vt_laws_mounts.specs.LettingGo.OneByOne.{GroupsInUseBut, without_master}
-use Rattle.vt_laws_mounts.proofs.letting_go.Lists.{Among, all_pass, among-append, among-append_left, among-append_right, among_from_all, any_passes, none_passes, one_passes}
+use Rattle.vt_laws_mounts.proofs.letting_go.Lists.{Among, among-append, among-append_left, among-append_right, among_from_all, any_among, any_from_among, list_all_from_among, none_from_among}
 use Rattle.vt_laws_mounts.proofs.letting_go.sweeps.LookedUp.{group_is_looked_up}
 use Rattle.vt_laws_mounts.proofs.letting_go.sweeps.OneByOne.{groups_go_one_by_one}
 use Rattle.vt_laws_later_calls.specs.LastUse.{GroupGoesWithItsLastMember, GroupIsHandedOnWithItsLastMember}
@@ -48,7 +48,8 @@ unlost world mount live = by (source_of mount.propagation) refl
 -- where groups live, no mount has lost one
 pub none_lost : (world : World ℕ) → MountInvariants nat_eq world
     → list_any (lost_a_group nat_eq world) world.mounts ≡ false
-none_lost world mounts = none_passes (lost_a_group nat_eq world) world.mounts (λ mount m. unlost world mount (λ group e.
+none_lost world mounts = none_from_among (lost_a_group nat_eq world) world.mounts
+    (λ mount m. unlost world mount (λ group e.
     let life = among_from_all (HasLivingGroups nat_eq world) world.mounts mounts.groups mount m group e in (
       live_members world.master (has_members nat_eq world.mounts) group life,
       master_lives (has_members nat_eq world.mounts) world.master group life,
@@ -128,12 +129,12 @@ module _ (world : World ℕ) (front back : List (Mount ℕ)) (old new : Mount �
     -- a group with members lives
     lives : (other : ℕ) → members other ≡ true → Lives members world.master other
     lives other has =
-        let t = one_passes (is_member_of nat_eq other) world.mounts has in
+        let t = any_among (is_member_of nat_eq other) world.mounts has in
         among_from_all (HasLivingGroups nat_eq world) world.mounts mounts.groups t.0 t.1 other
         (ap source_of (member_shared other t.0 t.2))
 
     its_life : Lives members world.master group
-    its_life = lives group (any_passes (is_member_of nat_eq group) world.mounts old
+    its_life = lives group (any_from_among (is_member_of nat_eq group) world.mounts old
         (subst (Among old) (sym before) (among-append_right front (old ∷ back) old (inl refl)))
         (old_is_one group ∙ eq-eqb group group refl))
 
@@ -153,7 +154,7 @@ module _ (world : World ℕ) (front back : List (Mount ℕ)) (old new : Mount �
 
     live_but : GroupsLiveBut group after
     live_but = record {
-      of_mounts = all_pass (λ mount. list_all (is_group_or_lives after group)
+      of_mounts = list_all_from_among (λ mount. list_all (is_group_or_lives after group)
           (option_to_list (source_of mount.propagation))) after.mounts
           (λ mount m. of mount m (source_of mount.propagation) refl);
       of_groups = λ other. above other (members other) refl;
@@ -178,7 +179,7 @@ module _ (world : World ℕ) (front back : List (Mount ℕ)) (old new : Mount �
     none_lost_after : has_members nat_eq after.mounts group ≡ true
         → list_any (lost_a_group nat_eq after) after.mounts ≡ false
     none_lost_after has =
-        none_passes (lost_a_group nat_eq after) after.mounts (λ mount m. unlost after mount (λ source e.
+        none_from_among (lost_a_group nat_eq after) after.mounts (λ mount m. unlost after mount (λ source e.
         let life = source_lives mount m source e in (
           still source (live_members world.master members source life),
           all_still (world.master source) (master_lives members world.master source life),

@@ -5,7 +5,7 @@ use Rattle.vt_laws_mounts.specs.LettingGo.Counts.{inode_uses}
 use Rattle.vt_laws_mounts.specs.LettingGo.InUse.{HasTrees, InodesInUse, UppersArePlain, is_inode_used}
 use Rattle.vt_laws_mounts.specs.LettingGo.OneByOne.{Inode, InodesInUseBut, is_used_or_among, let_go_inode, without_inode_at}
 use Rattle.vt_laws_mounts.specs.LettingGo.Overlays.{RealsAreThere, is_plain, let_go_in, let_go_in_of, let_go_plain, uppers_in, uppers_of, uppers_of_inode, uppers_of_inode_in, without_inode_of, without_real}
-use Rattle.vt_laws_mounts.proofs.letting_go.Lists.{Among, all_from_among, all_pass, among-from_map, among_from_all, flat_map_none, found_by, found_in, map_same, passes}
+use Rattle.vt_laws_mounts.proofs.letting_go.Lists.{Among, all_from_among, among-from_map, among_from_all, among_from_list_all, flat_map_none, found_by, found_in, list_all_from_among, map_same}
 use Rattle.vt_laws_mounts.proofs.letting_go.sweeps.InUse.{inodes_stay}
 use Rattle.vt_laws_mounts.proofs.letting_go.sweeps.Inodes.{inodes_go_one_by_one}
 use Rattle.vt_laws_mounts.proofs.letting_go.sweeps.LookedUp.{inode_is_looked_up}
@@ -36,7 +36,7 @@ used_in_numbered world in_use k number = by (find (λ (f : Filesystem ℕ). nat_
         → Among number (unwrap_or o (no_filesystem k)).files.numbers
         → is_inode_used world (unwrap_or o (no_filesystem k)) number ≡ true
     by None e m = absurd m
-    by (Some f) e m = passes (is_inode_used world f) f.files.numbers
+    by (Some f) e m = among_from_list_all (is_inode_used world f) f.files.numbers
         (among_from_all (λ g. list_all (is_inode_used world g) g.files.numbers ≡ true) world.filesystems in_use f
         (found_in (λ (g : Filesystem ℕ). nat_eq k g.number) world.filesystems f e).0) number m
 
@@ -81,7 +81,7 @@ module _ (world after : World ℕ) (inode : Inode) (in_use : InodesInUse world) 
   other_inodes : InodesInUseBut (inode ∷ []) after
   other_inodes =
       all_from_among (λ f. list_all (is_used_or_among (inode ∷ []) after f) f.files.numbers ≡ true) after.filesystems
-      (λ f m. all_pass (is_used_or_among (inode ∷ []) after f) f.files.numbers
+      (λ f m. list_all_from_among (is_used_or_among (inode ∷ []) after f) f.files.numbers
       (λ number n. by f m number n (is_inode f.number number inode) refl))
     where
       by : (f : Filesystem ℕ) → Among f after.filesystems → (number : ℕ) → Among number f.files.numbers → (b : Bool)
@@ -92,7 +92,7 @@ module _ (world after : World ℕ) (inode : Inode) (in_use : InodesInUse world) 
   -- while it has another use, all are used
   all_used : nat_lt 1 (inode_uses world (filesystem_numbered nat_eq world inode.0) inode.1) ≡ true → InodesInUse after
   all_used more = all_from_among (λ f. list_all (is_inode_used after f) f.files.numbers ≡ true) after.filesystems
-      (λ f m. all_pass (is_inode_used after f) f.files.numbers
+      (λ f m. list_all_from_among (is_inode_used after f) f.files.numbers
       (λ number n. by f m number n (is_inode f.number number inode) refl))
     where
       by : (f : Filesystem ℕ) → Among f after.filesystems → (number : ℕ) → Among number f.files.numbers → (b : Bool)

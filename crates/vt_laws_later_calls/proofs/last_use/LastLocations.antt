@@ -7,12 +7,12 @@ use Rattle.vt_laws_mounts.specs.LettingGo.Keeping.{LocationsStand}
 use Rattle.vt_laws_mounts.specs.LettingGo.Leaving.{MountsStand, with_tasks}
 use Rattle.vt_laws_mounts.specs.LettingGo.Mounting.{inode_at, root_inode}
 use Rattle.vt_laws_mounts.specs.LettingGo.OneByOne.{IsPlain, is_mount_used, without_filesystem, without_mount}
-use Rattle.vt_laws_mounts.proofs.letting_go.Lists.{Among, all_from_among, all_pass, among-append, among-append_left, among-append_right, among-from_filter, among-from_map, among_from_all, among_numbers, any-filter, fails, found_by, passes}
+use Rattle.vt_laws_mounts.proofs.letting_go.Lists.{Among, all_from_among, among-append, among-append_left, among-append_right, among-from_filter, among-from_map, among_from_all, among_from_list_all, among_numbers, any-filter, found_by, list_all_from_among, none_among}
 use Rattle.vt_laws_mounts.proofs.letting_go.leaving.PlacesLeft.{found_itself, nowhere_parts, private_is_no_member}
 use Rattle.vt_laws_mounts.proofs.letting_go.sweeps.InUse.{groups_stay, inodes_stay}
 use Rattle.vt_laws_mounts.proofs.letting_go.sweeps.OfWorlds.{all_in_use, locations_of_worlds_stand, mounts_of_worlds_stand}
 use Rattle.vt_laws_mounts.proofs.letting_go.sweeps.UsesCounted.{used_while_counted}
-use Rattle.vt_laws_mounts.specs.Counts.Counted as Counted
+use Rattle.vt_laws_mounts.specs.Counts.Counted
 use Rattle.vt_laws_mounts.specs.Counts.Using.{Exchanges}
 use Rattle.vt_laws_mounts.proofs.counts.using.MountRoots.{mounts_leave_their_roots}
 use Rattle.vt_laws_mounts.proofs.counts.using.Places.{exchanges_follow, locations_are_uses, others_use_nothing}
@@ -68,7 +68,8 @@ module _ (world : World ℕ) (tasks : List (Task ℕ)) (front back : List (Locat
 
   -- the mount is there
   numbered : is_among nat_eq location.mount (map (λ mount. mount.number) world.mounts) ≡ true
-  numbered = passes (λ l. is_among nat_eq l.mount (map (λ mount. mount.number) world.mounts)) (all_locations world)
+  numbered = among_from_list_all (λ l. is_among nat_eq l.mount (map (λ mount. mount.number) world.mounts))
+      (all_locations world)
       at_mounts location located
 
   its_there : Among its world.mounts × (its.number ≡ location.mount)
@@ -102,8 +103,9 @@ module _ (world : World ℕ) (tasks : List (Task ℕ)) (front back : List (Locat
 
   at_mounts_after : LocationsStand after
   at_mounts_after = ap (list_all (λ l. is_among nat_eq l.mount (map (λ mount. mount.number) world.mounts))) left
-      ∙ all_pass (λ l. is_among nat_eq l.mount (map (λ mount. mount.number) world.mounts)) (front ++ back)
-      (λ l m. passes (λ x. is_among nat_eq x.mount (map (λ mount. mount.number) world.mounts)) (all_locations world)
+      ∙ list_all_from_among (λ l. is_among nat_eq l.mount (map (λ mount. mount.number) world.mounts)) (front ++ back)
+      (λ l m. among_from_list_all (λ x. is_among nat_eq x.mount (map (λ mount. mount.number) world.mounts))
+      (all_locations world)
       at_mounts l (subst (Among l) (sym before) (⊎_elim (λ f. among-append_left front (location ∷ back) l f)
       (λ b. among-append_right front (location ∷ back) l (inr b)) (among-append front back l m))))
 
@@ -111,11 +113,12 @@ module _ (world : World ℕ) (tasks : List (Task ℕ)) (front back : List (Locat
   unused = ap (λ b. is_some its.namespace || b) (located_still world tasks front back location before left) ∙ goes
 
   plain_there : Counted.IsPlain unmounted
-  plain_there = all_from_among (λ f. is_overlay f ≡ false) world.filesystems (fails is_overlay world.filesystems plain)
+  plain_there = all_from_among (λ f. is_overlay f ≡ false) world.filesystems
+      (none_among is_overlay world.filesystems plain)
 
   plain_freed : Counted.IsPlain freed
   plain_freed = all_from_among (λ f. is_overlay f ≡ false) freed.filesystems
-      (λ f m. fails is_overlay world.filesystems plain f
+      (λ f m. none_among is_overlay world.filesystems plain f
       (among-from_filter (λ g. not (nat_eq g.number its.filesystem)) world.filesystems f m).0)
 
   exchange : (k : ℕ) → nat_eq k its.filesystem ≡ false
@@ -132,9 +135,9 @@ module _ (world : World ℕ) (tasks : List (Task ℕ)) (front back : List (Locat
   inodes_used : InodesInUse freed
   inodes_used = all_from_among (λ f. list_all (is_inode_used freed f) f.files.numbers ≡ true) freed.filesystems
       (λ f m. let from = among-from_filter (λ g. not (nat_eq g.number its.filesystem)) world.filesystems f m in
-      all_pass (is_inode_used freed f) f.files.numbers
+      list_all_from_among (is_inode_used freed f) f.files.numbers
       (λ number n. as_before f from.0 (apart (nat_eq f.number its.filesystem) from.1) number
-      (passes (is_inode_used world f) f.files.numbers
+      (among_from_list_all (is_inode_used world f) f.files.numbers
       (among_from_all (λ g. list_all (is_inode_used world g) g.files.numbers ≡ true) world.filesystems in_use.inodes
       f from.0) number n)))
     where
@@ -164,7 +167,7 @@ module _ (world : World ℕ) (tasks : List (Task ℕ)) (front back : List (Locat
   groups_used group none = in_use.groups group
       (sym (any-filter (is_member_of nat_eq group) (λ mount. not (nat_eq mount.number location.mount)) world.mounts
       (λ mount m gone. private_is_no_member group mount
-      (nowhere_parts mount (passes is_nowhere_or_attached world.mounts stand.nowhere mount m)
+      (nowhere_parts mount (among_from_list_all is_nowhere_or_attached world.mounts stand.nowhere mount m)
       (ap (λ x. is_some x.namespace) (itself mount m (named (nat_eq mount.number location.mount) gone))
       ∙ (or_parts (is_some its.namespace) (nat_lt 1 (mount_uses world location.mount)) goes).0)).1)) ∙ none)
     where

@@ -5,7 +5,7 @@ use Rattle.vt_laws_mounts.specs.LettingGo.Counts.{mount_uses, mounts_showing, ti
 use Rattle.vt_laws_mounts.specs.LettingGo.InUse.{FilesystemsInUse, MountsInUse}
 use Rattle.vt_laws_mounts.specs.LettingGo.Leaving.{with_tasks}
 use Rattle.vt_laws_mounts.specs.LettingGo.OneByOne.{FilesystemsInUseBut, IsPlain, MountsInUseBut, without_filesystem, without_mount}
-use Rattle.vt_laws_mounts.proofs.letting_go.Lists.{all_pass, passes}
+use Rattle.vt_laws_mounts.proofs.letting_go.Lists.{among_from_list_all, list_all_from_among}
 use Rattle.vt_laws_mounts.proofs.letting_go.leaving.PlacesLeft.{no_layers}
 use Rattle.vt_laws_mounts.proofs.letting_go.sweeps.LookedUp.{filesystem_is_looked_up, mount_is_looked_up}
 use Rattle.vt_laws_mounts.proofs.letting_go.sweeps.OneByOne.{filesystems_go_one_by_one, mounts_go_one_by_one}
@@ -33,7 +33,7 @@ module _ (world : World ℕ) (tasks : List (Task ℕ)) (front back : List (Locat
       ∙ ap (λ list. nat_lt 1 (times (λ (l : Location ℕ). nat_eq location.mount l.mount) list)) (sym before)
 
   other_mounts : MountsInUse world → MountsInUseBut (location.mount ∷ []) after
-  other_mounts in_use = grind (arith, common_steps, all_pass, passes, located_as_before)
+  other_mounts in_use = grind (arith, common_steps, list_all_from_among, among_from_list_all, located_as_before)
 
 pub mount_goes_with_its_last_use : MountGoesWithItsLastUse
 mount_goes_with_its_last_use world tasks front back location in_use one before left =
@@ -68,7 +68,8 @@ module _ (world after : World ℕ) (front back : List (Mount ℕ)) (mount : Moun
         ∙ or-false (is_mounted nat_eq other filesystem.number)
 
     other_filesystems : FilesystemsInUse world → FilesystemsInUseBut (mount.filesystem ∷ []) after
-    other_filesystems in_use = grind (arith, common_steps, all_pass, passes, lives_mounted, mounted_as_before)
+    other_filesystems in_use = grind
+        (arith, common_steps, list_all_from_among, among_from_list_all, lives_mounted, mounted_as_before)
 
     filesystem_left : FilesystemsInUse world → without_dead_filesystems nat_eq after
         ≡ cond (nat_lt 1 (mounts_showing world mount.filesystem)) after (without_filesystem after mount.filesystem)

@@ -4,7 +4,7 @@ use Rattle.vt_spec.proofs.Common.{MountInvariants, Namespace, NamespaceInvariant
 use Rattle.vt_laws_mounts.specs.LettingGo.Counts.{times}
 use Rattle.vt_laws_mounts.specs.LettingGo.Ends.{without_namespace}
 use Rattle.vt_laws_mounts.specs.LettingGo.Leaving.{with_tasks}
-use Rattle.vt_laws_mounts.proofs.letting_go.Lists.{Among, all_pass, passes}
+use Rattle.vt_laws_mounts.proofs.letting_go.Lists.{Among, among_from_list_all, list_all_from_among}
 use Rattle.vt_laws_mounts.proofs.letting_go.ends.NamespacesEnd.{no_namespace_ends, one_namespace_ends}
 use Rattle.vt_laws_later_calls.specs.LastUse.{NamespaceEndsWithItsLastTask, task_count}
 use Rattle.vt_laws_later_calls.proofs.last_use.Groups.{none_lost}
@@ -28,12 +28,13 @@ module _ (world : World ℕ) (front back : List (Task ℕ)) (task : Task ℕ) (m
   -- other namespaces have tasks as before
   entered_as_before : (namespace : Namespace ℕ) → Among namespace world.namespaces
       → nat_eq task.namespace namespace.number ≡ false → has_tasks nat_eq after namespace ≡ true
-  entered_as_before namespace m differs = grind (arith, common_steps, some_without_another, nat_eq-swapped, passes)
+  entered_as_before namespace m differs = grind
+      (arith, common_steps, some_without_another, nat_eq-swapped, among_from_list_all)
 
   namespace_left : (b : Bool) → is_entered task.namespace ≡ b
       → namespaces_ended nat_eq after ≡ cond b after (without_namespace after task.namespace)
   namespace_left true has = no_namespace_ends after namespaces.mounts_listed
-      (all_pass (has_tasks nat_eq after) world.namespaces
+      (list_all_from_among (has_tasks nat_eq after) world.namespaces
       (λ namespace m. by namespace m (nat_eq task.namespace namespace.number) refl))
       ∙ ap (λ lost. regrouped_by nat_eq lost after) (none_lost world mounts)
     where
@@ -42,7 +43,7 @@ module _ (world : World ℕ) (front back : List (Task ℕ)) (task : Task ℕ) (m
       by namespace m true e = ap is_entered (sym (eqb-true task.namespace namespace.number e)) ∙ has
       by namespace m false e = entered_as_before namespace m e
   namespace_left false none = one_namespace_ends after task.namespace namespaces.mounts_listed none
-      (all_pass (λ namespace. nat_eq task.namespace namespace.number || has_tasks nat_eq after namespace)
+      (list_all_from_among (λ namespace. nat_eq task.namespace namespace.number || has_tasks nat_eq after namespace)
       world.namespaces (λ namespace m. by namespace m (nat_eq task.namespace namespace.number) refl))
     where
       by : (namespace : Namespace ℕ) → Among namespace world.namespaces → (b : Bool)

@@ -2,7 +2,7 @@
 use Rattle.std.proofs.Common.{◌≡◌, sym, ap, ◌∙◌, ⊎_elim, ℕ, Bool, true, false, cond, not, ◌+◌, ◌++◌, ◌||◌, List, [], ◌∷◌, filter, map, arith, nat_lt}
 use Rattle.vt_spec.proofs.Common.{any_pair, common_steps, list_any, list_any-append, nat_tests, or_parts, same_truth}
 use Rattle.vt_laws_mounts.specs.LettingGo.Counts.{times}
-use Rattle.vt_laws_mounts.proofs.letting_go.Lists.{times_around, Among, fails, filter_all, filter_here, filter_skip, map_same, any_counted}
+use Rattle.vt_laws_mounts.proofs.letting_go.Lists.{times_around, Among, none_among, filter_all, filter_here, filter_skip, map_same, any_counted}
 
 -- where one of them goes, some are left just where there was more than one
 pub some_left : (before after : ℕ) → before ≡ after + 1 → nat_lt 0 after ≡ nat_lt 1 before
@@ -51,7 +51,7 @@ module _ {A : Type 0} (same : A → A → Bool) (itself : (a : A) → same a a �
       }
         where
           differs : (a : A) → Among a rest → same it a ≡ false
-          differs a n = ap (λ x. same x a) is ∙ fails (same first) rest parts.0 a n
+          differs a n = ap (λ x. same x a) is ∙ none_among (same first) rest parts.0 a n
 
       later : Among it rest → IsSplit same rest it → IsSplit same (first ∷ rest) it
       later n next = record {
@@ -63,4 +63,4 @@ module _ {A : Type 0} (same : A → A → Bool) (itself : (a : A) → same a a �
       }
         where
           differs : same it first ≡ false
-          differs = turned first it (fails (same first) rest parts.0 it n)
+          differs = turned first it (none_among (same first) rest parts.0 it n)

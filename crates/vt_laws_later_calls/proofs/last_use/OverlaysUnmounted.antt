@@ -4,7 +4,7 @@ use Rattle.vt_spec.proofs.Common.{Filesystem, Mount, Overlay, World, and_parts, 
 use Rattle.vt_laws_mounts.specs.LettingGo.Counts.{mounts_showing}
 use Rattle.vt_laws_mounts.specs.LettingGo.InUse.{FilesystemsInUse}
 use Rattle.vt_laws_mounts.specs.LettingGo.OneByOne.{FilesystemsInUseBut, let_go_filesystems, without_filesystem}
-use Rattle.vt_laws_mounts.proofs.letting_go.Lists.{Among, all_pass, any-map, any_passes, fails, found_by, none_passes, one_passes, or_first, or_second, passes}
+use Rattle.vt_laws_mounts.proofs.letting_go.Lists.{Among, among_from_list_all, any-map, any_among, any_from_among, found_by, list_all_from_among, none_among, none_from_among, or_left, or_right}
 use Rattle.vt_laws_mounts.proofs.letting_go.sweeps.InUse.{filesystems_stay}
 use Rattle.vt_laws_mounts.proofs.letting_go.sweeps.LookedUp.{filesystem_is_looked_up}
 use Rattle.vt_laws_mounts.proofs.letting_go.sweeps.OneByOne.{filesystems_go_one_by_one}
@@ -50,10 +50,10 @@ module _ (world after : World ℕ) (front back : List (Mount ℕ)) (mount : Moun
     other_filesystems : FilesystemsInUseBut (mount.filesystem ∷ []) after
     other_filesystems = ap (list_all (λ filesystem. is_among nat_eq filesystem.number (mount.filesystem ∷ [])
         || filesystem_lives nat_eq after filesystem)) same
-        ∙ all_pass (λ filesystem. is_among nat_eq filesystem.number (mount.filesystem ∷ [])
+        ∙ list_all_from_among (λ filesystem. is_among nat_eq filesystem.number (mount.filesystem ∷ [])
         || filesystem_lives nat_eq after filesystem) world.filesystems
         (λ f m. by f (nat_eq f.number mount.filesystem) refl
-        (passes (filesystem_lives nat_eq world) world.filesystems in_use f m))
+        (among_from_list_all (filesystem_lives nat_eq world) world.filesystems in_use f m))
       where
         by : (f : Filesystem ℕ) (b : Bool) → nat_eq f.number mount.filesystem ≡ b
             → filesystem_lives nat_eq world f ≡ true → ((b || false) || filesystem_lives nat_eq after f) ≡ true
@@ -79,21 +79,22 @@ module _ (world after : World ℕ) (front back : List (Mount ℕ)) (mount : Moun
     lives_layered : (number : ℕ) (merged : Filesystem ℕ) → Among merged world.filesystems
         → has_layer_on nat_eq number merged ≡ true → is_mounted nat_eq after merged.number ≡ true
         → (is_mounted nat_eq after number || is_layered after number) ≡ true
-    lives_layered number merged m has mounted = or_second (is_mounted nat_eq after number) (is_layered after number)
+    lives_layered number merged m has mounted = or_right (is_mounted nat_eq after number) (is_layered after number)
         (ap (list_any (λ x. has_layer_on nat_eq number x && is_mounted nat_eq after x.number)) same
-        ∙ any_passes (λ x. has_layer_on nat_eq number x && is_mounted nat_eq after x.number) world.filesystems merged m
+        ∙ any_from_among (λ x. has_layer_on nat_eq number x && is_mounted nat_eq after x.number) world.filesystems
+        merged m
         (λ i. has i && mounted i))
 
     -- a filesystem was mounted, or an overlay with a layer in it
     lived : (f : Filesystem ℕ) → Among f world.filesystems
         → (is_mounted nat_eq world f.number ≡ true) ⊎ ((merged : Filesystem ℕ) × Among merged world.filesystems
         × (has_layer_on nat_eq f.number merged ≡ true) × (is_mounted nat_eq world merged.number ≡ true))
-    lived f m = grind (arith, common_steps, one_passes, and_parts, or_cases, passes)
+    lived f m = grind (arith, common_steps, any_among, and_parts, or_cases, among_from_list_all)
 
     all_but : FilesystemsInUseBut (mount.filesystem ∷ layers) after
     all_but = ap (list_all (λ filesystem. is_among nat_eq filesystem.number (mount.filesystem ∷ layers)
         || filesystem_lives nat_eq after filesystem)) same
-        ∙ all_pass (λ filesystem. is_among nat_eq filesystem.number (mount.filesystem ∷ layers)
+        ∙ list_all_from_among (λ filesystem. is_among nat_eq filesystem.number (mount.filesystem ∷ layers)
         || filesystem_lives nat_eq after filesystem) world.filesystems
         (λ f m. by f (nat_eq f.number mount.filesystem) refl (lived f m))
       where
@@ -110,24 +111,24 @@ module _ (world after : World ℕ) (front back : List (Mount ℕ)) (mount : Moun
             × (has_layer_on nat_eq f.number merged ≡ true) × (is_mounted nat_eq world merged.number ≡ true))
             → ((b || is_among nat_eq f.number layers) || filesystem_lives nat_eq after f) ≡ true
         by f true e how = refl
-        by f false e (inl mounted) = or_second (is_among nat_eq f.number layers) (filesystem_lives nat_eq after f)
-            (or_first (is_mounted nat_eq after f.number) (is_layered after f.number)
+        by f false e (inl mounted) = or_right (is_among nat_eq f.number layers) (filesystem_lives nat_eq after f)
+            (or_left (is_mounted nat_eq after f.number) (is_layered after f.number)
             (mounted_as_before world after front back mount before left f.number e ∙ mounted))
         by f false e (inr t) = which (nat_eq t.0.number mount.filesystem) refl
           where
             which : (b : Bool) → nat_eq t.0.number mount.filesystem ≡ b
                 → (is_among nat_eq f.number layers || filesystem_lives nat_eq after f) ≡ true
-            which true g = or_first (is_among nat_eq f.number layers) (filesystem_lives nat_eq after f)
+            which true g = or_left (is_among nat_eq f.number layers) (filesystem_lives nat_eq after f)
                 (is_layer f t.0 t.1 g t.2)
-            which false g = or_second (is_among nat_eq f.number layers) (filesystem_lives nat_eq after f)
+            which false g = or_right (is_among nat_eq f.number layers) (filesystem_lives nat_eq after f)
                 (lives_layered f.number t.0 t.1 t.2
                 (mounted_as_before world after front back mount before left t.0.number g ∙ t.3))
 
     -- while another mount shows it, all are in use
     all_mounted : is_mounted nat_eq after mount.filesystem ≡ true → FilesystemsInUse after
     all_mounted still = ap (list_all (filesystem_lives nat_eq after)) same
-        ∙ all_pass (filesystem_lives nat_eq after) world.filesystems (λ f m. ⊎_elim
-        (λ mounted. or_first (is_mounted nat_eq after f.number) (is_layered after f.number) (as_before f.number mounted))
+        ∙ list_all_from_among (filesystem_lives nat_eq after) world.filesystems (λ f m. ⊎_elim
+        (λ mounted. or_left (is_mounted nat_eq after f.number) (is_layered after f.number) (as_before f.number mounted))
         (λ t. lives_layered f.number t.0 t.1 t.2 (as_before t.0.number t.3)) (lived f m))
       where
         as_before : (number : ℕ) → is_mounted nat_eq world number ≡ true → is_mounted nat_eq after number ≡ true
@@ -136,9 +137,9 @@ module _ (world after : World ℕ) (front back : List (Mount ℕ)) (mount : Moun
     -- no overlay has a layer in it
     not_layered : is_layered after mount.filesystem ≡ false
     not_layered = ap (list_any (λ x. has_layer_on nat_eq mount.filesystem x && is_mounted nat_eq after x.number)) same
-        ∙ none_passes (λ x. has_layer_on nat_eq mount.filesystem x && is_mounted nat_eq after x.number)
+        ∙ none_from_among (λ x. has_layer_on nat_eq mount.filesystem x && is_mounted nat_eq after x.number)
         world.filesystems (λ x m. ap (λ b. b && is_mounted nat_eq after x.number)
-        (fails (has_layer_on nat_eq mount.filesystem) world.filesystems no_layers x m))
+        (none_among (has_layer_on nat_eq mount.filesystem) world.filesystems no_layers x m))
 
     overlay_left : (b : Bool) → is_mounted nat_eq after mount.filesystem ≡ b → without_dead_filesystems nat_eq after
         ≡ cond b after (let_go_filesystems (without_filesystem after mount.filesystem) layers)

@@ -5,7 +5,7 @@ use Rattle.vt_laws_mounts.specs.LettingGo.Counts.{inode_uses, times}
 use Rattle.vt_laws_mounts.specs.LettingGo.InUse.{AllInUse, UppersArePlain, has_upper_in, is_inode_used}
 use Rattle.vt_laws_mounts.specs.LettingGo.OneByOne.{Inode, without_inode, without_inode_at, without_inode_in}
 use Rattle.vt_laws_mounts.specs.LettingGo.Overlays.{is_plain, let_go_in, let_go_in_of, let_go_plain, uppers_in, uppers_of, without_inode_of, without_real}
-use Rattle.vt_laws_mounts.proofs.letting_go.Lists.{Among, among-from_map, among_from_all, fails, flat_map_none, found_in, map_same}
+use Rattle.vt_laws_mounts.proofs.letting_go.Lists.{Among, among-from_map, among_from_all, flat_map_none, found_in, map_same, none_among}
 use Rattle.vt_laws_mounts.proofs.letting_go.sweeps.UpperUses.{one_upper_use_less}
 use Rattle.vt_laws_mounts.proofs.letting_go.sweeps.UsesCounted.{used_while_counted}
 use Rattle.vt_laws_later_calls.specs.LastUse.{InodeOverLowersGoesAlone, LosesOneUse, UpperInodeGoesWithItsLastUse, without_inode_of_any, without_merged_inode}
@@ -29,9 +29,9 @@ given_by_one give [] one it m none = absurd m
 given_by_one give (first ∷ rest) one it m none = ⊎_elim (λ same. ap (λ l. give first ++ l)
     (flat_map_none give rest (λ f n. none f (nat_eq-swapped it.number f.number false
     (ap (λ (x : Filesystem ℕ). nat_eq x.number f.number) same
-    ∙ fails (λ (b : Filesystem ℕ). nat_eq first.number b.number) rest parts.0 f n))))
+    ∙ none_among (λ (b : Filesystem ℕ). nat_eq first.number b.number) rest parts.0 f n))))
     ∙ append-nil (give first) ∙ ap give (sym same)) (λ later. ap (λ l. l ++ flat_map give rest)
-    (none first (fails (λ (b : Filesystem ℕ). nat_eq first.number b.number) rest parts.0 it later))
+    (none first (none_among (λ (b : Filesystem ℕ). nat_eq first.number b.number) rest parts.0 it later))
     ∙ given_by_one give rest parts.1 it later none) m
   where
     parts : (list_any (λ (b : Filesystem ℕ). nat_eq first.number b.number) rest ≡ false)

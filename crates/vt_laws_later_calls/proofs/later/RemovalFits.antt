@@ -10,7 +10,7 @@ use Rattle.vt_laws_worlds.proofs.permits.sees.SeesNames.{tree_here}
 use Rattle.vt_laws_trees.specs.Trees.{IsFileTree}
 use Rattle.vt_laws_trees.specs.Trees.Calls.{mounts_overlay}
 use Rattle.vt_laws_trees.specs.Trees.Limits.{names_few_groups}
-use Rattle.vt_laws_trees.proofs.trees.TreesEntered.{chain_ends}
+use Rattle.vt_laws_trees.proofs.trees.TreesEntered.{chain_ends_at}
 use Rattle.vt_laws_trees.proofs.trees.TreesOfWorlds.{number_numbered}
 use Rattle.vt_laws_trees.proofs.trees.TreesReached.{not_removed_reached}
 use Rattle.vt_laws_worlds.specs.Worlds.Kept.{IsPlain}
@@ -229,7 +229,7 @@ module _ (world : World ℕ) (fresh : Fresh ℕ) (name : TaskName) (call : Call)
       grind (arith, common_steps, none_is_not, found_in, found_itself, same_Some, or_right, eq-eqb)
 
   over_outside : (place : Location ℕ) → IsOutside place → IsOutside (topmost nat_eq world.mounts place)
-  over_outside place outside = chain_ends IsOutside (λ here. option_map root_of (child_at nat_eq world.mounts here))
+  over_outside place outside = chain_ends_at IsOutside (λ here. option_map root_of (child_at nat_eq world.mounts here))
       (λ a b out e. root_outside a b e) (length world.mounts) place place outside
 
   -- no mount of the task's namespace stands on it
@@ -273,7 +273,8 @@ module _ (world : World ℕ) (fresh : Fresh ℕ) (name : TaskName) (call : Call)
   top_outside : (here : Location ℕ) → IsFoundDirectory world is did.task here → IsOutside here
       → IsOutside (top world later is plain is_later.0 is_later.1 did.task reader here)
   top_outside here found outside =
-      (chain_ends (λ (l : Location ℕ). IsFoundDirectory world is did.task l × IsOutside l) (hop nat_eq world did.task)
+      (chain_ends_at (λ (l : Location ℕ). IsFoundDirectory world is did.task l × IsOutside l)
+      (hop nat_eq world did.task)
       (λ a b both e. (hop_known world is did.task a b both.0 e, λ removed. absurd (place_outside a b both.0 e removed)))
       (length world.mounts) here here (found, outside)).1
 

@@ -20,7 +20,7 @@ use Rattle.vt_laws_trees.specs.Trees.Calls.{mounts_overlay}
 use Rattle.vt_laws_trees.specs.Trees.Limits.{names_few_groups}
 use Rattle.vt_laws_trees.proofs.trees.ChangesNodes.{elsewhere, part_stays}
 use Rattle.vt_laws_trees.proofs.trees.TreesAbove.{under_seen}
-use Rattle.vt_laws_trees.proofs.trees.TreesEntered.{chain_ends}
+use Rattle.vt_laws_trees.proofs.trees.TreesEntered.{chain_ends_at}
 use Rattle.vt_laws_worlds.specs.Worlds.Kept.{IsPlain}
 use Rattle.vt_laws_worlds.proofs.worlds.Reached.{IsFoundDirectory}
 use Rattle.vt_laws_worlds.proofs.worlds.SeenTrees.{change_tasks}
@@ -302,7 +302,7 @@ module _ (world : World ℕ) (fresh : Fresh ℕ) (name : TaskName) (call : Call)
       grind (arith, common_steps, none_is_not, found, found_in, found_itself, same_Some)
 
   pub over_fits : (place : Location ℕ) → Fits place → Fits (topmost nat_eq world.mounts place)
-  over_fits place fits = chain_ends Fits (λ here. option_map root_of (child_at nat_eq world.mounts here))
+  over_fits place fits = chain_ends_at Fits (λ here. option_map root_of (child_at nat_eq world.mounts here))
       (λ a b fit e. root_of_child a b e) (length world.mounts) place place fits
 
   -- no mount of the task's namespace stands inside

@@ -11,7 +11,7 @@ use Rattle.vt_laws_trees.specs.Trees.{IsFileTree}
 use Rattle.vt_laws_trees.specs.Trees.Calls.{mounts_overlay}
 use Rattle.vt_laws_trees.specs.Trees.Limits.{names_few_groups}
 use Rattle.vt_laws_trees.proofs.trees.TreesAbove.{under_seen}
-use Rattle.vt_laws_trees.proofs.trees.TreesEntered.{chain_ends}
+use Rattle.vt_laws_trees.proofs.trees.TreesEntered.{chain_ends_at}
 use Rattle.vt_laws_trees.proofs.trees.TreesReached.{not_removed_reached}
 use Rattle.vt_laws_worlds.specs.Worlds.Kept.{IsPlain}
 use Rattle.vt_laws_worlds.proofs.worlds.Reached.{IsFoundDirectory}
@@ -395,7 +395,7 @@ module _ (world : World ℕ) (fresh : Fresh ℕ) (name : TaskName) (call : Call)
   top_fits : (here : Location ℕ) → IsFoundDirectory world is did.task here → FitsIn here
       → FitsIn (top world left_world is plain is_left.0 is_left.1 did.task reader here)
   top_fits here found_here fits =
-      (chain_ends (λ (l : Location ℕ). IsFoundDirectory world is did.task l × FitsIn l) (hop nat_eq world did.task)
+      (chain_ends_at (λ (l : Location ℕ). IsFoundDirectory world is did.task l × FitsIn l) (hop nat_eq world did.task)
       (λ a b both e. (hop_known world is did.task a b both.0 e, points_fit a b both.0 e))
       (length world.mounts) here here (found_here, fits)).1
 

@@ -14,7 +14,7 @@ use Rattle.vt_laws_mounts.proofs.mounts.Standing.{rank, rank_bounded, rank_child
 use Rattle.vt_laws_mounts.proofs.namespaces.Topmost.{topmost_is_free}
 use Rattle.vt_laws_mounts.proofs.ends.Unmounting.{detached_by_number, kept_by_number, place_kept, root_stays}
 use Rattle.vt_laws_mounts.proofs.ends.UnmountingTrees.{AreClosed}
-use Rattle.vt_laws_trees.proofs.trees.TreesEntered.{chain_ends as chain_ends_at}
+use Rattle.vt_laws_trees.proofs.trees.TreesEntered.{chain_ends_at}
 use Rattle.vt_laws_mounts.proofs.letting_go.leaving.PlacesLeft.{nowhere_parts}
 use Rattle.vt_laws_worlds.proofs.worlds.Reached.{IsFoundDirectory, IsOn, namespace_below, place_found}
 

@@ -7,7 +7,7 @@ use Rattle.vt_laws_mounts.proofs.mounts.MountsNumbered.{is_one_of}
 use Rattle.vt_laws_mounts.proofs.mounts.MountsReplaced.{found-append}
 use Rattle.vt_laws_mounts.specs.LettingGo.Detaching.{StandsUnshared, detached_if, without_place}
 use Rattle.vt_laws_mounts.specs.LettingGo.InUse.{AllInUse}
-use Rattle.vt_laws_mounts.proofs.letting_go.Lists.{passes, find_none}
+use Rattle.vt_laws_mounts.proofs.letting_go.Lists.{among_from_list_all, find_none}
 use Rattle.vt_laws_mounts.proofs.letting_go.leaving.Detached.{unmount_is_of_one}
 use Rattle.vt_laws_mounts.proofs.letting_go.leaving.PlacesLeft.{place_attached}
 use Rattle.vt_laws_mounts.proofs.letting_go.sweeps.InUse.{groups_stay, inodes_stay}
@@ -51,7 +51,17 @@ module _ (world : World ℕ) (fresh : Fresh ℕ) (place : Location ℕ) (flags :
   -- no mount of the world shows that filesystem
   pub not_shown : (mount : Mount ℕ) → Among mount world.mounts → nat_eq added.number mount.filesystem ≡ false
   not_shown mount m =
-      grind (arith, common_steps, and_parts, passes, true≢false, eqb-true, found_passes, other_filesystem, found_among)
+      grind (
+        arith,
+        common_steps,
+        and_parts,
+        among_from_list_all,
+        true≢false,
+        eqb-true,
+        found_passes,
+        other_filesystem,
+        found_among,
+      )
 
   -- The world with the new mount, of tasks that use the same locations
   module _ (tasks : List (Task ℕ)) (namespaces : List (Namespace ℕ)) (change : ℕ)
@@ -149,7 +159,7 @@ module _ (world : World ℕ) (fresh : Fresh ℕ) (place : Location ℕ) (flags :
       same_locations,
       none_from_among (λ (location : Location ℕ). nat_eq new.number location.mount) (all_locations world) (λ
           location m. nat_eq_false_turned location.mount new.number (other_number fresh world place flags serves
-          location.mount (passes (λ (at : Location ℕ). is_among nat_eq at.mount (numbers_of world.mounts))
+          location.mount (among_from_list_all (λ (at : Location ℕ). is_among nat_eq at.mount (numbers_of world.mounts))
           (all_locations world) (locations_of_worlds_stand world is) location m))),
     )
 
@@ -158,7 +168,7 @@ module _ (world : World ℕ) (fresh : Fresh ℕ) (place : Location ℕ) (flags :
         ≡ world.mounts
     mounts_left = filter-append (mount_lives nat_eq (with_new (detached new))) world.mounts (detached new ∷ [])
         ∙ (λ i. filter_all (mount_lives nat_eq (with_new (detached new))) world.mounts
-        (passes (mount_lives nat_eq before) world.mounts in_use.mounts) i
+        (among_from_list_all (mount_lives nat_eq before) world.mounts in_use.mounts) i
         ++ cond (located_elsewhere i) (detached new ∷ []) []) ∙ append-nil world.mounts
 
     -- then the filesystem is left over
@@ -181,7 +191,7 @@ module _ (world : World ℕ) (fresh : Fresh ℕ) (place : Location ℕ) (flags :
     -- each filesystem that was there stays
     filesystem_stays_alive : (filesystem : Filesystem ℕ) → Among filesystem world.filesystems
         → filesystem_lives nat_eq without_new filesystem ≡ true
-    filesystem_stays_alive filesystem m = grind (arith, common_steps, passes, list_any-append)
+    filesystem_stays_alive filesystem m = grind (arith, common_steps, among_from_list_all, list_any-append)
 
     -- the new one goes
     added_is_dead : filesystem_lives nat_eq without_new added ≡ false
@@ -209,7 +219,8 @@ module _ (world : World ℕ) (fresh : Fresh ℕ) (place : Location ℕ) (flags :
         ∙ none_from_among (λ (location : Location ℕ). is_among nat_eq location.mount (new.number ∷ []))
         (all_locations world) (λ location m. ap (λ b. b || false)
         (other_number fresh world place flags serves location.mount
-        (passes (λ (at : Location ℕ). is_among nat_eq at.mount (numbers_of world.mounts)) (all_locations world)
+        (among_from_list_all (λ (at : Location ℕ). is_among nat_eq at.mount (numbers_of world.mounts))
+        (all_locations world)
         (locations_of_worlds_stand world is) location m)))
 
     -- the sweep after the unmount leaves the world before, with these tasks

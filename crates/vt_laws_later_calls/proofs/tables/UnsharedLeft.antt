@@ -4,7 +4,7 @@ use Rattle.vt_spec.proofs.Common.{Filesystem, Fresh, HasLivingGroups, IsWorld, L
 use Rattle.vt_laws_mounts.specs.LettingGo.InUse.{FilesystemsInUse, InodesInUse, is_inode_used}
 use Rattle.vt_laws_mounts.specs.LettingGo.Mounting.{ended_mounts}
 use Rattle.vt_laws_mounts.proofs.letting_go.sweeps.InUse.{filesystems_stay, inodes_stay, used_at}
-use Rattle.vt_laws_mounts.proofs.letting_go.Lists.{Among, all_from_among, all_pass, among-append, among-append_left, among-append_right, among-filter, among-filter_map, among-flat_map, among-from_filter, among-from_filter_map, among-from_flat_map, among-from_map, among-map, among_from_all, among_numbers, any_passes, is_among_numbers, none_passes, one_passes, or_first, or_second, passes}
+use Rattle.vt_laws_mounts.proofs.letting_go.Lists.{Among, all_from_among, among-append, among-append_left, among-append_right, among-filter, among-filter_map, among-flat_map, among-from_filter, among-from_filter_map, among-from_flat_map, among-from_map, among-map, among_from_all, among_from_list_all, among_numbers, any_among, any_from_among, is_among_numbers, list_all_from_among, none_from_among, or_left, or_right}
 use Rattle.vt_laws_mounts.proofs.letting_go.mounting.MountingLosers.{places_of, places_stand}
 use Rattle.vt_laws_mounts.proofs.letting_go.mounting.MountingTaken
 use Rattle.vt_laws_mounts.proofs.letting_go.sweeps.OfWorlds.{all_in_use, locations_of_worlds_stand, mounts_of_worlds_stand}
@@ -91,9 +91,9 @@ module _ (world : World ℕ) (fresh : Fresh ℕ) (task : Task ℕ) (is : IsWorld
       → Among other base.tasks → namespace.number ≡ other.namespace → mount.namespace ≡ Some namespace.number
       → is_in_ended nat_eq base mount ≡ false
   not_ended namespace other mount m n e f = ap ended_by f
-      ∙ ap not (any_passes (is_kept namespace.number) base.namespaces namespace m
+      ∙ ap not (any_from_among (is_kept namespace.number) base.namespaces namespace m
       (ap (λ b. b && has_tasks nat_eq base namespace) (eq-eqb namespace.number namespace.number refl)
-      ∙ any_passes (λ (t : Task ℕ). nat_eq namespace.number t.namespace) base.tasks other n
+      ∙ any_from_among (λ (t : Task ℕ). nat_eq namespace.number t.namespace) base.tasks other n
       (eq-eqb namespace.number other.namespace e)))
     where
       is_kept : ℕ → Namespace ℕ → Bool
@@ -186,12 +186,13 @@ module _ (world : World ℕ) (fresh : Fresh ℕ) (task : Task ℕ) (is : IsWorld
   kept_member group has = by one.0 one.1 one.2 (is_going nat_eq ended one.0.number) refl
     where
       one : (mount : Mount ℕ) × Among mount base.mounts × (is_member_of nat_eq group mount ≡ true)
-      one = one_passes (is_member_of nat_eq group) base.mounts has
+      one = any_among (is_member_of nat_eq group) base.mounts has
 
       stays_member : (mount : Mount ℕ) → Among mount base.mounts → is_member_of nat_eq group mount ≡ true
           → is_going nat_eq ended mount.number ≡ false → has_members nat_eq without.mounts group ≡ true
       stays_member mount m member isnt =
-          any_passes (is_member_of nat_eq group) without.mounts (change mount) (among-map change base.mounts mount m)
+          any_from_among (is_member_of nat_eq group) without.mounts (change mount)
+          (among-map change base.mounts mount m)
           (ap (is_member_of nat_eq group) (MountingTaken.stays base ended lasting mount isnt) ∙ member)
 
       by : (mount : Mount ℕ) → Among mount base.mounts → is_member_of nat_eq group mount ≡ true
@@ -236,7 +237,7 @@ module _ (world : World ℕ) (fresh : Fresh ℕ) (task : Task ℕ) (is : IsWorld
   -- so no group is handed on
   pub ends_so : namespaces_ended nat_eq base ≡ ended_world
   ends_so = ap (λ b. record (regrouped_by nat_eq b without) { namespaces = lasting })
-      (none_passes (lost_a_group nat_eq without) without.mounts (λ mount m.
+      (none_from_among (lost_a_group nat_eq without) without.mounts (λ mount m.
       let from = among-from_map change base.mounts mount m in
       ap (lost_a_group nat_eq without) from.2 ∙ not_lost from.0 from.1))
 
@@ -266,14 +267,14 @@ module _ (world : World ℕ) (fresh : Fresh ℕ) (task : Task ℕ) (is : IsWorld
   pub lives_in : (mount : Mount ℕ) → is_going nat_eq ended mount.number ≡ false → is_some mount.namespace ≡ true
       → Alive mount
   lives_in mount isnt inside =
-      or_first (is_some (change mount).namespace) (is_located nat_eq ended_world (change mount).number)
+      or_left (is_some (change mount).namespace) (is_located nat_eq ended_world (change mount).number)
       (ap is_some (MountingTaken.same_namespace base ended lasting false mount isnt) ∙ inside)
 
   lives_at : (mount : Mount ℕ) (location : Location ℕ) → Among location (all_locations base)
       → mount.number ≡ location.mount → Alive mount
   lives_at mount location m e =
-      or_second (is_some (change mount).namespace) (is_located nat_eq ended_world (change mount).number)
-      (any_passes (λ (l : Location ℕ). nat_eq (change mount).number l.mount) (all_locations ended_world) location m
+      or_right (is_some (change mount).namespace) (is_located nat_eq ended_world (change mount).number)
+      (any_from_among (λ (l : Location ℕ). nat_eq (change mount).number l.mount) (all_locations ended_world) location m
       (eq-eqb (change mount).number location.mount (same_number mount ∙ e)))
 
   pub copy_lives : (mount : Mount ℕ) → Among mount copied → Alive (copy mount)
@@ -311,7 +312,7 @@ module _ (world : World ℕ) (fresh : Fresh ℕ) (task : Task ℕ) (is : IsWorld
   copied_at : (location : Location ℕ) → is_copied nat_eq copied location ≡ true
       → (mount : Mount ℕ) × Among mount copied × (location.mount ≡ mount.number)
   copied_at location e =
-      let one = one_passes (λ (mount : Mount ℕ). nat_eq location.mount mount.number) copied e in
+      let one = any_among (λ (mount : Mount ℕ). nat_eq location.mount mount.number) copied e in
       (one.0, one.1, eqb-true location.mount one.0.number one.2)
 
   pub itself : (mount : Mount ℕ) → Among mount world.mounts → mount_numbered nat_eq world mount.number ≡ mount
@@ -342,7 +343,7 @@ module _ (world : World ℕ) (fresh : Fresh ℕ) (task : Task ℕ) (is : IsWorld
   stand_in : (mount : Mount ℕ) → Among mount world.mounts → StandIn mount
   stand_in mount m = ⊎_elim (λ going. its_copy mount (going_is_copied mount (old_there mount m) going))
       (λ isnt. ⊎_elim (λ inside. as_it_was mount m (lives_in mount isnt inside)) (λ located.
-      let one = one_passes (λ (l : Location ℕ). nat_eq mount.number l.mount) (all_locations world) located in
+      let one = any_among (λ (l : Location ℕ). nat_eq mount.number l.mount) (all_locations world) located in
       let number : mount.number ≡ one.0.mount = eqb-true mount.number one.0.mount one.2 in
       ⊎_elim (λ still. as_it_was mount m (lives_at mount one.0 still number))
       (λ moves. let at = copied_at one.0 moves.0 in
@@ -350,23 +351,24 @@ module _ (world : World ℕ) (fresh : Fresh ℕ) (task : Task ℕ) (is : IsWorld
       (sym (itself at.0 (was_there at.0 at.1)) ∙ ap (mount_numbered nat_eq world) (sym (number ∙ at.2))
       ∙ itself mount m) at.1)) (still_located one.0 one.1))
       (or_cases (is_some mount.namespace) (is_located nat_eq world mount.number)
-      (passes (mount_lives nat_eq world) world.mounts (all_in_use world is).mounts mount m)))
+      (among_from_list_all (mount_lives nat_eq world) world.mounts (all_in_use world is).mounts mount m)))
       (cases_Bool (is_going nat_eq ended mount.number))
 
   still_mounted : (number : ℕ) → is_mounted nat_eq world number ≡ true → is_mounted nat_eq mounted number ≡ true
   still_mounted number was =
-      let one = one_passes (λ (x : Mount ℕ). nat_eq number x.filesystem) world.mounts was in
+      let one = any_among (λ (x : Mount ℕ). nat_eq number x.filesystem) world.mounts was in
       let other = stand_in one.0 one.1 in
-      any_passes (λ (x : Mount ℕ). nat_eq number x.filesystem) mounted.mounts (change other.image)
+      any_from_among (λ (x : Mount ℕ). nat_eq number x.filesystem) mounted.mounts (change other.image)
       (alive_there other.image other.there other.alive)
       (ap (nat_eq number) (same_filesystem other.image ∙ other.filesystem) ∙ one.2)
 
   filesystems_live : FilesystemsInUse mounted
-  filesystems_live = all_pass (filesystem_lives nat_eq mounted) world.filesystems (λ filesystem m.
+  filesystems_live = list_all_from_among (filesystem_lives nat_eq mounted) world.filesystems (λ filesystem m.
       by filesystem (or_cases (is_mounted nat_eq world filesystem.number)
       (list_any (λ (merged : Filesystem ℕ). has_layer_on nat_eq filesystem.number merged
       && is_mounted nat_eq world merged.number) world.filesystems)
-      (passes (filesystem_lives nat_eq world) world.filesystems (all_in_use world is).filesystems filesystem m)))
+      (among_from_list_all (filesystem_lives nat_eq world) world.filesystems (all_in_use world is).filesystems
+      filesystem m)))
     where
       shows : World ℕ → Filesystem ℕ → Filesystem ℕ → Bool
       shows which filesystem merged = has_layer_on nat_eq filesystem.number merged
@@ -376,15 +378,15 @@ module _ (world : World ℕ) (fresh : Fresh ℕ) (task : Task ℕ) (is : IsWorld
           ⊎ (list_any (shows world filesystem) world.filesystems ≡ true)
           → filesystem_lives nat_eq mounted filesystem ≡ true
       by filesystem (inl here) =
-          or_first (is_mounted nat_eq mounted filesystem.number) (list_any (shows mounted filesystem) world.filesystems)
+          or_left (is_mounted nat_eq mounted filesystem.number) (list_any (shows mounted filesystem) world.filesystems)
           (still_mounted filesystem.number here)
       by filesystem (inr layered) =
-          let one = one_passes (shows world filesystem) world.filesystems layered in
+          let one = any_among (shows world filesystem) world.filesystems layered in
           let parts = and_parts (has_layer_on nat_eq filesystem.number one.0)
           (is_mounted nat_eq world one.0.number) one.2 in
-          or_second (is_mounted nat_eq mounted filesystem.number)
+          or_right (is_mounted nat_eq mounted filesystem.number)
           (list_any (shows mounted filesystem) world.filesystems)
-          (any_passes (shows mounted filesystem) world.filesystems one.0 one.1
+          (any_from_among (shows mounted filesystem) world.filesystems one.0 one.1
           (ap (λ b. b && is_mounted nat_eq mounted one.0.number) parts.0 ∙ still_mounted one.0.number parts.1))
 
   -- Places that are used still
@@ -524,11 +526,11 @@ module _ (world : World ℕ) (fresh : Fresh ℕ) (task : Task ℕ) (is : IsWorld
 
   used_still : (filesystem : Filesystem ℕ) (number : ℕ) → is_inode_used world filesystem number ≡ true
       → is_inode_used mounted filesystem number ≡ true
-  used_still filesystem number used = ⊎_elim (λ root. or_first (nat_eq number filesystem.files.tree.root) _ root)
+  used_still filesystem number used = ⊎_elim (λ root. or_left (nat_eq number filesystem.files.tree.root) _ root)
       (λ rest. ⊎_elim (λ front. ⊎_elim (λ first. ⊎_elim (λ name. later (is_among_left number (named ++ now) layers
       (is_among_left number named now name))) (λ there. located there) (apart named was first))
       (λ layer. later (is_among_right number (named ++ now) layers layer)) (apart (named ++ was) layers front))
-      (λ object. or_second (nat_eq number filesystem.files.tree.root) _
+      (λ object. or_right (nat_eq number filesystem.files.tree.root) _
       (is_among_right number (named ++ now ++ layers) objects object)) (apart (named ++ was ++ layers) objects rest))
       (or_cases (nat_eq number filesystem.files.tree.root) _ used)
     where
@@ -553,7 +555,7 @@ module _ (world : World ℕ) (fresh : Fresh ℕ) (task : Task ℕ) (is : IsWorld
           (sym (list_any-append (nat_eq number) xs ys) ∙ h)
 
       later : is_among nat_eq number (named ++ now ++ layers) ≡ true → is_inode_used mounted filesystem number ≡ true
-      later h = or_second (nat_eq number filesystem.files.tree.root) _
+      later h = or_right (nat_eq number filesystem.files.tree.root) _
           (is_among_left number (named ++ now ++ layers) objects h)
 
       shows : Location ℕ → Bool
@@ -571,8 +573,8 @@ module _ (world : World ℕ) (fresh : Fresh ℕ) (task : Task ℕ) (is : IsWorld
   inodes_live : InodesInUse mounted
   inodes_live = all_from_among (λ (f : Filesystem ℕ). list_all (is_inode_used mounted f) f.files.numbers ≡ true)
       world.filesystems (λ filesystem m.
-      all_pass (is_inode_used mounted filesystem) filesystem.files.numbers (λ number n.
-      used_still filesystem number (passes (is_inode_used world filesystem) filesystem.files.numbers
+      list_all_from_among (is_inode_used mounted filesystem) filesystem.files.numbers (λ number n.
+      used_still filesystem number (among_from_list_all (is_inode_used world filesystem) filesystem.files.numbers
       (among_from_all (λ (f : Filesystem ℕ). list_all (is_inode_used world f) f.files.numbers ≡ true) world.filesystems
       (all_in_use world is).inodes filesystem m) number n)))
 

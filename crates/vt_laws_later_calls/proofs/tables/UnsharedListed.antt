@@ -4,7 +4,7 @@ use Rattle.vt_spec.proofs.Common.{Answer, Done, Filesystem, Fresh, IsWorld, List
 use Rattle.vt_spec.specs.declared.errors.Deny.{Deny}
 use Rattle.vt_spec.specs.declared.errors.Rule.TheVariants.{S2}
 use Rattle.vt_spec.specs.Language.Answers.TypeLine.{SharedLine}
-use Rattle.vt_laws_mounts.proofs.letting_go.Lists.{Among, among-append_left, among-append_right, among-from_filter, among-map, any_passes, filter_here, filter_skip, flat_map_alike}
+use Rattle.vt_laws_mounts.proofs.letting_go.Lists.{Among, among-append_left, among-append_right, among-from_filter, among-map, any_from_among, filter_here, filter_skip, flat_map_alike}
 use Rattle.vt_laws_mounts.proofs.letting_go.mounting.MountingTaken
 use Rattle.vt_laws_mounts.specs.Mounts.Propagation.{UnshareListsOthersTheSame, UnshareListsTheSame}
 use Rattle.vt_laws_mounts.proofs.GroupsKept.{shared_member}
@@ -240,7 +240,8 @@ module _ (world : World ℕ) (fresh : Fresh ℕ) (task : Task ℕ) (is : IsWorld
     masters_same mount m group e =
         let from = among-from_filter (is_in namespace.number) base.mounts mount m in
         let it = inside mount from.1 in
-        ap (λ b. cond b (base.master group) None) (any_passes (is_member_of nat_eq group) mounted.mounts (change mount)
+        ap (λ b. cond b (base.master group) None)
+        (any_from_among (is_member_of nat_eq group) mounted.mounts (change mount)
         (UnsharedLeft.alive_there world fresh task is serves called mount from.0 (lives mount from.0 it))
         (ap (is_member_of nat_eq group) (unchanged mount from.0 it) ∙ shared_member group mount e))
 

@@ -1,7 +1,7 @@
 -- A world that is ready to be swept for a set is ready still, where mounts of theirs change and more come.
 use Rattle.std.proofs.Common.{arith, ◌≡◌, refl, sym, ap, subst, ◌∙◌, ◌⊎◌, inl, inr, ⊎_elim, ℕ, nat_eq, Bool, true, false, true≢false, List, [], ◌++◌, Option, Some, None, filter, is_some, map, ◌&&◌}
 use Rattle.vt_spec.proofs.Common.{Among, Filesystem, Layer, Location, Mount, Stands, TaskName, World, all_locations, among-append, among-append_left, among-from_map, among-map, among_from_all, common_steps, filter_all, found_or_none, is_among, is_at, is_located, is_nowhere_or_attached, is_under, list_all, list_any, locations, members, mount_at, mount_lives, number-mount_in, or_left, own_lowers, part_of, roots_and_directories, settled, used_filesystems, with_mounts}
-use Rattle.vt_laws_mounts.proofs.letting_go.Lists.{passes}
+use Rattle.vt_laws_mounts.proofs.letting_go.Lists.{among_from_list_all}
 use Rattle.vt_laws_mounts.proofs.letting_go.leaving.PlacesLeft.{placed_is_attached}
 use Rattle.vt_laws_mounts.specs.Mounts.Invariants.{OneNumberEach}
 use Rattle.vt_laws_mounts.specs.Mounts.Standing.{AllStand}
@@ -112,7 +112,7 @@ module _ (v : World ℕ) (names : List TaskName) (change : Mount ℕ → Mount �
               grown.mounts stands y m) (ap (λ (z : Mount ℕ). z.mount_point) (found_itself grown.mounts one y m) ∙ point)
 
           attached : is_some y.namespace ≡ true
-          attached = placed_is_attached y (passes is_nowhere_or_attached grown.mounts nowhere y m) l point
+          attached = placed_is_attached y (among_from_list_all is_nowhere_or_attached grown.mounts nowhere y m) l point
 
           by : (o : Option ℕ) → y.namespace ≡ o
               → (n : ℕ) × (y.namespace ≡ Some n) × (k : Mount ℕ) × Among k grown.mounts × (l.mount ≡ k.number)

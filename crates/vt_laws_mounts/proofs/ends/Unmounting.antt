@@ -6,8 +6,7 @@ use Rattle.vt_laws_mounts.specs.Mounts.Unmounting.FallsTo.{falls, rests}
 use Rattle.vt_laws_mounts.proofs.Groups.{inherited_kept, master-regrouped, members-regrouped, mounts-regrouped}
 use Rattle.vt_spec.proofs.Lists.{find_agrees}
 use Rattle.vt_laws_mounts.proofs.mounts.MountsFound.{found-map, numbers-map}
-use Rattle.vt_spec.proofs.Worlds.{number-after_going}
-pub use Rattle.vt_spec.proofs.Worlds.{number-after_going as number_after}
+pub use Rattle.vt_spec.proofs.Worlds.{number-after_going}
 
 module _ (world : World ℕ) (gone : List ℕ) where
   -- one mount after the event

@@ -4,21 +4,21 @@ use Rattle.vt_spec.proofs.Common.{any_pair, common_steps, holds_of, is_among, li
 use Rattle.std.proofs.Math.Nat.{add_assoc}
 use Rattle.vt_spec.proofs.Truths.{as_many_with_none}
 use Rattle.vt_laws_mounts.specs.LettingGo.Counts.{times}
-pub use Rattle.std.proofs.lemmas.Bool.{or_left as or_first, or_right as or_second}
-pub use Rattle.vt_spec.proofs.Lists.{Among, all_from_among, among-append, among-append_left, among-append_right, among-filter, among-filter_map, among-flat_map, among-from_filter, among-from_filter_map, among-from_flat_map, among-from_map, among-map, among_from_all, any_among as one_passes, any_from_among as any_passes, among_from_list_all as passes, filter_here, filter_skip, list_all_from_among as all_pass, map_same, none_among as fails, none_from_among as none_passes}
+pub use Rattle.std.proofs.lemmas.Bool.{or_left, or_right}
+pub use Rattle.vt_spec.proofs.Lists.{Among, all_from_among, among-append, among-append_left, among-append_right, among-filter, among-filter_map, among-flat_map, among-from_filter, among-from_filter_map, among-from_flat_map, among-from_map, among-map, among_from_all, any_among, any_from_among, among_from_list_all, filter_here, filter_skip, list_all_from_among, map_same, none_among, none_from_among}
 pub use Rattle.vt_spec.proofs.Found.{is_among_left}
 pub use Rattle.vt_spec.proofs.Found.{is_among_right}
 pub use Rattle.vt_spec.proofs.Found.{filter_all}
 pub use Rattle.vt_spec.proofs.Found.{filter_alike}
 
 module _ {A : Type 0} where
-  -- what is found is there and passes
+  -- what is found is there and among_from_list_all
   pub found_in : (test : A → Bool) (xs : List A) (found : A) → find test xs ≡ Some found
       → Among found xs × (test found ≡ true)
   found_in test [] found e = absurd (true≢false (sym (ap is_some e)))
   found_in test (first ∷ rest) found e = grind (arith, common_steps, found_in test rest found)
 
-  -- where nothing passes nothing is found
+  -- where nothing among_from_list_all nothing is found
   pub find_none : (test : A → Bool) (xs : List A) → ((x : A) → Among x xs → test x ≡ false) → find test xs ≡ None
   find_none test [] none = refl
   find_none test (first ∷ rest) none = ap (λ b. cond b (Some first) (find test rest)) (none first (inl refl))
@@ -40,11 +40,11 @@ module _ {A : Type 0} where
           → unwrap_or (cond b (Some first) (find (λ y. nat_eq (number x) (number y)) rest)) default ≡ x
       by others true e n next = ⊎_elim (λ same. sym same) (λ later. absurd (true≢false
           (sym (eq-eqb (number first) (number x) (sym (eqb-true (number x) (number first) e)))
-          ∙ fails (λ y. nat_eq (number first) (number y)) rest others x later))) n
+          ∙ none_among (λ y. nat_eq (number first) (number y)) rest others x later))) n
       by others false e n next =
           ⊎_elim (λ same. absurd (true≢false (sym (eq-eqb (number x) (number first) (ap number same)) ∙ e))) next n
 
-  -- a filter that none passes leaves nothing
+  -- a filter that none among_from_list_all leaves nothing
   pub nothing_passes : (p : A → Bool) (xs : List A) → ((x : A) → Among x xs → p x ≡ false) → filter p xs ≡ []
   nothing_passes p [] h = refl
   nothing_passes p (y ∷ ys) h = filter_skip p y ys (h y (inl refl)) ∙ nothing_passes p ys (λ x m. h x (inr m))
@@ -130,8 +130,8 @@ held_number number (Some one) e = ap Some (sym (eqb-true number one e))
 -- a number among numbers
 pub among_numbers : (number : ℕ) (numbers : List ℕ) → is_among nat_eq number numbers ≡ true → Among number numbers
 among_numbers number numbers h =
-    let t : (x : ℕ) × Among x numbers × (nat_eq number x ≡ true) = one_passes (nat_eq number) numbers h in
+    let t : (x : ℕ) × Among x numbers × (nat_eq number x ≡ true) = any_among (nat_eq number) numbers h in
     subst (λ n. Among n numbers) (sym (eqb-true number t.0 t.2)) t.1
 
 pub is_among_numbers : (number : ℕ) (numbers : List ℕ) → Among number numbers → is_among nat_eq number numbers ≡ true
-is_among_numbers number numbers m = any_passes (nat_eq number) numbers number m (eq-eqb number number refl)
+is_among_numbers number numbers m = any_from_among (nat_eq number) numbers number m (eq-eqb number number refl)

@@ -5,7 +5,7 @@ use Rattle.vt_laws_mounts.specs.LettingGo.InUse.{HasTrees, IsListedTree, UppersA
 use Rattle.vt_laws_mounts.specs.LettingGo.Overlays.{RealsAreThere}
 use Rattle.vt_laws_mounts.proofs.letting_go.sweeps.InUse.{layers_stay, UnusedAreEmpty, after_first, after_second, first_layers, layers-first, layers-second, layers_on, left_by, named-left, no_objects, no_upper_objects, number-first, number-left, number-second, overlay-left, root-left, second_leaves, unused_are_empty, upper-left}
 use Rattle.vt_laws_mounts.proofs.letting_go.sweeps.Inodes.{numbers_without}
-use Rattle.vt_laws_mounts.proofs.letting_go.Lists.{Among, among-append, among-append_left, among-append_right, among-filter, among-filter_map, among-flat_map, among-from_filter, among-from_filter_map, among-from_flat_map, among-from_map, among-map, among_from_all, among_numbers, any-filter, any-map, any_passes, filter-map, filter_twice, flat_map-map, flat_map-of_map, flat_map_alike, flat_map_none, is_among_numbers, one_passes, or_first, or_second}
+use Rattle.vt_laws_mounts.proofs.letting_go.Lists.{Among, among-append, among-append_left, among-append_right, among-filter, among-filter_map, among-flat_map, among-from_filter, among-from_filter_map, among-from_flat_map, among-from_map, among-map, among_from_all, among_numbers, any-filter, any-map, any_among, any_from_among, filter-map, filter_twice, flat_map-map, flat_map-of_map, flat_map_alike, flat_map_none, is_among_numbers, or_left, or_right}
 use Rattle.vt_laws_mounts.proofs.letting_go.sweeps.Merged.{HasReals, left_of, reals_without, without_all, without_both}
 use Rattle.vt_spec.proofs.Lists.{none-filter}
 
@@ -116,13 +116,13 @@ module _ (world : World ℕ) (once_mounts again_mounts : List (Mount ℕ)) (once
       && is_mounted nat_eq (without_dead_mounts nat_eq once) merged.number
 
   lived_first : (f : Filesystem ℕ) → lives_last f ≡ true → lives_first f ≡ true
-  lived_first f lives = ⊎_elim (λ here. or_first (is_mounted nat_eq (without_dead_mounts nat_eq world) f.number) _
+  lived_first f lives = ⊎_elim (λ here. or_left (is_mounted nat_eq (without_dead_mounts nat_eq world) f.number) _
       (last_mounted_was f.number here)) (λ layered.
-      let t = one_passes (layered_by f.number) world.filesystems layered in
+      let t = any_among (layered_by f.number) world.filesystems layered in
       let parts = and_parts (has_layer_on nat_eq f.number t.0)
       (is_mounted nat_eq (without_dead_mounts nat_eq once) t.0.number) t.2 in
-      or_second (is_mounted nat_eq (without_dead_mounts nat_eq world) f.number) _
-      (any_passes (λ merged. has_layer_on nat_eq f.number merged && is_mounted nat_eq
+      or_right (is_mounted nat_eq (without_dead_mounts nat_eq world) f.number) _
+      (any_from_among (λ merged. has_layer_on nat_eq f.number merged && is_mounted nat_eq
       (without_dead_mounts nat_eq world) merged.number) world.filesystems t.0 t.1
       (ap (λ b. b && is_mounted nat_eq (without_dead_mounts nat_eq world) t.0.number) parts.0
       ∙ last_mounted_was t.0.number parts.1)))
@@ -161,7 +161,7 @@ module _ (world : World ℕ) (once_mounts again_mounts : List (Mount ℕ)) (once
     where
       none : (g : Filesystem ℕ) (b : Bool) → layered_by number g ≡ b → lives_first g ≡ false
           → layered_by number g ≡ false
-      none g b e dead = grind (arith, common_steps, and_parts, true≢false, or_first, last_mounted_was)
+      none g b e dead = grind (arith, common_steps, and_parts, true≢false, or_left, last_mounted_was)
 
   same_lives : (f : Filesystem ℕ) → filesystem_lives nat_eq (without_dead_mounts nat_eq again) (swept f) ≡ lives_last f
   same_lives f = grind (arith, common_steps, number-swept f, same_mounted f.number, same_layered f.number)

@@ -1,8 +1,8 @@
 -- Mounts found by their numbers.
 use Rattle.std.proofs.Common.{arith, ◌≡◌, refl, sym, ap, ◌∙◌, ⊎_elim, ℕ, nat_eq, Bool, true, false, cond, List, [], ◌∷◌, map, true≢false, None, Some, find, is_some, unwrap_or}
-use Rattle.vt_spec.proofs.Common.{Among, Location, Mount, common_steps, found_or_none, is_among, mount_in, no_mount}
+use Rattle.vt_spec.proofs.Common.{Among, Location, Mount, common_steps, is_among, mount_in, no_mount}
 use Rattle.vt_laws_mounts.specs.Mounts.Attaching.{numbers_of}
-pub use Rattle.vt_spec.proofs.Worlds.{number-mount_in as number_found}
+pub use Rattle.vt_spec.proofs.Worlds.{number-mount_in}
 pub use Rattle.vt_spec.proofs.Worlds.{found_or_none}
 
 abbrev has_number : ℕ → Mount ℕ → Bool

@@ -4,7 +4,7 @@ use Rattle.std.proofs.Common.{arith, ◌≡◌, refl, sym, ap, ◌∙◌, true, 
 use Rattle.vt_spec.proofs.Common.{Mount, among-from_filter, among_from_contains, any_among, any_from_among, chain, chain_ends, chain_goes_on, common_steps, contains_from_among, group_of, groups_up, has_members, holds_of, is_among, is_member_of, parts_of, receivers_of, receives, source_of, takes_part}
 use Rattle.vt_laws_mounts.specs.Mounts.Propagation.{Attachment, HasGroupAbove, IsPart, LowerGroupsHaveAGroupAbove, SlavesHaveAGroupAbove, destination_of}
 use Rattle.vt_laws_mounts.proofs.GroupsKept.{found_passes, member_shared, shared_member}
-use Rattle.vt_laws_mounts.proofs.mounts.MountsFound.{number_found}
+use Rattle.vt_laws_mounts.proofs.mounts.MountsFound.{number-mount_in}
 use Rattle.vt_laws_mounts.proofs.propagation.PropagationUp.{finds_some}
 
 -- a chain that may be longer has what it had
@@ -55,7 +55,7 @@ module _ (it : Attachment) where
 pub slaves_have_a_group_above : SlavesHaveAGroupAbove
 slaves_have_a_group_above it one master is away slave =
     let heard = hears it one is (λ same. true≢false (sym (eq-eqb one.number it.mount_point.mount
-    (ap (λ (x : Mount ℕ). x.number) same ∙ number_found it.world.mounts it.mount_point.mount)) ∙ away)) in
+    (ap (λ (x : Mount ℕ). x.number) same ∙ number-mount_in it.world.mounts it.mount_point.mount)) ∙ away)) in
     grind (arith, common_steps, nearest_is)
 
 pub lower_groups_have_a_group_above : LowerGroupsHaveAGroupAbove

@@ -5,14 +5,14 @@ use Rattle.vt_spec.proofs.Tables.{hard_link_rules}
 use Rattle.vt_laws_trees.specs.Trees.{IsFileTree, MayAddName}
 use Rattle.vt_laws_trees.proofs.trees.ChangesByRemoving.{shown}
 use Rattle.vt_laws_trees.proofs.trees.ChangesOfCalls.{place_is_free}
-use Rattle.vt_laws_trees.proofs.trees.TreesWalked.{IsNewPlace, not_true, place_is_file}
+use Rattle.vt_laws_trees.proofs.trees.TreesWalked.{IsNewPlace, not-false, place_is_file}
 
 module _ (world : World ℕ) (task : Task ℕ) (old : Location ℕ) (place : Place ℕ)
     (there : is_some (node_at nat_eq world old) ≡ true)
     (is : IsNewPlace world task place) (plain : is_special place.last ≡ false)
     (passed : NoneFails (hard_link_rules nat_eq world task old place (linking old place))) where
   one_mount : old.mount ≡ place.parent.mount
-  one_mount = eqb-true old.mount place.parent.mount (not_true (nat_eq old.mount place.parent.mount) passed.1.1.1.1.1.0)
+  one_mount = eqb-true old.mount place.parent.mount (not-false (nat_eq old.mount place.parent.mount) passed.1.1.1.1.1.0)
 
   same_node : node_at nat_eq world old ≡ (files_at nat_eq world place.parent).tree.node old.node
   same_node = ap (λ m. (shown world m).tree.node old.node) one_mount

@@ -3,7 +3,7 @@ use Rattle.std.proofs.Common.{arith, eq-eqb, eqb-true, ◌≡◌, refl, ap, ◌�
 use Rattle.vt_spec.proofs.Common.{AddName, Content, CopyUp, Directory, Entries, FileTree, Filesystem, Make, Move, Node, Regular, Remove, SetAttr, SetBytes, SetMark, Symlink, Whiteout, World, all-filter, and_parts, changed_node, common_steps, entries_in, entry_named, filesystem_lives, has_fit_names, has_fit_text, is_fit_filesystem, is_no_larger, is_overlay, largest_file, list_all, node_with_attr, node_with_bytes, node_with_entry, node_with_mark, node_with_parent, node_without_entry, only_among, only_used, only_used_by, used_in, with_entry, with_inode, with_name, without_dead_filesystems, without_dead_in, without_dead_mounts, without_entry, without_name, without_parent}
 use Rattle.vt_spec.specs.declared.attributes.Attr.{Attr}
 use Rattle.vt_laws_trees.specs.Trees.Sizes.{ChangesKeepSizes, SettlingKeepsSizes, is_fit_name, is_fit_node, is_fit_tree}
-use Rattle.vt_laws_trees.proofs.trees.TreesTasks.{all_mapped, both}
+use Rattle.vt_laws_trees.proofs.trees.TreesTasks.{all_mapped, and_from}
 
 -- the limits of one inode, that may be missing
 abbrev pub fits : Option (Node ℕ) → Bool
@@ -15,14 +15,14 @@ fits o =
 put_fits : (name : List ℕ) (number : ℕ) (entries : Entries ℕ) → is_fit_name name ≡ true
     → list_all is_fit_name (map (λ e. e.0) entries) ≡ true
     → list_all is_fit_name (map (λ e. e.0) (with_entry name number entries)) ≡ true
-put_fits name number [] h k = both (is_fit_name name) true h refl
+put_fits name number [] h k = and_from (is_fit_name name) true h refl
 put_fits name number (entry ∷ entries) h k =
-    grind (arith, common_steps, and_parts, both, put_fits name number entries h)
+    grind (arith, common_steps, and_parts, and_from, put_fits name number entries h)
 
 filter_fits : (stays : List ℕ × ℕ → Bool) (entries : Entries ℕ) → list_all is_fit_name (map (λ e. e.0) entries) ≡ true
     → list_all is_fit_name (map (λ e. e.0) (filter stays entries)) ≡ true
 filter_fits stays [] k = refl
-filter_fits stays (entry ∷ entries) k = grind (arith, common_steps, and_parts, both, filter_fits stays entries)
+filter_fits stays (entry ∷ entries) k = grind (arith, common_steps, and_parts, and_from, filter_fits stays entries)
 
 -- a directory's limits are those of its names
 names_of_directory : (b : Bool) → (true && b && true) ≡ true → b ≡ true
@@ -80,7 +80,7 @@ all_alike : (test other : ℕ → Bool) → ((n : ℕ) → test n ≡ true → o
     → list_all test list ≡ true → list_all other list ≡ true
 all_alike test other keeps [] h = refl
 all_alike test other keeps (n ∷ list) h =
-    both (other n) (list_all other list) (keeps n ((and_parts (test n) (list_all test list) h).0))
+    and_from (other n) (list_all other list) (keeps n ((and_parts (test n) (list_all test list) h).0))
     (all_alike test other keeps list ((and_parts (test n) (list_all test list) h).1))
 
 pub changed_fits_there : (files : FileTree ℕ) (number : ℕ) (change : Option (Node ℕ) → Option (Node ℕ))
@@ -100,7 +100,7 @@ unparented_fits files (Some object) h = changed_fits files object (node_with_par
 
 pub inode_fits : (files : FileTree ℕ) (number : ℕ) (node : Node ℕ) → is_fit_node node ≡ true → is_fit_tree files ≡ true
     → is_fit_tree (with_inode nat_eq files number node) ≡ true
-inode_fits files number node k h = both (fits ((with_inode nat_eq files number node).tree.node number))
+inode_fits files number node k h = and_from (fits ((with_inode nat_eq files number node).tree.node number))
     (list_all (λ n. fits ((with_inode nat_eq files number node).tree.node n)) files.numbers)
     (ap (λ b. fits (cond b (Some node) (files.tree.node number))) (eq-eqb number number refl) ∙ k)
     (all_alike (λ n. fits (files.tree.node n))

@@ -12,7 +12,7 @@ use Rattle.vt_laws_trees.proofs.trees.ChangesByOthers.{files_stay}
 use Rattle.vt_laws_trees.proofs.trees.ChangesOfSizes.{changed_fits_there, changes_keep_sizes, fits, settling_keeps_sizes}
 use Rattle.vt_laws_trees.proofs.trees.TreesOfWorlds.{number_numbered, numbered_all, numbered_anyhow, raised_all, replaced_all}
 use Rattle.vt_laws_trees.proofs.trees.TreesSizes.{HasFitLast, fit_name_of, no_longer}
-use Rattle.vt_laws_trees.proofs.trees.TreesTasks.{all_appended, all_mapped, both}
+use Rattle.vt_laws_trees.proofs.trees.TreesTasks.{all_appended, all_mapped, and_from}
 use Rattle.vt_laws_trees.proofs.trees.TreesWalked.{after_holds}
 use Rattle.vt_laws_rules.proofs.given.CallsGranted.{call_holds}
 use Rattle.vt_laws_rules.specs.Granted.{IsGranted, directory_made, symlink_made, whiteout_made}
@@ -21,7 +21,7 @@ use Rattle.vt_laws_trees.proofs.trees.PlacesReached.{file_is, new_is, new_leaf_i
 
 -- a new tree
 new_plain_fits : (number root : ℕ) → is_fit_filesystem (new_plain nat_eq number root) ≡ true
-new_plain_fits number root = both (fits ((new_plain nat_eq number root).files.tree.node root)) true
+new_plain_fits number root = and_from (fits ((new_plain nat_eq number root).files.tree.node root)) true
     (ap (λ b. fits (cond b (Some (record { attr = root_attr; content = new_directory root })) None))
     (eq-eqb root root refl)) refl
 
@@ -158,7 +158,7 @@ module _ (fresh : Fresh ℕ) (world : World ℕ) (task : Task ℕ) (conditions :
       fit_new place (directory_made task place mode) (new_is world task path place end).1 passed.0 refl
   granted_fits call permit other (makes_symlink text path place fits end passed) =
       fit_new place (symlink_made task text) (new_leaf_is world task path place end).1 passed.0 (ap (λ b. b && true)
-      (both (not (is_empty text)) (nat_le (length text) longest_path) (ap not fits.0)
+      (and_from (not (is_empty text)) (nat_le (length text) longest_path) (ap not fits.0)
       (no_longer longest_path text fits.1.0)))
   granted_fits call permit other (makes_whiteout path place end passed) =
       fit_new place (whiteout_made task) (new_leaf_is world task path place end).1 passed.0 refl
@@ -245,5 +245,6 @@ pub opening_is_fit : OpeningIsFit
 opening_is_fit fresh = record {
   plain = All-cons (λ f. is_overlay f ≡ false) (new_plain nat_eq (fresh 2) (fresh 3)) [] refl
       (All-nil (λ f. is_overlay f ≡ false));
-  fit = both (is_fit_filesystem (new_plain nat_eq (fresh 2) (fresh 3))) true (new_plain_fits (fresh 2) (fresh 3)) refl;
+  fit = and_from (is_fit_filesystem (new_plain nat_eq (fresh 2) (fresh 3))) true (new_plain_fits (fresh 2) (fresh 3))
+      refl;
 }

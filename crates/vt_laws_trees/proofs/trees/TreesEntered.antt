@@ -6,7 +6,7 @@ use Rattle.vt_spec.specs.declared.errors.Rule.TheVariants.{W6, W8}
 use Rattle.vt_spec.proofs.Walk.{entry_location, hops, is_top, symlink_walk, symlink_walk_by, search_rules, slash_rules, stepped, steps_with, up_from, word_walked}
 use Rattle.vt_laws_trees.specs.Trees.Calls.{IsStanding}
 use Rattle.vt_laws_trees.proofs.trees.TreesOfWorlds.{numbered_all}
-use Rattle.vt_laws_trees.proofs.trees.TreesWalked.{Ends, ends_next, ends_step, ends_then, ends_unless, not_true, ok_same}
+use Rattle.vt_laws_trees.proofs.trees.TreesWalked.{Ends, ends_next, ends_step, ends_then, ends_unless, not-false, ok_same}
 
 -- what is found is one of the list
 pub found_all : {A : Type 0} (P : A → Type 0) (test : A → Bool) (list : List A) (a : A) → All P list
@@ -20,10 +20,11 @@ found_all P test (first ∷ rest) a h e =
     by false is later = later is
 
 -- where a chain ends holds what holds of its start, and of each next
-pub chain_ends : {A : Type 0} (Q : A → Type 0) (next : A → Option A) → ((a b : A) → Q a → next a ≡ Some b → Q b)
+pub chain_ends_at : {A : Type 0} (Q : A → Type 0) (next : A → Option A) → ((a b : A) → Q a → next a ≡ Some b → Q b)
     → (most : ℕ) (default start : A) → Q start → Q (last_or default (chain most next start))
-chain_ends Q next step zero default start q = q
-chain_ends Q next step (suc most) default start q = by (next start) refl (λ b p. chain_ends Q next step most start b p)
+chain_ends_at Q next step zero default start q = q
+chain_ends_at Q next step (suc most) default start q = by (next start) refl
+    (λ b p. chain_ends_at Q next step most start b p)
   where
     by : (o : Option _) → next start ≡ o → ((b : _) → Q b → Q (last_or start (chain most next b)))
         → Q (last_or default (elim o [ None ↦ start ∷ [] | Some b ↦ start ∷ chain most next b ]))
@@ -85,7 +86,7 @@ module _ (world : World ℕ) (trees : All (λ (f : Filesystem ℕ). IsTree f.fil
           (stands_at nat_eq a) world.mounts mount standing.roots is)
 
   topmost_there : (location : Location ℕ) → IsThere location → IsThere (topmost nat_eq world.mounts location)
-  topmost_there location is = chain_ends IsThere (λ here. option_map root_of (child_at nat_eq world.mounts here))
+  topmost_there location is = chain_ends_at IsThere (λ here. option_map root_of (child_at nat_eq world.mounts here))
       (λ a b there e. directory_there b (child_there a b e)) (length world.mounts) location location is
 
   -- the place of a mount
@@ -149,7 +150,7 @@ module _ (world : World ℕ) (trees : All (λ (f : Filesystem ℕ). IsTree f.fil
         subst IsThere (ok_same here reached (Ok here) refl e) (directory_there here is)
     step_there here Dot reached is e = subst IsThere (ok_same here reached (Ok here) refl e) (directory_there here is)
     step_there here DotDot reached is e = up_there (last_or here (hops nat_eq world task here)) reached
-        (chain_ends IsDirectoryThere (hop nat_eq world task) hop_there (length world.mounts) here here is) e
+        (chain_ends_at IsDirectoryThere (hop nat_eq world task) hop_there (length world.mounts) here here is) e
     step_there here (Named name) reached is e = by (entry_location nat_eq world here name) refl e
       where
         by : (o : Option (Location ℕ)) → entry_location nat_eq world here name ≡ o
@@ -172,7 +173,7 @@ module _ (world : World ℕ) (trees : All (λ (f : Filesystem ℕ). IsTree f.fil
         (search_rules nat_eq world task here.location) (stepped nat_eq world task here.location word) (λ reached. Ok
         (record { location = reached; left = here.left; steps = steps_with nat_eq world task here word }))
         (λ passed reached e. step_there here.location word reached
-        (not_true (is_directory_at nat_eq world here.location) passed.0) e)
+        (not-false (is_directory_at nat_eq world here.location) passed.0) e)
 
     last_there : (here : Here ℕ) (word : LastWord) → is_no_word word ≡ false
         → EndsThere (last_walked nat_eq world task here word)
@@ -194,7 +195,7 @@ module _ (world : World ℕ) (trees : All (λ (f : Filesystem ℕ). IsTree f.fil
         (λ here. walk_unless here.steps (slash_rules nat_eq world path here.location) here)
         (λ here. ends_unless (λ h. is_some (node_at nat_eq world h.location) ≡ true) here.steps
         (slash_rules nat_eq world path here.location) here (λ passed. directory_there here.location
-        (not_true (is_directory_at nat_eq world here.location)
+        (not-false (is_directory_at nat_eq world here.location)
         (ap (λ b. cond b (not (is_directory_at nat_eq world here.location)) false) (sym slash) ∙ passed.0))))
     link_there_by path false slash = ends_then (λ text. (ends_in_slash text ≡ false) × (is_empty text ≡ false))
         (λ here. is_some (node_at nat_eq world here.location) ≡ true) (path_text path)

@@ -5,7 +5,7 @@ use mathlib.Core.List.{reverse_aux}
 use Rattle.vt_spec.specs.declared.errors.Rule.TheVariants.{W6}
 use Rattle.vt_spec.proofs.Walk.{file_walk, follow_rules, symlink_start, symlink_there, new_leaf_walk, new_walk, object_named, place_walk, placed, search_rules, steps_at}
 use Rattle.vt_laws_trees.specs.Trees.Sizes.{is_fit_name}
-use Rattle.vt_laws_trees.proofs.trees.TreesTasks.{both}
+use Rattle.vt_laws_trees.proofs.trees.TreesTasks.{and_from}
 use Rattle.vt_laws_trees.proofs.trees.TreesWalked.{Ends, ends_next, ends_step, ends_then, ends_unless}
 
 pub no_longer : (most : ℕ) (bytes : List ℕ) → nat_lt most (length bytes) ≡ false → nat_le (length bytes) most ≡ true
@@ -24,13 +24,13 @@ parts_fit (part ∷ list) h = by (is_empty part) refl h (λ g. parts_fit list g)
         → list_all is_fit_name (filter (λ p. not (is_empty p)) list) ≡ true)
         → list_all is_fit_name (cond (not b) (part ∷ filter (λ p. not (is_empty p)) list)
         (filter (λ p. not (is_empty p)) list)) ≡ true
-    by b e g rest = grind (arith, common_steps, or_false_left, or_parts, both, no_longer)
+    by b e g rest = grind (arith, common_steps, or_false_left, or_parts, and_from, no_longer)
 
 all_turned : (test : List ℕ → Bool) (list done : List (List ℕ)) → list_all test list ≡ true → list_all test done ≡ true
     → list_all test (reverse_aux list done) ≡ true
 all_turned test [] done h k = k
 all_turned test (x ∷ list) done h k = all_turned test list (x ∷ done) ((and_parts (test x) (list_all test list) h).1)
-    (both (test x) (list_all test done) ((and_parts (test x) (list_all test list) h).0) k)
+    (and_from (test x) (list_all test done) ((and_parts (test x) (list_all test list) h).0) k)
 
 all_reversed : (test : List ℕ → Bool) (list : List (List ℕ)) → list_all test list ≡ true
     → list_all test (reverse list) ≡ true

@@ -3,7 +3,7 @@ use Rattle.std.proofs.Common.{nat_eq, ◌≡◌, refl, true≢false, ℕ, suc, �
 use Rattle.vt_spec.proofs.Common.{Access, Among, CopyUp, Descriptor, ForkWords, Fresh, IsWorld, Location, Task, TaskName, World, all-filter, among_from_list_all, and_parts, are_ascending_from, child_credentials, child_name, child_of, common_steps, deepest_name, found_among, free_above, free_from, free_number, inserted, is_within_limits, list_all, most_descriptors, most_forks, opens_for_reading, opens_for_writing, pwritten, replaced_if_called, same_name, stands_on_directories, task_called, tasks-with_change, with_copy, with_descriptor, without_descriptor}
 use Rattle.std.proofs.Math.Nat.{mod-lt}
 use Rattle.vt_spec.specs.Machine.Tasks.{permission_bits}
-pub use Rattle.std.proofs.lemmas.Bool.{and_from as both}
+pub use Rattle.std.proofs.lemmas.Bool.{and_from}
 use Rattle.vt_spec.proofs.Descriptors.{ascending-filter}
 
 -- a task that is called is there
@@ -40,10 +40,10 @@ pub record IsWithin (task : Task ℕ) : Type 0 where
   pub umask : nat_lt task.umask 512 ≡ true
 
 pub limits_of : (task : Task ℕ) → IsWithin task → is_within_limits task ≡ true
-limits_of task is = both _ (nat_lt task.umask 512) (both _ (nat_le (length task.credentials.groups) 32)
-    (both _ (nat_le (length task.name) deepest_name) (both _ (nat_le task.forks most_forks)
-    (both _ (list_all (λ descriptor. nat_lt descriptor.number most_descriptors) task.descriptors)
-    (both (nat_le (length task.descriptors) most_descriptors)
+limits_of task is = and_from _ (nat_lt task.umask 512) (and_from _ (nat_le (length task.credentials.groups) 32)
+    (and_from _ (nat_le (length task.name) deepest_name) (and_from _ (nat_le task.forks most_forks)
+    (and_from _ (list_all (λ descriptor. nat_lt descriptor.number most_descriptors) task.descriptors)
+    (and_from (nat_le (length task.descriptors) most_descriptors)
     (are_ascending_from 0 task.descriptors) is.few is.ascending) is.low) is.forks) is.depth) is.groups) is.umask
 
 pub within : (task : Task ℕ) → is_within_limits task ≡ true → IsWithin task
@@ -75,14 +75,15 @@ pub all_mapped : {A : Type 0} (test : A → Bool) (change : A → A) → ((a : A
     → (list : List A) → list_all test list ≡ true → list_all test (map change list) ≡ true
 all_mapped test change keeps [] h = refl
 all_mapped test change keeps (a ∷ list) h =
-    both (test (change a)) (list_all test (map change list)) (keeps a ((and_parts (test a) (list_all test list) h).0))
+    and_from (test (change a)) (list_all test (map change list))
+    (keeps a ((and_parts (test a) (list_all test list) h).0))
     (all_mapped test change keeps list ((and_parts (test a) (list_all test list) h).1))
 
 pub all_appended : {A : Type 0} (test : A → Bool) (list : List A) (a : A) → list_all test list ≡ true → test a ≡ true
     → list_all test (list ++ (a ∷ [])) ≡ true
-all_appended test [] a h k = both (test a) true k refl
+all_appended test [] a h k = and_from (test a) true k refl
 all_appended test (b ∷ list) a h k =
-    both (test b) (list_all test (list ++ (a ∷ []))) ((and_parts (test b) (list_all test list) h).0)
+    and_from (test b) (list_all test (list ++ (a ∷ []))) ((and_parts (test b) (list_all test list) h).0)
     (all_appended test list a ((and_parts (test b) (list_all test list) h).1) k)
 
 pub replaced_within : (new old : Task ℕ) → is_within_limits new ≡ true → is_within_limits old ≡ true
@@ -104,20 +105,20 @@ inserted_length new (descriptor ∷ list) = grind (arith, common_steps, inserted
 
 inserted_all : (test : Descriptor ℕ → Bool) (new : Descriptor ℕ) (list : List (Descriptor ℕ)) → test new ≡ true
     → list_all test list ≡ true → list_all test (inserted new list) ≡ true
-inserted_all test new [] h k = both (test new) true h refl
+inserted_all test new [] h k = and_from (test new) true h refl
 inserted_all test new (descriptor ∷ list) h k = by (nat_lt new.number descriptor.number)
     (inserted_all test new list h ((and_parts (test descriptor) (list_all test list) k).1))
   where
     by : (b : Bool) → list_all test (inserted new list) ≡ true
         → list_all test (cond b (new ∷ descriptor ∷ list) (descriptor ∷ inserted new list)) ≡ true
-    by true rest = both (test new) (list_all test (descriptor ∷ list)) h k
-    by false rest = both (test descriptor) (list_all test (inserted new list))
+    by true rest = and_from (test new) (list_all test (descriptor ∷ list)) h k
+    by false rest = and_from (test descriptor) (list_all test (inserted new list))
         ((and_parts (test descriptor) (list_all test list) k).0) rest
 
 inserted_ascending : (least : ℕ) (new : Descriptor ℕ) (list : List (Descriptor ℕ)) → new.number ≡ free_from least list
     → are_ascending_from least list ≡ true → are_ascending_from least (inserted new list) ≡ true
 inserted_ascending least new [] e h =
-    both (nat_le least new.number) true (le-leb least new.number (omega (arith, e))) refl
+    and_from (nat_le least new.number) true (le-leb least new.number (omega (arith, e))) refl
 inserted_ascending least new (descriptor ∷ list) e h =
     by (descriptor.number == least) refl e (λ f g. inserted_ascending (least + 1) new list f g)
   where

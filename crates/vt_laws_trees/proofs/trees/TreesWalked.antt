@@ -4,7 +4,7 @@ use Rattle.vt_spec.proofs.Common.{Dot, DotDot, Here, LastWord, Location, Named, 
 use Rattle.vt_spec.specs.declared.errors.Deny.{Deny}
 use Rattle.vt_spec.specs.declared.errors.Rule.TheVariants.{W3, W6}
 use Rattle.vt_spec.proofs.Walk.{entry_location, file_walk, follow_rules, is_directory_there, symlink_start, symlink_there, new_leaf_walk, new_walk, object_named, old_leaf_walk, old_walk, place_walk, placed, search_rules, steps_at}
-pub use Rattle.std.proofs.lemmas.Bool.{not-false as not_true}
+pub use Rattle.std.proofs.lemmas.Bool.{not-false}
 
 -- where a walk ends, this holds
 abbrev pub Ends : {A : Type 0} → (A → Type 0) → Result A (Stop ℕ) → Type 0
@@ -117,7 +117,7 @@ module _ (world : World ℕ) (task : Task ℕ) where
   ends_placed here (Named name) slash = ends_step (IsPlace world) (steps_at nat_eq world task here (Named name))
       (search_rules nat_eq world task here.location) (object_named nat_eq world task here.location (Named name)) _
       (λ passed object e. (
-        not_true (is_directory_at nat_eq world here.location) passed.0,
+        not-false (is_directory_at nat_eq world here.location) passed.0,
         sym (ok_same (entry_location nat_eq world here.location name) object
             (object_named nat_eq world task here.location (Named name)) refl e),
       ))
@@ -150,7 +150,7 @@ module _ (world : World ℕ) (task : Task ℕ) where
   pub ends_old_walk : (path : List ℕ) → Ends IsOldPlace (old_walk nat_eq world task path)
   ends_old_walk path = ends_then (IsPlace world) IsOldPlace (place_walk nat_eq world task path) _ (ends_place_walk path)
       (λ place is. ends_unless IsOldPlace place.steps ((not (is_some place.object), W6) ∷ []) place
-      (λ passed. (is, not_true (is_some place.object) passed.0)))
+      (λ passed. (is, not-false (is_some place.object) passed.0)))
 
   pub ends_old_leaf_walk : (path : List ℕ) → Ends IsOldPlace (old_leaf_walk nat_eq world task path)
   ends_old_leaf_walk path = ends_then IsOldPlace IsOldPlace (old_walk nat_eq world task path) _ (ends_old_walk path)

@@ -4,7 +4,7 @@ use Rattle.vt_spec.proofs.Common.{All-cons, All-head, All-nil, All-weaker, Files
 use Rattle.vt_spec.specs.Machine.World.{first_location}
 use Rattle.vt_laws_mounts.specs.LettingGo.InUse.{AllInUse}
 use Rattle.vt_laws_mounts.proofs.letting_go.sweeps.InUse.{nothing_goes}
-use Rattle.vt_laws_mounts.proofs.letting_go.Lists.{or_first}
+use Rattle.vt_laws_mounts.proofs.letting_go.Lists.{or_left}
 use Rattle.vt_laws_trees.specs.Trees.{IsFileTree}
 use Rattle.vt_laws_trees.specs.Trees.Calls.{IsStanding, IsWorldOfTrees}
 use Rattle.vt_laws_trees.proofs.trees.ChangesByCalls.{opening_has_trees}
@@ -90,7 +90,7 @@ module _ (fresh : Fresh ℕ) where
       ∙ root_is_directory)
 
   in_use : AllInUse first_world
-  in_use = grind (arith, common_steps, mounts, itself, or_first)
+  in_use = grind (arith, common_steps, mounts, itself, or_left)
 
 pub opening_is_a_world : OpeningIsAWorld
 opening_is_a_world fresh apart = (

@@ -1,11 +1,11 @@
 -- What is seen where tasks are, at the roots of mounts and at their places stays where what nothing uses goes.
 use Rattle.std.proofs.Common.{arith, ◌≡◌, refl, sym, ap, ◌∙◌, ℕ, nat_eq, eqb-true, eq-eqb, Bool, true, false, not, List, [], ◌∷◌, ◌++◌, find, map, filter, is_some, true≢false, filter_map, unwrap_or}
-use Rattle.vt_spec.proofs.Common.{Filesystem, Location, Mount, World, all_locations, common_steps, filesystem_lives, filesystem_numbered, is_among, is_located, is_mounted, is_overlay, located_in, map_twice, mount_at, mount_lives, mount_numbered, no_filesystem, node_at, number-only_used, only_used, root_of, settled, without_dead_filesystems, without_dead_in, without_dead_mounts}
-use Rattle.vt_laws_mounts.proofs.letting_go.Lists.{Among, among-filter, among-map, any_passes, is_among_numbers, or_first, or_second, passes}
+use Rattle.vt_spec.proofs.Common.{Filesystem, Location, Mount, World, all_locations, common_steps, filesystem_lives, filesystem_numbered, is_among, is_located, is_mounted, is_overlay, located_in, map_twice, mount_at, mount_lives, mount_numbered, no_filesystem, node_at, only_used, root_of, settled, without_dead_filesystems, without_dead_in, without_dead_mounts}
+use Rattle.vt_laws_mounts.proofs.letting_go.Lists.{Among, among-filter, among-map, among_from_list_all, any_from_among, is_among_numbers, or_left, or_right}
 use Rattle.vt_laws_mounts.proofs.letting_go.leaving.PlacesLeft.{found_in_filter, found_itself, nowhere_parts}
 use Rattle.vt_laws_trees.proofs.trees.TreesForgotten.{among_located, used_stays}
 use Rattle.vt_laws_worlds.specs.Worlds.Kept.{IsUnderWay}
-pub use Rattle.vt_spec.proofs.Worlds.{number-only_used as used_number}
+pub use Rattle.vt_spec.proofs.Worlds.{number-only_used}
 
 -- an inode of a filesystem by its number, where those of the number stay and keep it
 node_kept : (stays : Filesystem ℕ → Bool) (change : Filesystem ℕ → Filesystem ℕ)
@@ -56,18 +56,18 @@ module _ (world : World ℕ) (unsettled : IsUnderWay world) where
       (λ mount m e. ap (mount_lives nat_eq world) (sym (itself mount m) ∙ ap (mount_numbered nat_eq world) e) ∙ lives)
 
   pub attached_lives : (mount : Mount ℕ) → is_some mount.namespace ≡ true → mount_lives nat_eq world mount ≡ true
-  attached_lives mount e = or_first (is_some mount.namespace) (is_located nat_eq world mount.number) e
+  attached_lives mount e = or_left (is_some mount.namespace) (is_located nat_eq world mount.number) e
 
   pub located_lives : (location : Location ℕ) → Among location (all_locations world) → (mount : Mount ℕ)
       → mount.number ≡ location.mount → mount_lives nat_eq world mount ≡ true
-  located_lives location m mount e = or_second (is_some mount.namespace) (is_located nat_eq world mount.number)
-      (any_passes (λ l. nat_eq mount.number l.mount) (all_locations world) location m
+  located_lives location m mount e = or_right (is_some mount.namespace) (is_located nat_eq world mount.number)
+      (any_from_among (λ l. nat_eq mount.number l.mount) (all_locations world) location m
       (eq-eqb mount.number location.mount e))
 
   -- what has a place is in a namespace
   pub placed_attached : (mount : Mount ℕ) → Among mount world.mounts → is_some mount.mount_point ≡ true
       → is_some mount.namespace ≡ true
-  placed_attached mount m placed = grind (arith, common_steps, true≢false, nowhere_parts, passes)
+  placed_attached mount m placed = grind (arith, common_steps, true≢false, nowhere_parts, among_from_list_all)
 
   -- Locations
   abbrev pub used_locations : List (Location ℕ)
@@ -85,7 +85,7 @@ module _ (world : World ℕ) (unsettled : IsUnderWay world) where
       ∙ node_kept (filesystem_lives nat_eq mounted) (λ f. second (first f))
       (λ f. number-only_used first_round (not (is_overlay (first f))) (first f)
       ∙ number-only_used living (is_overlay f) f) number object world.filesystems
-      (λ f e. or_first (is_mounted nat_eq mounted f.number) _ (ap (is_mounted nat_eq mounted) e ∙ shown)) (λ f e.
+      (λ f e. or_left (is_mounted nat_eq mounted f.number) _ (ap (is_mounted nat_eq mounted) e ∙ shown)) (λ f e.
       located_kept first_round (not (is_overlay (first f))) (first f) object
       (ap (λ n. is_among nat_eq object (located_in nat_eq mounted n)) (number-only_used living (is_overlay f) f ∙ e)
       ∙ located) ∙ located_kept living (is_overlay f) f object
@@ -111,5 +111,5 @@ module _ (world : World ℕ) (unsettled : IsUnderWay world) where
     among-map,
     among-filter,
     eq-eqb,
-    any_passes,
+    any_from_among,
   )

@@ -3,7 +3,7 @@ use Rattle.std.proofs.Common.{arith, ◌≡◌, refl, sym, ap, subst, ◌∙◌,
 use Rattle.vt_spec.proofs.Common.{All-filter, All-weaker, Descriptor, Filesystem, HasOwnParents, IsTree, IsWorld, ListsNumbers, Location, Mount, Stands, Task, TaskInvariants, TreeInvariants, World, all_locations, and_from, and_parts, any_pair, at_root, common_steps, filesystem_lives, filesystem_numbered, has_its_root, has_regular_files_open, is_among, is_directory_at, is_directory_node, is_kind_in, is_located_well, is_overlay, list_all, locations_of, mount_at, mount_lives, mount_numbered, node_at, number-mount_in, number-only_used, on_parent, pair-filter, pair-map, root_of, same_Some, settled, stands_on_directories, without_dead_filesystems, without_dead_in, without_dead_mounts}
 use Rattle.vt_spec.specs.declared.attributes.Kind.TheVariants.{File}
 use Rattle.vt_laws_mounts.proofs.letting_go.sweeps.InUse.{one_sweep_is_enough}
-use Rattle.vt_laws_mounts.proofs.letting_go.Lists.{Among, all_from_among, all_pass, among-append_left, among-append_right, among-filter, among-filter_map, among-flat_map, among-from_filter, among-map, among_from_all, is_among_numbers, passes}
+use Rattle.vt_laws_mounts.proofs.letting_go.Lists.{Among, all_from_among, among-append_left, among-append_right, among-filter, among-filter_map, among-flat_map, among-from_filter, among-map, among_from_all, among_from_list_all, is_among_numbers, list_all_from_among}
 use Rattle.vt_laws_mounts.proofs.letting_go.leaving.PlacesLeft.{found_is_there}
 use Rattle.vt_laws_mounts.specs.LettingGo.InUse.{IsListedTree}
 use Rattle.vt_laws_trees.specs.Trees.{IsFileTree}
@@ -29,7 +29,8 @@ module _ (world : World ℕ) (unsettled : IsUnderWay world) where
       → Among (mount_at nat_eq world location) world.mounts
   located_there location m = mount_in-among world.mounts location.mount
       (and_parts (is_among nat_eq location.mount (map (λ (mount : Mount ℕ). mount.number) world.mounts)) _
-      (passes (is_located_well nat_eq world) (all_locations world) unsettled.tasks.locations_live location m)).0
+      (among_from_list_all (is_located_well nat_eq world) (all_locations world) unsettled.tasks.locations_live
+      location m)).0
 
   mount_lives_at : (location : Location ℕ) → Among location (all_locations world)
       → mount_lives nat_eq world (mount_at nat_eq world location) ≡ true
@@ -60,7 +61,8 @@ module _ (world : World ℕ) (unsettled : IsUnderWay world) where
       (among-filter (mount_lives nat_eq world) world.mounts (mount_at nat_eq world location)
       (located_there location m) (mount_lives_at location m)))) (ap is_some (still_there location m)
       ∙ (and_parts (is_among nat_eq location.mount (map (λ (mount : Mount ℕ). mount.number) world.mounts)) _
-      (passes (is_located_well nat_eq world) (all_locations world) unsettled.tasks.locations_live location m)).1)
+      (among_from_list_all (is_located_well nat_eq world) (all_locations world) unsettled.tasks.locations_live
+      location m)).1)
 
   pub task_location : (task : Task ℕ) → Among task world.tasks → (location : Location ℕ)
       → Among location (locations_of task) → Among location (all_locations world)
@@ -82,11 +84,11 @@ module _ (world : World ℕ) (unsettled : IsUnderWay world) where
   files_open : (task : Task ℕ) → Among task world.tasks → has_regular_files_open nat_eq world task ≡ true
       → has_regular_files_open nat_eq after task ≡ true
   files_open task m h =
-      all_pass (λ (descriptor : Descriptor ℕ). is_kind_in File (node_at nat_eq after descriptor.location))
+      list_all_from_among (λ (descriptor : Descriptor ℕ). is_kind_in File (node_at nat_eq after descriptor.location))
       task.descriptors (λ descriptor d.
       ap (is_kind_in File) (still_there descriptor.location (task_location task m descriptor.location
       (inr (inr (among-map (λ (x : Descriptor ℕ). x.location) task.descriptors descriptor d)))))
-      ∙ passes (λ (x : Descriptor ℕ). is_kind_in File (node_at nat_eq world x.location)) task.descriptors h
+      ∙ among_from_list_all (λ (x : Descriptor ℕ). is_kind_in File (node_at nat_eq world x.location)) task.descriptors h
       descriptor d)
 
   pub settled_tasks : TaskInvariants nat_eq after
@@ -94,12 +96,14 @@ module _ (world : World ℕ) (unsettled : IsUnderWay world) where
     one_task = unsettled.tasks.one_task;
     small_tasks = unsettled.tasks.small_tasks;
     forks_counted = unsettled.tasks.forks_counted;
-    locations_live = all_pass (is_located_well nat_eq after) (all_locations world) located_well;
-    directories = all_pass (stands_on_directories nat_eq after) world.tasks (λ task m.
-        on_directories task m ∙ passes (stands_on_directories nat_eq world) world.tasks unsettled.tasks.directories
+    locations_live = list_all_from_among (is_located_well nat_eq after) (all_locations world) located_well;
+    directories = list_all_from_among (stands_on_directories nat_eq after) world.tasks (λ task m.
+        on_directories task m ∙ among_from_list_all (stands_on_directories nat_eq world) world.tasks
+        unsettled.tasks.directories
         task m);
-    open_files = all_pass (has_regular_files_open nat_eq after) world.tasks (λ task m.
-        files_open task m (passes (has_regular_files_open nat_eq world) world.tasks unsettled.tasks.open_files task m));
+    open_files = list_all_from_among (has_regular_files_open nat_eq after) world.tasks (λ task m.
+        files_open task m
+        (among_from_list_all (has_regular_files_open nat_eq world) world.tasks unsettled.tasks.open_files task m));
   }
 
   -- What mounts show
@@ -107,12 +111,12 @@ module _ (world : World ℕ) (unsettled : IsUnderWay world) where
       → has_its_root nat_eq after mount ≡ true
   shows mount m lives =
       let parts = and_parts _ (list_all (is_directory_at nat_eq world) (option_to_list mount.mount_point))
-      (passes (has_its_root nat_eq world) world.mounts unsettled.roots mount m) in
+      (among_from_list_all (has_its_root nat_eq world) world.mounts unsettled.roots mount m) in
       and_from _ (list_all (is_directory_at nat_eq after) (option_to_list mount.mount_point))
       (ap is_directory_node same_root ∙ parts.0)
-      (all_pass (is_directory_at nat_eq after) (option_to_list mount.mount_point)
+      (list_all_from_among (is_directory_at nat_eq after) (option_to_list mount.mount_point)
       (λ place p. ap is_directory_node (same_place place (placed mount.mount_point refl place p))
-      ∙ passes (is_directory_at nat_eq world) (option_to_list mount.mount_point) parts.1 place p))
+      ∙ among_from_list_all (is_directory_at nat_eq world) (option_to_list mount.mount_point) parts.1 place p))
     where
       placed : (o : Option (Location ℕ)) → mount.mount_point ≡ o → (place : Location ℕ) → Among place (option_to_list o)
           → mount.mount_point ≡ Some place
@@ -165,7 +169,7 @@ module _ (world : World ℕ) (unsettled : IsUnderWay world) where
           (attached_lives world unsettled (mount_at nat_eq world place) (below_attached place e))
 
   pub settled_roots : MountsShow after
-  settled_roots = all_pass (has_its_root nat_eq after) live_mounts (λ mount m.
+  settled_roots = list_all_from_among (has_its_root nat_eq after) live_mounts (λ mount m.
       let was = among-from_filter (mount_lives nat_eq world) world.mounts mount m in shows mount was.0 was.1)
 
   -- Trees

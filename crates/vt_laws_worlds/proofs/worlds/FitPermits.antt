@@ -5,7 +5,7 @@ use Rattle.vt_laws_mounts.proofs.namespaces.Topmost.{topmost_is_free}
 use Rattle.vt_spec.specs.declared.attributes.Kind.TheVariants.{File, White}
 use Rattle.vt_spec.specs.declared.errors.Deny.{Deny}
 use Rattle.vt_laws_trees.proofs.trees.TreesTasks.{called_there}
-use Rattle.vt_laws_trees.proofs.trees.TreesWalked.{not_true, ok_same}
+use Rattle.vt_laws_trees.proofs.trees.TreesWalked.{not-false, ok_same}
 use Rattle.vt_laws_worlds.proofs.worlds.Reached.{directory_found, is_reached_directory, others_are_files}
 use Rattle.vt_laws_worlds.proofs.worlds.ReachedPlaces.{HereDirectory, IsPlaceIn, IsTopmost}
 use Rattle.vt_laws_worlds.proofs.worlds.ReachedWalks.{End}
@@ -85,7 +85,7 @@ module _ (world : World ℕ) (whole : IsWorld nat_eq world) (task : Task ℕ)
   under_root new put h root node e =
       ap (λ (n : ℕ). lies_under_location nat_eq looks (record { mount = new.mount; node = n }) put)
       (e ∙ sym (eqb-true new.node (mount_numbered nat_eq world new.mount).root
-      (not_true (nat_eq new.node (mount_numbered nat_eq world new.mount).root) root))) ∙ h
+      (not-false (nat_eq new.node (mount_numbered nat_eq world new.mount).root) root))) ∙ h
 
   -- setns(2)
   pub namespace_listed : (name : TaskName) (namespace : ℕ)

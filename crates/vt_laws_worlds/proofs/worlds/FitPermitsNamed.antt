@@ -8,7 +8,7 @@ use Rattle.vt_laws_rules.specs.Granted.IsGranted.{binds, changes_directory, chan
 use Rattle.vt_spec.specs.declared.attributes.Kind.TheVariants.{File, White}
 use Rattle.vt_spec.specs.declared.errors.Rule.TheVariants.{S2}
 use Rattle.vt_laws_trees.proofs.trees.TreesTasks.{called_there}
-use Rattle.vt_laws_trees.proofs.trees.TreesWalked.{at_end, not_true}
+use Rattle.vt_laws_trees.proofs.trees.TreesWalked.{at_end, not-false}
 use Rattle.vt_laws_trees.specs.Trees.Calls.{mounts_overlay}
 use Rattle.vt_laws_worlds.proofs.worlds.FewMountsLeft.{few_left}
 use Rattle.vt_laws_worlds.proofs.worlds.FitPermits.{any_of_option, below_at, descriptor_among, destination, end_is_file, first_two, namespace_listed, ok_or_some, own_if, parent_directory, reached_directory, some_of, under_root}
@@ -108,7 +108,7 @@ module _ (fresh : Fresh ℕ) (world : World ℕ) (whole : IsWorld nat_eq world) 
       let is = at_end _ (old_walk nat_eq looks task path) place (old_walk_found world whole task called path) end in (
         made_in place is.0 (special_word place.last named.0 named.1.0 named.1.1.0),
         is_reached_directory world whole task (object_there place) (found_there place is)
-            (not_true (is_directory_at nat_eq world (object_there place)) passed.0),
+            (not-false (is_directory_at nat_eq world (object_there place)) passed.0),
       )
   granted_names call permit plain (renames old new from to names two passed) =
       let from_is = old_leaf_is old from names.from_end in
@@ -163,7 +163,7 @@ module _ (fresh : Fresh ℕ) (world : World ℕ) (whole : IsWorld nat_eq world) 
       record {
         destination = destination world whole task called here (topmost_is path here end) own.1;
         own = own_if world whole task called from.location own.0;
-        placed = not_true (is_some (mount_at nat_eq world from.location).mount_point) passed.1.1.1.1.1.1.0;
+        placed = not-false (is_some (mount_at nat_eq world from.location).mount_point) passed.1.1.1.1.1.1.0;
         unshared_parent = any_of_option (λ (at : Location ℕ). is_shared (mount_at nat_eq world at).propagation)
             (mount_at nat_eq world from.location).mount_point ∙ passed.1.0;
         no_unbindable = passed.1.1.0;
@@ -171,12 +171,12 @@ module _ (fresh : Fresh ℕ) (world : World ℕ) (whole : IsWorld nat_eq world) 
       }
   granted_names call permit plain (unmounts path here admin end passed) = (
     own_if world whole task called here.location passed.0,
-    not_true (is_some (mount_at nat_eq world here.location).mount_point) passed.1.1.1.0,
+    not-false (is_some (mount_at nat_eq world here.location).mount_point) passed.1.1.1.0,
     passed.1.1.0,
   )
   granted_names call permit plain (unmounts_lazily path here admin end passed) = (
     own_if world whole task called here.location passed.0,
-    not_true (is_some (mount_at nat_eq world here.location).mount_point) passed.1.1.0,
+    not-false (is_some (mount_at nat_eq world here.location).mount_point) passed.1.1.0,
   )
   granted_names call permit plain (changes_flags path flags here admin end passed) =
       own_if world whole task called here.location passed.0
@@ -198,9 +198,9 @@ module _ (fresh : Fresh ℕ) (world : World ℕ) (whole : IsWorld nat_eq world) 
         another = apart.0;
         put_elsewhere = apart.1;
         below_root = below_at world whole task called root.location
-            (not_true (is_on_descendant nat_eq looks task.root.mount root.location) lie.0);
+            (not-false (is_on_descendant nat_eq looks task.root.mount root.location) lie.0);
         put_under = under_root world whole task called root.location here.location
-            (not_true (lies_under_location nat_eq looks root.location here.location) lie.1) roots.0;
+            (not-false (lies_under_location nat_eq looks root.location here.location) lie.1) roots.0;
       }
   granted_names call permit plain granted = tt
 

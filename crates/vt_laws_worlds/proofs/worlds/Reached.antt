@@ -10,7 +10,7 @@ use Rattle.vt_laws_mounts.proofs.mounts.MountsFound.{found_in, placed_among}
 use Rattle.vt_laws_mounts.proofs.mounts.MountsNumbered.{is_one_of}
 use Rattle.vt_laws_mounts.proofs.mounts.MountsPlaces.{stands_there}
 use Rattle.vt_laws_mounts.proofs.mounts.MountsReplaced.{found_itself}
-use Rattle.vt_laws_trees.proofs.trees.TreesEntered.{chain_ends, directory_in_tree}
+use Rattle.vt_laws_trees.proofs.trees.TreesEntered.{chain_ends_at, directory_in_tree}
 use Rattle.vt_laws_trees.proofs.trees.TreesOfMounts.{worlds_are_standing}
 use Rattle.vt_laws_trees.proofs.trees.TreesWalked.{ok_same}
 use Rattle.vt_laws_worlds.specs.Worlds.Permits.{IsReached, IsReachedDirectory}
@@ -100,17 +100,17 @@ module _ (world : World ℕ) (whole : IsWorld nat_eq world) (task : Task ℕ) wh
           )
 
   pub topmost_found : (location : Location ℕ) → IsFound location → IsFound (topmost nat_eq world.mounts location)
-  topmost_found location is = chain_ends IsFound (λ here. option_map root_of (child_at nat_eq world.mounts here))
+  topmost_found location is = chain_ends_at IsFound (λ here. option_map root_of (child_at nat_eq world.mounts here))
       (λ a b found e. directory_found b (child_found a b found.0 e)) (length world.mounts) location location is
 
   pub topmost_end : (location : Location ℕ) → IsEnd location → IsEnd (topmost nat_eq world.mounts location)
-  topmost_end location is = chain_ends IsEnd (λ here. option_map root_of (child_at nat_eq world.mounts here))
+  topmost_end location is = chain_ends_at IsEnd (λ here. option_map root_of (child_at nat_eq world.mounts here))
       (λ a b end e. directory_end b (child_found a b end.0.0 e)) (length world.mounts) location location is
 
   pub topmost_directory : (location : Location ℕ) → IsFoundDirectory location
       → IsFoundDirectory (topmost nat_eq world.mounts location)
   topmost_directory location is =
-      chain_ends IsFoundDirectory (λ here. option_map root_of (child_at nat_eq world.mounts here))
+      chain_ends_at IsFoundDirectory (λ here. option_map root_of (child_at nat_eq world.mounts here))
       (λ a b found e. child_found a b found.0 e) (length world.mounts) location location is
 
   -- mounts outside every namespace stand nowhere
@@ -192,7 +192,7 @@ module _ (world : World ℕ) (whole : IsWorld nat_eq world) (task : Task ℕ) wh
   step_found here NoWord reached is e = subst IsFound (ok_same here reached (Ok here) refl e) (directory_found here is)
   step_found here Dot reached is e = subst IsFound (ok_same here reached (Ok here) refl e) (directory_found here is)
   step_found here DotDot reached is e = up_found (last_or here (hops nat_eq world task here)) reached
-      (chain_ends IsFoundDirectory (hop nat_eq world task) hop_found (length world.mounts) here here is) e
+      (chain_ends_at IsFoundDirectory (hop nat_eq world task) hop_found (length world.mounts) here here is) e
   step_found here (Named name) reached is e = by (entry_location nat_eq world here name) refl e
     where
       by : (o : Option (Location ℕ)) → entry_location nat_eq world here name ≡ o

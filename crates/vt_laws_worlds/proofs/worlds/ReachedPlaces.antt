@@ -5,7 +5,7 @@ use Rattle.vt_spec.specs.declared.errors.Deny.{Deny}
 use Rattle.vt_spec.specs.declared.errors.Rule.TheVariants.{W3, W6, W8}
 use Rattle.vt_spec.proofs.Tables.{destination_walk, source_walk, rename_new_walk}
 use Rattle.vt_spec.proofs.Walk.{directory_walk, entry_location, file_walk, follow_rules, is_directory_there, symlink_start, symlink_there, new_leaf_walk, new_walk, object_named, old_leaf_walk, old_walk, place_walk, placed, search_rules, stepped, steps_at}
-use Rattle.vt_laws_trees.proofs.trees.TreesWalked.{Ends, ends_next, ends_step, ends_then, ends_unless, not_true, ok_same}
+use Rattle.vt_laws_trees.proofs.trees.TreesWalked.{Ends, ends_next, ends_step, ends_then, ends_unless, not-false, ok_same}
 use Rattle.vt_laws_worlds.proofs.worlds.Reached.{IsDirectory, entry_found, step_found, topmost_directory, topmost_end}
 use Rattle.vt_laws_worlds.proofs.worlds.ReachedWalks.{End, Found, FoundDirectory, directory_walk_end, front_end, start_end, walk_start_end}
 
@@ -50,7 +50,7 @@ module _ (world : World ℕ) (whole : IsWorld nat_eq world) (task : Task ℕ)
         is.0,
         λ plain. absurd (true≢false plain),
         λ other f. by (stepped nat_eq world task here.location DotDot) refl object e other f
-            (is.0.0, not_true (is_directory_at nat_eq world here.location) passed.0),
+            (is.0.0, not-false (is_directory_at nat_eq world here.location) passed.0),
       ))
     where
       by : (r : Result (Location ℕ) Deny) → stepped nat_eq world task here.location DotDot ≡ r
@@ -63,7 +63,7 @@ module _ (world : World ℕ) (whole : IsWorld nat_eq world) (task : Task ℕ)
   placed_found here is (Named name) slash = ends_step IsFoundPlace (steps_at nat_eq world task here (Named name))
       (search_rules nat_eq world task here.location) (object_named nat_eq world task here.location (Named name)) _
       (λ passed object e.
-      let directory = not_true (is_directory_at nat_eq world here.location) passed.0 in (
+      let directory = not-false (is_directory_at nat_eq world here.location) passed.0 in (
         is.0,
         λ plain. directory,
         λ other f. entry_found world whole task here.location name other (is.0.0, directory)
@@ -103,7 +103,7 @@ module _ (world : World ℕ) (whole : IsWorld nat_eq world) (task : Task ℕ)
   pub old_walk_found : (path : List ℕ) → Ends IsOldPlace (old_walk nat_eq world task path)
   old_walk_found path = ends_then IsFoundPlace IsOldPlace (place_walk nat_eq world task path) _ (place_walk_found path)
       (λ place is. ends_unless IsOldPlace place.steps ((not (is_some place.object), W6) ∷ []) place
-      (λ passed. (is, not_true (is_some place.object) passed.0)))
+      (λ passed. (is, not-false (is_some place.object) passed.0)))
 
   pub old_leaf_walk_found : (path : List ℕ) → Ends IsOldPlace (old_leaf_walk nat_eq world task path)
   old_leaf_walk_found path =

@@ -1,9 +1,9 @@
 -- Where the walks of a task end: at what is there, on a mount of the task's namespace or on one that is in none.
 use Rattle.std.proofs.Common.{arith, ◌≡◌, refl, ℕ, zero, suc, nat_eq, Bool, true, false, not, cond, List, [], ◌∷◌, ◌+◌, reverse, Option, Some, None, Ok, Result, inl, inr}
-use Rattle.vt_spec.proofs.Common.{Among, Dot, DotDot, Follow, Here, IsWorld, LastWord, Location, Named, NoWord, Stop, Task, World, all_locations, among-flat_map, among_from_list_all, and_parts, common_steps, ends_in_slash, final_word, followed, found_among, if_symlink, is_absolute, is_directory_at, is_directory_seen_in, is_located_well, last_walked, last_word, locations_of, most_symlinks, node_at, path_text, path_walked, prefix_walked, start_of, symlink_text, task_called, walk_start, walk_unless, words}
+use Rattle.vt_spec.proofs.Common.{Among, Dot, DotDot, Follow, Here, IsWorld, LastWord, Location, Named, NoWord, Stop, Task, World, all_locations, among-flat_map, among_from_list_all, and_parts, common_steps, ends_in_slash, final_word, followed, if_symlink, is_absolute, is_directory_at, is_directory_seen_in, is_located_well, last_walked, last_word, locations_of, most_symlinks, node_at, path_text, path_walked, prefix_walked, start_of, symlink_text, task_called, walk_start, walk_unless, words}
 use Rattle.vt_spec.specs.declared.errors.Rule.TheVariants.{W3}
 use Rattle.vt_spec.proofs.Walk.{directory_walk, follow_rules, symlink_start, symlink_walk, symlink_walk_by, symlink_walked, object_walk, search_rules, slash_rules, stepped, steps_with, word_walked, words_walked}
-use Rattle.vt_laws_trees.proofs.trees.TreesWalked.{Ends, ends_next, ends_step, ends_then, ends_unless, not_true}
+use Rattle.vt_laws_trees.proofs.trees.TreesWalked.{Ends, ends_next, ends_step, ends_then, ends_unless, not-false}
 use Rattle.vt_laws_worlds.proofs.worlds.Reached.{IsEnd, IsFound, IsFoundDirectory, directory_end, step_found}
 use Rattle.vt_laws_trees.proofs.trees.TreesTasks.{called_there, called_stands}
 pub use Rattle.vt_spec.proofs.Found.{found_among}
@@ -64,7 +64,7 @@ module _ (world : World ℕ) (whole : IsWorld nat_eq world) (task : Task ℕ)
       (search_rules nat_eq world task here.location) (stepped nat_eq world task here.location word)
       (λ reached. Ok (record { location = reached; left = here.left; steps = steps_with nat_eq world task here word }))
       (λ passed reached e. step_found world whole task here.location word reached
-      (is.0, not_true (is_directory_at nat_eq world here.location) passed.0) e)
+      (is.0, not-false (is_directory_at nat_eq world here.location) passed.0) e)
 
   -- how links are followed
   abbrev FollowEnds : Follow ℕ → Type 0
@@ -128,7 +128,7 @@ module _ (world : World ℕ) (whole : IsWorld nat_eq world) (task : Task ℕ)
       ends_unless (λ next. FoundDirectory next.location) here.steps ((
         not (is_directory_at nat_eq world here.location),
         W3,
-      ) ∷ []) here (λ passed. (end.0.0, not_true (is_directory_at nat_eq world here.location) passed.0)))
+      ) ∷ []) here (λ passed. (end.0.0, not-false (is_directory_at nat_eq world here.location) passed.0)))
 
   pub front_end : (here : Here ℕ) → End here.location → (list : List (List ℕ))
       → EndsAtEnd (prefix_walked nat_eq world task (followed nat_eq world task) here list)

@@ -2,7 +2,7 @@
 -- and the
 -- copies of where it stood.
 use Rattle.std.proofs.Common.{arith, ◌≡◌, refl, sym, ap, subst, ◌∙◌, inl, inr, ⊎_elim, ℕ, zero, suc, nat_eq, eqb-true, eq-eqb, Bool, true, false, cond, true≢false, find, filter, length, List, [], ◌∷◌, ◌==◌, Option, Some, None, is_some, map, option_map, if◌then◌else◌, option_to_list, unwrap_or}
-use Rattle.vt_spec.proofs.Common.{Among, Fresh, IsWorld, Location, Mount, Namespace, Serves, Stands, Task, World, among-append_right, among-filter, among-from_filter, among-from_map, among-map, among_from_all, among_from_list_all, among_numbers, and_from, and_parts, any_among, at_root, chain, chain_ends, chain_goes_on, child_at, common_steps, copied_mount, directory_is_there, evens, filesystem_numbered, found_or_none, has_one_root, holds_of, is_among_numbers, is_copied, is_directory_at, is_directory_node, is_listed, is_root_mount, last_or, list_all, location_on_copy, mount_at, mount_numbered, mounts_of, moved_location, namespace_root, node_at, none_among, number-mount_in, numbers_by, odds, on_parent, pivoted_location, pivoted_task, root_mount, root_of, stands_at, topmost, unshared, unshared_task}
+use Rattle.vt_spec.proofs.Common.{Among, Fresh, IsWorld, Location, Mount, Namespace, Serves, Stands, Task, World, among-append_right, among-filter, among-from_filter, among-from_map, among-map, among_from_all, among_from_list_all, among_numbers, and_from, and_parts, any_among, at_root, chain, chain_ends, chain_goes_on, child_at, common_steps, copied_mount, evens, filesystem_numbered, found_or_none, has_one_root, holds_of, is_among_numbers, is_copied, is_directory_at, is_directory_node, is_listed, is_root_mount, last_or, list_all, location_on_copy, mount_at, mount_numbered, mounts_of, moved_location, namespace_root, node_at, none_among, number-mount_in, numbers_by, odds, on_parent, pivoted_location, pivoted_task, root_mount, root_of, stands_at, topmost, unshared, unshared_task}
 use Rattle.vt_laws_mounts.specs.Mounts.Attaching.{is_mount, numbers_of}
 use Rattle.vt_laws_mounts.proofs.mounts.MountsFound.{found_in, found_there}
 use Rattle.vt_laws_mounts.proofs.mounts.MountsNumbered.{unshare_keeps_numbers}
@@ -12,7 +12,7 @@ use Rattle.vt_laws_worlds.proofs.worlds.PermitsSeen.{unshared_seen}
 use Rattle.vt_laws_worlds.proofs.worlds.Placed.{IsPlaced, StandsAt, opens_after, stands_after}
 use Rattle.vt_laws_worlds.proofs.worlds.Seen.{KeepsWhatIsSeen, is_in, mount_of_located}
 use Rattle.vt_laws_mounts.proofs.letting_go.Lists.{held_number}
-pub use Rattle.vt_spec.proofs.NodeChanges.{directory_is_there as directory_there}
+pub use Rattle.vt_spec.proofs.NodeChanges.{directory_is_there}
 
 -- what holds from step to step holds of the last
 pub last_has : {A : Type 0} (P : A → Type 0) (next : A → Option A) → ((a b : A) → P a → next a ≡ Some b → P b)

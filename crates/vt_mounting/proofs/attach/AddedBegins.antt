@@ -3,7 +3,7 @@
 -- before it detaches them. So does unshare(2), where a namespace ends with it.
 use Rattle.std.proofs.Common.{◌≡◌, refl, sym, ap, subst, ◌∙◌, ◌⊎◌, ⊎_elim, inl, inr, ℕ, ◌+◌, nat_eq, eqb-true, eq-eqb, Bool, true, false, true≢false, cond, not, ◌&&◌, ◌||◌, List, [], ◌∷◌, ◌++◌, map, flat_map, Option, Some, None, is_some, arith, nat_lt, option_to_list, append-nil}
 use Rattle.vt_spec.proofs.Common.{Filesystem, Location, Mount, Namespace, World, all_locations, and_parts, any_pair, detached, folded, is_among, is_located, is_nowhere_or_attached, is_private, list_all, list_any, map-append, map_alike, map_twice, mount_at, mount_in, mount_lives}
-use Rattle.vt_mounting.proofs.Common.{Among, AreThere, CountsItsMounts, Exchanges, FilesystemEntry, Inode, IsHeld, LocationsStand, MountEntry, MountsStand, OneNumberAMount, Shown, Tasks, WorldValue, all_pass, among-append, among-append_left, among-append_right, among-from_map, among-map, among_from_all, any_passes, counted, exchanges_follow, filesystem_seen, inode_at, inodes_of_mount_point, inodes_seen, is_inode, is_on, located_while_counted, locations_use_mounts, mount_uses, mounts_in, mounts_of_worlds_stand, one_passes, or_first, passes, pinned_if, places_of, shown, shown_entry, stands_on_attached, times, times_append, world_of, worlds_are_in_use, writes_of}
+use Rattle.vt_mounting.proofs.Common.{Among, AreThere, CountsItsMounts, Exchanges, FilesystemEntry, Inode, IsHeld, LocationsStand, MountEntry, MountsStand, OneNumberAMount, Shown, Tasks, WorldValue, all_in_use, among-append, among-append_left, among-append_right, among-from_map, among-map, among_from_all, among_from_list_all, any_among, any_from_among, counted, exchanges_follow, filesystem_seen, inode_at, inodes_of_mount_point, inodes_seen, is_inode, is_on, list_all_from_among, located_while_counted, locations_use_mounts, mount_uses, mounts_in, mounts_of_worlds_stand, or_left, pinned_if, places_of, shown, shown_entry, stands_on_attached, times, times_append, world_of, writes_of}
 use Rattle.vt_laws_mounts.proofs.counts.using.MountRoots as Roots
 use Rattle.vt_laws_mounts.proofs.counts.using.Places.{locations_are_uses, mounts_are_uses}
 use Rattle.vt_laws_mounts.proofs.letting_go.leaving.MountsAdded.{found_before}
@@ -110,7 +110,8 @@ module _ (value : WorldValue) (whole : IsHeld value) (added : List (Mount ℕ)) 
 
   point_on : (mount : Mount ℕ) → Among mount world.mounts → (place : Location ℕ) → mount.mount_point ≡ Some place
       → is_among nat_eq place.mount (map (λ x. x.number) world.mounts) ≡ true
-  point_on mount m place e = passes (is_on world.mounts) (all_locations world ++ places_of world.mounts) places place
+  point_on mount m place e = among_from_list_all (is_on world.mounts) (all_locations world ++ places_of world.mounts)
+      places place
       (among-append_right (all_locations world) (places_of world.mounts) place
       (among-append_right (map Rattle.vt_spec.specs.Machine.Mounts.root_of world.mounts) _ place
       (Rattle.vt_laws_mounts.proofs.letting_go.Lists.among-filter_map
@@ -128,7 +129,7 @@ module _ (value : WorldValue) (whole : IsHeld value) (added : List (Mount ℕ)) 
     ap (λ (x : Mount ℕ). is_some x.namespace) (same_parent mount old place e)
         ∙ (and_parts (is_some (mount_at nat_eq world place).namespace) true
         (sym (ap (λ o. list_all (λ at. is_some (mount_at nat_eq world at).namespace) (option_to_list o)) e)
-        ∙ passes (stands_on_attached world) world.mounts stand.on_attached mount old)).0,
+        ∙ among_from_list_all (stands_on_attached world) world.mounts stand.on_attached mount old)).0,
     ap goes (same_parent mount old place e) ∙ Begins.parent_stays value whole value.tasks [] []
         (nothing_moves value) inside nowhere_stays namespaces mount old stays place e,
   )) (λ new. is.parent mount new place e) (among-append world.mounts added mount m)
@@ -136,13 +137,13 @@ module _ (value : WorldValue) (whole : IsHeld value) (added : List (Mount ℕ)) 
   stand_ended : MountsStand ended
   stand_ended = record {
     one_number = numbers base.mounts ∙ is.one_number;
-    nowhere = all_pass is_nowhere_or_attached ended.mounts
+    nowhere = list_all_from_among is_nowhere_or_attached ended.mounts
         (λ x m. let from = among-from_map (gone_if goes) base.mounts x m in
         ap is_nowhere_or_attached from.2 ∙ outside from.0 (goes from.0)
-        (⊎_elim (λ old. passes is_nowhere_or_attached world.mounts stand.nowhere from.0 old)
-        (λ new. or_first (is_some from.0.namespace) (not (is_some from.0.mount_point) && is_private from.0.propagation)
+        (⊎_elim (λ old. among_from_list_all is_nowhere_or_attached world.mounts stand.nowhere from.0 old)
+        (λ new. or_left (is_some from.0.namespace) (not (is_some from.0.mount_point) && is_private from.0.propagation)
         (is.attached from.0 new)) (among-append world.mounts added from.0 from.1)));
-    on_attached = all_pass (stands_on_attached ended) ended.mounts
+    on_attached = list_all_from_among (stands_on_attached ended) ended.mounts
         (λ x m. let from = among-from_map (gone_if goes) base.mounts x m in
         ap (stands_on_attached ended) from.2 ∙ on from.0 from.1 (goes from.0) refl);
   }
@@ -184,12 +185,14 @@ module _ (value : WorldValue) (whole : IsHeld value) (added : List (Mount ℕ)) 
 
   located_ended : LocationsStand ended
   located_ended =
-      all_pass (λ location. is_among nat_eq location.mount (map (λ x. x.number) ended.mounts)) (all_locations base)
+      list_all_from_among (λ location. is_among nat_eq location.mount (map (λ x. x.number) ended.mounts))
+      (all_locations base)
       (λ location m.
       ap (is_among nat_eq location.mount) same_numbers ∙ ⊎_elim
       (λ f. old location (subst (λ all. Among location all) (sym is.was)
       (among-append_left is.front (less ++ is.back) location f))) (λ rest. ⊎_elim
-      (λ come. passes (λ one. is_among nat_eq one.mount (map (λ x. x.number) base.mounts)) more is.there location come)
+      (λ come. among_from_list_all (λ one. is_among nat_eq one.mount (map (λ x. x.number) base.mounts)) more is.there
+      location come)
       (λ b. old location (subst (λ all. Among location all) (sym is.was)
       (among-append_right is.front (less ++ is.back) location (among-append_right less is.back location b))))
       (among-append more is.back location rest))
@@ -198,7 +201,8 @@ module _ (value : WorldValue) (whole : IsHeld value) (added : List (Mount ℕ)) 
       old : (location : Location ℕ) → Among location (all_locations world)
           → is_among nat_eq location.mount (map (λ x. x.number) base.mounts) ≡ true
       old location m =
-          let there = passes (λ location. is_among nat_eq location.mount (map (λ x. x.number) world.mounts))
+          let there = among_from_list_all
+          (λ location. is_among nat_eq location.mount (map (λ x. x.number) world.mounts))
           (all_locations world) (Roots.locations_of_worlds_stand world whole.in_world) location m in
           ap (is_among nat_eq location.mount) (map-append (λ (x : Mount ℕ). x.number) world.mounts added)
           ∙ Rattle.vt_laws_mounts.proofs.letting_go.Lists.is_among_left location.mount
@@ -340,11 +344,11 @@ module _ (value : WorldValue) (whole : IsHeld value) (added : List (Mount ℕ)) 
       still : is_some entry.mount.namespace ≡ false → Among entry.mount world.mounts
           → is_located nat_eq base entry.mount.number ≡ true
       still none old =
-          let lives = passes (mount_lives nat_eq world) world.mounts
-          (worlds_are_in_use world whole.in_world).mounts entry.mount old in
-          let t = one_passes (λ (l : Location ℕ). nat_eq entry.mount.number l.mount) (all_locations world)
+          let lives = among_from_list_all (mount_lives nat_eq world) world.mounts
+          (all_in_use world whole.in_world).mounts entry.mount old in
+          let t = any_among (λ (l : Location ℕ). nat_eq entry.mount.number l.mount) (all_locations world)
           (sym (ap (λ b. b || is_located nat_eq world entry.mount.number) none) ∙ lives) in
-          let there = λ (n : Among t.0 (all_locations base)). any_passes
+          let there = λ (n : Among t.0 (all_locations base)). any_from_among
           (λ (l : Location ℕ). nat_eq entry.mount.number l.mount) (all_locations base) t.0 n t.2 in
           ⊎_elim
           (λ f. there (subst (λ all. Among t.0 all) (sym is.is) (among-append_left is.front (more ++ is.back) t.0 f)))

@@ -2,14 +2,14 @@
 use Rattle.std.proofs.Common.{◌≡◌, refl, sym, ap, ◌∙◌, inl, inr, ℕ, ◌+◌, ◌<◌, ◌%◌, ◌/◌, ◌==◌, nat_eq, eqb-true, nat_lt, Bool, true, false, true≢false, ◌&&◌, ◌||◌, List, [], ◌∷◌, ◌++◌, map, flat_map, if◌then◌else◌, arith, ltb-true, ne_eqb}
 use Rattle.vt_spec.proofs.Common.{Descriptor, Task, all_locations, is_among, list_all, locations_of}
 use Rattle.vt_spec.specs.Machine.Mounts as meant
-use Rattle.vt_mounting.proofs.Common.{Among, CountsItsUses, IsHeld, WorldValue, among-append_left, among-append_right, among-from_map, among-map, among_numbers, are_ascending, counted, is_among_numbers, is_counted_before, mount_of, mounts_in, passes, times, world_of, writes_of, writes_on}
+use Rattle.vt_mounting.proofs.Common.{Among, CountsItsUses, IsHeld, WorldValue, among-append_left, among-append_right, among-from_map, among-map, among_from_list_all, among_numbers, are_ascending, counted, is_among_numbers, is_counted_before, mount_of, mounts_in, times, world_of, writes_of, writes_on}
 use Rattle.vt_location.specs.declared.mounts.Mount.{Mount}
 use Rattle.vt_mounting.specs.Detach.Uses.{unused_entry}
 use Rattle.vt_mounting.proofs.attach.Beside.{IsBeside}
 use Rattle.vt_mounting.proofs.attach.EnteringLemmas.{apart}
 use Rattle.vt_mounting.proofs.detach.FilesSeen.{mount_named}
 
--- what nothing passes is none
+-- what nothing among_from_list_all is none
 pub times_none : {A : Type 0} (test : A → Bool) (xs : List A) → ((x : A) → Among x xs → test x ≡ false)
     → times test xs ≡ 0
 times_none test [] none = refl
@@ -47,7 +47,7 @@ module _ (value : WorldValue) (whole : IsBeside value) (new : List Mount)
       → Among location (all_locations (world_of value)) → nat_eq (counted mount.number.count) location.mount ≡ false
   not_on_new mount m location n =
       let on = among_numbers location.mount (map (λ (x : meant.Mount ℕ). x.number) (mounts_in value.mounts))
-      (passes (λ location. is_among nat_eq location.mount
+      (among_from_list_all (λ location. is_among nat_eq location.mount
       (map (λ (x : meant.Mount ℕ). x.number) (mounts_in value.mounts))) (all_locations (world_of value))
       whole.locations_stand location n) in
       let from = among-from_map (λ (x : meant.Mount ℕ). x.number) (mounts_in value.mounts) location.mount on in
@@ -71,7 +71,8 @@ lower_numbers value whole counts mount m =
     by (mount.number % 2 == 0) refl (nat_lt (mount.number / 4) value.next) refl named
   where
     is_odd : mount.number % 4 ≡ 1
-    is_odd = eqb-true (mount.number % 4) 1 (passes (λ x. x.number % 4 == 1) (mounts_in value.mounts) counts mount m)
+    is_odd = eqb-true (mount.number % 4) 1
+        (among_from_list_all (λ x. x.number % 4 == 1) (mounts_in value.mounts) counts mount m)
 
     named : is_counted_before value.next mount.number ≡ true
     named = mount_named value whole mount.number (any_number (mounts_in value.mounts) m)

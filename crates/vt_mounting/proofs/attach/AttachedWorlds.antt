@@ -2,7 +2,7 @@
 use Rattle.std.proofs.Common.{◌≡◌, refl, sym, ap, subst, ◌∙◌, inl, inr, ℕ, nat_eq, eqb-true, Bool, true, false, not, ◌&&◌, ◌||◌, List, [], ◌∷◌, ◌++◌, map, Option, Some, None, option_map, is_some, All, option_to_list}
 use Rattle.vt_spec.proofs.Common.{Filesystem, Inode as Counted, World, and_parts, filesystem_numbered, has_its_root, is_directory_at, is_directory_node, list_all, mount_at, node_at, node_in}
 use Rattle.vt_spec.specs.Machine.Mounts as meant
-use Rattle.vt_mounting.proofs.Common.{Among, AreThere, FilesystemEntry, HasOwnNodes, Inode, IsUnderWay, among-append_right, among-map, counted, directory_there, filesystem_seen, found_filesystem, found_itself, inodes_seen, is_small_node, location_of, mount_of, number_of, passes}
+use Rattle.vt_mounting.proofs.Common.{Among, AreThere, FilesystemEntry, HasOwnNodes, Inode, IsUnderWay, among-append_right, among-map, among_from_list_all, counted, directory_is_there, filesystem_seen, found_filesystem, found_itself, inodes_seen, is_small_node, location_of, mount_of, number_of}
 use Rattle.vt_location.specs.declared.locations.Location.{Location}
 use Rattle.vt_location.specs.declared.locations.NodeRef.{NodeRef}
 use Rattle.vt_location.specs.declared.mounts.Mount.{Mount}
@@ -28,7 +28,8 @@ module _ (after : World ℕ) (is_world : IsUnderWay after) (front : List (meant.
       → (is_directory_node ((filesystem_numbered nat_eq after (counted mount.root.filesystem.count)).files.tree.node
       (number_of mount.root)) ≡ true)
       × (list_all (is_directory_at nat_eq after) (option_to_list (option_map location_of mount.mount_point)) ≡ true)
-  roots mount m = and_parts _ _ (passes (has_its_root nat_eq after) after.mounts is_world.roots (mount_of mount)
+  roots mount m = and_parts _ _
+      (among_from_list_all (has_its_root nat_eq after) after.mounts is_world.roots (mount_of mount)
       (new_there mount m))
 
   -- a mount point is in the filesystem that its mount shows
@@ -40,8 +41,8 @@ module _ (after : World ℕ) (is_world : IsUnderWay after) (front : List (meant.
       ≡ true) is (roots mount m).1)).0 in
       node_at_home after own (mount_at nat_eq after (location_of point)).filesystem point.node
       (subst (λ o. point_is_small o ≡ true) is
-      (and_parts (is_small_node mount.root) _ (passes has_small_nodes new slots mount m)).1)
-      (directory_there (node_at nat_eq after (location_of point)) directory)
+      (and_parts (is_small_node mount.root) _ (among_from_list_all has_small_nodes new slots mount m)).1)
+      (directory_is_there (node_at nat_eq after (location_of point)) directory)
 
   pub new_found : (mount : Mount) → Among mount new → IsFoundIn after mount
   new_found mount m = record {
@@ -63,7 +64,7 @@ module _ (after : World ℕ) (is_world : IsUnderWay after) (front : List (meant.
           → (not b || is_some ((inodes_seen entry).inode (number_of node))) ≡ true
       by false e = refl
       by true e = inode_is_there ((inodes_seen entry).inode (number_of node))
-          (directory_there (node_in ((inodes_seen entry).inode (number_of node)))
+          (directory_is_there (node_in ((inodes_seen entry).inode (number_of node)))
           (ap (λ (f : Filesystem ℕ). is_directory_node (f.files.tree.node (number_of node)))
           (sym found ∙ ap (filesystem_numbered nat_eq after) (eqb-true _ _ e)) ∙ directory))
 

@@ -23,8 +23,8 @@ pub record IsBeside (value : WorldValue) : Type 0 where
   pub namespaces : All (CountsWhatIsInIt (world_of value)) value.namespaces
 
 -- the code's world is such a one
-pub beside : (value : WorldValue) → IsHeld value → IsBeside value
-beside value whole = record {
+pub is_beside : (value : WorldValue) → IsHeld value → IsBeside value
+is_beside value whole = record {
   mounts_stand = mounts_of_worlds_stand (world_of value) whole.in_world;
   locations_stand = Roots.locations_of_worlds_stand (world_of value) whole.in_world;
   merged = whole.overlays.merged;

@@ -2,7 +2,7 @@
 use Rattle.std.proofs.Common.{◌≡◌, ◌<◌, refl, sym, ap, subst, ◌∙◌, ⊎_elim, ℕ, ◌+◌, ◌*◌, ◌%◌, ◌==◌, nat_eq, eq-eqb, Bool, true, false, true≢false, cond, ◌||◌, ◌&&◌, List, [], ◌∷◌, ◌++◌, map, find, length, Some, is_some, arith}
 use Rattle.vt_spec.proofs.Common.{Permit, TaskName, ToBind, World, among_from_contains, attach, bind_tree, group_of, has_members, holds_of, is_among, is_located_well, is_member_of, length-map, list_all, mount_at, parts_of}
 use Rattle.vt_spec.specs.Machine.Mounts as meant
-use Rattle.vt_mounting.proofs.Common.{Among, CountsItsMounts, Filesystems, Grouping, HasGroup, IsCounted, IsHeld, IsSeen, KeepsTo, MountEntry, OneNumberAMount, WorldValue, among_from_all, any_passes, are_ascending, counted, counts_from, found_is_there, inodes_seen, is_counted_before, location_of, mount_of, mounts_in, mounts_of_worlds_stand, new_group, parts_apart, planned_copies, world_of, worlds_are_in_use, worlds_have_trees}
+use Rattle.vt_mounting.proofs.Common.{Among, CountsItsMounts, Filesystems, Grouping, HasGroup, IsCounted, IsHeld, IsSeen, KeepsTo, MountEntry, OneNumberAMount, WorldValue, all_in_use, among_from_all, any_from_among, are_ascending, counted, counts_from, found_is_there, inodes_seen, is_counted_before, location_of, mount_of, mounts_in, mounts_of_worlds_stand, new_group, parts_apart, planned_copies, world_of, worlds_have_trees}
 use Rattle.vt_laws_mounts.proofs.counts.using.MountRoots as Roots
 use Rattle.vt_laws_mounts.proofs.letting_go.mounting.AttachedSwept.{binds_keep_all}
 use Rattle.vt_location.specs.declared.locations.Location.{Location}
@@ -24,7 +24,7 @@ use Rattle.vt_mounting.specs.Attach.Grafted.{IsGrafted, MayGraft}
 use Rattle.vt_mounting.specs.Attach.PlannedUses.{point_seen}
 use Rattle.vt_mounting.proofs.attach.AttachedCounts.{lower_numbers}
 use Rattle.vt_mounting.proofs.attach.CopiesAscend.{planned_ascend}
-use Rattle.vt_mounting.proofs.attach.Beside.{beside}
+use Rattle.vt_mounting.proofs.attach.Beside.{is_beside}
 use Rattle.vt_mounting.proofs.attach.GraftedDone.{IsBase, graft_is_done, grafted_value, plan_attaches}
 use Rattle.vt_mounting.proofs.attach.NumbersByParts.{binds_keep_to_numbers}
 use Rattle.vt_mounting.proofs.attach.TakingNumbers.{TakesNumbers}
@@ -35,7 +35,7 @@ pub same_base : (value : WorldValue) → IsHeld value → IsBase value value.fil
 same_base value whole = record {
   own = whole.own_inodes;
   trees = worlds_have_trees (world_of value) whole.in_world;
-  in_use = (worlds_are_in_use (world_of value) whole.in_world).inodes;
+  in_use = (all_in_use (world_of value) whole.in_world).inodes;
   roots = whole.in_world.roots;
   rise = whole.overlays.all_rise;
   inodes = λ entry m. subst (λ f. IsCounted (world_of value) f (inodes_seen entry))
@@ -53,7 +53,7 @@ is_seen value whole = record { mounts = refl; groups = whole.groups; living = wh
 pub group_there : (mounts : List (meant.Mount ℕ)) (mount : meant.Mount ℕ) → Among mount mounts → (group : ℕ)
     → group_of mount.propagation ≡ Some group → has_members nat_eq mounts group ≡ true
 group_there mounts mount m group e =
-    any_passes (is_member_of nat_eq group) mounts mount m (ap (holds_of (nat_eq group)) e ∙ eq-eqb group group refl)
+    any_from_among (is_member_of nat_eq group) mounts mount m (ap (holds_of (nat_eq group)) e ∙ eq-eqb group group refl)
 
 module _ (value : WorldValue) (whole : IsHeld value) (name : TaskName) (source : Location) (recursive : Bool)
     (graft : Graft) (counts : Counts)
@@ -150,7 +150,7 @@ module _ (value : WorldValue) (whole : IsHeld value) (name : TaskName) (source :
       ∙ rising_then ascending odd in
       let left_is = binds_keep_all (counts_from value.next) world permits.task (location_of source)
       (location_of graft.place) recursive
-      (worlds_are_in_use world whole.in_world) (mounts_of_worlds_stand world whole.in_world)
+      (all_in_use world whole.in_world) (mounts_of_worlds_stand world whole.in_world)
       (Roots.locations_of_worlds_stand world whole.in_world) (ap is_some names.2.own)
       ∙ ap (λ list. attach nat_eq world (counts_from value.next) (location_of graft.place) false list) (sym tree_is)
       ∙ attach_is in
@@ -158,7 +158,7 @@ module _ (value : WorldValue) (whole : IsHeld value) (name : TaskName) (source :
       (bind_tree nat_eq world (location_of source) recursive) ≡ 2 * (length graft.parts.now * length graft.tree.now) =
       (λ i. 2 * (length (sym parts_are i) * length (sym tree_is i)))
       ∙ (λ i. 2 * (length-map graft.parts.now mount_of i * length-map graft.tree.now mount_of i)) in
-      graft_is_done value (beside value whole) value.filesystems
+      graft_is_done value (is_beside value whole) value.filesystems
       (same_base value whole) graft counts mounts groups filesystems overlays next is attaches tree_groups_there rising
       whole name permit permits takes left_is
       (subst (λ n. KeepsTo (is_counted_before n) (left_by value permits.task permit))

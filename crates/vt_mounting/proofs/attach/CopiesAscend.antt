@@ -3,7 +3,7 @@
 use Rattle.std.proofs.Common.{◌≡◌, ◌<◌, ◌≤◌, refl, sym, ap, subst, ◌∙◌, ⊎_elim, inl, inr, true≢false, ℕ, ◌+◌, ◌*◌, nat_eq, eq-eqb, Bool, true, false, cond, ◌&&◌, List, [], ◌∷◌, ◌++◌, map, length, Some, arith, flat_map, if◌then◌else◌, nat_lt, unwrap_or, lt-ltb, ne_eqb}
 use Rattle.vt_spec.proofs.Common.{Mount, World, any_pair, copies_at, copy_at, group_of, index_from, index_of, is_destination, length-map, list_all, list_any, map_twice, mount_at, or_parts, parts_of, twig_of}
 use Rattle.std.proofs.Math.Nat.{mul-le-mul_left}
-use Rattle.vt_mounting.proofs.Common.{Among, OneNumberAMount, all_pass, among-from_flat_map, among-from_map, are_ascending, counted, fails, flat_map_alike, graft_in, index_bound, location_of, mount_of, numbers_at, parts_apart, planned_copies}
+use Rattle.vt_mounting.proofs.Common.{Among, OneNumberAMount, among-from_flat_map, among-from_map, are_ascending, counted, flat_map_alike, graft_in, index_bound, list_all_from_among, location_of, mount_of, none_among, numbers_at, parts_apart, planned_copies}
 use Rattle.vt_laws_mounts.proofs.mounts.MountsNumbered.{same_number}
 use Rattle.vt_propagate.specs.declared.copying.Counts.{Counts}
 use Rattle.vt_propagate.specs.declared.copying.Graft.{Graft}
@@ -12,7 +12,7 @@ use Rattle.vt_mounting.proofs.attach.EnteringLemmas.{ascending_joined}
 pub differs : (first : Mount ℕ) (rest : List (Mount ℕ)) → OneNumberAMount (first ∷ rest) → (mount : Mount ℕ)
     → Among mount rest → nat_eq mount.number first.number ≡ false
 differs first rest each mount m =
-    let apart = fails (same_number first) rest
+    let apart = none_among (same_number first) rest
     (or_parts (list_any (same_number first) rest) (any_pair same_number rest) each).0 mount m in
     ne_eqb mount.number first.number (λ e. true≢false (sym (eq-eqb first.number mount.number (sym e)) ∙ apart))
 
@@ -61,7 +61,8 @@ module _ (number : ℕ → ℕ) (grows : (a b : ℕ) → a < b → number a < nu
       is_later mount m = is mount (inr m) ∙ ap (λ n. number (base + n)) (place_later k first rest each mount m)
 
       less : list_all (λ later. nat_lt (copy first).number later.number) (map copy rest) ≡ true
-      less = all_pass (λ (later : Mount ℕ). nat_lt (copy first).number later.number) (map copy rest) (λ later n.
+      less = list_all_from_among (λ (later : Mount ℕ). nat_lt (copy first).number later.number) (map copy rest)
+          (λ later n.
           let from = among-from_map copy rest later n in
           let it : later.number ≡ number (base + place_in (k + 1) rest from.0.number) = ap
           (λ (x : Mount ℕ). x.number) from.2 ∙ is_later from.0 from.1 in

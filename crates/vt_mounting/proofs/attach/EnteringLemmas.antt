@@ -1,7 +1,7 @@
 -- Mounts that come after all others.
 use Rattle.std.proofs.Common.{◌≡◌, sym, ap, subst, ◌∙◌, ⊎_elim, inl, inr, refl, ℕ, ◌<◌, true, ◌&&◌, List, [], ◌∷◌, ◌++◌, ◌+◌, length, take, drop, get_or, nat_lt, lt-ltb, ltb-true}
 use Rattle.vt_spec.proofs.Common.{and_parts, list_all}
-use Rattle.vt_mounting.proofs.Common.{Among, all_pass, among-append_right, are_ascending, passes}
+use Rattle.vt_mounting.proofs.Common.{Among, among-append_right, among_from_list_all, are_ascending, list_all_from_among}
 use Rattle.vt_location.specs.declared.mounts.Mount.{Mount}
 use Rattle.vt_mount.proofs.EnteringLemmas.{at_index}
 use Rattle.vt_spec.specs.Machine.Mounts as meant
@@ -18,7 +18,8 @@ apart [] back is a b m n = absurd m
 apart (first ∷ front) back is a b m n =
     let parts = and_parts (list_all (λ later. nat_lt first.number later.number) (front ++ back)) _ is in
     ⊎_elim (λ same. ltb-true a.number b.number (ap (λ (x : meant.Mount ℕ). nat_lt x.number b.number) same
-    ∙ passes (λ later. nat_lt first.number later.number) (front ++ back) parts.0 b (among-append_right front back b n)))
+    ∙ among_from_list_all (λ later. nat_lt first.number later.number) (front ++ back) parts.0 b
+    (among-append_right front back b n)))
     (λ later. apart front back parts.1 a b later n) m
 
 pub ascending_joined : (front back : List (meant.Mount ℕ)) → are_ascending front ≡ true → are_ascending back ≡ true
@@ -33,7 +34,7 @@ ascending_joined (first ∷ front) back front_is back_is less =
     all_joined : (some : List (meant.Mount ℕ)) → list_all (λ later. nat_lt first.number later.number) some ≡ true
         → ((b : meant.Mount ℕ) → Among b back → first.number < b.number)
         → list_all (λ later. nat_lt first.number later.number) (some ++ back) ≡ true
-    all_joined [] is less_back = all_pass (λ (later : meant.Mount ℕ). nat_lt first.number later.number) back
+    all_joined [] is less_back = list_all_from_among (λ (later : meant.Mount ℕ). nat_lt first.number later.number) back
         (λ b n. lt-ltb first.number b.number (less_back b n))
     all_joined (one ∷ some) is less_back =
         let both = and_parts (nat_lt first.number one.number)

@@ -1,7 +1,7 @@
 -- The uses of inodes where mounts come and others move onto them.
 use Rattle.std.proofs.Common.{◌≡◌, refl, sym, ap, subst, ◌∙◌, inl, inr, true≢false, ℕ, ◌+◌, nat_eq, eqb-true, Bool, true, false, cond, not, ◌&&◌, ◌||◌, List, [], ◌∷◌, ◌++◌, map, find, Option, Some, is_some, arith, All, filter, filter_map, flat_map, option_to_list, unwrap_or, ne_eqb}
 use Rattle.vt_spec.proofs.Common.{Filesystem, IsWorld, ListsNumbers, Propagation, World, all_locations, and_parts, any_pair, cons_option, filesystem_numbered, has_its_root, is_among, is_directory_at, is_directory_node, layers_in, list_all, list_all-append, lookup, map-append, map_alike, map_twice, mount_at, mount_in, named_in, no_mount, node_at, objects_of_overlay, or_else, root_of, used_in, with_mounts}
-use Rattle.vt_mounting.proofs.Common.{Among, AreThere, Exchanges, FilesystemEntry, Filesystems, HasOwnInodes, HasOwnNodes, Inode, IsUnderWay, MountEntry, MovesOnce, WorldValue, all_pass, among-append_left, among-append_right, among-filter_map, among-from_map, among-map, among_from_all, among_numbers, are_ascending, counted, directory_there, exchanges_follow, filesystem_seen, filesystems_seen, found_filesystem, inode_at, inodes_seen, is_inode, is_inode_used, is_on, location_of, map_same, mount_of, mounts_entered, mounts_in, none_passes, number_of, one_number_by_numbers, overlays_seen, passes, places_of, times, times_append, world_of, worlds_are_in_use, woven}
+use Rattle.vt_mounting.proofs.Common.{Among, AreThere, Exchanges, FilesystemEntry, Filesystems, HasOwnInodes, HasOwnNodes, Inode, IsUnderWay, MountEntry, MovesOnce, WorldValue, all_in_use, among-append_left, among-append_right, among-filter_map, among-from_map, among-map, among_from_all, among_from_list_all, among_numbers, are_ascending, counted, directory_is_there, exchanges_follow, filesystem_seen, filesystems_seen, found_filesystem, inode_at, inodes_seen, is_inode, is_inode_used, is_on, list_all_from_among, location_of, map_same, mount_of, mounts_entered, mounts_in, none_from_among, number_of, one_number_by_numbers, overlays_seen, places_of, times, times_append, world_of, woven}
 use Rattle.vt_laws_mounts.proofs.counts.using.MountRoots.{places_stand}
 use Rattle.vt_laws_mounts.specs.LettingGo.OneByOne.{let_go_inode_of, let_go_inodes, without_inode}
 use Rattle.vt_location.specs.declared.locations.Location.{Location}
@@ -39,9 +39,9 @@ used_stays after is inode there f m =
         ∙ there
 
     used : nat_eq f.number inode.0 ≡ true → is_inode_used after f inode.1 ≡ true
-    used e = passes (is_inode_used after f) f.files.numbers
+    used e = among_from_list_all (is_inode_used after f) f.files.numbers
         (among_from_all (λ (g : Filesystem ℕ). list_all (is_inode_used after g) g.files.numbers
-        ≡ true) after.filesystems (worlds_are_in_use after is).inodes f m)
+        ≡ true) after.filesystems (all_in_use after is).inodes f m)
         inode.1 (among_numbers inode.1 f.files.numbers (listed e))
 
     by : (b : Bool) → nat_eq f.number inode.0 ≡ b → (b && not (is_inode_used after f inode.1)) ≡ false
@@ -64,7 +64,7 @@ point_shown : (world : World ℕ) → All HasOwnNodes world.filesystems → (poi
     → (mount_at nat_eq world (location_of point)).filesystem ≡ counted point.node.filesystem.count
 point_shown world own point small directory =
     node_at_home world own (mount_at nat_eq world (location_of point)).filesystem point.node small
-    (directory_there (node_at nat_eq world (location_of point)) directory)
+    (directory_is_there (node_at nat_eq world (location_of point)) directory)
 
 -- these filesystems, and the overlays of the code's world
 abbrev pub beside_overlays : WorldValue → Filesystems → List (Filesystem ℕ)
@@ -205,7 +205,7 @@ module _ (value : WorldValue) (base : Filesystems) (master : ℕ → Option ℕ)
         let was = among-from_map (moved_at points) (mounts_in value.mounts) stands.0 stands.1 in
         let at : (changed_at points kinds was.0).mount_point ≡ Some (location_of point) =
         ap (λ (mount : meant.Mount ℕ). mount.mount_point) (sym was.2) ∙ stands.2 in
-        let root = and_parts _ _ (passes (has_its_root nat_eq after) after.mounts is_world.roots
+        let root = and_parts _ _ (among_from_list_all (has_its_root nat_eq after) after.mounts is_world.roots
         (changed_at points kinds was.0)
         (among-append_left (map (changed_at points kinds) (mounts_in value.mounts)) (map mount_of copies)
         (changed_at points kinds was.0) (among-map (changed_at points kinds) (mounts_in value.mounts) was.0 was.1))) in
@@ -213,7 +213,7 @@ module _ (value : WorldValue) (base : Filesystems) (master : ℕ → Option ℕ)
 
     taken_inode : (point : Location) → Among point taken → inode_at come (location_of point) ≡ inode_of point.node
     taken_inode point m = (λ i. come_as_after i (location_of point)) ∙ (λ i. (
-      point_shown after (own_beside value whole base own) point (passes is_small taken taken_small point m)
+      point_shown after (own_beside value whole base own) point (among_from_list_all is_small taken taken_small point m)
           (taken_directory point m) i,
       number_of point.node,
     ))
@@ -228,7 +228,7 @@ module _ (value : WorldValue) (base : Filesystems) (master : ℕ → Option ℕ)
     left_directory : (point : Location) → Among point left → is_directory_at nat_eq middle (location_of point) ≡ true
     left_directory point m =
         let stands = left_stood point m in
-        let root = and_parts _ _ (passes (has_its_root nat_eq middle)
+        let root = and_parts _ _ (among_from_list_all (has_its_root nat_eq middle)
         (mounts_in value.mounts) roots stands.0 stands.1) in
         (and_parts _ _ (subst (λ o. list_all (is_directory_at nat_eq middle) (option_to_list o)
         ≡ true) stands.2 root.1)).0
@@ -236,7 +236,7 @@ module _ (value : WorldValue) (base : Filesystems) (master : ℕ → Option ℕ)
     left_on : (point : Location) → Among point left → is_on (mounts_in value.mounts) (location_of point) ≡ true
     left_on point m =
         let stands = left_stood point m in
-        passes (is_on (mounts_in value.mounts))
+        among_from_list_all (is_on (mounts_in value.mounts))
         (all_locations (world_of value) ++ places_of (mounts_in value.mounts)) all_stand (location_of point)
         (among-append_right (all_locations (world_of value)) (places_of (mounts_in value.mounts)) (location_of point)
         (among-append_right (map (meant.root_of {N = ℕ}) (mounts_in value.mounts)) _ (location_of point)
@@ -246,7 +246,8 @@ module _ (value : WorldValue) (base : Filesystems) (master : ℕ → Option ℕ)
     left_shown : (point : Location) → Among point left
         → (mount_at nat_eq middle (location_of point)).filesystem ≡ counted point.node.filesystem.count
     left_shown point m =
-        point_shown middle (own_beside value whole base own) point (passes is_small left left_small point m)
+        point_shown middle (own_beside value whole base own) point
+        (among_from_list_all is_small left left_small point m)
         (left_directory point m)
 
     left_inode : (point : Location) → Among point left → inode_at come (location_of point) ≡ inode_of point.node
@@ -274,8 +275,8 @@ module _ (value : WorldValue) (base : Filesystems) (master : ℕ → Option ℕ)
 
     copies_stay : map (moved_at points) (map mount_of copies) ≡ map mount_of copies
     copies_stay = others_stay points (map mount_of copies) (λ mount m.
-        none_passes (λ (point : Point). nat_eq mount.number (number_at point)) points (λ point n.
-        let there = passes (λ (seen : ℕ × meant.Location ℕ). is_among nat_eq seen.0
+        none_from_among (λ (point : Point). nat_eq mount.number (number_at point)) points (λ point n.
+        let there = among_from_list_all (λ (seen : ℕ × meant.Location ℕ). is_among nat_eq seen.0
         (map number_of_mount (mounts_in value.mounts))) (map point_seen points)
         once.there (point_seen point) (among-map point_seen points point n) in
         let from = among-from_map number_of_mount (mounts_in value.mounts) (number_at point)
@@ -354,11 +355,11 @@ module _ (value : WorldValue) (base : Filesystems) (master : ℕ → Option ℕ)
       where
         taken_there : list_all (λ (inode : Inode). not (nat_eq (counted entry.count) inode.0)
             || is_some ((inodes_seen entry).inode inode.1)) (inodes_of_points taken) ≡ true
-        taken_there = all_pass (λ (inode : Inode). not (nat_eq (counted entry.count) inode.0)
+        taken_there = list_all_from_among (λ (inode : Inode). not (nat_eq (counted entry.count) inode.0)
             || is_some ((inodes_seen entry).inode inode.1)) (inodes_of_points taken) (λ inode n.
             let from = among-from_map (λ (point : Location). inode_of point.node) taken inode n in
             let shown = point_shown after (own_beside value whole base own) from.0
-            (passes is_small taken taken_small from.0 from.1) (taken_directory from.0 from.1) in
+            (among_from_list_all is_small taken taken_small from.0 from.1) (taken_directory from.0 from.1) in
             ap (λ (one : Inode). not (nat_eq (counted entry.count) one.0)
             || is_some ((inodes_seen entry).inode one.1)) from.2
             ∙ there_in after is_world (map (changed_at points kinds)
@@ -373,4 +374,4 @@ module _ (value : WorldValue) (base : Filesystems) (master : ℕ → Option ℕ)
         ap (λ (one : Inode). is_some ((filesystem_numbered nat_eq after one.0).files.tree.node one.1)) from.2
         ∙ ap (λ number. is_some ((filesystem_numbered nat_eq after number).files.tree.node (number_of from.0.node)))
         (sym (left_shown from.0 from.1))
-        ∙ directory_there (node_at nat_eq middle (location_of from.0)) (left_directory from.0 from.1))
+        ∙ directory_is_there (node_at nat_eq middle (location_of from.0)) (left_directory from.0 from.1))

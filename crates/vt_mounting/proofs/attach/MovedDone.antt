@@ -3,7 +3,7 @@ use Rattle.std.proofs.Common.{◌≡◌, ◌<◌, refl, sym, ap, subst, ◌∙�
 use Rattle.vt_spec.proofs.Common.{Filesystem, IsWorld, Permit, Private, Propagation, Shared, Slave, TaskName, ToMove, Unbindable, World, among_from_contains, any_pair, attach, attached_by, contains_from_among, copies_from, drop-append_seam, first_of_list, folded, group_of, has_members, holds_of, is_among, is_mounted, is_shared, length-map, list_all, list_all-append, list_any, list_any-append, lookup, map-append, map_twice, masters_with, mount_at, mount_lives, mount_numbered, mount_tree, or_left, or_parts, parts_of, rest_of, settled, some_from_is_some, take-append_seam, tree_from, type_at, type_on_shared, with_mount}
 use Rattle.std.proofs.lemmas.List.{drop-map}
 use Rattle.vt_spec.specs.Machine.Mounts as meant
-use Rattle.vt_mounting.proofs.Common.{Among, AttachesBy, Exchanges, Filesystems, Grouping, Grows, Has, IsHeld, IsUnderWay, KeepsTo, MountEntry, MovesOnce, OneNumberAMount, Shown, WorldValue, all_from_among, among-from_map, among-map, among_from_all, any-map, are_ascending, counted, counts_from, in_use_of, is_among_numbers, is_counted_before, location_of, master_in, mount_of, mounts_entered, mounts_in, mounts_of_worlds_stand, moved_by, new_group, none_passes, numbers_at, numbers_of, one_number_by_numbers, overlays_seen, parts_apart, passes, planned_copies, typed, world_of, worlds_are_in_use}
+use Rattle.vt_mounting.proofs.Common.{Among, AttachesBy, Exchanges, Filesystems, Grouping, Grows, Has, IsHeld, IsUnderWay, KeepsTo, MountEntry, MovesOnce, OneNumberAMount, Shown, WorldValue, all_from_among, all_in_use, among-from_map, among-map, among_from_all, among_from_list_all, any-map, are_ascending, counted, counts_from, in_use_of, is_among_numbers, is_counted_before, location_of, master_in, mount_of, mounts_entered, mounts_in, mounts_of_worlds_stand, moved_by, new_group, none_from_among, numbers_at, numbers_of, one_number_by_numbers, overlays_seen, parts_apart, planned_copies, typed, world_of}
 use Rattle.vt_laws_mounts.proofs.counts.using.MountRoots as Roots
 use Rattle.vt_location.specs.declared.mounts.Mount.{Mount}
 use Rattle.vt_laws_mounts.proofs.moves.MovingRoots.{tree_placed}
@@ -36,7 +36,7 @@ use Rattle.vt_mounting.proofs.attach.AttachedCounts.{lower_numbers}
 use Rattle.vt_mounting.proofs.attach.Binding.{group_there, is_seen, same_base}
 use Rattle.vt_mounting.proofs.attach.EnteringLemmas.{apart}
 use Rattle.vt_mounting.proofs.attach.FormedGroups.{formed_groups_begin, groups_of_copies_are_named}
-use Rattle.vt_mounting.proofs.attach.Beside.{beside as is_beside}
+use Rattle.vt_mounting.proofs.attach.Beside.{is_beside}
 use Rattle.vt_mounting.proofs.attach.GraftedDone.{IsEntered, counts_then, from_base, grafted_value, overlays_same, own_then, same_numbers}
 use Rattle.vt_mounting.proofs.attach.GraftedUses.{after, changed_at, exchanged_then, gained_there}
 use Rattle.vt_mounting.proofs.attach.GrownGroups.{ascending_rises}
@@ -359,7 +359,7 @@ module _ (value : WorldValue) (whole : IsHeld value) (name : TaskName) (number :
     others_kinds : (mount : meant.Mount ℕ) → Among mount (map mount_of come)
         → list_any (λ (kind : Kind). nat_eq mount.number kind.0) (map type_of own) ≡ false
     others_kinds mount m = kinds_apart mount.number own
-        (none_passes (λ (b : meant.Mount ℕ). nat_eq mount.number b.number) own (λ b n.
+        (none_from_among (λ (b : meant.Mount ℕ). nat_eq mount.number b.number) own (λ b n.
         let from = own_number b n in
         let less = apart (mounts_in value.mounts) (map mount_of come) rising from.0 mount (tree_among from.0 from.1) m
         in
@@ -498,7 +498,7 @@ module _ (value : WorldValue) (whole : IsHeld value) (name : TaskName) (number :
     living_is = subst (λ (w : World ℕ). in_use_of w ≡ w) moved_is
         (subst (λ list. in_use_of (attach nat_eq world (counts_from value.next) place true list)
         ≡ attach nat_eq world (counts_from value.next) place true list) tree_list
-        (living_moved world (worlds_are_in_use world whole.in_world) (mounts_of_worlds_stand world whole.in_world)
+        (living_moved world (all_in_use world whole.in_world) (mounts_of_worlds_stand world whole.in_world)
         (Roots.locations_of_worlds_stand world whole.in_world)
         (copies_from nat_eq (counts_from value.next) (parts_of nat_eq world place)
         (mount_of first ∷ map mount_of others)) place (ap is_some may.destination.own) (mount_of first)
@@ -508,7 +508,7 @@ module _ (value : WorldValue) (whole : IsHeld value) (name : TaskName) (number :
     lives = subst (λ (w : World ℕ). list_all (mount_lives nat_eq w) w.mounts ≡ true) moved_is
         (subst (λ list. list_all (mount_lives nat_eq (attach nat_eq world (counts_from value.next) place true list))
         (attach nat_eq world (counts_from value.next) place true list).mounts ≡ true) tree_list
-        (mounts_live world (worlds_are_in_use world whole.in_world) (mounts_of_worlds_stand world whole.in_world)
+        (mounts_live world (all_in_use world whole.in_world) (mounts_of_worlds_stand world whole.in_world)
         (Roots.locations_of_worlds_stand world whole.in_world)
         (copies_from nat_eq (counts_from value.next) (parts_of nat_eq world place)
         (mount_of first ∷ map mount_of others)) place (ap is_some may.destination.own) (mount_of first)
@@ -529,7 +529,8 @@ module _ (value : WorldValue) (whole : IsHeld value) (name : TaskName) (number :
 
     has_settled : Has (settled nat_eq then_world) groups
     has_settled = settled_has then_world groups has_then (λ mount m dead.
-        absurd (true≢false (sym (passes (mount_lives nat_eq then_world) then_world.mounts lives mount m) ∙ dead)))
+        absurd (true≢false
+        (sym (among_from_list_all (mount_lives nat_eq then_world) then_world.mounts lives mount m) ∙ dead)))
 
     -- what is counted
 

@@ -6,7 +6,7 @@ use Rattle.vt_mounting.proofs.Common.{MountEntry, changed, counted, location_of,
 use Rattle.vt_spec.specs.Machine.Mounts as meant
 use Rattle.vt_mounting.specs.Attach.Planned.{placed_entry, with_points}
 use Rattle.vt_mounting.specs.Attach.PlannedUses.{PointsAreMoved, point_seen}
-use Rattle.vt_mounting.proofs.detach.LookLemmas.{turned}
+use Rattle.vt_mounting.proofs.detach.LookLemmas.{nat_eq_turned}
 
 abbrev at_point : List (ℕ × meant.Location ℕ) → Mount ℕ → Mount ℕ
 at_point points mount = record mount { mount_point = or_else (lookup (nat_eq mount.number) points) mount.mount_point }
@@ -40,7 +40,7 @@ points_are_moved entries (point ∷ rest) = one_placed (counted point.mount.coun
     by mount (nat_eq (counted point.mount.count) mount.number) ∙ ap (λ b. record mount {
       mount_point = or_else (cond b (Some (location_of point.place))
           (lookup (nat_eq mount.number) (map point_seen rest))) mount.mount_point;
-    }) (turned (counted point.mount.count) mount.number))
+    }) (nat_eq_turned (counted point.mount.count) mount.number))
   where
     by : (mount : Mount ℕ) (b : Bool)
         → cond b (record mount { mount_point = Some (location_of point.place) }) (at_point (map point_seen rest) mount)

@@ -4,7 +4,7 @@ use Rattle.std.proofs.Common.{◌≡◌, refl, sym, ap, subst, ◌∙◌, inl, i
 use Rattle.vt_spec.proofs.Common.{Copies, Location, Mount, Twig, World, any_pair, copy_at, copy_type, first_of_list, folded, group_of, holds_of, is_top, lookup, map_alike, map_twice, mount_at, or_else, parts_of, same_Some, twig_of, type_at, with_mount}
 use Rattle.vt_mounting.proofs.Common.{Among, among-from_map, counted, graft_in, location_of, mount_of, moved_by, numbers_at}
 use Rattle.vt_location.specs.declared.mounts.Mount.{Mount as Code}
-use Rattle.vt_laws_mounts.proofs.mounts.MountsFound.{number_found}
+use Rattle.vt_laws_mounts.proofs.mounts.MountsFound.{number-mount_in}
 use Rattle.vt_propagate.specs.declared.copying.Counts.{Counts}
 use Rattle.vt_propagate.specs.declared.copying.Graft.{Graft}
 use Rattle.vt_mounting.specs.Attach.AttachedGroups.{type_of}
@@ -98,7 +98,7 @@ module _ (world : World ℕ) (graft : Graft) (counts : Counts) (first : Code) (o
       (group_of (mount_at nat_eq world (location_of graft.place)).propagation)) (map mount_of graft.tree.now))
 
   at_there : nat_eq dest.number place.mount ≡ true
-  at_there = eq-eqb dest.number place.mount (number_found world.mounts place.mount)
+  at_there = eq-eqb dest.number place.mount (number-mount_in world.mounts place.mount)
 
   abbrev place_then : Bool → Mount ℕ → Location ℕ
   place_then b mount = if b then record {
@@ -170,7 +170,7 @@ module _ (world : World ℕ) (graft : Graft) (counts : Counts) (first : Code) (o
     point_then : (mount : Mount ℕ) → is_some mount.mount_point ≡ true → (b : Bool)
         → Some (place_then b mount) ≡ or_else (cond b (Some (location_of graft.place)) None) mount.mount_point
     point_then mount some true = λ i. Some
-        (record { mount = number_found world.mounts place.mount i; node = place.node })
+        (record { mount = number-mount_in world.mounts place.mount i; node = place.node })
     point_then mount some false = by mount.mount_point some
       where
         by : (o : Option (Location ℕ)) → is_some o ≡ true → Some (unwrap_or (option_map

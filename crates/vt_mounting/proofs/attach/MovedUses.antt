@@ -2,12 +2,12 @@
 use Rattle.std.proofs.Common.{◌≡◌, ◌≤◌, refl, sym, ap, subst, ◌∙◌, ⊎_elim, inl, inr, ℕ, ◌+◌, nat_eq, eqb-true, Bool, true, false, cond, ◌&&◌, List, [], ◌∷◌, ◌++◌, map, arith}
 use Rattle.vt_spec.proofs.Common.{Descriptor, Location, Mount, World, all_locations, any_pair, is_among, list_any, locations_of, map-append, map_alike, map_twice, or_parts}
 use Rattle.vt_laws_mounts.proofs.counts.using.MountRoots as Roots
-use Rattle.vt_mounting.proofs.Common.{Among, CountsItsUses, IsHeld, MountEntry, OneNumberAMount, Tasks, WorldValue, among-append, among-append_right, among-from_map, among-map, among_from_all, among_numbers, changed, fails, held, locations_in, mount_of, mount_uses, mounts_in, one_if, passes, released, times, times_append, world_of, writes_of, writes_on}
+use Rattle.vt_mounting.proofs.Common.{Among, CountsItsUses, IsHeld, MountEntry, OneNumberAMount, Tasks, WorldValue, among-append, among-append_right, among-from_map, among-map, among_from_all, among_from_list_all, among_numbers, changed, held, locations_in, mount_of, mount_uses, mounts_in, none_among, one_if, released, times, times_append, world_of, writes_of, writes_on}
 use Rattle.vt_location.specs.declared.mounts.Mount.{Mount as Attached}
 use Rattle.vt_mounting.specs.Attach.Copying.{with_use_moved}
 use Rattle.vt_mounting.specs.Detach.Uses.{unused_entry}
 use Rattle.vt_mounting.proofs.attach.AddedBegins.{IsAdded}
-use Rattle.vt_mounting.proofs.detach.Moving.{swap_eq}
+use Rattle.vt_mounting.proofs.detach.Moving.{nat_eq_turned}
 
 -- One use goes from a mount to another
 
@@ -76,7 +76,8 @@ entry_is_moved from to was some = by (nat_eq from to) refl
       uses = ap (λ k. was.uses + one_if (nat_eq n k)) (eqb-true from to e);
       writers = refl;
     }
-    by false e = two (nat_eq to n) (nat_eq from n) refl refl (ap one_if (swap_eq n from)) (ap one_if (swap_eq n to))
+    by false e = two (nat_eq to n) (nat_eq from n) refl refl (ap one_if (nat_eq_turned n from))
+        (ap one_if (nat_eq_turned n to))
 
 -- Mounts that nothing is on
 
@@ -86,8 +87,8 @@ apart_from [] ys one x y m n = absurd m
 apart_from (first ∷ xs) ys one x y m n =
     let parts = or_parts (list_any (λ b. nat_eq first.number b.number) (xs ++ ys))
     (any_pair (λ (a b : Mount ℕ). nat_eq a.number b.number) (xs ++ ys)) one in
-    ⊎_elim (λ same. ap (λ (z : Mount ℕ). nat_eq y.number z.number) same ∙ swap_eq y.number first.number
-    ∙ fails (λ b. nat_eq first.number b.number) (xs ++ ys) parts.0 y (among-append_right xs ys y n))
+    ⊎_elim (λ same. ap (λ (z : Mount ℕ). nat_eq y.number z.number) same ∙ nat_eq_turned y.number first.number
+    ∙ none_among (λ b. nat_eq first.number b.number) (xs ++ ys) parts.0 y (among-append_right xs ys y n))
     (λ later. apart_from xs ys parts.1 x y later n) m
 
 none_on : (n : ℕ) (locations : List (Location ℕ))
@@ -150,7 +151,7 @@ module _ (value : WorldValue) (whole : IsHeld value) (copies : List Attached) (t
       let from = among-from_map unused_entry copies entry new in
       let none : mount_uses world (mount_of from.0).number
       ≡ 0 = none_on (mount_of from.0).number (all_locations world) (λ location n.
-      let there = passes (λ (l : Location ℕ). is_among nat_eq l.mount (map (λ x. x.number) world.mounts))
+      let there = among_from_list_all (λ (l : Location ℕ). is_among nat_eq l.mount (map (λ x. x.number) world.mounts))
       (all_locations world) (Roots.locations_of_worlds_stand world whole.in_world) location n in
       let mount = among-from_map (λ (x : Mount ℕ). x.number) world.mounts location.mount
       (among_numbers location.mount (map (λ (x : Mount ℕ). x.number) world.mounts) there) in

@@ -2,7 +2,7 @@
 -- their numbers behind all mounts.
 use Rattle.std.proofs.Common.{◌≡◌, ◌<◌, refl, sym, ap, subst, ◌∙◌, ℕ, ◌+◌, ◌*◌, nat_eq, Bool, true, false, ◌&&◌, ◌||◌, List, [], ◌∷◌, ◌++◌, map, filter, length, arith, flat_map, if◌then◌else◌, nat_lt, ltb-true, ne_eqb}
 use Rattle.vt_spec.proofs.Common.{Mount, World, and_parts, copies_at, copy_at, group_of, index_of, length-map, list_all, list_any, map_twice, mount_at, or_parts, parts_of, receivers_of, rest_of, takes_part, twig_of}
-use Rattle.vt_mounting.proofs.Common.{Among, OneNumberAMount, among-from_flat_map, among-from_map, are_ascending, counted, flat_map_alike, graft_in, location_of, mount_of, none_passes, numbers_at, parts_apart, passes}
+use Rattle.vt_mounting.proofs.Common.{Among, OneNumberAMount, among-from_flat_map, among-from_map, among_from_list_all, are_ascending, counted, flat_map_alike, graft_in, location_of, mount_of, none_from_among, numbers_at, parts_apart}
 use Rattle.vt_propagate.specs.declared.copying.Counts.{Counts}
 use Rattle.vt_propagate.specs.declared.copying.Graft.{Graft}
 use Rattle.vt_propagate.proofs.Pushed.{receivers_apart}
@@ -14,10 +14,10 @@ pub ascending_once : (mounts : List (Mount ℕ)) → are_ascending mounts ≡ tr
 ascending_once [] rising = refl
 ascending_once (first ∷ rest) rising =
     let parts = and_parts (list_all (λ (later : Mount ℕ). nat_lt first.number later.number) rest) _ rising in
-    λ i. none_passes (λ (later : Mount ℕ). nat_eq first.number later.number) rest (λ later m.
+    λ i. none_from_among (λ (later : Mount ℕ). nat_eq first.number later.number) rest (λ later m.
     ne_eqb first.number later.number (λ same.
     let less = ltb-true first.number later.number
-    (passes (λ (x : Mount ℕ). nat_lt first.number x.number) rest parts.0 later m) in
+    (among_from_list_all (λ (x : Mount ℕ). nat_lt first.number x.number) rest parts.0 later m) in
     absurd (omega (arith, less, same)))) i || ascending_once rest parts.1 i
 
 -- the copies at all parts but the first

@@ -2,7 +2,7 @@
 use Rattle.std.proofs.Common.{◌≡◌, ◌⊎◌, refl, sym, ap, subst, ◌∙◌, inl, inr, ⊎_elim, ℕ, ◌<◌, ◌+◌, ◌*◌, nat_eq, eq-eqb, lt-ltb, nat_lt, Bool, true, false, cond, not, ◌&&◌, ◌||◌, List, [], ◌∷◌, ◌++◌, map, filter, find, flat_map, Option, Some, None, is_some, option_map, arith, All, filter_map, option_to_list, unwrap_or, le-ltb, ne_eqb}
 use Rattle.vt_spec.proofs.Common.{All-head, All-tail, Filesystem, Fresh, IsWorld, Layer, Location, MountFlags, Overlay, TaskName, ToMountPlain, World, all_locations, and_parts, attach, filesystem_numbered, group_of, has_its_root, has_layer_on, is_among, is_directory_at, is_directory_node, is_directory_under, is_located_well, is_overlay, is_plain_layer, layers_in, layers_of, list_all, list_all-append, list_any, located_in, map-append, mount_at, mount_in, mounted, named_in, new_mount, new_plain, no_filesystem, objects_of_overlay, odds, of_overlay, overlay_or, parts_of, plain_filesystem, receivers, receivers_of, receives, root_attr, takes_part, used_in}
 use Rattle.vt_spec.specs.Machine.Mounts as meant
-use Rattle.vt_mounting.proofs.Common.{Among, CountsItsMounts, FilesystemEntry, Filesystems, InodesInUse, IsCounted, IsHeld, IsNew, OverlaysHaveNoUpper, WorldValue, all_from_among, all_pass, among-append, among-append_left, among-append_right, among-filter_map, among-from_filter, among-from_map, among_from_all, among_numbers, are_rising, counted, directory_there, fails, filesystem_seen, filesystems_seen, filter_alike, found_filesystem, found_itself, handed_from, inode_number, inodes_seen, is_inode_used, is_on, layer_count, layers_among, mounts_in, mounts_of_worlds_stand, mounts_showing, no_upper_is_in_any, none_passes, overlays_seen, passes, places_of, put_in, times, times_append, uses_are_exchanged_beside_overlays, world_of, worlds_are_in_use, worlds_have_trees, woven}
+use Rattle.vt_mounting.proofs.Common.{Among, CountsItsMounts, FilesystemEntry, Filesystems, InodesInUse, IsCounted, IsHeld, IsNew, OverlaysHaveNoUpper, WorldValue, all_from_among, all_in_use, among-append, among-append_left, among-append_right, among-filter_map, among-from_filter, among-from_map, among_from_all, among_from_list_all, among_numbers, are_rising, counted, directory_is_there, filesystem_seen, filesystems_seen, filter_alike, found_filesystem, found_itself, handed_from, inode_number, inodes_seen, is_inode_used, is_on, layer_count, layers_among, list_all_from_among, mounts_in, mounts_of_worlds_stand, mounts_showing, no_upper_is_in_any, none_among, none_from_among, overlays_seen, places_of, put_in, times, times_append, uses_are_exchanged_beside_overlays, world_of, worlds_have_trees, woven}
 use Rattle.vt_laws_mounts.specs.Counts.Using.{is_outside, one_counted}
 use Rattle.vt_laws_mounts.proofs.counts.overlays.FilesystemUses.{new_tree_is_counted_beside_overlays, plain_ones_use_nothing}
 use Rattle.vt_laws_mounts.proofs.counts.using.MountRoots as Roots
@@ -13,7 +13,7 @@ use Rattle.vt_laws_mounts.proofs.letting_go.Lists.{among-from_filter_map}
 use Rattle.vt_mounting.specs.Detach.Events.{Permits, left_by}
 use Rattle.vt_mounting.proofs.detach.FileEvents.{permit_fits}
 use Rattle.vt_mounting.proofs.detach.BesideOverlays.{layers_alike}
-use Rattle.vt_mounting.proofs.detach.LookLemmas.{turned}
+use Rattle.vt_mounting.proofs.detach.LookLemmas.{nat_eq_turned}
 use Rattle.vt_mounting.proofs.detach.Overlaid.{found_plain_one}
 use Rattle.vt_mounting.proofs.detach.PlainFound.{overlay_among}
 use Rattle.vt_mounting.proofs.attach.AttachedCounts.{times_none}
@@ -114,7 +114,7 @@ module _ (value : WorldValue) (whole : IsHeld value) (name : TaskName) (place : 
   pub left_attached : left_by value permits.task (ToMountPlain place flags)
       ≡ attach nat_eq middle (odds fresh) place false tree
   left_attached = new_mounts_of_trees_keep_all fresh world permits.task place flags
-      (worlds_are_in_use world whole.in_world) (mounts_of_worlds_stand world whole.in_world)
+      (all_in_use world whole.in_world) (mounts_of_worlds_stand world whole.in_world)
       (Roots.locations_of_worlds_stand world whole.in_world)
       (ap is_some (permit_fits value whole name (ToMountPlain place flags) permits).names.own)
       ∙ ap (λ filesystem. mounted nat_eq (odds fresh) world place filesystem flags) plain_is
@@ -132,9 +132,10 @@ module _ (value : WorldValue) (whole : IsHeld value) (name : TaskName) (place : 
   others_elsewhere : (other : meant.Mount ℕ) → Among other (mounts_in value.mounts)
       → nat_eq (counted value.next) other.filesystem ≡ false
   others_elsewhere other m =
-      let root = (and_parts _ _ (passes (has_its_root nat_eq world) world.mounts whole.in_world.roots other m)).0 in
+      let root = (and_parts _ _
+      (among_from_list_all (has_its_root nat_eq world) world.mounts whole.in_world.roots other m)).0 in
       let low = found_below value whole other.filesystem other.root
-      (directory_there ((filesystem_numbered nat_eq world other.filesystem).files.tree.node other.root) root) in
+      (directory_is_there ((filesystem_numbered nat_eq world other.filesystem).files.tree.node other.root) root) in
       ne_eqb (counted value.next) other.filesystem (λ same. absurd (omega (arith, low, same)))
 
   all_stand : list_all (is_on (mounts_in value.mounts)) (all_locations world ++ places_of (mounts_in value.mounts))
@@ -154,7 +155,7 @@ module _ (value : WorldValue) (whole : IsHeld value) (name : TaskName) (place : 
 
   point_on : (mount : meant.Mount ℕ) → Among mount (mounts_in value.mounts) → (location : Location ℕ)
       → mount.mount_point ≡ Some location → is_on (mounts_in value.mounts) location ≡ true
-  point_on mount m location is = passes (is_on (mounts_in value.mounts))
+  point_on mount m location is = among_from_list_all (is_on (mounts_in value.mounts))
       (all_locations world ++ places_of (mounts_in value.mounts)) all_stand location
       (among-append_right (all_locations world) (places_of (mounts_in value.mounts)) location
       (among-append_right (map (meant.root_of {N = ℕ}) (mounts_in value.mounts))
@@ -163,9 +164,9 @@ module _ (value : WorldValue) (whole : IsHeld value) (name : TaskName) (place : 
 
   all_outside : list_all (is_outside middle (counted value.next))
       (all_locations world ++ filter_map (λ (x : meant.Mount ℕ). x.mount_point) (mounts_in value.mounts)) ≡ true
-  all_outside = all_pass (is_outside middle (counted value.next))
+  all_outside = list_all_from_among (is_outside middle (counted value.next))
       (all_locations world ++ filter_map (λ (x : meant.Mount ℕ). x.mount_point) (mounts_in value.mounts)) (λ location m.
-      ⊎_elim (λ own. ap not (on_elsewhere location (passes (is_on (mounts_in value.mounts))
+      ⊎_elim (λ own. ap not (on_elsewhere location (among_from_list_all (is_on (mounts_in value.mounts))
       (all_locations world ++ places_of (mounts_in value.mounts)) all_stand location
       (among-append_left (all_locations world) (places_of (mounts_in value.mounts)) location own))))
       (λ point. let from = among-from_filter_map (λ (x : meant.Mount ℕ). x.mount_point)
@@ -175,7 +176,7 @@ module _ (value : WorldValue) (whole : IsHeld value) (name : TaskName) (place : 
 
   roots_elsewhere : list_all (λ (x : meant.Mount ℕ). not (nat_eq (counted value.next) x.filesystem)
       || nat_eq (inode_number value.next 0) x.root) (mounts_in value.mounts) ≡ true
-  roots_elsewhere = all_pass (λ (x : meant.Mount ℕ). not (nat_eq (counted value.next) x.filesystem)
+  roots_elsewhere = list_all_from_among (λ (x : meant.Mount ℕ). not (nat_eq (counted value.next) x.filesystem)
       || nat_eq (inode_number value.next 0) x.root) (mounts_in value.mounts)
       (λ x m. ap (λ b. not b || nat_eq (inode_number value.next 0) x.root) (others_elsewhere x m))
 
@@ -188,13 +189,13 @@ module _ (value : WorldValue) (whole : IsHeld value) (name : TaskName) (place : 
   files_kept : (number : ℕ) → nat_eq (counted value.next) number ≡ false
       → filesystem_numbered nat_eq middle number ≡ filesystem_numbered nat_eq world number
   files_kept number other = ap (λ found. unwrap_or found (no_filesystem number))
-      (found_before world.filesystems added number (turned number (counted value.next) ∙ other))
+      (found_before world.filesystems added number (nat_eq_turned number (counted value.next) ∙ other))
 
   roots_kept : list_all (has_its_root nat_eq middle) (mounts_in value.mounts) ≡ true
-  roots_kept = all_pass (has_its_root nat_eq middle) (mounts_in value.mounts) (λ mount m.
+  roots_kept = list_all_from_among (has_its_root nat_eq middle) (mounts_in value.mounts) (λ mount m.
       (λ i. is_directory_node ((files_kept mount.filesystem (others_elsewhere mount m) i).files.tree.node mount.root)
       && points mount m mount.mount_point refl i)
-      ∙ passes (has_its_root nat_eq world) (mounts_in value.mounts) whole.in_world.roots mount m)
+      ∙ among_from_list_all (has_its_root nat_eq world) (mounts_in value.mounts) whole.in_world.roots mount m)
     where
       points : (mount : meant.Mount ℕ) → Among mount (mounts_in value.mounts) → (o : Option (Location ℕ))
           → mount.mount_point ≡ o → list_all (is_directory_at nat_eq middle) (option_to_list o)
@@ -215,7 +216,7 @@ module _ (value : WorldValue) (whole : IsHeld value) (name : TaskName) (place : 
       (world.filesystems ++ added ∷ []) (λ f m.
       ⊎_elim (λ old. ap (λ used. list_all (λ n. is_among nat_eq n used) f.files.numbers) (used_same f)
       ∙ among_from_all (λ (g : Filesystem ℕ). list_all (is_inode_used world g) g.files.numbers ≡ true) world.filesystems
-      (worlds_are_in_use world whole.in_world).inodes f old) (λ last. ⊎_elim
+      (all_in_use world whole.in_world).inodes f old) (λ last. ⊎_elim
       (λ same. subst (λ (g : Filesystem ℕ). list_all (is_inode_used middle g) g.files.numbers ≡ true) (sym same)
       (λ i. (eq-eqb (inode_number value.next 0) (inode_number value.next 0) refl i
       || is_among nat_eq (inode_number value.next 0) (rest_used)) && true)) (λ none. absurd none) last)
@@ -247,7 +248,7 @@ module _ (value : WorldValue) (whole : IsHeld value) (name : TaskName) (place : 
     old_counted : (was : FilesystemEntry) → Among was value.filesystems
         → IsCounted middle (filesystem_numbered nat_eq middle (counted was.count)) (inodes_seen was)
     old_counted was m = uses_are_exchanged_beside_overlays world middle [] [] (counted was.count) (inodes_seen was)
-        (worlds_have_trees world whole.in_world) (worlds_are_in_use world whole.in_world).inodes
+        (worlds_have_trees world whole.in_world) (all_in_use world whole.in_world).inodes
         (no_upper_is_in_any middle (counted was.count) left_world.1)
         (plain_ones_use_nothing world middle (counted was.count) refl refl
         (overlays_before world.filesystems added refl) (files_kept (counted was.count)
@@ -260,7 +261,8 @@ module _ (value : WorldValue) (whole : IsHeld value) (name : TaskName) (place : 
     no_layer : All (λ merged. has_layer_on nat_eq (counted value.next) merged ≡ false) middle.filesystems
     no_layer =
         all_from_among (λ merged. has_layer_on nat_eq (counted value.next) merged ≡ false) middle.filesystems (λ f m.
-        ⊎_elim (λ old. none_by f.overlay (passes (of_overlay true (λ overlay. list_all (is_plain_layer nat_eq world)
+        ⊎_elim (λ old. none_by f.overlay
+        (among_from_list_all (of_overlay true (λ overlay. list_all (is_plain_layer nat_eq world)
         (layers_of overlay))) world.filesystems whole.in_world.overlays.plain_layers f old))
         (λ last. ⊎_elim (λ same. ap (has_layer_on nat_eq (counted value.next)) same) (λ none. absurd none) last)
         (among-append world.filesystems (added ∷ []) f m))
@@ -268,12 +270,12 @@ module _ (value : WorldValue) (whole : IsHeld value) (name : TaskName) (place : 
         layers_elsewhere : (layers : List (Layer ℕ)) → list_all (is_plain_layer nat_eq world) layers ≡ true
             → list_any (λ (layer : Layer ℕ). nat_eq (counted value.next) layer.filesystem) layers ≡ false
         layers_elsewhere layers plain =
-            none_passes (λ (layer : Layer ℕ). nat_eq (counted value.next) layer.filesystem) layers (λ layer m.
+            none_from_among (λ (layer : Layer ℕ). nat_eq (counted value.next) layer.filesystem) layers (λ layer m.
             let low = found_below value whole layer.filesystem layer.directory
-            (directory_there ((filesystem_numbered nat_eq world layer.filesystem).files.tree.node layer.directory)
+            (directory_is_there ((filesystem_numbered nat_eq world layer.filesystem).files.tree.node layer.directory)
             (and_parts (not (is_overlay (filesystem_numbered nat_eq world layer.filesystem)))
             (is_directory_node ((filesystem_numbered nat_eq world layer.filesystem).files.tree.node layer.directory))
-            (passes (is_plain_layer nat_eq world) layers plain layer m)).1) in
+            (among_from_list_all (is_plain_layer nat_eq world) layers plain layer m)).1) in
             ne_eqb (counted value.next) layer.filesystem (λ same. absurd (omega (arith, low, same))))
 
         none_by : (o : Option (Overlay ℕ))
@@ -297,7 +299,7 @@ module _ (value : WorldValue) (whole : IsHeld value) (name : TaskName) (place : 
         none_of f none None is = refl
         none_of f none (Some overlay) is =
             times_none (λ (layer : Layer ℕ). nat_eq (counted value.next) layer.filesystem) (layers_of overlay)
-            (fails (λ (layer : Layer ℕ). nat_eq (counted value.next) layer.filesystem) (layers_of overlay)
+            (none_among (λ (layer : Layer ℕ). nat_eq (counted value.next) layer.filesystem) (layers_of overlay)
             (ap (overlay_or false (λ other. list_any (λ (layer : Layer ℕ). nat_eq (counted value.next) layer.filesystem)
             (layers_of other))) (sym is) ∙ none))
 
@@ -313,7 +315,7 @@ module _ (value : WorldValue) (whole : IsHeld value) (name : TaskName) (place : 
 
     -- all others have lower numbers
     all_lower : list_all (λ (f : Filesystem ℕ). nat_lt f.number added.number) world.filesystems ≡ true
-    all_lower = all_pass (λ (f : Filesystem ℕ). nat_lt f.number (counted value.next)) world.filesystems
+    all_lower = list_all_from_among (λ (f : Filesystem ℕ). nat_lt f.number (counted value.next)) world.filesystems
         (λ f m. lt-ltb f.number (counted value.next) (number_below value whole f m))
 
     new_counted : IsCounted middle (filesystem_numbered nat_eq middle (counted entry.count)) (inodes_seen entry)

@@ -2,7 +2,7 @@
 use Rattle.std.proofs.Common.{◌≡◌, refl, sym, ap, subst, ◌∙◌, inl, ⊎_elim, ℕ, ◌<◌, ◌%◌, ◌/◌, ◌==◌, nat_eq, eq-eqb, eqb-true, lt-ltb, nat_lt, Bool, true, false, true≢false, cond, not, ◌&&◌, ◌||◌, List, [], ◌∷◌, ◌++◌, map, flat_map, Some, None, is_some, arith, All, ltb-true, ne_eqb}
 use Rattle.vt_spec.proofs.Common.{Filesystem, Inodes, IsTree, Namespace, and_true_left, and_true_right, filesystem_numbered, list_all, list_all_from_among, root_attr, used_by_filesystem, used_by_mount}
 use Rattle.vt_laws_mounts.specs.Counts.Using.{root_counted}
-use Rattle.vt_mounting.proofs.Common.{Among, FilesystemEntry, Filesystems, HasOwnInodes, HasOwnNodes, IsHeld, IsNew, WorldValue, all_from_among, among-append, among-append_left, among-append_right, among-flat_map, among_from_all, counted, directory_there, filesystem_seen, inode_number, inodes_seen, is_among_numbers, is_counted_before, is_own_number, leaves_two, number_numbered, numbered_all, used_numbers_are_named, world_of}
+use Rattle.vt_mounting.proofs.Common.{Among, FilesystemEntry, Filesystems, HasOwnInodes, HasOwnNodes, IsHeld, IsNew, WorldValue, all_from_among, among-append, among-append_left, among-append_right, among-flat_map, among_from_all, counted, directory_is_there, filesystem_seen, inode_number, inodes_seen, is_among_numbers, is_counted_before, is_own_number, leaves_two, number_numbered, numbered_all, used_numbers_are_named, world_of}
 use Rattle.vt_fs.specs.FilesystemsValue.{without}
 use Rattle.vt_laws_mounts.proofs.letting_go.Lists.{filter_here, filter_skip}
 use Rattle.vt_location.proofs.NumberLemmas.{is_own}
@@ -51,7 +51,7 @@ pub number_below : (value : WorldValue) → IsHeld value → (filesystem : Files
     → Among filesystem (world_of value).filesystems → filesystem.number < counted value.next
 number_below value whole filesystem m =
     let root = among_from_all HasOwnNodes (world_of value).filesystems (own_nodes value whole) filesystem m
-    filesystem.files.tree.root (directory_there (filesystem.files.tree.node filesystem.files.tree.root)
+    filesystem.files.tree.root (directory_is_there (filesystem.files.tree.node filesystem.files.tree.root)
     (among_from_all (λ (f : Filesystem ℕ). IsTree f.files.tree) (world_of value).filesystems
     whole.in_world.files.trees filesystem m).root_directory) in
     let number = root.2 in

@@ -18,7 +18,7 @@ use Rattle.vt_mounting.specs.Attach.PlannedUses.{point_seen}
 use Rattle.vt_mounting.proofs.attach.AttachedCounts.{lower_numbers}
 use Rattle.vt_mounting.proofs.attach.Binding.{is_seen}
 use Rattle.vt_mounting.proofs.attach.CopiesAscend.{planned_ascend}
-use Rattle.vt_mounting.proofs.attach.Beside.{beside}
+use Rattle.vt_mounting.proofs.attach.Beside.{is_beside}
 use Rattle.vt_mounting.proofs.attach.GraftedDone.{graft_is_done, grafted_value, plan_attaches, with_base}
 use Rattle.vt_mounting.proofs.attach.NewBase.{base_is, destination_there, left_attached, new_base, plain_is, same_parts, takes}
 use Rattle.vt_mounting.proofs.attach.NumbersByParts.{new_mounts_keep_to_numbers}
@@ -129,7 +129,8 @@ module _ (value : WorldValue) (whole : IsHeld value) (name : TaskName) (graft : 
           (new_mount (counted value.next) (inode_number value.next 0) flags ∷ []))
           (base_is value whole name place flags permits entry is_new)
           ∙ ap (λ list. attach nat_eq (with_base value base) (odds fresh) place false list) (sym tree_is) ∙ attach_is in
-          graft_is_done value (beside value whole) base (new_base value whole name place flags permits entry is_new small) graft counts
+          graft_is_done value (is_beside value whole) base
+          (new_base value whole name place flags permits entry is_new small) graft counts
           mounts groups filesystems overlays next is attaches groups_there
           rising whole name permit permits (takes value whole name place flags permits) left_is
           (subst (λ n. KeepsTo (is_counted_before n) (left_by value permits.task permit))

@@ -2,12 +2,12 @@
 use Rattle.std.proofs.Common.{◌≡◌, ◌≤◌, ◌<◌, refl, sym, ap, subst, ◌∙◌, ⊎_elim, ℕ, nat_eq, nat_lt, lt-ltb, true, List, [], ◌∷◌, ◌++◌, length, arith, All, ne_eqb}
 use Rattle.vt_spec.proofs.Common.{Filesystem, and_parts, filesystem_numbered, has_its_root, is_overlay, map-append}
 use Rattle.vt_spec.specs.Machine.Mounts as meant
-use Rattle.vt_mounting.proofs.Common.{AreLayers, CountsItsUses, CountsWhatIsInIt, Filesystems, HasOwnNodes, IsHeld, IsMountedSoOften, OverlayEntry, WorldValue, all_from_among, all_pass, among-append, among_from_all, are_rising, counted, directory_there, mounts_in, mounts_showing, overlay_of_store, overlay_seen, overlays_seen, passes, world_of}
+use Rattle.vt_mounting.proofs.Common.{AreLayers, CountsItsUses, CountsWhatIsInIt, Filesystems, HasOwnNodes, IsHeld, IsMountedSoOften, OverlayEntry, WorldValue, all_from_among, among-append, among_from_all, among_from_list_all, are_rising, counted, directory_is_there, list_all_from_among, mounts_in, mounts_showing, overlay_of_store, overlay_seen, overlays_seen, world_of}
 use Rattle.vt_store.specs.OverlaysValue as stored
 use Rattle.vt_mounting.proofs.detach.Grouped.{same_has}
 use Rattle.vt_mounting.proofs.detach.PlainFound.{overlay_among}
 use Rattle.vt_mounting.proofs.attach.AttachedCounts.{times_none}
-use Rattle.vt_mounting.proofs.attach.Beside.{IsBeside, IsReadOnly, beside}
+use Rattle.vt_mounting.proofs.attach.Beside.{IsBeside, IsReadOnly, is_beside}
 use Rattle.vt_mounting.proofs.attach.NewBase.{rising_last}
 use Rattle.vt_mounting.proofs.attach.NewFilesystems.{found_below, number_below}
 use Rattle.vt_mounting.proofs.attach.OverlayNodes.{new_overlay_has_own}
@@ -17,10 +17,10 @@ pub next_is_shown_by_none : (value : WorldValue) → IsHeld value → mounts_sho
 next_is_shown_by_none value whole =
     times_none (λ (mount : meant.Mount ℕ). nat_eq (counted value.next) mount.filesystem) (mounts_in value.mounts)
     (λ mount m.
-    let root = (and_parts _ _ (passes (has_its_root nat_eq (world_of value)) (world_of value).mounts
+    let root = (and_parts _ _ (among_from_list_all (has_its_root nat_eq (world_of value)) (world_of value).mounts
     whole.in_world.roots mount m)).0 in
     let low = found_below value whole mount.filesystem mount.root
-    (directory_there ((filesystem_numbered nat_eq (world_of value) mount.filesystem).files.tree.node mount.root)
+    (directory_is_there ((filesystem_numbered nat_eq (world_of value) mount.filesystem).files.tree.node mount.root)
     root) in
     ne_eqb (counted value.next) mount.filesystem (λ same. absurd (omega (arith, low, same))))
 
@@ -51,13 +51,14 @@ module _ (value : WorldValue) (whole : IsHeld value) (trees : Filesystems) (entr
   rises : are_rising (overlays_seen (value.overlays ++ over ∷ [])) ≡ true
   rises = ap are_rising seen_last
       ∙ rising_last (overlays_seen value.overlays) (overlay_seen over) whole.overlays.overlays_rise
-      (all_pass (λ (f : Filesystem ℕ). nat_lt f.number (counted entry.count)) (overlays_seen value.overlays) (λ f m.
+      (list_all_from_among (λ (f : Filesystem ℕ). nat_lt f.number (counted entry.count))
+      (overlays_seen value.overlays) (λ f m.
       let low = number_below value whole f (overlay_among value whole.overlays f m).0 in
       ap (λ n. nat_lt f.number (counted n)) count_is ∙ lt-ltb f.number (counted value.next) low))
 
   pub new_is_beside : IsBeside with_new_overlay
   new_is_beside =
-      let was = beside value whole in record {
+      let was = is_beside value whole in record {
         mounts_stand = record {
           one_number = was.mounts_stand.one_number;
           nowhere = was.mounts_stand.nowhere;

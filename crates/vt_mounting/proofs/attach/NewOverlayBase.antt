@@ -2,7 +2,7 @@
 -- counted, and all filesystems stand in the order of their numbers.
 use Rattle.std.proofs.Common.{◌≡◌, sym, ap, subst, ◌∙◌, ℕ, nat_eq, nat_lt, lt-ltb, true, List, [], ◌∷◌, ◌++◌, map, arith, All}
 use Rattle.vt_spec.proofs.Common.{Filesystem, World, filesystem_numbered}
-use Rattle.vt_mounting.proofs.Common.{Among, AreLayers, FilesystemEntry, Filesystems, HasOwnInodes, Inode, IsCounted, IsHeld, Shown, WorldValue, all_from_among, all_pass, among-from_map, among-map, among_from_all, any_same_worlds_count_alike, are_rising, counted, exchanged, filesystems_seen, inodes_seen, overlay_of_store, overlay_seen, overlays_seen, shown, shown_entry, world_of, woven}
+use Rattle.vt_mounting.proofs.Common.{Among, AreLayers, FilesystemEntry, Filesystems, HasOwnInodes, Inode, IsCounted, IsHeld, Shown, WorldValue, all_from_among, among-from_map, among-map, among_from_all, any_same_worlds_count_alike, are_rising, counted, exchanged, filesystems_seen, inodes_seen, list_all_from_among, overlay_of_store, overlay_seen, overlays_seen, shown, shown_entry, world_of, woven}
 use Rattle.vt_store.specs.OverlaysValue as stored
 use Rattle.vt_mounting.specs.Detach.Stored.{layer_of}
 use Rattle.vt_mounting.proofs.detach.Finishing.{own_exchanged}
@@ -64,6 +64,7 @@ module _ (value : WorldValue) (whole : IsHeld value) (base : Filesystems) (entry
   rising_when_held = same_files_rise (overlay_last value base entry).filesystems over_base.filesystems
       (same_with_layers_held value whole base entry layers count_is held).filesystems
       (rising_last (world_of value).filesystems (overlay_seen (overlay_of_store base entry)) whole.overlays.all_rise
-      (all_pass (λ (f : Filesystem ℕ). nat_lt f.number (counted entry.count)) (world_of value).filesystems (λ f m.
+      (list_all_from_among (λ (f : Filesystem ℕ). nat_lt f.number (counted entry.count)) (world_of value).filesystems
+      (λ f m.
       let low = number_below value whole f m in
       lt-ltb f.number (counted entry.count) (omega (arith, low, count_is)))))

@@ -2,7 +2,7 @@
 use Rattle.std.proofs.Common.{◌≡◌, ◌≤◌, ◌<◌, refl, sym, ap, subst, ◌∙◌, inl, ⊎_elim, ℕ, ◌+◌, ◌*◌, ◌%◌, ◌==◌, nat_eq, true, false, true≢false, not, ◌&&◌, List, [], ◌∷◌, ◌++◌, map, filter, length, is_some, None, arith, All}
 use Rattle.vt_spec.proofs.Common.{Filesystem, Fresh, IsTree, IsWorld, Location, MountFlags, Overlay, Permit, SameFilesystem, SameFilesystems, SameWorlds, Task, ToMountOverlay, World, among_from_contains, and_parts, attach, attached_at, copies_from, folded, graft_of, group_of, inode_count, is_overlay, length-map, list_all, map-append, masters_with, mount_at, new_mount, odds, parts_of, receivers_of, takes_part}
 use Rattle.vt_spec.specs.Machine.Mounts as meant
-use Rattle.vt_mounting.proofs.Common.{Among, AttachesBy, Filesystems, Grouping, HasOwnNodes, IsGivenToTask, IsHeld, IsSeen, KeepsTo, MountEntry, OneNumberAMount, OverlayValue, OverlaysAreNamed, ShowsLayers, WorldValue, WritersHaveLayers, alike_from_same, among-append, among-append_right, among-from_filter, among_from_all, any_same_worlds_are_worlds, are_ascending, counted, counted_later, counts_from, directory_there, filesystems_seen, found_same, has_only_named, is_counted_before, location_named, location_of, master_in, mount_of, mounts_in, new_group, overlay_of_store, overlay_seen, overlays_seen, parts_apart, planned_copies, same_worlds_have_layers_alike, sameness_is_an_equivalence, shown, with_layers, world_of, worlds_have_trees, woven}
+use Rattle.vt_mounting.proofs.Common.{Among, AttachesBy, Filesystems, Grouping, HasOwnNodes, IsGivenToTask, IsHeld, IsSeen, KeepsTo, MountEntry, OneNumberAMount, OverlayValue, OverlaysAreNamed, ShowsLayers, WorldValue, WritersHaveLayers, alike_from_same, among-append, among-append_right, among-from_filter, among_from_all, any_same_worlds_are_worlds, are_ascending, counted, counted_later, counts_from, directory_is_there, filesystems_seen, found_same, has_only_named, is_counted_before, location_named, location_of, master_in, mount_of, mounts_in, new_group, overlay_of_store, overlay_seen, overlays_seen, parts_apart, planned_copies, same_worlds_have_layers_alike, sameness_is_an_equivalence, shown, with_layers, world_of, worlds_have_trees, woven}
 use Rattle.vt_laws_worlds.proofs.given.left.Permits.{given_permits_leave_every_world}
 use Rattle.vt_world.proofs.overlays_made.Supplied.{mounts_get_counts}
 use Rattle.vt_laws_worlds.proofs.overlays_read.Kept.{permits_keep_writers}
@@ -116,8 +116,8 @@ module _ (value : WorldValue) (whole : IsHeld value) (task : Task ℕ) (graft : 
       (mounts_in value.mounts) ascending (λ mount m. subst (λ n. mount.number < counted n) (sym first)
       (let low = lower_numbers value whole odd mount m in omega (arith, low)))
 
-  pub may_mount_overlay : MayGraft value.mounts value.groups graft counts
-  may_mount_overlay = record {
+  pub may_graft : MayGraft value.mounts value.groups graft counts
+  may_graft = record {
     world = world;
     seen = is_seen value whole;
     one_child = whole.in_world.mounts.one_child;
@@ -283,7 +283,7 @@ module _ (value : WorldValue) (whole : IsHeld value) (task : Task ℕ) (graft : 
       root_named : is_counted_before value.next (overlay_of_store base entry).root ≡ true
       root_named =
           let own = among_from_all HasOwnNodes entered.filesystems own_nodes_then over over_among over.files.tree.root
-          (directory_there (over.files.tree.node over.files.tree.root)
+          (directory_is_there (over.files.tree.node over.files.tree.root)
           (among_from_all (λ (f : Filesystem ℕ). IsTree f.files.tree) entered.filesystems entered_is_world.files.trees
           over over_among).root_directory) in
           ap (is_counted_before value.next) own.3 ∙ nodes_named value.next own.0

@@ -2,7 +2,7 @@
 -- that are there, and all inodes are in use.
 use Rattle.std.proofs.Common.{◌≡◌, refl, sym, ap, ◌∙◌, ⊎_elim, ℕ, ◌+◌, nat_eq, lt-ltb, true, cond, ◌||◌, List, [], ◌∷◌, ◌++◌, map, flat_map, Option, Some, None, unwrap_or, arith, option_to_list, ltb-true, ne_eqb}
 use Rattle.vt_spec.proofs.Common.{All-weaker, Filesystem, Layer, Location, SameFilesystem, SameWorlds, World, and_from, and_parts, filesystem_numbered, has_its_root, is_among, is_directory_at, is_directory_node, layers_in, layers_of, list_all, list_any-IsPermutation, located_in, mount_at, named_in, nat_eq_turned, no_filesystem, objects_of_overlay, of_overlay, or_cases, overlay_or, used_in}
-use Rattle.vt_mounting.proofs.Common.{Among, AreLayers, CountsItsMounts, FilesystemEntry, Filesystems, Inode, InodesInUse, IsHeld, Shown, WorldValue, alike_from_same, all_pass, among_from_all, counted, directory_there, filesystems_seen, has_only_named, inode_uses, is_among_left, is_inode_used, layer_count, layer_seen, mounts_in, mounts_showing, or_first, or_second, overlay_of_store, overlay_seen, overlays_seen, passes, shown, times, world_of, worlds_are_in_use, woven}
+use Rattle.vt_mounting.proofs.Common.{Among, AreLayers, CountsItsMounts, FilesystemEntry, Filesystems, Inode, InodesInUse, IsHeld, Shown, WorldValue, alike_from_same, all_in_use, among_from_all, among_from_list_all, counted, directory_is_there, filesystems_seen, has_only_named, inode_uses, is_among_left, is_inode_used, layer_count, layer_seen, list_all_from_among, mounts_in, mounts_showing, or_left, or_right, overlay_of_store, overlay_seen, overlays_seen, shown, times, world_of, woven}
 use Rattle.vt_laws_mounts.proofs.letting_go.sweeps.UsesCounted.{used_while_counted}
 use Rattle.vt_laws_trees.proofs.runs.answered.AlikeSettled.{used_permuted}
 use Rattle.vt_laws_worlds.proofs.one_text.same.SameInvariants.{roots_keep}
@@ -107,15 +107,16 @@ module _ (value : WorldValue) (whole : IsHeld value) (base : Filesystems) (entry
       → is_directory_node ((filesystem_numbered nat_eq last number).files.tree.node inode) ≡ true
   stays number inode is =
       let low = found_below value whole number inode
-      (directory_there ((filesystem_numbered nat_eq world number).files.tree.node inode) is) in
+      (directory_is_there ((filesystem_numbered nat_eq world number).files.tree.node inode) is) in
       ap (λ (found : Option (Filesystem ℕ)).
       is_directory_node ((unwrap_or found (no_filesystem number)).files.tree.node inode))
       (found_before world.filesystems over number
       (ne_eqb number (counted entry.count) (λ same. absurd (omega (arith, low, same, count_is))))) ∙ is
 
   roots_last : list_all (has_its_root nat_eq last) (mounts_in value.mounts) ≡ true
-  roots_last = all_pass (has_its_root nat_eq last) (mounts_in value.mounts) (λ mount m.
-      let parts = and_parts _ _ (passes (has_its_root nat_eq world) (mounts_in value.mounts) whole.in_world.roots mount
+  roots_last = list_all_from_among (has_its_root nat_eq last) (mounts_in value.mounts) (λ mount m.
+      let parts = and_parts _ _
+      (among_from_list_all (has_its_root nat_eq world) (mounts_in value.mounts) whole.in_world.roots mount
       m) in
       and_from _ _ (stays mount.filesystem mount.root parts.0) (by mount.mount_point parts.1))
     where
@@ -142,15 +143,16 @@ module _ (value : WorldValue) (whole : IsHeld value) (base : Filesystems) (entry
 
   -- what has a name is used
   named_used : (f : Filesystem ℕ) → has_only_named f ≡ true → list_all (is_inode_used last f) f.files.numbers ≡ true
-  named_used f named = all_pass (is_inode_used last f) f.files.numbers (λ number m.
-      ⊎_elim (λ root. or_first (nat_eq number f.files.tree.root) (is_among nat_eq number others) root)
-      (λ name. or_second (nat_eq number f.files.tree.root) (is_among nat_eq number others)
+  named_used f named = list_all_from_among (is_inode_used last f) f.files.numbers (λ number m.
+      ⊎_elim (λ root. or_left (nat_eq number f.files.tree.root) (is_among nat_eq number others) root)
+      (λ name. or_right (nat_eq number f.files.tree.root) (is_among nat_eq number others)
       (is_among_left number (named_in f.files ++ located_in nat_eq last f.number ++ layers_in nat_eq last f.number)
       (flat_map (objects_of_overlay nat_eq f.number) last.filesystems)
       (is_among_left number (named_in f.files ++ located_in nat_eq last f.number) (layers_in nat_eq last f.number)
       (is_among_left number (named_in f.files) (located_in nat_eq last f.number) name))))
       (or_cases (nat_eq number f.files.tree.root) (is_among nat_eq number (named_in f.files))
-      (passes (λ n. nat_eq n f.files.tree.root || is_among nat_eq n (named_in f.files)) f.files.numbers named number m)))
+      (among_from_list_all (λ n. nat_eq n f.files.tree.root || is_among nat_eq n (named_in f.files)) f.files.numbers
+      named number m)))
     where
       others : List ℕ
       others = named_in f.files ++ located_in nat_eq last f.number ++ layers_in nat_eq last f.number
@@ -161,9 +163,9 @@ module _ (value : WorldValue) (whole : IsHeld value) (base : Filesystems) (entry
       all_last (λ (f : Filesystem ℕ). list_all (is_inode_used last f) f.files.numbers ≡ true) world.filesystems over
       (All-weaker (λ (f : Filesystem ℕ). list_all (is_inode_used world f) f.files.numbers ≡ true)
       (λ f. list_all (is_inode_used last f) f.files.numbers ≡ true)
-      (λ f used. all_pass (is_inode_used last f) f.files.numbers (λ number m.
-      used_still f number (passes (is_inode_used world f) f.files.numbers used number m)))
-      world.filesystems (worlds_are_in_use world whole.in_world).inodes) (named_used over named)
+      (λ f used. list_all_from_among (is_inode_used last f) f.files.numbers (λ number m.
+      used_still f number (among_from_list_all (is_inode_used world f) f.files.numbers used number m)))
+      world.filesystems (all_in_use world whole.in_world).inodes) (named_used over named)
 
   pub in_use_when_held : has_only_named (overlay_seen (overlay_of_store base entry)) ≡ true
       → InodesInUse (record (world_of value) {

@@ -1,7 +1,7 @@
 -- The uses that the layers of a new overlay are, in the code's world with that overlay, whatever mounts show.
 use Rattle.std.proofs.Common.{◌≡◌, refl, sym, ap, subst, ◌∙◌, ⊎_elim, ℕ, suc, ◌+◌, nat_eq, eqb-true, Bool, true, false, cond, not, ◌&&◌, ◌||◌, List, [], ◌∷◌, ◌++◌, map, filter, flat_map, Option, Some, is_some, unwrap_or, arith, slice_get, ne_eqb, append-nil, append_assoc}
 use Rattle.vt_spec.proofs.Common.{Filesystem, Layer, World, filesystem_numbered, folded, is_directory_node, layers_in, layers_of, located_in, map-append, map_alike, map_twice, named_in, no_filesystem, node_in, objects_of_overlay, of_overlay}
-use Rattle.vt_mounting.proofs.Common.{Among, AreLayers, AreThere, CountsItsMounts, Exchanges, FilesystemEntry, Filesystems, Inode, IsCounted, IsHeld, OverlaysHaveNoUpper, Shown, WorldValue, all_pass, among-from_map, among_from_all, counted, counted_same, directory_there, entry_of, exchanged, inode_of, inode_uses, inodes_seen, is_inode, layer_count, layer_seen, no_entry, no_upper_is_in_any, number_numbered, overlay_of_store, overlay_seen, pinned_if, times, times_append, uses_are_exchanged_beside_overlays, world_of, worlds_are_in_use, worlds_have_trees}
+use Rattle.vt_mounting.proofs.Common.{Among, AreLayers, AreThere, CountsItsMounts, Exchanges, FilesystemEntry, Filesystems, Inode, IsCounted, IsHeld, OverlaysHaveNoUpper, Shown, WorldValue, all_in_use, among-from_map, among_from_all, counted, counted_same, directory_is_there, entry_of, exchanged, inode_of, inode_uses, inodes_seen, is_inode, layer_count, layer_seen, list_all_from_among, no_entry, no_upper_is_in_any, number_numbered, overlay_of_store, overlay_seen, pinned_if, times, times_append, uses_are_exchanged_beside_overlays, world_of, worlds_have_trees}
 use Rattle.vt_overlay.specs.declared.merge.layers.LayerRef.{LayerRef}
 use Rattle.vt_store.specs.OverlaysValue as stored
 use Rattle.vt_mounting.specs.Detach.Stored.{layer_of}
@@ -171,7 +171,7 @@ module _ (value : WorldValue) (whole : IsHeld value) (base : Filesystems) (entry
   -- each layer is there
   pub layers_there : (was : FilesystemEntry) → Among was value.filesystems
       → AreThere (counted was.count) (inodes_seen was) (map layer_of entry.overlay.lowers)
-  layers_there was m = all_pass test layers (λ inode n.
+  layers_there was m = list_all_from_among test layers (λ inode n.
       let from = among-from_map layer_of entry.overlay.lowers inode n in
       ap test from.2 ∙ by from.0 from.1 (nat_eq (counted was.count) (counted from.0.directory.filesystem.count)) refl)
     where
@@ -187,7 +187,7 @@ module _ (value : WorldValue) (whole : IsHeld value) (base : Filesystems) (entry
           let same : was.count ≡ layer.directory.filesystem.count =
           counted_same was.count layer.directory.filesystem.count (eqb-true _ _ e) in
           inode_is_there ((inodes_seen was).inode (inode_of layer.directory))
-          (directory_there (node_in ((inodes_seen was).inode (inode_of layer.directory)))
+          (directory_is_there (node_in ((inodes_seen was).inode (inode_of layer.directory)))
           (ap (λ (o : Option FilesystemEntry). is_directory_node (node_in ((inodes_seen (unwrap_or o
           (no_entry layer.directory.filesystem.count))).inode (inode_of layer.directory))))
           (sym (ap (entry_of value.filesystems) (sym same)
@@ -199,7 +199,7 @@ module _ (value : WorldValue) (whole : IsHeld value) (base : Filesystems) (entry
       (exchanged (counted was.count) (map layer_of entry.overlay.lowers) [] (inodes_seen was))
   counted_with_layers was m =
       uses_are_exchanged_beside_overlays world (overlay_last value base entry) layers [] (counted was.count) (inodes_seen was)
-      (worlds_have_trees world whole.in_world) (worlds_are_in_use world whole.in_world).inodes
+      (worlds_have_trees world whole.in_world) (all_in_use world whole.in_world).inodes
       (no_upper_is_in_any (overlay_last value base entry) (counted was.count) no_upper_with_it)
       (subst (λ (list : List Inode). Exchanges list [] (counted was.count) world (overlay_last value base entry)) gained_are
       (layers_are_gained world over (map layer_seen entry.overlay.lowers) refl (λ number. refl) (counted was.count)

@@ -1,7 +1,7 @@
 -- How many mounts show overlays, as code counts them: those that come are room for, and are counted.
 use Rattle.std.proofs.Common.{◌≡◌, refl, sym, ap, subst, ◌∙◌, ℕ, ◌+◌, ◌-◌, ◌<◌, ◌≤◌, nat_eq, Bool, true, false, true≢false, cond, ◌&&◌, List, [], ◌∷◌, map, length, Option, Some, None, is_some, option_map, unwrap_or, take, get_or, arith, le-leb, leb-true, length-take-le}
 use Rattle.vt_spec.proofs.Common.{and_parts, folded, list_all}
-use Rattle.vt_mounting.proofs.Common.{OverlayValue, Overlays, StoreValue, counted, counted_test, entry_in, entry_kept, overlay_in, passes, with_mounts, with_mounts_by, with_overlay_changed}
+use Rattle.vt_mounting.proofs.Common.{OverlayValue, Overlays, StoreValue, among_from_list_all, counted, counted_test, entry_in, entry_kept, overlay_in, with_mounts, with_mounts_by, with_overlay_changed}
 use Rattle.vt_location.specs.declared.mounts.Mount.{Mount}
 use Rattle.vt_store.specs.Counts.{mounts_by, mounts_in}
 use Rattle.vt_store.specs.OverlaysValue.{OverlayEntry}
@@ -156,7 +156,7 @@ merged_room_at new all now i d less fits room so_far =
     let mount = get_or new i d in
     let number = counted mount.root.filesystem.count in
     let was = leb-true (mounts_merged number all) (most_counted - length new)
-    (passes (merged_has_room (most_counted - length new) all) new room mount (among_at new i d less)) in
+    (among_from_list_all (merged_has_room (most_counted - length new) all) new room mount (among_at new i d less)) in
     let more = merged_by_all (take i new) number all in
     let size = length-take-le i new (omega (arith, less)) in
     subst (λ later. merged_has_room (most_counted - 1) later mount ≡ true) (sym so_far)

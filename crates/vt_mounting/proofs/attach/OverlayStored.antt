@@ -1,7 +1,7 @@
 -- After the mount of an overlay a store shows its overlays as they were, and the new one as its layers showed it before.
 use Rattle.std.proofs.Common.{◌≡◌, refl, sym, ap, subst, ◌∙◌, ⊎_elim, ℕ, nat_eq, nat_lt, ltb-true, lt-ltb, Bool, true, false, true≢false, cond, not, ◌||◌, List, [], ◌∷◌, ◌++◌, filter, length, map, Option, None, is_some, arith, All, ne_eqb}
 use Rattle.vt_spec.proofs.Common.{Filesystem, Real, SameFilesystems, and_parts, any_pair, is_overlay, length_permutation, list_all, list_any, map-append, map_alike, of_overlay}
-use Rattle.vt_mounting.proofs.Common.{Among, AreLayers, Filesystems, IsHeld, IsShownAlike, OverlayEntry, OverlayValue, StoreValue, WorldValue, all_from_among, all_pass, among-append, among-map, are_rising, counted, filesystems_seen, found_by_number, found_same, inodes_stay, overlay_of_store, overlay_seen, overlays_of_store, overlays_seen, shown, with_store, world_of, woven, woven_lists_are_failing}
+use Rattle.vt_mounting.proofs.Common.{Among, AreLayers, Filesystems, IsHeld, IsShownAlike, OverlayEntry, OverlayValue, StoreValue, WorldValue, all_from_among, among-append, among-map, are_rising, counted, filesystems_seen, found_by_number, found_same, inodes_stay, list_all_from_among, overlay_of_store, overlay_seen, overlays_of_store, overlays_seen, shown, with_store, world_of, woven, woven_lists_are_failing}
 use Rattle.vt_overlay.specs.declared.merge.layers.LayerRef.{LayerRef}
 use Rattle.vt_store.specs.Laws.{IsSameLayer}
 use Rattle.vt_store.proofs.OverlaysAlike.{overlays_stay_with_layers}
@@ -131,7 +131,8 @@ module _ (base new_base : WorldValue) (old new : StoreValue) (entry : stored.Ove
       ∙ map-append overlay_seen (overlays_of_store old) (overlay_of_store old.plain entry ∷ []))
       ∙ rising_last (overlays_seen (overlays_of_store old)) (overlay_seen (overlay_of_store old.plain entry))
       held.overlays.overlays_rise
-      (all_pass (λ (f : Filesystem ℕ). nat_lt f.number (counted entry.count)) (overlays_seen (overlays_of_store old))
+      (list_all_from_among (λ (f : Filesystem ℕ). nat_lt f.number (counted entry.count))
+      (overlays_seen (overlays_of_store old))
       (λ f m.
       let low = number_below (with_store old base) held f (overlay_among (with_store old base) held.overlays f m).0 in
       lt-ltb f.number (counted entry.count) (omega (arith, low, count_is)))))

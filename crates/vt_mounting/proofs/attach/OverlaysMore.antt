@@ -2,12 +2,12 @@
 use Rattle.std.proofs.Common.{◌≡◌, refl, sym, ap, subst, ◌∙◌, inl, inr, ⊎_elim, ℕ, ◌+◌, nat_eq, eq-eqb, nat_lt, Bool, true, false, cond, ◌||◌, List, [], ◌∷◌, ◌++◌, map, filter, Option, Some, option_map, arith, All, ltb-true, ne_eqb}
 use Rattle.vt_spec.proofs.Common.{Filesystem, Mount, World, and_parts, cons_option, folded, is_mounted, is_overlay, list_all, map_alike, map_twice}
 use Rattle.std.proofs.Math.Seq.{append_snoc}
-use Rattle.vt_mounting.proofs.Common.{Among, IsHeld, IsMountedSoOften, OverlayEntry, WorldValue, all_from_among, among-append, among-from_map, among-map, among_from_all, are_rising, counted, mount_of, mounted_while_counted, mounts_showing, overlay_seen, overlays_seen, passes, times, times_append, world_of}
+use Rattle.vt_mounting.proofs.Common.{Among, IsHeld, IsMountedSoOften, OverlayEntry, WorldValue, all_from_among, among-append, among-from_map, among-map, among_from_all, among_from_list_all, are_rising, counted, mount_of, mounted_while_counted, mounts_showing, overlay_seen, overlays_seen, times, times_append, world_of}
 use Rattle.vt_location.specs.declared.mounts.Mount.{Mount as Attached}
 use Rattle.vt_mounting.specs.Detach.Uses.{Merged, merged_at, merged_by, merged_seen, overlays_kept}
 use Rattle.vt_mounting.proofs.detach.BesideOverlays.{mounted_at_first, some_of_both}
 use Rattle.vt_mounting.proofs.detach.MountsLeave.{LeavesOverlays, merged_at_first}
-use Rattle.vt_mounting.proofs.detach.Moving.{map_itself, swap_eq}
+use Rattle.vt_mounting.proofs.detach.Moving.{map_itself, nat_eq_turned}
 use Rattle.vt_mounting.proofs.detach.Overlaid.{AreStillMounted, all_shown, overlays_are}
 use Rattle.vt_mounting.proofs.detach.OverlaysGone.{layers_used, merged_in}
 
@@ -28,7 +28,7 @@ merged_by_all (copy ∷ rest) all = merged_by_all rest (merged_by all copy) ∙ 
     ∙ map_alike (λ (one : Merged). mounted_more later (step one)) (mounted_more (mount_of copy ∷ later)) all
     (λ one m. by one (nat_eq (counted copy.root.filesystem.count) one.number)
     ∙ ap (λ b. record one { mounts = one.mounts + (cond b 1 0 + showing one) })
-    (swap_eq (counted copy.root.filesystem.count) one.number))
+    (nat_eq_turned (counted copy.root.filesystem.count) one.number))
   where
     later : List (Mount ℕ)
     later = map mount_of rest
@@ -123,7 +123,8 @@ kept_more added front (entry ∷ rest) apart rising =
     ∙ kept_more added (front ++ entry ∷ []) rest (λ other m one n.
     ⊎_elim (apart other (inr m) one)
     (λ last. ⊎_elim (λ same. ap (λ (o : OverlayEntry). nat_eq other.number o.number) same
-    ∙ (let less = ltb-true entry.number other.number (passes (λ (f : Filesystem ℕ). nat_lt entry.number f.number)
+    ∙ (let less = ltb-true entry.number other.number
+    (among_from_list_all (λ (f : Filesystem ℕ). nat_lt entry.number f.number)
     (overlays_seen rest) parts.0 (overlay_seen other) (among-map overlay_seen rest other m)) in
     ne_eqb other.number entry.number (λ e. absurd (omega (arith, less, e))))) (λ none. absurd none) last)
     (among-append front (entry ∷ []) one n)) parts.1)

@@ -1,7 +1,7 @@
 -- A new overlay in a store: its layers are in use, and it comes after all others.
 use Rattle.std.proofs.Common.{◌≡◌, ◌≤◌, refl, sym, ap, ◌∙◌, ℕ, ◌+◌, nat_eq, eq-eqb, nat_lt, Bool, true, false, cond, not, ◌&&◌, List, [], ◌∷◌, ◌++◌, length, map, Option, Some, None, option_map, unwrap_or, arith, nat_le, le-leb, leb-true, ltb-true, ne_eqb}
 use Rattle.vt_spec.proofs.Common.{and_parts, folded, list_all, map_alike, pinned}
-use Rattle.vt_mounting.proofs.Common.{Inode, Overlays, Shown, StoreValue, all_pass, counted, counted_test, entry_kept, inode_of as inode_number_of, lowers_in, passes, pinned_if, shown_with, with_layers, without_overlay}
+use Rattle.vt_mounting.proofs.Common.{Inode, Overlays, Shown, StoreValue, among_from_list_all, counted, counted_test, entry_kept, inode_of as inode_number_of, list_all_from_among, lowers_in, pinned_if, shown_with, with_layers, without_overlay}
 use Rattle.vt_laws_mounts.proofs.letting_go.Lists.{filter_here, filter_skip}
 use Rattle.vt_location.specs.declared.locations.Location.{Location}
 use Rattle.vt_location.specs.declared.mounts.Mount.{Mount}
@@ -98,17 +98,18 @@ module _ (layers : List Inode) (all : List Shown) (less most : ℕ) (fits : less
   -- the copies have room with the layers,
   pub copies_fit : (copies : List Mount) → list_all (has_room less all) copies ≡ true
       → list_all (has_room most (folded with_layer all layers)) copies ≡ true
-  copies_fit copies room = all_pass (has_room most (folded with_layer all layers)) copies (λ mount m.
-      mount_fits mount (passes (has_room less all) copies room mount m))
+  copies_fit copies room = list_all_from_among (has_room most (folded with_layer all layers)) copies (λ mount m.
+      mount_fits mount (among_from_list_all (has_room less all) copies room mount m))
 
   -- and so have mount points
   pub points_fit : {A : Type 0} (place : A → Location) (points : List A)
       → list_all (λ point. point_has_room less all (Some (place point))) points ≡ true
       → list_all (λ point. point_has_room most (folded with_layer all layers) (Some (place point))) points ≡ true
   points_fit {A = A} place points room =
-      all_pass (λ (point : A). point_has_room most (folded with_layer all layers) (Some (place point))) points
+      list_all_from_among (λ (point : A). point_has_room most (folded with_layer all layers) (Some (place point)))
+      points
       (λ point m. point_fits (Some (place point))
-      (passes (λ (one : A). point_has_room less all (Some (place one))) points room point m))
+      (among_from_list_all (λ (one : A). point_has_room less all (Some (place one))) points room point m))
 
 -- Overlays
 
@@ -135,9 +136,10 @@ same_mounts number (first ∷ rest) one none = by (nat_eq number first.number) (
 pub overlays_fit : (most : ℕ) (all : List Merged) (one : Merged) → one.mounts ≡ 0 → (copies : List Mount)
     → list_all (merged_has_room most all) copies ≡ true
     → list_all (merged_has_room most (all ++ one ∷ [])) copies ≡ true
-overlays_fit most all one none copies room = all_pass (merged_has_room most (all ++ one ∷ [])) copies (λ mount m.
+overlays_fit most all one none copies room = list_all_from_among (merged_has_room most (all ++ one ∷ [])) copies
+    (λ mount m.
     ap (λ n. nat_le n most) (same_mounts (counted mount.root.filesystem.count) all one none)
-    ∙ passes (merged_has_room most all) copies room mount m)
+    ∙ among_from_list_all (merged_has_room most all) copies room mount m)
 
 -- the new one is found by its count,
 found_new : (overlays : Overlays) (entry : OverlayEntry)

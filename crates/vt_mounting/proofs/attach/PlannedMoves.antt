@@ -3,7 +3,7 @@ use Rattle.std.proofs.Common.{◌≡◌, refl, ap, subst, sym, ◌∙◌, ℕ, �
 use Rattle.vt_spec.proofs.Common.{and_parts, folded, length-map, list_all, list_all-append, pinned, take_more, uses_in, ⊤}
 use Rattle.std.proofs.lemmas.List.{flat_map_more, map_more}
 use Rattle.std.proofs.lemmas.List.Folds.{list_all_more}
-use Rattle.vt_mounting.proofs.Common.{Among, ChangesInodes, Filesystems, Inode, MountEntry, Shown, among-append_left, among-append_right, among-map, counted, entry_numbered, inodes_at, location_of, number_of, passes, shown}
+use Rattle.vt_mounting.proofs.Common.{Among, ChangesInodes, Filesystems, Inode, MountEntry, Shown, among-append_left, among-append_right, among-map, among_from_list_all, counted, entry_numbered, inodes_at, location_of, number_of, shown}
 use Rattle.vt_location.specs.declared.locations.Location.{Location}
 use Rattle.vt_location.specs.declared.mounts.Mount.{Mount}
 use Rattle.vt_mount.specs.declared.moving.Moved.{Moved}
@@ -142,7 +142,8 @@ pinned_next moved old before after i d less fits room so_far result limit ok =
     length-map (take i moved) place ∙ length-take-le i moved (omega (arith, less)) in
     let few = pin_room (taken_of (take i moved)) point old (shown before) (length moved) (omega (arith, size, less))
     fits
-    (passes (λ (other : Location). point_has_room (most_counted - length moved) old (Some other)) (taken_of moved) room
+    (among_from_list_all (λ (other : Location). point_has_room (most_counted - length moved) old (Some other))
+    (taken_of moved) room
     point (among-map place moved (get_or moved i d) (at moved i less))) so_far in
     let same = uses_are_shown node.filesystem.count (number_of node) before in
     pins node.filesystem.count (number_of node) before after (not_refused result (ChangesInodes node.filesystem.count

@@ -2,7 +2,7 @@
 -- then.
 use Rattle.std.proofs.Common.{◌≡◌, refl, sym, ap, subst, ◌∙◌, ⊎_elim, inl, inr, true≢false, ℕ, nat_eq, eq-eqb, eqb-true, Bool, true, false, cond, ◌||◌, List, [], ◌∷◌, ◌++◌, map, Option, Some, None, is_some, option_and_then, option_to_list, ne_eqb}
 use Rattle.vt_spec.proofs.Common.{Mount, any_pair, is_among, list_any, lookup, or_else, or_parts, same_Some}
-use Rattle.vt_mounting.proofs.Common.{Among, MountEntry, MovesOnce, among-append, among-map, any-map, changed, counted, entry_numbered, fails, location_of, map_same, mounts_in, moved_by, passes}
+use Rattle.vt_mounting.proofs.Common.{Among, MountEntry, MovesOnce, among-append, among-map, among_from_list_all, any-map, changed, counted, entry_numbered, location_of, map_same, mounts_in, moved_by, none_among}
 use Rattle.vt_location.specs.declared.locations.Location.{Location}
 use Rattle.vt_spec.specs.Machine.Mounts as meant
 use Rattle.vt_mounting.specs.Attach.Planned.{Point, left_at, placed_entry, points_left, points_taken, taken_at, with_points}
@@ -201,7 +201,7 @@ lookup_is (first ∷ rest) once point m =
     (λ later. ap (λ b. cond b (Some (location_of first.place))
     (lookup (nat_eq (number_at point)) (map point_seen rest))) (ne_eqb (number_at point) (number_at first) (λ same.
     true≢false (sym (eq-eqb (number_at first) (number_at point) (sym same))
-    ∙ fails (λ (other : Point). nat_eq (number_at first) (number_at other)) rest parts.0 point later)))
+    ∙ none_among (λ (other : Point). nat_eq (number_at first) (number_at other)) rest parts.0 point later)))
     ∙ lookup_is rest parts.1 point later) m
 
 lookup_none : (number : ℕ) (points : List Point)
@@ -227,7 +227,7 @@ module _ (entries : List MountEntry) (points : List Point)
   -- each mount that gets a new mount point has an entry
   points_entered : Here points entries
   points_entered point m = entry_some (number_at point) entries
-      (passes (λ (seen : ℕ × meant.Location ℕ). is_among nat_eq seen.0
+      (among_from_list_all (λ (seen : ℕ × meant.Location ℕ). is_among nat_eq seen.0
       (map (λ (mount : Mount ℕ). mount.number) (mounts_in entries)))
       (map point_seen points) once.there (point_seen point) (among-map point_seen points point m))
 

@@ -1,7 +1,7 @@
 -- Uses of inodes and filesystems that new mounts make, and room for them.
 use Rattle.std.proofs.Common.{◌≡◌, refl, sym, ap, subst, ◌∙◌, ℕ, ◌+◌, ◌*◌, ◌-◌, ◌<◌, ◌≤◌, nat_eq, eqb-true, Bool, true, false, cond, ◌&&◌, List, [], ◌∷◌, ◌++◌, length, find, Option, Some, None, option_map, unwrap_or, take, get_or, arith, Err, IsErr, Ok, OnOk, Result, nat_le, le-leb, leb-true, length-take-le}
 use Rattle.vt_spec.proofs.Common.{Inode as Counted, Inodes, and_parts, folded, list_all, pinned, used_once_more, uses_in, ⊤}
-use Rattle.vt_mounting.proofs.Common.{Filesystems, Inode, Shown, counted, counted_test, entry_of, inodes_at, inodes_seen, no_entry, number_of, passes, pinned_if, shown, shown_entry, with_changed}
+use Rattle.vt_mounting.proofs.Common.{Filesystems, Inode, Shown, among_from_list_all, counted, counted_test, entry_of, inodes_at, inodes_seen, no_entry, number_of, pinned_if, shown, shown_entry, with_changed}
 use Rattle.vt_location.specs.declared.locations.Location.{Location}
 use Rattle.vt_location.specs.declared.mounts.Mount.{Mount}
 use Rattle.vt_mounting.specs.Attach.Room.{has_room, most_counted, point_has_room, uses_shown}
@@ -222,7 +222,8 @@ room_at new all now i d less fits room so_far =
     subst (λ later. has_room (most_counted - 2) later (get_or new i d) ≡ true) (sym so_far)
     (room_later (take i new) (length new) all
     (let size = length-take-le i new (omega (arith, less)) in omega (arith, size, less)) fits (get_or new i d)
-    (passes (has_room (most_counted - 2 * length new) all) new room (get_or new i d) (among_at new i d less)))
+    (among_from_list_all (has_room (most_counted - 2 * length new) all) new room (get_or new i d)
+    (among_at new i d less)))
 
 -- one more at the end
 pub folded_more : {A B : Type 0} (add : B → A → B) (front : List A) (last : A) (b : B)

@@ -1,8 +1,8 @@
 -- The mounts of a tree that a bind copies: what code makes of them is the policy's tree.
 use Rattle.std.proofs.Common.{◌≡◌, refl, sym, ap, subst, ◌∙◌, ⊎_elim, inl, inr, ℕ, nat_eq, eq-eqb, Bool, true, false, true≢false, cond, length, List, [], ◌∷◌, map, find, Some, option_map, filter, flat_map}
 use Rattle.vt_spec.proofs.Common.{Mount, World, and_parts, bind_tree, bindable_children, bindable_tree, bound, cons_option, is_located_well, mount_at, no_mount, stands_under}
-use Rattle.vt_mounting.proofs.Common.{Among, IsHeld, OneNumberAMount, WorldValue, are_ascending, counted, is_small_node, location_of, mounts_in, number_found, number_of, world_of}
-use Rattle.vt_location.specs.declared.locations.Location.{Location as Place}
+use Rattle.vt_mounting.proofs.Common.{Among, IsHeld, OneNumberAMount, WorldValue, are_ascending, counted, is_small_node, location_of, mounts_in, number-mount_in, number_of, world_of}
+use Rattle.vt_location.specs.declared.locations.Location.{Location}
 use Rattle.vt_location.specs.declared.numbers.MountId.{MountId}
 use Rattle.vt_laws_mounts.proofs.attached.BindsStand.{bind_there_or_source}
 use Rattle.vt_laws_mounts.proofs.mounts.Standing.{binds_take_each_once}
@@ -14,7 +14,7 @@ use Rattle.vt_mounting.proofs.attach.CopiesAscend.{differs}
 use Rattle.vt_mount.proofs.AttachedLemmas.{ascending_found, picked}
 use Rattle.vt_laws_worlds.proofs.worlds.FitPermits.{some_of}
 
-module _ (value : WorldValue) (whole : IsHeld value) (source : Place) (recursive : Bool)
+module _ (value : WorldValue) (whole : IsHeld value) (source : Location) (recursive : Bool)
     (small : is_small_node source.node ≡ true)
     (there : is_located_well nat_eq (world_of value) (location_of source) ≡ true) where
   abbrev world : World ℕ
@@ -49,7 +49,7 @@ module _ (value : WorldValue) (whole : IsHeld value) (source : Place) (recursive
       (location_of source) recursive whole.in_world.mounts.one_number whole.in_world.mounts.standing
 
   top_number : top.number ≡ counted source.mount.count
-  top_number = number_found mounts_now (counted source.mount.count)
+  top_number = number-mount_in mounts_now (counted source.mount.count)
 
   -- what lies below the top is not the top
   rest_differs : (mount : Mount ℕ) → Among mount rest → nat_eq mount.number top.number ≡ false

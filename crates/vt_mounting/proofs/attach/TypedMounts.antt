@@ -2,7 +2,7 @@
 use Rattle.std.proofs.Common.{◌≡◌, refl, sym, ap, ◌∙◌, ⊎_elim, inl, inr, true≢false, ℕ, nat_eq, eqb-true, eq-eqb, Bool, true, false, cond, List, [], ◌∷◌, ◌++◌, map, find, Some, None, is_some, unwrap_or, ne_eqb}
 use Rattle.vt_spec.proofs.Common.{Mount, Propagation, any_pair, folded, list_any, lookup, map-append, map_alike, map_twice, nat_eq-swapped, no_mount, or_parts, replaced_if_same, same_Some, with_mount}
 use Rattle.vt_group.specs.Grouping.{retyped_if}
-use Rattle.vt_mounting.proofs.Common.{Among, MountEntry, among-append_right, among-map, changed, fails, map_same, mounts_in, one_number_by_numbers, with_kind}
+use Rattle.vt_mounting.proofs.Common.{Among, MountEntry, among-append_right, among-map, changed, map_same, mounts_in, none_among, one_number_by_numbers, with_kind}
 use Rattle.vt_laws_mounts.proofs.mounts.MountsReplaced.{found_itself}
 use Rattle.vt_retype.specs.Retyping.{with_type_in}
 use Rattle.vt_mounting.specs.Attach.AttachedGroups.{type_of}
@@ -185,7 +185,7 @@ lookup_kind (first ∷ rest) once mount m =
     (λ later. ap (λ b. cond b (Some first.propagation) (lookup (nat_eq mount.number) (map type_of rest)))
     (ne_eqb mount.number first.number (λ same.
     true≢false (sym (eq-eqb first.number mount.number (sym same))
-    ∙ fails (λ (b : Kind). nat_eq first.number b.0) (map type_of rest) parts.0 (type_of mount)
+    ∙ none_among (λ (b : Kind). nat_eq first.number b.0) (map type_of rest) parts.0 (type_of mount)
     (among-map type_of rest mount later)))) ∙ lookup_kind rest parts.1 mount later) m
 
 pub looked_up_kind : (number : ℕ) (own : List (Mount ℕ)) (kind : Propagation ℕ)

@@ -1,7 +1,7 @@
 -- Mounts that get types where they are, while others come after all: how the groups of the world grow.
 use Rattle.std.proofs.Common.{◌≡◌, refl, sym, ap, subst, ◌∙◌, ⊎_elim, inl, inr, true≢false, ℕ, nat_eq, eqb-true, eq-eqb, Bool, true, false, ◌||◌, ◌⊎◌, List, [], ◌∷◌, ◌++◌, map, Option, Some, None, is_some, option_map, unwrap_or, All}
 use Rattle.vt_spec.proofs.Common.{Mount, Private, Propagation, Shared, Slave, Unbindable, World, cons_option, folded, group_of, has_members, holds_of, is_among, is_member_of, is_shared, lookup, map-append, masters_with, source_of}
-use Rattle.vt_mounting.proofs.Common.{Among, Grows, HasGroup, all_from_among, among-append, among-append_left, among-append_right, among-from_map, among-map, among_from_all, any_passes, numbers_of, peers_of}
+use Rattle.vt_mounting.proofs.Common.{Among, Grows, HasGroup, all_from_among, among-append, among-append_left, among-append_right, among-from_map, among-map, among_from_all, any_from_among, numbers_of, peers_of}
 use Rattle.vt_group.specs.Grouping.{LacksGroup, are_rising, retyped_if}
 use Rattle.vt_group.specs.Together.{with_type_of}
 use Rattle.vt_group.proofs.Peers.{numbers-retyped, peers-set}
@@ -54,7 +54,7 @@ all_set (mount ∷ own) mounts rising there shared =
 member_is : (group : ℕ) (mounts : List (Mount ℕ)) (mount : Mount ℕ) → Among mount mounts
     → group_of mount.propagation ≡ Some group → has_members nat_eq mounts group ≡ true
 member_is group mounts mount m e =
-    any_passes (is_member_of nat_eq group) mounts mount m (ap (holds_of (nat_eq group)) e ∙ eq-eqb group group refl)
+    any_from_among (is_member_of nat_eq group) mounts mount m (ap (holds_of (nat_eq group)) e ∙ eq-eqb group group refl)
 
 is_member : (group : ℕ) (kind : Propagation ℕ) → holds_of (nat_eq group) (group_of kind) ≡ true
     → group_of kind ≡ Some group

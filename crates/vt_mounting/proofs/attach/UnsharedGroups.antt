@@ -1,7 +1,7 @@
 -- The groups of an unshare before the old namespace is left: each copy is in those of the mount that it copies.
 use Rattle.std.proofs.Common.{◌≡◌, refl, sym, ap, subst, ◌∙◌, inl, ℕ, nat_eq, true, List, [], ◌++◌, map, Option, Some, is_some}
 use Rattle.vt_spec.proofs.Common.{Mount, Serves, Task, TaskName, World, group_of, has_members, holds_of, is_member_of, map_twice, task_called}
-use Rattle.vt_mounting.proofs.Common.{Among, AreTyped, Grouping, Grows, GrowsTo, Has, HasGroup, IsHeld, MountEntry, WorldValue, all_from_among, among-map, any_passes, counted, counts_from, map_same, mount_of, mounts_in, numbers_of, one_passes, typed, typed_by, world_of}
+use Rattle.vt_mounting.proofs.Common.{Among, AreTyped, Grouping, Grows, GrowsTo, Has, HasGroup, IsHeld, MountEntry, WorldValue, all_from_among, among-map, any_among, any_from_among, counted, counts_from, map_same, mount_of, mounts_in, numbers_of, typed, typed_by, world_of}
 use Rattle.vt_group.specs.Grouping.{are_rising}
 use Rattle.vt_location.specs.declared.mounts.Mount.{Mount as Attached}
 use Rattle.vt_mounting.specs.Attach.AttachedGroups.{type_of}
@@ -25,10 +25,10 @@ module _ (value : WorldValue) (whole : IsHeld value) (name : TaskName) (task : T
   -- a group of a copy was there
   was_there : (group : ℕ) → has_members nat_eq (map mount_of copies) group ≡ true → HasGroup world group
   was_there group has =
-      let member = one_passes (is_member_of nat_eq group) (map mount_of copies) has in
+      let member = any_among (is_member_of nat_eq group) (map mount_of copies) has in
       let from = Worlds.copy_of value whole name task found serves count in_namespace (map mount_of copies) same
       member.0 member.1 in
-      any_passes (is_member_of nat_eq group) world.mounts from.0 from.1
+      any_from_among (is_member_of nat_eq group) world.mounts from.0 from.1
       (ap (λ kind. holds_of (nat_eq group) (group_of kind)) (sym from.3) ∙ member.2)
 
   pub base_has : Has base grown

@@ -3,7 +3,7 @@ use Rattle.std.proofs.Common.{◌≡◌, refl, sym, ap, subst, ◌∙◌, inl, i
 use Rattle.vt_spec.proofs.Common.{Filesystem, Fresh, Serves, Task, TaskName, World, and_parts, copied_mount, filesystem_numbered, has_its_root, holds_of, is_located_well, is_there, list_all, location_on_copy, mount_at, mount_numbered, node_in, same_Some, task_called}
 use Rattle.vt_spec.specs.Machine.Mounts as meant
 use Rattle.vt_spec.specs.Inodes as Trees
-use Rattle.vt_mounting.proofs.Common.{Among, AreThere, FilesystemEntry, Inode, IsHeld, WorldValue, among-append_right, among-filter, among-from_filter, among-from_map, among-map, counted, directory_there, found_itself, inode_at, inodes_seen, is_small_node, location_of, mount_of, number_of, passes, places_of, times, world_of}
+use Rattle.vt_mounting.proofs.Common.{Among, AreThere, FilesystemEntry, Inode, IsHeld, WorldValue, among-append_right, among-filter, among-from_filter, among-from_map, among-map, among_from_list_all, counted, directory_is_there, found_itself, inode_at, inodes_seen, is_small_node, location_of, mount_of, number_of, places_of, times, world_of}
 use Rattle.vt_location.specs.declared.locations.Location.{Location}
 use Rattle.vt_location.specs.declared.locations.NodeRef.{NodeRef}
 use Rattle.vt_location.specs.declared.mounts.Mount.{Mount}
@@ -57,11 +57,12 @@ module _ (value : WorldValue) (whole : IsHeld value) (name : TaskName) (task : T
       → is_there nat_eq world (counted mount.root.filesystem.count) (number_of mount.root) ≡ true
   root_there mount m =
       let from = original mount m in
-      let root = (and_parts _ _ (passes (has_its_root nat_eq world) world.mounts whole.in_world.roots from.0
+      let root =
+      (and_parts _ _ (among_from_list_all (has_its_root nat_eq world) world.mounts whole.in_world.roots from.0
       (was_there from.0 from.1).0)).0 in
       ap (λ (x : meant.Mount ℕ). is_some
       ((filesystem_numbered nat_eq world x.filesystem).files.tree.node x.root)) from.2
-      ∙ directory_there ((filesystem_numbered nat_eq world from.0.filesystem).files.tree.node from.0.root) root
+      ∙ directory_is_there ((filesystem_numbered nat_eq world from.0.filesystem).files.tree.node from.0.root) root
 
   -- mount points
 
@@ -110,7 +111,7 @@ module _ (value : WorldValue) (whole : IsHeld value) (name : TaskName) (task : T
       point_is from.0 from.1 from.0.mount_point refl point
       (sym (ap (option_map location_of) e) ∙ ap (λ (x : meant.Mount ℕ). x.mount_point) from.2)
       (subst (λ o. point_is_small o ≡ true) e
-      (and_parts (is_small_node mount.root) _ (passes has_small_nodes copies slots mount m)).1)
+      (and_parts (is_small_node mount.root) _ (among_from_list_all has_small_nodes copies slots mount m)).1)
 
   copy_found : (mount : Mount) → Among mount copies → IsFoundIn base mount
   copy_found mount m = record {

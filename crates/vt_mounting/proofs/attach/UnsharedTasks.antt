@@ -3,7 +3,7 @@
 use Rattle.std.proofs.Common.{◌≡◌, refl, sym, ap, subst, ◌∙◌, ◌⊎◌, ⊎_elim, inl, inr, ℕ, nat_eq, eqb-true, Bool, true, false, true≢false, cond, ◌&&◌, List, [], ◌∷◌, ◌++◌, map, flat_map, Option, Some, None, option_map, is_some, arith}
 use Rattle.vt_spec.proofs.Common.{Fresh, Location, Mount, Namespace, Serves, Task, TaskName, World, all_locations, and_parts, copied_mount, evens, holds_of, is_among, is_copied, is_listed, is_located_well, location_on_copy, locations_of, map-append, mount_at, mount_in, mount_numbered, mounts_of, moved_location, numbers_by, numbers_in_use, odds, same_Some, task_called, unshared_task, used_by_filesystem, used_by_mount}
 use Rattle.vt_spec.proofs.Lists as spec
-use Rattle.vt_mounting.proofs.Common.{Among, IsHeld, OneNumberAMount, Tasks, WorldValue, among-append_left, among-append_right, among-filter, among-from_filter, among-from_map, among-map, among_numbers, found_itself, inode_at, is_among_left, is_among_numbers, locations_in, one_passes, passes, replaced, world_of, writes_of_task}
+use Rattle.vt_mounting.proofs.Common.{Among, IsHeld, OneNumberAMount, Tasks, WorldValue, among-append_left, among-append_right, among-filter, among-from_filter, among-from_map, among-map, among_from_list_all, among_numbers, any_among, found_itself, inode_at, is_among_left, is_among_numbers, locations_in, replaced, world_of, writes_of_task}
 use Rattle.vt_laws_mounts.proofs.mounts.MountsNumbered.{unshare_keeps_numbers}
 use Rattle.vt_laws_mounts.proofs.namespaces.Unsharing.{parent_of}
 use Rattle.vt_laws_worlds.proofs.worlds.Roots.{found_copy}
@@ -96,7 +96,7 @@ module _ (value : WorldValue) (whole : IsHeld value) (name : TaskName) (task : T
         left = inr refl;
       }
       by true e =
-          let one = one_passes (λ (x : Mount ℕ). nat_eq location.mount x.number) copied e in
+          let one = any_among (λ (x : Mount ℕ). nat_eq location.mount x.number) copied e in
           let same : location.mount ≡ one.0.number = eqb-true location.mount one.0.number one.2 in
           let was = in_copied one.0 one.1 in
           let old : mount_numbered nat_eq base location.mount ≡ one.0 = ap (mount_numbered nat_eq base) same
@@ -121,7 +121,8 @@ module _ (value : WorldValue) (whole : IsHeld value) (name : TaskName) (task : T
   stands : (location : Location ℕ) → Among location (locations_of task)
       → is_among nat_eq location.mount (map (λ mount. mount.number) world.mounts) ≡ true
   stands location m = (and_parts (is_among nat_eq location.mount (map (λ mount. mount.number) world.mounts)) _
-      (passes (is_located_well nat_eq world) (all_locations world) whole.in_world.tasks.locations_live location
+      (among_from_list_all (is_located_well nat_eq world) (all_locations world) whole.in_world.tasks.locations_live
+      location
       (subst (λ all. Among location all)
       (sym (ap locations_in split.was ∙ locations_around split.front task split.back))
       (among-append_right (locations_in split.front) (locations_of task ++ locations_in split.back) location
@@ -145,7 +146,8 @@ module _ (value : WorldValue) (whole : IsHeld value) (name : TaskName) (task : T
       by false e = refl
       by true e =
           let listed = among_numbers task.namespace (map (λ (n : Namespace ℕ). n.number) world.namespaces)
-          (passes (λ (one : Task ℕ). is_listed nat_eq world one.namespace) world.tasks whole.in_world.namespaces.tasks_listed task among_tasks) in
+          (among_from_list_all (λ (one : Task ℕ). is_listed nat_eq world one.namespace) world.tasks
+          whole.in_world.namespaces.tasks_listed task among_tasks) in
           absurd (true≢false (sym (is_among_numbers new_namespace (numbers_in_use world)
           (subst (λ n. Among n (numbers_in_use world)) (eqb-true task.namespace new_namespace e)
           (among-append_right (flat_map used_by_mount world.mounts ++ flat_map used_by_filesystem world.filesystems)

@@ -1,13 +1,13 @@
 -- The world of an unshare: the namespaces count their tasks, and the old one ends with its last.
 use Rattle.std.proofs.Common.{◌≡◌, refl, sym, ap, subst, ◌∙◌, ⊎_elim, inl, inr, ℕ, nat_eq, eqb-true, eq-eqb, Bool, true, false, true≢false, ◌&&◌, ◌||◌, List, [], ◌∷◌, ◌++◌, map, filter, flat_map, Option, Some, None, arith, option_to_list}
 use Rattle.vt_spec.proofs.Common.{Location, Mount, MountInvariants, Namespace, Serves, Task, TaskName, World, and_parts, has_tasks, holds_of, is_among, is_in_ended, is_listed, list_all, map-append, mount_at, namespaces_ended, numbers_in_use, regrouped, taken_away, task_called, unshared, used_by_filesystem, used_by_mount}
-use Rattle.vt_mounting.proofs.Common.{Among, CountsWhatIsInIt, IsHeld, NamespaceEntry, Tasks, WorldValue, among-append, among-append_right, among-from_filter, among-from_map, among-map, among_from_all, among_numbers, counted, counted_test, counts_from, filter_alike, is_among_left, is_among_numbers, namespace_of, one_if, passes, times, world_of}
+use Rattle.vt_mounting.proofs.Common.{Among, CountsWhatIsInIt, IsHeld, NamespaceEntry, Tasks, WorldValue, among-append, among-append_right, among-from_filter, among-from_map, among-map, among_from_all, among_from_list_all, among_numbers, counted, counted_test, counts_from, filter_alike, is_among_left, is_among_numbers, namespace_of, one_if, times, world_of}
 use Rattle.vt_laws_mounts.proofs.namespaces.Unsharing.{unshare_keeps_mounts}
 use Rattle.vt_laws_mounts.proofs.letting_go.Lists.{is_among_right}
 use Rattle.vt_mounting.specs.Detach.NamespacesLeft.{with_one_task_less}
 use Rattle.vt_mounting.proofs.attach.AddedBegins.{IsAdded, with_added}
-use Rattle.vt_mounting.proofs.detach.LeavingNamespaces.{nothing_goes_with}
-use Rattle.vt_mounting.proofs.detach.Moving.{swap_eq}
+use Rattle.vt_mounting.proofs.detach.LeavingNamespaces.{and-false}
+use Rattle.vt_mounting.proofs.detach.Moving.{nat_eq_turned}
 use Rattle.vt_mounting.proofs.detach.NamespacesEnded.{CountsOneMore, ends, in_ended_is, namespaces_are, tasks_counted}
 use Rattle.vt_mounting.proofs.detach.NamespacesTyped.{gone_numbers, left_world, taken_is_left}
 use Rattle.vt_mounting.proofs.detach.Splits.{times_replaced}
@@ -57,9 +57,10 @@ module _ (value : WorldValue) (whole : IsHeld value) (name : TaskName) (task : T
       omega (arith, rest, here)
 
   listed_task : (one : Task ℕ) → Among one value.tasks → nat_eq new one.namespace ≡ false
-  listed_task one m = swap_eq new one.namespace
+  listed_task one m = nat_eq_turned new one.namespace
       ∙ not_new one.namespace (among_numbers one.namespace (map (λ (n : Namespace ℕ). n.number) world.namespaces)
-      (passes (λ (other : Task ℕ). is_listed nat_eq world other.namespace) world.tasks whole.in_world.namespaces.tasks_listed one m))
+      (among_from_list_all (λ (other : Task ℕ). is_listed nat_eq world other.namespace) world.tasks
+      whole.in_world.namespaces.tasks_listed one m))
 
   abbrev inside_of : ℕ → Task ℕ → Bool
   inside_of number one = nat_eq number one.namespace
@@ -75,12 +76,12 @@ module _ (value : WorldValue) (whole : IsHeld value) (name : TaskName) (task : T
       whole.in_world.tasks.one_task found refl (inside_of (counted entry.count)) in
       let mine : one_if (nat_eq (counted entry.count) task.namespace) ≡ one_if (nat_eq count entry.count) =
       ap one_if (ap (nat_eq (counted entry.count)) (sym in_namespace) ∙ counted_test entry.count count
-      ∙ swap_eq entry.count count) in
+      ∙ nat_eq_turned entry.count count) in
       let none : one_if (nat_eq (counted entry.count) new) ≡ 0 = ap one_if other in
       record {
         inside = omega (arith, was, all, mine, none);
         some = ap (λ n. nat_eq n 0) was ∙ tasks_counted (counted entry.count) value.tasks
-            (passes (has_tasks nat_eq world) world.namespaces whole.in_world.namespaces.namespaces_live
+            (among_from_list_all (has_tasks nat_eq world) world.namespaces whole.in_world.namespaces.namespaces_live
             (namespace_of entry) number);
       }) (λ rest. ⊎_elim (λ last. subst (CountsOneMore count moved) (sym last) new_counts) (λ none. absurd none) rest)
       (among-append value.namespaces (record { count = value.next; tasks = 1 } ∷ []) entry m)
@@ -93,7 +94,7 @@ module _ (value : WorldValue) (whole : IsHeld value) (name : TaskName) (task : T
           let none = none_in_new value.tasks listed_task in
           let own : one_if (nat_eq new new) ≡ 1 = ap one_if (eq-eqb new new refl) in
           let apart = another value whole name task found (counts_from value.next) serves in
-          let mine : one_if (nat_eq new task.namespace) ≡ 0 = ap one_if (swap_eq new task.namespace ∙ apart) in
+          let mine : one_if (nat_eq new task.namespace) ≡ 0 = ap one_if (nat_eq_turned new task.namespace ∙ apart) in
           let last : one_if (nat_eq count value.next) ≡ 0 =
           ap one_if (sym (counted_test count value.next) ∙ ap (λ n. nat_eq n (counted value.next)) in_namespace
           ∙ ap (nat_eq task.namespace) new_is ∙ apart) in
@@ -109,7 +110,7 @@ module _ (value : WorldValue) (whole : IsHeld value) (name : TaskName) (task : T
   inside o = ends count moved entries entries_count && holds_of (nat_eq (counted count)) o
 
   pub nowhere_stays : inside None ≡ false
-  nowhere_stays = nothing_goes_with (ends count moved entries entries_count)
+  nowhere_stays = and-false (ends count moved entries entries_count)
 
   pub new_stays : inside (Some new) ≡ false
   new_stays = ap (λ b. ends count moved entries entries_count && b)
@@ -159,7 +160,8 @@ module _ (value : WorldValue) (whole : IsHeld value) (name : TaskName) (task : T
 
     listed : (mount : Mount ℕ) → Among mount base.mounts
         → list_all (is_listed nat_eq base) (option_to_list mount.namespace) ≡ true
-    listed mount m = ⊎_elim (λ old. by mount.namespace (passes (λ (x : Mount ℕ). list_all (is_listed nat_eq world)
+    listed mount m = ⊎_elim
+        (λ old. by mount.namespace (among_from_list_all (λ (x : Mount ℕ). list_all (is_listed nat_eq world)
         (option_to_list x.namespace)) world.mounts whole.in_world.namespaces.mounts_listed mount old)) (λ copy.
         ap (λ o. list_all (is_listed nat_eq base) (option_to_list o)) (copy_of mount copy).2 ∙ ap (λ b. b && true)
         (ap (is_among nat_eq new) (map-append (λ (n : Namespace ℕ). n.number) world.namespaces

@@ -3,7 +3,7 @@
 use Rattle.std.proofs.Common.{◌≡◌, ◌<◌, ◌≤◌, refl, sym, ap, subst, ◌∙◌, ⊎_elim, inl, inr, ℕ, ◌+◌, nat_eq, eqb-true, eq-eqb, ne_eqb, Bool, true, false, true≢false, cond, ◌&&◌, List, [], ◌∷◌, ◌++◌, map, flat_map, Some, option_map, unwrap_or, arith, nat_lt, ◌%◌, ◌==◌, lt-ltb, ltb-true}
 use Rattle.vt_spec.proofs.Common.{Mount, Namespace as meant_namespace, Serves, and_parts, index_from, index_of, list_all, list_any, location_on_copy, numbers_in_use, used_by_filesystem, used_by_mount}
 use Rattle.indexmap.specs.IndexMap.{insert_entry}
-use Rattle.vt_mounting.proofs.Common.{Among, Filesystems, IsHeld, MountEntry, NamespaceEntry, WorldValue, all_pass, among-append_right, among-from_map, among-map, are_ascending, changed, counted, counts_from, entries_of, entry_numbered, held, is_among_numbers, location_of, mounts_in, namespace_of, passes, released, world_of}
+use Rattle.vt_mounting.proofs.Common.{Among, Filesystems, IsHeld, MountEntry, NamespaceEntry, WorldValue, among-append_right, among-from_map, among-map, among_from_list_all, are_ascending, changed, counted, counts_from, entries_of, entry_numbered, held, is_among_numbers, list_all_from_among, location_of, mounts_in, namespace_of, released, world_of}
 use Rattle.vt_location.specs.declared.locations.Location.{Location}
 use Rattle.vt_location.specs.declared.mounts.Mount.{Mount as Attached}
 use Rattle.vt_location.specs.declared.numbers.NamespaceId.{NamespaceId}
@@ -44,11 +44,11 @@ places_rise k (first ∷ rest) rising a b m n less =
     (λ same_a. let low : a.number ≡ b.number = ap (λ (x : Mount ℕ). x.number) (same_a ∙ sym same_b) in omega
     (arith, less, low)) (λ later_a.
     let more = ltb-true first.number a.number
-    (passes (λ (later : Mount ℕ). nat_lt first.number later.number) rest parts.0 a later_a) in
+    (among_from_list_all (λ (later : Mount ℕ). nat_lt first.number later.number) rest parts.0 a later_a) in
     let here : b.number ≡ first.number = ap (λ (x : Mount ℕ). x.number) same_b in omega (arith, less, more, here)) m))
     (λ later_b.
     let more_b = ltb-true first.number b.number
-    (passes (λ (later : Mount ℕ). nat_lt first.number later.number) rest parts.0 b later_b) in
+    (among_from_list_all (λ (later : Mount ℕ). nat_lt first.number later.number) rest parts.0 b later_b) in
     let not_b : nat_eq b.number first.number
     ≡ false = ne_eqb b.number first.number (λ e. absurd (omega (arith, more_b, e))) in
     subst (λ t. place a.number k (first ∷ rest) < unwrap_or
@@ -61,7 +61,7 @@ places_rise k (first ∷ rest) rising a b m n less =
     (index_from (λ (x : Mount ℕ). nat_eq a.number x.number) (k + 1) rest)) 0 < place b.number (k + 1) rest) (sym is_a)
     (omega (arith, after))) (λ later_a.
     let more_a = ltb-true first.number a.number
-    (passes (λ (later : Mount ℕ). nat_lt first.number later.number) rest parts.0 a later_a) in
+    (among_from_list_all (λ (later : Mount ℕ). nat_lt first.number later.number) rest parts.0 a later_a) in
     let not_a : nat_eq a.number first.number
     ≡ false = ne_eqb a.number first.number (λ e. absurd (omega (arith, more_a, e))) in
     subst (λ t. unwrap_or (cond t (Some k)
@@ -77,12 +77,12 @@ changed_ascend change [] rising keeps = refl
 changed_ascend change (first ∷ rest) rising keeps =
     let parts = and_parts (list_all (λ (later : Mount ℕ). nat_lt first.number later.number) rest)
     (are_ascending rest) rising in
-    λ i. all_pass (λ (later : Mount ℕ). nat_lt (change first).number later.number) (map change rest)
+    λ i. list_all_from_among (λ (later : Mount ℕ). nat_lt (change first).number later.number) (map change rest)
     (λ x m. let from = among-from_map change rest x m in
     subst (λ (y : Mount ℕ). nat_lt (change first).number y.number ≡ true) (sym from.2)
     (lt-ltb (change first).number (change from.0).number (keeps first from.0 (inl refl) (inr from.1)
     (ltb-true first.number from.0.number
-    (passes (λ (later : Mount ℕ). nat_lt first.number later.number) rest parts.0 from.0 from.1))))) i
+    (among_from_list_all (λ (later : Mount ℕ). nat_lt first.number later.number) rest parts.0 from.0 from.1))))) i
     && changed_ascend change rest parts.1 (λ a b m n. keeps a b (inr m) (inr n)) i
 
 pub copies_ascend : (next : ℕ) (all originals : List (Mount ℕ)) → are_ascending all ≡ true
@@ -93,7 +93,7 @@ copies_ascend next all originals rising before ascending = ascending_joined all 
     (λ a b m n less. let rises : index_of nat_eq originals a.number < index_of nat_eq originals b.number = places_rise 0 originals ascending a b m n less in
     omega (arith, rises))) (λ a b m n.
     let low : a.number < counted next = ltb-true a.number (counted next)
-    (passes (λ (mount : Mount ℕ). nat_lt mount.number (counted next)) all before a m) in
+    (among_from_list_all (λ (mount : Mount ℕ). nat_lt mount.number (counted next)) all before a m) in
     let from = among-from_map (copied_by next originals) originals b n in
     subst (λ (x : Mount ℕ). a.number < x.number) (sym from.2) (omega (arith, low)))
 
@@ -101,7 +101,7 @@ pub numbers_before : (value : WorldValue) → IsHeld value
     → list_all (λ mount. mount.number % 4 == 1) (mounts_in value.mounts) ≡ true
     → list_all (λ mount. nat_lt mount.number (counted value.next)) (mounts_in value.mounts) ≡ true
 numbers_before value whole counts =
-    all_pass (λ (mount : Mount ℕ). nat_lt mount.number (counted value.next)) (mounts_in value.mounts)
+    list_all_from_among (λ (mount : Mount ℕ). nat_lt mount.number (counted value.next)) (mounts_in value.mounts)
     (λ mount m. lt-ltb mount.number (counted value.next) (lower_numbers value whole counts mount m))
 
 -- What is counted on a mount

@@ -2,7 +2,7 @@
 -- them.
 use Rattle.std.proofs.Common.{◌≡◌, refl, sym, ap, subst, ◌∙◌, ⊎_elim, ℕ, zero, suc, ◌+◌, nat_eq, nat_lt, Bool, true, false, true≢false, cond, ◌&&◌, ◌||◌, [], filter, Option, Some, None, is_some, arith, append-nil}
 use Rattle.vt_spec.proofs.Common.{Filesystem, Overlay, World, and_parts, filesystem_lives, has_layer_on, is_mounted, is_overlay, layers_of, list_any, one_more_is_some, or_cases, overlay_or, settled, without_dead_mounts}
-use Rattle.vt_mounting.proofs.Common.{Among, IsHeld, WorldValue, all_from_among, among-filter, among-from_filter, among_from_all, any-filter, any_passes, filter_alike, filter_twice, in_use_of, layer_count, mounted_while_counted, one_passes, or_first, or_second, overlays_seen, overlays_use_filesystems, world_of}
+use Rattle.vt_mounting.proofs.Common.{Among, IsHeld, WorldValue, all_from_among, among-filter, among-from_filter, among_from_all, any-filter, any_among, any_from_among, filter_alike, filter_twice, in_use_of, layer_count, mounted_while_counted, or_left, or_right, overlays_seen, overlays_use_filesystems, world_of}
 use Rattle.vt_laws_mounts.specs.Counts.OverlaysStay.{HasNoLayerIn}
 use Rattle.vt_laws_mounts.proofs.counts.overlays.Living.{lives_while_mounted, overlays_are_mounted, overlays_are_no_layers}
 use Rattle.vt_laws_mounts.proofs.counts.overlays.NamedStay.{named_overlays_stay}
@@ -61,12 +61,12 @@ pub lives_more : (one other : World ℕ) → ((f : Filesystem ℕ) → Among f o
     → ((number : ℕ) → is_mounted nat_eq one number ≡ true → is_mounted nat_eq other number ≡ true)
     → (f : Filesystem ℕ) → filesystem_lives nat_eq one f ≡ true → filesystem_lives nat_eq other f ≡ true
 lives_more one other within more f lives =
-    ⊎_elim (λ shown. or_first (is_mounted nat_eq other f.number) _ (more f.number shown)) (λ layered.
-    let merged = one_passes (λ (m : Filesystem ℕ). has_layer_on nat_eq f.number m && is_mounted nat_eq one m.number)
+    ⊎_elim (λ shown. or_left (is_mounted nat_eq other f.number) _ (more f.number shown)) (λ layered.
+    let merged = any_among (λ (m : Filesystem ℕ). has_layer_on nat_eq f.number m && is_mounted nat_eq one m.number)
     one.filesystems layered in
     let parts = and_parts (has_layer_on nat_eq f.number merged.0) (is_mounted nat_eq one merged.0.number) merged.2 in
-    or_second (is_mounted nat_eq other f.number) _
-    (any_passes (λ (m : Filesystem ℕ). has_layer_on nat_eq f.number m && is_mounted nat_eq other m.number)
+    or_right (is_mounted nat_eq other f.number) _
+    (any_from_among (λ (m : Filesystem ℕ). has_layer_on nat_eq f.number m && is_mounted nat_eq other m.number)
     other.filesystems merged.0 (within merged.0 merged.1) (λ i. parts.0 i && more merged.0.number parts.1 i)))
     (or_cases (is_mounted nat_eq one f.number) _ lives)
 

@@ -3,7 +3,7 @@
 -- sweep says, the code's world is the one that the sweep leaves, and counts what is in it.
 use Rattle.std.proofs.Common.{true, ◌≡◌, sym, subst, ◌∙◌, ℕ, nat_eq, List, filter, map}
 use Rattle.vt_spec.proofs.Common.{IsWorld, SameWorlds, World, filesystem_numbered, is_mounted, settled, without_changes}
-use Rattle.vt_mounting.proofs.Common.{Among, AreThere, CountsItsMounts, Exchanges, FilesystemEntry, Has, Inode, IsCounted, IsHeld, WorldValue, among_from_all, are_rising, counted, exchanged, filesystem_seen, in_use_of, inodes_seen, mounts_in, no_upper_is_in_any, overlays_seen, world_of, worlds_are_in_use, worlds_have_trees}
+use Rattle.vt_mounting.proofs.Common.{Among, AreThere, CountsItsMounts, Exchanges, FilesystemEntry, Has, Inode, IsCounted, IsHeld, WorldValue, all_in_use, among_from_all, are_rising, counted, exchanged, filesystem_seen, in_use_of, inodes_seen, mounts_in, no_upper_is_in_any, overlays_seen, world_of, worlds_have_trees}
 use Rattle.vt_laws_mounts.proofs.counts.using.Sweeps.{uses_are_swept_beside_overlays}
 use Rattle.vt_mounting.proofs.detach.BesideOverlays.{swept_overlays}
 use Rattle.vt_mounting.proofs.detach.Overlaid.{KeepsOverlays, found_plain_one, is_plain_one, no_upper_midway, plain_numbers_left, swept_rise}
@@ -48,7 +48,7 @@ module _ (old : WorldValue) (held : IsHeld old) (after : World ℕ) (gained lost
       (sym from.count)
       (subst (IsCounted left (filesystem_numbered nat_eq left (counted from.was.count))) (sym from.inodes)
       (uses_are_swept_beside_overlays (world_of old) after gained lost (counted from.was.count) (inodes_seen from.was)
-      (worlds_have_trees (world_of old) held.in_world) (worlds_are_in_use (world_of old) held.in_world).inodes
+      (worlds_have_trees (world_of old) held.in_world) (all_in_use (world_of old) held.in_world).inodes
       (no_upper_is_in_any after (counted from.was.count) (no_upper_midway old held.overlays after swept.midway))
       from.exchanges (subst (λ f. IsCounted (world_of old) f (inodes_seen from.was))
       (sym (found_plain_one old held from.was from.among)) was_counted) from.there))

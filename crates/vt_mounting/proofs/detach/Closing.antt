@@ -1,7 +1,7 @@
 -- A task closes a file: close(2).
 use Rattle.std.proofs.Common.{◌≡◌, ◌<◌, refl, sym, ap, subst, ◌∙◌, inl, ℕ, ◌+◌, ◌==◌, nat_eq, ne_eqb, Bool, true, false, cond, not, List, [], ◌∷◌, ◌++◌, map, filter, find, Some, None, append_assoc, arith, option_and_then, eqb-true, leb-true}
 use Rattle.vt_spec.proofs.Common.{Descriptor, Task, TaskName, ToClose, all_locations, and_parts, are_ascending_from, descriptor_numbered, is_located_well, map-append, opens_for_writing, task_called, without_descriptor}
-use Rattle.vt_mounting.proofs.Common.{Among, Filesystems, IsHeld, MountEntry, Tasks, WorldValue, among-append_right, called, changed_by, changed_called, counted, is_small_node, location_of, locations_in, number_of, passes, replaced, times, world_of, writes_of_task, writes_on}
+use Rattle.vt_mounting.proofs.Common.{Among, Filesystems, IsHeld, MountEntry, Tasks, WorldValue, among-append_right, among_from_list_all, called, changed_by, changed_called, counted, is_small_node, location_of, locations_in, number_of, replaced, times, world_of, writes_of_task, writes_on}
 use Rattle.vt_laws_mounts.proofs.letting_go.Lists.{times_around}
 use Rattle.vt_request.specs.Requests.{access_of}
 use Rattle.vt_tasks.specs.declared.descriptors.OpenFile.{OpenFile}
@@ -14,8 +14,7 @@ use Rattle.vt_mounting.proofs.detach.Moving.{Moves, Use}
 use Rattle.vt_mounting.proofs.detach.Remaining.{remade_with}
 use Rattle.vt_mounting.proofs.detach.Splits.{IsSplit, locations_around, replaced_split, times_replaced, writes_replaced}
 use Rattle.vt_mounting.proofs.detach.Staying.{IsDone, after, staying_is_done}
-use Rattle.vt_tasks.proofs.LocationLemmas.{place_of}
-pub use Rattle.vt_tasks.proofs.LocationLemmas.{place_of as place}
+pub use Rattle.vt_tasks.proofs.LocationLemmas.{place_of}
 
 -- Descriptors
 
@@ -139,7 +138,7 @@ file_is_closed value name number closed mounts filesystems overlays tasks whole 
     sym (was ∙ ap (option_and_then (λ (other : Task ℕ). descriptor_numbered other number)) permits.called) in
     let goes = one_goes number 0 task.descriptors (numbered number closed) (rising task among) numbered_so in
     let moves = closed_moves value whole name task permits.called number (numbered number closed) goes in
-    let well = passes (is_located_well nat_eq (world_of value))
+    let well = among_from_list_all (is_located_well nat_eq (world_of value))
     (all_locations (world_of value)) whole.in_world.tasks.locations_live (location_of closed.location)
     (subst (λ all. Among (location_of closed.location) all) (sym moves.was)
     (among-append_right moves.front ((location_of closed.location ∷ []) ++ moves.back) (location_of closed.location)

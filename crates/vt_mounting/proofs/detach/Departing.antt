@@ -1,7 +1,7 @@
 -- Events after which a task has left locations and a namespace.
 use Rattle.std.proofs.Common.{◌≡◌, refl, sym, ap, subst, ◌∙◌, ℕ, nat_eq, Bool, true, false, true≢false, ◌&&◌, List, [], map, filter, Option, Some, None, is_some, option_to_list}
 use Rattle.vt_spec.proofs.Common.{Location, Mount, Namespace, Permit, Task, TaskName, World, and-false, folded, has_tasks, holds_of, is_in_ended, is_listed, list_all, mount_at, namespaces_ended, regrouped, taken_away}
-use Rattle.vt_mounting.proofs.Common.{Among, AreTyped, CountsWhatIsInIt, Filesystems, Grouping, IsHeld, MountEntry, NamespaceEntry, Tasks, WorldValue, counted, filter_alike, namespace_of, passes, world_of}
+use Rattle.vt_mounting.proofs.Common.{Among, AreTyped, CountsWhatIsInIt, Filesystems, Grouping, IsHeld, MountEntry, NamespaceEntry, Tasks, WorldValue, among_from_list_all, counted, filter_alike, namespace_of, world_of}
 use Rattle.vt_mounting.specs.Detach.NamespacesLeft.{MountsAreLeft, namespace_entry, numbers_inside, with_one_task_less}
 use Rattle.vt_mounting.specs.Detach.Uses.{Kept, Merged, kept_of, kept_with, overlays_kept}
 use Rattle.vt_mounting.proofs.detach.Bridging.{IsSwept}
@@ -54,7 +54,7 @@ module _ (value : WorldValue) (whole : IsHeld value) (tasks : Tasks) (more less 
   same_mounts : filter (is_in_ended nat_eq next) next.mounts ≡ filter going next.mounts
   same_mounts = filter_alike (is_in_ended nat_eq next) going next.mounts (λ mount m.
       in_ended_is count tasks entries counts next refl same_namespaces mount
-      (passes (λ x. list_all (is_listed nat_eq world)
+      (among_from_list_all (λ x. list_all (is_listed nat_eq world)
       (option_to_list x.namespace)) world.mounts whole.in_world.namespaces.mounts_listed mount m))
 
   -- the policy's world before the sweep: these mounts are detached, and then the groups without members end

@@ -6,7 +6,7 @@ use Rattle.vt_location.specs.declared.locations.Location.{Location}
 use Rattle.vt_mounting.specs.Detach.Uses.{Kept, detached_entry, detached_use, inode_of, point_of, unpinned_at, without_attachment}
 use Rattle.vt_mounting.proofs.detach.Keeping.{IsKeptBut, IsShownIn, append_three, detached_in, looked_at, points_lost}
 use Rattle.vt_mounting.proofs.detach.MountsGone.{mount_looked_at}
-use Rattle.vt_mounting.proofs.detach.Moving.{map_itself, swap_eq}
+use Rattle.vt_mounting.proofs.detach.Moving.{map_itself, nat_eq_turned}
 use Rattle.vt_mounting.proofs.detach.Shown.{found_entry}
 use Rattle.vt_mounting.proofs.detach.LostUses.{folded_append}
 
@@ -18,7 +18,7 @@ detached_entry_if number entry = cond (nat_eq number entry.mount.number) (detach
 same_detached : (number : ℕ) (entry : MountEntry)
     → (detached_entry_if number entry).mount ≡ detached_if number entry.mount
 same_detached number entry = by (nat_eq number entry.mount.number)
-    ∙ ap (λ b. cond b (detached entry.mount) entry.mount) (swap_eq number entry.mount.number)
+    ∙ ap (λ b. cond b (detached entry.mount) entry.mount) (nat_eq_turned number entry.mount.number)
   where
     by : (b : Bool) → (cond b (detached_entry entry) entry).mount ≡ cond b (detached entry.mount) entry.mount
     by true = refl

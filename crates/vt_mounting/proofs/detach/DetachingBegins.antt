@@ -1,8 +1,8 @@
 -- Where mounts begin to be detached: in the world all of them are detached at once, and code has none of them detached
 -- yet.
 use Rattle.std.proofs.Common.{◌≡◌, refl, sym, ap, subst, ◌∙◌, inl, ⊎_elim, ℕ, ◌+◌, nat_eq, eqb-true, eq-eqb, Bool, true, false, true≢false, cond, not, ◌&&◌, ◌||◌, List, [], ◌∷◌, ◌++◌, map, filter, find, Option, Some, None, option_map, is_some, unwrap_or, option_to_list}
-use Rattle.vt_spec.proofs.Common.{Filesystem, Location as Place, Mount, World, all_locations, any_pair, detached, filesystem_lives, folded, has_layer_on, is_among, is_mounted, is_nowhere_or_attached, list_all, list_any, map_alike, map_twice, mount_at, mount_in, mount_lives, no_mount, or_parts, shown-mapped, with_mounts, without_dead_filesystems}
-use Rattle.vt_mounting.proofs.Common.{Among, CountsItsUses, Exchanges, FilesystemsInUse, Inode, LocationsStand, MountsInUseBut, MountsStand, Shown, WorldValue, all_from_among, all_pass, among-from_filter, among-from_map, among_from_all, any-filter, any-map, any_passes, counted, detached_if, exchanges_follow, fails, filter_alike, filter_all, filter_twice, found_in, in_use_of, inode_at, layer_count, map_same, mount_is_placed, mounts_go_one_by_one, mounts_in, mounts_showing, one_passes, or_second, passes, stands_on_attached, times, world_of}
+use Rattle.vt_spec.proofs.Common.{Filesystem, Location, Mount, World, all_locations, any_pair, detached, filesystem_lives, folded, has_layer_on, is_among, is_mounted, is_nowhere_or_attached, list_all, list_any, map_alike, map_twice, mount_at, mount_in, mount_lives, no_mount, or_parts, shown-mapped, with_mounts, without_dead_filesystems}
+use Rattle.vt_mounting.proofs.Common.{Among, CountsItsUses, Exchanges, FilesystemsInUse, Inode, LocationsStand, MountsInUseBut, MountsStand, Shown, WorldValue, all_from_among, among-from_filter, among-from_map, among_from_all, among_from_list_all, any-filter, any-map, any_among, any_from_among, counted, detached_if, exchanges_follow, filter_alike, filter_all, filter_twice, found_in, in_use_of, inode_at, layer_count, list_all_from_among, map_same, mount_is_placed, mounts_go_one_by_one, mounts_in, mounts_showing, none_among, or_right, stands_on_attached, times, world_of}
 use Rattle.vt_laws_mounts.specs.LettingGo.Detaching.{without_place}
 use Rattle.vt_laws_mounts.specs.LettingGo.OneByOne as Looks
 use Rattle.vt_mounting.specs.Detach.Uses.{Kept}
@@ -10,7 +10,7 @@ use Rattle.vt_mounting.proofs.detach.BesideOverlays.{lives_alike, lives_more}
 use Rattle.vt_mounting.proofs.detach.Detached.{IsDetaching, detach_first}
 use Rattle.vt_mounting.proofs.detach.Keeping.{IsKeptBut, IsShownIn, detached_in, looked_at, no_more, points_lost, same_number}
 use Rattle.vt_mounting.proofs.detach.MountsGone.{found_mapped, none_numbered, pending_filesystem, pending_number}
-use Rattle.vt_mounting.proofs.detach.Moving.{map_itself, swap_eq}
+use Rattle.vt_mounting.proofs.detach.Moving.{map_itself, nat_eq_turned}
 use Rattle.vt_mounting.proofs.detach.MountsLeave.{leaves_alike, merged_alike}
 
 -- the world with these mounts detached
@@ -19,7 +19,8 @@ detached_world gone world = with_mounts world (map (detached_in gone) world.moun
 
 -- each mount on one of them is one of them
 abbrev pub HasChildrenOf : List ℕ → List (Mount ℕ) → Type 0
-HasChildrenOf gone mounts = (mount : Mount ℕ) → Among mount mounts → (place : Place ℕ) → mount.mount_point ≡ Some place
+HasChildrenOf gone mounts = (mount : Mount ℕ) → Among mount mounts → (place : Location ℕ) → mount.mount_point ≡ Some
+    place
     → is_among nat_eq place.mount gone ≡ true → is_among nat_eq mount.number gone ≡ true
 
 -- Mounts that are changed and keep their numbers
@@ -70,13 +71,13 @@ detached_at (first ∷ rest) number mount one m same = ⊎_elim (λ here. record
   is = λ i. (ap (λ b. cond b (detached first) first)
       (eq-eqb first.number number (ap (λ (x : Mount ℕ). x.number) (sym here) ∙ same)) ∙ ap detached (sym here)) i
       ∷ map_same (detached_if number) rest (λ x n. ap (λ b. cond b (detached x) x)
-      (other x (fails (λ (b : Mount ℕ). nat_eq first.number b.number) rest parts.0 x n) here)) i;
+      (other x (none_among (λ (b : Mount ℕ). nat_eq first.number b.number) rest parts.0 x n) here)) i;
 }) (λ later. let inner = detached_at rest number mount parts.1 later same in record {
   front = first ∷ inner.front;
   back = inner.back;
   was = ap (λ all. first ∷ all) inner.was;
   is = λ i. ap (λ b. cond b (detached first) first) (ap (nat_eq first.number) (sym same)
-      ∙ fails (λ (b : Mount ℕ). nat_eq first.number b.number) rest parts.0 mount later) i ∷ inner.is i;
+      ∙ none_among (λ (b : Mount ℕ). nat_eq first.number b.number) rest parts.0 mount later) i ∷ inner.is i;
 }) m
   where
     parts : (list_any (λ (b : Mount ℕ). nat_eq first.number b.number) rest ≡ false)
@@ -86,12 +87,14 @@ detached_at (first ∷ rest) number mount one m same = ⊎_elim (λ here. record
 
     other : (x : Mount ℕ) → nat_eq first.number x.number ≡ false → mount ≡ first → nat_eq x.number number ≡ false
     other x apart here =
-        swap_eq x.number number ∙ ap (λ n. nat_eq n x.number) (sym same ∙ ap (λ (y : Mount ℕ). y.number) here) ∙ apart
+        nat_eq_turned x.number number ∙ ap (λ n. nat_eq n x.number) (sym same ∙ ap (λ (y : Mount ℕ). y.number) here) ∙
+        apart
 
 module _ (before : World ℕ) where
   -- the mount points are in the filesystems in which they were
   abbrev SeesPlaces : World ℕ → Type 0
-  SeesPlaces world = (mount : Mount ℕ) → Among mount world.mounts → (place : Place ℕ) → mount.mount_point ≡ Some place
+  SeesPlaces world = (mount : Mount ℕ) → Among mount world.mounts → (place : Location ℕ) → mount.mount_point ≡ Some
+      place
       → (mount_at nat_eq world place).filesystem ≡ (mount_at nat_eq before place).filesystem
 
   one_point : (number : ℕ) (world : World ℕ)
@@ -101,7 +104,7 @@ module _ (before : World ℕ) where
   one_point number world one sees filesystem = by
       (find (λ (mount : Mount ℕ). nat_eq number mount.number) world.mounts) refl
     where
-      alike : (mount : Mount ℕ) → Among mount world.mounts → (o : Option (Place ℕ)) → mount.mount_point ≡ o
+      alike : (mount : Mount ℕ) → Among mount world.mounts → (o : Option (Location ℕ)) → mount.mount_point ≡ o
           → map (inode_at world) (option_to_list o) ≡ map (inode_at before) (option_to_list o)
       alike mount m None e = refl
       alike mount m (Some place) e = λ i. (sees mount m place e i, place.node) ∷ []
@@ -147,7 +150,8 @@ module _ (before : World ℕ) where
           by true = refl
           by false = refl
 
-      placed : (mount : Mount ℕ) (place : Place ℕ) (b : Bool) → (cond b (detached mount) mount).mount_point ≡ Some place
+      placed : (mount : Mount ℕ) (place : Location ℕ) (b : Bool) → (cond b (detached mount) mount).mount_point ≡ Some
+          place
           → mount.mount_point ≡ Some place
       placed mount place true h = absurd cc
       placed mount place false h = h
@@ -171,8 +175,8 @@ module _ (world : World ℕ) (number : ℕ) where
 
   mounted_before : (n : ℕ) → is_mounted nat_eq once n ≡ true → is_mounted nat_eq world n ≡ true
   mounted_before n h =
-      let one = one_passes (λ (mount : Mount ℕ). nat_eq n mount.filesystem) once.mounts h in
-      any_passes (λ (mount : Mount ℕ). nat_eq n mount.filesystem) world.mounts one.0
+      let one = any_among (λ (mount : Mount ℕ). nat_eq n mount.filesystem) once.mounts h in
+      any_from_among (λ (mount : Mount ℕ). nat_eq n mount.filesystem) world.mounts one.0
       (among-from_filter (λ (mount : Mount ℕ). not (nat_eq mount.number number)
       || mount_lives nat_eq world mount) world.mounts one.0 one.1).0 one.2
 
@@ -260,18 +264,19 @@ module _ (old : WorldValue) (gained lost : List Inode) (world : World ℕ) (k : 
       }
 
   -- a mount with a mount point stays
-  stays_placed : (mount : Mount ℕ) (place : Place ℕ) → (b : Bool) → is_among nat_eq mount.number gone ≡ b
+  stays_placed : (mount : Mount ℕ) (place : Location ℕ) → (b : Bool) → is_among nat_eq mount.number gone ≡ b
       → (cond b (detached mount) mount).mount_point ≡ Some place
       → (is_among nat_eq mount.number gone ≡ false) × (mount.mount_point ≡ Some place)
   stays_placed mount place true e h = absurd cc
   stays_placed mount place false e h = (e, h)
 
-  still_attached : (mount : Mount ℕ) → Among mount world.mounts → (place : Place ℕ) → mount.mount_point ≡ Some place
+  still_attached : (mount : Mount ℕ) → Among mount world.mounts → (place : Location ℕ) → mount.mount_point ≡ Some place
       → is_among nat_eq mount.number gone ≡ false → is_some (mount_at nat_eq after place).namespace ≡ true
   still_attached mount m place p stays = ap (λ (x : Mount ℕ). is_some x.namespace)
       (not_gone_stays gone world.mounts place.mount (by (is_among nat_eq place.mount gone) refl))
-      ∙ passes (λ (one : Place ℕ). is_some (mount_at nat_eq world one).namespace) (option_to_list mount.mount_point)
-      (passes (stands_on_attached world) world.mounts is.stand.on_attached mount m) place
+      ∙ among_from_list_all (λ (one : Location ℕ). is_some (mount_at nat_eq world one).namespace)
+      (option_to_list mount.mount_point)
+      (among_from_list_all (stands_on_attached world) world.mounts is.stand.on_attached mount m) place
       (subst (λ o. Among place (option_to_list o)) (sym p) (inl refl))
     where
       by : (b : Bool) → is_among nat_eq place.mount gone ≡ b → b ≡ false
@@ -281,11 +286,11 @@ module _ (old : WorldValue) (gained lost : List Inode) (world : World ℕ) (k : 
   begun_stands : MountsStand after
   begun_stands = record {
     one_number = pair_mapped (detached_in gone) (pending_number gone) world.mounts ∙ is.stand.one_number;
-    nowhere = all_pass is_nowhere_or_attached after.mounts (λ mount m.
+    nowhere = list_all_from_among is_nowhere_or_attached after.mounts (λ mount m.
         let from = among-from_map (detached_in gone) world.mounts mount m in
         ap is_nowhere_or_attached from.2 ∙ nowhere from.0 (is_among nat_eq from.0.number gone)
-        (passes is_nowhere_or_attached world.mounts is.stand.nowhere from.0 from.1));
-    on_attached = all_pass (stands_on_attached after) after.mounts (λ mount m.
+        (among_from_list_all is_nowhere_or_attached world.mounts is.stand.nowhere from.0 from.1));
+    on_attached = list_all_from_among (stands_on_attached after) after.mounts (λ mount m.
         let from = among-from_map (detached_in gone) world.mounts mount m in
         ap (stands_on_attached after) from.2 ∙ attached from.0 from.1 (is_among nat_eq from.0.number gone) refl);
   }
@@ -300,38 +305,40 @@ module _ (old : WorldValue) (gained lost : List Inode) (world : World ℕ) (k : 
       attached mount m true e = refl
       attached mount m false e = at mount.mount_point refl
         where
-          at : (o : Option (Place ℕ)) → mount.mount_point ≡ o
+          at : (o : Option (Location ℕ)) → mount.mount_point ≡ o
               → list_all (λ place. is_some (mount_at nat_eq after place).namespace) (option_to_list o) ≡ true
           at None p = refl
           at (Some place) p = ap (λ b. b && true) (still_attached mount m place p e)
 
   begun_located : LocationsStand after
   begun_located =
-      subst (λ numbers. list_all (λ (location : Place ℕ). is_among nat_eq location.mount numbers) (all_locations world)
+      subst (λ numbers. list_all (λ (location : Location ℕ). is_among nat_eq location.mount numbers)
+      (all_locations world)
       ≡ true) (sym (map_twice (λ (mount : Mount ℕ). mount.number) (detached_in gone) world.mounts
       ∙ map_alike (λ mount. (detached_in gone mount).number) (λ mount. mount.number) world.mounts
       (λ mount m. pending_number gone mount))) is.located
 
   begun_in_use : MountsInUseBut gone after
   begun_in_use =
-      all_pass (λ mount. is_among nat_eq mount.number gone || mount_lives nat_eq after mount) after.mounts (λ mount m.
+      list_all_from_among (λ mount. is_among nat_eq mount.number gone || mount_lives nat_eq after mount) after.mounts
+      (λ mount m.
       let from = among-from_map (detached_in gone) world.mounts mount m in
       ap (λ (x : Mount ℕ). is_among nat_eq x.number gone || mount_lives nat_eq after x) from.2
       ∙ by from.0 (is_among nat_eq from.0.number gone) refl
-      (passes (λ mount. mount_lives nat_eq world mount) world.mounts is.in_use from.0 from.1))
+      (among_from_list_all (λ mount. mount_lives nat_eq world mount) world.mounts is.in_use from.0 from.1))
     where
       by : (mount : Mount ℕ) (b : Bool) → is_among nat_eq mount.number gone ≡ b → mount_lives nat_eq world mount ≡ true
           → (is_among nat_eq (cond b (detached mount) mount).number gone
           || mount_lives nat_eq after (cond b (detached mount) mount)) ≡ true
       by mount true e lives = ap (λ c. c || mount_lives nat_eq after (detached mount)) e
-      by mount false e lives = or_second (is_among nat_eq mount.number gone) (mount_lives nat_eq world mount) lives
+      by mount false e lives = or_right (is_among nat_eq mount.number gone) (mount_lives nat_eq world mount) lives
 
   begun_mounted : FilesystemsInUse after
-  begun_mounted = all_pass (filesystem_lives nat_eq after) world.filesystems (λ f m.
+  begun_mounted = list_all_from_among (filesystem_lives nat_eq after) world.filesystems (λ f m.
       lives_alike world after refl
       (λ n. any-map (λ (mount : Mount ℕ). nat_eq n mount.filesystem) (detached_in gone) world.mounts
       (λ mount. ap (nat_eq n) (pending_filesystem gone mount))) f
-      ∙ passes (filesystem_lives nat_eq world) world.filesystems is.mounted f m)
+      ∙ among_from_list_all (filesystem_lives nat_eq world) world.filesystems is.mounted f m)
 
   begun_kept : IsKeptBut old gone gone gained lost after k
   begun_kept = record {
@@ -364,7 +371,7 @@ module _ (old : WorldValue) (gained lost : List Inode) (world : World ℕ) (k : 
       all_live : without_dead_filesystems nat_eq after ≡ after
       all_live = ap (λ all. record after { filesystems = all })
           (filter_all (filesystem_lives nat_eq after) after.filesystems
-          (λ f m. passes (filesystem_lives nat_eq after) after.filesystems begun_mounted f m))
+          (λ f m. among_from_list_all (filesystem_lives nat_eq after) after.filesystems begun_mounted f m))
 
   -- All are pending; in the end the living world is left.
   pub detaching_begins : IsDetaching old gained (in_use_of after) gone k

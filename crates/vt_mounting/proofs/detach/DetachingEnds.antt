@@ -1,8 +1,8 @@
 -- The begin in a world with its invariants, and the end: where all mounts of a list are detached, the sweep's world is
 -- left.
 use Rattle.std.proofs.Common.{◌≡◌, refl, sym, ap, subst, ◌∙◌, inl, ℕ, ◌+◌, nat_eq, Bool, true, false, true≢false, cond, ◌&&◌, List, [], map, filter, Option, Some, None, option_map, is_some, All, option_to_list}
-use Rattle.vt_spec.proofs.Common.{Filesystem, Location as Place, Mount, Permit, Private, Task, TaskName, World, after_going, and_parts, detached, filesystem_numbered, has_its_root, is_among, is_directory_at, is_directory_node, is_located, is_located_well, is_mounted, is_nowhere_or_attached, is_there, list_all, map_alike, map_twice, mount_at, mount_in, mount_point_left, node_at, or_false_left, regrouped, taken_away, with_mounts, without_changes}
-use Rattle.vt_mounting.proofs.Common.{Among, CountsItsMounts, CountsItsUses, CountsWhatIsInIt, Exchanges, Filesystems, Inode, IsHeld, IsMountedSoOften, MountEntry, Shown, WorldValue, all_from_among, among-from_map, among-map, among_from_all, counted, directory_there, filesystem_seen, found_is_there, in_use_of, is_among_numbers, is_ungrouped, layer_count, location_of, mount_uses, mounts_in, mounts_of_worlds_stand, mounts_showing, number_found, overlays_seen, passes, shown_entry, stands_on_attached, times, world_of, worlds_are_in_use, writes_of}
+use Rattle.vt_spec.proofs.Common.{Filesystem, Location, Mount, Permit, Private, Task, TaskName, World, after_going, and_parts, detached, filesystem_numbered, has_its_root, is_among, is_directory_at, is_directory_node, is_located, is_located_well, is_mounted, is_nowhere_or_attached, is_there, list_all, map_alike, map_twice, mount_at, mount_in, mount_point_left, node_at, or_false_left, regrouped, taken_away, with_mounts, without_changes}
+use Rattle.vt_mounting.proofs.Common.{Among, CountsItsMounts, CountsItsUses, CountsWhatIsInIt, Exchanges, Filesystems, Inode, IsHeld, IsMountedSoOften, MountEntry, Shown, WorldValue, all_from_among, all_in_use, among-from_map, among-map, among_from_all, among_from_list_all, counted, directory_is_there, filesystem_seen, found_is_there, in_use_of, is_among_numbers, is_ungrouped, layer_count, location_of, mount_uses, mounts_in, mounts_of_worlds_stand, mounts_showing, number-mount_in, overlays_seen, shown_entry, stands_on_attached, times, world_of, writes_of}
 use Rattle.vt_laws_mounts.proofs.counts.using.MountRoots as Roots
 use Rattle.vt_laws_mounts.proofs.letting_go.mounting.MountingTaken as Taken
 use Rattle.vt_mounting.specs.Detach.Uses.{Merged, kept_of, kept_with, overlays_kept}
@@ -28,7 +28,8 @@ module _ (value : WorldValue) (whole : IsHeld value) where
   world = world_of value
 
   -- mount points are there
-  pub point_located : (mount : Mount ℕ) → Among mount world.mounts → (place : Place ℕ) → mount.mount_point ≡ Some place
+  pub point_located : (mount : Mount ℕ) → Among mount world.mounts → (place : Location ℕ) → mount.mount_point ≡ Some
+      place
       → is_located_well nat_eq world place ≡ true
   point_located mount m place p = λ i. among i && there i
     where
@@ -37,22 +38,24 @@ module _ (value : WorldValue) (whole : IsHeld value) where
 
       attached : is_some (mount_at nat_eq world place).namespace ≡ true
       attached =
-          passes (λ (one : Place ℕ). is_some (mount_at nat_eq world one).namespace) (option_to_list mount.mount_point)
-          (passes (stands_on_attached world) world.mounts
+          among_from_list_all (λ (one : Location ℕ). is_some (mount_at nat_eq world one).namespace)
+          (option_to_list mount.mount_point)
+          (among_from_list_all (stands_on_attached world) world.mounts
           (mounts_of_worlds_stand world whole.in_world).on_attached mount m) place at_point
 
       among : is_among nat_eq place.mount (map (λ (x : Mount ℕ). x.number) world.mounts) ≡ true
       among = is_among_numbers place.mount (map (λ (x : Mount ℕ). x.number) world.mounts)
-          (subst (λ n. Among n (map (λ (x : Mount ℕ). x.number) world.mounts)) (number_found world.mounts place.mount)
+          (subst (λ n. Among n (map (λ (x : Mount ℕ). x.number) world.mounts))
+          (number-mount_in world.mounts place.mount)
           (among-map (λ (x : Mount ℕ). x.number) world.mounts (mount_in nat_eq world.mounts place.mount)
           (found_is_there world.mounts place.mount attached)))
 
       there : is_there nat_eq world (mount_at nat_eq world place).filesystem place.node ≡ true
-      there = directory_there (node_at nat_eq world place)
-          (passes (is_directory_at nat_eq world) (option_to_list mount.mount_point)
+      there = directory_is_there (node_at nat_eq world place)
+          (among_from_list_all (is_directory_at nat_eq world) (option_to_list mount.mount_point)
           (and_parts (is_directory_node ((filesystem_numbered nat_eq world mount.filesystem).files.tree.node mount.root))
           (list_all (is_directory_at nat_eq world) (option_to_list mount.mount_point))
-          (passes (has_its_root nat_eq world) world.mounts whole.in_world.roots mount m)).1 place at_point)
+          (among_from_list_all (has_its_root nat_eq world) world.mounts whole.in_world.roots mount m)).1 place at_point)
 
   pub held_is_kept : IsKeptBut value [] [] [] [] world (kept_of value)
   held_is_kept = record {
@@ -77,8 +80,8 @@ module _ (value : WorldValue) (whole : IsHeld value) where
     };
     stand = mounts_of_worlds_stand world whole.in_world;
     located = Roots.locations_of_worlds_stand world whole.in_world;
-    in_use = (worlds_are_in_use world whole.in_world).mounts;
-    mounted = (worlds_are_in_use world whole.in_world).filesystems;
+    in_use = (all_in_use world whole.in_world).mounts;
+    mounted = (all_in_use world whole.in_world).filesystems;
     leaves = leaves_at_first value whole;
     points = λ mount m point p few. seen_where_located value whole point few
         (point_located mount m (location_of point) p);
@@ -150,7 +153,7 @@ taken_regroups world gone closed = ap (λ mounts. regrouped nat_eq (with_mounts 
     (λ mount m. same mount m (is_among nat_eq mount.number gone) refl))
   where
     stays_placed : (mount : Mount ℕ) → Among mount world.mounts → is_among nat_eq mount.number gone ≡ false
-        → (o : Option (Place ℕ)) → mount.mount_point ≡ o → option_map (mount_point_left nat_eq world gone) o ≡ o
+        → (o : Option (Location ℕ)) → mount.mount_point ≡ o → option_map (mount_point_left nat_eq world gone) o ≡ o
     stays_placed mount m e None p = refl
     stays_placed mount m e (Some place) p = ap (option_map (mount_point_left nat_eq world gone)) (sym p)
         ∙ ap (λ (x : Mount ℕ). x.mount_point) (sym (Taken.stays world gone world.namespaces mount e))
@@ -176,7 +179,7 @@ pub detached_is_private : (world : World ℕ) (gone : List ℕ) → list_all is_
 detached_is_private world gone nowhere mount m none =
     let from = among-from_map (detached_in gone) world.mounts mount m in
     ap (λ (x : Mount ℕ). x.propagation) from.2
-    ∙ stays_private from.0 (passes is_nowhere_or_attached world.mounts nowhere from.0 from.1)
+    ∙ stays_private from.0 (among_from_list_all is_nowhere_or_attached world.mounts nowhere from.0 from.1)
     (is_among nat_eq from.0.number gone) (ap (λ (x : Mount ℕ). is_some x.namespace) (sym from.2) ∙ none)
 
 -- An event in which mounts of a list are detached, and nothing else happens

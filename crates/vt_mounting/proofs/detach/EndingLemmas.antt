@@ -2,7 +2,7 @@
 use Rattle.std.proofs.Common.{◌≡◌, ◌≢◌, ◌<◌, ◌≤◌, refl, sym, ap, subst, ◌∙◌, ⊎_elim, inl, inr, ℕ, ◌+◌, ◌-◌, nat_eq, nat_lt, eqb-true, eq-eqb, Bool, true, false, true≢false, cond, not, ◌&&◌, ◌||◌, List, [], ◌∷◌, ◌++◌, length, map, filter, Option, Some, None, option_map, arith, IfSome, nat_le, slice_get, option_and_then}
 use Rattle.vt_spec.proofs.Common.{Mount, and_parts, holds_of, keys_of, list_all, list_any, lookup, remove_entry, same_Some, set_value}
 use Rattle.std.specs.List.{IsDistinct}
-use Rattle.vt_mounting.proofs.Common.{Among, Filesystems, Grouping, MountEntry, NamespaceEntry, among-from_filter, among-from_map, among-map, are_ascending, changed, counted, entries_of, entry_numbered, is_small_node, location_of, mounts_in, none_passes, passes, without}
+use Rattle.vt_mounting.proofs.Common.{Among, Filesystems, Grouping, MountEntry, NamespaceEntry, among-from_filter, among-from_map, among-map, among_from_list_all, are_ascending, changed, counted, entries_of, entry_numbered, is_small_node, location_of, mounts_in, none_from_among, without}
 use Rattle.vt_location.specs.declared.locations.Location.{Location}
 use Rattle.vt_location.specs.declared.numbers.MountId.{MountId}
 use Rattle.vt_world.specs.declared.namespaces.Namespace.{Namespace}
@@ -52,7 +52,7 @@ entry_ascending (x ∷ xs) rising entry m =
         → cond b (Some x) (entry_numbered xs entry.mount.number) ≡ Some entry
     by above true e n next = ⊎_elim (λ same. ap Some (sym same)) (λ later.
         let less = Rattle.std.proofs.lemmas.Bool.ltb-true x.mount.number entry.mount.number
-        (passes (λ l. nat_lt x.mount.number l.number) (mounts_in xs) above entry.mount
+        (among_from_list_all (λ l. nat_lt x.mount.number l.number) (mounts_in xs) above entry.mount
         (among-map (λ (one : MountEntry). one.mount) xs entry later)) in
         let same : entry.mount.number ≡ x.mount.number = eqb-true entry.mount.number x.mount.number e in
         absurd (omega (arith, less, same))) n
@@ -89,7 +89,7 @@ pub none_listed : (entries : List MountEntry) (namespace : ℕ) (ids : List Moun
     ≡ map (λ mount. mount.number) (filter (λ mount. holds_of (nat_eq namespace) mount.namespace) (mounts_in entries))
     → slice_get ids (length ids - 1) ≡ None → list_any (is_attached_in namespace) entries ≡ false
 none_listed entries namespace ids listed none =
-    none_passes (is_attached_in namespace) entries (λ entry m. by entry m (is_attached_in namespace entry) refl)
+    none_from_among (is_attached_in namespace) entries (λ entry m. by entry m (is_attached_in namespace entry) refl)
   where
     empty : map (λ mount. mount.number)
         (filter (λ mount. holds_of (nat_eq namespace) mount.namespace) (mounts_in entries)) ≡ []

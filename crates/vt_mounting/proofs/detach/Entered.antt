@@ -2,7 +2,7 @@
 use Rattle.std.proofs.Common.{◌≡◌, ◌<◌, refl, sym, ap, subst, ◌∙◌, inl, inr, ℕ, ◌+◌, nat_eq, Bool, true, false, true≢false, cond, not, ◌&&◌, ◌==◌, List, [], ◌∷◌, ◌++◌, length, map, filter, find, Option, Some, None, option_map, is_some, unwrap_or, arith, IsSome, option_to_list}
 use Rattle.vt_spec.proofs.Common.{Mount, Namespace, Task, TaskName, ToEnterNamespace, World, and_parts, entered_at, folded, has_its_root, has_one_root, has_tasks, holds_of, is_located_well, is_root_mount, list_all, mounts_of, namespace_root, namespaces_ended, numbers_in_use, root_mount, root_of, same_Some, task_called, topmost, used_by_filesystem, used_by_mount, with_task}
 use Rattle.vt_spec.specs.Machine.Mounts as meant
-use Rattle.vt_mounting.proofs.Common.{Among, CountsWhatIsInIt, Filesystems, Grouping, IsHeld, MountEntry, NamespaceEntry, Tasks, WorldValue, among-append_right, among-from_filter, among-from_map, among-map, among_from_all, among_numbers, called, changed_by, changed_called, counted, directory_there, found_itself, is_among_numbers, is_counted_before, is_small_node, location_of, locations_in, namespace_of, number_of, one_if, passes, replaced, times, used_numbers_are_named, world_of}
+use Rattle.vt_mounting.proofs.Common.{Among, CountsWhatIsInIt, Filesystems, Grouping, IsHeld, MountEntry, NamespaceEntry, Tasks, WorldValue, among-append_right, among-from_filter, among-from_map, among-map, among_from_all, among_from_list_all, among_numbers, called, changed_by, changed_called, counted, directory_is_there, found_itself, is_among_numbers, is_counted_before, is_small_node, location_of, locations_in, namespace_of, number_of, one_if, replaced, times, used_numbers_are_named, world_of}
 use Rattle.vt_location.specs.declared.locations.Location.{Location}
 use Rattle.vt_tasks.specs.declared.task.Left.{Left}
 use Rattle.vt_tasks.specs.TasksValue.{left_by, left_of}
@@ -58,7 +58,7 @@ root_is_located value whole task namespace root is = by (root_mount nat_eq (worl
         (found_one (λ (x : Mount ℕ). not (is_some x.mount_point)) (mounts_of nat_eq world namespace) mount e) in
         let itself = found_itself world.mounts whole.in_world.mounts.one_number mount among.0 in
         let directory = (and_parts _ _
-        (passes (has_its_root nat_eq world) world.mounts whole.in_world.roots mount among.0)).0 in
+        (among_from_list_all (has_its_root nat_eq world) world.mounts whole.in_world.roots mount among.0)).0 in
         let there = topmost_found world whole.in_world (record task { namespace = namespace }) (root_of mount) (
           (
             is_among_numbers mount.number (map (λ (x : Mount ℕ). x.number) world.mounts)
@@ -67,7 +67,7 @@ root_is_located value whole task namespace root is = by (root_mount nat_eq (worl
                 ∙ held mount.namespace among.1,
           ),
           ap (λ (x : Mount ℕ). is_some ((Rattle.vt_spec.specs.Machine.World.filesystem_numbered nat_eq world x.filesystem).files.tree.node mount.root)) itself
-              ∙ directory_there _ directory,
+              ∙ directory_is_there _ directory,
         ) in
         let same : topmost nat_eq world.mounts (root_of mount) ≡ root = same_Some _ _ f in
         subst (λ l. is_located_well nat_eq world l ≡ true) same (λ i. there.0.0 i && there.1 i)
@@ -98,7 +98,8 @@ namespace_has_a_root value whole name count None permits is = absurd
         (among_numbers (counted count) (map (λ (n : Namespace ℕ). n.number) world.namespaces)
         (permit_fits value whole name (ToEnterNamespace (counted count)) permits).names) in
         ap (λ n. length (filter (is_root_mount nat_eq) (mounts_of nat_eq world n)) == 1) from.2
-        ∙ passes (has_one_root nat_eq world) world.namespaces whole.in_world.namespaces.root_mounts from.0 from.1
+        ∙ among_from_list_all (has_one_root nat_eq world) world.namespaces whole.in_world.namespaces.root_mounts
+        from.0 from.1
 
     by : (o : Option (Mount ℕ)) → root_mount nat_eq world (counted count) ≡ o
         → None ≡ option_map (λ mount. topmost nat_eq world.mounts (root_of mount)) o → ⊥
@@ -159,7 +160,8 @@ module _ (value : WorldValue) (whole : IsHeld value) (name : TaskName) (task : T
           let gone : one_if (nat_eq (counted e.count) task.namespace) ≡ cond (nat_eq left e.count) 1 0 =
           ap (λ k. one_if (nat_eq (counted e.count) k)) its ∙ ap one_if (counted_eq_back e.count left) in
           let some : nat_eq e.tasks 0 ≡ false = ap (λ k. nat_eq k 0) had ∙ tasks_counted (counted e.count) value.tasks
-          (passes (has_tasks nat_eq world) world.namespaces whole.in_world.namespaces.namespaces_live (namespace_of e)
+          (among_from_list_all (has_tasks nat_eq world) world.namespaces whole.in_world.namespaces.namespaces_live
+          (namespace_of e)
           (among-map namespace_of value.namespaces e n)) in
           by b (e.tasks + cond b 1 0) refl (let all : e.tasks + cond b 1 0
           ≡ times (λ (other : Task ℕ). nat_eq (counted e.count) other.namespace) tasks + cond

@@ -2,19 +2,19 @@
 use Rattle.std.proofs.Common.{◌≡◌, refl, sym, ap, subst, ◌∙◌, inl, inr, ℕ, ◌+◌, nat_eq, Bool, true, false, cond, not, List, [], ◌∷◌, ◌++◌, map, Some, arith, fold}
 use Rattle.vt_spec.proofs.Common.{Descriptor, Task, TaskName, ToExit, World, all_locations, and_parts, flat_map-append, folded, has_tasks, is_located_well, list_all, list_any, locations_of, map_twice, namespaces_ended, opens_for_writing, or_parts, same_Some, same_name, task_called}
 use Rattle.vt_spec.specs.Machine.Mounts as meant
-use Rattle.vt_mounting.proofs.Common.{Among, CountsWhatIsInIt, Filesystems, Grouping, IsHeld, MountEntry, NamespaceEntry, Tasks, WorldValue, among-append_left, among-append_right, among-map, among_from_all, called, counted, is_small_node, location_of, locations_in, namespace_of, number_of, one_if, passes, times, world_of, writes_of_task, writes_on}
+use Rattle.vt_mounting.proofs.Common.{Among, CountsWhatIsInIt, Filesystems, Grouping, IsHeld, MountEntry, NamespaceEntry, Tasks, WorldValue, among-append_left, among-append_right, among-map, among_from_all, among_from_list_all, called, counted, is_small_node, location_of, locations_in, namespace_of, number_of, one_if, times, world_of, writes_of_task, writes_on}
 use Rattle.vt_location.specs.declared.locations.Location.{Location}
 use Rattle.vt_request.specs.Requests.{access_of}
 use Rattle.vt_tasks.specs.declared.descriptors.OpenFile.{OpenFile}
 use Rattle.vt_tasks.specs.declared.task.Task.{Task as Held}
 use Rattle.vt_tasks.specs.TaskValue.{task_of}
 use Rattle.vt_tasks.specs.TasksValue.{AreNamedApart, without_called}
-use Rattle.vt_tasks.proofs.GivenOnce.{name-of-called, same_names}
+use Rattle.vt_tasks.proofs.GivenOnce.{name-of-called, same_task_name}
 use Rattle.vt_tasks.proofs.LocationLemmas.{total-without, without-nobody}
 use Rattle.vt_mounting.specs.Detach.Events.{Permits}
 use Rattle.vt_mounting.specs.Detach.NamespacesLeft.{MountsAreLeft, is_small_file, namespace_entry, with_one_task_less, without_file}
 use Rattle.vt_mounting.specs.Detach.Uses.{Kept, Merged, kept_of, kept_with, overlays_kept, without_location, without_use}
-use Rattle.vt_mounting.proofs.detach.Closing.{place, used_by}
+use Rattle.vt_mounting.proofs.detach.Closing.{place_of, used_by}
 use Rattle.vt_mounting.proofs.detach.Departing.{departs}
 use Rattle.vt_mounting.proofs.detach.LocationsSeen.{seen_where_located}
 use Rattle.vt_mounting.proofs.detach.MidwayDone.{leave_use}
@@ -49,7 +49,7 @@ one_goes_out name (first ∷ tasks) task apart found =
       back = tasks;
       was = ap (λ one. one ∷ tasks) (same_Some first task here);
       is = without-nobody name tasks
-          (ap (λ own. list_any (λ (other : Task ℕ). same_name own other.name) tasks) (same_names name first.name e)
+          (ap (λ own. list_any (λ (other : Task ℕ). same_name own other.name) tasks) (same_task_name name first.name e)
           ∙ others);
     }
     by false e here others later = let goes = later here in record {
@@ -115,7 +115,7 @@ module _ (value : WorldValue) (whole : IsHeld value) (name : TaskName) (task : T
       record {
         inside = omega (arith, had, one, was, is, own);
         some = ap (λ n. nat_eq n 0) had ∙ tasks_counted (counted entry.count) value.tasks
-            (passes (has_tasks nat_eq world) world.namespaces whole.in_world.namespaces.namespaces_live
+            (among_from_list_all (has_tasks nat_eq world) world.namespaces whole.in_world.namespaces.namespaces_live
             (namespace_of entry) (among-map namespace_of value.namespaces entry m));
       }
 
@@ -123,7 +123,8 @@ module _ (value : WorldValue) (whole : IsHeld value) (name : TaskName) (task : T
   pub located : (location : meant.Location ℕ) → Among location (locations_of task)
       → is_located_well nat_eq world location ≡ true
   located location m =
-      passes (is_located_well nat_eq world) (all_locations world) whole.in_world.tasks.locations_live location
+      among_from_list_all (is_located_well nat_eq world) (all_locations world) whole.in_world.tasks.locations_live
+      location
       (subst (λ all. Among location all) (sym (ap locations_in goes.was ∙ locations_around goes.front task goes.back))
       (among-append_right (locations_in goes.front) (locations_of task ++ locations_in goes.back) location
       (among-append_left (locations_of task) (locations_in goes.back) location m)))
@@ -142,7 +143,7 @@ pub files_left_so : (value : WorldValue) → IsHeld value
     → map (λ (file : OpenFile). location_of file.location) files ≡ map (λ (d : Descriptor ℕ). d.location) descriptors
     → map (λ (file : OpenFile). opens_for_writing (access_of file.access)) files
     ≡ map (λ (d : Descriptor ℕ). d.writes) descriptors → list_all is_small_file files ≡ true
-    → ((location : meant.Location ℕ) → Among location (map place descriptors)
+    → ((location : meant.Location ℕ) → Among location (map place_of descriptors)
     → is_located_well nat_eq (world_of value) location ≡ true)
     → fold without_file k files ≡ folded (leave_use (world_of value)) k (map used_by descriptors)
 files_left_so value whole [] [] k places writes slots well = refl

@@ -1,7 +1,7 @@
 -- The filesystem that a location of the code's world is in, by what is kept of it.
 use Rattle.std.proofs.Common.{◌≡◌, refl, sym, ap, ◌∙◌, ⊎_elim, inl, inr, true≢false, ℕ, ◌<◌, ◌%◌, nat_eq, eq-eqb, eqb-true, Bool, true, false, cond, ◌||◌, ◌&&◌, List, [], ◌∷◌, ◌++◌, map, flat_map, Some, is_some, unwrap_or, arith, All, nat_lt, option_to_list, ◌/◌}
 use Rattle.vt_spec.proofs.Common.{All-head, All-tail, Filesystem, Inodes, IsTree, Mount, Namespace, and_parts, any_pair, filesystem_at, filesystem_numbered, is_among, is_among_left, is_located_well, is_overlay, list_any, mount_at, node_in, or_parts, source_of, used_by_filesystem, used_by_mount}
-use Rattle.vt_mounting.proofs.Common.{Among, FilesystemEntry, Filesystems, HasOwnInodes, IsHeld, WorldValue, among-map, among_from_all, born_in, counted, counted_same, counted_test, entry_of, fails, filesystem_seen, filesystems_seen, inode_number, inodes_at, inodes_seen, is_counted_before, is_own_number, leaves_two, location_named, location_of, no_entry, number_of, used_numbers_are_named, world_of}
+use Rattle.vt_mounting.proofs.Common.{Among, FilesystemEntry, Filesystems, HasOwnInodes, IsHeld, WorldValue, among-map, among_from_all, born_in, counted, counted_same, counted_test, entry_of, filesystem_seen, filesystems_seen, inode_number, inodes_at, inodes_seen, is_counted_before, is_own_number, leaves_two, location_named, location_of, no_entry, none_among, number_of, used_numbers_are_named, world_of}
 use Rattle.vt_fs.specs.FilesystemsValue.{files_at}
 use Rattle.vt_location.specs.declared.locations.Location.{Location}
 use Rattle.vt_location.specs.declared.locations.NodeRef.{NodeRef}
@@ -9,7 +9,7 @@ use Rattle.vt_location.specs.declared.births.Birth.TheVariants.{Here}
 use Rattle.vt_location.proofs.NodeLemmas.{own_birth, own_count}
 use Rattle.vt_mounting.proofs.detach.Overlaid.{found_plain_one, plain_one_among}
 use Rattle.vt_mounting.proofs.detach.PlainFound.{found_where_plain}
-use Rattle.vt_mounting.proofs.detach.FilesystemsFound.{found as filesystem_found, found_if}
+use Rattle.vt_mounting.proofs.detach.FilesystemsFound.{filesystem_found, found_if}
 
 -- Filesystems by their counts
 
@@ -31,7 +31,7 @@ one_entry (first ∷ rest) one entry m =
     by others true e n next = ⊎_elim (λ same. ap Some (sym same)) (λ later. absurd (true≢false
         (sym (eq-eqb (counted first.count) (counted entry.count)
         (ap counted (sym (eqb-true entry.count first.count e))))
-        ∙ fails (λ (b : Filesystem ℕ). nat_eq (counted first.count) b.number) (filesystems_seen rest) others
+        ∙ none_among (λ (b : Filesystem ℕ). nat_eq (counted first.count) b.number) (filesystems_seen rest) others
         (filesystem_seen entry) (among-map filesystem_seen rest entry later)))) n
     by others false e n next =
         ⊎_elim (λ same. absurd (true≢false (sym (eq-eqb entry.count first.count (ap (λ x. x.count) same)) ∙ e))) next n

@@ -4,8 +4,8 @@ use Rattle.vt_spec.proofs.Common.{Filesystem, no_filesystem}
 use Rattle.vt_mounting.proofs.Common.{FilesystemEntry, Filesystems, filesystem_seen, filesystems_seen}
 
 -- the filesystem with a number, as the definitions find it
-abbrev pub found : Filesystems → ℕ → Filesystem ℕ
-found fs number =
+abbrev pub filesystem_found : Filesystems → ℕ → Filesystem ℕ
+filesystem_found fs number =
     unwrap_or (find (λ (filesystem : Filesystem ℕ). nat_eq number filesystem.number) (filesystems_seen fs))
     (no_filesystem number)
 

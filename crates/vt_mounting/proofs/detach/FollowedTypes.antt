@@ -1,7 +1,7 @@
 -- The types that the groups tell, where mounts are detached or uses change.
 use Rattle.std.proofs.Common.{◌≡◌, refl, sym, ap, subst, ◌∙◌, ℕ, nat_eq, Bool, true, false, true≢false, cond, ◌||◌, ◌⊎◌, ⊎_elim, inl, inr, List, [], ◌∷◌, Option, None, Some, eq-eqb, eqb-true, if◌then◌else◌}
 use Rattle.vt_spec.proofs.Common.{Mount, Private, Propagation, Shared, Slave, Unbindable, World, eqb-false, folded, is_among, is_unbindable, source_of}
-use Rattle.vt_mounting.proofs.Common.{Among, AreTyped, Grouping, Has, IsHeld, MountEntry, WorldValue, all_from_among, among-from_filter, among-from_map, among-map, among_from_all, changed, entry_numbered, held, inode_at, or_second, propagation_in, released, typed_by, typed_entry, world_of}
+use Rattle.vt_mounting.proofs.Common.{Among, AreTyped, Grouping, Has, IsHeld, MountEntry, WorldValue, all_from_among, among-from_filter, among-from_map, among-map, among_from_all, changed, entry_numbered, held, inode_at, or_right, propagation_in, released, typed_by, typed_entry, world_of}
 use Rattle.vt_group.specs.Laws.{shown}
 use Rattle.vt_group.proofs.Showing.{shows_types}
 use Rattle.vt_mounting.specs.Detach.Detached.{LeaveInTurn}
@@ -57,7 +57,7 @@ module _ (groups : Grouping) (numbers : List ℕ) where
   turn_done [] k last within same done = λ entry m. ⊎_elim (λ is. is) (λ none. absurd (true≢false (sym none)))
       (done entry (subst (λ (one : Kept). Among entry one.mounts) same m))
   turn_done (number ∷ rest) k last within turn done = turn_done rest (without_attachment number turn.0 k) last
-      (λ other t. within other (or_second (nat_eq other number) (is_among nat_eq other rest) t)) turn.3
+      (λ other t. within other (or_right (nat_eq other number) (is_among nat_eq other rest) t)) turn.3
       (one_left (IsDoneBut rest) number turn.0 k (λ was m same. inl (
         λ apart. absurd (true≢false (sym (within was.mount.number (ap (λ b. b || is_among nat_eq was.mount.number rest)
             (eq-eqb was.mount.number number (sym (eqb-true number was.mount.number same))))) ∙ apart)),

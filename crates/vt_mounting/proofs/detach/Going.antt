@@ -1,17 +1,17 @@
 -- Events of tasks after which the mount of a location that was left goes, and its filesystem with its last mount.
 use Rattle.std.proofs.Common.{◌≡◌, refl, sym, ap, subst, ◌∙◌, ⊎_elim, ℕ, ◌+◌, nat_eq, Bool, true, false, cond, not, ◌||◌, List, [], ◌∷◌, ◌++◌, map, filter, is_some, nat_lt, append-nil}
 use Rattle.vt_spec.proofs.Common.{Filesystem, Location, Mount, Permit, Task, TaskName, World, all_locations, and_parts, folded, is_among, is_located, is_located_well, is_mounted, is_overlay, map_alike, map_twice, mount_numbered, without_dead_filesystems, without_dead_mounts}
-use Rattle.vt_mounting.proofs.Common.{Among, CountsItsMounts, CountsItsUses, CountsWhatIsInIt, Exchanges, FilesystemEntry, Filesystems, Inode, IsHeld, IsMountedSoOften, LocationsStand, MountEntry, MountsStand, Shown, Tasks, WorldValue, all_from_among, all_pass, among-append, among-append_left, among-append_right, among-from_filter, among-from_map, among-map, among_from_all, counted, exchanged, exchanges_follow, filesystem_seen, in_use_of, inode_at, inodes_seen, is_mount_used, layer_count, located_while_counted, mount_takes_its_count, mount_uses, mounted_layer_count, mounts_in, mounts_of_worlds_stand, mounts_showing, overlays_seen, passes, shown, shown_entry, times, without, without_mount, world_of}
+use Rattle.vt_mounting.proofs.Common.{Among, CountsItsMounts, CountsItsUses, CountsWhatIsInIt, Exchanges, FilesystemEntry, Filesystems, Inode, IsHeld, IsMountedSoOften, LocationsStand, MountEntry, MountsStand, Shown, Tasks, WorldValue, all_from_among, among-append, among-append_left, among-append_right, among-from_filter, among-from_map, among-map, among_from_all, among_from_list_all, counted, exchanged, exchanges_follow, filesystem_seen, in_use_of, inode_at, inodes_seen, is_mount_used, layer_count, list_all_from_among, located_while_counted, mount_takes_its_count, mount_uses, mounted_layer_count, mounts_in, mounts_of_worlds_stand, mounts_showing, overlays_seen, shown, shown_entry, times, without, without_mount, world_of}
 use Rattle.vt_laws_mounts.proofs.counts.using.MountRoots as Roots
 use Rattle.vt_mounting.specs.Detach.Uses as meant
 use Rattle.vt_mounting.specs.Detach.Uses.{Kept, Merged, kept_of, kept_with}
 use Rattle.vt_mounting.proofs.detach.Bridging.{IsSwept}
 use Rattle.vt_mounting.proofs.detach.Finishing.{CountsBeside, IsApplied, finished}
 use Rattle.vt_mounting.proofs.detach.Grouped.{left_has}
-use Rattle.vt_mounting.proofs.detach.Moving.{Moves, Use, entry_counts, exchanged_shown, filesystems_moved, gained_there, held_counts, hold_if, inodes_of_uses, locations, mounts_moved, moved_kept, moved_overlays, release_if, released_counts, swap_eq, uses_moved}
+use Rattle.vt_mounting.proofs.detach.Moving.{Moves, Use, entry_counts, exchanged_shown, filesystems_moved, gained_there, held_counts, hold_if, inodes_of_uses, locations, mounts_moved, moved_kept, moved_overlays, nat_eq_turned, release_if, released_counts, uses_moved}
 use Rattle.vt_mounting.proofs.detach.Remaining.{remade_with}
 use Rattle.vt_mounting.proofs.detach.Staying.{IsDone, after}
-use Rattle.vt_mounting.proofs.detach.LayersLeft.{less as later_shown}
+use Rattle.vt_mounting.proofs.detach.LayersLeft.{later_shown}
 use Rattle.vt_mounting.proofs.detach.LostUses.{positive}
 use Rattle.vt_mounting.proofs.detach.MountsLeave.{LeavesOverlays, layers_exchanged, layers_stay, leaves_alike, leaves_at_first, leaves_then, left_counted, left_shown, merged_at_first, numbers_are, overlay_was, overlays_apart, overlays_stay, shown_are, some_at_first}
 use Rattle.vt_mounting.proofs.detach.OverlaysGone.{layers_gone, merged_in}
@@ -89,7 +89,7 @@ module _ (value : WorldValue) (whole : IsHeld value) (tasks : Tasks) (more : Lis
   mounts_are = ap mounts_in entries_are
       ∙ map_filtered (λ (entry : MountEntry). entry.mount) (λ entry. not (nat_eq number entry.mount.number))
       (λ x. not (nat_eq x.number number))
-      (λ entry. ap not (swap_eq entry.mount.number number)) (map moved_entry value.mounts)
+      (λ entry. ap not (nat_eq_turned entry.mount.number number)) (map moved_entry value.mounts)
       ∙ ap (filter (λ x. not (nat_eq x.number number)))
       (map_twice (λ (entry : MountEntry). entry.mount) moved_entry value.mounts
       ∙ map_alike (λ entry. (moved_entry entry).mount) (λ entry. entry.mount) value.mounts
@@ -106,7 +106,7 @@ module _ (value : WorldValue) (whole : IsHeld value) (tasks : Tasks) (more : Lis
   takes : (n : ℕ) → mounts_showing world n ≡ mounts_showing mounted n + cond (nat_eq mount.filesystem n) 1 0
   takes n = mount_takes_its_count world number n whole.in_world.mounts.one_number there
       ∙ ap (λ (x : Mount ℕ). mounts_showing mounted n + cond (nat_eq n x.filesystem) 1 0) found_so
-      ∙ ap (λ b. mounts_showing mounted n + cond b 1 0) (swap_eq n mount.filesystem)
+      ∙ ap (λ b. mounts_showing mounted n + cond b 1 0) (nat_eq_turned n mount.filesystem)
 
   leaves_next : LeavesOverlays value next
   leaves_next = leaves_alike world next refl (λ n. refl) value (leaves_at_first value whole)
@@ -218,12 +218,13 @@ module _ (value : WorldValue) (whole : IsHeld value) (tasks : Tasks) (more : Lis
       record { one_number = was.one_number; nowhere = was.nowhere; on_attached = was.on_attached }
 
   located : LocationsStand next
-  located = all_pass (λ location. is_among nat_eq location.mount (map (λ x. x.number) next.mounts)) (all_locations next)
+  located = list_all_from_among (λ location. is_among nat_eq location.mount (map (λ x. x.number) next.mounts))
+      (all_locations next)
       (λ location m.
       ⊎_elim (λ f. old location (subst (λ all. Among location all) (sym moves.was)
       (among-append_left moves.front (locations less ++ moves.back) location f))) (λ rest. ⊎_elim
       (λ come. (and_parts (is_among nat_eq location.mount (map (λ x. x.number) next.mounts)) _
-      (passes (is_located_well nat_eq world) (locations more) moves.there location come)).0)
+      (among_from_list_all (is_located_well nat_eq world) (locations more) moves.there location come)).0)
       (λ b. old location (subst (λ all. Among location all) (sym moves.was)
       (among-append_right moves.front (locations less ++ moves.back) location
       (among-append_right (locations less) moves.back location b))))
@@ -232,7 +233,8 @@ module _ (value : WorldValue) (whole : IsHeld value) (tasks : Tasks) (more : Lis
     where
       old : (location : Location ℕ) → Among location (all_locations world)
           → is_among nat_eq location.mount (map (λ x. x.number) next.mounts) ≡ true
-      old location m = passes (λ location. is_among nat_eq location.mount (map (λ x. x.number) world.mounts))
+      old location m = among_from_list_all
+          (λ location. is_among nat_eq location.mount (map (λ x. x.number) world.mounts))
           (all_locations world) (Roots.locations_of_worlds_stand world whole.in_world) location m
 
   unused_so : is_mount_used next number ≡ false

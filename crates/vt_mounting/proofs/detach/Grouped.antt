@@ -1,7 +1,7 @@
 -- The peer groups of worlds: what leaves them as they are, and that there are none where no mount is in one.
 use Rattle.std.proofs.Common.{◌≡◌, refl, sym, ap, subst, ◌∙◌, inl, inr, ℕ, nat_eq, nat_lt, Bool, true, false, true≢false, cond, not, ◌&&◌, ◌||◌, List, [], ◌∷◌, map, filter, Option, None, option_map, is_some}
 use Rattle.vt_spec.proofs.Common.{IsWorld, Mount, Private, Propagation, Shared, Slave, Unbindable, World, and_from, and_parts, cons_option, detached, has_members, is_located, is_nowhere_or_attached, is_private, list_all, list_any, mount_lives, or_false_left, settled, source_of}
-use Rattle.vt_mounting.proofs.Common.{Among, Grouping, Has, IsHeld, WorldValue, among-from_map, is_ungrouped, master_in, mounts_in, numbers_of, passes, peers_of, world_of}
+use Rattle.vt_mounting.proofs.Common.{Among, Grouping, Has, IsHeld, WorldValue, among-from_map, among_from_list_all, is_ungrouped, master_in, mounts_in, numbers_of, peers_of, world_of}
 use Rattle.vt_group.specs.Grouping.{are_rising}
 use Rattle.vt_group.specs.Steps.{is_member}
 use Rattle.vt_group.proofs.Peers.{members-peers}
@@ -149,7 +149,8 @@ pub left_has : (value : WorldValue) → IsHeld value → (next : World ℕ) → 
 left_has value held next mounts master =
     settled_has next value.groups (same_has (world_of value) next value.groups held.groups mounts master)
     (λ mount m dead.
-    nowhere_is_free mount (passes is_nowhere_or_attached (mounts_in value.mounts) held.in_world.mounts.nowhere mount
+    nowhere_is_free mount
+    (among_from_list_all is_nowhere_or_attached (mounts_in value.mounts) held.in_world.mounts.nowhere mount
     (subst (Among mount) mounts m))
     (or_false_left (is_some mount.namespace) (is_located nat_eq next mount.number) dead))
 
@@ -175,7 +176,7 @@ changed_has value held next change mounts master number namespace kind = settled
     (ap peers_of mounts ∙ peers_mapped change number kind (mounts_in value.mounts)) master) (λ mount m dead.
     let from = among-from_map change (mounts_in value.mounts) mount (subst (Among mount) mounts m) in
     ap (λ (x : Mount ℕ). is_ungrouped x.propagation) from.2 ∙ ap is_ungrouped (kind from.0)
-    ∙ nowhere_is_free from.0 (passes is_nowhere_or_attached
+    ∙ nowhere_is_free from.0 (among_from_list_all is_nowhere_or_attached
     (mounts_in value.mounts) held.in_world.mounts.nowhere from.0 from.1) (sym (namespace_is from.0 mount from.2)
     ∙ or_false_left (is_some mount.namespace) (is_located nat_eq next mount.number) dead))
   where

@@ -7,7 +7,7 @@ use Rattle.vt_laws_mounts.specs.LettingGo.OneByOne as Looks
 use Rattle.vt_laws_mounts.proofs.letting_go.leaving.PlacesLeft.{found_in_filter}
 use Rattle.vt_location.specs.declared.locations.Location.{Location}
 use Rattle.vt_mounting.specs.Detach.Uses.{Kept}
-use Rattle.vt_mounting.proofs.detach.Moving.{swap_eq}
+use Rattle.vt_mounting.proofs.detach.Moving.{nat_eq_turned}
 use Rattle.vt_mounting.proofs.detach.MountsLeave.{LeavesOverlays}
 use Rattle.vt_mounting.proofs.detach.Overlaid.{is_plain_one}
 use Rattle.vt_mounting.proofs.detach.OverlaysGone.{merged_in}
@@ -93,7 +93,7 @@ found_none (first ∷ rest) number = by (nat_eq first.number number) refl (found
     by true e later = later
     by false e later = ap (λ b. unwrap_or (cond b (Some first)
         (find (λ mount. nat_eq number mount.number) (filter (λ mount. not (nat_eq mount.number number)) rest)))
-        (no_mount number)) (swap_eq number first.number ∙ e) ∙ later
+        (no_mount number)) (nat_eq_turned number first.number ∙ e) ∙ later
 
 -- a mount that is detached keeps its number
 pub same_number : (number : ℕ) (mount : Mount ℕ) → (detached_if number mount).number ≡ mount.number

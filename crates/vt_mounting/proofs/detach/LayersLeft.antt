@@ -5,11 +5,11 @@ use Rattle.vt_mounting.proofs.Common.{Among, Inode, Shown, among-from_filter, am
 use Rattle.vt_mounting.specs.Detach.Uses.{mounts_shown, released_if, without_layer}
 use Rattle.vt_mounting.proofs.detach.FilesystemsLeft.{let_go_is, stays_at}
 use Rattle.vt_mounting.proofs.detach.LostUses.{shown_by_rule}
-use Rattle.vt_mounting.proofs.detach.Moving.{map_itself, swap_eq}
+use Rattle.vt_mounting.proofs.detach.Moving.{map_itself, nat_eq_turned}
 
 -- with these uses less, and as many mounts and layers
-abbrev pub less : List Inode → Shown → Shown
-less lost one = record one {
+abbrev pub later_shown : List Inode → Shown → Shown
+later_shown lost one = record one {
   inodes = folded (unpinned_if (counted one.count)) one.inodes lost;
   mounts = one.mounts - times (λ (inode : Inode). nat_eq (counted one.count) inode.0) lost;
 }
@@ -17,9 +17,10 @@ less lost one = record one {
 abbrev pub is_some_left : Shown → Bool
 is_some_left one = not (nat_eq one.mounts 0)
 
-nothing_less : (all : List Shown) → map (less []) all ≡ all
+nothing_less : (all : List Shown) → map (later_shown []) all ≡ all
 nothing_less all =
-    map_alike (less []) (λ one. one) all (λ one m. λ i. record one { mounts = none one.mounts i }) ∙ sym (map_itself all)
+    map_alike (later_shown []) (λ one. one) all (λ one m. λ i. record one { mounts = none one.mounts i }) ∙ sym
+    (map_itself all)
   where
     none : (n : ℕ) → n - 0 ≡ n
     none n = omega arith
@@ -85,8 +86,9 @@ module _ (inode : Inode) (all : List Shown) (counts : ℕ → ℕ)
       ∙ let_go_is inode.0 stepped
       ∙ filter_alike (λ (one : Shown). stays_at inode.0 stepped (counted one.count)) is_some_left stepped stays_is
 
-  less_again : (rest : List Inode) → map (less rest) stepped ≡ map (less (inode ∷ rest)) all
-  less_again rest = map_twice (less rest) step all ∙ map_alike (λ one. less rest (step one)) (less (inode ∷ rest)) all
+  less_again : (rest : List Inode) → map (later_shown rest) stepped ≡ map (later_shown (inode ∷ rest)) all
+  less_again rest = map_twice (later_shown rest) step all ∙ map_alike (λ one. later_shown rest (step one))
+      (later_shown (inode ∷ rest)) all
       (λ one m. by one (nat_eq inode.0 (counted one.count)) ∙ (λ i. record one {
         inodes = folded (unpinned_if (counted one.count)) one.inodes (inode ∷ rest);
         mounts = turned one i;
@@ -95,7 +97,7 @@ module _ (inode : Inode) (all : List Shown) (counts : ℕ → ℕ)
       rest_in : Shown → ℕ
       rest_in one = times (λ (other : Inode). nat_eq (counted one.count) other.0) rest
 
-      by : (one : Shown) (b : Bool) → less rest (cond b
+      by : (one : Shown) (b : Bool) → later_shown rest (cond b
           (record one { inodes = unpinned_if (counted one.count) one.inodes inode; mounts = one.mounts - 1 })
           (record one { inodes = unpinned_if (counted one.count) one.inodes inode })) ≡ record one {
             inodes = folded (unpinned_if (counted one.count)) one.inodes (inode ∷ rest);
@@ -113,7 +115,7 @@ module _ (inode : Inode) (all : List Shown) (counts : ℕ → ℕ)
       turned : (one : Shown) → one.mounts - cond (nat_eq inode.0 (counted one.count)) 1 0 - rest_in one
           ≡ one.mounts - (cond (nat_eq (counted one.count) inode.0) 1 0 + rest_in one)
       turned one = together one.mounts (cond (nat_eq inode.0 (counted one.count)) 1 0) (rest_in one)
-          ∙ ap (λ b. one.mounts - (cond b 1 0 + rest_in one)) (swap_eq inode.0 (counted one.count))
+          ∙ ap (λ b. one.mounts - (cond b 1 0 + rest_in one)) (nat_eq_turned inode.0 (counted one.count))
         where
           together : (n a k : ℕ) → n - a - k ≡ n - (a + k)
           together n a k = omega arith
@@ -122,7 +124,7 @@ module _ (inode : Inode) (all : List Shown) (counts : ℕ → ℕ)
 pub go_one_by_one : (lost : List Inode) (all : List Shown) (counts : ℕ → ℕ)
     → ((one : Shown) → Among one all → one.mounts ≡ counts (counted one.count))
     → ((one : Shown) → Among one all → nat_eq one.mounts 0 ≡ false)
-    → folded without_layer all lost ≡ filter is_some_left (map (less lost) all)
+    → folded without_layer all lost ≡ filter is_some_left (map (later_shown lost) all)
 go_one_by_one [] all counts each some = sym (filter_all is_some_left all (λ one m. ap not (some one m)))
     ∙ ap (filter is_some_left) (sym (nothing_less all))
 go_one_by_one (inode ∷ rest) all counts each some =
@@ -131,10 +133,10 @@ go_one_by_one (inode ∷ rest) all counts each some =
     ∙ go_one_by_one rest (filter is_some_left then) (counts_then inode all counts each some)
     (λ one m. each_then inode all counts each some one (among-from_filter is_some_left then one m).0)
     (λ one m. turned (nat_eq one.mounts 0) (among-from_filter is_some_left then one m).1)
-    ∙ filter-map is_some_left (less rest) (filter is_some_left then) (λ one. refl)
-    ∙ ap (map (less rest)) (filter_less (λ one. is_some_left (less rest one)) is_some_left then
+    ∙ filter-map is_some_left (later_shown rest) (filter is_some_left then) (λ one. refl)
+    ∙ ap (map (later_shown rest)) (filter_less (λ one. is_some_left (later_shown rest one)) is_some_left then
     (λ one m none. gone one.mounts (times (λ (other : Inode). nat_eq (counted one.count) other.0) rest)
-    (turned_back (nat_eq one.mounts 0) none))) ∙ sym (filter-map is_some_left (less rest) then (λ one. refl))
+    (turned_back (nat_eq one.mounts 0) none))) ∙ sym (filter-map is_some_left (later_shown rest) then (λ one. refl))
     ∙ ap (filter is_some_left) (less_again inode all counts each some rest)
   where
     turned : (b : Bool) → not b ≡ true → b ≡ false

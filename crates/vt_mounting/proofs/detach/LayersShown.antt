@@ -1,7 +1,7 @@
 -- The layers of an overlay of the code's world are directories of the plain trees that are kept, which the world shows.
 use Rattle.std.proofs.Common.{◌≡◌, ◌≤◌, ◌<◌, refl, sym, ap, subst, ◌∙◌, ⊎_elim, inl, inr, zero, ℕ, nat_eq, eqb-true, Bool, true, false, true≢false, not, ◌&&◌, List, [], ◌∷◌, length, map, Option, Some, None, unwrap_or, arith, suc, All, nat_le, nat_lt, slice_get, leb-true}
 use Rattle.vt_spec.proofs.Common.{Filesystem, IsTree, World, and-false, and_parts, filesystem_numbered, found_among, found_passes, has_fit_layers, is_directory_node, is_empty_list, is_overlay, is_plain_layer, layers_of, list_all, most_lowers, none_is_some, of_overlay, same_Some}
-use Rattle.vt_mounting.proofs.Common.{Among, AreLayers, FilesystemEntry, HasOwnInodes, IsHeld, OverlayEntry, ShowsLayer, WorldValue, all_from_among, among-map, among_from_all, counted, entry_at, entry_of, filesystem_seen, inode_of, inodes_at, inodes_seen, layer_seen, no_entry, numbered_all, overlay_seen, passes, world_of}
+use Rattle.vt_mounting.proofs.Common.{Among, AreLayers, FilesystemEntry, HasOwnInodes, IsHeld, OverlayEntry, ShowsLayer, WorldValue, all_from_among, among-map, among_from_all, among_from_list_all, counted, entry_at, entry_of, filesystem_seen, inode_of, inodes_at, inodes_seen, layer_seen, no_entry, numbered_all, overlay_seen, world_of}
 use Rattle.vt_location.specs.Numbers.{is_inode_of}
 use Rattle.vt_overlay.specs.declared.merge.layers.LayerRef.{LayerRef}
 use Rattle.vt_overlay.specs.MergedTree.{IsLayer}
@@ -52,7 +52,8 @@ module _ (value : WorldValue) (held : IsHeld value) (lowers : List LayerRef)
         × (is_directory_node ((filesystem_numbered nat_eq (world_of value) (counted count)).files.tree.node
         (inode_of layer.directory)) ≡ true)
     parts = and_parts (not (is_overlay (filesystem_numbered nat_eq (world_of value) (counted count)))) _
-        (passes (is_plain_layer nat_eq (world_of value)) (map layer_seen lowers) all_plain (layer_seen layer)
+        (among_from_list_all (is_plain_layer nat_eq (world_of value)) (map layer_seen lowers) all_plain
+        (layer_seen layer)
         (among-map layer_seen lowers layer n))
 
     is_kept : filesystem_numbered nat_eq (world_of value) (counted count)
@@ -98,7 +99,8 @@ module _ (value : WorldValue) (held : IsHeld value) (entry : OverlayEntry) (m : 
 
   all_plain : list_all (is_plain_layer nat_eq (world_of value)) (map layer_seen lowers) ≡ true
   all_plain = subst (λ layers. list_all (is_plain_layer nat_eq (world_of value)) layers ≡ true) same
-      (passes (of_overlay true (λ overlay. list_all (is_plain_layer nat_eq (world_of value)) (layers_of overlay)))
+      (among_from_list_all
+      (of_overlay true (λ overlay. list_all (is_plain_layer nat_eq (world_of value)) (layers_of overlay)))
       (world_of value).filesystems held.in_world.overlays.plain_layers (overlay_seen entry) among)
 
   -- they are layers, which the world shows
@@ -108,7 +110,8 @@ module _ (value : WorldValue) (held : IsHeld value) (entry : OverlayEntry) (m : 
   fits : (not (is_empty_list entry.lowers) ≡ true) × (nat_le (length entry.lowers) most_lowers ≡ true)
   fits = and_parts (not (is_empty_list entry.lowers)) (nat_le (length entry.lowers) most_lowers)
       (and_parts (not (is_empty_list entry.lowers) && nat_le (length entry.lowers) most_lowers) true
-      (passes (of_overlay true has_fit_layers) (world_of value).filesystems held.in_world.overlays.fit_layers
+      (among_from_list_all (of_overlay true has_fit_layers) (world_of value).filesystems
+      held.in_world.overlays.fit_layers
       (overlay_seen entry) among)).0
 
   -- one at least, and not too many

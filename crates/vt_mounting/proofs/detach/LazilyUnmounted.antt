@@ -1,9 +1,9 @@
 -- A lazy unmount of a tree of which no mount is in a group, and whose top stands on no shared mount: each of its events
 -- detaches one mount of the tree, and in the end all of them are detached.
 use Rattle.std.proofs.Common.{◌≡◌, refl, sym, ap, subst, ◌∙◌, inl, inr, ⊎_elim, ◌⊎◌, ℕ, zero, suc, nat_eq, eqb-true, eq-eqb, Bool, true, false, true≢false, cond, not, ◌&&◌, ◌||◌, List, [], ◌∷◌, ◌++◌, map, find, length, Option, Some, None, option_map, is_some, unwrap_or, nat_lt}
-use Rattle.vt_spec.proofs.Common.{HasLivingGroups, Lives, Location as Place, Mount, MountInvariants, Private, Propagation, Shared, Slave, Unbindable, World, after_going, any_pair, chain, children, cons_option, deepest_first, depth_of, detached, folded, going, holds_of, insert_deepest, is_among, is_going, is_nowhere_or_attached, is_private, is_shared, last_or, lazily_unmounted, list_all, map_alike, map_twice, mount_at, mount_in, mount_numbered, mount_point_left, mount_point_of_parent, mount_tree, no_mount, regrouped, same_Some, stands_on, taken_away, tree_from, unmounted, unmounted_if_there, with_mounts}
+use Rattle.vt_spec.proofs.Common.{HasLivingGroups, Lives, Location, Mount, MountInvariants, Private, Propagation, Shared, Slave, Unbindable, World, after_going, any_pair, chain, children, cons_option, deepest_first, depth_of, detached, folded, going, holds_of, insert_deepest, is_among, is_going, is_nowhere_or_attached, is_private, is_shared, last_or, lazily_unmounted, list_all, map_alike, map_twice, mount_at, mount_in, mount_numbered, mount_point_left, mount_point_of_parent, mount_tree, no_mount, regrouped, same_Some, stands_on, taken_away, tree_from, unmounted, unmounted_if_there, with_mounts}
 use Rattle.vt_spec.proofs.Lists as Spec
-use Rattle.vt_mounting.proofs.Common.{AllGroupsLive, Among, all_from_among, among-flat_map, among-from_filter, among-from_flat_map, among-from_map, among-map, among_from_all, among_numbers, found_in, found_is_there, found_itself, is_among_numbers, is_ungrouped, passes, peer_of, peers_of, regrouped_living}
+use Rattle.vt_mounting.proofs.Common.{AllGroupsLive, Among, all_from_among, among-flat_map, among-from_filter, among-from_flat_map, among-from_map, among-map, among_from_all, among_from_list_all, among_numbers, found_in, found_is_there, found_itself, is_among_numbers, is_ungrouped, peer_of, peers_of, regrouped_living}
 use Rattle.vt_laws_mounts.proofs.letting_go.mounting.MountingTaken as Taken
 use Rattle.vt_laws_mounts.proofs.mounts.Standing.{standing_is_computed}
 use Rattle.vt_laws_mounts.proofs.ends.UnmountingTrees.{trees_closed}
@@ -14,8 +14,7 @@ use Rattle.vt_mounting.proofs.detach.MountsGone.{found_mapped}
 use Rattle.vt_mounting.proofs.detach.Moving.{map_itself}
 use Rattle.vt_mounting.proofs.detach.UnmountedAlone.{goes_apart}
 use Rattle.vt_laws_mounts.proofs.ends.EndingCounts.{tree_placed}
-use Rattle.vt_laws_mounts.specs.LettingGo.Unmounting.{numbers_of_trees}
-pub use Rattle.vt_laws_mounts.specs.LettingGo.Unmounting.{numbers_of_trees as trees_numbers}
+pub use Rattle.vt_laws_mounts.specs.LettingGo.Unmounting.{numbers_of_trees}
 
 -- Mounts ordered by their depth are the same mounts
 
@@ -77,7 +76,7 @@ unshared Unbindable e = refl
 -- a mount stands on none that is shared
 abbrev pub IsApart : World ℕ → Mount ℕ → Type 0
 IsApart world mount =
-    (place : Place ℕ) → mount.mount_point ≡ Some place → is_shared (mount_at nat_eq world place).propagation ≡ false
+    (place : Location ℕ) → mount.mount_point ≡ Some place → is_shared (mount_at nat_eq world place).propagation ≡ false
 
 module _ (world : World ℕ) (live : AllGroupsLive world)
     (one : any_pair (λ (a b : Mount ℕ). nat_eq a.number b.number) world.mounts ≡ false)
@@ -182,7 +181,7 @@ module _ (world : World ℕ) (live : AllGroupsLive world)
   module _ (done : List ℕ) (now : World ℕ) (so : IsUnderway done now) (number : ℕ)
       (in_tree : is_among nat_eq number tree ≡ true) where
     -- it stands on no shared mount
-    stands_apart : (place : Place ℕ) → (mount_numbered nat_eq now number).mount_point ≡ Some place
+    stands_apart : (place : Location ℕ) → (mount_numbered nat_eq now number).mount_point ≡ Some place
         → is_shared (mount_at nat_eq world place).propagation ≡ false
     stands_apart place p = by (find (λ (x : Mount ℕ). nat_eq number x.number) world.mounts) refl
         (ap (λ (x : Mount ℕ). x.mount_point) (sym (found_now done now so number)) ∙ p)
@@ -199,8 +198,8 @@ module _ (world : World ℕ) (live : AllGroupsLive world)
     goes_now : going nat_eq now (mount_numbered nat_eq now number) ≡ number ∷ []
     goes_now = goes_apart now number (by (mount_numbered nat_eq now number).mount_point refl)
       where
-        by : (o : Option (Place ℕ)) → (mount_numbered nat_eq now number).mount_point ≡ o
-            → holds_of (λ (place : Place ℕ). is_shared (mount_at nat_eq now place).propagation) o ≡ false
+        by : (o : Option (Location ℕ)) → (mount_numbered nat_eq now number).mount_point ≡ o
+            → holds_of (λ (place : Location ℕ). is_shared (mount_at nat_eq now place).propagation) o ≡ false
         by None e = refl
         by (Some place) e = unshared_now done now so place.mount (stands_apart place e)
 
@@ -286,7 +285,7 @@ module _ (world : World ℕ) (live : AllGroupsLive world)
       mount_point = (ap (option_map (mount_point_left nat_eq now (number ∷ []))) none ∙ sym none) i;
     })
 
-    placed_stays : (x : Mount ℕ) (place : Place ℕ) → nat_eq x.number number ≡ false → x.mount_point ≡ Some place
+    placed_stays : (x : Mount ℕ) (place : Location ℕ) → nat_eq x.number number ≡ false → x.mount_point ≡ Some place
         → nat_eq place.mount number ≡ false → after_going nat_eq now (number ∷ []) x ≡ x
     placed_stays x place other p apart_from =
         let stays = Taken.stays now (number ∷ []) now.namespaces x (stays_so x other) in
@@ -309,7 +308,7 @@ module _ (world : World ℕ) (live : AllGroupsLive world)
                 (sym in_tree ∙ ap (λ k. is_among nat_eq k tree) (sym (eqb-true n number e)) ∙ outside))
             here false e = refl
 
-        by : (o : Option (Place ℕ)) → mount.mount_point ≡ o → after_going nat_eq now (number ∷ []) mount ≡ mount
+        by : (o : Option (Location ℕ)) → mount.mount_point ≡ o → after_going nat_eq now (number ∷ []) mount ≡ mount
         by None p = unplaced_stays mount (other mount.number out) p
         by (Some place) p = placed_stays mount place (other mount.number out) p
             (other place.mount (under (is_among nat_eq place.mount tree) refl))
@@ -360,28 +359,28 @@ module _ (world : World ℕ) (live : AllGroupsLive world)
         ap (after_going nat_eq now (number ∷ [])) (so.others mount m out) ∙ outside_stays mount m out
 
     -- A mount that stands on one that goes falls to where that one stands, which is on no shared mount.
-    falls_apart : (place : Place ℕ) → is_shared (mount_at nat_eq world place).propagation ≡ false
+    falls_apart : (place : Location ℕ) → is_shared (mount_at nat_eq world place).propagation ≡ false
         → is_shared (mount_at nat_eq world (mount_point_left nat_eq now (number ∷ []) place)).propagation ≡ false
     falls_apart place is = last (length now.mounts) place place is is
       where
-        below : Place ℕ → Option (Place ℕ)
+        below : Location ℕ → Option (Location ℕ)
         below = mount_point_of_parent nat_eq now (number ∷ [])
 
-        stands : (at : Place ℕ) → (b : Bool) → nat_eq at.mount number ≡ b → (under : Place ℕ)
+        stands : (at : Location ℕ) → (b : Bool) → nat_eq at.mount number ≡ b → (under : Location ℕ)
             → cond (b || false) (mount_at nat_eq now at).mount_point None ≡ Some under
             → is_shared (mount_at nat_eq world under).propagation ≡ false
         stands at false e under p = absurd (none_some under p)
         stands at true e under p = stands_apart under
             (ap (λ n. (mount_numbered nat_eq now n).mount_point) (sym (eqb-true at.mount number e)) ∙ p)
 
-        last : (steps : ℕ) (default at : Place ℕ) → is_shared (mount_at nat_eq world default).propagation ≡ false
+        last : (steps : ℕ) (default at : Location ℕ) → is_shared (mount_at nat_eq world default).propagation ≡ false
             → is_shared (mount_at nat_eq world at).propagation ≡ false
             → is_shared (mount_at nat_eq world (last_or default (chain steps below at))).propagation ≡ false
         last zero default at was so_far = so_far
         last (suc steps) default at was so_far = by (below at) refl (λ under is. last steps at under so_far is)
           where
-            by : (o : Option (Place ℕ)) → below at ≡ o
-                → ((under : Place ℕ) → is_shared (mount_at nat_eq world under).propagation ≡ false
+            by : (o : Option (Location ℕ)) → below at ≡ o
+                → ((under : Location ℕ) → is_shared (mount_at nat_eq world under).propagation ≡ false
                 → is_shared (mount_at nat_eq world (last_or at (chain steps below under))).propagation ≡ false)
                 → is_shared (mount_at nat_eq world
                 (last_or default (elim o [ None ↦ at ∷ [] | Some b ↦ at ∷ chain steps below b ]))).propagation ≡ false
@@ -395,7 +394,7 @@ module _ (world : World ℕ) (live : AllGroupsLive world)
     apart_next mount m its true place p = absurd (none_some place p)
     apart_next mount m its false place p = by (so.change mount).mount_point refl p
       where
-        by : (o : Option (Place ℕ)) → (so.change mount).mount_point ≡ o
+        by : (o : Option (Location ℕ)) → (so.change mount).mount_point ≡ o
             → option_map (mount_point_left nat_eq now (number ∷ [])) o ≡ Some place
             → is_shared (mount_at nat_eq world place).propagation ≡ false
         by None e q = absurd (none_some place q)
@@ -545,7 +544,7 @@ module _ (world : World ℕ) (kept : MountInvariants nat_eq world) (number : ℕ
   )) (λ placed. (
     placed.0,
     placed_is_attached y (is_some y.namespace) (is_some y.mount_point) placed.1
-        (passes is_nowhere_or_attached world.mounts kept.nowhere y placed.0),
+        (among_from_list_all is_nowhere_or_attached world.mounts kept.nowhere y placed.0),
   )) h
 
   tree_attached : (mount : Mount ℕ) → Among mount world.mounts → is_among nat_eq mount.number numbers ≡ true
@@ -574,7 +573,8 @@ module _ (world : World ℕ) (kept : MountInvariants nat_eq world) (number : ℕ
       → is_ungrouped mount.propagation ≡ true
   tree_is_free ungrouped mount m its =
       ap (λ (x : Mount ℕ). is_ungrouped x.propagation) (sym (found_itself world.mounts kept.one_number mount m))
-      ∙ passes (λ n. is_ungrouped (mount_in nat_eq world.mounts n).propagation) numbers ungrouped mount.number
+      ∙ among_from_list_all (λ n. is_ungrouped (mount_in nat_eq world.mounts n).propagation) numbers ungrouped
+      mount.number
       (among_numbers mount.number numbers its)
 
   -- Where the tree's mounts are in no group, and the top stands on no shared mount, a lazy unmount detaches the tree.
@@ -592,12 +592,13 @@ module _ (world : World ℕ) (kept : MountInvariants nat_eq world) (number : ℕ
           → IsApart world mount
       each_apart mount m its = ⊎_elim (λ same. subst (IsApart world) (sym same) apart)
           (λ under. λ place p. on_tree place under.0 under.1 (eqb-true under.0.number place.mount
-          (ap (holds_of (λ (at : Place ℕ). nat_eq under.0.number at.mount)) (sym p) ∙ under.2)))
+          (ap (holds_of (λ (at : Location ℕ). nat_eq under.0.number at.mount)) (sym p) ∙ under.2)))
           (tree_parent (length world.mounts) world.mounts top mount (tree_mount mount m its))
         where
-          on_tree : (place : Place ℕ) (parent : Mount ℕ) → Among parent tree → parent.number ≡ place.mount
+          on_tree : (place : Location ℕ) (parent : Mount ℕ) → Among parent tree → parent.number ≡ place.mount
               → is_shared (mount_at nat_eq world place).propagation ≡ false
           on_tree place parent among same = ap (λ n. is_shared (mount_in nat_eq world.mounts n).propagation) (sym same)
               ∙ unshared (mount_in nat_eq world.mounts parent.number).propagation
-              (passes (λ n. is_ungrouped (mount_in nat_eq world.mounts n).propagation) numbers ungrouped parent.number
+              (among_from_list_all (λ n. is_ungrouped (mount_in nat_eq world.mounts n).propagation) numbers ungrouped
+              parent.number
               (among-map (λ (x : Mount ℕ). x.number) tree parent among))

@@ -3,8 +3,8 @@ use Rattle.std.proofs.Common.{◌≡◌, ◌≢◌, refl, sym, ap, subst, ◌∙
 use Rattle.vt_spec.proofs.Common.{Mount, Permit, Task, TaskName, World, all_locations, eqb-false, is_among, mount_numbered, no_mount, without_dead_mounts}
 use Rattle.vt_laws_mounts.proofs.counts.going.Gone.{mount_goes_at_zero}
 use Rattle.vt_laws_mounts.proofs.counts.using.MountRoots as Roots
-use Rattle.vt_mounting.proofs.Common.{Among, CountsItsUses, Filesystems, IsHeld, MountEntry, Tasks, WorldValue, among-append_right, among-from_map, entry_numbered, found_in, mount_uses, mounts_go_one_by_one, mounts_of_worlds_stand, passes, times, without_mount, world_of, worlds_are_in_use}
-pub use Rattle.vt_laws_mounts.proofs.letting_go.Lists.{found_in as found_it}
+use Rattle.vt_mounting.proofs.Common.{Among, CountsItsUses, Filesystems, IsHeld, MountEntry, Tasks, WorldValue, all_in_use, among-append_right, among-from_map, among_from_list_all, entry_numbered, mount_uses, mounts_go_one_by_one, mounts_of_worlds_stand, times, without_mount, world_of}
+pub use Rattle.vt_laws_mounts.proofs.letting_go.Lists.{found_in}
 use Rattle.vt_laws_mounts.proofs.letting_go.leaving.PlacesLeft.{mounts_but}
 use Rattle.vt_mounting.specs.Detach.Uses as meant
 use Rattle.vt_mounting.specs.Detach.Uses.{Kept, Merged, kept_of, kept_with, overlays_kept}
@@ -51,7 +51,8 @@ module _ (value : WorldValue) (whole : IsHeld value) (tasks : Tasks) (more : Lis
   -- the mount is one of the world
   mount_listed : is_among nat_eq number (map (λ x. x.number) world.mounts) ≡ true
   mount_listed =
-      passes (λ location. is_among nat_eq location.mount (map (λ x. x.number) world.mounts)) (all_locations world)
+      among_from_list_all (λ location. is_among nat_eq location.mount (map (λ x. x.number) world.mounts))
+      (all_locations world)
       (Roots.locations_of_worlds_stand world whole.in_world) left_use.location
       (subst (λ all. Among left_use.location all) (sym moves.was)
       (among-append_right moves.front ((left_use.location ∷ []) ++ moves.back) left_use.location (inl refl)))
@@ -61,7 +62,7 @@ module _ (value : WorldValue) (whole : IsHeld value) (tasks : Tasks) (more : Lis
       ≡ cond (is_some (mount_numbered nat_eq next number).namespace || nat_lt 0 (mount_uses next number)) next
       (without_mount next number)
   looked = mounts_go_one_by_one next (number ∷ [])
-      (mounts_but world tasks (left_use.location ∷ []) (worlds_are_in_use world whole.in_world)
+      (mounts_but world tasks (left_use.location ∷ []) (all_in_use world whole.in_world)
       (mounts_of_worlds_stand world whole.in_world) (only_left value whole tasks more (left_use ∷ []) moves))
       ∙ mount_goes_at_zero next number whole.in_world.mounts.one_number
 

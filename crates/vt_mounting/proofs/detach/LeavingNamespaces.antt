@@ -1,7 +1,7 @@
 -- A task has left a namespace: what code has then is what the sweep leaves, once mounts get the types that groups tell.
 use Rattle.std.proofs.Common.{◌≡◌, refl, sym, ap, subst, ◌∙◌, ℕ, nat_eq, eq-eqb, Bool, true, false, true≢false, ◌&&◌, List, [], map, Option, Some, None, is_some}
-use Rattle.vt_spec.proofs.Common.{Location, Mount, MountInvariants, Namespace, World, and-false, holds_of, mount_at, regrouped}
-use Rattle.vt_mounting.proofs.Common.{Among, AreTyped, Grouping, Has, Inode, IsHeld, MountEntry, NamespaceEntry, TakesAway, Tasks, WorldValue, among_from_all, counted, fails, map_same, typed_by, typed_entry}
+use Rattle.vt_spec.proofs.Common.{Location, Mount, MountInvariants, Namespace, World, holds_of, mount_at, regrouped}
+use Rattle.vt_mounting.proofs.Common.{Among, AreTyped, Grouping, Has, Inode, IsHeld, MountEntry, NamespaceEntry, TakesAway, Tasks, WorldValue, among_from_all, counted, map_same, none_among, typed_by, typed_entry}
 use Rattle.vt_group.proofs.Others.{has_ordered}
 use Rattle.vt_mounting.specs.Detach.NamespacesLeft.{EndsIf, MountsAreLeft, NamespaceIsLeft, has_one_task, is_attached_in, namespace_entry, numbers_inside}
 use Rattle.vt_mounting.specs.Detach.Uses.{Kept}
@@ -9,7 +9,7 @@ use Rattle.vt_mounting.proofs.detach.Midway.{Reached}
 use Rattle.vt_mounting.proofs.detach.MidwayDone.{detaches_all}
 use Rattle.vt_mounting.proofs.detach.NamespacesEnded.{CountsOneMore, ends, ends_by}
 use Rattle.vt_mounting.proofs.detach.NamespacesTyped.{gone_numbers, left_has_groups, left_has_same, left_world}
-pub use Rattle.std.proofs.Math.Bool.{and-false as nothing_goes_with}
+pub use Rattle.std.proofs.Math.Bool.{and-false}
 
 -- the mounts of a namespace go, if it ends
 abbrev pub goes_with : Bool → ℕ → Mount ℕ → Bool
@@ -87,7 +87,7 @@ module _ (value : WorldValue) (whole : IsHeld value) (world : World ℕ) (invari
           ∙ eq-eqb (counted count) (counted count) refl)
           gone.ends.gone [] old (record new { mounts = gone.entries }) gone.ends.detached reached;
       all_gone = λ entry m.
-          ap (λ b. ends_now && b) (fails (is_attached_in (counted count)) gone.entries gone.ends.none_left entry m)
+          ap (λ b. ends_now && b) (none_among (is_attached_in (counted count)) gone.entries gone.ends.none_left entry m)
           ∙ and-false ends_now;
       typed = gone.types (has_ordered world before has) typed;
       has = left_has_groups world invariants tasks going namespaces stays before groups has

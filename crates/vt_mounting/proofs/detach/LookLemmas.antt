@@ -2,13 +2,13 @@
 use Rattle.std.proofs.Common.{◌≡◌, ◌≢◌, refl, sym, ap, ◌∙◌, ⊎_elim, inl, inr, true≢false, ℕ, nat_eq, eq-eqb, eqb-true, ne_eqb, Bool, true, false, cond, ◌||◌, ◌&&◌, List, [], ◌∷◌, filter, Option, Some, None, is_some, option_map, option_to_list}
 use Rattle.vt_spec.proofs.Common.{Among, Filesystem, IsTree, Layer, Overlay, among_from_list_all, and-false, and-true, and_parts, filesystem_at, filesystem_numbered, has_its_root, holds_of, is_directory_at, is_directory_node, is_directory_under, is_point, is_removed, is_removed_at, list_all, list_any, mount_at, mount_numbered, mounts_on, no_mount, node_at, of_overlay, or-false, overlay_or, points_of, then_some, upper_object, upper_points}
 use Rattle.vt_spec.specs.Machine.Mounts as meant
-use Rattle.vt_mounting.proofs.Common.{IsHeld, WorldValue, born_in, counted, counted_test, directory_there, inode_number, is_small_node, location_of, mounts_in, number_numbered, number_of, numbered_all, world_of}
+use Rattle.vt_mounting.proofs.Common.{IsHeld, WorldValue, born_in, counted, counted_test, directory_is_there, inode_number, is_small_node, location_of, mounts_in, number_numbered, number_of, numbered_all, world_of}
 use Rattle.vt_laws_mounts.proofs.mounts.MountsFound.{found_or_none}
 use Rattle.vt_location.specs.declared.locations.Location.{Location}
 use Rattle.vt_location.specs.declared.locations.NodeRef.{NodeRef}
 use Rattle.vt_location.proofs.NumberLemmas.{counted_inode}
 use Rattle.vt_mount.specs.MountsValue.{stands_over}
-pub use Rattle.vt_spec.proofs.Truths.{nat_eq_turned as turned}
+pub use Rattle.vt_spec.proofs.Truths.{nat_eq_turned}
 use Rattle.vt_mounting.specs.Detach.Looking.{is_seen}
 use Rattle.vt_mounting.proofs.detach.NodesFound.{IsNodeIn, at_home, in_no_other, no_counted_inode, nodes_own}
 use Rattle.vt_fs.proofs.TreesLookedAt.{nowhere_removed, nowhere_under, under_nowhere}
@@ -39,7 +39,7 @@ module _ (value : WorldValue) (held : IsHeld value) where
       → (filesystem_numbered nat_eq (world_of value) (counted count)).files.tree.node (inode_number owner slot) ≡ None
       → inode_number owner slot ≢ (filesystem_numbered nat_eq (world_of value) (counted count)).files.tree.root
   root_there count owner slot none same = ⊎_elim
-      (λ tree. true≢false (sym (directory_there (found.files.tree.node found.files.tree.root) tree.root_directory)
+      (λ tree. true≢false (sym (directory_is_there (found.files.tree.node found.files.tree.root) tree.root_directory)
       ∙ ap (λ n. is_some (found.files.tree.node n)) (sym same) ∙ ap is_some none))
       (λ missing. counted_inode count owner slot (sym (same ∙ ap (λ (f : Filesystem ℕ). f.files.tree.root) missing.0)))
       (numbered_all (λ (f : Filesystem ℕ). IsTree f.files.tree) (counted count) (world_of value).filesystems
@@ -58,7 +58,7 @@ module _ (value : WorldValue) (held : IsHeld value) where
       (among_from_list_all (has_its_root nat_eq (world_of value)) (mounts_in value.mounts) held.in_world.roots mount m)
 
   root_node : (mount : meant.Mount ℕ) → Among mount (mounts_in value.mounts) → IsNodeIn mount.filesystem mount.root
-  root_node mount m = nodes_own value held mount.filesystem mount.root (directory_there _ (mount_shows mount m).0)
+  root_node mount m = nodes_own value held mount.filesystem mount.root (directory_is_there _ (mount_shows mount m).0)
 
   -- the filesystem that a mount shows is counted
   pub shown_counted : (number : ℕ)
@@ -101,7 +101,7 @@ module _ (value : WorldValue) (held : IsHeld value) where
         directory directory_small (ap (λ n. nat_eq n (counted directory.filesystem.count))
         (eqb-true (mount_at nat_eq (world_of value) (location_of at)).filesystem
         (counted at.node.filesystem.count) seen) ∙ counted_test at.node.filesystem.count directory.filesystem.count
-        ∙ turned at.node.filesystem.count directory.filesystem.count ∙ other)))
+        ∙ nat_eq_turned at.node.filesystem.count directory.filesystem.count ∙ other)))
 
     -- the mounts that stand on an inode, through whatever mount
     pub points_are : points_of nat_eq (world_of value) (location_of at)
@@ -155,7 +155,8 @@ module _ (value : WorldValue) (held : IsHeld value) where
             (mount_at nat_eq (world_of value) place).filesystem).files.tree.node n))
             (sym (eqb-true place.node (number_of at.node) e)) ∙ is) in
             ap (λ n. nat_eq n (mount_at nat_eq (world_of value) (location_of at)).filesystem) home
-            ∙ turned (counted at.node.filesystem.count) (mount_at nat_eq (world_of value) (location_of at)).filesystem
+            ∙ nat_eq_turned (counted at.node.filesystem.count)
+            (mount_at nat_eq (world_of value) (location_of at)).filesystem
             ∙ sym (and-true (is_seen value at))
 
         by : (o : Option (meant.Location ℕ))
@@ -165,7 +166,7 @@ module _ (value : WorldValue) (held : IsHeld value) where
             (mount_at nat_eq (world_of value) (location_of at)).filesystem) o
             ≡ (is_seen value at && holds_of (λ place. nat_eq place.node (number_of at.node)) o)
         by None e = sym (and-false (is_seen value at))
-        by (Some place) e = there place (directory_there (node_at nat_eq (world_of value) place)
+        by (Some place) e = there place (directory_is_there (node_at nat_eq (world_of value) place)
             (and_parts (is_directory_at nat_eq (world_of value) place) true e).0)
             (nat_eq place.node (number_of at.node)) refl
 
@@ -186,7 +187,7 @@ module _ (value : WorldValue) (held : IsHeld value) where
         let mount = mount_at nat_eq (world_of value) (location_of at) in
         let home = at_home value held mount.filesystem at.node small
         (ap (λ n. is_some ((filesystem_numbered nat_eq (world_of value) mount.filesystem).files.tree.node n))
-        (sym same) ∙ directory_there _ (mount_shows mount m).0) in
+        (sym same) ∙ directory_is_there _ (mount_shows mount m).0) in
         true≢false (sym (eq-eqb mount.filesystem (counted at.node.filesystem.count) home) ∙ unseen)) (λ none same.
         counted_inode at.mount.count (born_in at.node.filesystem.count at.node.birth) at.node.slot
         (sym (ap (λ (mount : meant.Mount ℕ). mount.root) none) ∙ same))

@@ -1,7 +1,7 @@
 -- Lists of what is counted: what a step takes from them.
 use Rattle.std.proofs.Common.{◌≡◌, ◌≢◌, not, refl, sym, ap, ◌∙◌, ⊎_elim, inl, inr, ℕ, ◌+◌, nat_eq, eqb-true, eq-eqb, Bool, true, false, true≢false, cond, ◌||◌, List, [], ◌∷◌, ◌++◌, filter, find, flat_map, Some, option_map, unwrap_or, arith, nat_lt, lt-ltb}
 use Rattle.vt_spec.proofs.Common.{Filesystem, Mount, World, any_pair, eqb-false, filesystem_numbered, folded, list_any, map_alike, map_twice, no_filesystem, or_parts, same_Some}
-use Rattle.vt_mounting.proofs.Common.{Among, Exchanges, Inode, MountEntry, OneNumberAMount, Shown, among-from_filter, among-map, changed, counted, entry_numbered, fails, inode_uses, is_inode, mounts_in, none_passes, times}
+use Rattle.vt_mounting.proofs.Common.{Among, Exchanges, Inode, MountEntry, OneNumberAMount, Shown, among-from_filter, among-map, changed, counted, entry_numbered, inode_uses, is_inode, mounts_in, none_among, none_from_among, times}
 use Rattle.vt_mounting.specs.Detach.Uses.{mounts_shown}
 
 -- a fold over two lists put together is one after the other
@@ -86,8 +86,8 @@ one_number_less p (x ∷ xs) one =
   where
     by : (b : Bool) → list_any (λ b. nat_eq x.number b.number) xs ≡ false → OneNumberAMount (filter p xs)
         → OneNumberAMount (cond b (x ∷ filter p xs) (filter p xs))
-    by true others later = (λ i. none_passes (λ b. nat_eq x.number b.number) (filter p xs)
-        (λ y m. fails (λ b. nat_eq x.number b.number) xs others y (among-from_filter p xs y m).0) i || later i)
+    by true others later = (λ i. none_from_among (λ b. nat_eq x.number b.number) (filter p xs)
+        (λ y m. none_among (λ b. nat_eq x.number b.number) xs others y (among-from_filter p xs y m).0) i || later i)
     by false others later = later
 
 -- an entry is found by its number
@@ -105,7 +105,7 @@ entry_itself (x ∷ xs) one entry m =
         → cond b (Some x) (entry_numbered xs entry.mount.number) ≡ Some entry
     by others true e n next = ⊎_elim (λ same. ap Some (sym same)) (λ later. absurd (true≢false
         (sym (eq-eqb x.mount.number entry.mount.number (sym (eqb-true entry.mount.number x.mount.number e)))
-        ∙ fails (λ b. nat_eq x.mount.number b.number) (mounts_in xs) others entry.mount
+        ∙ none_among (λ b. nat_eq x.mount.number b.number) (mounts_in xs) others entry.mount
         (among-map (λ (one : MountEntry). one.mount) xs entry later)))) n
     by others false e n next = ⊎_elim (λ same. absurd (true≢false
         (sym (eq-eqb entry.mount.number x.mount.number (ap (λ (one : MountEntry). one.mount.number) same)) ∙ e))) next n

@@ -3,8 +3,8 @@
 -- whatever order; what is no longer used goes at once, and at the end that is gone which the sweep takes.
 use Rattle.std.proofs.Common.{◌≡◌, refl, sym, ap, subst, ◌∙◌, ℕ, ◌+◌, nat_eq, eqb-true, Bool, true, false, true≢false, cond, not, ◌||◌, List, [], ◌∷◌, ◌++◌, map, filter, flat_map, Option, Some, None, option_map, is_some, append_assoc, arith, IfSome, option_to_list}
 use Rattle.vt_spec.proofs.Common.{Filesystem, Mount, World, and_parts, any_pair, detached, folded, is_located_well, is_overlay, list_all, list_any, map_alike, map_twice, or_parts, same_Some}
-use Rattle.vt_mounting.proofs.Common.{Among, AreThere, Exchanges, FilesystemEntry, Inode, IsHeld, LocationsStand, MountEntry, MountsStand, OneNumberAMount, Shown, WorldValue, among-from_map, among-map, changed, counted, entry_numbered, exchanged, fails, in_use_of, inode_at, inodes_of_mount_point, inodes_seen, is_inode, is_small_node, layer_count, location_of, map_same, mount_uses, mounts_in, mounts_showing, number_of, pinned_if, released, times, times_append, unpinned_if, world_of, writes_of}
-use Rattle.vt_location.specs.declared.locations.Location.{Location as Place}
+use Rattle.vt_mounting.proofs.Common.{Among, AreThere, Exchanges, FilesystemEntry, Inode, IsHeld, LocationsStand, MountEntry, MountsStand, OneNumberAMount, Shown, WorldValue, among-from_map, among-map, changed, counted, entry_numbered, exchanged, in_use_of, inode_at, inodes_of_mount_point, inodes_seen, is_inode, is_small_node, layer_count, location_of, map_same, mount_uses, mounts_in, mounts_showing, none_among, number_of, pinned_if, released, times, times_append, unpinned_if, world_of, writes_of}
+use Rattle.vt_location.specs.declared.locations.Location.{Location}
 use Rattle.vt_mounting.specs.Detach.Uses as meant
 use Rattle.vt_mounting.specs.Detach.Uses.{Kept, detached_entry, is_unused, unpinned_at, unpinned_in}
 use Rattle.vt_mounting.proofs.detach.LocationsSeen.{seen_where_located}
@@ -225,7 +225,7 @@ module _ (value : WorldValue) (whole : IsHeld value) (start : World ℕ) (gained
   -- A mount is detached
 
   -- what a mount is at, in the world in which the call began
-  abbrev pub IsGoing : Kept → ℕ → Option Place → MountEntry → Type 0
+  abbrev pub IsGoing : Kept → ℕ → Option Location → MountEntry → Type 0
   IsGoing k number point entry = (entry_numbered k.mounts number ≡ Some entry) × (goes entry.mount ≡ true)
       × (option_map location_of point ≡ entry.mount.mount_point)
       × IfSome point (λ place. is_small_node place.node ≡ true)
@@ -268,7 +268,7 @@ module _ (value : WorldValue) (whole : IsHeld value) (start : World ℕ) (gained
           (λ (y : MountEntry). cond (nat_eq number y.mount.number) (detached_entry y) y) xs
           (λ y m. ap (λ b. cond b (detached_entry y) y)
           (ap (λ n. nat_eq n y.mount.number) (eqb-true number x.mount.number t)
-          ∙ fails (λ b. nat_eq x.mount.number b.number) (mounts_in xs) others y.mount
+          ∙ none_among (λ b. nat_eq x.mount.number b.number) (mounts_in xs) others y.mount
           (among-map (λ (one : MountEntry). one.mount) xs y m))) in
           (λ i. times test (here i ++ points_left world goes xs))
           ∙ times_append test (inodes_of_mount_point world entry.mount) (points_left world goes xs)
@@ -283,7 +283,7 @@ module _ (value : WorldValue) (whole : IsHeld value) (start : World ℕ) (gained
 
   module _ (left : List Use) (now : World ℕ) (k : Kept) (lost : List Inode)
       (mid : Midway value start gained goes left now k lost)
-      (number : ℕ) (point : Option Place) (entry : MountEntry) (going : IsGoing k number point entry) where
+      (number : ℕ) (point : Option Location) (entry : MountEntry) (going : IsGoing k number point entry) where
     abbrev lost_here : List Inode
     lost_here = inodes_of_mount_point world entry.mount
 
@@ -324,7 +324,7 @@ module _ (value : WorldValue) (whole : IsHeld value) (start : World ℕ) (gained
     }) k.filesystems
     unpinned_are = by point going.2 going.3
       where
-        by : (o : Option Place) → option_map location_of o ≡ entry.mount.mount_point
+        by : (o : Option Location) → option_map location_of o ≡ entry.mount.mount_point
             → IfSome o (λ place. is_small_node place.node ≡ true) → unpinned_at o k.filesystems
             ≡ map (λ (one : Shown). record one {
               inodes = folded (unpinned_if (counted one.count)) one.inodes lost_here;

@@ -1,7 +1,7 @@
 -- Where tasks have left uses and a namespace, before code has taken anything away.
 use Rattle.std.proofs.Common.{◌≡◌, refl, sym, ap, subst, ◌∙◌, ⊎_elim, ℕ, ◌+◌, nat_eq, eqb-true, Bool, true, false, true≢false, cond, not, ◌&&◌, ◌||◌, List, [], ◌∷◌, ◌++◌, map, find, flat_map, Option, Some, None, is_some, unwrap_or, append_assoc, arith, option_to_list, append-nil}
 use Rattle.vt_spec.proofs.Common.{Filesystem, Location, Mount, Namespace, Stands, World, all_locations, and_parts, any_pair, at_root, detached, folded, has_its_root, is_among, is_directory_at, is_located, is_located_well, is_nowhere_or_attached, list_all, list_any, map_alike, map_twice, mount_at, mount_in, mount_lives, mount_numbered, no_mount, node_at, on_parent, root_of, same_Some}
-use Rattle.vt_mounting.proofs.Common.{Among, CountsItsMounts, CountsItsUses, Exchanges, FilesystemEntry, Inode, IsHeld, LocationsStand, MountEntry, MountsStand, OneNumberAMount, Shown, Tasks, WorldValue, all_pass, among-append, among-append_left, among-append_right, among-filter_map, among-from_map, among-map, among_from_all, counted, directory_there, exchanges_follow, filesystem_seen, found_itself, inode_at, inodes_of_mount_point, layer_count, located_while_counted, locations_use_mounts, mount_is_placed, mount_uses, mounts_in, mounts_of_worlds_stand, passes, pinned_if, places_of, shown, shown_entry, stands_on_attached, times, world_of, worlds_are_in_use, writes_of}
+use Rattle.vt_mounting.proofs.Common.{Among, CountsItsMounts, CountsItsUses, Exchanges, FilesystemEntry, Inode, IsHeld, LocationsStand, MountEntry, MountsStand, OneNumberAMount, Shown, Tasks, WorldValue, all_in_use, among-append, among-append_left, among-append_right, among-filter_map, among-from_map, among-map, among_from_all, among_from_list_all, counted, directory_is_there, exchanges_follow, filesystem_seen, found_itself, inode_at, inodes_of_mount_point, layer_count, list_all_from_among, located_while_counted, locations_use_mounts, mount_is_placed, mount_uses, mounts_in, mounts_of_worlds_stand, pinned_if, places_of, shown, shown_entry, stands_on_attached, times, world_of, writes_of}
 use Rattle.vt_laws_mounts.proofs.counts.using.MountRoots as Roots
 use Rattle.vt_mounting.specs.Detach.Uses.{Kept, is_unused, kept_of}
 use Rattle.vt_mounting.proofs.detach.LostUses.{positive}
@@ -214,17 +214,17 @@ module _ (value : WorldValue) (whole : IsHeld value) (tasks : Tasks) (more less 
       → mount.mount_point ≡ o → list_all (is_located_well nat_eq world) (option_to_list o) ≡ true
   point_is_located mount m None e = refl
   point_is_located mount m (Some place) e =
-      let standing = passes (Rattle.vt_laws_mounts.specs.Counts.Using.is_on world.mounts)
+      let standing = among_from_list_all (Rattle.vt_laws_mounts.specs.Counts.Using.is_on world.mounts)
       (all_locations world ++ places_of world.mounts)
       (Roots.places_stand world stand (Roots.locations_of_worlds_stand world whole.in_world)) place
       (among-append_right (all_locations world) (places_of world.mounts) place
       (among-append_right (map root_of world.mounts) _ place
       (among-filter_map (λ (x : Mount ℕ). x.mount_point) world.mounts mount place m e))) in
-      let root = passes (has_its_root nat_eq world) world.mounts whole.in_world.roots mount m in
+      let root = among_from_list_all (has_its_root nat_eq world) world.mounts whole.in_world.roots mount m in
       let directory : is_directory_at nat_eq world place ≡ true =
       (and_parts _ true (ap (λ o. list_all (is_directory_at nat_eq world) (option_to_list o)) (sym e)
       ∙ (and_parts _ _ root).1)).0 in
-      (λ i. (standing i && directory_there (node_at nat_eq world place) directory i) && true)
+      (λ i. (standing i && directory_is_there (node_at nat_eq world place) directory i) && true)
 
   -- what mounts stand on stays with them
   pub parent_stays : (mount : Mount ℕ) → Among mount world.mounts → goes mount ≡ false → (place : Location ℕ)
@@ -255,11 +255,12 @@ module _ (value : WorldValue) (whole : IsHeld value) (tasks : Tasks) (more less 
   stand_ended : MountsStand ended
   stand_ended = record {
     one_number = one_number_ended world.mounts stand.one_number;
-    nowhere = all_pass is_nowhere_or_attached ended.mounts
+    nowhere = list_all_from_among is_nowhere_or_attached ended.mounts
         (λ x m. let from = among-from_map (gone_if goes) world.mounts x m in
         ap is_nowhere_or_attached from.2
-        ∙ outside from.0 (goes from.0) (passes is_nowhere_or_attached world.mounts stand.nowhere from.0 from.1));
-    on_attached = all_pass (stands_on_attached ended) ended.mounts
+        ∙ outside from.0 (goes from.0)
+        (among_from_list_all is_nowhere_or_attached world.mounts stand.nowhere from.0 from.1));
+    on_attached = list_all_from_among (stands_on_attached ended) ended.mounts
         (λ x m. let from = among-from_map (gone_if goes) world.mounts x m in
         ap (stands_on_attached ended) from.2 ∙ on from.0 from.1 (goes from.0) refl);
   }
@@ -282,17 +283,18 @@ module _ (value : WorldValue) (whole : IsHeld value) (tasks : Tasks) (more less 
           → stands_on_attached ended (cond b (detached x) x) ≡ true
       on x m true e = refl
       on x m false e = still x m e x.mount_point refl
-          (passes (stands_on_attached world) world.mounts stand.on_attached x m)
+          (among_from_list_all (stands_on_attached world) world.mounts stand.on_attached x m)
 
   located_ended : LocationsStand ended
   located_ended =
-      all_pass (λ location. is_among nat_eq location.mount (map (λ x. x.number) ended.mounts)) (all_locations next)
+      list_all_from_among (λ location. is_among nat_eq location.mount (map (λ x. x.number) ended.mounts))
+      (all_locations next)
       (λ location m.
       ap (is_among nat_eq location.mount) same_numbers ∙ ⊎_elim
       (λ f. old location (subst (λ all. Among location all) (sym moves.was)
       (among-append_left moves.front (locations less ++ moves.back) location f))) (λ rest. ⊎_elim
       (λ come. (and_parts (is_among nat_eq location.mount (map (λ x. x.number) world.mounts)) _
-      (passes (is_located_well nat_eq world) (locations more) moves.there location come)).0)
+      (among_from_list_all (is_located_well nat_eq world) (locations more) moves.there location come)).0)
       (λ b. old location (subst (λ all. Among location all) (sym moves.was)
       (among-append_right moves.front (locations less ++ moves.back) location
       (among-append_right (locations less) moves.back location b))))
@@ -301,7 +303,8 @@ module _ (value : WorldValue) (whole : IsHeld value) (tasks : Tasks) (more less 
     where
       old : (location : Location ℕ) → Among location (all_locations world)
           → is_among nat_eq location.mount (map (λ x. x.number) world.mounts) ≡ true
-      old location m = passes (λ location. is_among nat_eq location.mount (map (λ x. x.number) world.mounts))
+      old location m = among_from_list_all
+          (λ location. is_among nat_eq location.mount (map (λ x. x.number) world.mounts))
           (all_locations world) (Roots.locations_of_worlds_stand world whole.in_world) location m
 
   -- Filesystems
@@ -390,7 +393,8 @@ module _ (value : WorldValue) (whole : IsHeld value) (tasks : Tasks) (more less 
           let held = held_counts more was in
           ap (λ (x : Mount ℕ). not (is_some x.namespace) && nat_eq (folded hold_if was more).uses 0) held.mount
           ∙ by (is_some was.mount.namespace)
-          (passes (mount_lives nat_eq world) world.mounts (worlds_are_in_use world whole.in_world).mounts was.mount
+          (among_from_list_all (mount_lives nat_eq world) world.mounts (all_in_use world whole.in_world).mounts
+          was.mount
           (in_world was n)) held.uses (among_from_all (CountsItsUses world) value.mounts whole.mounts was n).uses
         where
           by : (b : Bool) → (b || is_located nat_eq world was.mount.number) ≡ true

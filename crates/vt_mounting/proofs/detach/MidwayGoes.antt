@@ -3,14 +3,14 @@
 -- task leaves.
 use Rattle.std.proofs.Common.{◌≡◌, refl, sym, ap, subst, ◌∙◌, ℕ, ◌+◌, nat_eq, eqb-true, eq-eqb, Bool, true, false, true≢false, cond, not, ◌&&◌, ◌||◌, List, [], ◌∷◌, ◌++◌, map, filter, find, flat_map, Option, Some, None, is_some, arith, nat_lt, option_to_list}
 use Rattle.vt_spec.proofs.Common.{Filesystem, Location, Mount, World, all_locations, and_parts, detached, filesystem_lives, folded, has_layer_on, is_among, is_located, is_mounted, is_nowhere_or_attached, is_overlay, list_all, list_any, mount_at, mount_in, mount_lives, mount_numbered, or_parts, same_Some, without_dead_filesystems, without_dead_mounts}
-use Rattle.vt_mounting.proofs.Common.{Among, Exchanges, Inode, IsHeld, LocationsStand, MountEntry, MountsStand, OneNumberAMount, Shown, WorldValue, all_pass, among-filter, among-from_filter, among-from_map, among-map, among_numbers, any-filter, any_passes, counted, entry_numbered, exchanges_follow, fails, filter-map, filter_alike, filter_less, found_itself, in_use_of, inodes_of_mount_point, inodes_seen, is_among_numbers, is_mount_used, layer_count, located_while_counted, mount_takes_its_count, mount_uses, mounted_layer_count, mounts_in, mounts_showing, one_passes, overlays_seen, passes, pinned_if, stands_on_attached, unpinned_if, without, without_mount, world_of}
+use Rattle.vt_mounting.proofs.Common.{Among, Exchanges, Inode, IsHeld, LocationsStand, MountEntry, MountsStand, OneNumberAMount, Shown, WorldValue, among-filter, among-from_filter, among-from_map, among-map, among_from_list_all, among_numbers, any-filter, any_among, any_from_among, counted, entry_numbered, exchanges_follow, filter-map, filter_alike, filter_less, found_itself, in_use_of, inodes_of_mount_point, inodes_seen, is_among_numbers, is_mount_used, layer_count, list_all_from_among, located_while_counted, mount_takes_its_count, mount_uses, mounted_layer_count, mounts_in, mounts_showing, none_among, overlays_seen, pinned_if, stands_on_attached, unpinned_if, without, without_mount, world_of}
 use Rattle.vt_laws_mounts.proofs.counts.using.MountRoots as Roots
 use Rattle.vt_mounting.specs.Detach.Uses as meant
 use Rattle.vt_mounting.specs.Detach.Uses.{Kept, is_unused, let_go_entry}
-use Rattle.vt_mounting.proofs.detach.LayersLeft.{less}
+use Rattle.vt_mounting.proofs.detach.LayersLeft.{later_shown}
 use Rattle.vt_mounting.proofs.detach.LostUses.{entry_found_at, entry_itself, flat_map_less, folded_append, one_number_less, positive}
 use Rattle.vt_mounting.proofs.detach.Midway.{IsShown, Midway, NoneUnused, Reached, UnusedOnly, gone_if, gone_number, one_number_kept, point_left, points_left, unused_parts}
-use Rattle.vt_mounting.proofs.detach.Moving.{Use, inodes_of_uses, swap_eq}
+use Rattle.vt_mounting.proofs.detach.Moving.{Use, inodes_of_uses, nat_eq_turned}
 use Rattle.vt_mounting.proofs.detach.BesideOverlays.{lives_more}
 use Rattle.vt_mounting.proofs.detach.MountsGone.{exchanges_between}
 use Rattle.vt_mounting.proofs.detach.MountsLeave.{layers_exchanged, layers_stay, leaves_then, left_counted, left_shown, numbers_are, overlay_was, overlays_apart, overlays_stay, shown_are}
@@ -42,9 +42,9 @@ module _ (now : World ℕ) (number : ℕ)
   -- what living mounts show, other mounts show
   shown_by_others : (n : ℕ) → is_mounted nat_eq living n ≡ true → is_mounted nat_eq others n ≡ true
   shown_by_others n h =
-      let one = one_passes (λ (mount : Mount ℕ). nat_eq n mount.filesystem)
+      let one = any_among (λ (mount : Mount ℕ). nat_eq n mount.filesystem)
       (filter (mount_lives nat_eq now) others.mounts) (ap (λ mounts. showing mounts n) same_left ∙ h) in
-      any_passes (λ (mount : Mount ℕ). nat_eq n mount.filesystem) others.mounts one.0
+      any_from_among (λ (mount : Mount ℕ). nat_eq n mount.filesystem) others.mounts one.0
       (among-from_filter (mount_lives nat_eq now) others.mounts one.0 one.1).0 one.2
 
   unshown : (n : ℕ) → is_mounted nat_eq others n ≡ false → is_mounted nat_eq living n ≡ false
@@ -175,7 +175,7 @@ module _ (value : WorldValue) (whole : IsHeld value) (start : World ℕ) (gained
     takes : (n : ℕ) → mounts_showing now n ≡ mounts_showing first n + cond (nat_eq f n) 1 0
     takes n = mount_takes_its_count now number n mid.stand.one_number mount_listed
         ∙ ap (λ (x : Mount ℕ). mounts_showing first n + cond (nat_eq n x.filesystem) 1 0) mount_is
-        ∙ ap (λ b. mounts_showing first n + cond b 1 0) (swap_eq n f)
+        ∙ ap (λ b. mounts_showing first n + cond b 1 0) (nat_eq_turned n f)
 
     each : (one : Shown) → Among one k.filesystems
         → one.mounts ≡ mounts_showing now (counted one.count) + layer_count now (counted one.count)
@@ -212,7 +212,7 @@ module _ (value : WorldValue) (whole : IsHeld value) (start : World ℕ) (gained
         apart mid.numbers
 
     shown_was : (new : Shown) → Among new kept_left.filesystems
-        → (one : Shown) × Among one k.filesystems × (new ≡ less lost_here one)
+        → (one : Shown) × Among one k.filesystems × (new ≡ later_shown lost_here one)
         × (new.mounts ≡ mounts_showing after (counted new.count) + layer_count after (counted new.count))
         × (nat_eq new.mounts 0 ≡ false)
     shown_was new m =
@@ -227,10 +227,11 @@ module _ (value : WorldValue) (whole : IsHeld value) (start : World ℕ) (gained
     stand_first : MountsStand first
     stand_first = record {
       one_number = one_number_less (λ other. not (nat_eq other.number number)) now.mounts mid.stand.one_number;
-      nowhere = all_pass is_nowhere_or_attached first.mounts
-          (λ x m. passes is_nowhere_or_attached now.mounts mid.stand.nowhere x (was x m).0);
-      on_attached = all_pass (stands_on_attached first) first.mounts
-          (λ x m. still x.mount_point (passes (stands_on_attached now) now.mounts mid.stand.on_attached x (was x m).0));
+      nowhere = list_all_from_among is_nowhere_or_attached first.mounts
+          (λ x m. among_from_list_all is_nowhere_or_attached now.mounts mid.stand.nowhere x (was x m).0);
+      on_attached = list_all_from_among (stands_on_attached first) first.mounts
+          (λ x m. still x.mount_point
+          (among_from_list_all (stands_on_attached now) now.mounts mid.stand.on_attached x (was x m).0));
     }
       where
         was : (x : Mount ℕ) → Among x first.mounts → Among x now.mounts × (not (nat_eq x.number number) ≡ true)
@@ -282,18 +283,19 @@ module _ (value : WorldValue) (whole : IsHeld value) (start : World ℕ) (gained
 
     located_first : LocationsStand first
     located_first =
-        all_pass (λ location. is_among nat_eq location.mount (map (λ x. x.number) first.mounts)) (all_locations now)
+        list_all_from_among (λ location. is_among nat_eq location.mount (map (λ x. x.number) first.mounts))
+        (all_locations now)
         (λ location m.
-        let on = passes (λ location. is_among nat_eq location.mount (map (λ x. x.number) now.mounts))
+        let on = among_from_list_all (λ location. is_among nat_eq location.mount (map (λ x. x.number) now.mounts))
         (all_locations now) mid.located location m in
         let from = among-from_map (λ (x : Mount ℕ). x.number) now.mounts location.mount
         (among_numbers location.mount (map (λ x. x.number) now.mounts) on) in
-        let apart = fails (λ (l : Location ℕ). nat_eq number l.mount) (all_locations now) not_located location m in
+        let apart = none_among (λ (l : Location ℕ). nat_eq number l.mount) (all_locations now) not_located location m in
         is_among_numbers location.mount (map (λ x. x.number) first.mounts)
         (subst (λ n. Among n (map (λ (x : Mount ℕ). x.number) first.mounts)) (sym from.2)
         (among-map (λ (x : Mount ℕ). x.number) first.mounts from.0
         (among-filter (λ other. not (nat_eq other.number number)) now.mounts from.0 from.1
-        (ap not (ap (λ n. nat_eq n number) (sym from.2) ∙ swap_eq location.mount number ∙ apart))))))
+        (ap not (ap (λ n. nat_eq n number) (sym from.2) ∙ nat_eq_turned location.mount number ∙ apart))))))
 
     same_points : points_left world goes (without number k.mounts) ≡ points_left world goes k.mounts
     same_points = ap (flat_map (point_left world goes))
@@ -316,7 +318,7 @@ module _ (value : WorldValue) (whole : IsHeld value) (start : World ℕ) (gained
         ∙ filter-map (λ (x : Mount ℕ). not (nat_eq x.number number)) (gone_if goes) (mounts_in k.mounts)
         (λ x. ap (λ n. not (nat_eq n number)) (gone_number goes x)) ∙ ap (map (gone_if goes))
         (filter-map (λ (x : Mount ℕ). not (nat_eq x.number number)) (λ (e : MountEntry). e.mount) k.mounts
-        (λ e. ap not (swap_eq e.mount.number number)))
+        (λ e. ap not (nat_eq_turned e.mount.number number)))
 
     shown_is : (new : Shown) → Among new kept_left.filesystems → IsShown value after gained lost_now new
     shown_is new m = let from = shown_was new m in let had = mid.shown from.0 from.1 in record {

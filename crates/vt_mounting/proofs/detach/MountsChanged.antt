@@ -3,7 +3,7 @@
 -- MS_PRIVATE or MS_UNBINDABLE, and with MS_MOVE.
 use Rattle.std.proofs.Common.{◌≡◌, refl, sym, ap, subst, ◌∙◌, ◌+◌, ℕ, nat_eq, eqb-true, Bool, true, false, true≢false, cond, ◌||◌, ◌&&◌, List, [], ◌∷◌, ◌++◌, map, filter, find, Option, Some, None, option_map, is_some, unwrap_or, option_to_list}
 use Rattle.vt_spec.proofs.Common.{Filesystem, Mount, Permit, Task, TaskName, World, any_pair, filesystem_lives, has_layer_on, is_located, is_mounted, list_any, map-append, map_twice, mount_lives, mount_numbered, no_mount, or_parts, settled, with_mounts, without_dead_filesystems, without_dead_mounts}
-use Rattle.vt_mounting.proofs.Common.{Among, AreThere, CountsItsMounts, CountsItsUses, CountsWhatIsInIt, Exchanges, FilesystemEntry, Filesystems, Has, Inode, IsHeld, MountEntry, Shown, WorldValue, all_from_among, among-from_map, among-map, among_from_all, any-map, changed, counted, entry_numbered, filesystem_seen, filter_all, in_use_of, inode_at, inodes_seen, layer_count, mount_is_placed, mounts_in, mounts_showing, passes, shown, shown_entry, times, world_of, worlds_are_in_use}
+use Rattle.vt_mounting.proofs.Common.{Among, AreThere, CountsItsMounts, CountsItsUses, CountsWhatIsInIt, Exchanges, FilesystemEntry, Filesystems, Has, Inode, IsHeld, MountEntry, Shown, WorldValue, all_from_among, all_in_use, among-from_map, among-map, among_from_all, among_from_list_all, any-map, changed, counted, entry_numbered, filesystem_seen, filter_all, in_use_of, inode_at, inodes_seen, layer_count, mount_is_placed, mounts_in, mounts_showing, shown, shown_entry, times, world_of}
 use Rattle.vt_laws_mounts.specs.LettingGo.InUse.{AllInUse}
 use Rattle.vt_mounting.proofs.detach.Bridging.{IsSwept}
 use Rattle.vt_mounting.proofs.detach.Finishing.{CountsBeside, IsApplied, finished}
@@ -120,11 +120,11 @@ module _ (value : WorldValue) (whole : IsHeld value) (number : ℕ) (change : Mo
   living_is : in_use_of next_of ≡ next_of
   living_is = ap (without_dead_filesystems nat_eq) mounts_stay ∙ ap (λ all. record next_of { filesystems = all })
       (filter_all (filesystem_lives nat_eq next_of) next_of.filesystems (λ f m.
-      same_lives f ∙ passes (filesystem_lives nat_eq (world_of value))
+      same_lives f ∙ among_from_list_all (filesystem_lives nat_eq (world_of value))
       (world_of value).filesystems in_use.filesystems f m))
     where
       in_use : AllInUse (world_of value)
-      in_use = worlds_are_in_use (world_of value) whole.in_world
+      in_use = all_in_use (world_of value) whole.in_world
 
       mounts_stay : without_dead_mounts nat_eq next_of ≡ next_of
       mounts_stay = ap (with_mounts next_of) (filter_all (mount_lives nat_eq next_of) next_of.mounts (λ mount m.
@@ -132,7 +132,7 @@ module _ (value : WorldValue) (whole : IsHeld value) (number : ℕ) (change : Mo
           ap (mount_lives nat_eq next_of) was.2
           ∙ (λ i. is_some (part_kept (λ one. one.namespace) keeps.namespace was.0 i)
           || is_located nat_eq (world_of value) (part_kept (λ one. one.number) keeps.number was.0 i))
-          ∙ passes (mount_lives nat_eq (world_of value)) (world_of value).mounts in_use.mounts was.0.mount
+          ∙ among_from_list_all (mount_lives nat_eq (world_of value)) (world_of value).mounts in_use.mounts was.0.mount
           (among-map (λ (entry : MountEntry). entry.mount) value.mounts was.0 was.1)))
 
       same_lives : (f : Filesystem ℕ) → filesystem_lives nat_eq next_of f ≡ filesystem_lives nat_eq (world_of value) f

@@ -1,8 +1,8 @@
 -- A mount that has left its namespace is looked at: it goes if nothing is on it, and its filesystem with its last
 -- mount.
 use Rattle.std.proofs.Common.{◌≡◌, ◌≢◌, refl, sym, ap, subst, ◌∙◌, inl, ⊎_elim, ℕ, ◌+◌, nat_eq, eqb-true, Bool, true, false, true≢false, cond, not, ◌&&◌, ◌||◌, List, [], ◌∷◌, ◌++◌, map, filter, find, Option, Some, None, option_map, is_some, unwrap_or, arith, nat_lt, option_to_list, lt-ltb}
-use Rattle.vt_spec.proofs.Common.{Filesystem, Location as Place, Mount, World, all_locations, detached, eqb-false, filesystem_lives, folded, is_among, is_located, is_nowhere_or_attached, is_overlay, mount_at, mount_lives, mount_numbered, no_mount, pair-filter, without_dead_filesystems}
-use Rattle.vt_mounting.proofs.Common.{Among, CountsItsUses, Exchanges, Inode, LocationsStand, MountEntry, MountsStand, Shown, WorldValue, all_from_among, all_pass, among-filter, among-from_filter, among-from_map, among-map, among_from_all, among_numbers, counted, entry_numbered, exchanges_follow, fails, filter-map, filter_all, found_in, inodes_seen, is_among_numbers, is_inode, is_mount_used, layer_count, located_while_counted, mount_takes_its_count, mount_uses, mounted_layer_count, mounts_in, mounts_showing, or_second, overlays_seen, passes, pinned_if, stands_on_attached, times_append, unpinned_if, without, without_mount, world_of}
+use Rattle.vt_spec.proofs.Common.{Filesystem, Location, Mount, World, all_locations, detached, eqb-false, filesystem_lives, folded, is_among, is_located, is_nowhere_or_attached, is_overlay, mount_at, mount_lives, mount_numbered, no_mount, pair-filter, without_dead_filesystems}
+use Rattle.vt_mounting.proofs.Common.{Among, CountsItsUses, Exchanges, Inode, LocationsStand, MountEntry, MountsStand, Shown, WorldValue, all_from_among, among-filter, among-from_filter, among-from_map, among-map, among_from_all, among_from_list_all, among_numbers, counted, entry_numbered, exchanges_follow, filter-map, filter_all, found_in, inodes_seen, is_among_numbers, is_inode, is_mount_used, layer_count, list_all_from_among, located_while_counted, mount_takes_its_count, mount_uses, mounted_layer_count, mounts_in, mounts_showing, none_among, or_right, overlays_seen, pinned_if, stands_on_attached, times_append, unpinned_if, without, without_mount, world_of}
 use Rattle.vt_laws_mounts.proofs.counts.going.Gone.{mount_goes_at_zero}
 use Rattle.vt_laws_mounts.proofs.counts.using.MountRoots as Roots
 use Rattle.vt_laws_mounts.specs.LettingGo.Mounting.{root_inode}
@@ -12,7 +12,7 @@ use Rattle.vt_mounting.specs.Detach.Uses as meant
 use Rattle.vt_mounting.specs.Detach.Uses.{Kept}
 use Rattle.vt_mounting.proofs.detach.Going.{map_filtered}
 use Rattle.vt_mounting.proofs.detach.Keeping.{IsKeptBut, IsShownIn, detached_in, looked_at, points_lost, points_without}
-use Rattle.vt_mounting.proofs.detach.Moving.{swap_eq}
+use Rattle.vt_mounting.proofs.detach.Moving.{nat_eq_turned}
 use Rattle.vt_mounting.proofs.detach.Shown.{found_entry}
 use Rattle.vt_mounting.proofs.detach.MountsLeave.{layers_exchanged, layers_stay, leaves_then, left_counted, left_shown, living_then, numbers_are, overlay_was, overlays_apart, overlays_stay, plain_ones_counted, shown_are}
 use Rattle.vt_mounting.proofs.detach.OverlaysGone.{layers_gone, merged_in}
@@ -52,7 +52,8 @@ none_numbered number (first ∷ rest) none x m = by (nat_eq number first.number)
         → nat_eq x.number number ≡ false) → nat_eq x.number number ≡ false
     by true f h n next = absurd cc
     by false f h n next =
-        ⊎_elim (λ same. ap (λ (y : Mount ℕ). nat_eq y.number number) same ∙ swap_eq first.number number ∙ f) (next h) n
+        ⊎_elim (λ same. ap (λ (y : Mount ℕ). nat_eq y.number number) same ∙ nat_eq_turned first.number number ∙ f)
+        (next h) n
 
 -- one that is pending keeps what it shows
 module _ (pending : List ℕ) (mount : Mount ℕ) where
@@ -112,10 +113,11 @@ module _ (old : WorldValue) (number : ℕ) (pending : List ℕ) (gained lost : L
     filesystems = is.filesystems;
     stand = is.stand;
     located = is.located;
-    in_use = all_pass (λ mount. is_among nat_eq mount.number pending || mount_lives nat_eq world mount) world.mounts
+    in_use = list_all_from_among (λ mount. is_among nat_eq mount.number pending || mount_lives nat_eq world mount)
+        world.mounts
         (λ mount m.
         both (nat_eq mount.number number) (is_among nat_eq mount.number pending) (mount_lives nat_eq world mount)
-        (passes (λ mount. is_among nat_eq mount.number (number ∷ pending)
+        (among_from_list_all (λ mount. is_among nat_eq mount.number (number ∷ pending)
         || mount_lives nat_eq world mount) world.mounts is.in_use mount m)
         (among-from_filter (λ mount. not (nat_eq mount.number number)
         || mount_lives nat_eq world mount) world.mounts mount
@@ -129,10 +131,10 @@ module _ (old : WorldValue) (number : ℕ) (pending : List ℕ) (gained lost : L
       same : looked_at world number ≡ world
       same = ap (without_dead_filesystems nat_eq) stay ∙ ap (λ all. record world { filesystems = all })
           (filter_all (filesystem_lives nat_eq world) world.filesystems
-          (λ f m. passes (filesystem_lives nat_eq world) world.filesystems is.mounted f m))
+          (λ f m. among_from_list_all (filesystem_lives nat_eq world) world.filesystems is.mounted f m))
 
       both : (a b c : Bool) → ((a || b) || c) ≡ true → (not a || c) ≡ true → (b || c) ≡ true
-      both true b c h g = or_second b c g
+      both true b c h g = or_right b c g
       both false b c h g = h
 
   module _ (entry : MountEntry) (e : entry_numbered k.mounts number ≡ Some entry)
@@ -213,7 +215,7 @@ module _ (old : WorldValue) (number : ℕ) (pending : List ℕ) (gained lost : L
       takes : (n : ℕ) → mounts_showing world n ≡ mounts_showing mounted n + cond (nat_eq mount.filesystem n) 1 0
       takes n = mount_takes_its_count world number n is.stand.one_number mount_listed
           ∙ ap (λ f. mounts_showing mounted n + cond (nat_eq n f) 1 0) shows
-          ∙ ap (λ b. mounts_showing mounted n + cond b 1 0) (swap_eq n mount.filesystem)
+          ∙ ap (λ b. mounts_showing mounted n + cond b 1 0) (nat_eq_turned n mount.filesystem)
 
       each : (one : Shown) → Among one k.filesystems
           → one.mounts ≡ mounts_showing world (counted one.count) + layer_count world (counted one.count)
@@ -281,43 +283,47 @@ module _ (old : WorldValue) (number : ℕ) (pending : List ℕ) (gained lost : L
               (sym same ∙ eqb-true x.number number h) ∙ nowhere_so))
           by x same false h = refl
 
-      place_attached : (x : Mount ℕ) → Among x world.mounts → (place : Place ℕ) → x.mount_point ≡ Some place
+      place_attached : (x : Mount ℕ) → Among x world.mounts → (place : Location ℕ) → x.mount_point ≡ Some place
           → is_some (mount_numbered nat_eq world place.mount).namespace ≡ true
       place_attached x m place p =
-          passes (λ (one : Place ℕ). is_some (mount_at nat_eq world one).namespace) (option_to_list x.mount_point)
-          (passes (stands_on_attached world) world.mounts is.stand.on_attached x m) place
+          among_from_list_all (λ (one : Location ℕ). is_some (mount_at nat_eq world one).namespace)
+          (option_to_list x.mount_point)
+          (among_from_list_all (stands_on_attached world) world.mounts is.stand.on_attached x m) place
           (subst (λ o. Among place (option_to_list o)) (sym p) (inl refl))
 
       stand_still : MountsStand remaining
       stand_still = record {
         one_number = pair-filter (λ
             (a b : Mount ℕ). nat_eq a.number b.number) is_other world.mounts is.stand.one_number;
-        nowhere = all_pass is_nowhere_or_attached remaining.mounts (λ x m.
-            passes is_nowhere_or_attached world.mounts is.stand.nowhere x
+        nowhere = list_all_from_among is_nowhere_or_attached remaining.mounts (λ x m.
+            among_from_list_all is_nowhere_or_attached world.mounts is.stand.nowhere x
             (among-from_filter is_other world.mounts x m).0);
-        on_attached = all_pass (stands_on_attached remaining) remaining.mounts (λ x m.
-            all_pass (λ place. is_some (mount_at nat_eq remaining place).namespace) (option_to_list x.mount_point)
+        on_attached = list_all_from_among (stands_on_attached remaining) remaining.mounts (λ x m.
+            list_all_from_among (λ place. is_some (mount_at nat_eq remaining place).namespace)
+            (option_to_list x.mount_point)
             (λ place p.
-            let attached = passes (λ place. is_some (mount_at nat_eq world place).namespace)
-            (option_to_list x.mount_point) (passes (stands_on_attached world) world.mounts is.stand.on_attached x
+            let attached = among_from_list_all (λ place. is_some (mount_at nat_eq world place).namespace)
+            (option_to_list x.mount_point)
+            (among_from_list_all (stands_on_attached world) world.mounts is.stand.on_attached x
             (among-from_filter is_other world.mounts x m).0) place p in
             ap (λ (one : Mount ℕ). is_some one.namespace) (stays_there place.mount attached) ∙ attached));
       }
 
       located_still : LocationsStand remaining
       located_still =
-          all_pass (λ location. is_among nat_eq location.mount (map (λ mount. mount.number) remaining.mounts))
+          list_all_from_among
+          (λ location. is_among nat_eq location.mount (map (λ mount. mount.number) remaining.mounts))
           (all_locations world) (λ location m.
           let from = among-from_map (λ (x : Mount ℕ). x.number) world.mounts location.mount
           (among_numbers location.mount (map (λ (x : Mount ℕ). x.number) world.mounts)
-          (passes (λ location. is_among nat_eq location.mount (map (λ mount. mount.number) world.mounts))
+          (among_from_list_all (λ location. is_among nat_eq location.mount (map (λ mount. mount.number) world.mounts))
           (all_locations world) is.located location m)) in
           is_among_numbers location.mount (map (λ (x : Mount ℕ). x.number) remaining.mounts)
           (subst (λ n. Among n (map (λ (x : Mount ℕ). x.number) remaining.mounts)) (sym from.2)
           (among-map (λ (x : Mount ℕ). x.number) remaining.mounts from.0
           (among-filter is_other world.mounts from.0 from.1
-          (ap not (ap (λ n. nat_eq n number) (sym from.2) ∙ swap_eq location.mount number
-          ∙ fails (λ (l : Place ℕ). nat_eq number l.mount) (all_locations world) not_located location m))))))
+          (ap not (ap (λ n. nat_eq n number) (sym from.2) ∙ nat_eq_turned location.mount number
+          ∙ none_among (λ (l : Location ℕ). nat_eq number l.mount) (all_locations world) not_located location m))))))
 
       abbrev kept_mounts : List MountEntry
       kept_mounts = without number k.mounts
@@ -325,7 +331,7 @@ module _ (old : WorldValue) (number : ℕ) (pending : List ℕ) (gained lost : L
       mounts_are : mounts_in kept_mounts ≡ filter is_other (mounts_in k.mounts)
       mounts_are = map_filtered (λ (one : MountEntry). one.mount)
           (λ (one : MountEntry). not (nat_eq number one.mount.number)) is_other
-          (λ one. ap not (swap_eq one.mount.number number)) k.mounts
+          (λ one. ap not (nat_eq_turned one.mount.number number)) k.mounts
 
       later_is : points_lost (world_of old) (mounts_in kept_mounts) pending ≡ later
       later_is = ap (λ all. points_lost (world_of old) all pending) mounts_are
@@ -383,10 +389,11 @@ module _ (old : WorldValue) (number : ℕ) (pending : List ℕ) (gained lost : L
         filesystems = shown_now;
         stand = stand_still;
         located = located_still;
-        in_use = all_pass (λ x. is_among nat_eq x.number pending || mount_lives nat_eq world x) remaining.mounts (λ x m.
+        in_use = list_all_from_among (λ x. is_among nat_eq x.number pending || mount_lives nat_eq world x)
+            remaining.mounts (λ x m.
             let from = among-from_filter is_other world.mounts x m in
             other (nat_eq x.number number) (is_among nat_eq x.number pending) (mount_lives nat_eq world x)
-            (passes (λ x. is_among nat_eq x.number (number ∷ pending)
+            (among_from_list_all (λ x. is_among nat_eq x.number (number ∷ pending)
             || mount_lives nat_eq world x) world.mounts is.in_use x from.0) from.1);
         mounted = living_then old is.held world is.leaves number mount.filesystem takes;
         leaves = leaves_then old is.held world is.leaves number mount.filesystem takes;

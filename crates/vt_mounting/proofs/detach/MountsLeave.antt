@@ -2,7 +2,7 @@
 -- layers.
 use Rattle.std.proofs.Common.{◌≡◌, refl, sym, ap, subst, ◌∙◌, ℕ, ◌+◌, ◌-◌, nat_eq, nat_lt, eqb-true, eq-eqb, Bool, true, false, true≢false, cond, not, ◌&&◌, ◌||◌, List, [], ◌∷◌, map, filter, find, flat_map, Option, Some, None, is_some, unwrap_or, arith}
 use Rattle.vt_spec.proofs.Common.{Filesystem, World, any_pair, filesystem_lives, folded, is_mounted, is_overlay, map_alike, map_twice, no_filesystem, of_overlay, pair-filter, without_dead_filesystems}
-use Rattle.vt_mounting.proofs.Common.{Among, CountsItsMounts, Exchanges, FilesystemEntry, FilesystemsInUse, Inode, IsHeld, IsMountedSoOften, Shown, WorldValue, all_pass, among-filter, among-from_filter, among-from_map, among_from_all, are_rising, counted, filesystem_seen, filter-map, filter_alike, filter_all, filter_twice, flat_map_alike, found_in, layer_count, layers_among, mounted_layer_count, mounted_while_counted, mounts_showing, or_first, overlay_seen, overlays_seen, passes, times, without_mount, world_of, worlds_are_in_use}
+use Rattle.vt_mounting.proofs.Common.{Among, CountsItsMounts, Exchanges, FilesystemEntry, FilesystemsInUse, Inode, IsHeld, IsMountedSoOften, Shown, WorldValue, all_in_use, among-filter, among-from_filter, among-from_map, among_from_all, among_from_list_all, are_rising, counted, filesystem_seen, filter-map, filter_alike, filter_all, filter_twice, flat_map_alike, found_in, layer_count, layers_among, list_all_from_among, mounted_layer_count, mounted_while_counted, mounts_showing, or_left, overlay_seen, overlays_seen, times, without_mount, world_of}
 use Rattle.vt_laws_mounts.specs.Counts.OverlaysStay.{HasNoLayerIn}
 use Rattle.vt_laws_mounts.proofs.counts.overlays.FilesystemUses.{overlays_take_their_uses}
 use Rattle.vt_laws_mounts.proofs.counts.overlays.Living.{layers_left_are_mounted, lives_while_counted, lives_while_mounted}
@@ -11,9 +11,9 @@ use Rattle.vt_laws_worlds.proofs.overlays_stay.weaving.WovenLists.{rising_filter
 use Rattle.vt_mounting.specs.Detach.Uses as meant
 use Rattle.vt_mounting.specs.Detach.Uses.{Merged, let_go_filesystem, merged_at, merged_seen, shown_left_by, unpinned_in, without_layer}
 use Rattle.vt_mounting.proofs.detach.BesideOverlays.{mounted_at_first, no_layer_midway, some_of_both}
-use Rattle.vt_mounting.proofs.detach.LayersLeft.{go_one_by_one, is_some_left, less}
+use Rattle.vt_mounting.proofs.detach.LayersLeft.{go_one_by_one, is_some_left, later_shown}
 use Rattle.vt_mounting.proofs.detach.LostUses.{found_unless, positive}
-use Rattle.vt_mounting.proofs.detach.Moving.{map_itself, swap_eq}
+use Rattle.vt_mounting.proofs.detach.Moving.{map_itself, nat_eq_turned}
 use Rattle.vt_mounting.proofs.detach.Overlaid.{is_plain_one, overlays_are, plain_one_among}
 use Rattle.vt_mounting.proofs.detach.OverlaysGone.{layers_go, layers_gone, layers_gone_by, layers_of_overlays, layers_parted, layers_used, merged_in, uses_layers}
 
@@ -52,7 +52,7 @@ module _ (old : WorldValue) (held : IsHeld old) (world : World ℕ) (leaves : Le
   pub overlay_lives_still : (f : Filesystem ℕ) → Among f world.filesystems → is_overlay f ≡ true
       → filesystem_lives nat_eq world f ≡ true
   overlay_lives_still f m e =
-      or_first (is_mounted nat_eq world f.number) _ (overlay_was f (among-filter is_overlay world.filesystems f m e)).1
+      or_left (is_mounted nat_eq world f.number) _ (overlay_was f (among-filter is_overlay world.filesystems f m e)).1
 
   -- and so does a filesystem in which something is counted
   pub counted_lives : (f : Filesystem ℕ) → nat_lt 0 (mounts_showing world f.number + layer_count world f.number) ≡ true
@@ -66,7 +66,8 @@ module _ (old : WorldValue) (held : IsHeld old) (world : World ℕ) (leaves : Le
       → nat_lt 0 (mounts_showing world f.number + layer_count world f.number) ≡ true
   plain_ones_counted living f m = ap (λ n. nat_lt 0 (mounts_showing world f.number + n)) (all_layers_mounted f.number)
       ∙ sym (some_of_both (mounts_showing world f.number) (mounted_layer_count world f.number))
-      ∙ sym (lives_while_counted world f) ∙ passes (filesystem_lives nat_eq world) world.filesystems living f m
+      ∙ sym (lives_while_counted world f) ∙ among_from_list_all (filesystem_lives nat_eq world) world.filesystems
+      living f m
 
   pub overlays_apart : any_pair (λ (a b : Filesystem ℕ). nat_eq a.number b.number) (filter is_overlay world.filesystems)
       ≡ false
@@ -169,7 +170,7 @@ module _ (old : WorldValue) (held : IsHeld old) (world : World ℕ) (leaves : Le
 
     -- and all that is left is in use.
     pub living_then : FilesystemsInUse left
-    living_then = all_pass (filesystem_lives nat_eq left) left.filesystems (λ f m.
+    living_then = list_all_from_among (filesystem_lives nat_eq left) left.filesystems (λ f m.
         let from = among-from_filter stays world.filesystems f (subst (λ all. Among f all) left_are m) in
         by f from.1 (is_overlay f) refl)
       where
@@ -180,7 +181,7 @@ module _ (old : WorldValue) (held : IsHeld old) (world : World ℕ) (leaves : Le
             (subst (λ all. Among overlay all) overlays_stay m)).1)
 
         by : (f : Filesystem ℕ) → stays f ≡ true → (b : Bool) → is_overlay f ≡ b → filesystem_lives nat_eq left f ≡ true
-        by f stay true e = or_first (is_mounted nat_eq left f.number) _
+        by f stay true e = or_left (is_mounted nat_eq left f.number) _
             (ap (λ b. cond b (is_shown f) (nat_lt 0 (counts f.number))) (sym e) ∙ stay)
         by f stay false e = lives_while_counted left f
             ∙ some_of_both (mounts_showing left f.number) (mounted_layer_count left f.number)
@@ -203,7 +204,7 @@ module _ (old : WorldValue) (held : IsHeld old) (world : World ℕ) (leaves : Le
       lost = (filesystem, root) ∷ layers_gone filesystem overlays
 
       abbrev pub left_shown : List Shown
-      left_shown = filter is_some_left (map (less lost) shown)
+      left_shown = filter is_some_left (map (later_shown lost) shown)
 
       gone_is : flat_map layers_used (filter (λ f. not (is_shown f)) (filter is_overlay world.filesystems))
           ≡ layers_gone filesystem overlays
@@ -217,14 +218,14 @@ module _ (old : WorldValue) (held : IsHeld old) (world : World ℕ) (leaves : Le
           ∙ ap (λ k. k + times (λ (inode : Inode). nat_eq n inode.0) (layers_gone filesystem overlays))
           (sym (layers_of_overlays left n) ∙ layers_stay n)
 
-      counted_less : (one : Shown) → Among one shown → (less lost one).mounts ≡ counts (counted one.count)
+      counted_less : (one : Shown) → Among one shown → (later_shown lost one).mounts ≡ counts (counted one.count)
       counted_less one m =
           let counts_are = each one m in
           let took = takes (counted one.count) in
           let layers = fewer_layers (counted one.count) in
           ap (λ b. one.mounts - (cond b 1 0
           + times (λ (inode : Inode). nat_eq (counted one.count) inode.0) (layers_gone filesystem overlays)))
-          (swap_eq (counted one.count) filesystem) ∙ omega (arith, counts_are, took, layers)
+          (nat_eq_turned (counted one.count) filesystem) ∙ omega (arith, counts_are, took, layers)
 
       -- where an overlay has the number, no plain filesystem has it
       module _ (one : Merged) (found : merged_at filesystem overlays ≡ Some one) where
@@ -241,7 +242,8 @@ module _ (old : WorldValue) (held : IsHeld old) (world : World ℕ) (leaves : Le
             (subst (λ all. Among one all) merged there.0) in
             ap (λ n. nat_eq n (counted x.count))
             (eqb-true filesystem one.number there.1 ∙ ap (λ (y : Merged). y.number) was.2)
-            ∙ swap_eq was.0.number (counted x.count) ∙ ap (λ (y : Shown). nat_eq (counted y.count) was.0.number) from.2
+            ∙ nat_eq_turned was.0.number (counted x.count) ∙ ap (λ (y : Shown). nat_eq (counted y.count) was.0.number)
+            from.2
             ∙ apart from.0 from.1 was.0 (overlay_was was.0 was.1).0
 
         nothing : without_layer shown (filesystem, root) ≡ unpinned
@@ -284,20 +286,21 @@ module _ (old : WorldValue) (held : IsHeld old) (world : World ℕ) (leaves : Le
           ∙ filter-map (λ n. nat_lt 0 (counts n)) (λ (one : Shown). counted one.count) shown (λ one. refl)
           ∙ ap (map (λ (one : Shown). counted one.count))
           (filter_alike (λ (one : Shown). nat_lt 0 (counts (counted one.count)))
-          (λ (one : Shown). is_some_left (less lost one)) shown
+          (λ (one : Shown). is_some_left (later_shown lost one)) shown
           (λ one m. positive (counts (counted one.count)) ∙ ap (λ n. not (nat_eq n 0)) (sym (counted_less one m))))
-          ∙ sym (map_twice (λ (one : Shown). counted one.count) (less lost)
-          (filter (λ (one : Shown). is_some_left (less lost one)) shown))
+          ∙ sym (map_twice (λ (one : Shown). counted one.count) (later_shown lost)
+          (filter (λ (one : Shown). is_some_left (later_shown lost one)) shown))
           ∙ ap (map (λ (one : Shown). counted one.count))
-          (sym (filter-map is_some_left (less lost) shown (λ one. refl)))
+          (sym (filter-map is_some_left (later_shown lost) shown (λ one. refl)))
 
       -- with its count,
-      pub left_counted : (new : Shown) → Among new left_shown → (one : Shown) × Among one shown × (new ≡ less lost one)
+      pub left_counted : (new : Shown) → Among new left_shown → (one : Shown) × Among one shown ×
+          (new ≡ later_shown lost one)
           × (new.mounts ≡ mounts_showing left (counted new.count) + layer_count left (counted new.count))
           × (nat_eq new.mounts 0 ≡ false)
       left_counted new m =
-          let from = among-from_filter is_some_left (map (less lost) shown) new m in
-          let was = among-from_map (less lost) shown new from.0 in (
+          let from = among-from_filter is_some_left (map (later_shown lost) shown) new m in
+          let was = among-from_map (later_shown lost) shown new from.0 in (
             was.0,
             was.1,
             was.2,
@@ -365,7 +368,7 @@ some_at_first value whole was m = turned (nat_eq was.mounts 0) (ap (λ n. not (n
     ∙ sym (positive (mounts_showing (world_of value) (counted was.count)
     + layer_count (world_of value) (counted was.count)))
     ∙ plain_ones_counted value whole (world_of value) (leaves_at_first value whole)
-    (worlds_are_in_use (world_of value) whole.in_world).filesystems (filesystem_seen was)
+    (all_in_use (world_of value) whole.in_world).filesystems (filesystem_seen was)
     (plain_one_among value whole.overlays.merged was m))
   where
     turned : (b : Bool) → not b ≡ true → b ≡ false

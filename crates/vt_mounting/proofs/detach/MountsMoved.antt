@@ -3,9 +3,9 @@ use Rattle.std.proofs.Common.{◌≡◌, refl, sym, ap, subst, ◌∙◌, inl, i
 use Rattle.vt_spec.proofs.Common.{Copies, Filesystem, Fresh, Location, Mount, Private, Propagation, Shared, Slave, TaskName, ToMove, Twig, Unbindable, World, and_parts, any_pair, attach, cons_option, copies_from, filesystem_numbered, folded, group_of, has_its_root, is_directory_at, is_directory_node, is_located_well, is_shared, list_all, list_any, map_twice, masters_with, mount_at, mount_numbered, mount_tree, no_mount, node_at, node_in, none_from_not_some, or_parts, replaced_if_same, twig_master, with_mount}
 use Rattle.vt_spec.specs.Inodes as Trees
 use Rattle.vt_spec.proofs.Lists as spec
-use Rattle.vt_mounting.proofs.Common.{Among, AreThere, Exchanges, FilesystemEntry, Filesystems, Inode, IsHeld, WorldValue, among-map, changed, counted, directory_there, found_is_there, inode_at, inodes_seen, is_among_numbers, is_small_node, location_of, mounts_in, mounts_of_worlds_stand, number_of, one_number_by_numbers, passes, shown, stands_on_attached, world_of}
+use Rattle.vt_mounting.proofs.Common.{Among, AreThere, Exchanges, FilesystemEntry, Filesystems, Inode, IsHeld, WorldValue, among-map, among_from_list_all, changed, counted, directory_is_there, found_is_there, inode_at, inodes_seen, is_among_numbers, is_small_node, location_of, mounts_in, mounts_of_worlds_stand, number_of, one_number_by_numbers, shown, stands_on_attached, world_of}
 use Rattle.vt_location.specs.declared.locations.Location.{Location as At}
-use Rattle.vt_laws_mounts.proofs.mounts.MountsFound.{number_found}
+use Rattle.vt_laws_mounts.proofs.mounts.MountsFound.{number-mount_in}
 use Rattle.vt_laws_mounts.proofs.mounts.MountsReplaced.{found_itself, numbers-with_mount}
 use Rattle.vt_laws_mounts.proofs.moves.Moving.{tree_top}
 use Rattle.vt_laws_mounts.proofs.moves.MovingRoots.{tree_placed}
@@ -17,7 +17,7 @@ use Rattle.vt_mounting.specs.Detach.Uses.{inode_of, pinned_in, unpinned_at, unpi
 use Rattle.vt_mounting.proofs.detach.Overlaid.{found_plain_one}
 use Rattle.vt_mounting.proofs.detach.FileEvents.{permit_fits}
 use Rattle.vt_mounting.proofs.detach.LocationsSeen.{seen_where_located}
-use Rattle.vt_mounting.proofs.detach.LookLemmas.{turned}
+use Rattle.vt_mounting.proofs.detach.LookLemmas.{nat_eq_turned}
 use Rattle.vt_mounting.proofs.detach.Moving.{exchanged_shown}
 use Rattle.vt_mounting.proofs.detach.MountsChanged.{KeepsWhatItShows, attached_entry, kind_kept, mount_is_changed, mounts_changed, next_of, one_changed, places_exchanged}
 use Rattle.vt_mounting.proofs.detach.Places.{located_is_named}
@@ -84,7 +84,7 @@ module _ (value : WorldValue) (held : IsHeld value) (number namespace : ℕ) (pl
   first_put : with_mount nat_eq (mounts_in value.mounts) put
       ≡ map (one_changed number (placed_at place)) (mounts_in value.mounts)
   first_put = spec-map_alike (replaced_if_same nat_eq put) (one_changed number (placed_at place)) mounts (λ mount m.
-      ap (λ n. cond (nat_eq n mount.number) put mount) (number_found mounts number)
+      ap (λ n. cond (nat_eq n mount.number) put mount) (number-mount_in mounts number)
       ∙ by mount m (nat_eq number mount.number) refl)
     where
       spec-map_alike : {A B : Type 0} (f g : A → B) (xs : List A) → ((x : A) → spec.Among x xs → f x ≡ g x)
@@ -125,14 +125,14 @@ module _ (value : WorldValue) (held : IsHeld value) (number namespace : ℕ) (pl
     top_copied = λ i. record top {
       namespace = (there ∙ sym inside) i;
       mount_point = Some (cond (eq-eqb top.number top.number refl i)
-          (record { mount = number_found mounts place.mount i; node = place.node })
+          (record { mount = number-mount_in mounts place.mount i; node = place.node })
           (unwrap_or (option_map (λ (at : Location ℕ). record { mount = at.mount; node = at.node }) top.mount_point) place));
     }
 
     rest_copied : (mount : Mount ℕ) → spec.Among mount rest → copy mount ≡ mount
     rest_copied mount m = (λ i. record mount {
       namespace = (there ∙ sym (in_tree value held number namespace inside mount (in_rest mount m)).2) i;
-      mount_point = Some (cond ((turned mount.number top.number ∙ another mount m) i)
+      mount_point = Some (cond ((nat_eq_turned mount.number top.number ∙ another mount m) i)
           (record { mount = (mount_at nat_eq (world_of value) place).number; node = place.node })
           (unwrap_or (option_map (λ (at : Location ℕ). record { mount = at.mount; node = at.node }) mount.mount_point) place));
     }) ∙ stays mount.mount_point (tree_placed (length mounts) mounts top mount placed (in_rest mount m))
@@ -200,17 +200,18 @@ mount_point_located value held number namespace point inside is =
     let stands = and_parts (is_some (mount_at nat_eq world point).namespace) true
     (ap (λ o. list_all (λ place. is_some (mount_at nat_eq (world_of value) place).namespace) (option_to_list o))
     (sym is)
-    ∙ passes (stands_on_attached world) mounts (mounts_of_worlds_stand world held.in_world).on_attached mount m) in
+    ∙ among_from_list_all (stands_on_attached world) mounts (mounts_of_worlds_stand world held.in_world).on_attached
+    mount m) in
     let roots = and_parts (is_directory_node
     ((filesystem_numbered nat_eq world mount.filesystem).files.tree.node mount.root)) _
-    (passes (has_its_root nat_eq world) mounts held.in_world.roots mount m) in
+    (among_from_list_all (has_its_root nat_eq world) mounts held.in_world.roots mount m) in
     let directory = and_parts (is_directory_at nat_eq world point) true
     (ap (λ o. list_all (is_directory_at nat_eq (world_of value)) (option_to_list o)) (sym is) ∙ roots.1) in
     (λ i.
     is_among_numbers point.mount (map (λ (x : Mount ℕ). x.number) mounts)
-    (subst (λ n. Among n (map (λ (x : Mount ℕ). x.number) mounts)) (number_found mounts point.mount)
+    (subst (λ n. Among n (map (λ (x : Mount ℕ). x.number) mounts)) (number-mount_in mounts point.mount)
     (among-map (λ (x : Mount ℕ). x.number) mounts (mount_at nat_eq world point)
-    (found_is_there mounts point.mount stands.0))) i && directory_there (node_at nat_eq world point) directory.0 i)
+    (found_is_there mounts point.mount stands.0))) i && directory_is_there (node_at nat_eq world point) directory.0 i)
 
 -- The event
 

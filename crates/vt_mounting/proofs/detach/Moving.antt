@@ -2,10 +2,10 @@
 use Rattle.std.proofs.Common.{◌≡◌, refl, sym, ap, subst, ◌∙◌, ⊎_elim, ℕ, ◌+◌, ◌-◌, nat_eq, eqb-true, eq-eqb, Bool, true, false, cond, not, ◌&&◌, ◌||◌, List, [], ◌∷◌, ◌++◌, map, Option, Some, None, is_some, arith}
 use Rattle.vt_spec.proofs.Common.{Filesystem, Location, Mount, World, all_locations, and_parts, filesystem_numbered, folded, is_located_well, is_there, list_all, map_alike, map_twice, mount_at, node_in, same_location}
 use Rattle.vt_spec.specs.Inodes as Trees
-use Rattle.vt_mounting.proofs.Common.{Among, AreThere, CountsItsUses, Exchanges, FilesystemEntry, Inode, IsHeld, MountEntry, Shown, Tasks, WorldValue, all_pass, among-append, among-append_left, among-append_right, among-from_map, among-map, among_from_all, any_passes, counted, exchanged, held, inode_at, inodes_seen, locations_use_mounts, mount_uses, mounts_in, or_first, or_second, passes, pinned_if, released, times, unpinned_if, world_of, writes_of}
+use Rattle.vt_mounting.proofs.Common.{Among, AreThere, CountsItsUses, Exchanges, FilesystemEntry, Inode, IsHeld, MountEntry, Shown, Tasks, WorldValue, among-append, among-append_left, among-append_right, among-from_map, among-map, among_from_all, among_from_list_all, any_from_among, counted, exchanged, held, inode_at, inodes_seen, list_all_from_among, locations_use_mounts, mount_uses, mounts_in, or_left, or_right, pinned_if, released, times, unpinned_if, world_of, writes_of}
 use Rattle.vt_laws_mounts.proofs.counts.using.Places.{locations_are_uses}
 use Rattle.vt_laws_mounts.specs.LettingGo.Leaving.{is_location_among, only_these_are_left}
-pub use Rattle.vt_spec.proofs.Truths.{nat_eq_turned as swap_eq}
+pub use Rattle.vt_spec.proofs.Truths.{nat_eq_turned}
 use Rattle.vt_mounting.specs.Detach.Uses.{Kept, released_use, with_use}
 use Rattle.vt_mounting.proofs.detach.Overlaid.{found_plain_one}
 use Rattle.vt_mounting.proofs.detach.Staying.{after}
@@ -86,7 +86,7 @@ pub held_counts : (uses : List Use) (entry : MountEntry) → HasMore uses entry 
 held_counts [] entry = record { mount = refl; uses = omega arith; writers = omega arith }
 held_counts (held_use ∷ uses) entry =
     let first = held_one entry (nat_eq held_use.location.mount entry.mount.number) held_use.writes in
-    let turned = swap_eq held_use.location.mount entry.mount.number in
+    let turned = nat_eq_turned held_use.location.mount entry.mount.number in
     let rest = held_counts uses (hold_if entry held_use) in
     let one : (hold_if entry held_use).uses ≡ entry.uses + cond (is_use_on entry.mount.number held_use) 1 0 = first.1
     ∙ ap (λ b. entry.uses + cond b 1 0) turned in
@@ -106,7 +106,7 @@ pub released_counts : (uses : List Use) (entry : MountEntry) → HasLess uses en
 released_counts [] entry = record { mount = refl; uses = omega arith; writers = omega arith }
 released_counts (held_use ∷ uses) entry =
     let first = released_one entry (nat_eq held_use.location.mount entry.mount.number) held_use.writes in
-    let turned = swap_eq held_use.location.mount entry.mount.number in
+    let turned = nat_eq_turned held_use.location.mount entry.mount.number in
     let rest = released_counts uses (release_if entry held_use) in
     let one : (release_if entry held_use).uses ≡ entry.uses - cond (is_use_on entry.mount.number held_use) 1 0 = first.1
     ∙ ap (λ b. entry.uses - cond b 1 0) turned in
@@ -215,10 +215,10 @@ module _ (value : WorldValue) (whole : IsHeld value) (tasks : Tasks) (more less 
 
   -- what was left was left
   pub only_left : only_these_are_left world tasks (locations less) ≡ true
-  only_left = all_pass (λ location. is_location_among (all_locations next) location
+  only_left = list_all_from_among (λ location. is_location_among (all_locations next) location
       || is_location_among (locations less) location) (all_locations world) (λ location m. ⊎_elim
       (λ f. still location (among-append_left moves.front (locations more ++ moves.back) location f)) (λ rest. ⊎_elim
-      (λ gone. or_second (is_location_among (all_locations next) location) _ (found (locations less) location gone))
+      (λ gone. or_right (is_location_among (all_locations next) location) _ (found (locations less) location gone))
       (λ b. still location (among-append_right moves.front (locations more ++ moves.back) location
       (among-append_right (locations more) moves.back location b)))
       (among-append (locations less) moves.back location rest))
@@ -227,12 +227,12 @@ module _ (value : WorldValue) (whole : IsHeld value) (tasks : Tasks) (more less 
     where
       found : (all : List (Location ℕ)) (location : Location ℕ) → Among location all
           → is_location_among all location ≡ true
-      found all location m = any_passes (same_location nat_eq location) all location m
+      found all location m = any_from_among (same_location nat_eq location) all location m
           (λ i. eq-eqb location.mount location.mount refl i && eq-eqb location.node location.node refl i)
 
       still : (location : Location ℕ) → Among location (moves.front ++ (locations more ++ moves.back))
           → (is_location_among (all_locations next) location || is_location_among (locations less) location) ≡ true
-      still location m = or_first _ _
+      still location m = or_left _ _
           (found (all_locations next) location (subst (λ all. Among location all) (sym moves.is) m))
 
   -- the counts of an entry once the tasks are there
@@ -269,12 +269,13 @@ module _ (value : WorldValue) (whole : IsHeld value) (tasks : Tasks) (more less 
   pub gained_there : (was : FilesystemEntry) → Among was value.filesystems
       → AreThere (counted was.count) (inodes_seen was) (inodes_of_uses world more)
   gained_there was m =
-      all_pass (λ inode. not (nat_eq (counted was.count) inode.0) || is_some ((inodes_seen was).inode inode.1))
+      list_all_from_among
+      (λ inode. not (nat_eq (counted was.count) inode.0) || is_some ((inodes_seen was).inode inode.1))
       (inodes_of_uses world more)
       (λ inode n. let from = among-from_map (λ (held_use : Use). inode_at world held_use.location) more inode n in
       ap (λ (one : Inode). not (nat_eq (counted was.count) one.0) || is_some ((inodes_seen was).inode one.1)) from.2
       ∙ by from.0.location (nat_eq (counted was.count) (mount_at nat_eq world from.0.location).filesystem) refl
-      (passes (is_located_well nat_eq world) (locations more) moves.there from.0.location
+      (among_from_list_all (is_located_well nat_eq world) (locations more) moves.there from.0.location
       (among-map (λ (held_use : Use). held_use.location) more from.0 from.1)))
     where
       some_inode : (o : Option (Trees.Inode ℕ)) → is_some (node_in o) ≡ is_some o

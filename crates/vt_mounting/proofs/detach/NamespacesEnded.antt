@@ -1,7 +1,7 @@
 -- The world in which a namespace has ended, and what its entries count.
 use Rattle.std.proofs.Common.{◌≡◌, ◌≢◌, refl, sym, ap, subst, ◌∙◌, ⊎_elim, inl, inr, ℕ, ◌+◌, ◌-◌, nat_eq, nat_lt, eqb-true, eq-eqb, Bool, true, false, true≢false, cond, not, ◌&&◌, ◌||◌, List, [], ◌∷◌, map, filter, Option, Some, None, arith, All, nat_le, option_map, option_to_list, leb-false, leb-true, lt-ltb}
 use Rattle.vt_spec.proofs.Common.{Location, Mount, Namespace, Task, World, after_going, and_parts, chain, detached, has_tasks, holds_of, is_going, is_in_ended, is_listed, last_or, list_all, list_any, map_alike, mount_at, mount_in, mount_numbered, mount_point_left, mount_point_of_parent, regrouped, same_Some, taken_away, with_mounts}
-use Rattle.vt_mounting.proofs.Common.{Among, CountsWhatIsInIt, NamespaceEntry, OneNumberAMount, Tasks, all_from_among, among-from_filter, among-from_map, among-map, among_numbers, any_passes, counted, counted_test, filter_all, found_itself, is_among_numbers, namespace_of, none_passes, times}
+use Rattle.vt_mounting.proofs.Common.{Among, CountsWhatIsInIt, NamespaceEntry, OneNumberAMount, Tasks, all_from_among, among-from_filter, among-from_map, among-map, among_numbers, any_from_among, counted, counted_test, filter_all, found_itself, is_among_numbers, namespace_of, none_from_among, times}
 use Rattle.vt_mounting.specs.Detach.NamespacesLeft.{entries_left, has_one_task, left_if, namespace_entry, one_task_less, with_one_task_less}
 use Rattle.vt_mounting.proofs.detach.LostUses.{positive}
 use Rattle.vt_mounting.proofs.detach.Midway.{gone_if}
@@ -327,12 +327,12 @@ module _ (count : ℕ) (tasks : Tasks) (entries : List NamespaceEntry)
                 → (ends && nat_eq count entry.count) ≡ b → list_any (λ namespace. nat_eq number namespace.number
                 && has_tasks nat_eq world namespace) world.namespaces ≡ not b
             lives number entry m namespace n is same false e =
-                any_passes (λ x. nat_eq number x.number && has_tasks nat_eq world x) world.namespaces namespace n
+                any_from_among (λ x. nat_eq number x.number && has_tasks nat_eq world x) world.namespaces namespace n
                 (ap (λ b. b && has_tasks nat_eq world namespace)
                 (eq-eqb number namespace.number (is ∙ ap (λ (x : Namespace ℕ). x.number) (sym same)))
                 ∙ ap (has_tasks nat_eq world) same ∙ has_tasks_is entry m ∙ ap not e)
             lives number entry m namespace n is same true e =
-                none_passes (λ x. nat_eq number x.number && has_tasks nat_eq world x) world.namespaces
+                none_from_among (λ x. nat_eq number x.number && has_tasks nat_eq world x) world.namespaces
                 (λ x k. one x (nat_eq number x.number) refl)
               where
                 one : (x : Namespace ℕ) (b : Bool) → nat_eq number x.number ≡ b

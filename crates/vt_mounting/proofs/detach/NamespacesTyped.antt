@@ -2,7 +2,7 @@
 -- at once, and the others get the types that the groups then tell.
 use Rattle.std.proofs.Common.{◌≡◌, refl, sym, ap, subst, ◌∙◌, ℕ, nat_eq, Bool, true, false, cond, List, map, filter, Some, is_some}
 use Rattle.vt_spec.proofs.Common.{Location, Mount, MountInvariants, Namespace, Private, World, detached, is_nowhere_or_attached, list_any, lost_a_group, mount_at, regrouped, regrouped_by, taken_away, with_mounts}
-use Rattle.vt_mounting.proofs.Common.{Among, Grouping, Has, TakesAway, Tasks, among-from_map, map_same, passes, regrouped_living}
+use Rattle.vt_mounting.proofs.Common.{Among, Grouping, Has, TakesAway, Tasks, among-from_map, among_from_list_all, map_same, regrouped_living}
 use Rattle.vt_mounting.proofs.detach.Grouped.{same_has, stays_private}
 use Rattle.vt_mounting.proofs.detach.Midway.{gone_if}
 use Rattle.vt_mounting.proofs.detach.NamespacesEnded.{taken_regrouped}
@@ -72,5 +72,6 @@ module _ (world : World ℕ) (invariants : MountInvariants nat_eq world) (tasks 
   nowhere_private mount m none =
       let from = among-from_map (gone_if goes) world.mounts mount m in
       ap (λ (x : Mount ℕ). x.propagation) from.2
-      ∙ stays_private from.0 (passes is_nowhere_or_attached world.mounts invariants.nowhere from.0 from.1) (goes from.0)
+      ∙ stays_private from.0
+      (among_from_list_all is_nowhere_or_attached world.mounts invariants.nowhere from.0 from.1) (goes from.0)
       (ap (λ (x : Mount ℕ). is_some x.namespace) (sym from.2) ∙ none)

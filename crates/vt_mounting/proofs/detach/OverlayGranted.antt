@@ -6,7 +6,7 @@ use Rattle.vt_mounting.proofs.detach.Moving.{map_itself}
 use Rattle.vt_spec.proofs.Tables.{destination_walk}
 use Rattle.vt_laws_trees.specs.Layers.Layers.Mounted.{AreLayers}
 use Rattle.vt_laws_trees.proofs.layers.mounting.Walked.{are_walked, fit_layers, has_layers, shown_plain}
-use Rattle.vt_mounting.proofs.Common.{Among, IsHeld, ShowsLayer, WorldValue, counted, directory_there, inode_number, layer_seen, passes, world_of}
+use Rattle.vt_mounting.proofs.Common.{Among, IsHeld, ShowsLayer, WorldValue, among_from_list_all, counted, directory_is_there, inode_number, layer_seen, world_of}
 use Rattle.vt_laws_rules.proofs.given.GivenPermits.{permits_are_for_their_calls}
 use Rattle.vt_laws_rules.proofs.given.Inversion.{calls_are_granted}
 use Rattle.vt_laws_rules.specs.Granted.{IsGranted}
@@ -78,14 +78,14 @@ module _ (value : WorldValue) (held : IsHeld value) (overlay : Overlay ℕ) (low
         × (is_directory_node ((filesystem_numbered nat_eq (world_of value) layer.filesystem).files.tree.node
         layer.directory) ≡ true)
     parts = and_parts (not (is_overlay (filesystem_numbered nat_eq (world_of value) layer.filesystem))) _
-        (passes (is_plain_layer nat_eq (world_of value)) overlay.lowers lowers_plain layer m)
+        (among_from_list_all (is_plain_layer nat_eq (world_of value)) overlay.lowers lowers_plain layer m)
 
     -- it is an inode of a plain filesystem
     pub layer_in : IsSeenIn value.filesystems layer.filesystem layer.directory
     layer_in = seen_in value.filesystems held.own_inodes layer.filesystem layer.directory
         (there_where_plain value held layer.filesystem layer.directory
         (by (is_overlay (filesystem_numbered nat_eq (world_of value) layer.filesystem)) parts.0)
-        (directory_there ((filesystem_numbered nat_eq (world_of value) layer.filesystem).files.tree.node
+        (directory_is_there ((filesystem_numbered nat_eq (world_of value) layer.filesystem).files.tree.node
         layer.directory) parts.1))
       where
         by : (b : Bool) → not b ≡ true → b ≡ false

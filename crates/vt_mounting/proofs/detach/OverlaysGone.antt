@@ -1,7 +1,7 @@
 -- A mount goes, and what it alone showed with it: of overlays at most one, whose layers go with it.
 use Rattle.std.proofs.Common.{◌≡◌, refl, sym, ap, ◌∙◌, inl, inr, ℕ, ◌+◌, ◌-◌, nat_eq, nat_lt, eqb-true, Bool, true, false, true≢false, cond, not, List, [], ◌∷◌, ◌++◌, map, filter, flat_map, Option, Some, None, is_some, arith, append-nil}
 use Rattle.vt_spec.proofs.Common.{Filesystem, Layer, Overlay, World, any_pair, is_mounted, is_overlay, layers_of, list_any, of_overlay, or_parts, overlay_or}
-use Rattle.vt_mounting.proofs.Common.{Among, Inode, fails, layer_count, layers_among, mounted_while_counted, mounts_showing, overlays_use_filesystems, times, times_append, without_mount}
+use Rattle.vt_mounting.proofs.Common.{Among, Inode, layer_count, layers_among, mounted_while_counted, mounts_showing, none_among, overlays_use_filesystems, times, times_append, without_mount}
 use Rattle.vt_laws_mounts.specs.LettingGo.Overlays.{used_by_filesystem, uppers_in}
 use Rattle.vt_laws_mounts.proofs.letting_go.Lists.{flat_map_none}
 use Rattle.vt_mounting.specs.Detach.Uses.{Merged, merged_at}
@@ -105,7 +105,8 @@ module _ (world : World ℕ) (number filesystem : ℕ) (takes : (n : ℕ) → mo
       by true e later = ap (λ all. flat_map layers_used (cond (goes overlay) (overlay ∷ all) all))
           (none_go rest (λ other m. ap not (others_shown other.number
           (ap (λ n. nat_eq n other.number) (eqb-true filesystem overlay.number e)
-          ∙ fails (λ (b : Filesystem ℕ). nat_eq overlay.number b.number) rest parts.0 other m) ∙ shown other (inr m))))
+          ∙ none_among (λ (b : Filesystem ℕ). nat_eq overlay.number b.number) rest parts.0 other m) ∙ shown other
+          (inr m))))
           ∙ alone (goes overlay) ∙ ap (λ b. cond b (layers_used overlay) []) (goes_at_one overlay e)
       by false e later = ap (λ b. flat_map layers_used (cond b (overlay ∷ filter goes rest) (filter goes rest)))
           (ap not (others_shown overlay.number e ∙ shown overlay (inl refl))) ∙ later

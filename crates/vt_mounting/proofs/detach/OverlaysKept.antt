@@ -1,7 +1,7 @@
 -- What code keeps of overlays where a mount goes: those that mounts show still, with a mount less of that one.
 use Rattle.std.proofs.Common.{◌≡◌, refl, sym, ap, ◌∙◌, inl, inr, ℕ, ◌+◌, ◌-◌, nat_eq, eqb-true, Bool, true, false, cond, not, List, [], ◌∷◌, map, filter, Option, Some, None, arith}
 use Rattle.vt_spec.proofs.Common.{Filesystem, World, any_pair, is_mounted, list_any, or_parts}
-use Rattle.vt_mounting.proofs.Common.{Among, fails, mounts_showing, without_mount}
+use Rattle.vt_mounting.proofs.Common.{Among, mounts_showing, none_among, without_mount}
 use Rattle.vt_mounting.specs.Detach.Uses.{Merged, merged_at, merged_left_by, released_merged, without_merged}
 use Rattle.vt_mounting.proofs.detach.OverlaysGone.{goes_at_one, layers_used, merged_in, others_shown}
 
@@ -77,7 +77,7 @@ module _ (world : World ℕ) (number filesystem : ℕ) (takes : (n : ℕ) → mo
           stay : StayAsKept rest
           stay = others_stay rest (λ other m. shown other (inr m)) (λ other m.
               ap (λ n. nat_eq n other.number) (eqb-true filesystem overlay.number e)
-              ∙ fails (λ (b : Filesystem ℕ). nat_eq overlay.number b.number) rest parts.0 other m)
+              ∙ none_among (λ (b : Filesystem ℕ). nat_eq overlay.number b.number) rest parts.0 other m)
 
           turned : (b : Bool) → not (is_shown overlay) ≡ b → is_shown overlay ≡ not b
           turned b h = twice (is_shown overlay) ∙ ap not h

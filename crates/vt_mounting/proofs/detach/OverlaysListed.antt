@@ -1,7 +1,7 @@
 -- The overlays of a store under their counts: what is left of them, one event after the other.
 use Rattle.std.proofs.Common.{◌≡◌, refl, sym, ap, subst, ◌∙◌, inl, inr, ℕ, nat_eq, ◌-◌, eq-eqb, Bool, true, false, cond, not, ◌&&◌, List, [], ◌∷◌, map, filter, Option, Some, None, option_map}
 use Rattle.vt_spec.proofs.Common.{Filesystem, Permit, TaskName, any_pair, cons_option, is_overlay, list_any, nat_eq_turned, or_parts, pair-filter}
-use Rattle.vt_mounting.proofs.Common.{Among, Filesystems, IsHeld, OverlayValue, Overlays, StoreValue, WorldValue, among-from_filter, among-from_map, among-map, counted, entry_in, fails, filter-map, filter_all, filter_twice, overlay_of_store, overlay_seen, overlays_of_store, overlays_seen, with_mounts, with_mounts_by, with_overlay_changed, with_store, without_overlay, world_of}
+use Rattle.vt_mounting.proofs.Common.{Among, Filesystems, IsHeld, OverlayValue, Overlays, StoreValue, WorldValue, among-from_filter, among-from_map, among-map, counted, entry_in, filter-map, filter_all, filter_twice, none_among, overlay_of_store, overlay_seen, overlays_of_store, overlays_seen, with_mounts, with_mounts_by, with_overlay_changed, with_store, without_overlay, world_of}
 use Rattle.vt_store.specs.OverlaysValue.{OverlayEntry}
 use Rattle.vt_world.specs.WorldValue as worlds
 use Rattle.vt_mounting.specs.Detach.Events.{Permits}
@@ -142,7 +142,7 @@ kept_by plain stays (first ∷ rest) new left apart =
 
     others : (entry : OverlayEntry) → Among entry rest → nat_eq (counted first.count) (counted entry.count) ≡ false
     others entry m =
-        fails (λ (b : Filesystem ℕ). nat_eq (counted first.count) b.number) (overlays_seen (map over rest)) parts.0
+        none_among (λ (b : Filesystem ℕ). nat_eq (counted first.count) b.number) (overlays_seen (map over rest)) parts.0
         (overlay_seen (over entry)) (among-map overlay_seen (map over rest) (over entry) (among-map over rest entry m))
 
     stays_with : Later → (news : Overlays) → under_counts news ≡ (first.count, first.overlay) ∷ filter stays (under_counts rest)

@@ -1,10 +1,10 @@
 -- The overlays that code keeps when mounts have gone, as entries of those of before.
 use Rattle.std.proofs.Common.{◌≡◌, refl, sym, ap, subst, ◌∙◌, inl, inr, ⊎_elim, ℕ, nat_eq, eq-eqb, Bool, true, false, cond, List, [], ◌∷◌, map, filter, Option, Some, None, option_map, All}
 use Rattle.vt_spec.proofs.Common.{Filesystem, World, any_pair, cons_option, is_mounted, is_overlay, list_any, or_parts, pair-filter}
-use Rattle.vt_mounting.proofs.Common.{Among, IsHeld, IsMountedSoOften, OverlayEntry, WorldValue, all_from_among, among-map, among_from_all, fails, mounts_showing, overlay_seen, overlays_seen, world_of}
+use Rattle.vt_mounting.proofs.Common.{Among, IsHeld, IsMountedSoOften, OverlayEntry, WorldValue, all_from_among, among-map, among_from_all, mounts_showing, none_among, overlay_seen, overlays_seen, world_of}
 use Rattle.vt_mounting.specs.Detach.Uses.{Merged, merged_at, merged_seen, overlays_kept}
 use Rattle.vt_mounting.proofs.detach.BesideOverlays.{mounted_at_first}
-use Rattle.vt_mounting.proofs.detach.Moving.{swap_eq}
+use Rattle.vt_mounting.proofs.detach.Moving.{nat_eq_turned}
 use Rattle.vt_mounting.proofs.detach.MountsLeave.{LeavesOverlays, leaves_at_first, merged_at_first}
 use Rattle.vt_mounting.proofs.detach.Overlaid.{overlays_are}
 use Rattle.vt_mounting.proofs.detach.OverlaysGone.{merged_in}
@@ -38,8 +38,8 @@ module _ (world : World ℕ) where
   merged_found (first ∷ rest) distinct overlay m = ⊎_elim
       (λ here. subst (λ (one : Filesystem ℕ). merged_at one.number (kept_of_list (first ∷ rest))
       ≡ cond (is_shown one) (Some (merged_in world one)) None) (sym here) (at_first (is_shown first)))
-      (λ later. behind (is_shown first) overlay (swap_eq overlay.number first.number
-      ∙ fails (λ (b : Filesystem ℕ). nat_eq first.number b.number) rest parts.0 overlay later)
+      (λ later. behind (is_shown first) overlay (nat_eq_turned overlay.number first.number
+      ∙ none_among (λ (b : Filesystem ℕ). nat_eq first.number b.number) rest parts.0 overlay later)
       ∙ merged_found rest parts.1 overlay later) m
     where
       parts : (list_any (λ (b : Filesystem ℕ). nat_eq first.number b.number) rest ≡ false)
@@ -52,7 +52,7 @@ module _ (world : World ℕ) where
       at_first true = ap (λ c. cond c (Some (merged_in world first)) (merged_at first.number (kept_of_list rest)))
           (eq-eqb first.number first.number refl)
       at_first false = none_found rest first.number
-          (λ other n. fails (λ (b : Filesystem ℕ). nat_eq first.number b.number) rest parts.0 other n)
+          (λ other n. none_among (λ (b : Filesystem ℕ). nat_eq first.number b.number) rest parts.0 other n)
 
       behind : (b : Bool) (other : Filesystem ℕ) → nat_eq other.number first.number ≡ false
           → merged_at other.number (map (merged_in world) (cond b (first ∷ filter is_shown rest)

@@ -2,7 +2,7 @@
 use Rattle.std.proofs.Common.{◌≡◌, refl, sym, ap, subst, ◌∙◌, inl, inr, ℕ, ◌+◌, nat_eq, Bool, true, false, true≢false, cond, ◌&&◌, List, [], ◌∷◌, ◌++◌, map, flat_map, find, Some, option_map, is_some, unwrap_or, append_assoc, arith}
 use Rattle.vt_spec.proofs.Common.{Filesystem, ListsNumbers, Task, TaskName, ToSetDirectory, ToSetRoot, World, all_locations, and_parts, filesystem_numbered, is_among, is_located_well, is_there, mount_at, no_filesystem, numbers_in_use, same_Some, task_called, used_by_filesystem, used_by_mount}
 use Rattle.vt_spec.specs.Machine.Mounts as meant
-use Rattle.vt_mounting.proofs.Common.{Among, Filesystems, IsHeld, MountEntry, Tasks, WorldValue, among-append_left, among-append_right, among-flat_map, among-from_map, among_from_all, among_numbers, called, changed_by, changed_called, counted, is_among_numbers, is_counted_before, is_small_node, location_named, location_of, locations_in, number_of, one_if, passes, replaced, times, used_numbers_are_named, world_of, writes_of, writes_of_task, writes_on}
+use Rattle.vt_mounting.proofs.Common.{Among, Filesystems, IsHeld, MountEntry, Tasks, WorldValue, among-append_left, among-append_right, among-flat_map, among-from_map, among_from_all, among_from_list_all, among_numbers, called, changed_by, changed_called, counted, is_among_numbers, is_counted_before, is_small_node, location_named, location_of, locations_in, number_of, one_if, replaced, times, used_numbers_are_named, world_of, writes_of, writes_of_task, writes_on}
 use Rattle.vt_location.specs.declared.locations.Location.{Location}
 use Rattle.vt_mounting.specs.Detach.Events.{Permits}
 use Rattle.vt_mounting.specs.Detach.Uses.{Kept, Merged, kept_of, kept_with, let_go_mount, released_use, with_location, with_use, without_location}
@@ -149,7 +149,7 @@ located_task value whole name task found =
     let locations = ap locations_in split.was ∙ locations_around split.front task split.back in
     let rest = task.root ∷ task.directory
     ∷ (map (λ descriptor. descriptor.location) task.descriptors ++ locations_in split.back) in
-    let well = passes (is_located_well nat_eq (world_of value))
+    let well = among_from_list_all (is_located_well nat_eq (world_of value))
     (all_locations (world_of value)) whole.in_world.tasks.locations_live in (
       well task.root (subst (λ all. Among task.root all) (sym locations)
           (among-append_right (locations_in split.front) rest task.root (inl refl))),

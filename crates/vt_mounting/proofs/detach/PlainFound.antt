@@ -4,7 +4,7 @@ use Rattle.vt_spec.proofs.Common.{Filesystem, filesystem_numbered, is_overlay, n
 use Rattle.vt_mounting.proofs.Common.{Among, IsHeld, WorldValue, all_from_among, among-from_filter, counted, entry_at, filesystem_seen, filesystems_seen, found_by_number, found_filesystem, overlays_seen, world_of}
 use Rattle.vt_laws_worlds.proofs.overlays_stay.weaving.WovenLists.{plain_ones_are_found}
 use Rattle.vt_world.specs.Held.{HoldsOverlays}
-use Rattle.vt_mounting.proofs.detach.FilesystemsFound.{found}
+use Rattle.vt_mounting.proofs.detach.FilesystemsFound.{filesystem_found}
 use Rattle.vt_mounting.proofs.detach.Overlaid.{overlays_are}
 
 -- an overlay that is kept is one of the world
@@ -16,7 +16,7 @@ overlay_among value holds overlay m = among-from_filter is_overlay (world_of val
 
 pub found_where_plain : (value : WorldValue) → IsHeld value → (number : ℕ)
     → is_overlay (filesystem_numbered nat_eq (world_of value) number) ≡ false
-    → filesystem_numbered nat_eq (world_of value) number ≡ found value.filesystems number
+    → filesystem_numbered nat_eq (world_of value) number ≡ filesystem_found value.filesystems number
 found_where_plain value held number plain = ap (λ o. unwrap_or o (no_filesystem number))
     (plain_ones_are_found (filesystems_seen value.filesystems) (overlays_seen value.overlays) number
     (all_from_among (λ (overlay : Filesystem ℕ). nat_eq number overlay.number ≡ false) (overlays_seen value.overlays)

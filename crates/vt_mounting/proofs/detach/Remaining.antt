@@ -1,7 +1,7 @@
 -- Events of tasks after which all mounts are still in use.
 use Rattle.std.proofs.Common.{◌≡◌, refl, sym, ap, subst, ◌∙◌, ◌+◌, ℕ, nat_eq, List, filter, map}
 use Rattle.vt_spec.proofs.Common.{Filesystem, Mount, Permit, Task, TaskName, World, filesystem_lives, folded, is_mounted, map_alike, map_twice, without_dead_filesystems, without_dead_mounts}
-use Rattle.vt_mounting.proofs.Common.{Among, CountsItsMounts, CountsItsUses, CountsWhatIsInIt, Exchanges, FilesystemEntry, Filesystems, Inode, IsHeld, MountEntry, Shown, Tasks, WorldValue, all_from_among, among-from_map, among-map, among_from_all, counted, filesystem_seen, filter_all, in_use_of, layer_count, mounts_in, mounts_showing, passes, shown, shown_entry, times, world_of, worlds_are_in_use}
+use Rattle.vt_mounting.proofs.Common.{Among, CountsItsMounts, CountsItsUses, CountsWhatIsInIt, Exchanges, FilesystemEntry, Filesystems, Inode, IsHeld, MountEntry, Shown, Tasks, WorldValue, all_from_among, all_in_use, among-from_map, among-map, among_from_all, among_from_list_all, counted, filesystem_seen, filter_all, in_use_of, layer_count, mounts_in, mounts_showing, shown, shown_entry, times, world_of}
 use Rattle.vt_mounting.specs.Detach.Uses.{Merged, kept_of, kept_with, overlays_kept}
 use Rattle.vt_mounting.proofs.detach.Bridging.{IsSwept}
 use Rattle.vt_mounting.proofs.detach.Finishing.{CountsBeside, IsApplied, finished}
@@ -76,8 +76,8 @@ module _ (value : WorldValue) (whole : IsHeld value) (tasks : Tasks) (more less 
     living_is : in_use_of next ≡ next
     living_is = ap (without_dead_filesystems nat_eq) stay ∙ ap (λ all. record next { filesystems = all })
         (filter_all (filesystem_lives nat_eq next) next.filesystems (λ f m.
-        passes (filesystem_lives nat_eq (world_of value)) (world_of value).filesystems
-        (worlds_are_in_use (world_of value) whole.in_world).filesystems f m))
+        among_from_list_all (filesystem_lives nat_eq (world_of value)) (world_of value).filesystems
+        (all_in_use (world_of value) whole.in_world).filesystems f m))
 
     pub remains_swept : IsSwept value next gained lost (remade value mounts filesystems tasks)
     remains_swept = record {

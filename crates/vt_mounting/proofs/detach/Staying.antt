@@ -2,7 +2,7 @@
 use Rattle.std.proofs.Common.{◌≡◌, refl, sym, ap, subst, ◌∙◌, ℕ, ◌||◌, ◌&&◌, nat_eq, eq-eqb, true, [], ◌∷◌, ◌++◌, map, filter, flat_map, Some, arith, filter_map, option_map, unwrap_or}
 use Rattle.vt_spec.proofs.Common.{Credentials, Filesystem, Fresh, IsWorld, Location, Permit, SameWorlds, Task, TaskName, ToSetCredentials, ToSetUmask, all_locations, apply, layers_in, located_in, locations_of, mount_at, named_in, objects_of_overlay, root_of, same_Some, same_location, settled, task_called, with_dropped, with_task}
 use Rattle.vt_spec.specs.Machine.World.{first_credentials}
-use Rattle.vt_mounting.proofs.Common.{Among, CountsItsMounts, CountsItsUses, CountsWhatIsInIt, IsGiven, IsHeld, KeepsTo, Tasks, WorldValue, WritersHaveLayers, all_from_among, all_pass, among_from_all, any_passes, changed_by, changed_called, counted, filesystem_seen, given_permits_give_no_upper, inode_uses, is_counted_before, one_if, or_first, permit_named, permits_keep_to_numbers, replaced, sameness_is_an_equivalence, times, world_of, writes_of, writes_of_task, writes_on}
+use Rattle.vt_mounting.proofs.Common.{Among, CountsItsMounts, CountsItsUses, CountsWhatIsInIt, IsGiven, IsHeld, KeepsTo, Tasks, WorldValue, WritersHaveLayers, all_from_among, among_from_all, any_from_among, changed_by, changed_called, counted, filesystem_seen, given_permits_give_no_upper, inode_uses, is_counted_before, list_all_from_among, one_if, or_left, permit_named, permits_keep_to_numbers, replaced, sameness_is_an_equivalence, times, world_of, writes_of, writes_of_task, writes_on}
 use Rattle.vt_laws_mounts.specs.LettingGo.Leaving.{is_location_among, only_these_are_left}
 use Rattle.vt_laws_mounts.proofs.letting_go.sweeps.OfWorlds.{worlds_are_settled}
 use Rattle.vt_laws_mounts.proofs.letting_go.leaving.LeftWithOverlays.{staying_keeps_overlays}
@@ -82,9 +82,9 @@ module _ (value : WorldValue) (tasks : Tasks)
 
   -- no location is left
   pub none_left : only_these_are_left (world_of value) tasks [] ≡ true
-  none_left = all_pass (λ location. is_location_among (all_locations (world_of (after value tasks))) location
+  none_left = list_all_from_among (λ location. is_location_among (all_locations (world_of (after value tasks))) location
       || is_location_among [] location) (all_locations (world_of value))
-      (λ location m. or_first _ _ (any_passes (same_location nat_eq location)
+      (λ location m. or_left _ _ (any_from_among (same_location nat_eq location)
       (all_locations (world_of (after value tasks))) location
       (subst (λ locations. Among location locations) (sym same) m)
       (λ i. eq-eqb location.mount location.mount refl i && eq-eqb location.node location.node refl i)))

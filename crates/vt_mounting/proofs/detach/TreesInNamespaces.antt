@@ -2,7 +2,7 @@
 use Rattle.std.proofs.Common.{◌≡◌, refl, sym, ap, subst, ◌∙◌, ⊎_elim, ℕ, zero, suc, nat_eq, eqb-true, Bool, true, false, true≢false, List, [], ◌∷◌, length, Option, Some, None, is_some, flat_map, option_to_list}
 use Rattle.vt_spec.proofs.Common.{Among, Location, Mount, Stands, World, among_from_list_all, and_parts, at_root, children, filter_none, holds_of, list_all, mount_at, mount_numbered, mount_tree, none_from_among, on_parent, same_Some, stands_on, tree_from}
 use Rattle.vt_mounting.proofs.Common.{IsHeld, WorldValue, mounts_in, mounts_of_worlds_stand, stands_on_attached, world_of}
-use Rattle.vt_laws_mounts.proofs.mounts.MountsFound.{found_or_none, number_found}
+use Rattle.vt_laws_mounts.proofs.mounts.MountsFound.{found_or_none, number-mount_in}
 use Rattle.vt_laws_mounts.proofs.mounts.MountsReplaced.{found_itself, tree_among}
 use Rattle.vt_laws_mounts.proofs.mounts.Standing.{LiesIn, lies_in_tree, stand}
 use Rattle.vt_laws_mounts.proofs.mounts.Standing.LiesIn.{itself, under}
@@ -48,7 +48,7 @@ module _ (value : WorldValue) (held : IsHeld value) where
               ∙ same_namespace (mount_numbered nat_eq world top).number other.number
               (lies_in_tree world held.in_world.mounts.one_number held.in_world.mounts.standing (length mounts)
               (mount_numbered nat_eq world top) other m)
-              ∙ ap (λ n. (mount_numbered nat_eq world n).namespace) (number_found mounts top) ∙ is,
+              ∙ ap (λ n. (mount_numbered nat_eq world n).namespace) (number-mount_in mounts top) ∙ is,
         )
       where
         top_there : Among (mount_numbered nat_eq (world_of value) top) (mounts_in value.mounts)
@@ -77,7 +77,7 @@ module _ (value : WorldValue) (held : IsHeld value) where
             on false t = refl
             on true t = absurd (true≢false (sym (and_parts (is_some (mount_at nat_eq world place).namespace) true e).0
                 ∙ ap (λ n. is_some (mount_numbered nat_eq world n).namespace)
-                (sym (eqb-true number place.mount t) ∙ number_found mounts top) ∙ ap is_some nowhere))
+                (sym (eqb-true number place.mount t) ∙ number-mount_in mounts top) ∙ ap is_some nowhere))
 
     pub alone_in_tree : (depth : ℕ)
         → tree_from nat_eq depth (mounts_in value.mounts) (mount_numbered nat_eq (world_of value) top)

@@ -1,7 +1,7 @@
 -- Mounts are detached alike whatever their types: a namespace that ends.
 use Rattle.std.proofs.Common.{◌≡◌, refl, sym, ap, subst, ◌∙◌, ℕ, nat_eq, eqb-true, eq-eqb, Bool, true, false, true≢false, cond, not, ◌||◌, List, [], ◌∷◌, ◌++◌, length, map, filter, Option, Some, None, option_map, is_some, if◌then◌else◌}
 use Rattle.vt_spec.proofs.Common.{Mount, Private, Propagation, Shared, Slave, Unbindable, World, holds_of, is_among, is_unbindable, length-map, list_any, map-append, map_alike, nat_eq-swapped, regrouped, same_Some, source_of}
-use Rattle.vt_mounting.proofs.Common.{AllGroupsLive, Among, Grouping, Has, MountEntry, Shown, StillTyped, TakesAway, all_from_among, among-filter, among-from_filter, among-from_map, among-map, among_from_all, among_numbers, any-map, any_passes, as_private, changed, entry_numbered, filter-map, found_in, is_among_numbers, mounts_in, no_groups, propagation_in, typed_entry, with_kind}
+use Rattle.vt_mounting.proofs.Common.{AllGroupsLive, Among, Grouping, Has, MountEntry, Shown, StillTyped, TakesAway, all_from_among, among-filter, among-from_filter, among-from_map, among-map, among_from_all, among_numbers, any-map, any_from_among, as_private, changed, entry_numbered, filter-map, found_in, is_among_numbers, mounts_in, no_groups, propagation_in, typed_entry, with_kind}
 use Rattle.vt_group.specs.Together.{changed_if, with_changed}
 use Rattle.vt_group.proofs.Together.{is_among-snoc, taken_has}
 use Rattle.vt_laws_mounts.proofs.letting_go.Lists.{is_among_right, held_number}
@@ -235,7 +235,7 @@ module _ (namespace : ℕ) where
       → (entry : MountEntry) → Among entry k.mounts → is_attached_in namespace entry ≡ true
       → is_among nat_eq entry.mount.number (gone_numbers gone) ≡ true
   inside_gone [] k last are none entry m inside =
-      absurd (true≢false (sym (any_passes (is_attached_in namespace) last.mounts entry
+      absurd (true≢false (sym (any_from_among (is_attached_in namespace) last.mounts entry
       (subst (λ (one : Kept). Among entry one.mounts) (sym are) m) inside) ∙ none))
   inside_gone (one ∷ gone) k last are none entry m inside = by (nat_eq entry.mount.number one.number) refl
       (λ there. inside_gone gone (without_attachment one.number one.point k) last are.1 none entry there inside)

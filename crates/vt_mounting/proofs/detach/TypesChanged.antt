@@ -3,7 +3,7 @@
 -- MS_UNBINDABLE, and MS_REC. Whatever groups there are, the code's world is the one that the policy leaves.
 use Rattle.std.proofs.Common.{◌≡◌, refl, sym, ap, subst, ◌∙◌, ◌+◌, ℕ, nat_eq, Bool, true, false, cond, List, [], ◌∷◌, ◌++◌, map, filter, flat_map, Option, None, filter_map}
 use Rattle.vt_spec.proofs.Common.{Filesystem, IsWorld, Location, Mount, Propagation, SameWorlds, TaskName, ToSetType, TypeWord, World, all_locations, cons_option, has_members, layers_in, list_any, located_in, lost_a_group, map_twice, named_in, named_mounts, numbers_by, objects_of_overlay, regrouped, regrouped_by, retyped, retyped_mount, root_of, settled, shown-mapped, with_new_groups, without_dead_groups}
-use Rattle.vt_mounting.proofs.Common.{CountsItsMounts, CountsItsUses, CountsWhatIsInIt, Grouping, Has, IsHeld, KeepsTo, MountEntry, WorldValue, WritersHaveLayers, all_from_among, among-from_map, among_from_all, counted, counts_from, filesystem_seen, given_permits_give_no_upper, inode_uses, is_counted_before, layer_count, master_in, mounts_in, mounts_showing, numbers_of, peers_of, sameness_is_an_equivalence, times, world_of, worlds_are_in_use}
+use Rattle.vt_mounting.proofs.Common.{CountsItsMounts, CountsItsUses, CountsWhatIsInIt, Grouping, Has, IsHeld, KeepsTo, MountEntry, WorldValue, WritersHaveLayers, all_from_among, all_in_use, among-from_map, among_from_all, counted, counts_from, filesystem_seen, given_permits_give_no_upper, inode_uses, is_counted_before, layer_count, master_in, mounts_in, mounts_showing, numbers_of, peers_of, sameness_is_an_equivalence, times, world_of}
 use Rattle.vt_group.specs.Grouping.{are_rising}
 use Rattle.vt_laws_mounts.specs.LettingGo.Detaching.{with_changed}
 use Rattle.vt_laws_mounts.specs.LettingGo.InUse.{GroupsInUse}
@@ -113,7 +113,7 @@ module _ (value : WorldValue) (whole : IsHeld value) (group : ℕ → ℕ) (word
       (world_of value) { mounts = sym mounts i; master = λ one. sym (has.masters one) i })
       ∙ subst (λ (world : World ℕ). settled nat_eq world ≡ world) (now_is value.next)
       (types_keep_all (world_of value) (change (world_of value) kind (master_in groups)) (master_in groups)
-      (worlds_are_in_use (world_of value) whole.in_world) (keeps (world_of value) kind (master_in groups))
+      (all_in_use (world_of value) whole.in_world) (keeps (world_of value) kind (master_in groups))
       (subst GroupsInUse (sym (now_is value.next)) unused))
 
   now_has : (next : ℕ) → Has (world_of (retyped_value next)) groups

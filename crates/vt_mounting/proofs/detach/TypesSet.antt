@@ -1,13 +1,13 @@
 -- The flags of a mount are set: mount(2) with MS_REMOUNT.
 use Rattle.std.proofs.Common.{◌≡◌, refl, sym, ap, subst, ◌∙◌, ℕ, nat_eq, true, cond, List, [], ◌∷◌, map, Some, is_some, arith, option_to_list}
 use Rattle.vt_spec.proofs.Common.{Fresh, Mount, MountFlags, Permit, TaskName, ToSetFlags, apply, map_alike, mount_numbered, settled, with_mounts}
-use Rattle.vt_mounting.proofs.Common.{Among, Exchanges, Has, IsHeld, Shown, WorldValue, among-map, changed, found_is_there, inode_at, is_among_numbers, is_counted_before, is_inode, mounts_in, number_found, permit_named, shown, times, world_of}
+use Rattle.vt_mounting.proofs.Common.{Among, Exchanges, Has, IsHeld, Shown, WorldValue, among-map, changed, found_is_there, inode_at, is_among_numbers, is_counted_before, is_inode, mounts_in, number-mount_in, permit_named, shown, times, world_of}
 use Rattle.vt_laws_mounts.specs.LettingGo.Keeping.{flags_if}
 use Rattle.vt_laws_mounts.proofs.letting_go.leaving.UsesKept.{flags_are_of_one}
 use Rattle.vt_mounting.specs.Detach.Events.{Permits}
 use Rattle.vt_mounting.proofs.detach.FileEvents.{permit_fits}
 use Rattle.vt_mounting.proofs.detach.FilesSeen.{mount_named}
-use Rattle.vt_mounting.proofs.detach.LookLemmas.{turned}
+use Rattle.vt_mounting.proofs.detach.LookLemmas.{nat_eq_turned}
 use Rattle.vt_mounting.proofs.detach.Moving.{exchanged_shown}
 use Rattle.vt_mounting.proofs.detach.MountsChanged.{KeepsWhatItShows, attached_entry, kind_kept, mount_is_changed, mounts_changed, next_of, one_changed, places_exchanged, with_mount_changed}
 use Rattle.vt_mounting.proofs.detach.Remaining.{remade}
@@ -26,7 +26,7 @@ pub attached_named : (value : WorldValue) → IsHeld value → (number namespace
 attached_named value held number namespace own = mount_named value held number
     (is_among_numbers number (map (λ (mount : Mount ℕ). mount.number) (mounts_in value.mounts))
     (subst (λ n. Among n (map (λ (mount : Mount ℕ). mount.number) (mounts_in value.mounts)))
-    (number_found (mounts_in value.mounts) number)
+    (number-mount_in (mounts_in value.mounts) number)
     (among-map (λ (mount : Mount ℕ). mount.number) (mounts_in value.mounts)
     (mount_numbered nat_eq (world_of value) number) (found_is_there (mounts_in value.mounts) number (ap is_some own)))))
 
@@ -87,5 +87,5 @@ flags_are_set value whole name number flags permits =
     flags_are_of_one (world_of value) (record { mount = number; node = number }) flags whole.in_world.mounts.one_number
     ∙ ap (with_mounts (world_of value))
     (map_alike (flags_if number flags) (one_changed number (with_flags flags)) (mounts_in value.mounts)
-    (λ mount m. ap (λ b. cond b (with_flags flags mount) mount) (turned mount.number number))
+    (λ mount m. ap (λ b. cond b (with_flags flags mount) mount) (nat_eq_turned mount.number number))
     ∙ sym (mounts_changed number (with_flags flags) value.mounts)))

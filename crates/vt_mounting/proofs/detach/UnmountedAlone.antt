@@ -1,7 +1,7 @@
 -- A mount on which no other stands is unmounted: umount(2).
 use Rattle.std.proofs.Common.{◌≡◌, refl, sym, ap, subst, ◌∙◌, inl, ℕ, nat_eq, eqb-true, Bool, true, false, true≢false, ◌||◌, List, [], ◌∷◌, ◌++◌, map, flat_map, Option, Some, None, option_map, is_some, arith, IfSome}
 use Rattle.vt_spec.proofs.Common.{Location as Place, Mount, TaskName, ToUnmount, World, going, going_at, going_from, has_child, holds_of, is_shared, is_used, mount_at, mount_in, mount_numbered, numbers_in_use, or_parts, stands_on, taken_away, used_by_filesystem, used_by_mount}
-use Rattle.vt_mounting.proofs.Common.{Among, Filesystems, IsHeld, MountEntry, WorldValue, among-append_left, among-flat_map, fails, found_is_there, found_itself, in_use_of, is_among_numbers, is_counted_before, is_small_node, is_ungrouped, location_of, mounts_in, number_found, used_numbers_are_named, world_of}
+use Rattle.vt_mounting.proofs.Common.{Among, Filesystems, IsHeld, MountEntry, WorldValue, among-append_left, among-flat_map, found_is_there, found_itself, in_use_of, is_among_numbers, is_counted_before, is_small_node, is_ungrouped, location_of, mounts_in, none_among, number-mount_in, used_numbers_are_named, world_of}
 use Rattle.vt_location.specs.declared.locations.Location.{Location}
 use Rattle.vt_mounting.specs.Detach.Events.{Permits}
 use Rattle.vt_mounting.specs.Detach.Uses.{Merged, kept_of, kept_with, point_of, without_attachment}
@@ -9,7 +9,7 @@ use Rattle.vt_mounting.proofs.detach.Detached.{detaching_on}
 use Rattle.vt_mounting.proofs.detach.DetachingBegins.{HasChildrenOf, detached_world, detaching_begins}
 use Rattle.vt_mounting.proofs.detach.DetachingEnds.{detached_done, held_is_kept}
 use Rattle.vt_mounting.proofs.detach.FileEvents.{permit_fits}
-use Rattle.vt_mounting.proofs.detach.Moving.{swap_eq}
+use Rattle.vt_mounting.proofs.detach.Moving.{nat_eq_turned}
 use Rattle.vt_mounting.proofs.detach.Remaining.{remade_with}
 use Rattle.vt_mounting.proofs.detach.Staying.{IsDone}
 
@@ -24,7 +24,7 @@ attached_is_named value whole number attached =
     (map (λ namespace. namespace.number) world.namespaces) number
     (among-append_left (flat_map used_by_mount world.mounts) (flat_map used_by_filesystem world.filesystems) number
     (among-flat_map used_by_mount world.mounts (mount_in nat_eq world.mounts number) number
-    (found_is_there world.mounts number attached) (inl (sym (number_found world.mounts number)))))))
+    (found_is_there world.mounts number attached) (inl (sym (number-mount_in world.mounts number)))))))
 
 -- where its parent is not shared, an unmount is of a mount alone
 pub goes_apart : (world : World ℕ) (number : ℕ)
@@ -34,7 +34,7 @@ pub goes_apart : (world : World ℕ) (number : ℕ)
 goes_apart world number apart = by (mount_numbered nat_eq world number).mount_point apart
   where
     its_number : (mount_numbered nat_eq world number).number ∷ [] ≡ number ∷ []
-    its_number = ap (λ n. n ∷ []) (number_found world.mounts number)
+    its_number = ap (λ n. n ∷ []) (number-mount_in world.mounts number)
 
     by : (o : Option (Place ℕ)) → holds_of (λ (place : Place ℕ). is_shared (mount_at nat_eq world place).propagation) o
         ≡ false → going_at nat_eq world (mount_numbered nat_eq world number) o ≡ number ∷ []
@@ -45,9 +45,9 @@ goes_apart world number apart = by (mount_numbered nat_eq world number).mount_po
 pub childless : (world : World ℕ) (number : ℕ) → has_child nat_eq world number ≡ false
     → HasChildrenOf (number ∷ []) world.mounts
 childless world number none mount m place p h =
-    absurd (true≢false (sym h ∙ ap (λ b. b || false) (swap_eq place.mount number
+    absurd (true≢false (sym h ∙ ap (λ b. b || false) (nat_eq_turned place.mount number
     ∙ sym (ap (holds_of (λ (l : Place ℕ). nat_eq number l.mount)) p)
-    ∙ fails (stands_on nat_eq number) world.mounts none mount m)))
+    ∙ none_among (stands_on nat_eq number) world.mounts none mount m)))
 
 -- a mount in no group, on a mount that is not shared
 pub unmount_is_done : (value : WorldValue) (name : TaskName) (number : ℕ) (point : Option Location)

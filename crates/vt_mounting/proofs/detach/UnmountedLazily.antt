@@ -1,6 +1,6 @@
 -- A mount and its descendants are unmounted: umount(2) with MNT_DETACH.
 use Rattle.std.proofs.Common.{◌≡◌, ◌∙◌, sym, ap, subst, ℕ, nat_eq, true, false, List, [], ◌∷◌, map, is_some}
-use Rattle.vt_spec.proofs.Common.{Location as Place, Mount, TaskName, ToUnmountLazily, World, holds_of, is_shared, list_all, mount_at, mount_in, mount_numbered, mount_tree}
+use Rattle.vt_spec.proofs.Common.{Location, Mount, TaskName, ToUnmountLazily, World, holds_of, is_shared, list_all, mount_at, mount_in, mount_numbered, mount_tree}
 use Rattle.vt_mounting.proofs.Common.{Filesystems, Inode, IsHeld, MountEntry, WorldValue, in_use_of, is_ungrouped, mounts_in, world_of}
 use Rattle.vt_mounting.specs.Detach.Detached.{LeaveInTurn}
 use Rattle.vt_mounting.specs.Detach.Events.{Permits}
@@ -28,7 +28,7 @@ pub lazy_unmount_is_done : (value : WorldValue) (name : TaskName) (number : ℕ)
     → IsHeld value → Permits value name (ToUnmountLazily number) → numbers ≡ map (λ (mount : Mount ℕ). mount.number)
     (mount_tree nat_eq (mounts_in value.mounts) (mount_in nat_eq (mounts_in value.mounts) number))
     → list_all (λ n. is_ungrouped (mount_in nat_eq (mounts_in value.mounts) n).propagation) numbers ≡ true
-    → holds_of (λ (place : Place ℕ). is_shared (mount_at nat_eq (world_of value) place).propagation)
+    → holds_of (λ (place : Location ℕ). is_shared (mount_at nat_eq (world_of value) place).propagation)
     (mount_numbered nat_eq (world_of value) number).mount_point ≡ false
     → LeaveInTurn numbers (kept_of value) (kept_with mounts filesystems overlays)
     → IsDone value name (ToUnmountLazily number) (remade_with value mounts filesystems overlays value.tasks)
@@ -49,7 +49,7 @@ lazy_unmount_is_done value name number numbers mounts filesystems overlays whole
       given = permits.given;
       named = attached_is_named value whole number there;
       applied = λ fresh. lazily_is_detached world kept_mounts number there ungrouped
-          (λ place p. sym (ap (holds_of (λ (at : Place ℕ). is_shared (mount_at nat_eq world at).propagation)) p)
+          (λ place p. sym (ap (holds_of (λ (at : Location ℕ). is_shared (mount_at nat_eq world at).propagation)) p)
           ∙ apart) ∙ sym (taken_regroups world gone closed
           ∙ alone_regroups world value.groups whole.groups kept_mounts.groups gone free);
     }) (all_detached value [] (in_use_of (detached_world gone world)) gone (kept_of value)

@@ -1,7 +1,7 @@
 -- What lies in a layer of an overlay of a store is what the world that holds it locks.
 use Rattle.std.proofs.Common.{◌≡◌, refl, sym, ap, subst, ◌∙◌, ⊎_elim, inl, inr, true≢false, ℕ, nat_eq, eq-eqb, eqb-true, Bool, true, false, cond, not, ◌&&◌, ◌||◌, List, [], ◌∷◌, ◌++◌, flat_map, map, Option, Some, None, is_some, unwrap_or, ltb-true}
 use Rattle.vt_spec.proofs.Common.{Among, FileTree, Filesystem, HasOwnParents, IsTree, Layer, Node, Overlay, World, and-false, and_parts, and_true_left, counts_in_layer, entry_from, filesystem_numbered, found_among, has_entry_to, holds_of, is_directory_node, is_directory_under, is_file_under, is_locked, is_locked_at, is_object_of, is_overlay, is_plain_layer, is_under, layers_of, lies_in_layer, lies_or_counts_under, list_all, list_any, live_layers, mount_at, node_in, none_from_among, of_overlay, or-false, overlay_or, overlays}
-use Rattle.vt_ns.proofs.Common.{FilesystemEntry, Filesystems, IsHeld, StoreValue, WorldValue, among-from_filter, among-map, among_from_all, counted, counted_test, entry_of, files_at, filesystem_seen, is_own_number, is_small_node, location_of, no_entry, number_of, numbered_all, overlay_of_store, overlay_seen, overlays_of_store, overlays_seen, passes, small_parts, with_store, world_of}
+use Rattle.vt_ns.proofs.Common.{FilesystemEntry, Filesystems, IsHeld, StoreValue, WorldValue, among-from_filter, among-map, among_from_all, among_from_list_all, counted, counted_test, entry_of, files_at, filesystem_seen, is_own_number, is_small_node, location_of, no_entry, number_of, numbered_all, overlay_of_store, overlay_seen, overlays_of_store, overlays_seen, small_parts, with_store, world_of}
 use Rattle.vt_group.proofs.IndexLemmas.{any_flat}
 use Rattle.vt_location.specs.declared.births.Birth.{Birth}
 use Rattle.vt_location.specs.declared.births.Birth.TheVariants.{Below, Here}
@@ -153,10 +153,10 @@ module _ (base : WorldValue) (store : StoreValue) (held : IsHeld (with_store sto
         (among-map overlay_seen (overlays_of_store store) (overlay_of_store store.plain entry)
         (among-map (overlay_of_store store.plain) store.overlays entry m))).0 in
         let all : list_all (is_plain_layer nat_eq world) (map layer_seen entry.overlay.lowers) ≡ true =
-        passes (of_overlay true (λ overlay. list_all (is_plain_layer nat_eq world) (layers_of overlay)))
+        among_from_list_all (of_overlay true (λ overlay. list_all (is_plain_layer nat_eq world) (layers_of overlay)))
         world.filesystems held.in_world.overlays.plain_layers seen among in
         not_so _ (and_parts (not (is_overlay (filesystem_numbered nat_eq world (counted own)))) _
-        (passes (is_plain_layer nat_eq world) (map layer_seen entry.overlay.lowers) all (layer_seen layer)
+        (among_from_list_all (is_plain_layer nat_eq world) (map layer_seen entry.overlay.lowers) all (layer_seen layer)
         (among-map layer_seen entry.overlay.lowers layer n))).0
 
     same_files : (filesystem_numbered nat_eq (world_of (with_store store base))

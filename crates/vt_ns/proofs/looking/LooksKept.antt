@@ -11,7 +11,7 @@ use Rattle.vt_ns.proofs.Common.{IsHeld, StoreValue, WorldValue, counted, counted
 use Rattle.vt_location.specs.Numbers.{mount_number}
 use Rattle.vt_looks.specs.declared.look.Ground.{Ground}
 use Rattle.vt_looks.specs.Looking.{IsGround}
-use Rattle.vt_fs.proofs.Entries.{or_first, or_second}
+use Rattle.vt_fs.proofs.Entries.{or_false_left, or_false_right}
 use Rattle.vt_fs.specs.Laws.{is_lost_under}
 use Rattle.vt_mounting.specs.Detach.Looking.{is_seen}
 use Rattle.vt_store.specs.StoreValue.{files_in}
@@ -205,8 +205,8 @@ none_at : (at : meant.Location ℕ) (mounts : List (meant.Mount ℕ)) → list_a
     → child_at nat_eq mounts at ≡ None
 none_at at [] none = refl
 none_at at (mount ∷ mounts) none =
-    ap (λ b. cond b (Some mount) (child_at nat_eq mounts at)) (not_on at mount.mount_point (or_first _ _ none))
-    ∙ none_at at mounts (or_second _ _ none)
+    ap (λ b. cond b (Some mount) (child_at nat_eq mounts at)) (not_on at mount.mount_point (or_false_left _ _ none))
+    ∙ none_at at mounts (or_false_right _ _ none)
 
 last_of_chain : (n : ℕ) (next : meant.Location ℕ → Option (meant.Location ℕ)) (at : meant.Location ℕ) → next at ≡ None
     → last_or at (chain n next at) ≡ at

@@ -2,10 +2,10 @@
 use Rattle.std.proofs.Common.{◌≡◌, refl, sym, ap, ◌∙◌, ⊎_elim, ℕ, zero, suc, nat_eq, eqb-true, eq-eqb, Bool, true, false, true≢false, ◌||◌, List, [], ◌∷◌, length, Option, Some, None}
 use Rattle.vt_spec.proofs.Common.{Location, Mount, among-filter, among-from_filter, any_among, any_from_among, any_pair, children, holds_of, list_any, mount_in, mount_tree, nat_eq_itself, or-false, same_truth, stands_on, tree_from}
 use Rattle.vt_spec.proofs.Lists.{list_any-never}
-use Rattle.vt_ns.proofs.Common.{number_found}
+use Rattle.vt_ns.proofs.Common.{number-mount_in}
 use Rattle.vt_laws_mounts.proofs.mounts.MountsFound.{found_or_none}
 use Rattle.vt_laws_mounts.proofs.mounts.MountsReplaced.{found_itself}
-use Rattle.vt_mounting.proofs.detach.LookLemmas.{turned}
+use Rattle.vt_mounting.proofs.detach.LookLemmas.{nat_eq_turned}
 use Rattle.vt_group.proofs.IndexLemmas.{any_flat}
 
 -- going up from a mount meets another, in at most so many steps
@@ -62,7 +62,7 @@ module _ (mounts : List (Mount ℕ)) (one : any_pair (λ (a b : Mount ℕ). nat_
       on : (mount : Mount ℕ) (o : Option (Location ℕ))
           → holds_of (λ place. nat_eq top place.mount) o ≡ holds_of (λ place. nat_eq place.mount top) o
       on mount None = refl
-      on mount (Some place) = turned top place.mount
+      on mount (Some place) = nat_eq_turned top place.mount
 
       there : list_any (λ child. nat_eq number child.number) (children nat_eq mounts top) ≡ true
           → holds_of (λ place. nat_eq place.mount top) (mount_in nat_eq mounts number).mount_point ≡ true
@@ -80,7 +80,7 @@ module _ (mounts : List (Mount ℕ)) (one : any_pair (λ (a b : Mount ℕ). nat_
           let mount = mount_in nat_eq mounts number in
           ⊎_elim (λ m. any_from_among (λ child. nat_eq number child.number) (children nat_eq mounts top) mount
           (among-filter (stands_on nat_eq top) mounts mount m (on mount mount.mount_point ∙ stands))
-          (ap (nat_eq number) (number_found mounts number) ∙ nat_eq_itself number))
+          (ap (nat_eq number) (number-mount_in mounts number) ∙ nat_eq_itself number))
           (λ none. absurd (true≢false (sym stands
           ∙ ap (λ (x : Mount ℕ). holds_of (λ place. nat_eq place.mount top) x.mount_point) none)))
           (found_or_none mounts number)
@@ -112,8 +112,8 @@ module _ (mounts : List (Mount ℕ)) (one : any_pair (λ (a b : Mount ℕ). nat_
   pub met_in_tree : (steps : ℕ) (top : Mount ℕ) (number : ℕ)
       → list_any (λ other. nat_eq other.number number) (tree_from nat_eq steps mounts top)
       ≡ meets mounts top.number steps number
-  met_in_tree zero top number = or-false (nat_eq top.number number) ∙ turned top.number number
-  met_in_tree (suc steps) top number = (λ i. turned top.number number i
+  met_in_tree zero top number = or-false (nat_eq top.number number) ∙ nat_eq_turned top.number number
+  met_in_tree (suc steps) top number = (λ i. nat_eq_turned top.number number i
       || (any_flat (λ other. nat_eq other.number number) (tree_from nat_eq steps mounts)
       (children nat_eq mounts top.number)
       ∙ any_alike _ _ (children nat_eq mounts top.number) (λ child. met_in_tree steps child number)
@@ -124,5 +124,5 @@ pub met_from : (mounts : List (Mount ℕ)) → any_pair (λ (a b : Mount ℕ). n
     → (top number steps : ℕ) → steps ≡ length mounts → meets mounts top steps number
     ≡ list_any (λ other. nat_eq other.number number) (mount_tree nat_eq mounts (mount_in nat_eq mounts top))
 met_from mounts one top number steps all = ap (λ n. meets mounts top n number) all
-    ∙ ap (λ t. meets mounts t (length mounts) number) (sym (number_found mounts top))
+    ∙ ap (λ t. meets mounts t (length mounts) number) (sym (number-mount_in mounts top))
     ∙ sym (met_in_tree mounts one (length mounts) (mount_in nat_eq mounts top) number)

@@ -15,7 +15,7 @@ use Rattle.vt_laws_worlds.proofs.overlays_read.Swept.{same_worlds_have_layers_al
 use Rattle.vt_mounting.proofs.detach.Writers.{left_writers}
 use Rattle.vt_laws_worlds.proofs.overlay_permits.worlds.SweptWorlds.{settling_leaves_every_world}
 use Rattle.vt_laws_worlds.proofs.overlays_stay.left.Given.{given_permits_give_no_upper}
-use Rattle.vt_laws_mounts.proofs.letting_go.Lists.{among-filter, among-filter_map, is_among_left, is_among_right, map_same, or_second}
+use Rattle.vt_laws_mounts.proofs.letting_go.Lists.{among-filter, among-filter_map, is_among_left, is_among_right, map_same, or_right}
 use Rattle.vt_laws_mounts.proofs.letting_go.leaving.NamesKept.{changes_keep_names}
 use Rattle.vt_laws_mounts.proofs.letting_go.sweeps.OfWorlds.{worlds_are_settled, worlds_have_trees}
 use Rattle.vt_laws_mounts.proofs.letting_go.leaving.TreesWithOverlays.{unnamed_go_with_overlays}
@@ -41,7 +41,7 @@ use Rattle.vt_mounting.proofs.detach.FollowedTypes.{own_types}
 use Rattle.vt_mounting.proofs.detach.Overlaid.{plain_one_among}
 use Rattle.vt_mounting.proofs.detach.Keeping.{detached_in}
 use Rattle.vt_mounting.proofs.detach.MountsGone.{pending_filesystem, pending_number}
-use Rattle.vt_mounting.proofs.detach.Moving.{swap_eq}
+use Rattle.vt_mounting.proofs.detach.Moving.{nat_eq_turned}
 use Rattle.vt_mounting.proofs.detach.Staying.{becomes_so}
 use Rattle.vt_mounting.proofs.detach.TypedEvents.{counts_typed, swept_typed, typed_value}
 use Rattle.vt_mounting.proofs.detach.TypedWorlds.{settled_typed, settled_typed_has, typed_world}
@@ -296,7 +296,7 @@ module _ (value : WorldValue) (held : IsHeld value) (location : Location ℕ) (c
           (ap (nat_eq f.number) shows ∙ same))))
 
       used : (f : Filesystem ℕ) → nat_eq f.number number ≡ true → is_inode_used changed_plainly f object ≡ true
-      used f same = or_second (nat_eq object f.files.tree.root) _
+      used f same = or_right (nat_eq object f.files.tree.root) _
           (is_among_left object ((named_in f.files ++ located_in nat_eq changed_plainly f.number)
           ++ layers_in nat_eq changed_plainly f.number)
           (flat_map (objects_of_overlay nat_eq f.number) changed_plainly.filesystems)
@@ -335,7 +335,7 @@ module _ (value : WorldValue) (held : IsHeld value) (location : Location ℕ) (c
               neither (nat_eq changed_files.number number) (overlay_or [] (uppers_in object) changed_files.overlay)
               (ap (overlay_or [] (uppers_in object)) no_overlay)
           by false e = ap (λ b. cond b (overlay_or [] (uppers_in object) f.overlay) [])
-              (swap_eq f.number number ∙ ap (λ n. nat_eq n f.number) (sym files_numbered) ∙ e)
+              (nat_eq_turned f.number number ∙ ap (λ n. nat_eq n f.number) (sym files_numbered) ∙ e)
 
       object_stays : let_go_all_inodes changed_plainly ((number, object) ∷ []) ≡ changed_plainly
       object_stays =

@@ -2,7 +2,7 @@
 use Rattle.std.proofs.Common.{◌≡◌, ◌≢◌, refl, sym, ap, subst, ◌∙◌, ℕ, nat_eq, true, ◌&&◌, List, [], map, filter, flat_map, length, option_to_list}
 use Rattle.vt_spec.proofs.Common.{Change, Fits, Fresh, Inodes, Mount, Permit, Remove, TaskName, ToChange, ToRemoveDirectory, World, apply, mount_numbered, regrouped, tree_of, with_change}
 use Rattle.vt_spec.specs.Inodes.{changed}
-use Rattle.vt_ns.proofs.Common.{ChangesFiles, ChangesInodes, Filesystems, Grouping, HasChildrenOf, IsDone, IsFilesEvent, IsHeld, IsLocated, IsSmall, LeaveTogether, Merged, MountEntry, NamesWhatIsThere, OverlaysLeft, Permits, SeesTo, StoreValue, WorldValue, counted, detached_world, given_changes_fit, given_permits_are_seen_to, inodes_seen, is_counted_before, is_small_node, kept, kept_of, kept_with, located_filesystem, location_of, merged_of, mounts_in, nodes_named, number_of, permit_fits, permit_named, remade_with, small_parts, stands_over, supply_of, taken_regroups, tree_numbers, trees_numbers, with_filesystems, with_store, world_of}
+use Rattle.vt_ns.proofs.Common.{ChangesFiles, ChangesInodes, Filesystems, Grouping, HasChildrenOf, IsDone, IsFilesEvent, IsHeld, IsLocated, IsSmall, LeaveTogether, Merged, MountEntry, NamesWhatIsThere, OverlaysLeft, Permits, SeesTo, StoreValue, WorldValue, counted, detached_world, given_changes_fit, given_permits_are_seen_to, inodes_seen, is_counted_before, is_small_node, kept, kept_of, kept_with, located_filesystem, location_of, merged_of, mounts_in, nodes_named, number_of, numbers_of_trees, permit_fits, permit_named, remade_with, small_parts, stands_over, supply_of, taken_regroups, tree_numbers, with_filesystems, with_store, world_of}
 use Rattle.vt_location.specs.declared.locations.Location.{Location}
 use Rattle.vt_location.specs.declared.numbers.MountId.{MountId}
 use Rattle.vt_ns.proofs.world.ChangedWithMounts.{changed_then_detached, nothing_goes}
@@ -28,7 +28,7 @@ module _ (value : WorldValue) (held : IsHeld value) (name : TaskName) (parent : 
   tops = tops_on value directory
 
   abbrev gone : List ℕ
-  gone = trees_numbers world tops
+  gone = numbers_of_trees world tops
 
   names : NamesWhatIsThere world permits.task permit
   names = (permit_fits value held name permit permits).names
@@ -99,7 +99,7 @@ module _ (value : WorldValue) (held : IsHeld value) (name : TaskName) (parent : 
       (λ i. parent_seen.named i && (nodes_named value.next parent.node i && nodes_named value.next directory.node i)) in
       let is_named : permit_named (is_counted_before value.next) permit
       ≡ true = (λ i. parent_seen.named i && directory_seen.named i) in
-      let on = one_on value held directory small_directory (λ none. some (ap (trees_numbers world) none)) in
+      let on = one_on value held directory small_directory (λ none. some (ap (numbers_of_trees world) none)) in
       changed_then_detached value held
       (location_of parent) change filesystems made name permit permits gone reached named is_named applied
       (nothing_goes value held (location_of parent) change filesystems made name permit permits gone reached named is_named applied
@@ -121,7 +121,7 @@ module _ (base : WorldValue) (store : StoreValue) (held : IsHeld (with_store sto
   removed = ToRemoveDirectory (location_of parent) entry (location_of directory)
 
   abbrev trees : List ℕ
-  trees = trees_numbers (world_of (with_store store base)) (tops_on (with_store store base) directory)
+  trees = numbers_of_trees (world_of (with_store store base)) (tops_on (with_store store base) directory)
 
   are : map (λ id. counted id.count) ids ≡ trees
   are = collected_are (with_store store base) held name parent entry directory small small_directory permits

@@ -3,7 +3,7 @@ use Rattle.std.proofs.Common.{◌≡◌, refl, sym, ap, subst, ◌∙◌, ℕ, �
 use Rattle.vt_spec.proofs.Common.{Descriptor, Task, TaskName, ToOpen, free_number, inserted, is_located_well, map-append, opens_for_reading, opens_for_writing, task_called, with_copy, with_descriptor, with_task, without_dead_mounts}
 use Rattle.vt_spec.specs.Language.Calls as spoken
 use Rattle.vt_spec.specs.Machine.Mounts as meant
-use Rattle.vt_ns.proofs.Common.{Filesystems, IsDone, IsHeld, Merged, MountEntry, Moves, Permits, Tasks, WorldValue, access_of, after, called, changed_called, counted, given_permits_are_seen_to, is_small_node, kept_of, kept_with, located_is_named, location_of, mounts_of_worlds_stand, number_of, permit_fits, remade, replaced, replaced_split, seen_where_located, supply_of, times, with_location, with_use, world_of, worlds_are_in_use, writes_of_task}
+use Rattle.vt_ns.proofs.Common.{Filesystems, IsDone, IsHeld, Merged, MountEntry, Moves, Permits, Tasks, WorldValue, access_of, after, all_in_use, called, changed_called, counted, given_permits_are_seen_to, is_small_node, kept_of, kept_with, located_is_named, location_of, mounts_of_worlds_stand, number_of, permit_fits, remade, replaced, replaced_split, seen_where_located, supply_of, times, with_location, with_use, world_of, writes_of_task}
 use Rattle.vt_laws_mounts.proofs.letting_go.sweeps.OneByOne.{mounts_go_one_by_one}
 use Rattle.vt_laws_mounts.proofs.letting_go.leaving.PlacesLeft.{mounts_but}
 use Rattle.vt_tasks.specs.Counts.{locations_in}
@@ -11,7 +11,7 @@ use Rattle.vt_tasks.specs.declared.descriptors.OpenFile.{OpenFile}
 use Rattle.vt_tasks.specs.TasksValue.{MayOpenMore, changed_by, with_open}
 use Rattle.vt_world.specs.Held.{writes_on}
 use Rattle.vt_laws_worlds.proofs.overlays_read.Changes.{opens_copy_nothing}
-use Rattle.vt_mounting.proofs.detach.Closing.{Goes, around, place, used_by}
+use Rattle.vt_mounting.proofs.detach.Closing.{Goes, around, place_of, used_by}
 use Rattle.vt_mounting.proofs.detach.Moving.{only_left}
 use Rattle.vt_mounting.proofs.detach.Remaining.{remains_done}
 use Rattle.vt_mounting.proofs.detach.Splits.{IsSplit, locations_around, times_replaced, writes_replaced}
@@ -47,18 +47,19 @@ module _ (value : WorldValue) (whole : IsHeld value) (name : TaskName) (task : T
   -- the task with a descriptor more uses one location more
   pub opened_moves : Moves value (replaced opens value.tasks) (used_by descriptor ∷ []) []
   opened_moves = record {
-    front = locations_in split.front ++ (task.root ∷ task.directory ∷ map place goes.front);
-    back = map place goes.back ++ locations_in split.back;
+    front = locations_in split.front ++ (task.root ∷ task.directory ∷ map place_of goes.front);
+    back = map place_of goes.back ++ locations_in split.back;
     was = ap locations_in split.was ∙ locations_around split.front task split.back
         ∙ ap (λ places. locations_in split.front ++ ((task.root ∷ task.directory ∷ places) ++ locations_in split.back))
-        (ap (map place) goes.is ∙ map-append place goes.front goes.back)
-        ∙ around (locations_in split.front) (task.root ∷ task.directory ∷ map place goes.front) (map place goes.back)
+        (ap (map place_of) goes.is ∙ map-append place_of goes.front goes.back)
+        ∙ around (locations_in split.front) (task.root ∷ task.directory ∷ map place_of goes.front)
+        (map place_of goes.back)
         (locations_in split.back);
     is = ap locations_in split.is ∙ locations_around split.front opens split.back
         ∙ ap (λ places. locations_in split.front ++ ((task.root ∷ task.directory ∷ places) ++ locations_in split.back))
-        (ap (map place) goes.was ∙ map-append place goes.front (descriptor ∷ goes.back))
-        ∙ around (locations_in split.front) (task.root ∷ task.directory ∷ map place goes.front)
-        (descriptor.location ∷ map place goes.back) (locations_in split.back);
+        (ap (map place_of) goes.was ∙ map-append place_of goes.front (descriptor ∷ goes.back))
+        ∙ around (locations_in split.front) (task.root ∷ task.directory ∷ map place_of goes.front)
+        (descriptor.location ∷ map place_of goes.back) (locations_in split.back);
     there = ap (λ b. b && true) well;
     writes = λ mount.
         let moved = writes_replaced name value.tasks task opens whole.in_world.tasks.one_task found refl mount in
@@ -74,7 +75,7 @@ module _ (value : WorldValue) (whole : IsHeld value) (name : TaskName) (task : T
   pub opened_stays : without_dead_mounts nat_eq (world_of (after value (replaced opens value.tasks)))
       ≡ world_of (after value (replaced opens value.tasks))
   opened_stays = mounts_go_one_by_one (world_of (after value (replaced opens value.tasks))) []
-      (mounts_but (world_of value) (replaced opens value.tasks) [] (worlds_are_in_use (world_of value) whole.in_world)
+      (mounts_but (world_of value) (replaced opens value.tasks) [] (all_in_use (world_of value) whole.in_world)
       (mounts_of_worlds_stand (world_of value) whole.in_world)
       (only_left value whole (replaced opens value.tasks) (used_by descriptor ∷ []) [] opened_moves))
 

@@ -2,7 +2,7 @@
 use Rattle.std.proofs.Common.{◌≡◌, refl, sym, ap, subst, ◌∙◌, inl, inr, ℕ, ◌+◌, nat_eq, Bool, true, false, cond, ◌&&◌, List, [], ◌∷◌, ◌++◌, Some, arith, leb-false, append-nil}
 use Rattle.vt_spec.proofs.Common.{Credentials, Task, TaskName, ToFork, all_locations, child_of, flat_map-append, is_located_well, locations_of, map_alike, map_twice, mount_at, same_Some, task_called, without_dead_mounts}
 use Rattle.vt_spec.specs.Machine.Mounts as meant
-use Rattle.vt_ns.proofs.Common.{Among, CountsWhatIsInIt, Filesystems, IsDone, IsHeld, Kept, Merged, MountEntry, Moves, NamespaceEntry, Permits, Tasks, WorldValue, after, among-append_right, among-from_map, among_from_all, called, counted, counted_test, given_permits_are_seen_to, is_small_node, kept_of, kept_with, location_of, mounts_of_worlds_stand, namespace_of, number_of, passes, replaced, replaced_split, seen_where_located, standing, supply_of, task_of, times, with_location, with_use, world_of, worlds_are_in_use, writes_of, writes_of_task}
+use Rattle.vt_ns.proofs.Common.{Among, CountsWhatIsInIt, Filesystems, IsDone, IsHeld, Kept, Merged, MountEntry, Moves, NamespaceEntry, Permits, Tasks, WorldValue, after, all_in_use, among-append_right, among-from_map, among_from_all, among_from_list_all, called, counted, counted_test, given_permits_are_seen_to, is_small_node, kept_of, kept_with, location_of, mounts_of_worlds_stand, namespace_of, number_of, replaced, replaced_split, seen_where_located, standing, supply_of, task_of, times, with_location, with_use, world_of, writes_of, writes_of_task}
 use Rattle.vt_laws_mounts.proofs.letting_go.Lists.{among-append_left}
 use Rattle.vt_laws_mounts.proofs.letting_go.sweeps.OneByOne.{mounts_go_one_by_one}
 use Rattle.vt_laws_mounts.proofs.letting_go.leaving.PlacesLeft.{mounts_but}
@@ -13,7 +13,7 @@ use Rattle.vt_tasks.specs.declared.task.Task.{Task as Own}
 use Rattle.vt_tasks.specs.TasksValue.{MayFork, forked, forked_by, forked_once, with_child_behind}
 use Rattle.vt_laws_mounts.proofs.letting_go.sweeps.UpperUses.{times_append}
 use Rattle.vt_mounting.specs.Detach.Forking.{more_tasks, with_task_more}
-use Rattle.vt_mounting.proofs.detach.Moving.{only_left, swap_eq}
+use Rattle.vt_mounting.proofs.detach.Moving.{nat_eq_turned, only_left}
 use Rattle.vt_ns.proofs.world.RemainingTasks.{CountsTasks, remade_in, remains_done_in}
 use Rattle.vt_mounting.proofs.detach.Splits.{IsSplit, locations_around, locations_stay, times_replaced, writes_replaced}
 
@@ -39,7 +39,7 @@ module _ (value : WorldValue) (whole : IsHeld value) (count : ℕ) (tasks : Task
         let was = among_from_all (CountsWhatIsInIt (world_of value)) value.namespaces whole.namespaces from.0 from.1 in
         subst (λ (one : NamespaceEntry). one.tasks ≡ times (λ task. nat_eq (counted one.count) task.namespace) tasks)
         (sym from.2) (counts_so from.0 was.tasks (nat_eq count from.0.count)
-        (counted_test from.0.count count ∙ swap_eq from.0.count count));
+        (counted_test from.0.count count ∙ nat_eq_turned from.0.count count));
   }
     where
       same_namespace : (entry : NamespaceEntry) (b : Bool)
@@ -77,7 +77,7 @@ module _ (value : WorldValue) (whole : IsHeld value) (name : TaskName) (task : T
   -- the root and the working directory are there
   place_there : (place : meant.Location ℕ) → Among place (locations_of task)
       → is_located_well nat_eq (world_of value) place ≡ true
-  place_there place m = passes (is_located_well nat_eq (world_of value))
+  place_there place m = among_from_list_all (is_located_well nat_eq (world_of value))
       (all_locations (world_of value)) whole.in_world.tasks.locations_live place
       (subst (λ all. Among place all) (sym (ap locations_in split.was ∙ locations_around split.front task split.back))
       (among-append_right (locations_in split.front) (locations_of task ++ locations_in split.back) place
@@ -111,7 +111,7 @@ module _ (value : WorldValue) (whole : IsHeld value) (name : TaskName) (task : T
 
   forked_stays : without_dead_mounts nat_eq (world_of (after value tasks_forked)) ≡ world_of (after value tasks_forked)
   forked_stays = mounts_go_one_by_one (world_of (after value tasks_forked)) []
-      (mounts_but (world_of value) tasks_forked [] (worlds_are_in_use (world_of value) whole.in_world)
+      (mounts_but (world_of value) tasks_forked [] (all_in_use (world_of value) whole.in_world)
       (mounts_of_worlds_stand (world_of value) whole.in_world)
       (only_left value whole tasks_forked (standing task.root ∷ standing task.directory ∷ []) [] forked_moves))
 

@@ -2,7 +2,7 @@
 use Rattle.std.proofs.Common.{◌≡◌, refl, sym, ap, subst, true, true≢false, ⊎_elim, ℕ, nat_eq, List, [], ◌∷◌, is_some, map}
 use Rattle.vt_spec.proofs.Common.{Filesystem, IsTree, Namespace, TaskName, ToList, Tree, keys_of, node_at}
 use Rattle.vt_spec.specs.Machine.Mounts as meant
-use Rattle.vt_ns.proofs.Common.{IsHeld, Permits, StoreValue, WorldValue, counted, directory_there, entries_of, files_shown, given_permits_are_seen_to, namespace_of, numbered_all, supply_of, with_store, world_of}
+use Rattle.vt_ns.proofs.Common.{IsHeld, Permits, StoreValue, WorldValue, counted, directory_is_there, entries_of, files_shown, given_permits_are_seen_to, namespace_of, numbered_all, supply_of, with_store, world_of}
 use Rattle.vt_location.specs.declared.numbers.NamespaceId.{NamespaceId}
 use Rattle.vt_fs.specs.Trees.Paths.{NamesDirectoriesOnce}
 use Rattle.vt_world.specs.declared.namespaces.Namespace.{Namespace as Kept}
@@ -21,7 +21,7 @@ named_once base store held count =
 -- a directory that may be listed is there
 pub listed_there : (value : WorldValue) → IsHeld value → (name : TaskName) (directory : meant.Location ℕ)
     → Permits value name (ToList directory) → is_some (node_at nat_eq (world_of value) directory) ≡ true
-listed_there value held name directory permits = directory_there (node_at nat_eq (world_of value) directory)
+listed_there value held name directory permits = directory_is_there (node_at nat_eq (world_of value) directory)
     (given_permits_are_seen_to (world_of value) (supply_of value (ToList directory)) permits.task (ToList directory)
     held.in_world permits.given)
 

@@ -2,7 +2,7 @@
 use Rattle.std.proofs.Common.{◌≡◌, ◌≢◌, refl, sym, ap, subst, ◌∙◌, inl, inr, true≢false, ℕ, zero, suc, nat_eq, eq-eqb, eqb-true, Bool, true, ◌&&◌, List, [], ◌∷◌, ◌++◌, map, filter, flat_map, length, Option, None, Some}
 use Rattle.vt_spec.proofs.Common.{Mount, World, and_parts, holds_of, is_located_well, is_point, list_any, map-append, mount_at, mount_in, mount_tree, mounts_on, or-false, points_of, tree_from}
 use Rattle.vt_spec.specs.Machine.Mounts as meant
-use Rattle.vt_ns.proofs.Common.{Among, IsHeld, WorldValue, among-from_filter, counted, found_itself, is_small_node, location_of, mounts_in, number_of, seen_where_located, stands_over, tree_numbers, trees_numbers, world_of}
+use Rattle.vt_ns.proofs.Common.{Among, IsHeld, WorldValue, among-from_filter, counted, found_itself, is_small_node, location_of, mounts_in, number_of, numbers_of_trees, seen_where_located, stands_over, tree_numbers, world_of}
 use Rattle.vt_laws_mounts.proofs.letting_go.Lists.{filter_alike}
 use Rattle.vt_location.specs.declared.locations.Location.{Location}
 use Rattle.vt_location.specs.declared.numbers.MountId.{MountId}
@@ -28,7 +28,7 @@ trees_are_some zero mounts top rest e = absurd cc
 trees_are_some (suc depth) mounts top rest e = absurd cc
 
 -- trees without mounts have no tops
-pub none_on : (world : World ℕ) (all : List (Mount ℕ)) → trees_numbers world all ≡ [] → all ≡ []
+pub none_on : (world : World ℕ) (all : List (Mount ℕ)) → numbers_of_trees world all ≡ [] → all ≡ []
 none_on world [] e = refl
 none_on world (top ∷ rest) e =
     absurd (trees_are_some (length world.mounts) world.mounts top (flat_map (mount_tree nat_eq world.mounts) rest) e)
@@ -71,7 +71,7 @@ module _ (value : WorldValue) (held : IsHeld value) (at : Location) (small : is_
   pub trees_collected : is_located_well nat_eq world (location_of at) ≡ true
       → flat_map (tree_numbers (mounts_in value.mounts))
       (map (λ (mount : Mount ℕ). mount.number) (filter (stands_over (number_of at.node)) (mounts_in value.mounts)))
-      ≡ trees_numbers world (tops_on value at)
+      ≡ numbers_of_trees world (tops_on value at)
   trees_collected there =
       ap (λ all. flat_map (tree_numbers (mounts_in value.mounts)) (map (λ (mount : Mount ℕ). mount.number) all))
       (sym (filter_alike stands_there (stands_over (number_of at.node)) (mounts_in value.mounts)

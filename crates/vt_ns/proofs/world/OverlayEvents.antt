@@ -2,7 +2,7 @@
 use Rattle.std.proofs.Common.{◌≡◌, ◌<◌, ◌∙◌, refl, sym, ap, subst, true, true≢false, not, nat_lt, lt-ltb, ◌&&◌, ◌/◌, List, [], ◌∷◌, length, map, Some, arith, All, nat_le, slice_get}
 use Rattle.vt_spec.proofs.Common.{Credentials, TaskName, and_parts, is_empty_list, length-map, list_all, map_twice, most_lowers}
 use Rattle.vt_ns.proofs.Common.{Among, IsHeld, OverlayValue, StoreValue, WorldValue, all_from_among, among-map, counted, flags_of, here_number, inode_number, is_own_number, layer_kept, layer_of, location_of, number_of, overlay_of_store, overlay_seen, overlays_of_store, supply_of, with_store, world_of}
-use Rattle.vt_laws_mounts.proofs.letting_go.Lists.{all_pass}
+use Rattle.vt_laws_mounts.proofs.letting_go.Lists.{list_all_from_among}
 use Rattle.vt_laws_worlds.specs.OverlaysGranted.Granted.{MayBeMounted}
 use Rattle.vt_laws_worlds.proofs.overlays_granted.Mounts.{given_overlays_may_be_mounted}
 use Rattle.vt_location.specs.Numbers.{exchanged}
@@ -49,7 +49,7 @@ kept_as_it_is lower small plain =
 pub overlays_below : (base : WorldValue) (store : StoreValue) → IsHeld (with_store store base)
     → list_all (λ (entry : stored.OverlayEntry). nat_lt entry.count base.next) store.overlays ≡ true
 overlays_below base store whole =
-    all_pass (λ (entry : stored.OverlayEntry). nat_lt entry.count base.next) store.overlays (λ entry m.
+    list_all_from_among (λ (entry : stored.OverlayEntry). nat_lt entry.count base.next) store.overlays (λ entry m.
     let seen = overlay_seen (overlay_of_store store.plain entry) in
     let low = number_below (with_store store base) whole seen (overlay_among (with_store store base) whole.overlays seen
     (among-map overlay_seen (overlays_of_store store) (overlay_of_store store.plain entry)

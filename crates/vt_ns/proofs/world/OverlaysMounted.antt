@@ -17,7 +17,7 @@ use Rattle.vt_mounting.specs.Detach.Events.{left_by}
 use Rattle.vt_mounting.specs.Detach.Stored.{OverlaysStay}
 use Rattle.vt_mounting.specs.Attach.Grafted.{MayGraft}
 use Rattle.vt_mounting.specs.Attach.Overlaid.{IsWithOverlay}
-use Rattle.vt_mounting.proofs.attach.NewOverlayDone.{may_mount_overlay as may_graft}
+use Rattle.vt_mounting.proofs.attach.NewOverlayDone.{may_graft}
 use Rattle.vt_mounting.proofs.attach.OverlayMounted.{overlay_is_mounted}
 use Rattle.vt_ns.specs.OverlayMounts.{MountsOverlay, PermitsOverlay}
 use Rattle.vt_ns.proofs.world.OverlayEvents.{kept_is_overlay, layers_are_kept, root_is_top}

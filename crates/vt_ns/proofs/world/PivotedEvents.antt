@@ -1,7 +1,7 @@
 -- A mount becomes the root mount, as code does it: pivot_root(2).
 use Rattle.std.proofs.Common.{◌≡◌, refl, sym, ap, subst, ◌∙◌, ℕ, ◌+◌, zero, suc, nat_eq, true, true≢false, List, [], ◌∷◌, find, map, Option, Some, None, is_some, unwrap_or}
 use Rattle.vt_spec.proofs.Common.{Location, Mount, Task, TaskName, ToPivot, chain, list_any, looks_of, mount_at, mount_numbered, no_mount, pivoted_task, rest_of, root_of, same_Some}
-use Rattle.vt_spec.specs.Machine.Looks as Looks
+use Rattle.vt_spec.specs.Machine.Looks
 use Rattle.vt_ns.proofs.Common.{Filesystems, HasRoom, IsDone, IsHeld, Merged, MountEntry, Permits, Tasks, WorldValue, called, counted, inode_of, is_small_node, kept_with, location_of, merged_seen, mount_of, mounts_in, pinned_in, remade, shown, task_of, unpinned_in, uses_of, world_of, writers_of}
 use Rattle.vt_location.specs.declared.locations.Location.{Location as At}
 use Rattle.vt_location.specs.declared.mounts.Mount.{Mount as Attached}

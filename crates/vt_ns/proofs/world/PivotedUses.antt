@@ -5,7 +5,7 @@ use Rattle.vt_spec.proofs.Common.{Location, Mount, Task, World, all_locations, a
 use Rattle.vt_ns.proofs.Common.{Among, Exchanges, Inode, Tasks, Use, inode_at, inodes_of_uses, mount_uses, standing, times, writes_of, writes_of_task}
 use Rattle.vt_laws_mounts.specs.Counts.Using.{is_inode}
 use Rattle.vt_laws_mounts.proofs.counts.using.Places.{count_append, count_in, count_places, located_uses, same_found}
-use Rattle.vt_laws_mounts.proofs.letting_go.Lists.{fails}
+use Rattle.vt_laws_mounts.proofs.letting_go.Lists.{none_among}
 use Rattle.vt_laws_mounts.proofs.letting_go.sweeps.UpperUses.{times_append}
 use Rattle.vt_tasks.specs.Counts as counted_uses
 use Rattle.vt_tasks.specs.Counts.{all_places_at, uses}
@@ -96,7 +96,7 @@ one_weighs weight (first ∷ rest) mount one m =
         ≡ weight mount
     later none others there =
         let another : nat_eq mount.number first.number ≡ false = nat_eq_turned mount.number first.number
-        ∙ fails (λ (other : Mount ℕ). nat_eq first.number other.number) rest none mount there in
+        ∙ none_among (λ (other : Mount ℕ). nat_eq first.number other.number) rest none mount there in
         let own : cond (nat_eq mount.number first.number) (weight first) 0 ≡ 0 =
         ap (λ b. cond b (weight first) 0) another in
         omega (arith, own, others there)

@@ -1,7 +1,7 @@
 -- The root mount changes, and roots and working directories go along: pivot_root(2).
 use Rattle.std.proofs.Common.{◌≡◌, refl, sym, ap, subst, ◌∙◌, ⊎_elim, ℕ, ◌+◌, ◌-◌, zero, suc, nat_eq, true, false, ◌||◌, ◌&&◌, List, [], ◌∷◌, ◌++◌, map, filter, Some, is_some, arith, option_to_list, replicate}
 use Rattle.vt_spec.proofs.Common.{Filesystem, Location, Mount, TaskName, ToPivot, World, and_parts, any_pair, filesystem_lives, filesystem_numbered, folded, has_its_root, has_layer_on, is_located_well, is_mounted, list_any, map_alike, map_twice, mount_at, mount_lives, mount_numbered, pivoted_task, root_of, settled, with_mounts, without_dead_filesystems, without_dead_mounts}
-use Rattle.vt_ns.proofs.Common.{Among, CountsItsMounts, CountsItsUses, CountsWhatIsInIt, Exchanges, FilesystemEntry, Filesystems, Has, Inode, IsApplied, IsDone, IsHeld, IsSwept, Kept, Merged, MountEntry, Permits, Shown, Use, WorldValue, all_from_among, among-from_map, among-map, among_from_all, counted, directory_there, filesystem_seen, found_is_there, found_itself, in_use_of, inode_at, inode_of, inodes_of_uses, inodes_seen, is_among_numbers, is_small_node, keeps_itself, kept_with, layer_count, located_is_named, location_of, merged_seen, mount_uses, mounts_in, mounts_of_worlds_stand, mounts_showing, number_found, number_of, passes, permit_fits, pinned_in, remade, same_files_keep, seen_where_located, shown, shown_entry, standing, times, unpinned_in, with_use, world_of, worlds_are_in_use, writes_of}
+use Rattle.vt_ns.proofs.Common.{Among, CountsItsMounts, CountsItsUses, CountsWhatIsInIt, Exchanges, FilesystemEntry, Filesystems, Has, Inode, IsApplied, IsDone, IsHeld, IsSwept, Kept, Merged, MountEntry, Permits, Shown, Use, WorldValue, all_from_among, all_in_use, among-from_map, among-map, among_from_all, among_from_list_all, counted, directory_is_there, filesystem_seen, found_is_there, found_itself, in_use_of, inode_at, inode_of, inodes_of_uses, inodes_seen, is_among_numbers, is_small_node, keeps_itself, kept_with, layer_count, located_is_named, location_of, merged_seen, mount_uses, mounts_in, mounts_of_worlds_stand, mounts_showing, number-mount_in, number_of, permit_fits, pinned_in, remade, same_files_keep, seen_where_located, shown, shown_entry, standing, times, unpinned_in, with_use, world_of, writes_of}
 use Rattle.vt_laws_mounts.specs.Counts.Using.{AreThere, pinned_if, unpinned_if}
 use Rattle.vt_fs.specs.FilesystemsValue.{filesystems_seen}
 use Rattle.vt_laws_mounts.specs.LettingGo.InUse.{AllInUse}
@@ -92,8 +92,8 @@ module _ (value : WorldValue) (whole : IsHeld value) (name : TaskName) (number :
   one_number = whole.in_world.mounts.one_number
 
   another : nat_eq new.number root.number ≡ false
-  another = (λ i. nat_eq (number_found (mounts_in value.mounts) number i)
-      (number_found (mounts_in value.mounts) permits.task.root.mount i)) ∙ may.another
+  another = (λ i. nat_eq (number-mount_in (mounts_in value.mounts) number i)
+      (number-mount_in (mounts_in value.mounts) permits.task.root.mount i)) ∙ may.another
 
   root_there : Among root (mounts_in value.mounts)
   root_there = found_is_there (mounts_in value.mounts) permits.task.root.mount (ap is_some may.own_root)
@@ -110,11 +110,11 @@ module _ (value : WorldValue) (whole : IsHeld value) (name : TaskName) (number :
   root_located mount m =
       let itself = found_itself (mounts_in value.mounts) one_number mount m in
       let directory = (and_parts _ _
-      (passes (has_its_root nat_eq before) (mounts_in value.mounts) whole.in_world.roots mount m)).0 in
+      (among_from_list_all (has_its_root nat_eq before) (mounts_in value.mounts) whole.in_world.roots mount m)).0 in
       λ i. is_among_numbers mount.number (map (λ (x : Mount ℕ). x.number) (mounts_in value.mounts))
       (among-map (λ (x : Mount ℕ). x.number) (mounts_in value.mounts) mount m) i
       && (ap (λ (x : Mount ℕ). is_some ((filesystem_numbered nat_eq (world_of value) x.filesystem).files.tree.node mount.root)) itself
-      ∙ directory_there _ directory) i
+      ∙ directory_is_there _ directory) i
 
   -- Nothing goes
 
@@ -126,10 +126,10 @@ module _ (value : WorldValue) (whole : IsHeld value) (name : TaskName) (number :
   living_is : in_use_of next ≡ next
   living_is = ap (without_dead_filesystems nat_eq) mounts_stay ∙ ap (λ all. record next { filesystems = all })
       (filter_all (filesystem_lives nat_eq next) next.filesystems (λ f m.
-      same_lives f ∙ passes (filesystem_lives nat_eq before) before.filesystems in_use.filesystems f m))
+      same_lives f ∙ among_from_list_all (filesystem_lives nat_eq before) before.filesystems in_use.filesystems f m))
     where
       in_use : AllInUse before
-      in_use = worlds_are_in_use before whole.in_world
+      in_use = all_in_use before whole.in_world
 
       mounts_stay : without_dead_mounts nat_eq next ≡ next
       mounts_stay = ap (with_mounts next) (filter_all (mount_lives nat_eq next) next.mounts (λ mount m.

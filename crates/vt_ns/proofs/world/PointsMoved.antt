@@ -2,14 +2,14 @@
 use Rattle.std.proofs.Common.{◌≡◌, refl, sym, ap, subst, ◌∙◌, ⊎_elim, inl, inr, ℕ, ◌+◌, nat_eq, eqb-true, Bool, true, false, true≢false, cond, not, ◌&&◌, ◌||◌, List, [], ◌∷◌, ◌++◌, filter, map, find, Option, Some, None, option_map, is_some, unwrap_or, option_and_then, option_to_list, append-nil}
 use Rattle.vt_spec.proofs.Common.{Filesystem, Location, Mount, World, all_locations, and_parts, filesystem_lives, filesystem_numbered, is_among, is_located_well, is_mounted, is_nowhere_or_attached, is_overlay, is_private, is_there, list_all, lookup, map_alike, map_twice, mount_at, mount_in, mount_lives, no_mount, node_in, or_else, same_Some, shown-mapped, with_mounts}
 use Rattle.vt_spec.specs.Inodes as Trees
-use Rattle.vt_ns.proofs.Common.{Among, CountsItsMounts, CountsItsUses, Exchanges, FilesystemEntry, Filesystems, Inode, IsHeld, IsKeptBut, Kept, Merged, MountEntry, Point, Shown, WorldValue, all_from_among, among-from_map, among-map, among_from_all, counted, entry_numbered, filesystem_seen, found_mapped, found_plain_one, inode_at, inodes_seen, is_small, kept_of, kept_with, layer_count, location_of, merged_seen, mounts_in, mounts_showing, moved_by, number_of, overlays_seen, passes, point_seen, points_left, points_taken, seen_where_located, shown, shown_entry, with_planned, world_of, worlds_are_in_use}
+use Rattle.vt_ns.proofs.Common.{Among, CountsItsMounts, CountsItsUses, Exchanges, FilesystemEntry, Filesystems, Inode, IsHeld, IsKeptBut, Kept, Merged, MountEntry, Point, Shown, WorldValue, all_from_among, all_in_use, among-from_map, among-map, among_from_all, among_from_list_all, counted, entry_numbered, filesystem_seen, found_mapped, found_plain_one, inode_at, inodes_seen, is_small, kept_of, kept_with, layer_count, location_of, merged_seen, mounts_in, mounts_showing, moved_by, number_of, overlays_seen, point_seen, points_left, points_taken, seen_where_located, shown, shown_entry, with_planned, world_of}
 use Rattle.vt_laws_mounts.specs.Counts.Using.{AreThere, exchanged}
 use Rattle.vt_laws_mounts.proofs.counts.using.MountRoots as Roots
 use Rattle.vt_laws_mounts.specs.LettingGo.Keeping.{LocationsStand}
 use Rattle.vt_laws_mounts.specs.LettingGo.InUse.{FilesystemsInUse}
 use Rattle.vt_laws_mounts.specs.LettingGo.Leaving.{MountsStand, stands_on_attached}
 use Rattle.vt_laws_mounts.specs.LettingGo.OneByOne.{MountsInUseBut}
-use Rattle.vt_laws_mounts.proofs.letting_go.Lists.{all_pass, among-append, any-map, filter_alike}
+use Rattle.vt_laws_mounts.proofs.letting_go.Lists.{among-append, any-map, filter_alike, list_all_from_among}
 use Rattle.vt_location.specs.declared.locations.Location.{Location as At}
 use Rattle.vt_mounting.specs.Attach.Planned.{left_at, taken_at, with_points}
 use Rattle.vt_mounting.proofs.attach.MovedPoints.{points_are_moved}
@@ -115,7 +115,8 @@ module _ (value : WorldValue) (whole : IsHeld value) where
       → ((place : Location ℕ) → Among place places → is_located_well nat_eq world place ≡ true)
       → AreThere (counted was.count) (inodes_seen was) (map (inode_at world) places)
   inodes_there was m places there =
-      all_pass (λ inode. not (nat_eq (counted was.count) inode.0) || is_some ((inodes_seen was).inode inode.1))
+      list_all_from_among
+      (λ inode. not (nat_eq (counted was.count) inode.0) || is_some ((inodes_seen was).inode inode.1))
       (map (inode_at world) places) (λ inode n. let from = among-from_map (inode_at world) places inode n in
       ap (λ (one : Inode). not (nat_eq (counted was.count) one.0) || is_some ((inodes_seen was).inode one.1)) from.2
       ∙ by from.0 (nat_eq (counted was.count) (mount_at nat_eq world from.0).filesystem) refl (there from.0 from.1))
@@ -173,12 +174,12 @@ module _ (value : WorldValue) (whole : IsHeld value) (points : List Point) (may 
   stand : MountsStand after
   stand = record {
     one_number = pair_mapped moved (λ mount. refl) before.mounts ∙ whole.in_world.mounts.one_number;
-    nowhere = all_pass is_nowhere_or_attached after.mounts
+    nowhere = list_all_from_among is_nowhere_or_attached after.mounts
         (λ mount m. let from = among-from_map moved before.mounts mount m in
         ap is_nowhere_or_attached from.2 ∙ outside from.0 (is_some from.0.namespace) refl
-        (passes is_nowhere_or_attached before.mounts whole.in_world.mounts.nowhere from.0 from.1)
+        (among_from_list_all is_nowhere_or_attached before.mounts whole.in_world.mounts.nowhere from.0 from.1)
         (may.outside from.0 from.1));
-    on_attached = all_pass (stands_on_attached after) after.mounts
+    on_attached = list_all_from_among (stands_on_attached after) after.mounts
         (λ mount m. let from = among-from_map moved before.mounts mount m in
         ap (stands_on_attached after) from.2 ∙ on from.0 from.1 (moved from.0).mount_point refl);
   }
@@ -208,17 +209,19 @@ module _ (value : WorldValue) (whole : IsHeld value) (points : List Point) (may 
 
   in_use : MountsInUseBut [] after
   in_use =
-      all_pass (λ mount. is_among nat_eq mount.number [] || mount_lives nat_eq after mount) after.mounts (λ mount m.
+      list_all_from_among (λ mount. is_among nat_eq mount.number [] || mount_lives nat_eq after mount) after.mounts
+      (λ mount m.
       let from = among-from_map moved before.mounts mount m in
       ap (mount_lives nat_eq after) from.2
-      ∙ passes (mount_lives nat_eq before) before.mounts (worlds_are_in_use before whole.in_world).mounts from.0 from.1)
+      ∙ among_from_list_all (mount_lives nat_eq before) before.mounts (all_in_use before whole.in_world).mounts from.0
+      from.1)
 
   mounted : FilesystemsInUse after
-  mounted = all_pass (filesystem_lives nat_eq after) before.filesystems (λ f m.
+  mounted = list_all_from_among (filesystem_lives nat_eq after) before.filesystems (λ f m.
       lives_alike before after refl
       (λ number. any-map (λ (mount : Mount ℕ). nat_eq number mount.filesystem) moved before.mounts (λ mount. refl)) f
-      ∙ passes (filesystem_lives nat_eq before) before.filesystems
-      (worlds_are_in_use before whole.in_world).filesystems f m)
+      ∙ among_from_list_all (filesystem_lives nat_eq before) before.filesystems
+      (all_in_use before whole.in_world).filesystems f m)
 
   showing : (n : ℕ) → mounts_showing after n ≡ mounts_showing before n
   showing n = times_map (λ (mount : Mount ℕ). nat_eq n mount.filesystem) moved before.mounts

@@ -2,13 +2,13 @@
 use Rattle.std.proofs.Common.{None, Option, Some, is_some, nat_eq, refl, sym, true, true≢false, ℕ, ◌∙◌, ◌≡◌}
 use Rattle.vt_spec.proofs.Common.{Call, Credentials, Fresh, Node, Permit, Task, TaskName, ToRead, World, is_kind_in, looks_of, may, node_allows, node_at, overfills, read_right}
 use Rattle.vt_spec.specs.declared.attributes.Kind.{Kind}
-use Rattle.vt_spec.specs.declared.attributes.Kind.TheVariants.{Symlink as SymlinkKind}
+use Rattle.vt_spec.specs.declared.attributes.Kind.TheVariants.{Symlink}
 use Rattle.vt_spec.specs.Machine.Mounts as meant
 use Rattle.vt_spec.specs.Machine.Rules.Conditions.{kind_at}
 use Rattle.vt_laws_rules.proofs.given.Inversion.{calls_are_granted}
 use Rattle.vt_laws_rules.specs.Granted.{IsGranted}
 use Rattle.vt_laws_rules.specs.Granted.IsGranted.{reads_file, reads_symlink}
-use Rattle.vt_laws_trees.proofs.trees.TreesWalked.{not_true}
+use Rattle.vt_laws_trees.proofs.trees.TreesWalked.{not-false}
 use Rattle.vt_ns.proofs.Common.{Permits, WorldValue, supply_of, world_of}
 use Rattle.vt_ns.specs.Lent.{as_lent}
 
@@ -30,11 +30,11 @@ module _ (fresh : Fresh ℕ) (world : World ℕ) (task : Task ℕ) where
   granted_there : (call : Call) (permit : Permit ℕ)
       → IsGranted nat_eq (looks_of nat_eq world) (overfills nat_eq fresh world task) task call permit → IsThere permit
   granted_there call permit (reads_symlink path here end passed) =
-      kind_there SymlinkKind (node_at nat_eq world here.location)
-      (not_true (kind_at (looks_of nat_eq world) here.location SymlinkKind) passed.0)
+      kind_there Symlink (node_at nat_eq world here.location)
+      (not-false (kind_at (looks_of nat_eq world) here.location Symlink) passed.0)
   granted_there call permit (reads_file path here end passed) =
       allowed_there task.credentials read_right (node_at nat_eq world here.location)
-      (not_true (may (looks_of nat_eq world) task here.location read_right) passed.1.1.0)
+      (not-false (may (looks_of nat_eq world) task here.location read_right) passed.1.1.0)
   granted_there call permit granted = tt
 
 pub readable_there : (value : WorldValue) (name : TaskName) (file : meant.Location ℕ)

@@ -2,7 +2,7 @@
 use Rattle.std.proofs.Common.{◌≡◌, ◌≢◌, refl, sym, ap, subst, ◌∙◌, true, ℕ, nat_eq, ◌&&◌, List, [], ◌∷◌, Option, None, Some, option_map, map, length, IfSome, option_to_list}
 use Rattle.vt_spec.proofs.Common.{Change, Fresh, Mount, Move, Permit, TaskName, ToChange, ToRename, World, apply, entry_at, filesystem_at, filesystem_numbered, mount_at, mount_numbered, mounts_on, regrouped, same_Some, with_change, with_mounts, without_replaced}
 use Rattle.vt_spec.specs.Machine.Mounts as meant
-use Rattle.vt_ns.proofs.Common.{Among, ChangesFiles, ChangesInodes, Filesystems, Grouping, HasChildrenOf, IsDone, IsFilesEvent, IsHeld, IsSmall, LeaveTogether, Merged, MountEntry, NamesWhatIsThere, OverlaysLeft, Permits, StoreValue, WorldValue, counted, detached_world, inodes_seen, is_counted_before, is_small_node, kept, kept_of, kept_with, location_of, merged_of, mounts_in, nodes_named, number_of, permit_named, remade_with, taken_regroups, trees_numbers, with_filesystems, with_store, world_of}
+use Rattle.vt_ns.proofs.Common.{Among, ChangesFiles, ChangesInodes, Filesystems, Grouping, HasChildrenOf, IsDone, IsFilesEvent, IsHeld, IsSmall, LeaveTogether, Merged, MountEntry, NamesWhatIsThere, OverlaysLeft, Permits, StoreValue, WorldValue, counted, detached_world, inodes_seen, is_counted_before, is_small_node, kept, kept_of, kept_with, location_of, merged_of, mounts_in, nodes_named, number_of, numbers_of_trees, permit_named, remade_with, taken_regroups, with_filesystems, with_store, world_of}
 use Rattle.vt_spec.specs.Inodes.{changed}
 use Rattle.vt_group.proofs.Together.{regrouped_living}
 use Rattle.vt_laws_mounts.specs.LettingGo.FileChanges.{names_lost}
@@ -39,7 +39,7 @@ module _ (value : WorldValue) (held : IsHeld value) (name : TaskName) (from : Lo
   change = Move (number_of from.node) old (number_of to.node) new (number_of object.node)
 
   abbrev gone : List ℕ
-  gone = trees_numbers world (tops_on_replaced value replaced)
+  gone = numbers_of_trees world (tops_on_replaced value replaced)
 
   names : NamesWhatIsThere world permits.task permit
   names = Renaming.names value held name from old to new object replaced small small_to small_object permits
@@ -56,7 +56,7 @@ module _ (value : WorldValue) (held : IsHeld value) (name : TaskName) (from : Lo
       by : (o : Option Location) → IfSome o (λ other. is_small_node other.node ≡ true)
           → ((other : meant.Location ℕ) → option_map location_of o ≡ Some other
           → IsReached (world_of value) permits.task other)
-          → trees_of_replaced (mounts_in value.mounts) o ≡ trees_numbers (world_of value) (tops_on_replaced value o)
+          → trees_of_replaced (mounts_in value.mounts) o ≡ numbers_of_trees (world_of value) (tops_on_replaced value o)
       by None few there = refl
       by (Some other) few there = trees_collected value held other few (there (location_of other) refl).there
 
@@ -65,7 +65,7 @@ module _ (value : WorldValue) (held : IsHeld value) (name : TaskName) (from : Lo
       → IfSome replaced (λ other. mounts_on nat_eq (world_of value) (location_of other) ≡ [])
   nothing_on_replaced none = by replaced none
     where
-      by : (o : Option Location) → trees_numbers (world_of value) (tops_on_replaced value o) ≡ []
+      by : (o : Option Location) → numbers_of_trees (world_of value) (tops_on_replaced value o) ≡ []
           → IfSome o (λ other. mounts_on nat_eq (world_of value) (location_of other) ≡ [])
       by None e = tt
       by (Some other) e = none_on world (tops_on value other) e
@@ -74,10 +74,10 @@ module _ (value : WorldValue) (held : IsHeld value) (name : TaskName) (from : Lo
   closed = trees_have_children world held.in_world.mounts (tops_on_replaced value replaced)
 
   taken : (o : Option Location) → without_replaced nat_eq world (option_map location_of o)
-      ≡ regrouped nat_eq (detached_world (trees_numbers world (tops_on_replaced value o)) world)
+      ≡ regrouped nat_eq (detached_world (numbers_of_trees world (tops_on_replaced value o)) world)
   taken None = sym (regrouped_living world held.in_world.mounts.groups)
       ∙ ap (λ mounts. regrouped nat_eq (with_mounts world mounts)) (map_itself world.mounts)
-  taken (Some other) = taken_regroups world (trees_numbers world (tops_on value other))
+  taken (Some other) = taken_regroups world (numbers_of_trees world (tops_on value other))
       (trees_have_children world held.in_world.mounts (tops_on value other))
 
   applied : (supply : Fresh ℕ) → (apply nat_eq supply world permits.task permit).world
@@ -116,10 +116,10 @@ module _ (value : WorldValue) (held : IsHeld value) (name : TaskName) (from : Lo
           )
 
   some_on : (o : Option Location) → replaced ≡ o → IfSome o (λ other. is_small_node other.node ≡ true)
-      → trees_numbers world (tops_on_replaced value o) ≢ [] → IsOnReplaced
+      → numbers_of_trees world (tops_on_replaced value o) ≢ [] → IsOnReplaced
   some_on None is few some = absurd (some refl)
   some_on (Some other) is few some =
-      let on = one_on value held other few (λ none. some (ap (trees_numbers world) none)) in record {
+      let on = one_on value held other few (λ none. some (ap (numbers_of_trees world) none)) in record {
         inode = number_of other.node;
         lost = (facts other is).0;
         mount = on.mount;
@@ -177,7 +177,7 @@ module _ (base : WorldValue) (store : StoreValue) (held : IsHeld (with_store sto
   renamed = ToRename (location_of from) old (location_of to) new (location_of object) (option_map location_of replaced)
 
   abbrev trees : List ℕ
-  trees = trees_numbers (world_of (with_store store base)) (tops_on_replaced (with_store store base) replaced)
+  trees = numbers_of_trees (world_of (with_store store base)) (tops_on_replaced (with_store store base) replaced)
 
   are : map (λ id. counted id.count) ids ≡ trees
   are = replaced_collected (with_store store base) held name from old to new object replaced small small_to small_object

@@ -12,7 +12,7 @@ use Rattle.vt_propagate.proofs.LazyUnmounts.{lazy_unmounts_are_at_once}
 use Rattle.vt_mounting.specs.Attach.Planned.{placed_entry, with_points}
 use Rattle.vt_retype.specs.Retyping.{AreTyped}
 use Rattle.vt_mounting.proofs.detach.FollowedTypes.{changed_typed, own_types}
-use Rattle.vt_mounting.proofs.detach.Leaving.{found_it}
+use Rattle.vt_mounting.proofs.detach.Leaving.{found_in}
 use Rattle.vt_mounting.proofs.detach.UnmountedAlone.{attached_is_named}
 use Rattle.vt_ns.specs.Unmounting.{GoTogether}
 use Rattle.vt_ns.proofs.world.UnmountedWorlds.{moved_then_detached}
@@ -62,7 +62,7 @@ fallen_to world gone number place falls =
     by None e is = absurd (none_some is)
     by (Some mount) e is =
         let its = eqb-true number mount.number
-        (found_it (λ (x : Mount ℕ). nat_eq number x.number) world.mounts mount e).1 in
+        (found_in (λ (x : Mount ℕ). nat_eq number x.number) world.mounts mount e).1 in
         ap (λ b. (cond b (detached mount) (record mount {
           mount_point = option_map (mount_point_left nat_eq world gone) mount.mount_point;
         })).mount_point) (ap (is_going nat_eq gone) (sym its) ∙ falls.0) ∙ is

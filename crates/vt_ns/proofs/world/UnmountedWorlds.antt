@@ -2,10 +2,10 @@
 use Rattle.std.proofs.Common.{◌≡◌, refl, sym, ap, subst, ◌∙◌, inl, ℕ, nat_eq, eqb-true, Bool, true, false, true≢false, cond, not, ◌&&◌, ◌||◌, List, [], map, find, Option, Some, None, option_map, is_some, unwrap_or, option_to_list}
 use Rattle.vt_spec.proofs.Common.{Location, Mount, Permit, Stands, Task, TaskName, World, and_parts, detached, filesystem_numbered, has_its_root, has_members, is_among, is_directory_at, is_directory_node, is_going, is_located, is_located_well, is_nowhere_or_attached, is_private, is_there, list_all, lookup, map_alike, map_twice, mount_at, mount_in, mount_numbered, no_mount, node_at, or_else, or_false_left, settled, shown-mapped, with_mounts, without_dead_groups}
 use Rattle.std.proofs.lemmas.Option.{none-some}
-use Rattle.vt_ns.proofs.Common.{Among, CountsWhatIsInIt, Filesystems, Grouping, Has, HasChildrenOf, IsApplied, IsDone, IsHeld, IsKeptBut, IsUnderWay, LeaveInTurn, Merged, MountEntry, Point, WorldValue, all_from_among, among-from_map, among-map, among_from_all, counted, detached_world, directory_there, found_is_there, found_itself, found_mapped, given_permits_are_under_way_without_upper, in_use_of, is_among_numbers, is_small, keeps_itself, kept_of, kept_with, location_of, mounts_of_worlds_stand, moved_by, passes, point_seen, points_left, points_taken, remade_with, same_files_keep, supply_of, with_planned, world_of}
+use Rattle.vt_ns.proofs.Common.{Among, CountsWhatIsInIt, Filesystems, Grouping, Has, HasChildrenOf, IsApplied, IsDone, IsHeld, IsKeptBut, IsUnderWay, LeaveInTurn, Merged, MountEntry, Point, WorldValue, all_from_among, among-from_map, among-map, among_from_all, among_from_list_all, counted, detached_world, directory_is_there, found_is_there, found_itself, found_mapped, given_permits_are_under_way_without_upper, in_use_of, is_among_numbers, is_small, keeps_itself, kept_of, kept_with, location_of, mounts_of_worlds_stand, moved_by, point_seen, points_left, points_taken, remade_with, same_files_keep, supply_of, with_planned, world_of}
 use Rattle.vt_group.specs.Laws.{typed_by}
 use Rattle.vt_laws_mounts.specs.LettingGo.Leaving.{stands_on_attached}
-use Rattle.vt_laws_mounts.proofs.letting_go.leaving.PlacesLeft.{number_found}
+use Rattle.vt_laws_mounts.proofs.letting_go.leaving.PlacesLeft.{number-mount_in}
 use Rattle.vt_location.specs.declared.locations.Location.{Location as At}
 use Rattle.vt_propagate.specs.Falling.{left_by}
 use Rattle.vt_mounting.proofs.detach.DetachingBegins.{detaching_begins}
@@ -13,7 +13,7 @@ use Rattle.vt_mounting.proofs.detach.DetachingEnds.{detached_counted, detached_s
 use Rattle.vt_mounting.proofs.detach.Finishing.{finished_as}
 use Rattle.vt_mounting.proofs.detach.Grouped.{settled_has, stays_private}
 use Rattle.vt_mounting.proofs.detach.Keeping.{detached_in}
-use Rattle.vt_mounting.proofs.detach.Leaving.{found_it}
+use Rattle.vt_mounting.proofs.detach.Leaving.{found_in}
 use Rattle.vt_mounting.proofs.detach.MidwayBegins.{parent_inside}
 use Rattle.vt_mounting.proofs.detach.TypedEvents.{counts_typed, swept_typed, typed_value}
 use Rattle.vt_mounting.proofs.detach.TypedWorlds.{typed_world}
@@ -124,7 +124,7 @@ module _ (value : WorldValue) (whole : IsHeld value) (name : TaskName) (permit :
         where
           its : mount.number ≡ number
           its = sym (eqb-true number mount.number
-              (found_it (λ (x : Mount ℕ). nat_eq number x.number) world.mounts mount e).1)
+              (found_in (λ (x : Mount ℕ). nat_eq number x.number) world.mounts mount e).1)
 
           going : (b : Bool) → is_going nat_eq gone mount.number ≡ b
               → (is_going nat_eq gone number ≡ false) × (is_some mount.namespace ≡ true)
@@ -137,7 +137,8 @@ module _ (value : WorldValue) (whole : IsHeld value) (name : TaskName) (permit :
   parent_attached mount m place at = ap is_some (sym (parent_inside policy under_way.mounts.one_number
       (λ x n. among_from_all (λ (y : Mount ℕ). Stands nat_eq policy y.number) policy.mounts under_way.mounts.standing
       x n) mount m place at))
-      ∙ placed_is_attached mount (passes is_nowhere_or_attached policy.mounts under_way.mounts.nowhere mount m)
+      ∙ placed_is_attached mount
+      (among_from_list_all is_nowhere_or_attached policy.mounts under_way.mounts.nowhere mount m)
       (ap is_some at)
 
   -- a mount point is there
@@ -150,16 +151,17 @@ module _ (value : WorldValue) (whole : IsHeld value) (name : TaskName) (permit :
 
       among : is_among nat_eq place.mount (map (λ (x : Mount ℕ). x.number) world.mounts) ≡ true
       among = is_among_numbers place.mount (map (λ (x : Mount ℕ). x.number) world.mounts)
-          (subst (λ n. Among n (map (λ (x : Mount ℕ). x.number) world.mounts)) (number_found world.mounts place.mount)
+          (subst (λ n. Among n (map (λ (x : Mount ℕ). x.number) world.mounts))
+          (number-mount_in world.mounts place.mount)
           (among-map (λ (x : Mount ℕ). x.number) world.mounts (mount_in nat_eq world.mounts place.mount)
           (found_is_there world.mounts place.mount attached)))
 
       there_after : is_there nat_eq policy (mount_at nat_eq policy place).filesystem place.node ≡ true
-      there_after = directory_there (node_at nat_eq policy place)
-          (passes (is_directory_at nat_eq policy) (option_to_list mount.mount_point)
+      there_after = directory_is_there (node_at nat_eq policy place)
+          (among_from_list_all (is_directory_at nat_eq policy) (option_to_list mount.mount_point)
           (and_parts (is_directory_node ((filesystem_numbered nat_eq policy mount.filesystem).files.tree.node mount.root))
           (list_all (is_directory_at nat_eq policy) (option_to_list mount.mount_point))
-          (passes (has_its_root nat_eq policy) policy.mounts under_way.roots mount m)).1 place
+          (among_from_list_all (has_its_root nat_eq policy) policy.mounts under_way.roots mount m)).1 place
           (subst (λ o. Among place (option_to_list o)) (sym at) (inl refl)))
 
       shows : (mount_at nat_eq world place).filesystem ≡ (mount_at nat_eq policy place).filesystem
@@ -198,8 +200,9 @@ module _ (value : WorldValue) (whole : IsHeld value) (name : TaskName) (permit :
       attached : (mount : Mount ℕ) → Among mount world.mounts → (place : Location ℕ)
           → (moved mount).mount_point ≡ Some place
           → (b : Bool) → is_going nat_eq gone mount.number ≡ b → is_some (mount_at nat_eq world place).namespace ≡ true
-      attached mount m place at true goes = passes (λ (one : Location ℕ). is_some (mount_at nat_eq world one).namespace)
-          (option_to_list mount.mount_point) (passes (stands_on_attached world) world.mounts
+      attached mount m place at true goes = among_from_list_all
+          (λ (one : Location ℕ). is_some (mount_at nat_eq world one).namespace)
+          (option_to_list mount.mount_point) (among_from_list_all (stands_on_attached world) world.mounts
           (mounts_of_worlds_stand world whole.in_world).on_attached mount m) place
           (subst (λ o. Among place (option_to_list o)) (sym at ∙ gone_stays mount m goes) (inl refl))
       attached mount m place at false goes =
@@ -209,9 +212,11 @@ module _ (value : WorldValue) (whole : IsHeld value) (name : TaskName) (permit :
       outside : (mount : Mount ℕ) → Among mount world.mounts → is_some mount.namespace ≡ false → (b : Bool)
           → is_going nat_eq gone mount.number ≡ b → (moved mount).mount_point ≡ None
       outside mount m none true goes = gone_stays mount m goes
-          ∙ outside_is_placeless mount (passes is_nowhere_or_attached world.mounts whole.in_world.mounts.nowhere mount m) none
+          ∙ outside_is_placeless mount
+          (among_from_list_all is_nowhere_or_attached world.mounts whole.in_world.mounts.nowhere mount m) none
       outside mount m none false goes = sym (final_stays mount goes).1 ∙ outside_is_placeless (final mount)
-          (passes is_nowhere_or_attached policy.mounts under_way.mounts.nowhere (final mount) (final_among mount m))
+          (among_from_list_all is_nowhere_or_attached policy.mounts under_way.mounts.nowhere (final mount)
+          (final_among mount m))
           (ap is_some (final_stays mount goes).0 ∙ none)
 
   -- no mount that stays is on one that goes
@@ -262,7 +267,8 @@ module _ (value : WorldValue) (whole : IsHeld value) (name : TaskName) (permit :
 
   settled_typed_has : Has (settled nat_eq typed) groups
   settled_typed_has = settled_has typed groups typed_has (λ mount m dead.
-      ap is_ungrouped (stays_private mount (passes is_nowhere_or_attached policy.mounts under_way.mounts.nowhere mount
+      ap is_ungrouped
+      (stays_private mount (among_from_list_all is_nowhere_or_attached policy.mounts under_way.mounts.nowhere mount
       (subst (Among mount) (sym (ap (λ (w : World ℕ). w.mounts) same_typed)) m)) false
       (or_false_left (is_some mount.namespace) (is_located nat_eq typed mount.number) dead)))
 

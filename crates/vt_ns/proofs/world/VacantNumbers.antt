@@ -2,7 +2,7 @@
 use Rattle.std.proofs.Common.{◌≡◌, refl, sym, ap, subst, ◌∙◌, inl, inr, ℕ, ◌+◌, ◌*◌, ◌<◌, ◌≤◌, ◌%◌, ◌/◌, ◌==◌, nat_eq, ne_eqb, eqb-true, lt-ltb, Bool, true, false, ◌&&◌, ◌||◌, List, [], ◌∷◌, ◌++◌, map, flat_map, Option, Some, None, is_some, option_map, unwrap_or, option_to_list, arith}
 use Rattle.vt_spec.proofs.Common.{Filesystem, IsTree, ListsNumbers, Namespace, Node, Private, Propagation, Shared, Slave, Unbindable, and_parts, filesystem_numbered, is_among, list_all, list_any-append, mount_at, node_in, source_of, used_by_filesystem, used_by_mount}
 use Rattle.vt_spec.specs.Machine.Mounts as meant
-use Rattle.vt_ns.proofs.Common.{Among, FilesystemEntry, IsHeld, MountEntry, NamespaceEntry, WorldValue, among_from_all, counted, directory_there, entry_of, found_plain_one, inode_number, inodes_at, inodes_seen, is_counted_before, is_small_node, mounts_in, namespace_of, next_inode, next_seen, no_entry, number_of, small_parts, world_of}
+use Rattle.vt_ns.proofs.Common.{Among, FilesystemEntry, IsHeld, MountEntry, NamespaceEntry, WorldValue, among_from_all, counted, directory_is_there, entry_of, found_plain_one, inode_number, inodes_at, inodes_seen, is_counted_before, is_small_node, mounts_in, namespace_of, next_inode, next_seen, no_entry, number_of, small_parts, world_of}
 use Rattle.vt_laws_mounts.proofs.letting_go.Lists.{found_in}
 use Rattle.vt_laws_mounts.proofs.letting_go.sweeps.OfWorlds.{found_filesystem}
 use Rattle.vt_location.specs.declared.births.Birth.{Birth}
@@ -102,7 +102,7 @@ module _ (value : WorldValue) (whole : IsHeld value)
   numbered_otherwise : (f : Filesystem ℕ) → Among f (world_of value).filesystems → nat_eq (number_of node) f.number ≡ false
   numbered_otherwise f m =
       let root = among_from_all HasOwnNodes (world_of value).filesystems (own_nodes value whole) f m f.files.tree.root
-      (directory_there (f.files.tree.node f.files.tree.root)
+      (directory_is_there (f.files.tree.node f.files.tree.root)
       (among_from_all (λ (g : Filesystem ℕ). IsTree g.files.tree) (world_of value).filesystems
       whole.in_world.files.trees f m).root_directory) in
       ap (nat_eq (number_of node)) root.2 ∙ not_counted born node.slot small_slot root.0.filesystem.count

@@ -10,7 +10,7 @@ use Rattle.vt_laws_mounts.proofs.letting_go.Lists.{any-filter}
 use Rattle.vt_laws_mounts.proofs.letting_go.mounting.MountsSwept.{mounts_stand}
 use Rattle.vt_laws_mounts.proofs.letting_go.mounting.TakenInTurn.{one_sweep_for_mounts_with_overlays}
 use Rattle.vt_laws_mounts.proofs.ends.Ending.{trees_keep_mounts}
-use Rattle.vt_laws_mounts.proofs.mounts.MountsFound.{number_found}
+use Rattle.vt_laws_mounts.proofs.mounts.MountsFound.{number-mount_in}
 use Rattle.vt_propagate.specs.EndsInTurn.{GoInTurn, GoInTurnSwept, NamespacesEndInTurn, OneByOneAreSweptOnce, TurnsAreSeenSwept, UnlistedNamespacesEndInTurn, with_namespaces, without_one}
 use Rattle.vt_propagate.proofs.LazyUnmounts.{parts_are_swept_once}
 
@@ -29,8 +29,8 @@ pub alone_keeps_mounts : (world : World ℕ) (number : ℕ) → MountInvariants 
 alone_keeps_mounts world number kept childless = subst (λ gone. MountInvariants nat_eq (taken_away nat_eq world gone))
     (ap (λ tree. map (λ (mount : Mount ℕ). mount.number) (tree ++ []))
     (tree_alone world (mount_numbered nat_eq world number)
-    (ap (has_child nat_eq world) (number_found world.mounts number) ∙ childless) (length world.mounts))
-    ∙ ap (λ one. one ∷ []) (number_found world.mounts number))
+    (ap (has_child nat_eq world) (number-mount_in world.mounts number) ∙ childless) (length world.mounts))
+    ∙ ap (λ one. one ∷ []) (number-mount_in world.mounts number))
     (trees_keep_mounts world (mount_numbered nat_eq world number ∷ []) kept)
 
 -- One by one

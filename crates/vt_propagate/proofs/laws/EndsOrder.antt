@@ -9,7 +9,7 @@ use Rattle.vt_laws_mounts.proofs.ends.Unmounting.{detached_by_number, root_stays
 use Rattle.vt_laws_mounts.proofs.ends.UnmountingNamespaces.{ended_closed}
 use Rattle.vt_laws_mounts.proofs.ends.UnmountingPlaces.{Falls, stood}
 use Rattle.vt_laws_mounts.proofs.ends.UnmountingPlaces.Falls.{direct, down}
-use Rattle.vt_laws_mounts.proofs.mounts.MountsFound.{number_found, placed_among}
+use Rattle.vt_laws_mounts.proofs.mounts.MountsFound.{number-mount_in, placed_among}
 use Rattle.vt_laws_mounts.proofs.mounts.MountsReplaced.{found_itself}
 use Rattle.vt_laws_mounts.proofs.mounts.Standing.{depth_by_rank, rank, rank_child, standing_is_computed}
 use Rattle.vt_propagate.specs.EndsInTurn.{AreEnded, EndedGoInTurn, GoInTurn, NamespacesEndDeepestFirst, ended_in_turn, without_one}
@@ -80,7 +80,7 @@ module _ (start : World ℕ) (at_first : MountInvariants nat_eq start) where
         let stood_there : (mount_numbered nat_eq start x.number).mount_point ≡ Some place =
         are.stays x.number place (ap (λ (z : Mount ℕ). z.mount_point) found ∙ e) in
         let ended : is_going nat_eq gone x.number ≡ true =
-        subst (λ n. is_going nat_eq gone n ≡ true) (number_found start.mounts x.number)
+        subst (λ n. is_going nat_eq gone n ≡ true) (number-mount_in start.mounts x.number)
         (ended_closed start ((standing_is_computed start at_first.one_number).0 at_first.standing) at_first.one_number
         (mount_numbered nat_eq start x.number) place (placed_among start.mounts x.number place stood_there) stood_there
         (subst (λ n. is_going nat_eq gone n ≡ true) same (are.ends mount (inl refl)))) in

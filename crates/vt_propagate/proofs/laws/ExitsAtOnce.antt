@@ -7,7 +7,7 @@ use Rattle.vt_laws_mounts.proofs.letting_go.Lists.{any-filter, filter_twice}
 use Rattle.vt_laws_mounts.proofs.letting_go.ends.EndsInTurn.{one_sweep_for_all_exits_with_overlays}
 use Rattle.vt_laws_mounts.proofs.ends.Ending.{ended_namespaces_keep_mounts}
 use Rattle.vt_laws_mounts.proofs.ends.Unmounting.{kept_by_number}
-use Rattle.vt_laws_mounts.proofs.mounts.MountsFound.{number_found}
+use Rattle.vt_laws_mounts.proofs.mounts.MountsFound.{number-mount_in}
 use Rattle.vt_laws_mounts.proofs.mounts.MountsReplaced.{found_itself}
 use Rattle.vt_propagate.specs.EndsInTurn.{with_namespaces}
 use Rattle.vt_propagate.specs.ExitsAtOnce.{ExitsAreAtOnce, without_tasks}
@@ -47,7 +47,7 @@ ended_is_found world kept number = by (is_among nat_eq number (ended_mounts worl
     there : ends (mount_numbered nat_eq world number) ≡ true → is_among nat_eq number (ended_mounts world) ≡ true
     there is = ⊎_elim (λ m.
         is_among_numbers (ended_mounts world) number
-        (subst (λ n. Among n (ended_mounts world)) (number_found world.mounts number)
+        (subst (λ n. Among n (ended_mounts world)) (number-mount_in world.mounts number)
         (among-map (λ (x : Mount ℕ). x.number) (filter ends world.mounts) (mount_numbered nat_eq world number)
         (among-filter ends world.mounts (mount_numbered nat_eq world number) m is))))
         (λ none. absurd (true≢false (sym is ∙ ap ends none))) (found_or_none world.mounts number)

@@ -4,7 +4,7 @@ use Rattle.vt_spec.proofs.Common.{Among, Location, Mount, MountInvariants, World
 use Rattle.vt_location.specs.declared.numbers.MountId.{MountId}
 use Rattle.vt_location.specs.Numbers.{counted}
 use Rattle.vt_laws_mounts.proofs.ends.EndingOrder.{AreDeepestFirst, among_inserted, in_order, is_itself, taken_in_turn}
-use Rattle.vt_laws_mounts.proofs.mounts.MountsFound.{number_found}
+use Rattle.vt_laws_mounts.proofs.mounts.MountsFound.{number-mount_in}
 use Rattle.vt_laws_mounts.proofs.mounts.MountsReplaced.{found_itself}
 use Rattle.vt_laws_mounts.proofs.mounts.Standing.{depth_by_rank, rank, rank_child}
 use Rattle.vt_propagate.specs.LazyEvents.{children_of, levels_from}
@@ -345,7 +345,7 @@ module _ (world : World ℕ) (kept : MountInvariants nat_eq world) where
       → Among mount (mount_tree nat_eq world.mounts (mount_numbered nat_eq world number))
       → mount_numbered nat_eq world mount.number ≡ mount
   in_tree number mount m = ⊎_elim (λ same. ap (λ (x : Mount ℕ). mount_in nat_eq world.mounts x.number) same
-      ∙ ap (mount_in nat_eq world.mounts) (number_found world.mounts number) ∙ sym same)
+      ∙ ap (mount_in nat_eq world.mounts) (number-mount_in world.mounts number) ∙ sym same)
       (λ among. found_itself world.mounts kept.one_number mount among)
       (tree_among (length world.mounts) world.mounts (mount_numbered nat_eq world number) mount m)
 
@@ -358,7 +358,7 @@ module _ (world : World ℕ) (kept : MountInvariants nat_eq world) where
       (levels_fall n (key_of number) (number ∷ []) one) (λ d.
       all_inserted_at d tree [] (λ x m. deep_itself x (in_tree number x m)) (λ x m. absurd m)
       ∙ append-nil (reverse (at key_of d (numbers_of tree))) ∙ ap (λ list. reverse (at key_of d list))
-      (tree_numbers n (mount_numbered nat_eq world number) ∙ ap (under n) (number_found world.mounts number)
+      (tree_numbers n (mount_numbered nat_eq world number) ∙ ap (under n) (number-mount_in world.mounts number)
       ∙ sym (append-nil (under n number))) ∙ ap reverse (same_at n d (key_of number) (number ∷ []) one)
       ∙ sym (at-reverse key_of d (levels n (number ∷ []))))
     where

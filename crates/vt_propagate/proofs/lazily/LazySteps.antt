@@ -5,7 +5,7 @@ use Rattle.vt_location.specs.declared.numbers.MountId.{MountId}
 use Rattle.vt_location.specs.Numbers.{counted}
 use Rattle.vt_laws_mounts.proofs.ends.EndingLazy.{IsUnderWay, begun, childless, next}
 use Rattle.vt_laws_mounts.proofs.ends.EndingOrder.{taken_in_turn}
-use Rattle.vt_laws_mounts.proofs.mounts.MountsFound.{number_found, placed_among}
+use Rattle.vt_laws_mounts.proofs.mounts.MountsFound.{number-mount_in, placed_among}
 use Rattle.vt_laws_mounts.proofs.mounts.MountsPlaces.{stands_there}
 use Rattle.vt_laws_mounts.proofs.mounts.MountsReplaced.{found_itself}
 use Rattle.vt_laws_mounts.proofs.ends.Unmounting.{middle, taken}
@@ -141,7 +141,7 @@ module _ (start : World ℕ) (at_first : MountInvariants nat_eq start) (one : �
         (covers (later place.mount) (children nat_eq now.mounts (later place.mount).number) may (later number)
         (among-filter (stands_on nat_eq (later place.mount).number) now.mounts (later number)
         (placed_among now.mounts number place at) (on_its_parent place (later number) (later place.mount).number at
-        (sym (number_found now.mounts place.mount))))))
+        (sym (number-mount_in now.mounts place.mount))))))
       where
         no_child : place.mount ≡ mount.number → ⊥
         no_child same = true≢false (sym (on_its_parent place (later number) mount.number at same)
@@ -150,7 +150,7 @@ module _ (start : World ℕ) (at_first : MountInvariants nat_eq start) (one : �
             (placed_among now.mounts number place at))
 
         may : may_go nat_eq now (later place.mount) ≡ true
-        may = ⊎_elim (λ itself. absurd (no_child (itself ∙ number_found now.mounts mount.number)))
+        may = ⊎_elim (λ itself. absurd (no_child (itself ∙ number-mount_in now.mounts mount.number)))
             (λ t. subst (λ z. may_go nat_eq now z ≡ true)
             (sym (ap (mount_in nat_eq now.mounts) t.3 ∙ found_itself now.mounts reached.so.kept.one_number t.0 t.1))
             t.2) (goes_or_may now (later mount.number) place.mount goes)

@@ -4,7 +4,7 @@ use Rattle.vt_spec.proofs.Common.{Among, Location, Mount, MountInvariants, World
 use Rattle.vt_spec.specs.Machine.Detach.{covers_root}
 use Rattle.vt_laws_mounts.specs.Mounts.Unmounting.{KeepsAllButMountPointAndType}
 use Rattle.vt_laws_mounts.specs.Mounts.Unmounting.FallsTo.{rests}
-use Rattle.vt_laws_mounts.proofs.mounts.MountsFound.{found_in, number_found, placed_among}
+use Rattle.vt_laws_mounts.proofs.mounts.MountsFound.{found_in, number-mount_in, placed_among}
 use Rattle.vt_laws_mounts.proofs.mounts.MountsPlaces.{found_at_its_place, one_place_of_two, stands_at_its_place, stands_there}
 use Rattle.vt_laws_mounts.proofs.mounts.MountsReplaced.{found_itself}
 use Rattle.vt_laws_mounts.proofs.mounts.Standing.{standing_is_computed}
@@ -153,7 +153,7 @@ module _ (start : World ℕ) (at_first : MountInvariants nat_eq start) (now : Wo
             below = sym (eqb-true (before number).number place.mount
                 (sym (ap (holds_of (λ (p : Location ℕ). nat_eq (before number).number p.mount)) e)
                 ∙ (among-from_filter (stands_on nat_eq (before number).number) start.mounts child m).1))
-                ∙ number_found start.mounts number
+                ∙ number-mount_in start.mounts number
 
             there : (o : Option ℕ) → standing_over start.mounts gone place ≡ o → is_some o ≡ true → ⊥
             there None f some = true≢false (sym some)
@@ -164,7 +164,7 @@ module _ (start : World ℕ) (at_first : MountInvariants nat_eq start) (now : Wo
                 let on_it : Among (later top) kids =
                 among-filter (stands_on nat_eq (later number).number) now.mounts (later top)
                 (placed_among now.mounts top place at) (on_its_parent place (later top) (later number).number at
-                (below ∙ sym (number_found now.mounts number))) in
+                (below ∙ sym (number-mount_in now.mounts number))) in
                 let root : place ≡ root_of (before number) = same_Some place (root_of (before number)) (sym at
                 ∙ stands_there (root_of (later number)) (later top) (covers (later number) kids only (later top) on_it)
                 ∙ ap Some (root_then number)) in
@@ -199,7 +199,7 @@ module _ (start : World ℕ) (at_first : MountInvariants nat_eq start) (now : Wo
             below : place.mount ≡ number
             below = sym (eqb-true (later number).number place.mount
                 (sym (ap (holds_of (λ (p : Location ℕ). nat_eq (later number).number p.mount)) e) ∙ on))
-                ∙ number_found now.mounts number
+                ∙ number-mount_in now.mounts number
 
             first : (child : ℕ) × ((before child).mount_point ≡ Some place)
             first = over_first start gone place x.number (so.over x.number place at)
@@ -210,7 +210,7 @@ module _ (start : World ℕ) (at_first : MountInvariants nat_eq start) (now : Wo
                 (among-filter (stands_on nat_eq (before number).number) start.mounts (before first.0)
                 (placed_among start.mounts first.0 place first.1)
                 (on_its_parent place (before first.0) (before number).number first.1
-                (below ∙ sym (number_found start.mounts number))))
+                (below ∙ sym (number-mount_in start.mounts number))))
 
             by : (b : Bool) → covers_root nat_eq (before number) (before first.0) ≡ b
                 → covers_root nat_eq (later number) x ≡ true
@@ -318,7 +318,7 @@ module _ (start : World ℕ) (at_first : MountInvariants nat_eq start) (now : Wo
   group_then number stays = ap (λ (m : Mount ℕ). group_of m.propagation) (then_is number ∙ taken start gone number)
       ∙ group-inherited (middle start gone) (after_going nat_eq start gone (before number)).propagation
       ∙ ap (λ (m : Mount ℕ). group_of m.propagation) (staying_is_placed start gone (before number)
-      (ap (is_going nat_eq gone) (number_found start.mounts number) ∙ stays))
+      (ap (is_going nat_eq gone) (number-mount_in start.mounts number) ∙ stays))
 
   -- the group at a place, by the mount there
   group_there : (place : Location ℕ)
@@ -335,7 +335,7 @@ module _ (start : World ℕ) (at_first : MountInvariants nat_eq start) (now : Wo
 
   module _ (number : ℕ) (stays : is_going nat_eq gone number ≡ false) where
     own : (later number).number ∷ [] ≡ number ∷ []
-    own = ap (λ n. n ∷ []) (number_found now.mounts number)
+    own = ap (λ n. n ∷ []) (number-mount_in now.mounts number)
 
     at_place : (place : Location ℕ)
         → going_from nat_eq now (later number) place (is_shared (mount_at nat_eq now place).propagation)
@@ -373,7 +373,7 @@ module _ (start : World ℕ) (at_first : MountInvariants nat_eq start) (now : Wo
         ≡ option_map (mount_point_left nat_eq start gone) (before number).mount_point
     point_then = ap (λ (m : Mount ℕ). m.mount_point) (then_is number ∙ taken start gone number)
         ∙ ap (λ (m : Mount ℕ). m.mount_point) (staying_is_placed start gone (before number)
-        (ap (is_going nat_eq gone) (number_found start.mounts number) ∙ stays))
+        (ap (is_going nat_eq gone) (number-mount_in start.mounts number) ∙ stays))
 
     -- the point of a mount, by the mount that is found
     found_point : then_some (find (λ (m : Mount ℕ). nat_eq number m.number) start.mounts)

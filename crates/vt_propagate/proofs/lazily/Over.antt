@@ -3,7 +3,7 @@ use Rattle.std.proofs.Common.{◌≡◌, refl, sym, ap, subst, ◌∙◌, arith,
 use Rattle.vt_spec.proofs.Common.{Location, Mount, MountInvariants, World, child_at, is_going, mount_numbered, root_of, same_Some, stands_at, then_some}
 use Rattle.vt_laws_mounts.specs.Mounts.Unmounting.{FallsTo}
 use Rattle.vt_laws_mounts.specs.Mounts.Unmounting.FallsTo.{falls}
-use Rattle.vt_laws_mounts.proofs.mounts.MountsFound.{found_in, number_found, placed_among}
+use Rattle.vt_laws_mounts.proofs.mounts.MountsFound.{found_in, number-mount_in, placed_among}
 use Rattle.vt_laws_mounts.proofs.mounts.MountsPlaces.{found_at_its_place, stands_there}
 use Rattle.vt_laws_mounts.proofs.mounts.MountsReplaced.{found_itself}
 use Rattle.vt_laws_mounts.proofs.mounts.Standing.{rank, rank_bounded, rank_child}
@@ -52,8 +52,8 @@ module _ (world : World ℕ) where
         up.0,
         up.1,
         λ rest fall. up.2 rest (falls (root_of (it under)) at rest
-            (ap (is_going nat_eq gone) (number_found world.mounts under) ∙ goes)
-            (ap (λ n. (it n).mount_point) (number_found world.mounts under) ∙ e) fall),
+            (ap (is_going nat_eq gone) (number-mount_in world.mounts under) ∙ goes)
+            (ap (λ n. (it n).mount_point) (number-mount_in world.mounts under) ∙ e) fall),
       )
 
   module _ (kept : MountInvariants nat_eq world) where
@@ -70,7 +70,7 @@ module _ (world : World ℕ) where
     over_higher gone place child (through at under number goes e later) =
         let child_rank : rank_of under ≡ suc (rank_of at.mount) =
         rank_child world kept.one_number kept.standing under at e in
-        let same : rank_of (it under).number ≡ rank_of under = ap rank_of (number_found world.mounts under) in
+        let same : rank_of (it under).number ≡ rank_of under = ap rank_of (number-mount_in world.mounts under) in
         let up : rank_of (it under).number < rank_of number = over_higher gone (root_of (it under)) number later in
         omega (arith, child_rank, same, up)
 
@@ -90,17 +90,17 @@ module _ (world : World ℕ) where
         if is_going nat_eq gone x.number then over_from n world.mounts gone (root_of x) else Some x.number))
         (found_over at number e)
         ∙ ap (λ k. if is_going nat_eq gone k then over_from n world.mounts gone (root_of (it number)) else Some k)
-        (number_found world.mounts number)
+        (number-mount_in world.mounts number)
         ∙ ap (λ b. if b then over_from n world.mounts gone (root_of (it number)) else Some number) stays
     over_is_found gone place child (through at under number goes e later) stays (suc n) few =
         let child_rank : rank_of under ≡ suc (rank_of at.mount) =
         rank_child world kept.one_number kept.standing under at e in
-        let same : rank_of (it under).number ≡ rank_of under = ap rank_of (number_found world.mounts under) in
+        let same : rank_of (it under).number ≡ rank_of under = ap rank_of (number-mount_in world.mounts under) in
         ap (λ o. then_some o (λ (x : Mount ℕ).
         if is_going nat_eq gone x.number then over_from n world.mounts gone (root_of x) else Some x.number))
         (found_over at under e)
         ∙ ap (λ b. if b then over_from n world.mounts gone (root_of (it under)) else Some (it under).number)
-        (ap (is_going nat_eq gone) (number_found world.mounts under) ∙ goes)
+        (ap (is_going nat_eq gone) (number-mount_in world.mounts under) ∙ goes)
         ∙ over_is_found gone (root_of (it under)) number later stays n (omega (arith, few, child_rank, same))
 
     -- the mount over a place is found where what lies between is gone

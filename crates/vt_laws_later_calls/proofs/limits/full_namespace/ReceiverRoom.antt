@@ -3,7 +3,7 @@
 use Rattle.std.proofs.Common.{arith, ◌≡◌, refl, sym, ap, subst, ◌∙◌, true≢false, ℕ, suc, nat_eq, nat_lt, eqb-true, Bool, true, false, cond, not, ◌&&◌, ◌||◌, ◌+◌, ◌*◌, List, [], ◌∷◌, ◌++◌, Option, None, Some, Ok, filter, is_some, length, map, codes, option_to_list}
 use Rattle.vt_spec.proofs.Common.{Among, Directory, Filesystem, IsWorld, Location, Mount, Namespace, Task, World, among-append_right, and_parts, chain_ends, chain_goes_on, child_at, common_steps, entries_in, entry_named, execute_right, filesystem_numbered, groups_up, holds_of, is_among, is_directory_node, is_directory_under, is_removed, is_removed_at, list_all, list_any, looks_of, most_mounts, most_symlinks, mount_in, mount_numbered, new_mount_rules, node_allows, node_at, or-false, parts_of, receivers_of, receives, root_attr, root_of, source_of, stands_at, takes_part, task_called, topmost}
 use Rattle.vt_laws_mounts.specs.LettingGo.Ends.{is_in, mount_count}
-use Rattle.vt_laws_mounts.proofs.letting_go.Lists.{any-map, nothing_passes, passes, find_none}
+use Rattle.vt_laws_mounts.proofs.letting_go.Lists.{any-map, nothing_passes, among_from_list_all, find_none}
 use Rattle.vt_laws_mounts.proofs.mounts.MountsPlaces.{stands_there}
 use Rattle.vt_laws_mounts.proofs.mounts.Receivers.{start_among}
 use Rattle.vt_spec.proofs.Tables.{destination_walk}
@@ -86,7 +86,7 @@ module _ (first second : Filesystem ℕ) (trees : TwoTrees first second) (world 
           (subst (Among mount) (sym has.mounts) (among-append_right four_mounts has.rest mount m))
           (record { mount = 17; node = node }) (stands_there (record { mount = 17; node = node }) mount e)
           (ap (λ (one : Mount ℕ). list_all (nat_eq 1) (option_to_list one.namespace)) shared_mount_is))
-          ∙ elsewhere mount.namespace (and_parts _ _ (passes is_other has.rest has.others mount m)).1))
+          ∙ elsewhere mount.namespace (and_parts _ _ (among_from_list_all is_other has.rest has.others mount m)).1))
 
   -- nothing stands on the root of the shared mount
   nothing_on_root : child_at nat_eq world.mounts (record { mount = 17; node = 22 }) ≡ None
@@ -190,7 +190,7 @@ module _ (first second : Filesystem ℕ) (trees : TwoTrees first second) (world 
   -- what was stacked receives nothing
   rest_receives_nothing : filter (receives nat_eq world 18) has.rest ≡ []
   rest_receives_nothing = nothing_passes (receives nat_eq world 18) has.rest (λ mount m.
-      by (source_of mount.propagation) (and_parts _ _ (passes is_other has.rest has.others mount m)).0)
+      by (source_of mount.propagation) (and_parts _ _ (among_from_list_all is_other has.rest has.others mount m)).0)
     where
       by : (source : Option ℕ) → not (is_some source) ≡ true
           → holds_of (λ one. is_among nat_eq 18 (groups_up world one)) source ≡ false
@@ -223,7 +223,7 @@ module _ (first second : Filesystem ℕ) (trees : TwoTrees first second) (world 
   first_has_two : mount_count world 1 ≡ 2
   first_has_two = ap (λ mounts. length (filter (is_in 1) mounts)) has.mounts
       ∙ ap (λ list. length (root_mount 0 1 ∷ shared_mount 17 1 0 ∷ list)) (nothing_passes (is_in 1) has.rest (λ mount m.
-      by mount.namespace (and_parts _ _ (passes is_other has.rest has.others mount m)).1))
+      by mount.namespace (and_parts _ _ (among_from_list_all is_other has.rest has.others mount m)).1))
     where
       by : (namespace : Option ℕ) → holds_of (nat_eq 39) namespace ≡ true → holds_of (nat_eq 1) namespace ≡ false
       by None e = refl

@@ -1,7 +1,7 @@
 -- An edit of a file on a plain filesystem ends in the part as in the world.
 use Rattle.std.proofs.Common.{arith, ◌≡◌, refl, sym, ap, subst, ◌∙◌, ℕ, nat_eq, true, false, true≢false, List, [], ◌∷◌, Option, Some, None, Ok, filter, is_some, map, ◌||◌, IfOk}
 use Rattle.vt_spec.proofs.Common.{Among, Call, Change, Chmod, Chown, Done, FileTree, Filesystem, Fresh, Location, Opaque, Overlay, Task, TaskName, ToChange, World, Write, changed_at, common_steps, filesystem_at, filesystem_changed, finished_by, granted, is_among, is_member_task, is_overlay, judge_in, mount_at, numbers_of_change, numbers_raised, only_looks, part_of, policy, raised_task, settled, task_called, used_filesystems, with_change}
-use Rattle.vt_spec.specs.Language.Changes as Changes
+use Rattle.vt_spec.specs.Language.Changes
 use Rattle.vt_laws_mounts.specs.LettingGo.InUse.{AllInUse}
 use Rattle.vt_laws_mounts.specs.LettingGo.TreesOverlays.{with_filesystems}
 use Rattle.vt_laws_mounts.proofs.letting_go.Lists.{filter-map}

@@ -4,7 +4,7 @@ use Rattle.vt_spec.proofs.Common.{FileTree, Filesystem, World, common_steps, fil
 use Rattle.vt_laws_mounts.specs.LettingGo.InUse.{AllInUse, FilesystemsInUse}
 use Rattle.vt_laws_mounts.specs.LettingGo.OneByOne.{AllInUseBut, Losers}
 use Rattle.vt_laws_mounts.specs.LettingGo.TreesOverlays.{ChangesFilesystem, in_use_of, with_filesystems}
-use Rattle.vt_laws_mounts.proofs.letting_go.Lists.{Among, all_from_among, all_pass, among-from_map, is_among_numbers, or_first, passes}
+use Rattle.vt_laws_mounts.proofs.letting_go.Lists.{Among, all_from_among, among-from_map, among_from_list_all, is_among_numbers, list_all_from_among, or_left}
 use Rattle.vt_laws_mounts.proofs.letting_go.leaving.TreesWithOverlays.{all_but_changed, lives_alike, unchanged}
 use Rattle.vt_laws_mounts.proofs.letting_go.sweeps.InUse.{filesystems_stay, mounts_stay, no_objects}
 
@@ -26,12 +26,12 @@ module _ (world : World ℕ) (in_use : AllInUse world) (change : Filesystem ℕ 
     in_use_before = grind (arith, common_steps, mounts_stay, stays)
 
     filesystems_after : FilesystemsInUse changed
-    filesystems_after = all_pass (filesystem_lives nat_eq changed) changed.filesystems
+    filesystems_after = list_all_from_among (filesystem_lives nat_eq changed) changed.filesystems
         (λ x m. let from = among-from_map change world.filesystems x m in
         ap (filesystem_lives nat_eq changed) from.2
         ∙ lives_alike world change (λ g n. ChangesFilesystem.number (changes world g n))
         (λ g n. ChangesFilesystem.layers (changes world g n)) from.0 from.1
-        ∙ passes (filesystem_lives nat_eq world) world.filesystems in_use.filesystems from.0 from.1)
+        ∙ among_from_list_all (filesystem_lives nat_eq world) world.filesystems in_use.filesystems from.0 from.1)
 
     all_stay : in_use_of changed ≡ changed
     all_stay = cc (mounts_stay changed in_use.mounts, filesystems_stay changed filesystems_after)
@@ -53,7 +53,7 @@ module _ (world : World ℕ) (old : Filesystem ℕ) (files : FileTree ℕ) (plai
   new = with_files old files
 
   of_old : (after : World ℕ) → ChangesFilesystem after [] old new
-  of_old after = grind (arith, common_steps, all_pass, or_first, is_among_numbers, no_objects)
+  of_old after = grind (arith, common_steps, list_all_from_among, or_left, is_among_numbers, no_objects)
 
   pub tree_changes : (after : World ℕ) (f : Filesystem ℕ) → Among f world.filesystems
       → ChangesFilesystem after [] f (replaced_if_numbered nat_eq new f)

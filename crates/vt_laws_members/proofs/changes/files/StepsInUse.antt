@@ -4,7 +4,7 @@ use Rattle.vt_spec.proofs.Common.{Filesystem, World, common_steps, filesystem_li
 use Rattle.vt_laws_mounts.specs.LettingGo.InUse.{AllInUse, FilesystemsInUse}
 use Rattle.vt_laws_mounts.specs.LettingGo.OneByOne.{AllInUseBut, Losers}
 use Rattle.vt_laws_mounts.specs.LettingGo.TreesOverlays.{ChangesFilesystem, in_use_of, with_filesystems, with_lost}
-use Rattle.vt_laws_mounts.proofs.letting_go.Lists.{Among, all_from_among, all_pass, among-from_map, passes}
+use Rattle.vt_laws_mounts.proofs.letting_go.Lists.{Among, all_from_among, among-from_map, among_from_list_all, list_all_from_among}
 use Rattle.vt_laws_mounts.proofs.letting_go.leaving.TreesWithOverlays.{all_but_changed, lives_alike}
 use Rattle.vt_laws_mounts.proofs.letting_go.sweeps.InUse.{filesystems_stay, mounts_stay}
 
@@ -25,11 +25,11 @@ module _ (w : World ℕ) (in_use : AllInUse w) (step : Filesystem ℕ → Filesy
   in_use_before = grind (arith, common_steps, mounts_stay, stays)
 
   filesystems_after : FilesystemsInUse changed
-  filesystems_after = all_pass (filesystem_lives nat_eq changed) changed.filesystems
+  filesystems_after = list_all_from_among (filesystem_lives nat_eq changed) changed.filesystems
       (λ x m. let from = among-from_map step w.filesystems x m in
       ap (filesystem_lives nat_eq changed) from.2 ∙ lives_alike w step (λ g n. ChangesFilesystem.number (changes g n))
       (λ g n. ChangesFilesystem.layers (changes g n)) from.0 from.1
-      ∙ passes (filesystem_lives nat_eq w) w.filesystems in_use.filesystems from.0 from.1)
+      ∙ among_from_list_all (filesystem_lives nat_eq w) w.filesystems in_use.filesystems from.0 from.1)
 
   all_stay : in_use_of changed ≡ changed
   all_stay = cc (mounts_stay changed in_use.mounts, filesystems_stay changed filesystems_after)

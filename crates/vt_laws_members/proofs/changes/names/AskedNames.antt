@@ -9,7 +9,7 @@ use Rattle.vt_laws_mounts.specs.LettingGo.InUse.{IsListedTree}
 use Rattle.vt_laws_mounts.specs.LettingGo.OneByOne.{Inode, is_inode_among}
 use Rattle.vt_laws_mounts.specs.LettingGo.TreeChanges.{ChangesTree}
 use Rattle.vt_laws_mounts.specs.LettingGo.TreesOverlays.{ChangesFilesystem}
-use Rattle.vt_laws_mounts.proofs.letting_go.Lists.{all_pass, among-map, any_passes, or_first, or_second, passes}
+use Rattle.vt_laws_mounts.proofs.letting_go.Lists.{among-map, among_from_list_all, any_from_among, list_all_from_among, or_left, or_right}
 use Rattle.vt_laws_mounts.proofs.letting_go.leaving.NamesKept.{changes_keep_names}
 use Rattle.vt_laws_mounts.proofs.letting_go.sweeps.InUse.{no_objects}
 use Rattle.vt_laws_worlds.proofs.worlds.CallsKept.{name_found}
@@ -31,13 +31,23 @@ module _ (world : World ℕ) (old : Filesystem ℕ) (files : FileTree ℕ) (plai
 
   lost_name : (inode : ℕ) → is_among nat_eq inode unnamed ≡ true → is_inode_among old.number inode lost ≡ true
   lost_name inode is =
-      any_passes (λ (loser : Inode). nat_eq old.number loser.0 && nat_eq inode loser.1) lost (old.number, inode)
+      any_from_among (λ (loser : Inode). nat_eq old.number loser.0 && nat_eq inode loser.1) lost (old.number, inode)
       (among-map (λ k. (old.number, k)) unnamed inode (among_numbers unnamed inode is))
       (ap (λ b. b && nat_eq inode inode) (eq-eqb old.number old.number refl) ∙ eq-eqb inode inode refl)
 
   pub tree_changes : (after : World ℕ) → ChangesFilesystem after lost old (with_files old files)
   tree_changes after =
-      grind (arith, common_steps, all_pass, or_first, passes, or_second, lost_name, or_cases, no_objects)
+      grind (
+        arith,
+        common_steps,
+        list_all_from_among,
+        or_left,
+        among_from_list_all,
+        or_right,
+        lost_name,
+        or_cases,
+        no_objects,
+      )
 
 -- A call that is granted
 module _ (world : World ℕ) (names : List TaskName) (name : TaskName) (call : Call) (is : IsWorld nat_eq world)

@@ -5,7 +5,7 @@ use Rattle.vt_spec.proofs.Common.{Among, Call, Change, Fresh, IsWorld, Location,
 use Rattle.vt_laws_rules.specs.Granted.{IsGranted}
 use Rattle.vt_laws_rules.specs.Granted.IsGranted.{removes_directory, renames}
 use Rattle.vt_laws_trees.proofs.trees.PlacesReached.{old_is, rename_new_is}
-use Rattle.vt_laws_trees.proofs.trees.TreesWalked.{not_true, place_named}
+use Rattle.vt_laws_trees.proofs.trees.TreesWalked.{not-false, place_named}
 use Rattle.vt_laws_worlds.proofs.permits.sees.SeesNames.{old_mount}
 use Rattle.vt_laws_members.specs.Judging.{is_theirs}
 use Rattle.vt_laws_members.proofs.judging.AllJudged.{judges}
@@ -78,7 +78,7 @@ module _ (world : World ℕ) (names : List TaskName) (is : IsWorld nat_eq world)
       let source : from_place.parent ≡ from = cc in
       let to_is = rename_new_is world task other (is_directory_there nat_eq one from_place) to_place both.to_end in
       let together = eqb-true from_place.parent.mount to_place.parent.mount
-      (not_true (nat_eq from_place.parent.mount to_place.parent.mount) passed.1.1.1.1.1.1.1.1.0) in
+      (not-false (nat_eq from_place.parent.mount to_place.parent.mount) passed.1.1.1.1.1.1.1.1.0) in
       subst (IsFree replaced) source (
         (subst (λ r. IfOk r IsPlaced) both.to_end
             (rename_new_agrees one other_looks task On judged_alike.walks judged_alike.directory

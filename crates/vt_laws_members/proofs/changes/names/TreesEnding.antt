@@ -1,7 +1,7 @@
 -- A call of theirs that changes one plain tree, which they use alone, ends in the part as in the world.
 use Rattle.std.proofs.Common.{◌≡◌, ap, ◌∙◌, ⊎_elim, ℕ, nat_eq, false, true, List, [], ◌∷◌, Some, Ok, ◌||◌}
 use Rattle.vt_spec.proofs.Common.{Among, Call, Change, Done, FileTree, Filesystem, Fresh, Location, Outcome, Task, TaskName, World, among-from_filter, changed_at, filesystem_at, filesystem_changed, finished, finished_by, granted, is_among, is_member_task, is_overlay, mount_at, numbers_of_change, numbers_raised, only_looks, part_of, settled, task_called, used_alone, used_filesystems, with_change}
-use Rattle.vt_spec.specs.Language.Changes as Changes
+use Rattle.vt_spec.specs.Language.Changes
 use Rattle.vt_laws_mounts.specs.LettingGo.TreesOverlays.{with_filesystems}
 use Rattle.vt_laws_sealed.proofs.part.part.PartOfPart.{same_members}
 use Rattle.vt_laws_members.specs.Changes.Changes.{EndsAlike, IsCallOfTheirs, grown}

@@ -7,9 +7,9 @@ use Rattle.vt_laws_mounts.specs.Mounts.Standing.{AllStand}
 use Rattle.vt_laws_mounts.proofs.GroupsKept.{taking_away_keeps_groups}
 use Rattle.vt_laws_mounts.proofs.GroupsLiving.{all_live, tested_live}
 use Rattle.vt_laws_mounts.proofs.GroupsUp.{live_members}
-use Rattle.vt_laws_mounts.proofs.mounts.MountsFound.{number_found}
+use Rattle.vt_laws_mounts.proofs.mounts.MountsFound.{number-mount_in}
 use Rattle.vt_laws_mounts.proofs.mounts.Standing.{rank, rank_bounded, rank_child}
-use Rattle.vt_laws_mounts.proofs.ends.Unmounting.{all_but_mounts, middle, number_after, numbers_taken, root_stays, staying_is_placed, taken}
+use Rattle.vt_laws_mounts.proofs.ends.Unmounting.{all_but_mounts, middle, number-after_going, numbers_taken, root_stays, staying_is_placed, taken}
 use Rattle.vt_laws_mounts.proofs.Groups.{group-inherited, mounts-regrouped, members-regrouped}
 use Rattle.vt_laws_mounts.specs.Mounts.Receivers.{AllGroupsLive}
 use Rattle.vt_laws_members.proofs.detached.lazily.Heirs.{Ends, end-here, end-more, end_of, group_lives, heir_above, heir_itself, living_ends, master_inherited}
@@ -70,7 +70,7 @@ module _ (world : World ℕ) (first second : List ℕ) where
   -- on a mount that stays at first, and has fallen then
   fallen_point : (place below : Location ℕ) → is_going nat_eq first place.mount ≡ false → down place ≡ Some below
       → (mount_at nat_eq left place).mount_point ≡ Some (end_of falls (length world.mounts) below)
-  fallen_point place below stays e = grind (arith, common_steps, taken, staying_is_placed, number_found)
+  fallen_point place below stays e = grind (arith, common_steps, taken, staying_is_placed, number-mount_in)
 
   fall_further : (a b c : ℕ) (place below : Location ℕ) → down place ≡ Some below
       → FallAlike a (suc b) c below → FallAlike (length world.mounts) b c below
@@ -171,7 +171,7 @@ module _ (world : World ℕ) (first second : List ℕ) where
 
   twice_goes : (mount : Mount ℕ)
       → is_going nat_eq second (after_going nat_eq world first mount).number ≡ is_going nat_eq second mount.number
-  twice_goes mount = ap (is_going nat_eq second) (number_after world first mount)
+  twice_goes mount = ap (is_going nat_eq second) (number-after_going world first mount)
 
   mounts_then : secondly.mounts ≡ map twice world.mounts
   mounts_then = grind (arith, common_steps, mounts-regrouped, map_twice)

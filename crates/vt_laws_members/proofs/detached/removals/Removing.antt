@@ -1,7 +1,7 @@
 -- A call of theirs that removes or replaces a directory, with the mounts on it, ends in the part as in the world.
 use Rattle.std.proofs.Common.{◌≡◌, refl, sym, ap, subst, ◌∙◌, ℕ, nat_eq, eqb-true, true, false, true≢false, List, [], ◌∷◌, Option, Some, None, Ok, ◌||◌, option_to_list}
 use Rattle.vt_spec.proofs.Common.{Among, Call, Change, Done, FileTree, Filesystem, Fresh, Location, Mount, MountInvariants, Move, Outcome, Permit, Remove, Rename, Rmdir, Task, TaskName, ToRemoveDirectory, ToRename, World, and_parts, changed_at, filesystem_at, filesystem_changed, filesystem_numbered, finished, finished_by, granted, holds_of, is_going, is_locked_at, is_mount_point_in, is_overlay, is_own_namespace, judge_in, list_all, looks_of, members, mount_at, mount_numbered, mounts_on, numbers_of_change, numbers_raised, only_looks, overfills, part_of, policy, settled, taken_away, task_called, used_alone, with_change, without_mounts_on}
-use Rattle.vt_spec.specs.Language.Changes as Changes
+use Rattle.vt_spec.specs.Language.Changes
 use Rattle.vt_laws_rules.proofs.given.Inversion.{calls_are_granted}
 use Rattle.vt_laws_trees.specs.Trees.Calls.{mounts_overlay}
 use Rattle.vt_laws_mounts.specs.LettingGo.TreesOverlays.{with_filesystems}

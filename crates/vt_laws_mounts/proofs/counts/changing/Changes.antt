@@ -1,7 +1,7 @@
 -- Each change that fits, with the sweep after it.
 use Rattle.std.proofs.Common.{◌≡◌, ◌≢◌, refl, sym, ap, subst, ◌∙◌, ⊎_elim, ℕ, nat_eq, true, false, cond, List, [], map, Option, Some, None, is_some, arith}
 use Rattle.vt_spec.proofs.Common.{AddName, Change, CopyUp, FileTree, Filesystem, Fits, Fresh, Inodes, Location, Make, MayReplace, Move, Node, Remove, SetAttr, SetBytes, SetMark, World, any_pair, common_steps, entries-node_with_attr, entries-node_with_bytes, entries-node_with_mark, entries_in, entry_named, eqb_tells, filesystem_at, filesystem_numbered, is_among, is_directory_node, is_overlay, list_all, node_in, node_with_attr, node_with_bytes, node_with_entry, node_with_mark, node_with_parent, settled, tree_of, with_change, with_changed, with_files}
-use Rattle.vt_spec.specs.Language.Changes as Changes
+use Rattle.vt_spec.specs.Language.Changes
 use Rattle.vt_spec.specs.Inodes.{changed, without_replaced}
 use Rattle.vt_laws_mounts.specs.LettingGo.InUse.{AllInUse, IsListedTree, is_inode_used}
 use Rattle.vt_laws_mounts.specs.LettingGo.TreeChanges.{with_tree}
@@ -14,7 +14,7 @@ use Rattle.vt_laws_mounts.specs.Counts.Changing.{CountsFollowChanges, IsChange, 
 use Rattle.vt_laws_mounts.specs.Counts.BesideOverlays.{CountsFollowChangesBesideOverlays, IsChangeOfPlain, OnlyFilesChangeBesideOverlays, OtherCountsStayBesideOverlays}
 use Rattle.vt_laws_mounts.specs.Counts.Counted.{IsCounted}
 use Rattle.vt_laws_mounts.proofs.counts.changing.NameCounts as Names
-use Rattle.vt_laws_mounts.proofs.counts.using.Swept as Swept
+use Rattle.vt_laws_mounts.proofs.counts.using.Swept
 use Rattle.vt_laws_mounts.proofs.counts.using.Swept.{base_of, counted_start, found_is, there_if_counted}
 use Rattle.vt_laws_mounts.proofs.counts.changing.TreeCounts.{IsStart, IsTallied, linked, rewritten}
 

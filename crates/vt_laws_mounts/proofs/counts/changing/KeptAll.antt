@@ -1,15 +1,15 @@
 -- Changes by which no name goes leave all.
 use Rattle.std.proofs.Common.{◌≡◌, refl, sym, ap, ◌∙◌, ℕ, ◌≤◌, nat_eq, Bool, true, false, cond, is_some, arith}
 use Rattle.vt_spec.proofs.Common.{Change, FileTree, Filesystem, Fits, Inodes, any_pair, common_steps, eqb_tells, is_among, is_some-node_in, list_all, node_in, pinned}
-use Rattle.vt_spec.specs.Language.Changes as Changes
+use Rattle.vt_spec.specs.Language.Changes
 use Rattle.vt_spec.specs.Inodes.{changed}
 use Rattle.vt_laws_mounts.specs.LettingGo.TreeChanges.{with_tree}
-use Rattle.vt_laws_mounts.proofs.letting_go.Lists.{all_pass, is_among_numbers}
+use Rattle.vt_laws_mounts.proofs.letting_go.Lists.{is_among_numbers, list_all_from_among}
 use Rattle.vt_laws_mounts.proofs.counts.counting.Times.{among_times, times_in}
 use Rattle.vt_laws_mounts.specs.Counts.BesideOverlays.{NamesKeepAllBesideOverlays}
 use Rattle.vt_laws_mounts.specs.Counts.Changing.{NamesKeepAll, TakesNoName}
 use Rattle.vt_laws_mounts.proofs.counts.changing.Changes as After
-use Rattle.vt_laws_mounts.proofs.counts.using.Swept as Swept
+use Rattle.vt_laws_mounts.proofs.counts.using.Swept
 use Rattle.vt_laws_mounts.proofs.counts.using.Swept.{base_of}
 use Rattle.vt_laws_mounts.proofs.counts.changing.TreeCounts.{IsStart, changed_same}
 
@@ -67,7 +67,8 @@ names_keep_all_beside_overlays fresh world location inodes change is keeps =
 
     all_used : list_all (λ n. is_among nat_eq n (Swept.used world number files in_use one is.plain there)) files.numbers
         ≡ true
-    all_used = all_pass (λ n. is_among nat_eq n (Swept.used world number files in_use one is.plain there)) files.numbers
+    all_used = list_all_from_among (λ n. is_among nat_eq n (Swept.used world number files in_use one is.plain there))
+        files.numbers
         (λ n m. is_used n ∙ sym (is_some-node_in ((changed nat_eq inodes change).inode n))
         ∙ ap is_some (nodes_same (base_of world
         (After.old fresh world location inodes change is)) before inodes begins change is.fits keeps n)

@@ -2,7 +2,7 @@
 use Rattle.std.proofs.Common.{◌≡◌, ◌≢◌, refl, sym, ap, subst, ◌∙◌, ⊎_elim, ◌⊎◌, ℕ, ◌+◌, ◌≤◌, nat_eq, eq-eqb, ne_eqb, Bool, true, false, true≢false, cond, List, [], ◌∷◌, ◌++◌, Option, Some, None, is_some, arith, bytes_eq}
 use Rattle.vt_spec.proofs.Common.{Inodes, IsNewIn, Node, bytes_decides, common_steps, directory_from_entry, entries-node_with_entry, entries-node_with_parent, entries-node_without_entry, entries_in, entry_named, eqb_tells, inode_with_node, is_directory-node_without_entry, is_directory_node, is_some-node_with_entry, is_some-node_with_parent, is_some-node_without_entry, is_sorted, name_cmp, node_in, node_with_entry, node_with_parent, node_without_entry, targets_in, with_changed, with_entry, without_entry}
 use Rattle.vt_spec.specs.Inodes.{with_new, without_name, without_replaced}
-use Rattle.vt_laws_mounts.proofs.counts.counting.Counts as Counts
+use Rattle.vt_laws_mounts.proofs.counts.counting.Counts
 use Rattle.vt_laws_mounts.proofs.counts.counting.Counts.{apart_one, counted_new, one_if-itself}
 use Rattle.vt_laws_mounts.proofs.counts.counting.Entries.{at_other, at_place, changed_at, commute, find_without, found_target, named_apart, named_by, named_changed, new_entries, one_if, one_if_some, part_at, sorted_at, sorted_without, targets, times_put, times_without}
 use Rattle.vt_laws_mounts.proofs.counts.counting.Times.{times_append, times_in}

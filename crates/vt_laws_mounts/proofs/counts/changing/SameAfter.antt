@@ -5,7 +5,7 @@ use Rattle.vt_spec.specs.Inodes.{changed}
 use Rattle.vt_laws_mounts.specs.LettingGo.TreeChanges.{with_tree}
 use Rattle.vt_laws_mounts.specs.Counts.BesideOverlays.{CountedChangesAreSweptBesideOverlays}
 use Rattle.vt_laws_mounts.specs.Counts.Changing.{CountedChangesAreSwept, filesystem_of}
-use Rattle.vt_laws_mounts.proofs.counts.changing.Changes as Changes
+use Rattle.vt_laws_mounts.proofs.counts.changing.Changes
 use Rattle.vt_laws_mounts.proofs.counts.Listed.{among_by_times, same_numbers_are_permuted}
 use Rattle.vt_laws_rules.proofs.same.SameMany.{same_filesystem_itself}
 

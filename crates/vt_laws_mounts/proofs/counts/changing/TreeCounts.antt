@@ -3,7 +3,7 @@ use Rattle.std.proofs.Common.{◌≡◌, ◌≢◌, refl, sym, ap, subst, ◌∙
 use Rattle.vt_spec.proofs.Common.{Inode, Inodes, Node, common_steps, count_after, directory_is_there, entries-node_with_entry, entries_in, entry_named, eqb_tells, inode_with_node, is_directory_node, is_some-node_with_entry, is_sorted, name_cmp, node_in, node_with_entry, targets_in, unpinned, used_once_less, uses_in, with_changed, with_entry}
 use Rattle.std.proofs.lemmas.Bool.Decides.{leb_tells}
 use Rattle.vt_spec.specs.Inodes.{with_inode, with_name}
-use Rattle.vt_laws_mounts.proofs.counts.counting.Counts as Counts
+use Rattle.vt_laws_mounts.proofs.counts.counting.Counts
 use Rattle.vt_laws_mounts.proofs.counts.counting.Counts.{at_or, counted_changed, counted_pinned, counted_some, one_if-itself, other_if, some_inode}
 use Rattle.vt_laws_mounts.proofs.counts.counting.Entries.{at_place, named_by, named_changed, one_if, one_if_some, part_at, targets, times_put}
 use Rattle.vt_laws_mounts.proofs.counts.counting.Times.{length_removed, removed, times_in, times_removed}

@@ -3,7 +3,7 @@ use Rattle.std.proofs.Common.{◌≡◌, refl, sym, ap, ◌∙◌, ℕ, ◌+◌,
 use Rattle.vt_spec.proofs.Common.{Mount, any_pair, common_steps, filter_all, is_among, is_mounted, list_any, mount_in, mount_numbered, nat_eq-swapped, no_mount, or-false, or_parts}
 use Rattle.vt_laws_mounts.specs.LettingGo.Counts.{times}
 use Rattle.vt_laws_mounts.specs.LettingGo.OneByOne.{without_filesystem, without_mount}
-use Rattle.vt_laws_mounts.proofs.letting_go.Lists.{fails}
+use Rattle.vt_laws_mounts.proofs.letting_go.Lists.{none_among}
 use Rattle.vt_laws_mounts.proofs.letting_go.sweeps.LookedUp.{filesystem_is_looked_up, mount_is_looked_up}
 use Rattle.vt_laws_mounts.proofs.letting_go.leaving.PlacesLeft.{no_layers}
 use Rattle.vt_laws_mounts.proofs.letting_go.sweeps.UsesCounted.{located_while_counted, mounted_while_counted}
@@ -47,7 +47,7 @@ one_taken test (first ∷ rest) number one there =
         → times test (first ∷ rest) ≡ times test (cond (not (nat_eq first.number number)) (first ∷ left) left)
         + cond (test (unwrap_or (cond b (Some first) (find (λ mount. nat_eq number mount.number) rest))
         (no_mount number))) 1 0
-    by true e h later = grind (arith, common_steps, filter_all, nat_eq-swapped, eqb-true, fails, parts)
+    by true e h later = grind (arith, common_steps, filter_all, nat_eq-swapped, eqb-true, none_among, parts)
     by false e h later = grind (arith, common_steps, nat_eq-swapped)
 
 pub mount_takes_its_count : MountTakesItsCount

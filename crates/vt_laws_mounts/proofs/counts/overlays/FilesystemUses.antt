@@ -4,7 +4,7 @@ use Rattle.vt_spec.proofs.Common.{Filesystem, Layer, Overlay, World, all_locatio
 use Rattle.vt_laws_mounts.specs.LettingGo.Counts.{inode_uses, times}
 use Rattle.vt_laws_mounts.specs.LettingGo.OneByOne.{Inode}
 use Rattle.vt_laws_mounts.specs.LettingGo.Overlays.{uppers_in, used_by_filesystem}
-use Rattle.vt_laws_mounts.proofs.letting_go.Lists.{all_from_among, among-from_flat_map, among_from_all, fails, flat_map-filter, flat_map_none, none_passes}
+use Rattle.vt_laws_mounts.proofs.letting_go.Lists.{all_from_among, among-from_flat_map, among_from_all, flat_map-filter, flat_map_none, none_among, none_from_among}
 use Rattle.vt_laws_mounts.proofs.letting_go.sweeps.InUse.{layers_on}
 use Rattle.vt_laws_mounts.proofs.letting_go.sweeps.UpperUses.{times_append}
 use Rattle.vt_laws_mounts.proofs.counts.counting.Entries.{one_if}
@@ -25,10 +25,10 @@ module _ (world : World ℕ) (number : ℕ)
   no_layers_there = ap (map (λ (layer : Layer ℕ). layer.directory))
       (filter_none (λ (layer : Layer ℕ). nat_eq number layer.filesystem)
       (flat_map (of_overlay [] layers_of) world.filesystems)
-      (none_passes (λ (layer : Layer ℕ). nat_eq number layer.filesystem)
+      (none_from_among (λ (layer : Layer ℕ). nat_eq number layer.filesystem)
       (flat_map (of_overlay [] layers_of) world.filesystems)
       (λ layer m. let from = among-from_flat_map (of_overlay [] layers_of) world.filesystems layer m in
-      fails (λ (other : Layer ℕ). nat_eq number other.filesystem) (of_overlay [] layers_of from.0)
+      none_among (λ (other : Layer ℕ). nat_eq number other.filesystem) (of_overlay [] layers_of from.0)
       (sym (layers_on world number from.0)
       ∙ among_from_all (λ merged. has_layer_on nat_eq number merged ≡ false) world.filesystems apart from.0 from.1)
       layer from.2)))

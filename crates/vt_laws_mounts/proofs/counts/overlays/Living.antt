@@ -3,7 +3,7 @@ use Rattle.std.proofs.Common.{◌≡◌, refl, sym, ap, ◌∙◌, ⊎_elim, inl
 use Rattle.vt_spec.proofs.Common.{Filesystem, Layer, Overlay, World, and_parts, common_steps, filesystem_lives, filesystem_numbered, has_layer_on, is_mounted, is_overlay, is_plain_layer, layers_of, list_all, list_any, list_any-append, not-true, of_overlay, or-false, or_cases, overlay_or}
 use Rattle.vt_laws_mounts.specs.LettingGo.Counts.{times}
 use Rattle.vt_laws_mounts.specs.LettingGo.OneByOne.{without_filesystem}
-use Rattle.vt_laws_mounts.proofs.letting_go.Lists.{Among, all_from_among, any_counted, among_from_all, flat_map-filter, none_passes, passes}
+use Rattle.vt_laws_mounts.proofs.letting_go.Lists.{Among, all_from_among, any_counted, among_from_all, flat_map-filter, none_from_among, among_from_list_all}
 use Rattle.vt_laws_mounts.proofs.letting_go.sweeps.InUse.{layers_on}
 use Rattle.vt_laws_mounts.proofs.letting_go.sweeps.LookedUp.{filesystem_is_looked_up}
 use Rattle.vt_laws_mounts.proofs.letting_go.sweeps.OfWorlds.{all_in_use, found_filesystem}
@@ -37,7 +37,7 @@ filesystem_goes_at_zero_beside_overlays world number = filesystem_is_looked_up w
 
 pub lives_while_mounted : LivesWhileMounted
 lives_while_mounted world f apart = ap (λ b. is_mounted nat_eq world f.number || b)
-    (none_passes (λ merged. has_layer_on nat_eq f.number merged && is_mounted nat_eq world merged.number)
+    (none_from_among (λ merged. has_layer_on nat_eq f.number merged && is_mounted nat_eq world merged.number)
     world.filesystems (λ merged m. ap (λ b. b && is_mounted nat_eq world merged.number)
     (among_from_all (λ g. has_layer_on nat_eq f.number g ≡ false) world.filesystems apart merged m)))
     ∙ or-false (is_mounted nat_eq world f.number) ∙ mounted_while_counted world f.number
@@ -49,7 +49,7 @@ overlays_are_no_layers world is =
     all_from_among (λ f. is_overlay f ≡ true → HasNoLayerIn f.number world) world.filesystems (λ f m e.
     all_from_among (λ merged. has_layer_on nat_eq f.number merged ≡ false) world.filesystems (λ merged n.
     layers_on world f.number merged ∙ by f m e merged.overlay
-    (passes (of_overlay true (λ o. list_all (is_plain_layer nat_eq world) (layers_of o))) world.filesystems
+    (among_from_list_all (of_overlay true (λ o. list_all (is_plain_layer nat_eq world) (layers_of o))) world.filesystems
     is.overlays.plain_layers merged n)))
   where
     by : (f : Filesystem ℕ) → Among f world.filesystems → is_overlay f ≡ true → (o : Option (Overlay ℕ))
@@ -57,8 +57,8 @@ overlays_are_no_layers world is =
         → list_any (λ layer. nat_eq f.number layer.filesystem) (overlay_or [] layers_of o) ≡ false
     by f m e None plain = refl
     by f m e (Some overlay) plain =
-        none_passes (λ (layer : Layer ℕ). nat_eq f.number layer.filesystem) (layers_of overlay) (λ layer n.
-        apart layer (passes (is_plain_layer nat_eq world) (layers_of overlay) plain layer n)
+        none_from_among (λ (layer : Layer ℕ). nat_eq f.number layer.filesystem) (layers_of overlay) (λ layer n.
+        apart layer (among_from_list_all (is_plain_layer nat_eq world) (layers_of overlay) plain layer n)
         (nat_eq f.number layer.filesystem) refl)
       where
         apart : (layer : Layer ℕ) → is_plain_layer nat_eq world layer ≡ true → (b : Bool)
@@ -74,12 +74,12 @@ pub overlays_are_mounted : OverlaysAreMounted
 overlays_are_mounted world is =
     all_from_among (λ f. is_overlay f ≡ true → is_mounted nat_eq world f.number ≡ true) world.filesystems (λ f m e.
     ⊎_elim (λ mounted. mounted) (λ layer. absurd (true≢false (sym layer
-    ∙ none_passes (λ merged. has_layer_on nat_eq f.number merged && is_mounted nat_eq world merged.number)
+    ∙ none_from_among (λ merged. has_layer_on nat_eq f.number merged && is_mounted nat_eq world merged.number)
     world.filesystems (λ merged n. ap (λ b. b && is_mounted nat_eq world merged.number)
     (among_from_all (λ g. has_layer_on nat_eq f.number g ≡ false) world.filesystems
     (among_from_all (λ g. is_overlay g ≡ true → HasNoLayerIn g.number world) world.filesystems
     (overlays_are_no_layers world is) f m e) merged n))))) (or_cases (is_mounted nat_eq world f.number) _
-    (passes (filesystem_lives nat_eq world) world.filesystems (all_in_use world is).filesystems f m)))
+    (among_from_list_all (filesystem_lives nat_eq world) world.filesystems (all_in_use world is).filesystems f m)))
 
 pub all_layers_are_mounted : AllLayersAreMounted
 all_layers_are_mounted world number is =

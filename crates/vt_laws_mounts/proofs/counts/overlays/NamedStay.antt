@@ -3,7 +3,7 @@ use Rattle.std.proofs.Common.{arith, ◌≡◌, refl, sym, ap, ◌∙◌, ⊎_el
 use Rattle.vt_spec.proofs.Common.{Filesystem, World, common_steps, filesystem_lives, filesystem_numbered, is_among, is_among_left, is_overlay, layers_in, list_all, located_in, map_twice, named_in, objects_of_overlay, only_used, only_used_by, or_cases, settled, used_in, without_dead_mounts}
 use Rattle.vt_laws_mounts.specs.LettingGo.Keeping.{has_only_named}
 use Rattle.vt_laws_mounts.specs.LettingGo.TreesOverlays.{in_use_of}
-use Rattle.vt_laws_mounts.proofs.letting_go.Lists.{Among, all_pass, among-from_filter, among_from_all, or_first, or_second, passes}
+use Rattle.vt_laws_mounts.proofs.letting_go.Lists.{Among, among-from_filter, among_from_all, among_from_list_all, list_all_from_among, or_left, or_right}
 use Rattle.vt_laws_mounts.proofs.letting_go.sweeps.InUse.{after_first, after_second, number-first, number-second, overlay-left, second_leaves}
 use Rattle.vt_laws_mounts.specs.Counts.OverlaysStay.{NamedOverlayStays, NamedOverlaysStay, OverlaysAreNamed}
 use Rattle.vt_laws_mounts.proofs.counts.using.Exchanged.{found_mapped, numbers_mapped}
@@ -30,14 +30,15 @@ module _ (world : World ℕ) (named : OverlaysAreNamed world) where
   -- what is the root or has a name is used
   all_used : (f : Filesystem ℕ) → has_only_named f ≡ true
       → list_all (λ n. is_among nat_eq n (used_in nat_eq lives f)) f.files.numbers ≡ true
-  all_used f only = all_pass (λ n. is_among nat_eq n (used_in nat_eq lives f)) f.files.numbers (λ n m.
-      ⊎_elim (λ root. or_first (nat_eq n f.files.tree.root) _ root) (λ name. or_second (nat_eq n f.files.tree.root) _
+  all_used f only = list_all_from_among (λ n. is_among nat_eq n (used_in nat_eq lives f)) f.files.numbers (λ n m.
+      ⊎_elim (λ root. or_left (nat_eq n f.files.tree.root) _ root) (λ name. or_right (nat_eq n f.files.tree.root) _
       (is_among_left n (named_in f.files ++ located_in nat_eq lives f.number ++ layers_in nat_eq lives f.number)
       (flat_map (objects_of_overlay nat_eq f.number) lives.filesystems)
       (is_among_left n (named_in f.files ++ located_in nat_eq lives f.number) (layers_in nat_eq lives f.number)
       (is_among_left n (named_in f.files) (located_in nat_eq lives f.number) name))))
       (or_cases (nat_eq n f.files.tree.root) (is_among nat_eq n (named_in f.files))
-      (passes (λ k. nat_eq k f.files.tree.root || is_among nat_eq k (named_in f.files)) f.files.numbers only n m)))
+      (among_from_list_all (λ k. nat_eq k f.files.tree.root || is_among nat_eq k (named_in f.files)) f.files.numbers
+      only n m)))
 
   stays : (f : Filesystem ℕ) → Among f lives.filesystems → is_overlay f ≡ true → swept f ≡ f
   stays f m e = ap (after_second world) (ap (λ b. only_used nat_eq lives b f) e

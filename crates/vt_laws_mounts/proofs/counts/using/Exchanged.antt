@@ -6,8 +6,8 @@ use Rattle.vt_laws_mounts.specs.LettingGo.Counts.{inode_uses, times}
 use Rattle.vt_laws_mounts.specs.LettingGo.InUse.{HasTrees, InodesInUse, IsListedTree, has_upper_in, is_inode_used}
 use Rattle.vt_laws_mounts.specs.LettingGo.OneByOne.{Inode, is_inode_among, let_go_inode, let_go_inode_of, let_go_inodes, without_inode}
 use Rattle.vt_laws_mounts.proofs.letting_go.sweeps.InUse.{unused_are_empty}
-use Rattle.vt_laws_mounts.proofs.letting_go.Lists.{Among, all_from_among, among-from_map, among_from_all, flat_map-filter, flat_map-map, flat_map_alike, passes}
-use Rattle.vt_laws_mounts.proofs.counts.counting.Counts as Counts
+use Rattle.vt_laws_mounts.proofs.letting_go.Lists.{Among, all_from_among, among-from_map, among_from_all, among_from_list_all, flat_map-filter, flat_map-map, flat_map_alike}
+use Rattle.vt_laws_mounts.proofs.counts.counting.Counts
 use Rattle.vt_laws_mounts.proofs.counts.counting.Counts.{counted_pinned, counted_some, some_inode}
 use Rattle.vt_laws_mounts.proofs.counts.counting.Entries.{one_if}
 use Rattle.vt_laws_mounts.proofs.counts.counting.Times.{among_times, as_long, times_filter, times_in}
@@ -18,7 +18,7 @@ use Rattle.vt_laws_mounts.proofs.counts.Listed.{no_repeats}
 use Rattle.vt_laws_mounts.proofs.counts.using.Swept.{found_is, found_number, no_objects_in, start_counts, there_if_counted, there_if_some}
 use Rattle.vt_laws_mounts.proofs.counts.changing.TreeCounts.{other_uses, unpinned_counts}
 
--- one if the test passes
+-- one if the test among_from_list_all
 abbrev pub one_when : Bool → ℕ
 one_when b = cond b 1 0
 
@@ -351,7 +351,7 @@ module _ (world after : World ℕ) (gained lost : List Inode) (k : ℕ) (inodes 
     where
       is_there : (inode : Inode) → Among inode gained → nat_eq k inode.0 ≡ true → is_some (inodes.inode inode.1) ≡ true
       is_there inode m here = sym (ap (λ b. not b || is_some (inodes.inode inode.1)) here)
-          ∙ passes (λ i. not (nat_eq k i.0) || is_some (inodes.inode i.1)) gained gains inode m
+          ∙ among_from_list_all (λ i. not (nat_eq k i.0) || is_some (inodes.inode i.1)) gained gains inode m
 
   abbrev last : World ℕ
   last = let_go_inodes after lost

@@ -4,7 +4,7 @@ use Rattle.vt_spec.proofs.Common.{Location, Mount, World, all_locations, any_pai
 use Rattle.vt_laws_mounts.specs.LettingGo.Leaving.{MountsStand}
 use Rattle.vt_laws_mounts.specs.LettingGo.Mounting.{inode_at, root_inode}
 use Rattle.vt_laws_mounts.specs.LettingGo.OneByOne.{is_mount_used, without_mount}
-use Rattle.vt_laws_mounts.proofs.letting_go.Lists.{Among, all_pass, among-append, among-append_right, among-from_filter_map, among-from_map, among-map, among_numbers, fails, is_among_numbers, passes}
+use Rattle.vt_laws_mounts.proofs.letting_go.Lists.{Among, among-append, among-append_right, among-from_filter_map, among-from_map, among-map, among_from_list_all, among_numbers, is_among_numbers, list_all_from_among, none_among}
 use Rattle.vt_laws_mounts.proofs.letting_go.leaving.PlacesLeft.{found_itself, nowhere_parts, place_attached}
 pub use Rattle.vt_laws_mounts.proofs.letting_go.sweeps.OfWorlds.{locations_of_worlds_stand}
 use Rattle.vt_laws_mounts.specs.Counts.Using.{MountsLeaveTheirRoots, PlacesStand, is_on, places_of, Exchanges}
@@ -19,8 +19,9 @@ attached_is (first ∷ rest) number e = grind (arith, common_steps, attached_is 
 
 pub places_stand : PlacesStand
 places_stand world stand locations =
-    all_pass (is_on world.mounts) (all_locations world ++ places_of world.mounts) (λ location m.
-    ⊎_elim (λ here. passes (is_on world.mounts) (all_locations world) locations location here) (λ places. ⊎_elim
+    list_all_from_among (is_on world.mounts) (all_locations world ++ places_of world.mounts) (λ location m.
+    ⊎_elim (λ here. among_from_list_all (is_on world.mounts) (all_locations world) locations location here)
+    (λ places. ⊎_elim
     (λ root. let from = among-from_map root_of world.mounts location root in
     ap (is_on world.mounts) from.2 ∙ is_among_numbers from.0.number (map (λ mount. mount.number) world.mounts)
     (among-map (λ mount. mount.number) world.mounts from.0 from.1))
@@ -62,7 +63,7 @@ around (first ∷ rest) number one there = by (nat_eq number first.number) refl 
           ∙ filter_all (λ other. not (nat_eq other.number number)) rest
           (λ other m. ap not (nat_eq-swapped number other.number false
           (ap (λ k. nat_eq k other.number) (eqb-true number first.number e)
-          ∙ fails (λ b. nat_eq first.number b.number) rest parts.0 other m)));
+          ∙ none_among (λ b. nat_eq first.number b.number) rest parts.0 other m)));
       numbered = sym (eqb-true number first.number e);
     }
     by false e h later = let inner = later h in record {
@@ -103,7 +104,8 @@ module _ (world : World ℕ) (number : ℕ) (stand : MountsStand world)
       (is_located nat_eq world number) unused).1
 
   no_point : is_some split.mount.mount_point ≡ false
-  no_point = (nowhere_parts split.mount (passes is_nowhere_or_attached world.mounts stand.nowhere split.mount in_world)
+  no_point = (nowhere_parts split.mount
+      (among_from_list_all is_nowhere_or_attached world.mounts stand.nowhere split.mount in_world)
       (ap (λ (m : Mount ℕ). is_some m.namespace) (sym itself) ∙ not_attached)).0
 
   -- what is on another mount is on one that is left
@@ -120,9 +122,10 @@ module _ (world : World ℕ) (number : ℕ) (stand : MountsStand world)
       (ap not (ap (λ n. nat_eq n number) (sym from.2) ∙ nat_eq-swapped number location.mount false apart)))))
 
   all_on_left : list_all (is_on left.mounts) (all_locations left ++ places_of left.mounts) ≡ true
-  all_on_left = all_pass (is_on left.mounts) (all_locations left ++ places_of left.mounts) (λ location m.
-      ⊎_elim (λ here. on_left location (passes (is_on world.mounts) (all_locations world) locations location here)
-      (fails (λ l. nat_eq number l.mount) (all_locations world) not_located location here)) (λ places. ⊎_elim
+  all_on_left = list_all_from_among (is_on left.mounts) (all_locations left ++ places_of left.mounts) (λ location m.
+      ⊎_elim (λ here. on_left location
+      (among_from_list_all (is_on world.mounts) (all_locations world) locations location here)
+      (none_among (λ l. nat_eq number l.mount) (all_locations world) not_located location here)) (λ places. ⊎_elim
       (λ root. let from = among-from_map root_of left.mounts location root in
       ap (is_on left.mounts) from.2 ∙ is_among_numbers from.0.number (map (λ mount. mount.number) left.mounts)
       (among-map (λ mount. mount.number) left.mounts from.0 from.1)) (λ point.

@@ -4,7 +4,7 @@ use Rattle.vt_spec.proofs.Common.{Filesystem, Location, Mount, World, all_locati
 use Rattle.vt_laws_mounts.specs.LettingGo.Counts.{inode_uses, mounts_showing, times}
 use Rattle.vt_laws_mounts.specs.LettingGo.Mounting.{inode_at}
 use Rattle.vt_laws_mounts.specs.LettingGo.OneByOne.{Inode}
-use Rattle.vt_laws_mounts.proofs.letting_go.Lists.{Among, among-append_left, among-append_right, passes}
+use Rattle.vt_laws_mounts.proofs.letting_go.Lists.{Among, among-append_left, among-append_right, among_from_list_all}
 use Rattle.vt_laws_mounts.proofs.letting_go.leaving.PlacesLeft.{found_itself, no_layers_of}
 use Rattle.vt_laws_mounts.proofs.counts.counting.Entries.{one_if}
 use Rattle.vt_laws_mounts.proofs.counts.counting.Times.{times_in}
@@ -186,7 +186,7 @@ mounts_are_uses world after front added back filesystems locations were are one 
     same_counts n = ap (λ l. times_in n (map (λ location. location.node) l))
         (filter_alike (shown new k n) (shown old k n) ((all_locations world ++ map root_of old) ++ points old)
         (λ l m. ap (λ (mount : Mount ℕ). nat_eq k mount.filesystem) (found_still front added back l.mount one_new
-        (passes (is_on old) ((all_locations world ++ map root_of old) ++ points old) on_old l m))))
+        (among_from_list_all (is_on old) ((all_locations world ++ map root_of old) ++ points old) on_old l m))))
 
     roots : (n : ℕ) → count_in new k n (map root_of new)
         ≡ count_in new k n (map root_of old) + count_in new k n (map root_of added)
@@ -340,7 +340,7 @@ new_tree_counts world number root no_layers no_objects one own outside = record 
         (cond (nat_eq number mount.filesystem) (root_of first ∷ filter (shown world.mounts number n) (map root_of rest))
         (filter (shown world.mounts number n) (map root_of rest)))))
         (found_itself world.mounts one first (within first (inl refl)))
-        ∙ by (nat_eq number first.filesystem) (passes (λ mount. not (nat_eq number mount.filesystem)
+        ∙ by (nat_eq number first.filesystem) (among_from_list_all (λ mount. not (nat_eq number mount.filesystem)
         || nat_eq root mount.root) world.mounts own first (within first (inl refl)))
         (roots n rest (λ mount m. within mount (inr m)))
       where

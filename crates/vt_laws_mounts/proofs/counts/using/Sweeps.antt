@@ -12,7 +12,7 @@ use Rattle.vt_laws_mounts.specs.Counts.BesideOverlays.{HasNoUpperIn, UsesAreSwep
 use Rattle.vt_laws_mounts.specs.Counts.Counted.{IsCounted}
 use Rattle.vt_laws_mounts.specs.Counts.Sweeping.{UsesAreSwept}
 use Rattle.vt_laws_mounts.specs.Counts.Using.{AreThere, Exchanges, exchanged}
-use Rattle.vt_laws_mounts.proofs.counts.using.Exchanged as Exchanged
+use Rattle.vt_laws_mounts.proofs.counts.using.Exchanged
 use Rattle.vt_laws_mounts.proofs.counts.using.Exchanged.{found_mapped, numbers_mapped, root_pinned, root_unpinned}
 use Rattle.vt_laws_mounts.proofs.counts.Listed.{no_repeats}
 use Rattle.vt_laws_mounts.proofs.counts.using.Swept.{found_number, no_objects_in}

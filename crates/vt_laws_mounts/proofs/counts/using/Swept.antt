@@ -6,8 +6,8 @@ use Rattle.vt_laws_mounts.specs.LettingGo.InUse.{AllInUse, IsListedTree, has_upp
 use Rattle.vt_laws_mounts.specs.LettingGo.OneByOne as LettingGo
 use Rattle.vt_laws_mounts.specs.LettingGo.TreeChanges.{with_tree}
 use Rattle.vt_laws_mounts.proofs.letting_go.sweeps.InUse.{UnusedAreEmpty, filesystems_stay, groups_stay, mounts_stay, named-left, no_objects, no_upper_objects}
-use Rattle.vt_laws_mounts.proofs.letting_go.Lists.{Among, all_pass, among-from_map, among_from_all, among_numbers, flat_map-step, flat_map_none, none_passes, passes}
-use Rattle.vt_laws_mounts.proofs.counts.counting.Counts as Counts
+use Rattle.vt_laws_mounts.proofs.letting_go.Lists.{Among, among-from_map, among_from_all, among_from_list_all, among_numbers, flat_map-step, flat_map_none, list_all_from_among, none_from_among}
+use Rattle.vt_laws_mounts.proofs.counts.counting.Counts
 use Rattle.vt_laws_mounts.proofs.counts.counting.Counts.{one_if-itself}
 use Rattle.vt_laws_mounts.proofs.counts.counting.Entries.{named_by, one_if}
 use Rattle.vt_laws_mounts.proofs.counts.counting.Times.{among_times, as_long, times_among, times_append, times_filter, times_in}
@@ -20,7 +20,7 @@ use Rattle.vt_laws_mounts.proofs.letting_go.leaving.TreesWithOverlays.{lives_ali
 use Rattle.vt_laws_mounts.proofs.letting_go.sweeps.OfWorlds.{found_filesystem}
 
 pub plain_of : (world : World ℕ) → IsPlain world → LettingGo.IsPlain world
-plain_of world plain = none_passes is_overlay world.filesystems
+plain_of world plain = none_from_among is_overlay world.filesystems
     (λ f m. among_from_all (λ g. is_overlay g ≡ false) world.filesystems plain f m)
 
 -- What uses an inode
@@ -163,7 +163,7 @@ start_counts world filesystem inodes tree used counted = record {
   in_use = λ n there.
       let e = counted.uses n in
       let some = among_times n (used_in nat_eq world filesystem)
-      (passes (is_inode_used world filesystem) filesystem.files.numbers used n
+      (among_from_list_all (is_inode_used world filesystem) filesystem.files.numbers used n
       (among_numbers n filesystem.files.numbers (tree.numbers n ∙ sym (same_there n) ∙ there))) in
       omega arith;
   kept = λ n there. sym (counted.node n);
@@ -253,11 +253,11 @@ module _ (world : World ℕ) (number : ℕ) (files : FileTree ℕ) (in_use : All
   -- so no mount and no filesystem goes
   same_living : without_dead_filesystems nat_eq (without_dead_mounts nat_eq raw) ≡ raw
   same_living = ap (without_dead_filesystems nat_eq) (mounts_stay raw in_use.mounts) ∙ filesystems_stay raw
-      (all_pass (filesystem_lives nat_eq raw) raw.filesystems (λ g m.
+      (list_all_from_among (filesystem_lives nat_eq raw) raw.filesystems (λ g m.
       let from = among-from_map (replaced_if_numbered nat_eq new) world.filesystems g m in
       ap (filesystem_lives nat_eq raw) from.2 ∙ lives_alike world (replaced_if_numbered nat_eq new) (number_kept files)
       (λ f n. ap (overlay_or [] layers_of) (overlay_kept files f n)) from.0 from.1
-      ∙ passes (filesystem_lives nat_eq world) world.filesystems in_use.filesystems from.0 from.1))
+      ∙ among_from_list_all (filesystem_lives nat_eq world) world.filesystems in_use.filesystems from.0 from.1))
 
   -- inodes of other filesystems stay
   used_same : (some : FileTree ℕ) (f : Filesystem ℕ)
@@ -319,14 +319,15 @@ module _ (world : World ℕ) (number : ℕ) (files : FileTree ℕ) (in_use : All
             by : (b : Bool) → is_some (files.tree.node n) ≡ b
                 → files.tree.node n ≡ cond (is_among nat_eq n used) (files.tree.node n) None
             by true e =
-                sym (ap (λ b. cond b (files.tree.node n) None) (passes (λ m. is_among nat_eq m used) files.numbers all n
+                sym (ap (λ b. cond b (files.tree.node n) None)
+                (among_from_list_all (λ m. is_among nat_eq m used) files.numbers all n
                 (among_numbers n files.numbers (times_among n files.numbers
                 (let one : times_in n files.numbers ≡ 1 = once n ∙ ap (λ b. cond b 1 0) e in omega arith)))))
             by false e = none (files.tree.node n) (is_among nat_eq n used) e
 
         same : files.numbers ≡ filter (λ n. is_among nat_eq n used) files.numbers
         same = sym (Rattle.vt_laws_mounts.proofs.letting_go.Lists.filter_all (λ n. is_among nat_eq n used) files.numbers
-            (passes (λ n. is_among nat_eq n used) files.numbers all))
+            (among_from_list_all (λ n. is_among nat_eq n used) files.numbers all))
 
     step_new : step new ≡ with_files old swept
     step_new = grind (arith, common_steps, all_kept)

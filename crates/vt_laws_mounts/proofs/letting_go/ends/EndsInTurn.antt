@@ -4,13 +4,13 @@ use Rattle.vt_spec.proofs.Common.{Location, Mount, MountInvariants, Namespace, T
 use Rattle.vt_laws_mounts.specs.LettingGo.Leaving.{MountsStand, comes_nowhere, is_location_among, stands_on_attached, with_tasks}
 use Rattle.vt_laws_mounts.specs.LettingGo.Mounting.{ended_mounts}
 use Rattle.vt_laws_mounts.specs.LettingGo.Several.{OneSweepForAllExits, OneSweepForAllExitsWithOverlays, OneSweepForEnds, OneSweepForEndsWithOverlays, OneSweepForExits, OneSweepForExitsWithOverlays, ended_task}
-use Rattle.vt_laws_mounts.proofs.letting_go.Lists.{Among, all_pass, among-filter, among-flat_map, among-from_filter, among-from_flat_map, among-from_map, among-map, among_numbers, filter_twice, is_among_numbers, passes}
+use Rattle.vt_laws_mounts.proofs.letting_go.Lists.{Among, among-filter, among-flat_map, among-from_filter, among-from_flat_map, among-from_map, among-map, among_from_list_all, among_numbers, filter_twice, is_among_numbers, list_all_from_among}
 use Rattle.vt_laws_mounts.proofs.letting_go.SweptBetween.{follows}
 use Rattle.vt_laws_mounts.proofs.letting_go.leaving.Detached.{found-map}
 use Rattle.vt_laws_mounts.proofs.letting_go.leaving.LeftOneByOne.{plain_reals, plain_uppers}
 use Rattle.vt_laws_mounts.proofs.letting_go.leaving.PlacesLeft.{found_is_there, found_itself, location_among, placed_is_attached}
 use Rattle.vt_laws_mounts.proofs.letting_go.mounting.MountingTaken
-use Rattle.vt_laws_mounts.proofs.letting_go.mounting.MountingTaken.{hands_on, is_changed, nowhere_after, same_namespace, same_number, same_place, stays as stays_there}
+use Rattle.vt_laws_mounts.proofs.letting_go.mounting.MountingTaken.{hands_on, is_changed, nowhere_after, same_namespace, same_number, same_place, stays_there}
 use Rattle.vt_laws_mounts.proofs.letting_go.mounting.TakenBetween.{one_sweep_between}
 use Rattle.vt_laws_mounts.proofs.letting_go.mounting.MountsSwept.{beside_parent}
 use Rattle.vt_laws_mounts.proofs.letting_go.mounting.Unmounted.{does_not_go}
@@ -72,7 +72,7 @@ module _ (world : World ℕ) (tasks : List (Task ℕ)) (kept : MountInvariants n
       isnt : is_going nat_eq gone mount.number ≡ false
       isnt = does_not_go not_swept gone b mount
           (placed_is_attached (change mount) (nowhere_after not_swept gone namespaces b mount
-          (passes is_nowhere_or_attached world.mounts kept.nowhere mount m)) place p)
+          (among_from_list_all is_nowhere_or_attached world.mounts kept.nowhere mount m)) place p)
 
       left : (c : Bool) → (MountingTaken.change not_swept gone namespaces c mount).mount_point
           ≡ option_map (mount_point_left nat_eq not_swept gone) mount.mount_point
@@ -86,7 +86,8 @@ module _ (world : World ℕ) (tasks : List (Task ℕ)) (kept : MountInvariants n
           let below = mount_in nat_eq world.mounts at.mount in
           let same = beside_parent world kept mount m at e in
           let attached : is_some below.namespace ≡ true = ap is_some (sym same)
-          ∙ placed_is_attached mount (passes is_nowhere_or_attached world.mounts kept.nowhere mount m) at e in
+          ∙ placed_is_attached mount (among_from_list_all is_nowhere_or_attached world.mounts kept.nowhere mount m) at
+          e in
           let there = found_is_there world.mounts at.mount attached in
           let below_stays : is_going nat_eq gone below.number ≡ false =
           stays below there (ap (λ o. ends_with_it (record mount { namespace = o })) (sym same)
@@ -102,11 +103,11 @@ module _ (world : World ℕ) (tasks : List (Task ℕ)) (kept : MountInvariants n
   stand = record {
     one_number = pair-map (λ (x y : Mount ℕ). nat_eq x.number y.number) (λ (x y : Mount ℕ). nat_eq x.number y.number)
         change world.mounts (λ x y m n e. (λ i. nat_eq (number x i) (number y i)) ∙ e) kept.one_number;
-    nowhere = all_pass is_nowhere_or_attached (map change world.mounts) (λ mount m.
+    nowhere = list_all_from_among is_nowhere_or_attached (map change world.mounts) (λ mount m.
         let from = among-from_map change world.mounts mount m in
         ap is_nowhere_or_attached from.2 ∙ nowhere_after not_swept gone namespaces b from.0
-        (passes is_nowhere_or_attached world.mounts kept.nowhere from.0 from.1));
-    on_attached = all_pass (stands_on_attached ended) (map change world.mounts) (λ mount m.
+        (among_from_list_all is_nowhere_or_attached world.mounts kept.nowhere from.0 from.1));
+    on_attached = list_all_from_among (stands_on_attached ended) (map change world.mounts) (λ mount m.
         let from = among-from_map change world.mounts mount m in
         on from.0 from.1 mount.mount_point (ap (λ (x : Mount ℕ). x.mount_point) (sym from.2)));
   }
@@ -140,7 +141,8 @@ one_sweep_for_ends world tasks plain trees kept nowhere_new =
 -- the locations of some tasks are locations of all
 fewer_come_nowhere : (world : World ℕ) (keeps : Task ℕ → Bool) → comes_nowhere world (filter keeps world.tasks) ≡ true
 fewer_come_nowhere world keeps =
-    all_pass (is_location_among (all_locations world)) (flat_map locations_of (filter keeps world.tasks)) (λ location m.
+    list_all_from_among (is_location_among (all_locations world)) (flat_map locations_of (filter keeps world.tasks))
+    (λ location m.
     let from = among-from_flat_map locations_of (filter keeps world.tasks) location m in
     location_among (all_locations world) location (among-flat_map locations_of world.tasks from.0 location
     (among-from_filter keeps world.tasks from.0 from.1).0 from.2))

@@ -2,7 +2,7 @@
 use Rattle.std.proofs.Common.{◌≡◌, refl, sym, ap, ◌∙◌, ⊎_elim, ℕ, nat_eq, eqb-true, eq-eqb, Bool, true, false, not, ◌||◌, ◌&&◌, ◌+◌, ◌++◌, ◌≤◌, List, [], ◌∷◌, filter, length, map, Option, Some, None, option_map, option_to_list, arith, nat_lt}
 use Rattle.vt_spec.proofs.Common.{Location, Mount, Namespace, World, after_going, and_parts, cases_Bool, common_steps, filter_alike, filter_all, has_tasks, holds_of, is_among, is_in_ended, is_listed, list_all, list_any, most_mounts, mount_point_left, mounts_of, nat_tests, or-false, or_false_left, regrouped, taken_away, with_mounts}
 use Rattle.vt_laws_mounts.specs.LettingGo.Ends.{AddedMountsCount, AddedMountsCountInNoOther, AddedMountsCountInTheirOwn, MountsAreListed, NoNamespaceEnds, OneNamespaceEnds, TooManyIsOfOne, TooManyIsOfSome, is_in, mount_count}
-use Rattle.vt_laws_mounts.proofs.letting_go.Lists.{Among, among-from_map, among_numbers, any_passes, fails, map_same, none_passes, nothing_passes, one_passes, passes}
+use Rattle.vt_laws_mounts.proofs.letting_go.Lists.{Among, among-from_map, among_from_list_all, among_numbers, any_among, any_from_among, map_same, none_among, none_from_among, nothing_passes}
 
 -- Where nothing is taken away, places stay.
 module _ (world : World ℕ) where
@@ -31,14 +31,15 @@ module _ (world : World ℕ) where
   its_tasks : (number : ℕ) (namespace : Namespace ℕ) → Among namespace world.namespaces → number ≡ namespace.number
       → has_tasks nat_eq world namespace ≡ true → lives_on number ≡ true
   its_tasks number namespace m same has =
-      any_passes (λ n. nat_eq number n.number && has_tasks nat_eq world n) world.namespaces namespace m
+      any_from_among (λ n. nat_eq number n.number && has_tasks nat_eq world n) world.namespaces namespace m
       (ap (λ b. b && has_tasks nat_eq world namespace) (eq-eqb number namespace.number same) ∙ has)
 
   listed_of : MountsAreListed world → (mount : Mount ℕ) → Among mount world.mounts → (number : ℕ)
       → mount.namespace ≡ Some number → is_listed nat_eq world number ≡ true
   listed_of listed mount m number e = (and_parts (is_listed nat_eq world number) true
       (sym (ap (λ o. list_all (is_listed nat_eq world) (option_to_list o)) e)
-      ∙ passes (λ x. list_all (is_listed nat_eq world) (option_to_list x.namespace)) world.mounts listed mount m)).0
+      ∙ among_from_list_all (λ x. list_all (is_listed nat_eq world) (option_to_list x.namespace)) world.mounts listed
+      mount m)).0
 
 -- groups are no namespaces
 namespaces-regrouped : (world : World ℕ) → (regrouped nat_eq world).namespaces ≡ world.namespaces
@@ -48,7 +49,7 @@ pub no_namespace_ends : NoNamespaceEnds
 no_namespace_ends world listed all =
     (λ i. record (taken_away nat_eq world (ap (map (λ (mount : Mount ℕ). mount.number)) none i)) {
       namespaces = filter_all (has_tasks nat_eq world) world.namespaces
-          (passes (has_tasks nat_eq world) world.namespaces all) i;
+          (among_from_list_all (has_tasks nat_eq world) world.namespaces all) i;
     }) ∙ (λ i. record (nothing_taken world i) { namespaces = same_namespaces i })
   where
     by : (mount : Mount ℕ) → Among mount world.mounts → (o : Option ℕ) → mount.namespace ≡ o
@@ -56,7 +57,8 @@ no_namespace_ends world listed all =
     by mount m None e = refl
     by mount m (Some number) e =
         let t = its_namespace world number (listed_of world listed mount m number e) in
-        ap not (its_tasks world number t.0 t.1 t.2 (passes (has_tasks nat_eq world) world.namespaces all t.0 t.1))
+        ap not (its_tasks world number t.0 t.1 t.2
+        (among_from_list_all (has_tasks nat_eq world) world.namespaces all t.0 t.1))
 
     none : filter (is_in_ended nat_eq world) world.mounts ≡ []
     none = nothing_passes (is_in_ended nat_eq world) world.mounts (λ mount m. by mount m mount.namespace refl)
@@ -80,7 +82,8 @@ one_namespace_ends world number listed empty others = λ i. record (taken_away n
     its_others : (namespace : Namespace ℕ) → Among namespace world.namespaces → nat_eq number namespace.number ≡ false
         → has_tasks nat_eq world namespace ≡ true
     its_others namespace m e = sym (ap (λ b. b || has_tasks nat_eq world namespace) e)
-        ∙ passes (λ n. nat_eq number n.number || has_tasks nat_eq world n) world.namespaces others namespace m
+        ∙ among_from_list_all (λ n. nat_eq number n.number || has_tasks nat_eq world n) world.namespaces others
+        namespace m
 
     has_or_is : (namespace : Namespace ℕ) → Among namespace world.namespaces → (b : Bool)
         → nat_eq number namespace.number ≡ b → has_tasks nat_eq world namespace ≡ not b
@@ -93,7 +96,7 @@ one_namespace_ends world number listed empty others = λ i. record (taken_away n
     ends mount m (Some n) e = by (nat_eq number n) refl
       where
         by : (b : Bool) → nat_eq number n ≡ b → not (lives_on world n) ≡ b
-        by true f = ap not (none_passes (λ namespace. nat_eq n namespace.number
+        by true f = ap not (none_from_among (λ namespace. nat_eq n namespace.number
             && has_tasks nat_eq world namespace) world.namespaces
             (λ namespace k. none namespace (nat_eq n namespace.number) refl))
           where
@@ -121,13 +124,13 @@ added_mounts_count_in_their_own world added namespace = count_both (is_in namesp
 pub added_mounts_count : AddedMountsCount
 added_mounts_count world added namespace all = added_mounts_count_in_their_own world added namespace
     ∙ ap (λ (list : List (Mount ℕ)). mount_count world namespace + length list)
-    (filter_all (is_in namespace) added (passes (is_in namespace) added all))
+    (filter_all (is_in namespace) added (among_from_list_all (is_in namespace) added all))
 
 pub added_mounts_count_in_no_other : AddedMountsCountInNoOther
 added_mounts_count_in_no_other world added namespace other all differ =
     added_mounts_count_in_their_own world added other
     ∙ ap (λ (list : List (Mount ℕ)). mount_count world other + length list) (nothing_passes (is_in other) added
-    (λ mount m. elsewhere mount.namespace (passes (is_in namespace) added all mount m))) ∙ omega arith
+    (λ mount m. elsewhere mount.namespace (among_from_list_all (is_in namespace) added all mount m))) ∙ omega arith
   where
     elsewhere : (o : Option ℕ) → holds_of (nat_eq namespace) o ≡ true → holds_of (nat_eq other) o ≡ false
     elsewhere None e = refl
@@ -145,7 +148,7 @@ module _ (world after : World ℕ) where
       → list_any (λ namespace. overfull namespace.number) world.namespaces ≡ true
   counted_there number listed e =
       let t = its_namespace world number listed in
-      any_passes (λ n. overfull n.number) world.namespaces t.0 t.1 (ap overfull (sym t.2) ∙ e)
+      any_from_among (λ n. overfull n.number) world.namespaces t.0 t.1 (ap overfull (sym t.2) ∙ e)
 
 pub too_many_is_of_some : TooManyIsOfSome
 too_many_is_of_some world after namespaces few same listed others =
@@ -154,12 +157,13 @@ too_many_is_of_some world after namespaces few same listed others =
     by : (b : Bool) → list_any (overfull world after) namespaces ≡ b
         → list_any (λ n. overfull world after n.number) world.namespaces ≡ b
     by true e =
-        let t = one_passes (overfull world after) namespaces e in
-        counted_there world after t.0 (passes (is_listed nat_eq world) namespaces listed t.0 t.1) t.2
-    by false e = none_passes (λ n. overfull world after n.number) world.namespaces (λ n m.
-        ⊎_elim (λ is. fails (overfull world after) namespaces e n.number (among_numbers n.number namespaces is))
+        let t = any_among (overfull world after) namespaces e in
+        counted_there world after t.0 (among_from_list_all (is_listed nat_eq world) namespaces listed t.0 t.1) t.2
+    by false e = none_from_among (λ n. overfull world after n.number) world.namespaces (λ n m.
+        ⊎_elim (λ is. none_among (overfull world after) namespaces e n.number (among_numbers n.number namespaces is))
         (λ isnt. no_more most_mounts (mount_count world n.number) (mount_count after n.number)
-        (fails (λ k. nat_lt most_mounts (mount_count world k.number)) world.namespaces few n m) (others n.number isnt))
+        (none_among (λ k. nat_lt most_mounts (mount_count world k.number)) world.namespaces few n m)
+        (others n.number isnt))
         (cases_Bool (is_among nat_eq n.number namespaces)))
 
 pub too_many_is_of_one : TooManyIsOfOne

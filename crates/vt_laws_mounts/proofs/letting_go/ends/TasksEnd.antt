@@ -12,7 +12,7 @@ use Rattle.vt_laws_mounts.specs.LettingGo.OneByOne.{GroupsInUseBut, let_go}
 use Rattle.vt_laws_mounts.specs.LettingGo.Overlays.{let_go_all}
 use Rattle.vt_laws_mounts.proofs.letting_go.leaving.Detached.{found-map, not_found-map}
 use Rattle.vt_laws_mounts.proofs.letting_go.mounting.Unmounted.{event_groups}
-use Rattle.vt_laws_mounts.proofs.letting_go.Lists.{Among, all_pass, among-append, among-append_left, among-append_right, among-filter, among-filter_map, among-flat_map, among-from_flat_map, among-from_map, among-map, any_passes, is_among_numbers, one_passes, or_first, or_second, passes}
+use Rattle.vt_laws_mounts.proofs.letting_go.Lists.{Among, among-append, among-append_left, among-append_right, among-filter, among-filter_map, among-flat_map, among-from_flat_map, among-from_map, among-map, among_from_list_all, any_among, any_from_among, is_among_numbers, list_all_from_among, or_left, or_right}
 use Rattle.vt_laws_mounts.proofs.letting_go.mounting.MountingLosers.{Loses, StillAPlace, changed, losers_go, places_of, places_stand}
 use Rattle.vt_laws_mounts.proofs.letting_go.mounting.MountingOverlays.{all_losers_go}
 use Rattle.vt_laws_mounts.proofs.letting_go.mounting.MountingTaken
@@ -75,28 +75,28 @@ module _ (world : World ℕ) (all : List (Mount ℕ)) (tasks : List (Task ℕ)) 
   old_lives : (mount : Mount ℕ) → Among mount world.mounts → is_among nat_eq mount.number gone ≡ false
       → mount_lives nat_eq last (change mount) ≡ true
   old_lives mount m isnt = ⊎_elim
-      (λ in_one. or_first (is_some (change mount).namespace) (is_located nat_eq last (change mount).number)
+      (λ in_one. or_left (is_some (change mount).namespace) (is_located nat_eq last (change mount).number)
       (attached_still mount (not_ended mount.number isnt) in_one))
-      (λ at. let t = one_passes (λ l. nat_eq mount.number l.mount) (all_locations world) at in
-      ⊎_elim (λ there. or_second (is_some (change mount).namespace) (is_located nat_eq last (change mount).number)
-      (any_passes (λ l. nat_eq (change mount).number l.mount) (all_locations last) t.0 there
+      (λ at. let t = any_among (λ l. nat_eq mount.number l.mount) (all_locations world) at in
+      ⊎_elim (λ there. or_right (is_some (change mount).namespace) (is_located nat_eq last (change mount).number)
+      (any_from_among (λ l. nat_eq (change mount).number l.mount) (all_locations last) t.0 there
       (ap (λ n. nat_eq n t.0.mount) (number_kept mount) ∙ t.2))) (λ gone_from. absurd (true≢false
       (sym (is_among_numbers mount.number (map (λ location. location.mount) left)
       (subst (λ n. Among n (map (λ location. location.mount) left)) (sym (eqb-true mount.number t.0.mount t.2))
       (among-map (λ (location : Location ℕ). location.mount) left t.0 gone_from))) ∙ not_left mount.number isnt)))
       (stay t.0 t.1)) (or_cases (is_some mount.namespace) (is_located nat_eq world mount.number)
-      (passes (mount_lives nat_eq world) world.mounts in_use.mounts mount m))
+      (among_from_list_all (mount_lives nat_eq world) world.mounts in_use.mounts mount m))
 
   lives : (mount : Mount ℕ) → Among mount all → is_among nat_eq mount.number gone ≡ false
       → mount_lives nat_eq last (change mount) ≡ true
   lives mount m isnt = ⊎_elim (λ was. old_lives mount was isnt)
-      (λ in_one. or_first (is_some (change mount).namespace) (is_located nat_eq last (change mount).number)
+      (λ in_one. or_left (is_some (change mount).namespace) (is_located nat_eq last (change mount).number)
       (attached_still mount (not_ended mount.number isnt) in_one)) (new mount m)
 
   nowhere : (mount : Mount ℕ) → Among mount all → is_nowhere_or_attached (change mount) ≡ true
   nowhere mount m = nowhere_after base ended lasting b mount
-      (⊎_elim (passes is_nowhere_or_attached world.mounts stand.nowhere mount)
-      (λ in_one. or_first (is_some mount.namespace) _ in_one) (new mount m))
+      (⊎_elim (among_from_list_all is_nowhere_or_attached world.mounts stand.nowhere mount)
+      (λ in_one. or_left (is_some mount.namespace) _ in_one) (new mount m))
 
   -- what a mount stands on is in a namespace
   stands_in_one : (mount : Mount ℕ) → Among mount world.mounts → (at : Location ℕ) → mount.mount_point ≡ Some at
@@ -152,7 +152,7 @@ module _ (world : World ℕ) (all : List (Mount ℕ)) (tasks : List (Task ℕ)) 
     locations = λ location m. ⊎_elim (λ there. inl (inl there))
         (λ gone_from. inr (among-append_right (places_lost world ended) left location gone_from)) (stay location m);
     places = place_still;
-    nowhere = all_pass is_nowhere_or_attached last.mounts (λ other m.
+    nowhere = list_all_from_among is_nowhere_or_attached last.mounts (λ other m.
         let from = among-from_map change all other m in ap is_nowhere_or_attached from.2 ∙ nowhere from.0 from.1);
   }
 
@@ -163,8 +163,8 @@ module _ (world : World ℕ) (all : List (Mount ℕ)) (tasks : List (Task ℕ)) 
       by : (c : Bool) → list_any (is_member_of nat_eq group) world.mounts ≡ c → c ≡ false
       by false e = refl
       by true e =
-          let t = one_passes (is_member_of nat_eq group) world.mounts e in
-          absurd (true≢false (sym (any_passes (is_member_of nat_eq group) all t.0 (kept t.0 t.1) t.2) ∙ none))
+          let t = any_among (is_member_of nat_eq group) world.mounts e in
+          absurd (true≢false (sym (any_from_among (is_member_of nat_eq group) all t.0 (kept t.0 t.1) t.2) ∙ none))
 
   pub ends_hearing : GroupsInUseBut (groups_of_mounts base ended) last
   ends_hearing = subst (GroupsInUseBut (groups_of_mounts base ended)) ends_so (event_groups base ended groups_of_base)
@@ -213,7 +213,7 @@ module _ (world : World ℕ) (all : List (Mount ℕ)) (tasks : List (Task ℕ)) 
 left_or_still : (world : World ℕ) (tasks : List (Task ℕ)) (left : List (Location ℕ))
     → only_these_are_left world tasks left ≡ true → (location : Location ℕ) → Among location (all_locations world)
     → Among location (flat_map locations_of tasks) ⊎ Among location left
-left_or_still world tasks left only location m = grind (arith, common_steps, is_it, or_cases, passes)
+left_or_still world tasks left only location m = grind (arith, common_steps, is_it, or_cases, among_from_list_all)
 
 pub leaving_namespaces_lets_go : LeavingNamespacesLetsGo
 leaving_namespaces_lets_go world tasks left settles only =

@@ -2,7 +2,7 @@
 use Rattle.std.proofs.Common.{arith, ◌≡◌, refl, ap, ◌∙◌, ◌⊎◌, inl, ℕ, nat_eq, eqb-true, eq-eqb, Bool, true, false, cond, not, List, [], ◌∷◌, find, map, true≢false, Option, Some, None, option_to_list, unwrap_or}
 use Rattle.vt_spec.proofs.Common.{Location, Mount, World, after_going, and_parts, common_steps, going_at, going_from, has_child, is_shared, list_all, map_alike, mount_at, mount_in, mount_numbered, mount_point_left, no_mount, not-true, number-mount_in, regrouped, taken_away, unmounted, with_mounts}
 use Rattle.vt_laws_mounts.specs.LettingGo.Detaching.{StandsUnshared, UnmountIsOfOne, detached_if, without_place}
-use Rattle.vt_laws_mounts.proofs.letting_go.Lists.{Among, fails}
+use Rattle.vt_laws_mounts.proofs.letting_go.Lists.{Among, none_among}
 
 -- The unmount of one mount
 module _ (world : World ℕ) (number : ℕ) (alone : has_child nat_eq world number ≡ false) where
@@ -12,7 +12,7 @@ module _ (world : World ℕ) (number : ℕ) (alone : has_child nat_eq world numb
 
   one_by_one : (mount : Mount ℕ) → Among mount world.mounts
       → after_going nat_eq world (number ∷ []) mount ≡ detached_if number mount
-  one_by_one mount m = grind (arith, common_steps, stays_at, fails)
+  one_by_one mount m = grind (arith, common_steps, stays_at, none_among)
 
   goes_alone : StandsUnshared world number
       → unmounted nat_eq world number ≡ regrouped nat_eq (without_place world number)

@@ -13,7 +13,7 @@ use Rattle.vt_laws_mounts.specs.LettingGo.TreeChanges.{ChangesTree}
 use Rattle.vt_laws_mounts.specs.LettingGo.TreesOverlays.{in_use_of, with_filesystems, with_lost}
 use Rattle.vt_laws_mounts.specs.LettingGo.Unmounting.{numbers_of_trees}
 use Rattle.vt_laws_mounts.proofs.letting_go.leaving.PlacesLeft.{location_among}
-use Rattle.vt_laws_mounts.proofs.letting_go.Lists.{Among, all_pass, among-flat_map, among-from_flat_map, among-map, fails, or_first, or_second, among-from_map, among_from_all, among_numbers}
+use Rattle.vt_laws_mounts.proofs.letting_go.Lists.{Among, list_all_from_among, among-flat_map, among-from_flat_map, among-map, none_among, or_left, or_right, among-from_map, among_from_all, among_numbers}
 use Rattle.vt_laws_mounts.proofs.letting_go.mounting.MountingTaken.{hands_on, shows_the_same, taken_is}
 use Rattle.vt_laws_mounts.proofs.letting_go.leaving.NamesKept.{changes_keep_names}
 use Rattle.vt_laws_mounts.proofs.letting_go.sweeps.InUse.{nothing_goes}
@@ -199,7 +199,7 @@ one_task (first ∷ rest) one a b m n same = by m n (one_task rest parts.1 a b)
 
     not_both : (x y : Task ℕ) → x ≡ first → Among y rest → same_name x.name y.name ≡ true → a ≡ b
     not_both x y e l h = absurd (true≢false (sym (ap (λ (z : Task ℕ). same_name z.name y.name) (sym e) ∙ h)
-        ∙ fails (λ (z : Task ℕ). same_name first.name z.name) rest parts.0 y l))
+        ∙ none_among (λ (z : Task ℕ). same_name first.name z.name) rest parts.0 y l))
 
     back : same_name b.name a.name ≡ true
     back = ap (λ n. same_name n a.name) (sym ((bytes_decides a.name b.name).0 same))
@@ -230,15 +230,16 @@ pub replaced_leaves : (world : World ℕ) (task new : Task ℕ) (left : List (Lo
     → Among location (locations_of new) ⊎ Among location left)
     → only_these_are_left world (with_task world new).tasks left ≡ true
 replaced_leaves world task new left one there called keeps =
-    all_pass (λ location. is_location_among (flat_map locations_of tasks) location || is_location_among left location)
+    list_all_from_among
+    (λ location. is_location_among (flat_map locations_of tasks) location || is_location_among left location)
     (all_locations world) (λ location m.
     let from = among-from_flat_map locations_of world.tasks location m in
     ⊎_elim
-    (λ still. or_first (is_location_among (flat_map locations_of tasks) location) (is_location_among left location)
+    (λ still. or_left (is_location_among (flat_map locations_of tasks) location) (is_location_among left location)
     (location_among (flat_map locations_of tasks) location
     (among-flat_map locations_of tasks (replaced_if_called new from.0) location
     (among-map (replaced_if_called new) world.tasks from.0 from.1) still)))
-    (λ gone. or_second (is_location_among (flat_map locations_of tasks) location) (is_location_among left location)
+    (λ gone. or_right (is_location_among (flat_map locations_of tasks) location) (is_location_among left location)
     (location_among left location gone)) (stays from.0 from.1 location from.2))
   where
     tasks : List (Task ℕ)

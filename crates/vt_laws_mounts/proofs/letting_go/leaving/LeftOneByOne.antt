@@ -6,7 +6,7 @@ use Rattle.vt_laws_mounts.specs.LettingGo.Leaving.{MountsStand, OneSweepForAll, 
 use Rattle.vt_laws_mounts.specs.LettingGo.LeavingOverlays.{OneSweepForAllWithOverlays, OneSweepForSeveralWithOverlays}
 use Rattle.vt_laws_mounts.specs.LettingGo.OneByOne.{IsPlain}
 use Rattle.vt_laws_mounts.specs.LettingGo.Overlays.{RealsAreThere}
-use Rattle.vt_laws_mounts.proofs.letting_go.Lists.{Among, all_from_among, among-append, among-append_left, among-append_right, among-filter, among-filter_map, among-from_filter, among-from_filter_map, among-from_map, among-map, any_passes, fails, filter_twice, one_passes, or_first, or_second}
+use Rattle.vt_laws_mounts.proofs.letting_go.Lists.{Among, all_from_among, among-append, among-append_left, among-append_right, among-filter, among-filter_map, among-from_filter, among-from_filter_map, among-from_map, among-map, any_among, any_from_among, filter_twice, none_among, or_left, or_right}
 use Rattle.vt_laws_mounts.proofs.letting_go.sweeps.Merged.{HasReals}
 use Rattle.vt_laws_mounts.proofs.letting_go.leaving.PlacesLeft.{found_in_filter, found_is_there, found_itself, place_attached, was_located}
 use Rattle.vt_laws_mounts.proofs.letting_go.leaving.TreesWithOverlays.{no_real}
@@ -29,10 +29,10 @@ module _ (world : World ℕ) (tasks : List (Task ℕ)) (stand : MountsStand worl
   -- Mounts
   lived : (mount : Mount ℕ) → mount_lives nat_eq once mount ≡ true → mount_lives nat_eq world mount ≡ true
   lived mount lives =
-      ⊎_elim (λ attached. or_first (is_some mount.namespace) (is_located nat_eq world mount.number) attached)
-      (λ located. let t = one_passes (λ l. nat_eq mount.number l.mount) (all_locations once) located in
-      or_second (is_some mount.namespace) (is_located nat_eq world mount.number)
-      (any_passes (λ l. nat_eq mount.number l.mount) (all_locations world) t.0
+      ⊎_elim (λ attached. or_left (is_some mount.namespace) (is_located nat_eq world mount.number) attached)
+      (λ located. let t = any_among (λ l. nat_eq mount.number l.mount) (all_locations once) located in
+      or_right (is_some mount.namespace) (is_located nat_eq world mount.number)
+      (any_from_among (λ l. nat_eq mount.number l.mount) (all_locations world) t.0
       (was_located world tasks nowhere_new t.0 t.1) t.2))
       (or_cases (is_some mount.namespace) (is_located nat_eq once mount.number) lives)
 
@@ -49,8 +49,8 @@ module _ (world : World ℕ) (tasks : List (Task ℕ)) (stand : MountsStand worl
   members_were : (group : ℕ) → has_members nat_eq last_mounts group ≡ true
       → has_members nat_eq first_mounts group ≡ true
   members_were group has =
-      let t = one_passes (is_member_of nat_eq group) last_mounts has in
-      any_passes (is_member_of nat_eq group) first_mounts t.0 (last_was_first t.0 t.1) t.2
+      let t = any_among (is_member_of nat_eq group) last_mounts has in
+      any_from_among (is_member_of nat_eq group) first_mounts t.0 (last_was_first t.0 t.1) t.2
 
   same_master : (group : ℕ) → has_members nat_eq last_mounts group ≡ true → again.master group ≡ once.master group
   same_master group has = ap (λ b. cond b (world.master group) None) (members_were group has)
@@ -59,8 +59,8 @@ module _ (world : World ℕ) (tasks : List (Task ℕ)) (stand : MountsStand worl
   last_mounted_was : (number : ℕ) → is_mounted nat_eq (without_dead_mounts nat_eq once) number ≡ true
       → is_mounted nat_eq (without_dead_mounts nat_eq world) number ≡ true
   last_mounted_was number is =
-      let t = one_passes (λ (mount : Mount ℕ). nat_eq number mount.filesystem) last_mounts is in
-      any_passes (λ mount. nat_eq number mount.filesystem) first_mounts t.0 (last_was_first t.0 t.1) t.2
+      let t = any_among (λ (mount : Mount ℕ). nat_eq number mount.filesystem) last_mounts is in
+      any_from_among (λ mount. nat_eq number mount.filesystem) first_mounts t.0 (last_was_first t.0 t.1) t.2
 
   -- Inodes: what is at a place in the end was at one before
   found_alike : (number : ℕ) → ((mount : Mount ℕ) → Among mount world.mounts → mount.number ≡ number
@@ -103,8 +103,8 @@ module _ (world : World ℕ) (tasks : List (Task ℕ)) (stand : MountsStand worl
       (among-append_left (all_locations world) (map root_of first_mounts) from.0
       (was_located world tasks nowhere_new from.0 at)))
       (e ∙ ap (λ x. x.filesystem) (found_alike from.0.mount (λ mount n same.
-      or_second (is_some mount.namespace) (is_located nat_eq once mount.number)
-      (any_passes (λ l. nat_eq mount.number l.mount) (all_locations once) from.0 at
+      or_right (is_some mount.namespace) (is_located nat_eq once mount.number)
+      (any_from_among (λ l. nat_eq mount.number l.mount) (all_locations once) from.0 at
       (eq-eqb mount.number from.0.mount same)))))) (λ root.
       let mount = among-from_map root_of last_mounts from.0 root in
       let was = among-from_filter (mount_lives nat_eq once) world.mounts mount.0 mount.1 in
@@ -124,7 +124,7 @@ module _ (world : World ℕ) (tasks : List (Task ℕ)) (stand : MountsStand worl
       (among-filter_map (λ x. x.mount_point) first_mounts mount.0 from.0 (last_was_first mount.0 mount.1) mount.2))
       (e ∙ ap (λ x. x.filesystem) (found_alike from.0.mount (λ other n same.
       the_only (mount_at nat_eq world from.0) (found_is_there world.mounts from.0.mount attached)
-      (or_first (is_some (mount_at nat_eq world from.0).namespace)
+      (or_left (is_some (mount_at nat_eq world from.0).namespace)
       (is_located nat_eq once (mount_at nat_eq world from.0).number) attached)
       other n (same ∙ sym (number-mount_in world.mounts from.0.mount))))))
       (among-append (all_locations once ++ map root_of last_mounts)
@@ -147,11 +147,11 @@ one_sweep_with_overlays world tasks trees uppers reals stand nowhere_new =
 pub plain_uppers : (world : World ℕ) → IsPlain world → UppersArePlain world
 plain_uppers world plain = all_from_among (λ f. is_overlay f ≡ true
     → All (λ g. has_upper_in f.number g ≡ false) world.filesystems) world.filesystems
-    (λ f m is. absurd (true≢false (sym is ∙ fails is_overlay world.filesystems plain f m)))
+    (λ f m is. absurd (true≢false (sym is ∙ none_among is_overlay world.filesystems plain f m)))
 
 pub plain_reals : (world : World ℕ) → IsPlain world → RealsAreThere world
 plain_reals world plain = all_from_among HasReals world.filesystems
-    (λ f m number none. no_real f (fails is_overlay world.filesystems plain f m) number)
+    (λ f m number none. no_real f (none_among is_overlay world.filesystems plain f m) number)
 
 -- so it is in a world of plain filesystems
 pub one_sweep_for_several : OneSweepForSeveral

@@ -6,7 +6,7 @@ use Rattle.vt_laws_mounts.specs.LettingGo.Leaving.{MountsStand, inodes_of_locati
 use Rattle.vt_laws_mounts.specs.LettingGo.LeavingOverlays.{LeavingOverlaysLetsGo, StayingKeepsOverlays, filesystems_of_layers, filesystems_of_location, used_with_layers}
 use Rattle.vt_laws_mounts.specs.LettingGo.OneByOne.{AllInUseBut, FilesystemsInUseBut, Inode, InodesInUseBut, is_inode_among, is_used_or_among}
 use Rattle.vt_laws_mounts.proofs.letting_go.sweeps.InUse.{layers_on}
-use Rattle.vt_laws_mounts.proofs.letting_go.Lists.{Among, all_from_among, all_pass, among-filter, among-flat_map, among-map, among_from_all, among_numbers, any_passes, is_among_numbers, one_passes, or_first, or_second, passes}
+use Rattle.vt_laws_mounts.proofs.letting_go.Lists.{Among, all_from_among, among-filter, among-flat_map, among-map, among_from_all, among_from_list_all, among_numbers, any_among, any_from_among, is_among_numbers, list_all_from_among, or_left, or_right}
 use Rattle.vt_laws_mounts.proofs.letting_go.sweeps.OverlaysGone.{filesystems_take_their_uses}
 use Rattle.vt_laws_mounts.proofs.letting_go.leaving.PlacesLeft.{after, by_located, dead_was_left, filesystem_left, groups_but, mounted, mounts_but}
 use Rattle.vt_laws_mounts.proofs.letting_go.sweeps.WithOverlays.{with_overlays_all_goes}
@@ -16,7 +16,7 @@ pub in_layers : (world : World ℕ) (number : ℕ) (merged : Filesystem ℕ) →
     → (filesystem : ℕ) → merged.number ≡ filesystem
     → has_layer_on nat_eq number merged ≡ true → Among number (filesystems_of_layers world filesystem)
 in_layers world number merged m filesystem e has =
-    let t = one_passes (λ layer. nat_eq number layer.filesystem) layers (sym (layers_on world number merged) ∙ has) in
+    let t = any_among (λ layer. nat_eq number layer.filesystem) layers (sym (layers_on world number merged) ∙ has) in
     among-flat_map (λ f. cond (nat_eq f.number filesystem)
     (map (λ (layer : Layer ℕ). layer.filesystem) (of_overlay [] layers_of f)) []) world.filesystems merged number m
     (subst (λ b. Among number (cond b (map (λ (layer : Layer ℕ). layer.filesystem) layers) []))
@@ -45,8 +45,8 @@ module _ (world : World ℕ) (tasks : List (Task ℕ)) (left : List (Location �
       → (is_mounted nat_eq swept number ≡ true) ⊎ ((location : Location ℕ) × Among location left
       × (number ≡ (mount_at nat_eq world location).filesystem))
   still_mounted number is =
-      let t = one_passes (λ mount. nat_eq number mount.filesystem) world.mounts is in
-      ⊎_elim (λ lives. inl (any_passes (λ mount. nat_eq number mount.filesystem) swept.mounts t.0
+      let t = any_among (λ mount. nat_eq number mount.filesystem) world.mounts is in
+      ⊎_elim (λ lives. inl (any_from_among (λ mount. nat_eq number mount.filesystem) swept.mounts t.0
       (among-filter (mount_lives nat_eq now) world.mounts t.0 t.1 lives) t.2))
       (λ dead. let gone = dead_was_left world tasks left in_use stand only t.0 t.1 dead in
       inr (
@@ -58,25 +58,25 @@ module _ (world : World ℕ) (tasks : List (Task ℕ)) (left : List (Location �
 
   all_filesystems_but : FilesystemsInUseBut losing swept
   all_filesystems_but =
-      all_pass (λ f. is_among nat_eq f.number losing || filesystem_lives nat_eq swept f) world.filesystems
+      list_all_from_among (λ f. is_among nat_eq f.number losing || filesystem_lives nat_eq swept f) world.filesystems
       (λ f m. ⊎_elim (λ here. ⊎_elim
-      (λ lives. or_second (is_among nat_eq f.number losing) (filesystem_lives nat_eq swept f)
-      (or_first (is_mounted nat_eq swept f.number) _ lives))
-      (λ gone. or_first (is_among nat_eq f.number losing) (filesystem_lives nat_eq swept f)
+      (λ lives. or_right (is_among nat_eq f.number losing) (filesystem_lives nat_eq swept f)
+      (or_left (is_mounted nat_eq swept f.number) _ lives))
+      (λ gone. or_left (is_among nat_eq f.number losing) (filesystem_lives nat_eq swept f)
       (is_among_numbers f.number losing
       (among-flat_map (filesystems_of_location world) left gone.0 f.number gone.1 (inl gone.2))))
-      (still_mounted f.number here)) (λ layered. let t = one_passes (λ merged. has_layer_on nat_eq f.number merged
+      (still_mounted f.number here)) (λ layered. let t = any_among (λ merged. has_layer_on nat_eq f.number merged
       && is_mounted nat_eq world merged.number) world.filesystems layered in
       let parts = and_parts (has_layer_on nat_eq f.number t.0) (is_mounted nat_eq world t.0.number) t.2 in
-      ⊎_elim (λ lives. or_second (is_among nat_eq f.number losing) (filesystem_lives nat_eq swept f)
-      (or_second (is_mounted nat_eq swept f.number) _ (any_passes (λ merged. has_layer_on nat_eq f.number merged
+      ⊎_elim (λ lives. or_right (is_among nat_eq f.number losing) (filesystem_lives nat_eq swept f)
+      (or_right (is_mounted nat_eq swept f.number) _ (any_from_among (λ merged. has_layer_on nat_eq f.number merged
       && is_mounted nat_eq swept merged.number) world.filesystems t.0 t.1
       (ap (λ b. b && is_mounted nat_eq swept t.0.number) parts.0 ∙ lives))))
-      (λ gone. or_first (is_among nat_eq f.number losing) (filesystem_lives nat_eq swept f)
+      (λ gone. or_left (is_among nat_eq f.number losing) (filesystem_lives nat_eq swept f)
       (is_among_numbers f.number losing (among-flat_map (filesystems_of_location world) left gone.0 f.number gone.1
       (inr (in_layers world f.number t.0 t.1 (mount_at nat_eq world gone.0).filesystem gone.2 parts.0)))))
       (still_mounted t.0.number parts.1)) (or_cases (is_mounted nat_eq world f.number) _
-      (passes (filesystem_lives nat_eq world) world.filesystems in_use.filesystems f m)))
+      (among_from_list_all (filesystem_lives nat_eq world) world.filesystems in_use.filesystems f m)))
 
   -- what the world used is used where mounts have gone, or may go
   use_left : (f : Filesystem ℕ) (number : ℕ) → is_inode_used world f number ≡ true
@@ -108,13 +108,13 @@ module _ (world : World ℕ) (tasks : List (Task ℕ)) (left : List (Location �
       objects = flat_map (objects_of_overlay nat_eq f.number) world.filesystems
 
       used : is_inode_used swept f number ≡ true → is_used_or_among inodes swept f number ≡ true
-      used h = or_second (is_inode_among f.number number inodes) (is_inode_used swept f number) h
+      used h = or_right (is_inode_among f.number number inodes) (is_inode_used swept f number) h
 
   all_inodes_but : InodesInUseBut inodes swept
   all_inodes_but =
       all_from_among (λ f. list_all (is_used_or_among inodes swept f) f.files.numbers ≡ true) world.filesystems
-      (λ f m. all_pass (is_used_or_among inodes swept f) f.files.numbers (λ number n. use_left f number
-      (passes (is_inode_used world f) f.files.numbers
+      (λ f m. list_all_from_among (is_used_or_among inodes swept f) f.files.numbers (λ number n. use_left f number
+      (among_from_list_all (is_inode_used world f) f.files.numbers
       (among_from_all (λ x. list_all (is_inode_used world x) x.files.numbers
       ≡ true) world.filesystems in_use.inodes f m) number n)))
 

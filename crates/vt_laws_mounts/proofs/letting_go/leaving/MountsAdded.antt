@@ -6,7 +6,7 @@ use Rattle.vt_laws_mounts.specs.LettingGo.Keeping.{LocationsStand, NewMountsKeep
 use Rattle.vt_laws_mounts.specs.LettingGo.Leaving.{MountsStand}
 use Rattle.vt_laws_mounts.proofs.letting_go.mounting.MountingLosers.{Comes, Loses, places_stand}
 use Rattle.vt_laws_mounts.proofs.letting_go.mounting.MountingOverlays.{nothing_lost}
-use Rattle.vt_laws_mounts.proofs.letting_go.Lists.{Among, one_passes, all_pass, among-append, among-append_left, or_first, passes}
+use Rattle.vt_laws_mounts.proofs.letting_go.Lists.{Among, any_among, list_all_from_among, among-append, among-append_left, or_left, among_from_list_all}
 
 -- a mount that is there is found, whatever follows
 pub found_before : (mounts added : List (Mount ℕ)) (number : ℕ)
@@ -22,14 +22,14 @@ module _ (world : World ℕ) (mounts : List (Mount ℕ)) (filesystems : List (Fi
   after = with_new world mounts filesystems master
 
   in_one : (mount : Mount ℕ) → Among mount mounts → is_some mount.namespace ≡ true
-  in_one = passes (λ x. is_some x.namespace) mounts attached
+  in_one = among_from_list_all (λ x. is_some x.namespace) mounts attached
 
   still_there : (mount : Mount ℕ) → Among mount world.mounts → Among mount after.mounts
   still_there mount m = among-append_left world.mounts mounts mount m
 
   lives : (mount : Mount ℕ) → Among mount after.mounts → mount_lives nat_eq after mount ≡ true
-  lives mount m = ⊎_elim (passes (mount_lives nat_eq world) world.mounts in_use.mounts mount)
-      (λ new. or_first (is_some mount.namespace) (is_located nat_eq after mount.number) (in_one mount new))
+  lives mount m = ⊎_elim (among_from_list_all (mount_lives nat_eq world) world.mounts in_use.mounts mount)
+      (λ new. or_left (is_some mount.namespace) (is_located nat_eq after mount.number) (in_one mount new))
       (among-append world.mounts mounts mount m)
 
   loses : Loses world after [] []
@@ -40,18 +40,18 @@ module _ (world : World ℕ) (mounts : List (Mount ℕ)) (filesystems : List (Fi
     live = λ mount m isnt. lives mount m;
     locations = λ location m. inl (inl m);
     places = λ mount m place p. inl (mount, (still_there mount m, (p, inl refl)));
-    nowhere = all_pass is_nowhere_or_attached after.mounts (λ mount m.
-        ⊎_elim (passes is_nowhere_or_attached world.mounts stand.nowhere mount)
-        (λ new. or_first (is_some mount.namespace) _ (in_one mount new)) (among-append world.mounts mounts mount m));
+    nowhere = list_all_from_among is_nowhere_or_attached after.mounts (λ mount m.
+        ⊎_elim (among_from_list_all is_nowhere_or_attached world.mounts stand.nowhere mount)
+        (λ new. or_left (is_some mount.namespace) _ (in_one mount new)) (among-append world.mounts mounts mount m));
   }
 
   come : list_all (λ filesystem. is_mounted nat_eq after filesystem.number) filesystems ≡ true
       → list_all has_only_named filesystems ≡ true → Comes world after
   come shown named = record {
     kept = λ f m. among-append_left world.filesystems filesystems f m;
-    new = λ f m. ⊎_elim inl (λ new. let t = one_passes (λ mount. nat_eq f.number mount.filesystem) after.mounts
-        (passes (λ x. is_mounted nat_eq after x.number) filesystems shown f new) in
-        inr (t.0, (t.1, (lives t.0 t.1, (t.2, passes has_only_named filesystems named f new)))))
+    new = λ f m. ⊎_elim inl (λ new. let t = any_among (λ mount. nat_eq f.number mount.filesystem) after.mounts
+        (among_from_list_all (λ x. is_mounted nat_eq after x.number) filesystems shown f new) in
+        inr (t.0, (t.1, (lives t.0 t.1, (t.2, among_from_list_all has_only_named filesystems named f new)))))
         (among-append world.filesystems filesystems f m);
   }
 

@@ -5,7 +5,7 @@ use Rattle.vt_spec.proofs.Nodes.{same_name}
 use Rattle.vt_laws_mounts.specs.LettingGo.FileChanges.{ChangesKeepNames, IsMade, IsMoved}
 use Rattle.vt_laws_mounts.specs.LettingGo.InUse.{IsListedTree}
 use Rattle.vt_laws_mounts.specs.LettingGo.TreeChanges.{ChangesTree}
-use Rattle.vt_laws_mounts.proofs.letting_go.Lists.{Among, all_pass, among-filter, among-flat_map, among-from_flat_map, among-from_map, among-map, among_numbers, is_among_numbers, or_first, or_second}
+use Rattle.vt_laws_mounts.proofs.letting_go.Lists.{Among, among-filter, among-flat_map, among-from_flat_map, among-from_map, among-map, among_numbers, is_among_numbers, list_all_from_among, or_left, or_right}
 use Rattle.vt_spec.proofs.Worlds.{numbers-without_parent}
 
 abbrev Entry : Type 0
@@ -170,14 +170,15 @@ all_names : (files after : FileTree ℕ) (lost : List ℕ)
     → list_all (λ number. is_among nat_eq number (named_in after) || is_among nat_eq number lost) (named_in files)
     ≡ true
 all_names files after lost left =
-    all_pass (λ number. is_among nat_eq number (named_in after) || is_among nat_eq number lost) (named_in files)
+    list_all_from_among (λ number. is_among nat_eq number (named_in after) || is_among nat_eq number lost)
+    (named_in files)
     (λ number m.
     let d = among-from_flat_map (λ directory. targets_in (files.tree.node directory)) files.numbers number m in
     let e = among-from_map (λ (x : Entry). x.1) (entries_at files d.0) number d.2 in
     ap (λ n. is_among nat_eq n (named_in after) || is_among nat_eq n lost) e.2 ∙ ⊎_elim
-    (λ still. or_first (is_among nat_eq e.0.1 (named_in after)) (is_among nat_eq e.0.1 lost)
+    (λ still. or_left (is_among nat_eq e.0.1 (named_in after)) (is_among nat_eq e.0.1 lost)
     (ap (λ n. is_among nat_eq n (named_in after)) (sym still.4) ∙ named_by after still.0 still.1 still.2 still.3))
-    (λ gone. or_second (is_among nat_eq e.0.1 (named_in after)) (is_among nat_eq e.0.1 lost)
+    (λ gone. or_right (is_among nat_eq e.0.1 (named_in after)) (is_among nat_eq e.0.1 lost)
     (is_among_numbers e.0.1 lost gone)) (left d.0 d.1 e.0 e.1))
 
 -- inodes that were there
@@ -185,9 +186,10 @@ same_numbers : (files after : FileTree ℕ) → after.numbers ≡ files.numbers
     → list_all (λ number. is_among nat_eq number files.numbers
     || is_among nat_eq number (named_in after)) after.numbers ≡ true
 same_numbers files after same =
-    all_pass (λ number. is_among nat_eq number files.numbers || is_among nat_eq number (named_in after)) after.numbers
+    list_all_from_among (λ number. is_among nat_eq number files.numbers || is_among nat_eq number (named_in after))
+    after.numbers
     (λ number m.
-    or_first (is_among nat_eq number files.numbers) (is_among nat_eq number (named_in after))
+    or_left (is_among nat_eq number files.numbers) (is_among nat_eq number (named_in after))
     (is_among_numbers number files.numbers (subst (Among number) same m)))
 
 -- a change by which all entries stay
@@ -281,11 +283,12 @@ module _ (files : FileTree ℕ) (listed : IsListedTree files) where
     makes after = record {
       tree = after;
       root = refl;
-      inodes = all_pass (λ k. is_among nat_eq k files.numbers || is_among nat_eq k (named_in named)) named.numbers
+      inodes = list_all_from_among (λ k. is_among nat_eq k files.numbers || is_among nat_eq k (named_in named))
+          named.numbers
           (λ k m.
-          ⊎_elim (λ new. or_second (is_among nat_eq k files.numbers) (is_among nat_eq k (named_in named))
+          ⊎_elim (λ new. or_right (is_among nat_eq k files.numbers) (is_among nat_eq k (named_in named))
           (ap (λ n. is_among nat_eq n (named_in named)) new ∙ new_is_named))
-          (λ old. or_first (is_among nat_eq k files.numbers) (is_among nat_eq k (named_in named))
+          (λ old. or_left (is_among nat_eq k files.numbers) (is_among nat_eq k (named_in named))
           (is_among_numbers k files.numbers old)) m);
       names = all_names files named (option_to_list (entry_at files.tree directory name)) (λ d m e n.
           ⊎_elim (λ still. inl (d, e, inr m, still, refl))

@@ -1,13 +1,13 @@
 -- What goes when tasks leave places.
 use Rattle.std.proofs.Common.{arith, ◌≡◌, refl, sym, ap, subst, ◌∙◌, ◌⊎◌, inl, inr, ⊎_elim, ℕ, nat_eq, eqb-true, eq-eqb, Bool, true, false, ◌||◌, ◌&&◌, List, [], ◌∷◌, filter, map, true≢false, flat_map, ◌++◌, Some, is_some, option_to_list, filter_map}
-use Rattle.vt_spec.proofs.Common.{Filesystem, Location, Mount, Task, World, all_locations, and_parts, any_pair, cases_Bool, common_steps, filesystem_lives, has_layer_on, is_among, is_among_left, is_located, is_member_of, is_mounted, is_nowhere_or_attached, is_overlay, is_private, layers_in, list_all, list_any, located_in, mount_at, mount_in, mount_lives, named_in, no_mount, number-mount_in, objects_of_overlay, or_cases, or_parts, root_of, same_location, same_location_is, without_dead_filesystems, without_dead_mounts}
+use Rattle.vt_spec.proofs.Common.{Filesystem, Location, Mount, Task, World, all_locations, and_parts, any_pair, cases_Bool, common_steps, filesystem_lives, has_layer_on, is_among, is_among_left, is_located, is_member_of, is_mounted, is_nowhere_or_attached, is_overlay, is_private, layers_in, list_all, list_any, located_in, mount_at, mount_in, mount_lives, named_in, no_mount, objects_of_overlay, or_cases, or_parts, root_of, same_location, same_location_is, without_dead_filesystems, without_dead_mounts}
 use Rattle.vt_laws_mounts.specs.LettingGo.InUse.{AllInUse, is_inode_used}
 use Rattle.vt_laws_mounts.specs.LettingGo.Leaving.{LeavingLetsGo, MountsStand, StayingKeepsAll, comes_nowhere, inodes_of_location, is_location_among, only_these_are_left, stands_on_attached, used_by_locations, with_tasks}
 use Rattle.vt_laws_mounts.specs.LettingGo.OneByOne.{FilesystemsInUseBut, GroupsInUseBut, InodesInUseBut, IsPlain, Losers, MountsInUseBut, is_inode_among, is_used_or_among}
 use Rattle.vt_laws_mounts.proofs.letting_go.sweeps.InUse.{used_at}
 use Rattle.vt_laws_mounts.proofs.letting_go.sweeps.Inodes.{all_goes_one_by_one, no_objects_of}
-use Rattle.vt_laws_mounts.proofs.letting_go.Lists.{Among, all_from_among, all_pass, among-append, among-append_left, among-append_right, among-filter, among-filter_map, among-flat_map, among-from_filter, among-from_filter_map, among-from_map, among-map, among_from_all, among_numbers, any-filter, any_passes, fails, flat_map_none, found_by, is_among_numbers, none_passes, one_passes, or_first, or_second, passes}
-pub use Rattle.vt_spec.proofs.Worlds.{number-mount_in as number_found}
+use Rattle.vt_laws_mounts.proofs.letting_go.Lists.{Among, all_from_among, among-append, among-append_left, among-append_right, among-filter, among-filter_map, among-flat_map, among-from_filter, among-from_filter_map, among-from_map, among-map, among_from_all, among_from_list_all, among_numbers, any-filter, any_among, any_from_among, flat_map_none, found_by, is_among_numbers, list_all_from_among, none_among, none_from_among, or_left, or_right}
+pub use Rattle.vt_spec.proofs.Worlds.{number-mount_in}
 
 -- Mounts by their numbers
 pub found_itself : (mounts : List (Mount ℕ)) → any_pair (λ (a b : Mount ℕ). nat_eq a.number b.number) mounts ≡ false
@@ -19,7 +19,7 @@ pub place_attached : (world : World ℕ) → MountsStand world → (mount : Moun
     → (place : Location ℕ) → mount.mount_point ≡ Some place → is_some (mount_at nat_eq world place).namespace ≡ true
 place_attached world stand mount m place p = (and_parts (is_some (mount_at nat_eq world place).namespace) true
     (sym (ap (λ o. list_all (λ l. is_some (mount_at nat_eq world l).namespace) (option_to_list o)) p)
-    ∙ passes (stands_on_attached world) world.mounts stand.on_attached mount m)).0
+    ∙ among_from_list_all (stands_on_attached world) world.mounts stand.on_attached mount m)).0
 
 -- a mount of a shorter list, where those of its number stay
 pub found_in_filter : (stays : Mount ℕ → Bool) (mounts : List (Mount ℕ)) (number : ℕ)
@@ -53,35 +53,37 @@ private_is_no_member group mount e = grind (arith, common_steps, true≢false)
 pub is_it : (list : List (Location ℕ)) (location : Location ℕ) → is_location_among list location ≡ true
     → Among location list
 is_it list location e =
-    let t = one_passes (same_location nat_eq location) list e in
+    let t = any_among (same_location nat_eq location) list e in
     subst (λ l. Among l list) (sym (same_location_is location t.0 t.2)) t.1
 
 pub location_among : (list : List (Location ℕ)) (location : Location ℕ) → Among location list
     → is_location_among list location ≡ true
-location_among list location m = any_passes (same_location nat_eq location) list location m
+location_among list location m = any_from_among (same_location nat_eq location) list location m
     (λ i. eq-eqb location.mount location.mount refl i && eq-eqb location.node location.node refl i)
 
 pub comes_nowhere_itself : (world : World ℕ) → comes_nowhere world world.tasks ≡ true
 comes_nowhere_itself world =
-    all_pass (is_location_among (all_locations world)) (all_locations world) (location_among (all_locations world))
+    list_all_from_among (is_location_among (all_locations world)) (all_locations world)
+    (location_among (all_locations world))
 
 -- where tasks come to no new place, each is at one where a task was
 pub was_located : (world : World ℕ) (tasks : List (Task ℕ)) → comes_nowhere world tasks ≡ true
     → (location : Location ℕ) → Among location (all_locations (with_tasks world tasks))
     → Among location (all_locations world)
 was_located world tasks nowhere_new location m = is_it (all_locations world) location
-    (passes (is_location_among (all_locations world)) (all_locations (with_tasks world tasks)) nowhere_new location m)
+    (among_from_list_all (is_location_among (all_locations world)) (all_locations (with_tasks world tasks))
+    nowhere_new location m)
 
 -- no plain filesystem keeps another
 pub no_layers : (number : ℕ) (other : World ℕ) (filesystems : List (Filesystem ℕ))
     → list_any is_overlay filesystems ≡ false
     → list_any (λ merged. has_layer_on nat_eq number merged && is_mounted nat_eq other merged.number) filesystems
     ≡ false
-no_layers number other filesystems plain = grind (arith, common_steps, none_passes, fails, true≢false)
+no_layers number other filesystems plain = grind (arith, common_steps, none_from_among, none_among, true≢false)
 
 -- nor has it layers or objects
 pub no_layers_of : (world : World ℕ) → IsPlain world → (number : ℕ) → layers_in nat_eq world number ≡ []
-no_layers_of world plain number = grind (arith, common_steps, flat_map_none, fails, true≢false)
+no_layers_of world plain number = grind (arith, common_steps, flat_map_none, none_among, true≢false)
 
 -- In a world of plain filesystems an inode is used as the root, by a name, or at a place.
 pub plain_uses : (world : World ℕ) → IsPlain world → (filesystem : Filesystem ℕ) (number : ℕ)
@@ -121,25 +123,25 @@ module _ (world : World ℕ) (tasks : List (Task ℕ)) (left : List (Location �
   stays_or_left location m =
       ⊎_elim (λ e. inl (is_it (all_locations after) location e)) (λ e. inr (is_it left location e))
       (or_cases (is_location_among (all_locations after) location) (is_location_among left location)
-      (passes (λ l. is_location_among (all_locations after) l || is_location_among left l)
+      (among_from_list_all (λ l. is_location_among (all_locations after) l || is_location_among left l)
       (all_locations world) only location m))
 
   located_lives : (mount : Mount ℕ) (location : Location ℕ) → Among location (all_locations after)
       → mount.number ≡ location.mount → mount_lives nat_eq after mount ≡ true
-  located_lives mount location m e = or_second (is_some mount.namespace) (is_located nat_eq after mount.number)
-      (any_passes (λ l. nat_eq mount.number l.mount) (all_locations after) location m
+  located_lives mount location m e = or_right (is_some mount.namespace) (is_located nat_eq after mount.number)
+      (any_from_among (λ l. nat_eq mount.number l.mount) (all_locations after) location m
       (eq-eqb mount.number location.mount e))
 
   attached_lives : (mount : Mount ℕ) → is_some mount.namespace ≡ true → mount_lives nat_eq after mount ≡ true
-  attached_lives mount e = or_first (is_some mount.namespace) (is_located nat_eq after mount.number) e
+  attached_lives mount e = or_left (is_some mount.namespace) (is_located nat_eq after mount.number) e
 
   -- a mount that is used no more was left
   pub dead_was_left : (mount : Mount ℕ) → Among mount world.mounts → mount_lives nat_eq after mount ≡ false
       → (location : Location ℕ) × Among location left × (mount.number ≡ location.mount)
   dead_was_left mount m dead =
       let parts = or_parts (is_some mount.namespace) (is_located nat_eq after mount.number) dead in
-      let lived = passes (mount_lives nat_eq world) world.mounts in_use.mounts mount m in
-      let t = one_passes (λ l. nat_eq mount.number l.mount) (all_locations world)
+      let lived = among_from_list_all (mount_lives nat_eq world) world.mounts in_use.mounts mount m in
+      let t = any_among (λ l. nat_eq mount.number l.mount) (all_locations world)
       (sym (ap (λ b. b || is_located nat_eq world mount.number) parts.0) ∙ lived) in
       let same : mount.number ≡ t.0.mount = eqb-true mount.number t.0.mount t.2 in
       ⊎_elim (λ stays. absurd (true≢false (sym (located_lives mount t.0 stays same) ∙ dead)))
@@ -168,22 +170,33 @@ module _ (world : World ℕ) (tasks : List (Task ℕ)) (left : List (Location �
 
   pub mounts_but : MountsInUseBut losers.mounts after
   mounts_but =
-      grind (arith, common_steps, all_pass, or_second, dead_was_left, or_first, is_among_numbers, among-map, cases_Bool)
+      grind (
+        arith,
+        common_steps,
+        list_all_from_among,
+        or_right,
+        dead_was_left,
+        or_left,
+        is_among_numbers,
+        among-map,
+        cases_Bool,
+      )
 
   filesystems_but : IsPlain world → FilesystemsInUseBut losers.filesystems mounted
-  filesystems_but plain = all_pass (λ filesystem. is_among nat_eq filesystem.number losers.filesystems
+  filesystems_but plain = list_all_from_among (λ filesystem. is_among nat_eq filesystem.number losers.filesystems
       || filesystem_lives nat_eq mounted filesystem) world.filesystems (λ filesystem m.
-      let lived = passes (filesystem_lives nat_eq world) world.filesystems in_use.filesystems filesystem m in
+      let lived = among_from_list_all (filesystem_lives nat_eq world) world.filesystems in_use.filesystems filesystem
+      m in
       let was = ⊎_elim (λ e. e) (λ layered.
       absurd (true≢false (sym layered ∙ no_layers filesystem.number world world.filesystems plain)))
       (or_cases (is_mounted nat_eq world filesystem.number) _ lived) in
-      let t = one_passes (λ mount. nat_eq filesystem.number mount.filesystem) world.mounts was in
-      ⊎_elim (λ lives. or_second (is_among nat_eq filesystem.number losers.filesystems)
-      (filesystem_lives nat_eq mounted filesystem) (or_first (is_mounted nat_eq mounted filesystem.number) _
-      (any_passes (λ mount. nat_eq filesystem.number mount.filesystem) mounted.mounts t.0
+      let t = any_among (λ mount. nat_eq filesystem.number mount.filesystem) world.mounts was in
+      ⊎_elim (λ lives. or_right (is_among nat_eq filesystem.number losers.filesystems)
+      (filesystem_lives nat_eq mounted filesystem) (or_left (is_mounted nat_eq mounted filesystem.number) _
+      (any_from_among (λ mount. nat_eq filesystem.number mount.filesystem) mounted.mounts t.0
       (among-filter (mount_lives nat_eq after) world.mounts t.0 t.1 lives) t.2)))
       (λ dead. let gone = dead_was_left t.0 t.1 dead in
-      or_first (is_among nat_eq filesystem.number losers.filesystems) (filesystem_lives nat_eq mounted filesystem)
+      or_left (is_among nat_eq filesystem.number losers.filesystems) (filesystem_lives nat_eq mounted filesystem)
       (ap (λ n. is_among nat_eq n losers.filesystems) (eqb-true filesystem.number t.0.filesystem t.2
       ∙ ap (λ x. x.filesystem) (sym (filesystem_left t.0 t.1 gone.0 gone.1 gone.2)))
       ∙ is_among_numbers (mount_at nat_eq world gone.0).filesystem losers.filesystems
@@ -194,7 +207,7 @@ module _ (world : World ℕ) (tasks : List (Task ℕ)) (left : List (Location �
   groups_but group among none = in_use.groups group
       (sym (any-filter (is_member_of nat_eq group) (mount_lives nat_eq after) world.mounts
       (λ mount m dead. private_is_no_member group mount
-      (nowhere_parts mount (passes is_nowhere_or_attached world.mounts stand.nowhere mount m)
+      (nowhere_parts mount (among_from_list_all is_nowhere_or_attached world.mounts stand.nowhere mount m)
       (or_parts (is_some mount.namespace) (is_located nat_eq after mount.number) dead).0).1)) ∙ none)
 
   -- Inodes, where some filesystems have gone
@@ -215,12 +228,12 @@ module _ (world : World ℕ) (tasks : List (Task ℕ)) (left : List (Location �
         → (number : ℕ) → (number ≡ location.node) ⊎ (number ≡ (mount_at nat_eq world location).root)
         → is_used_or_among losers.inodes swept filesystem number ≡ true
     may_go location m e number at =
-        or_first (is_inode_among filesystem.number number losers.inodes) (is_inode_used swept filesystem number) (⊎_elim
-        (λ node. any_passes (λ inode. nat_eq filesystem.number inode.0 && nat_eq number inode.1) losers.inodes
+        or_left (is_inode_among filesystem.number number losers.inodes) (is_inode_used swept filesystem number) (⊎_elim
+        (λ node. any_from_among (λ inode. nat_eq filesystem.number inode.0 && nat_eq number inode.1) losers.inodes
         ((mount_at nat_eq world location).filesystem, location.node)
         (among-flat_map (inodes_of_location world) left location
         ((mount_at nat_eq world location).filesystem, location.node) m (inl refl)) (both number location.node node))
-        (λ root. any_passes (λ inode. nat_eq filesystem.number inode.0 && nat_eq number inode.1) losers.inodes
+        (λ root. any_from_among (λ inode. nat_eq filesystem.number inode.0 && nat_eq number inode.1) losers.inodes
         ((mount_at nat_eq world location).filesystem, (mount_at nat_eq world location).root)
         (among-flat_map (inodes_of_location world) left location
         ((mount_at nat_eq world location).filesystem, (mount_at nat_eq world location).root) m (inr (inl refl)))
@@ -236,7 +249,7 @@ module _ (world : World ℕ) (tasks : List (Task ℕ)) (left : List (Location �
         → filesystem.number ≡ (mount_at nat_eq world location).filesystem
         → is_used_or_among losers.inodes swept filesystem location.node ≡ true
     by_location location m e = ⊎_elim
-        (λ stays. or_second (is_inode_among filesystem.number location.node losers.inodes) _
+        (λ stays. or_right (is_inode_among filesystem.number location.node losers.inodes) _
         (used_still location (among-append_left (all_locations after ++ map root_of mounted.mounts)
         (filter_map (λ mount. mount.mount_point) mounted.mounts) location
         (among-append_left (all_locations after) (map root_of mounted.mounts) location stays))
@@ -247,7 +260,7 @@ module _ (world : World ℕ) (tasks : List (Task ℕ)) (left : List (Location �
     by_root : (mount : Mount ℕ) → Among mount world.mounts
         → filesystem.number ≡ (mount_at nat_eq world (root_of mount)).filesystem
         → is_used_or_among losers.inodes swept filesystem mount.root ≡ true
-    by_root mount m e = ⊎_elim (λ lives. or_second (is_inode_among filesystem.number mount.root losers.inodes) _
+    by_root mount m e = ⊎_elim (λ lives. or_right (is_inode_among filesystem.number mount.root losers.inodes) _
         (used_still (root_of mount) (among-append_left (all_locations after ++ map root_of mounted.mounts)
         (filter_map (λ x. x.mount_point) mounted.mounts) (root_of mount)
         (among-append_right (all_locations after) (map root_of mounted.mounts) (root_of mount)
@@ -261,7 +274,7 @@ module _ (world : World ℕ) (tasks : List (Task ℕ)) (left : List (Location �
     by_place : (mount : Mount ℕ) → Among mount world.mounts → (place : Location ℕ) → mount.mount_point ≡ Some place
         → filesystem.number ≡ (mount_at nat_eq world place).filesystem
         → is_used_or_among losers.inodes swept filesystem place.node ≡ true
-    by_place mount m place p e = or_second (is_inode_among filesystem.number place.node losers.inodes) _
+    by_place mount m place p e = or_right (is_inode_among filesystem.number place.node losers.inodes) _
         (used_still place (among-append_right (all_locations after ++ map root_of mounted.mounts)
         (filter_map (λ x. x.mount_point) mounted.mounts) place
         (among-filter_map (λ x. x.mount_point) mounted.mounts mount place
@@ -277,7 +290,8 @@ module _ (world : World ℕ) (tasks : List (Task ℕ)) (left : List (Location �
         is_attached : (b : Bool) → is_some mount.namespace ≡ b → is_some mount.namespace ≡ true
         is_attached true f = f
         is_attached false f = absurd (true≢false (sym (ap is_some p)
-            ∙ (nowhere_parts mount (passes is_nowhere_or_attached world.mounts stand.nowhere mount m) f).0))
+            ∙ (nowhere_parts mount (among_from_list_all is_nowhere_or_attached world.mounts stand.nowhere mount m)
+            f).0))
 
         on_attached : is_some (mount_at nat_eq world place).namespace ≡ true
         on_attached = place_attached world stand mount m place p
@@ -311,15 +325,15 @@ module _ (world : World ℕ) (tasks : List (Task ℕ)) (left : List (Location �
     by_use : IsPlain world → (number : ℕ) → is_inode_used world filesystem number ≡ true
         → is_used_or_among losers.inodes swept filesystem number ≡ true
     by_use plain number is_used =
-        grind (arith, common_steps, or_second, or_first, eq-eqb, is_among_left, by_located, plain_uses)
+        grind (arith, common_steps, or_right, or_left, eq-eqb, is_among_left, by_located, plain_uses)
 
   inodes_but : IsPlain world → InodesInUseBut losers.inodes living
   inodes_but plain =
       all_from_among (λ f. list_all (is_used_or_among losers.inodes living f) f.files.numbers ≡ true) living.filesystems
       (λ filesystem m. let was = among-from_filter (filesystem_lives nat_eq mounted) world.filesystems filesystem m in
-      all_pass (is_used_or_among losers.inodes living filesystem) filesystem.files.numbers
+      list_all_from_among (is_used_or_among losers.inodes living filesystem) filesystem.files.numbers
       (λ number n. by_use living.filesystems filesystem plain number
-      (passes (is_inode_used world filesystem) filesystem.files.numbers
+      (among_from_list_all (is_inode_used world filesystem) filesystem.files.numbers
       (among_from_all (λ f. list_all (is_inode_used world f) f.files.numbers
       ≡ true) world.filesystems in_use.inodes filesystem was.0) number n)))
 

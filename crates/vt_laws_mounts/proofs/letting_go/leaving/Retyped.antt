@@ -10,7 +10,7 @@ use Rattle.vt_laws_mounts.specs.LettingGo.Retyping.{SetTypesLetGo, groups_of_typ
 use Rattle.vt_laws_mounts.proofs.letting_go.mounting.AttachedSwept.{of_tree}
 use Rattle.vt_laws_mounts.proofs.letting_go.leaving.Detached.{found-map, not_found-map}
 use Rattle.vt_laws_mounts.proofs.letting_go.mounting.Unmounted.{no_members}
-use Rattle.vt_laws_mounts.proofs.letting_go.Lists.{Among, all_pass, among-from_filter, among-from_flat_map, among-from_map, among-map, any_passes, is_among_numbers, one_passes, or_first, passes}
+use Rattle.vt_laws_mounts.proofs.letting_go.Lists.{Among, among-from_filter, among-from_flat_map, among-from_map, among-map, among_from_list_all, any_among, any_from_among, is_among_numbers, list_all_from_among, or_left}
 use Rattle.vt_laws_mounts.proofs.letting_go.mounting.MountingLosers.{Loses, changed}
 use Rattle.vt_laws_mounts.proofs.letting_go.mounting.MountingOverlays.{only_groups_go}
 use Rattle.vt_laws_mounts.proofs.letting_go.leaving.PlacesLeft.{found_is_there, found_itself, nowhere_parts}
@@ -41,7 +41,7 @@ tree_attached world stand (suc depth) top is mount m = ⊎_elim (λ e. ap (λ (x
     placed child n on = grind (
       arith,
       common_steps,
-      passes is_nowhere_or_attached world.mounts stand.nowhere child n,
+      among_from_list_all is_nowhere_or_attached world.mounts stand.nowhere child n,
       cases_Bool (is_some child.namespace),
     )
 
@@ -95,7 +95,7 @@ module _ (fresh : Fresh ℕ) (world : World ℕ) (number : ℕ) (word : TypeWord
 
   named_attached : (mount : Mount ℕ) → Among mount world.mounts → is_named mount ≡ true → is_some mount.namespace ≡ true
   named_attached mount m is =
-      let t = one_passes (λ other. nat_eq mount.number other.number) named is in
+      let t = any_among (λ other. nat_eq mount.number other.number) named is in
       let other = named_of_world t.0 t.1 in
       let same : mount ≡ t.0 = sym (found_itself world.mounts stand.one_number mount m)
       ∙ ap (mount_in nat_eq world.mounts) (eqb-true mount.number t.0.number t.2)
@@ -103,13 +103,13 @@ module _ (fresh : Fresh ℕ) (world : World ℕ) (number : ℕ) (word : TypeWord
       ap (λ (x : Mount ℕ). is_some x.namespace) same ∙ other.1
 
   nowhere : (b : Bool) (mount : Mount ℕ) → Among mount world.mounts → is_nowhere_or_attached (change b mount) ≡ true
-  nowhere b mount m = ⊎_elim (λ in_one. or_first (is_some (change b mount).namespace) _
+  nowhere b mount m = ⊎_elim (λ in_one. or_left (is_some (change b mount).namespace) _
       (keeps (λ x. is_some x.namespace) (λ x kind. refl) b mount ∙ in_one))
       (λ out. outside b out (false_from_ne_true (is_named mount)
       (λ is. true≢false (sym (named_attached mount m is) ∙ out)))) (cases_Bool (is_some mount.namespace))
     where
       was : is_nowhere_or_attached mount ≡ true
-      was = passes is_nowhere_or_attached world.mounts stand.nowhere mount m
+      was = among_from_list_all is_nowhere_or_attached world.mounts stand.nowhere mount m
 
       private_stays : (kind : Propagation ℕ) → is_private kind ≡ true → inherited nat_eq base kind ≡ kind
       private_stays (Shared own) e = refl
@@ -139,13 +139,13 @@ module _ (fresh : Fresh ℕ) (world : World ℕ) (number : ℕ) (word : TypeWord
         (not_found-map (change b) (keeps (λ x. x.number) (λ x kind. refl) b) world.mounts location.mount);
     live = λ x m isnt. let from = among-from_map (change b) world.mounts x m in
         ap (mount_lives nat_eq world) from.2 ∙ keeps (mount_lives nat_eq world) (λ y kind. refl) b from.0
-        ∙ passes (mount_lives nat_eq world) world.mounts in_use.mounts from.0 from.1;
+        ∙ among_from_list_all (mount_lives nat_eq world) world.mounts in_use.mounts from.0 from.1;
     locations = λ location m. inl (inl m);
     places = λ mount m place p. inl (
       change b mount,
       (among-map (change b) world.mounts mount m, (keeps (λ x. x.mount_point) (λ x kind. refl) b mount ∙ p, inl refl)),
     );
-    nowhere = all_pass is_nowhere_or_attached (last b).mounts (λ x m.
+    nowhere = list_all_from_among is_nowhere_or_attached (last b).mounts (λ x m.
         let from = among-from_map (change b) world.mounts x m in
         ap is_nowhere_or_attached from.2 ∙ nowhere b from.0 from.1);
   }
@@ -160,7 +160,7 @@ module _ (fresh : Fresh ℕ) (world : World ℕ) (number : ℕ) (word : TypeWord
     common_steps,
     unnamed_stays,
     false_from_ne_true,
-    one_passes,
+    any_among,
     true≢false,
     is_among_numbers,
     eqb-true,
@@ -174,7 +174,7 @@ module _ (fresh : Fresh ℕ) (world : World ℕ) (number : ℕ) (word : TypeWord
       before : base.master one ≡ None
       before = old_masters group named world.master one
           (λ mount m. false_from_ne_true (nat_eq one (group mount.number)) (λ same.
-          true≢false (sym (any_passes (nat_eq one) (map (λ x. group x.number) named) (group mount.number)
+          true≢false (sym (any_from_among (nat_eq one) (map (λ x. group x.number) named) (group mount.number)
           (among-map (λ x. group x.number) named mount m) same) ∙ old))) ∙ e
 
       by : (c : Bool) → masters c one ≡ None
@@ -188,7 +188,7 @@ module _ (fresh : Fresh ℕ) (world : World ℕ) (number : ℕ) (word : TypeWord
       (sym (list_any-append (nat_eq one) (groups_of_mounts world numbers) (map (λ mount. group mount.number) named))
       ∙ among) in
       no_master b one parts.1 (no_members world (last b) numbers in_use.groups
-      (λ mount m isnt other is. any_passes (is_member_of nat_eq other) (last b).mounts (change b mount)
+      (λ mount m isnt other is. any_from_among (is_member_of nat_eq other) (last b).mounts (change b mount)
       (among-map (change b) world.mounts mount m) (unnamed_member b mount isnt other is)) one parts.0 none)
 
 pub set_types_let_go : SetTypesLetGo

@@ -6,7 +6,7 @@ use Rattle.vt_laws_mounts.specs.LettingGo.Leaving.{only_these_are_left}
 use Rattle.vt_laws_mounts.specs.LettingGo.TaskCalls.{ChangedDirectoriesLetGo, ChangedRootsLetGo, ClosesLetGo, ForksKeepAll, NewCredentialsKeepAll, NewUmasksKeepAll, OpenedFilesKeepAll, locations_closed}
 use Rattle.vt_laws_mounts.proofs.letting_go.leaving.FilesChanged.{none_left, replaced_leaves}
 use Rattle.vt_laws_mounts.proofs.letting_go.leaving.LeftWithOverlays.{leaving_overlays_lets_go, staying_keeps_overlays}
-use Rattle.vt_laws_mounts.proofs.letting_go.Lists.{Among, all_pass, among-filter, among-from_map, among-map, passes}
+use Rattle.vt_laws_mounts.proofs.letting_go.Lists.{Among, among-filter, among-from_map, among-map, among_from_list_all, list_all_from_among}
 
 -- a descriptor is closed, or is there still
 closed_or_still : (task : Task ℕ) (number : ℕ) (location : Location ℕ) → Among location (locations_of task)
@@ -71,7 +71,7 @@ opened_files_keep_all fresh world task file access settles one there not_copied 
 more_tasks : (world : World ℕ) (tasks more : List (Task ℕ)) → only_these_are_left world tasks [] ≡ true
     → only_these_are_left world (tasks ++ more) [] ≡ true
 more_tasks world tasks more only =
-    grind (arith, common_steps, all_pass, passes, append_assoc, true≢false, list_any-append)
+    grind (arith, common_steps, list_all_from_among, among_from_list_all, append_assoc, true≢false, list_any-append)
 
 pub forks_keep_all : ForksKeepAll
 forks_keep_all credentials fresh world task settles one there =

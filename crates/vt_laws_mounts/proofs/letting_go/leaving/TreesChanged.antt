@@ -7,7 +7,7 @@ use Rattle.vt_laws_mounts.specs.LettingGo.OneByOne.{FilesystemsInUseBut, GroupsI
 use Rattle.vt_laws_mounts.specs.LettingGo.TreeChanges.{ChangesTree, NamedStay, UnnamedGo, with_tree}
 use Rattle.vt_laws_mounts.proofs.letting_go.sweeps.InUse.{filesystems_stay, mounts_stay}
 use Rattle.vt_laws_mounts.proofs.letting_go.sweeps.Inodes.{all_goes_one_by_one}
-use Rattle.vt_laws_mounts.proofs.letting_go.Lists.{Among, all_from_among, all_pass, among-from_map, among-map, among_from_all, among_numbers, any_passes, fails, is_among_numbers, none_passes, or_first, or_second, passes}
+use Rattle.vt_laws_mounts.proofs.letting_go.Lists.{Among, all_from_among, among-from_map, among-map, among_from_all, among_from_list_all, among_numbers, any_from_among, is_among_numbers, list_all_from_among, none_among, none_from_among, or_left, or_right}
 use Rattle.vt_laws_mounts.proofs.letting_go.leaving.PlacesLeft.{no_layers, plain_uses}
 
 -- a filesystem that is there is found
@@ -44,23 +44,23 @@ module _ (world : World ℕ) (number : ℕ) (files : FileTree ℕ) (in_use : All
       ⊎_elim (λ e. subst P (sym e) here) (λ n. others filesystem n) (is_new_or_old filesystem m)
 
   pub plain_old : is_overlay before ≡ false
-  plain_old = fails is_overlay world.filesystems plain before old_there
+  plain_old = none_among is_overlay world.filesystems plain before old_there
 
   pub plain_after : IsPlain with_new
-  plain_after = none_passes is_overlay with_new.filesystems (for_each (λ f. is_overlay f ≡ false) plain_old
-      (λ f m. fails is_overlay world.filesystems plain f m))
+  plain_after = none_from_among is_overlay with_new.filesystems (for_each (λ f. is_overlay f ≡ false) plain_old
+      (λ f m. none_among is_overlay world.filesystems plain f m))
 
   mounted_old : (f : Filesystem ℕ) → Among f world.filesystems → is_mounted nat_eq world f.number ≡ true
   mounted_old f m = ⊎_elim (λ e. e) (λ layered. absurd
       (true≢false (sym layered ∙ no_layers f.number world world.filesystems plain)))
       (or_cases (is_mounted nat_eq world f.number) _
-      (passes (filesystem_lives nat_eq world) world.filesystems in_use.filesystems f m))
+      (among_from_list_all (filesystem_lives nat_eq world) world.filesystems in_use.filesystems f m))
 
   pub filesystems_after : FilesystemsInUse with_new
-  filesystems_after = all_pass (filesystem_lives nat_eq with_new) with_new.filesystems
+  filesystems_after = list_all_from_among (filesystem_lives nat_eq with_new) with_new.filesystems
       (for_each (λ f. filesystem_lives nat_eq with_new f ≡ true)
-      (or_first (is_mounted nat_eq with_new before.number) _ (mounted_old before old_there))
-      (λ f m. or_first (is_mounted nat_eq with_new f.number) _ (mounted_old f m)))
+      (or_left (is_mounted nat_eq with_new before.number) _ (mounted_old before old_there))
+      (λ f m. or_left (is_mounted nat_eq with_new f.number) _ (mounted_old f m)))
 
   -- so no mount and no filesystem goes
   pub same_living : without_dead_filesystems nat_eq (without_dead_mounts nat_eq with_new) ≡ with_new
@@ -102,31 +102,31 @@ module _ (world : World ℕ) (number : ℕ) (files : FileTree ℕ) (unnamed : Li
   -- an inode of the changed tree is used, or may go
   of_new : (inode : ℕ) → Among inode files.numbers → is_used_or_among losers.inodes after new inode ≡ true
   of_new inode m = ⊎_elim (λ was. ⊎_elim (λ root. still (inl (root ∙ sym changes.root))) (λ rest. ⊎_elim (λ name. ⊎_elim
-      (λ named. still (inr (inl named))) (λ lost. or_first (is_inode_among new.number inode losers.inodes) _
-      (any_passes (λ loser. nat_eq new.number loser.0 && nat_eq inode loser.1) losers.inodes (number, inode)
+      (λ named. still (inr (inl named))) (λ lost. or_left (is_inode_among new.number inode losers.inodes) _
+      (any_from_among (λ loser. nat_eq new.number loser.0 && nat_eq inode loser.1) losers.inodes (number, inode)
       (among-map (λ k. (number, k)) unnamed inode (among_numbers inode unnamed lost))
       (ap (λ b. b && nat_eq inode inode) (eq-eqb new.number number old_number) ∙ eq-eqb inode inode refl)))
       (or_cases (is_among nat_eq inode (named_in files)) (is_among nat_eq inode unnamed)
-      (passes (λ k. is_among nat_eq k (named_in files) || is_among nat_eq k unnamed)
+      (among_from_list_all (λ k. is_among nat_eq k (named_in files) || is_among nat_eq k unnamed)
       (named_in old.files) changes.names inode (among_numbers inode (named_in old.files) name))))
       (λ located. still (inr (inr located))) rest) (plain_uses world settles.plain old inode
-      (passes (is_inode_used world old) old.files.numbers
+      (among_from_list_all (is_inode_used world old) old.files.numbers
       (among_from_all (λ f. list_all (is_inode_used world f) f.files.numbers
       ≡ true) world.filesystems settles.in_use.inodes old
       (old_there world number files settles.in_use settles.plain there))
       inode (among_numbers inode old.files.numbers was)))) (λ named. still (inr (inl named)))
       (or_cases (is_among nat_eq inode old.files.numbers) (is_among nat_eq inode (named_in files))
-      (passes (λ k. is_among nat_eq k old.files.numbers
+      (among_from_list_all (λ k. is_among nat_eq k old.files.numbers
       || is_among nat_eq k (named_in files)) files.numbers changes.inodes inode m))
     where
       still : (inode ≡ new.files.tree.root) ⊎ (is_among nat_eq inode (named_in new.files) ≡ true)
           ⊎ Among inode (located_in nat_eq world new.number) → is_used_or_among losers.inodes after new inode ≡ true
-      still how = or_second (is_inode_among new.number inode losers.inodes) _ (used_after new inode how)
+      still how = or_right (is_inode_among new.number inode losers.inodes) _ (used_after new inode how)
 
   of_others : (f : Filesystem ℕ) → Among f world.filesystems → (inode : ℕ) → Among inode f.files.numbers
       → is_used_or_among losers.inodes after f inode ≡ true
-  of_others f n inode m = or_second (is_inode_among f.number inode losers.inodes) _ (used_after f inode
-      (plain_uses world settles.plain f inode (passes (is_inode_used world f) f.files.numbers
+  of_others f n inode m = or_right (is_inode_among f.number inode losers.inodes) _ (used_after f inode
+      (plain_uses world settles.plain f inode (among_from_list_all (is_inode_used world f) f.files.numbers
       (among_from_all (λ g. list_all (is_inode_used world g) g.files.numbers
       ≡ true) world.filesystems settles.in_use.inodes f n) inode m)))
 
@@ -135,8 +135,8 @@ module _ (world : World ℕ) (number : ℕ) (files : FileTree ℕ) (unnamed : Li
       all_from_among (λ f. list_all (is_used_or_among losers.inodes after f) f.files.numbers ≡ true) after.filesystems
       (for_each world number files settles.in_use settles.plain there
       (λ f. list_all (is_used_or_among losers.inodes after f) f.files.numbers ≡ true)
-      (all_pass (is_used_or_among losers.inodes after new) files.numbers of_new)
-      (λ f n. all_pass (is_used_or_among losers.inodes after f) f.files.numbers (of_others f n)))
+      (list_all_from_among (is_used_or_among losers.inodes after new) files.numbers of_new)
+      (λ f n. list_all_from_among (is_used_or_among losers.inodes after f) f.files.numbers (of_others f n)))
 
   unnamed_goes : settled nat_eq after ≡ let_go after losers
   unnamed_goes =

@@ -13,7 +13,7 @@ use Rattle.vt_laws_mounts.specs.LettingGo.TreeChanges.{ChangesTree}
 use Rattle.vt_laws_mounts.specs.LettingGo.TreesOverlays.{ChangedTreesKeepAll, ChangedTreesLetGo, ChangesFilesystem, LeftAndChangedLetsGo, OpenedKeepsAll, TakenAndChangedLetsGo, UnnamedGoWithOverlays, in_use_of, upper_objects, with_filesystems, with_lost}
 use Rattle.vt_laws_mounts.proofs.letting_go.sweeps.InUse.{layers_stay, filesystems_stay, layers_on, mounts_stay, no_objects}
 use Rattle.vt_laws_mounts.proofs.letting_go.leaving.LeftWithOverlays.{leaving_but}
-use Rattle.vt_laws_mounts.proofs.letting_go.Lists.{Among, all_from_among, all_pass, among-filter, among-flat_map, among-from_filter, among-from_flat_map, among-from_map, among-map, among_from_all, among_numbers, any_passes, is_among_numbers, or_first, or_second, passes}
+use Rattle.vt_laws_mounts.proofs.letting_go.Lists.{Among, all_from_among, among-filter, among-flat_map, among-from_filter, among-from_flat_map, among-from_map, among-map, among_from_all, among_from_list_all, among_numbers, any_from_among, is_among_numbers, list_all_from_among, or_left, or_right}
 use Rattle.vt_laws_mounts.proofs.letting_go.mounting.Unmounted.{event_groups}
 use Rattle.vt_laws_mounts.proofs.letting_go.mounting.MountingOverlays.{all_but_those}
 use Rattle.vt_laws_mounts.proofs.letting_go.mounting.MountingTaken
@@ -71,14 +71,15 @@ module _ (world : World ℕ) (losers : Losers) (but : AllInUseBut losers world) 
       (λ g n. ChangesFilesystem.layers (changed_so g n)) f m
 
   filesystems_but : FilesystemsInUseBut losers.filesystems (without_dead_mounts nat_eq after)
-  filesystems_but = all_pass (λ f. is_among nat_eq f.number losers.filesystems || filesystem_lives nat_eq
+  filesystems_but = list_all_from_among (λ f. is_among nat_eq f.number losers.filesystems || filesystem_lives nat_eq
       (without_dead_mounts nat_eq after) f) after.filesystems
       (λ x m. let from = among-from_map change world.filesystems x m in
       ap (λ f. is_among nat_eq f.number losers.filesystems
       || filesystem_lives nat_eq (without_dead_mounts nat_eq after) f) from.2
       ∙ ap (λ b. is_among nat_eq (change from.0).number losers.filesystems || b) (same_lives from.0 from.1)
       ∙ ap (λ n. is_among nat_eq n losers.filesystems || filesystem_lives nat_eq mounted from.0)
-      (ChangesFilesystem.number (changed_so from.0 from.1)) ∙ passes (λ f. is_among nat_eq f.number losers.filesystems
+      (ChangesFilesystem.number (changed_so from.0 from.1)) ∙ among_from_list_all
+      (λ f. is_among nat_eq f.number losers.filesystems
       || filesystem_lives nat_eq mounted f) world.filesystems but.filesystems from.0 from.1)
 
   -- what lives is what lived
@@ -119,7 +120,7 @@ module _ (world : World ℕ) (losers : Losers) (but : AllInUseBut losers world) 
       (lives_still one.0 one.1) (among_numbers number (objects_of_overlay nat_eq filesystem (change one.0)) still))) inr
       (or_cases (is_among nat_eq number (objects_of_overlay nat_eq filesystem (change one.0)))
       (is_inode_among filesystem number lost)
-      (passes (λ object. is_among nat_eq object (objects_of_overlay nat_eq filesystem (change one.0))
+      (among_from_list_all (λ object. is_among nat_eq object (objects_of_overlay nat_eq filesystem (change one.0))
       || is_inode_among filesystem object lost) (objects_of_overlay nat_eq filesystem one.0)
       (ChangesFilesystem.objects (so_living one.0 one.1) filesystem) number one.2))
 
@@ -140,23 +141,23 @@ module _ (world : World ℕ) (losers : Losers) (but : AllInUseBut losers world) 
     layers = layers_in nat_eq last now.number
 
     used : (number : ℕ) → is_inode_used last now number ≡ true → is_used_or_among inodes last now number ≡ true
-    used number h = or_second (is_inode_among now.number number inodes) (is_inode_used last now number) h
+    used number h = or_right (is_inode_among now.number number inodes) (is_inode_used last now number) h
 
     among_losers : (number : ℕ) → is_inode_among now.number number inodes ≡ true
         → is_used_or_among inodes last now number ≡ true
-    among_losers number h = or_first (is_inode_among now.number number inodes) (is_inode_used last now number) h
+    among_losers number h = or_left (is_inode_among now.number number inodes) (is_inode_used last now number) h
 
     may_go : (number : ℕ) → is_inode_among f.number number lost ≡ true → is_used_or_among inodes last now number ≡ true
     may_go number h = among_losers number
         (list_any-append (λ (inode : Inode). nat_eq now.number inode.0 && nat_eq number inode.1) losers.inodes lost
-        ∙ or_second (is_inode_among now.number number losers.inodes) (is_inode_among now.number number lost)
+        ∙ or_right (is_inode_among now.number number losers.inodes) (is_inode_among now.number number lost)
         (ap (λ n. is_inode_among n number lost) (ChangesFilesystem.number so) ∙ h))
 
     could_go : (number : ℕ) → is_inode_among f.number number losers.inodes ≡ true
         → is_used_or_among inodes last now number ≡ true
     could_go number h = among_losers number
         (list_any-append (λ (inode : Inode). nat_eq now.number inode.0 && nat_eq number inode.1) losers.inodes lost
-        ∙ or_first (is_inode_among now.number number losers.inodes) (is_inode_among now.number number lost)
+        ∙ or_left (is_inode_among now.number number losers.inodes) (is_inode_among now.number number lost)
         (ap (λ n. is_inode_among n number losers.inodes) (ChangesFilesystem.number so) ∙ h))
 
     by_name : (number : ℕ) → is_among nat_eq number names ≡ true → is_used_or_among inodes last now number ≡ true
@@ -171,12 +172,13 @@ module _ (world : World ℕ) (losers : Losers) (but : AllInUseBut losers world) 
     -- what was used is used, or may go
     use_left : (number : ℕ) → is_inode_used living f number ≡ true → is_used_or_among inodes last now number ≡ true
     use_left number is = ⊎_elim (λ front. ⊎_elim (λ first. ⊎_elim (λ named. ⊎_elim
-        (λ root. by_name number (or_first (nat_eq number now.files.tree.root) _
+        (λ root. by_name number (or_left (nat_eq number now.files.tree.root) _
         (ap (nat_eq number) (ChangesFilesystem.root so) ∙ root))) (λ name. ⊎_elim
-        (λ still. by_name number (or_second (nat_eq number now.files.tree.root)
+        (λ still. by_name number (or_right (nat_eq number now.files.tree.root)
         (is_among nat_eq number (named_in now.files)) still)) (may_go number)
         (or_cases (is_among nat_eq number (named_in now.files)) (is_inode_among f.number number lost)
-        (passes (λ k. is_among nat_eq k (named_in now.files) || is_inode_among f.number k lost) (named_in f.files)
+        (among_from_list_all (λ k. is_among nat_eq k (named_in now.files) || is_inode_among f.number k lost)
+        (named_in f.files)
         (ChangesFilesystem.names so) number (among_numbers number (named_in f.files) name))))
         (or_cases (nat_eq number f.files.tree.root) (is_among nat_eq number (named_in f.files)) named))
         (λ at. used number (is_among_left number (names ++ located ++ layers) (upper_objects last now.number)
@@ -208,16 +210,16 @@ module _ (world : World ℕ) (losers : Losers) (but : AllInUseBut losers world) 
     inode_after : (number : ℕ) → Among number now.files.numbers → is_used_or_among inodes last now number ≡ true
     inode_after number m = ⊎_elim (λ first. ⊎_elim (λ was. ⊎_elim (could_go number) (use_left number)
         (or_cases (is_inode_among f.number number losers.inodes) (is_inode_used living f number)
-        (passes (is_used_or_among losers.inodes living f) f.files.numbers
+        (among_from_list_all (is_used_or_among losers.inodes living f) f.files.numbers
         (among_from_all (λ x. list_all (is_used_or_among losers.inodes living x) x.files.numbers
         ≡ true) living.filesystems but.inodes f there) number (among_numbers number f.files.numbers was))))
-        (λ named. by_name number (or_second (nat_eq number now.files.tree.root)
+        (λ named. by_name number (or_right (nat_eq number now.files.tree.root)
         (is_among nat_eq number (named_in now.files)) named))
         (or_cases (is_among nat_eq number f.files.numbers) (is_among nat_eq number (named_in now.files)) first))
         (by_object number)
         (or_cases (is_among nat_eq number f.files.numbers || is_among nat_eq number (named_in now.files))
         (is_among nat_eq number (upper_objects last now.number))
-        (passes (λ k. is_among nat_eq k f.files.numbers || is_among nat_eq k (named_in now.files)
+        (among_from_list_all (λ k. is_among nat_eq k f.files.numbers || is_among nat_eq k (named_in now.files)
         || is_among nat_eq k (upper_objects last now.number)) now.files.numbers (ChangesFilesystem.inodes so) number m))
 
   inodes_but : InodesInUseBut inodes last
@@ -225,7 +227,7 @@ module _ (world : World ℕ) (losers : Losers) (but : AllInUseBut losers world) 
       all_from_among (λ f. list_all (is_used_or_among inodes last f) f.files.numbers ≡ true) last.filesystems (λ x m.
       let from = lived x m in
       subst (λ f. list_all (is_used_or_among inodes last f) f.files.numbers ≡ true) (sym from.2)
-      (all_pass (is_used_or_among inodes last (change from.0)) (change from.0).files.numbers
+      (list_all_from_among (is_used_or_among inodes last (change from.0)) (change from.0).files.numbers
       (inode_after from.0 from.1)))
 
   pub all_but_changed : AllInUseBut (with_lost losers lost) after
@@ -260,12 +262,12 @@ module _ (world : World ℕ) (change : Filesystem ℕ → Filesystem ℕ) (lost 
   }
 
   filesystems_after : FilesystemsInUse changed
-  filesystems_after = all_pass (filesystem_lives nat_eq changed) changed.filesystems
+  filesystems_after = list_all_from_among (filesystem_lives nat_eq changed) changed.filesystems
       (λ x m. let from = among-from_map change world.filesystems x m in
       ap (filesystem_lives nat_eq changed) from.2
       ∙ lives_alike world change (λ g n. ChangesFilesystem.number (so_changed g n))
       (λ g n. ChangesFilesystem.layers (so_changed g n)) from.0 from.1
-      ∙ passes (filesystem_lives nat_eq world) world.filesystems settles.in_use.filesystems from.0 from.1)
+      ∙ among_from_list_all (filesystem_lives nat_eq world) world.filesystems settles.in_use.filesystems from.0 from.1)
 
   all_stay : in_use_of changed ≡ changed
   all_stay = ap (without_dead_filesystems nat_eq) (mounts_stay changed settles.in_use.mounts)
@@ -290,7 +292,7 @@ no_real f plain number = grind (arith, common_steps, true≢false)
 
 -- a filesystem that does not change
 pub unchanged : (after : World ℕ) (lost : List Inode) (f : Filesystem ℕ) → ChangesFilesystem after lost f f
-unchanged after lost f = grind (arith, common_steps, all_pass, or_first, is_among_numbers)
+unchanged after lost f = grind (arith, common_steps, list_all_from_among, or_left, is_among_numbers)
 
 module _ (world : World ℕ) (number : ℕ) (files : FileTree ℕ) (unnamed : List ℕ) (settles : IsSettled world)
     (one : any_pair (λ (a b : Filesystem ℕ). nat_eq a.number b.number) world.filesystems ≡ false)
@@ -371,12 +373,22 @@ module _ (world : World ℕ) (number : ℕ) (files : FileTree ℕ) (unnamed : Li
 
   lost_name : (inode : ℕ) → is_among nat_eq inode unnamed ≡ true → is_inode_among old.number inode without_name ≡ true
   lost_name inode is =
-      any_passes (λ loser. nat_eq old.number loser.0 && nat_eq inode loser.1) without_name (number, inode)
+      any_from_among (λ loser. nat_eq old.number loser.0 && nat_eq inode loser.1) without_name (number, inode)
       (among-map (λ k. (number, k)) unnamed inode (among_numbers inode unnamed is))
       (ap (λ b. b && nat_eq inode inode) (eq-eqb old.number number old_number) ∙ eq-eqb inode inode refl)
 
   of_old : (after : World ℕ) → ChangesFilesystem after without_name old new
-  of_old after = grind (arith, common_steps, all_pass, or_first, passes, or_second, lost_name, or_cases, no_objects)
+  of_old after = grind (
+    arith,
+    common_steps,
+    list_all_from_among,
+    or_left,
+    among_from_list_all,
+    or_right,
+    lost_name,
+    or_cases,
+    no_objects,
+  )
 
   pub all_change : (after : World ℕ) → All (λ f. ChangesFilesystem after without_name f (swap f)) world.filesystems
   all_change after = all_from_among (λ f. ChangesFilesystem after without_name f (swap f)) world.filesystems

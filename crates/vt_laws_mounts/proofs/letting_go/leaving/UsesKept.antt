@@ -6,7 +6,7 @@ use Rattle.vt_laws_mounts.specs.LettingGo.InUse.{AllInUse, GroupsInUse, is_inode
 use Rattle.vt_laws_mounts.specs.LettingGo.Keeping.{FlagsAreOfOne, FlagsKeepAll, KeepsUses, SetFlagsKeepAll, TypesKeepAll, flags_if}
 use Rattle.vt_laws_mounts.proofs.letting_go.leaving.Detached.{found-map, not_found-map}
 use Rattle.vt_laws_mounts.proofs.letting_go.sweeps.InUse.{nothing_goes}
-use Rattle.vt_laws_mounts.proofs.letting_go.Lists.{Among, all_from_among, all_pass, among-from_map, among_from_all, any-map, passes}
+use Rattle.vt_laws_mounts.proofs.letting_go.Lists.{Among, all_from_among, among-from_map, among_from_all, among_from_list_all, any-map, list_all_from_among}
 use Rattle.vt_laws_mounts.proofs.letting_go.leaving.PlacesLeft.{found_itself}
 
 module _ (world : World ℕ) (change : Mount ℕ → Mount ℕ) (master : ℕ → Option ℕ) (keeps : KeepsUses change) where
@@ -52,17 +52,19 @@ module _ (world : World ℕ) (change : Mount ℕ → Mount ℕ) (master : ℕ �
 
   pub still_in_use : AllInUse world → GroupsInUse after → AllInUse after
   still_in_use all groups = record {
-    mounts = all_pass (mount_lives nat_eq after) after.mounts
+    mounts = list_all_from_among (mount_lives nat_eq after) after.mounts
         (λ last m. let from = among-from_map change world.mounts last m in
         ap (mount_lives nat_eq after) from.2
         ∙ (λ i. is_some (keeps.namespace from.0 i) || is_located nat_eq world (keeps.number from.0 i))
-        ∙ passes (mount_lives nat_eq world) world.mounts all.mounts from.0 from.1);
-    filesystems = all_pass (filesystem_lives nat_eq after) world.filesystems (λ filesystem m.
-        same_lives filesystem ∙ passes (filesystem_lives nat_eq world) world.filesystems all.filesystems filesystem m);
+        ∙ among_from_list_all (mount_lives nat_eq world) world.mounts all.mounts from.0 from.1);
+    filesystems = list_all_from_among (filesystem_lives nat_eq after) world.filesystems (λ filesystem m.
+        same_lives filesystem ∙ among_from_list_all (filesystem_lives nat_eq world) world.filesystems all.filesystems
+        filesystem m);
     inodes = all_from_among (λ f. list_all (is_inode_used after f) f.files.numbers ≡ true) world.filesystems
         (λ filesystem m.
-        all_pass (is_inode_used after filesystem) filesystem.files.numbers (λ number n. same_used filesystem number
-        ∙ passes (is_inode_used world filesystem) filesystem.files.numbers
+        list_all_from_among (is_inode_used after filesystem) filesystem.files.numbers
+        (λ number n. same_used filesystem number
+        ∙ among_from_list_all (is_inode_used world filesystem) filesystem.files.numbers
         (among_from_all (λ f. list_all (is_inode_used world f) f.files.numbers
         ≡ true) world.filesystems all.inodes filesystem m) number n));
     groups = groups;

@@ -4,7 +4,7 @@ use Rattle.vt_spec.proofs.Common.{Copies, Filesystem, Graft, Location, Mount, Tw
 use Rattle.vt_laws_mounts.specs.LettingGo.InUse.{AllInUse, GroupsInUse}
 use Rattle.vt_laws_mounts.specs.LettingGo.Keeping.{LocationsStand}
 use Rattle.vt_laws_mounts.specs.LettingGo.Leaving.{MountsStand}
-use Rattle.vt_laws_mounts.proofs.letting_go.Lists.{Among, all_pass, among-append, among-append_left, among-append_right, among-flat_map, among-from_filter, among-from_filter_map, among-from_flat_map, among-from_map, among-map, any_passes, found_in, none_passes, or_first, passes}
+use Rattle.vt_laws_mounts.proofs.letting_go.Lists.{Among, among-append, among-append_left, among-append_right, among-flat_map, among-from_filter, among-from_filter_map, among-from_flat_map, among-from_map, among-map, among_from_list_all, any_from_among, found_in, list_all_from_among, none_from_among, or_left}
 use Rattle.vt_laws_mounts.proofs.letting_go.mounting.MountingLosers.{Loses, StillAPlace, places_of, places_stand}
 use Rattle.vt_laws_mounts.proofs.letting_go.leaving.PlacesLeft.{found_itself, nowhere_parts}
 
@@ -178,7 +178,7 @@ module _ (world : World ℕ) (filesystems : List (Filesystem ℕ)) (new : Copies
       by : (b : Bool) → moves ≡ b → Went mount
       by false e = stayed (ap (λ b. went_by b mount) e) (λ f. absurd (true≢false (sym f ∙ e)))
       by true e = ⊎_elim (λ none. stayed (same_as e ∙ none.1) (λ f n. true≢false (sym
-          (any_passes (λ x. nat_eq x.number mount.number) (copies destination) (copy destination mount)
+          (any_from_among (λ x. nat_eq x.number mount.number) (copies destination) (copy destination mount)
           (copy_there destination mount n)
           (eq-eqb (copy destination mount).number mount.number (keeps_number e mount))) ∙ none.0)))
           (λ some. let from = copied destination some.0 some.1 in
@@ -236,21 +236,21 @@ module _ (world : World ℕ) (filesystems : List (Filesystem ℕ)) (new : Copies
 
   -- in use still
   last_lives : (mount : Mount ℕ) → Among mount world.mounts → mount_lives nat_eq after (last mount) ≡ true
-  last_lives mount m = grind (arith, common_steps, push_keeps, last_number, went_is, passes, or_first)
+  last_lives mount m = grind (arith, common_steps, push_keeps, last_number, went_is, among_from_list_all, or_left)
 
   all_live : (x : Mount ℕ) → Among x after.mounts → mount_lives nat_eq after x ≡ true
   all_live x m = grind (arith, common_steps, comes x m, last_lives)
 
   last_nowhere : (mount : Mount ℕ) → Among mount world.mounts → is_nowhere_or_attached (last mount) ≡ true
   last_nowhere mount m =
-      grind (arith, common_steps, went_is, or_first, push_keeps, passes, true≢false, nowhere_parts, pushed)
+      grind (arith, common_steps, went_is, or_left, push_keeps, among_from_list_all, true≢false, nowhere_parts, pushed)
 
   all_nowhere : list_all is_nowhere_or_attached after.mounts ≡ true
-  all_nowhere = all_pass is_nowhere_or_attached after.mounts (λ x m. by x (comes x m))
+  all_nowhere = list_all_from_among is_nowhere_or_attached after.mounts (λ x m. by x (comes x m))
     where
       by : (x : Mount ℕ) → Comes x → is_nowhere_or_attached x ≡ true
       by x (was mount n e) = ap is_nowhere_or_attached e ∙ last_nowhere mount n
-      by x (came part origin there n e) = ap is_nowhere_or_attached e ∙ or_first (is_some part.namespace) _ there
+      by x (came part origin there n e) = ap is_nowhere_or_attached e ∙ or_left (is_some part.namespace) _ there
 
   -- Locations show what they showed
 
@@ -392,9 +392,9 @@ module _ (world : World ℕ) (filesystems : List (Filesystem ℕ)) (new : Copies
       let stands = copy_stands part.0 origin.0 part.1 origin.1 in
       let its = made_has_it part.0 origin.0 made
       (ap (group_made nat_eq base new tree parts part.0) (sym origin.2) ∙ t.2) in
-      true≢false (sym (any_passes (is_member_of nat_eq group) after.mounts stands.0 stands.1
+      true≢false (sym (any_from_among (is_member_of nat_eq group) after.mounts stands.0 stands.1
       (is_its_member stands.0 origin.0 part.0 group made.0 stands.2 its same)) ∙ none))) ∙ in_use.groups group
-      (none_passes (is_member_of nat_eq group) world.mounts (λ mount m.
+      (none_from_among (is_member_of nat_eq group) world.mounts (λ mount m.
       false_from_ne_true (is_member_of nat_eq group mount) (λ is.
-      true≢false (sym (any_passes (is_member_of nat_eq group) after.mounts (last mount) (old_there mount m)
+      true≢false (sym (any_from_among (is_member_of nat_eq group) after.mounts (last mount) (old_there mount m)
       (member_still mount m group is)) ∙ none))))

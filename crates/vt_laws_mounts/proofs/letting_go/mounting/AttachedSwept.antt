@@ -7,7 +7,7 @@ use Rattle.vt_laws_mounts.specs.LettingGo.Leaving.{MountsStand}
 use Rattle.vt_laws_mounts.specs.LettingGo.InUse.{AllInUse}
 use Rattle.vt_laws_mounts.specs.LettingGo.OneByOne.{let_go_inodes}
 use Rattle.vt_laws_mounts.proofs.letting_go.mounting.Attached.{attached_groups, attached_loses, first_shown}
-use Rattle.vt_laws_mounts.proofs.letting_go.Lists.{Among, all_from_among, among-append, among-append_left, among_from_all, or_first}
+use Rattle.vt_laws_mounts.proofs.letting_go.Lists.{Among, all_from_among, among-append, among-append_left, among_from_all, or_left}
 use Rattle.vt_laws_mounts.proofs.letting_go.mounting.MountingLosers.{Comes, IsNew, losers_go}
 use Rattle.vt_laws_mounts.proofs.letting_go.mounting.MountingOverlays.{nothing_lost}
 use Rattle.vt_laws_mounts.proofs.letting_go.leaving.PlacesLeft.{found_is_there}
@@ -85,7 +85,7 @@ pub new_mounts_of_trees_keep_all : NewMountsOfTreesKeepAll
 new_mounts_of_trees_keep_all fresh world task place flags in_use stand located at_attached =
     new_filesystems_keep_all (odds fresh) world place
     (plain_filesystem nat_eq fresh) flags in_use stand located at_attached
-    (ap (λ b. b && true) (or_first (nat_eq root root) _ (eq-eqb root root refl)))
+    (ap (λ b. b && true) (or_left (nat_eq root root) _ (eq-eqb root root refl)))
   where
     root : ℕ
     root = evens fresh 1

@@ -4,14 +4,14 @@ use Rattle.vt_spec.proofs.Common.{HasLivingGroups, Location, Mount, MountInvaria
 use Rattle.vt_laws_mounts.specs.LettingGo.Leaving.{MountsStand}
 use Rattle.vt_laws_mounts.specs.LettingGo.Several.{GoingIsNotSwept, OneSweepForAllEvents, OneSweepForAllEventsWithOverlays, OneSweepForEvents, OneSweepForEventsWithOverlays}
 use Rattle.vt_laws_mounts.proofs.letting_go.Chains.{chains_alike}
-use Rattle.vt_laws_mounts.proofs.letting_go.Lists.{Among, among_from_all, passes, filter_less}
+use Rattle.vt_laws_mounts.proofs.letting_go.Lists.{Among, among_from_all, among_from_list_all, filter_less}
 use Rattle.vt_laws_mounts.proofs.letting_go.leaving.LeftOneByOne.{plain_reals, plain_uppers}
 use Rattle.vt_laws_mounts.proofs.letting_go.leaving.PlacesLeft.{found_is_there, found_itself, nowhere_parts, place_attached}
 use Rattle.vt_laws_mounts.proofs.letting_go.mounting.MountsSwept.{IsAttached, LivesIn, first_mounts, groups_there, mounts_stand, of_world, same_found, shorter, unused_private, way_up}
 use Rattle.vt_laws_mounts.proofs.letting_go.mounting.TakenInTurn.{one_sweep_for_mounts_with_overlays, one_sweep_in_turn}
 use Rattle.vt_laws_mounts.proofs.letting_go.sweeps.InUse.{one_sweep_is_enough}
 
--- A search that passes over what another test skips finds the same.
+-- A search that among_from_list_all over what another test skips finds the same.
 module _ {A : Type 0} (p q : A → Bool) where
   find_less : (xs : List A) → ((x : A) → Among x xs → q x ≡ false → p x ≡ false) → find p (filter q xs) ≡ find p xs
   find_less [] h = refl
@@ -37,7 +37,7 @@ module _ (world : World ℕ) (kept : MountInvariants nat_eq world) where
   lives = mount_lives nat_eq world
 
   nowhere : (mount : Mount ℕ) → Among mount world.mounts → is_nowhere_or_attached mount ≡ true
-  nowhere mount m = passes is_nowhere_or_attached world.mounts kept.nowhere mount m
+  nowhere mount m = among_from_list_all is_nowhere_or_attached world.mounts kept.nowhere mount m
 
   unused_nowhere : (mount : Mount ℕ) → Among mount world.mounts → lives mount ≡ false → mount.mount_point ≡ None
   unused_nowhere mount m dead = none_from_not_some mount.mount_point (nowhere_parts mount (nowhere mount m)

@@ -8,7 +8,7 @@ use Rattle.vt_laws_mounts.specs.LettingGo.Mounting.{inode_at, root_inode, used_b
 use Rattle.vt_laws_mounts.specs.LettingGo.OneByOne.{AllInUseBut, FilesystemsInUseBut, GroupsInUseBut, Inode, InodesInUseBut, IsPlain, Losers, MountsInUseBut, is_inode_among, is_used_or_among, let_go}
 use Rattle.vt_laws_mounts.proofs.letting_go.sweeps.Inodes.{all_goes_one_by_one}
 use Rattle.vt_laws_mounts.proofs.letting_go.sweeps.InUse.{used_at}
-use Rattle.vt_laws_mounts.proofs.letting_go.Lists.{Among, all_from_among, all_pass, among-append, among-append_left, among-append_right, among-filter, among-filter_map, among-from_filter, among-from_filter_map, among-from_map, among-map, among_from_all, among_numbers, any-filter, any_passes, is_among_numbers, one_passes, or_first, or_second, passes}
+use Rattle.vt_laws_mounts.proofs.letting_go.Lists.{Among, all_from_among, among-append, among-append_left, among-append_right, among-filter, among-filter_map, among-from_filter, among-from_filter_map, among-from_map, among-map, among_from_all, among_from_list_all, among_numbers, any-filter, any_among, any_from_among, is_among_numbers, list_all_from_among, or_left, or_right}
 use Rattle.vt_laws_mounts.proofs.letting_go.leaving.PlacesLeft.{found_in_filter, found_is_there, found_itself, no_layers, nowhere_parts, plain_uses, private_is_no_member, place_attached}
 
 -- the roots, working directories and descriptors, the roots of mounts and the places of a world
@@ -21,7 +21,7 @@ pub places_stand : (world : World ℕ) → MountsStand world → LocationsStand 
     → Among location (places_of world)
     → is_among nat_eq location.mount (map (λ mount. mount.number) world.mounts) ≡ true
 places_stand world stand located_well location m = ⊎_elim (λ front. ⊎_elim
-    (λ at. passes (λ l. is_among nat_eq l.mount numbers) (all_locations world) located_well location at)
+    (λ at. among_from_list_all (λ l. is_among nat_eq l.mount numbers) (all_locations world) located_well location at)
     (λ root. let t = among-from_map root_of world.mounts location root in
     ap (λ l. is_among nat_eq l.mount numbers) t.2 ∙ numbered t.0 t.1)
     (among-append (all_locations world) (map root_of world.mounts) location front)) (λ at.
@@ -119,9 +119,9 @@ module _ (world : World ℕ) (mounts : List (Mount ℕ)) (master : ℕ → Optio
   found_mount mount m = found_itself world.mounts stand.one_number mount m
 
   pub mounts_but : MountsInUseBut gone after
-  mounts_but = all_pass (λ mount. is_among nat_eq mount.number gone || mount_lives nat_eq after mount) mounts
-      (λ mount m. ⊎_elim (λ is. or_first (is_among nat_eq mount.number gone) (mount_lives nat_eq after mount) is)
-      (λ isnt. or_second (is_among nat_eq mount.number gone) (mount_lives nat_eq after mount) (loses.live mount m isnt))
+  mounts_but = list_all_from_among (λ mount. is_among nat_eq mount.number gone || mount_lives nat_eq after mount) mounts
+      (λ mount m. ⊎_elim (λ is. or_left (is_among nat_eq mount.number gone) (mount_lives nat_eq after mount) is)
+      (λ isnt. or_right (is_among nat_eq mount.number gone) (mount_lives nat_eq after mount) (loses.live mount m isnt))
       (cases_Bool (is_among nat_eq mount.number gone)))
 
   -- a mount that is none of those that may go has an image that lives
@@ -133,14 +133,14 @@ module _ (world : World ℕ) (mounts : List (Mount ℕ)) (master : ℕ → Optio
   -- a filesystem that a mount in use shows is mounted
   pub shown_is_mounted : (number : ℕ) (mount : Mount ℕ) → Among mount mounts → mount_lives nat_eq after mount ≡ true
       → nat_eq number mount.filesystem ≡ true → is_mounted nat_eq mounted number ≡ true
-  shown_is_mounted number mount m lives shows = any_passes (λ x. nat_eq number x.filesystem) mounted.mounts mount
+  shown_is_mounted number mount m lives shows = any_from_among (λ x. nat_eq number x.filesystem) mounted.mounts mount
       (among-filter (mount_lives nat_eq after) mounts mount m lives) shows
 
   -- one that was mounted is, or a mount of it may go
   pub still_mounted : (number : ℕ) → is_mounted nat_eq world number ≡ true → (is_mounted nat_eq mounted number ≡ true)
       ⊎ ((one : ℕ) × Among one gone × (number ≡ (mount_numbered nat_eq world one).filesystem))
   still_mounted number was =
-      let t = one_passes (λ mount. nat_eq number mount.filesystem) world.mounts was in
+      let t = any_among (λ mount. nat_eq number mount.filesystem) world.mounts was in
       ⊎_elim (λ is. inr (
         t.0.number,
         among_numbers t.0.number gone is,
@@ -153,7 +153,7 @@ module _ (world : World ℕ) (mounts : List (Mount ℕ)) (master : ℕ → Optio
   groups_but group among none = hears group among
       (sym (any-filter (is_member_of nat_eq group) (mount_lives nat_eq after) mounts
       (λ mount m dead. private_is_no_member group mount
-      (nowhere_parts mount (passes is_nowhere_or_attached mounts loses.nowhere mount m)
+      (nowhere_parts mount (among_from_list_all is_nowhere_or_attached mounts loses.nowhere mount m)
       (or_parts (is_some mount.namespace) (is_located nat_eq after mount.number) dead).0).1)) ∙ none)
 
   -- where all of a number live, it is found as before
@@ -183,8 +183,8 @@ module _ (world : World ℕ) (mounts : List (Mount ℕ)) (master : ℕ → Optio
     may_go : (inode : Inode) → Among inode inodes → filesystem.number ≡ inode.0 → (number : ℕ) → number ≡ inode.1
         → is_used_or_among inodes swept filesystem number ≡ true
     may_go inode m e number same =
-        or_first (is_inode_among filesystem.number number inodes) (is_inode_used swept filesystem number)
-        (any_passes (λ i. nat_eq filesystem.number i.0 && nat_eq number i.1) inodes inode m
+        or_left (is_inode_among filesystem.number number inodes) (is_inode_used swept filesystem number)
+        (any_from_among (λ i. nat_eq filesystem.number i.0 && nat_eq number i.1) inodes inode m
         (ap (λ t. t && nat_eq number inode.1) (eq-eqb filesystem.number inode.0 e) ∙ eq-eqb number inode.1 same))
 
     left_may_go : (location : Location ℕ) → Among location left
@@ -207,8 +207,8 @@ module _ (world : World ℕ) (mounts : List (Mount ℕ)) (master : ℕ → Optio
         (filter_map (λ mount. mount.mount_point) mounted.mounts) location
         (among-append_left (all_locations after) (map root_of mounted.mounts) location stays))
         (e ∙ sym (found_still location (was_a_place location m)
-        (λ mount n same. or_second (is_some mount.namespace) (is_located nat_eq after mount.number)
-        (any_passes (λ l. nat_eq mount.number l.mount) (all_locations after) location stays
+        (λ mount n same. or_right (is_some mount.namespace) (is_located nat_eq after mount.number)
+        (any_from_among (λ l. nat_eq mount.number l.mount) (all_locations after) location stays
         (eq-eqb mount.number location.mount same)))))
 
     root_still : (location : Location ℕ) → Among location (all_locations world)
@@ -227,7 +227,7 @@ module _ (world : World ℕ) (mounts : List (Mount ℕ)) (master : ℕ → Optio
     by_location : (location : Location ℕ) → Among location (all_locations world)
         → filesystem.number ≡ (mount_at nat_eq world location).filesystem
         → is_used_or_among inodes swept filesystem location.node ≡ true
-    by_location location m e = ⊎_elim (λ stays. or_second (is_inode_among filesystem.number location.node inodes) _
+    by_location location m e = ⊎_elim (λ stays. or_right (is_inode_among filesystem.number location.node inodes) _
         (⊎_elim (located_still location m e)
         (λ root. root_still location m e root.0 root.1.0 root.1.1.0 root.1.1.1) stays))
         (λ gone_from. left_may_go location gone_from e) (loses.locations location m)
@@ -239,7 +239,7 @@ module _ (world : World ℕ) (mounts : List (Mount ℕ)) (master : ℕ → Optio
         (among-append_left (map (root_inode world) gone) (map (inode_at world) left) (root_inode world mount.number)
         (among-map (root_inode world) gone mount.number (among_numbers mount.number gone is)))
         e mount.root (ap (λ x. x.root) (sym (found_mount mount m)))) (λ isnt. let image = loses.images mount m in
-        or_second (is_inode_among filesystem.number mount.root inodes) _ (used_still (root_of mount)
+        or_right (is_inode_among filesystem.number mount.root inodes) _ (used_still (root_of mount)
         (among-append_left (all_locations after ++ map root_of mounted.mounts)
         (filter_map (λ x. x.mount_point) mounted.mounts) (root_of mount)
         (among-append_right (all_locations after) (map root_of mounted.mounts) (root_of mount)
@@ -255,17 +255,17 @@ module _ (world : World ℕ) (mounts : List (Mount ℕ)) (master : ℕ → Optio
     by_place : (mount : Mount ℕ) → Among mount world.mounts → (place : Location ℕ) → mount.mount_point ≡ Some place
         → filesystem.number ≡ (mount_at nat_eq world place).filesystem
         → is_used_or_among inodes swept filesystem place.node ≡ true
-    by_place mount m place p e = ⊎_elim (λ still. or_second (is_inode_among filesystem.number place.node inodes) _
+    by_place mount m place p e = ⊎_elim (λ still. or_right (is_inode_among filesystem.number place.node inodes) _
         (used_still place (among-append_right (all_locations after ++ map root_of mounted.mounts)
         (filter_map (λ x. x.mount_point) mounted.mounts) place
         (among-filter_map (λ x. x.mount_point) mounted.mounts still.0 place
         (among-filter (mount_lives nat_eq after) mounts still.0 still.1.0
-        (or_first (is_some still.0.namespace) (is_located nat_eq after still.0.number)
+        (or_left (is_some still.0.namespace) (is_located nat_eq after still.0.number)
         (is_attached still.0 still.1.0 still.1.1.0 (is_some still.0.namespace) refl))) still.1.1.0))
         (e ∙ sym (found_still place (among-append_right (all_locations world ++ map root_of world.mounts)
         (filter_map (λ x. x.mount_point) world.mounts) place
         (among-filter_map (λ x. x.mount_point) world.mounts mount place m p)) (⊎_elim (stays_there place.mount)
-        (λ in_one other n same. or_first (is_some other.namespace) (is_located nat_eq after other.number)
+        (λ in_one other n same. or_left (is_some other.namespace) (is_located nat_eq after other.number)
         (in_one other n same)) still.1.1.1))))) (λ gone_from. left_may_go place gone_from e)
         (loses.places mount m place p)
       where
@@ -273,7 +273,7 @@ module _ (world : World ℕ) (mounts : List (Mount ℕ)) (master : ℕ → Optio
             → is_some on.namespace ≡ b → is_some on.namespace ≡ true
         is_attached on n q true f = f
         is_attached on n q false f = absurd (true≢false (sym (ap is_some q)
-            ∙ (nowhere_parts on (passes is_nowhere_or_attached mounts loses.nowhere on n) f).0))
+            ∙ (nowhere_parts on (among_from_list_all is_nowhere_or_attached mounts loses.nowhere on n) f).0))
 
     pub by_located : (inode : ℕ) → Among inode (located_in nat_eq world filesystem.number)
         → is_used_or_among inodes swept filesystem inode ≡ true
@@ -297,9 +297,9 @@ module _ (world : World ℕ) (mounts : List (Mount ℕ)) (master : ℕ → Optio
     pub by_a_name : (inode : ℕ) → (nat_eq inode filesystem.files.tree.root
         || is_among nat_eq inode (named_in filesystem.files)) ≡ true
         → is_used_or_among inodes swept filesystem inode ≡ true
-    by_a_name inode is = or_second (is_inode_among filesystem.number inode inodes) _ (⊎_elim
-        (or_first (nat_eq inode filesystem.files.tree.root) _)
-        (λ named. or_second (nat_eq inode filesystem.files.tree.root) _
+    by_a_name inode is = or_right (is_inode_among filesystem.number inode inodes) _ (⊎_elim
+        (or_left (nat_eq inode filesystem.files.tree.root) _)
+        (λ named. or_right (nat_eq inode filesystem.files.tree.root) _
         (is_among_left inode (named_in filesystem.files ++ located_in nat_eq swept filesystem.number
         ++ layers_in nat_eq swept filesystem.number)
         (flat_map (objects_of_overlay nat_eq filesystem.number) swept.filesystems)
@@ -315,15 +315,15 @@ module _ (world : World ℕ) (mounts : List (Mount ℕ)) (master : ℕ → Optio
     was_mounted filesystem m = ⊎_elim (λ e. e) (λ layered. absurd
         (true≢false (sym layered ∙ no_layers filesystem.number world world.filesystems plain)))
         (or_cases (is_mounted nat_eq world filesystem.number) _
-        (passes (filesystem_lives nat_eq world) world.filesystems in_use.filesystems filesystem m))
+        (among_from_list_all (filesystem_lives nat_eq world) world.filesystems in_use.filesystems filesystem m))
 
     filesystems_but : FilesystemsInUseBut losers.filesystems mounted
-    filesystems_but = all_pass (λ filesystem. is_among nat_eq filesystem.number losers.filesystems
+    filesystems_but = list_all_from_among (λ filesystem. is_among nat_eq filesystem.number losers.filesystems
         || filesystem_lives nat_eq mounted filesystem) filesystems (λ filesystem m.
         let lives = λ (e : is_mounted nat_eq mounted filesystem.number ≡ true).
-        or_second (is_among nat_eq filesystem.number losers.filesystems) (filesystem_lives nat_eq mounted filesystem)
-        (or_first (is_mounted nat_eq mounted filesystem.number) _ e) in
-        ⊎_elim (λ was. ⊎_elim lives (λ gone_with. or_first (is_among nat_eq filesystem.number losers.filesystems)
+        or_right (is_among nat_eq filesystem.number losers.filesystems) (filesystem_lives nat_eq mounted filesystem)
+        (or_left (is_mounted nat_eq mounted filesystem.number) _ e) in
+        ⊎_elim (λ was. ⊎_elim lives (λ gone_with. or_left (is_among nat_eq filesystem.number losers.filesystems)
         (filesystem_lives nat_eq mounted filesystem) (is_among_numbers filesystem.number losers.filesystems
         (subst (λ n. Among n losers.filesystems) (sym gone_with.2)
         (among-map (λ n. (mount_numbered nat_eq world n).filesystem) gone gone_with.0 gone_with.1))))
@@ -332,22 +332,22 @@ module _ (world : World ℕ) (mounts : List (Mount ℕ)) (master : ℕ → Optio
 
     by_a_use : (filesystem : Filesystem ℕ) (inode : ℕ) → is_inode_used world filesystem inode ≡ true
         → is_used_or_among inodes living filesystem inode ≡ true
-    by_a_use filesystem inode is = ⊎_elim (λ root. or_second (is_inode_among filesystem.number inode inodes) _
-        (or_first (nat_eq inode filesystem.files.tree.root) _ (eq-eqb inode filesystem.files.tree.root root)))
+    by_a_use filesystem inode is = ⊎_elim (λ root. or_right (is_inode_among filesystem.number inode inodes) _
+        (or_left (nat_eq inode filesystem.files.tree.root) _ (eq-eqb inode filesystem.files.tree.root root)))
         (λ rest. ⊎_elim (λ named. by_a_name living.filesystems filesystem inode
-        (or_second (nat_eq inode filesystem.files.tree.root) (is_among nat_eq inode (named_in filesystem.files)) named))
+        (or_right (nat_eq inode filesystem.files.tree.root) (is_among nat_eq inode (named_in filesystem.files)) named))
         (by_located living.filesystems filesystem inode) rest) (plain_uses world plain filesystem inode is)
 
     inodes_but : InodesInUseBut inodes living
     inodes_but =
         all_from_among (λ f. list_all (is_used_or_among inodes living f) f.files.numbers ≡ true) living.filesystems
         (λ filesystem m. let there = among-from_filter (filesystem_lives nat_eq mounted) filesystems filesystem m in
-        all_pass (is_used_or_among inodes living filesystem) filesystem.files.numbers (λ inode n. ⊎_elim
-        (λ was. by_a_use filesystem inode (passes (is_inode_used world filesystem) filesystem.files.numbers
+        list_all_from_among (is_used_or_among inodes living filesystem) filesystem.files.numbers (λ inode n. ⊎_elim
+        (λ was. by_a_use filesystem inode (among_from_list_all (is_inode_used world filesystem) filesystem.files.numbers
         (among_from_all (λ f. list_all (is_inode_used world f) f.files.numbers
         ≡ true) world.filesystems in_use.inodes filesystem was) inode n))
         (λ new. by_a_name living.filesystems filesystem inode
-        (passes (λ k. nat_eq k filesystem.files.tree.root || is_among nat_eq k
+        (among_from_list_all (λ k. nat_eq k filesystem.files.tree.root || is_among nat_eq k
         (named_in filesystem.files)) filesystem.files.numbers new.1.1.1.1 inode n)) (come.new filesystem there.0)))
 
     -- all but what lost a use is in use

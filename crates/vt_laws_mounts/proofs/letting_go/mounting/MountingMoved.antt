@@ -5,7 +5,7 @@ use Rattle.vt_laws_mounts.specs.LettingGo.Detaching.{DetachingLetsGo, MovesOne, 
 use Rattle.vt_laws_mounts.specs.LettingGo.InUse.{AllInUse}
 use Rattle.vt_laws_mounts.specs.LettingGo.Mounting.{MovesSome, MovingLetsGo, places_moved}
 use Rattle.vt_laws_mounts.proofs.letting_go.leaving.Detached.{found-map, not_found-map}
-use Rattle.vt_laws_mounts.proofs.letting_go.Lists.{Among, fails, among-filter, among-filter_map, among-from_map, among-map, passes}
+use Rattle.vt_laws_mounts.proofs.letting_go.Lists.{Among, none_among, among-filter, among-filter_map, among-from_map, among-map, among_from_list_all}
 use Rattle.vt_laws_mounts.proofs.letting_go.leaving.PlacesLeft.{found_itself}
 use Rattle.vt_laws_mounts.proofs.letting_go.mounting.MountingLosers.{Loses, losers_go}
 
@@ -27,7 +27,7 @@ loses world moved change master in_use moves nowhere = record {
   live = λ last m isnt. let from = among-from_map change world.mounts last m in
       ap (mount_lives nat_eq world) from.2
       ∙ (λ i. is_some (moves.namespace from.0 i) || is_located nat_eq world (moves.number from.0 i))
-      ∙ passes (mount_lives nat_eq world) world.mounts in_use.mounts from.0 from.1;
+      ∙ among_from_list_all (mount_lives nat_eq world) world.mounts in_use.mounts from.0 from.1;
   locations = λ location m. inl (inl m);
   places = λ mount m place p. ⊎_elim (λ is. inr (among-filter_map (λ x. x.mount_point)
       (filter (λ x. is_among nat_eq x.number moved) world.mounts) mount place
@@ -68,7 +68,7 @@ one_loses world number change master in_use moves alone one nowhere = record {
       ∙ isnt)).0 in
       ap (mount_lives nat_eq world) from.2
       ∙ (λ i. is_some (moves.namespace from.0 other i) || is_located nat_eq world (moves.number from.0 i))
-      ∙ passes (mount_lives nat_eq world) world.mounts in_use.mounts from.0 from.1;
+      ∙ among_from_list_all (mount_lives nat_eq world) world.mounts in_use.mounts from.0 from.1;
   locations = λ location m. inl (inl m);
   places = λ mount m place p. ⊎_elim (λ is. inr (subst (λ o. Among place (option_to_list o))
       (sym p ∙ ap (λ (x : Mount ℕ). x.mount_point) (sym (found_itself world.mounts one mount m))
@@ -86,7 +86,7 @@ one_loses world number change master in_use moves alone one nowhere = record {
     not_on mount m place p = ap (λ b. b || false) (false_from_ne_true (nat_eq place.mount number) (λ is.
         true≢false (sym (ap (holds_of (λ l. nat_eq number l.mount)) p
         ∙ eq-eqb number place.mount (sym (eqb-true place.mount number is)))
-        ∙ fails (stands_on nat_eq number) world.mounts alone mount m)))
+        ∙ none_among (stands_on nat_eq number) world.mounts alone mount m)))
 
 pub detaching_lets_go : DetachingLetsGo
 detaching_lets_go world number change master groups settles moves alone nowhere hears =

@@ -10,7 +10,7 @@ use Rattle.vt_laws_mounts.specs.LettingGo.Overlays.{let_go_all, used_by_filesyst
 use Rattle.vt_laws_mounts.proofs.letting_go.sweeps.InUse.{layers_stay, filesystems_stay, inodes_stay, mounts_stay}
 use Rattle.vt_laws_mounts.proofs.letting_go.sweeps.OneByOne.{groups_go_one_by_one}
 use Rattle.vt_laws_mounts.proofs.letting_go.leaving.LeftWithOverlays.{in_layers}
-use Rattle.vt_laws_mounts.proofs.letting_go.Lists.{Among, all_from_among, all_pass, among-flat_map, among-from_flat_map, among_from_all, among_numbers, any_passes, is_among_numbers, one_passes, or_first, or_second, passes}
+use Rattle.vt_laws_mounts.proofs.letting_go.Lists.{Among, all_from_among, among-flat_map, among-from_flat_map, among_from_all, among_from_list_all, among_numbers, any_among, any_from_among, is_among_numbers, list_all_from_among, or_left, or_right}
 use Rattle.vt_laws_mounts.proofs.letting_go.mounting.MountingLosers.{Comes, Loses, by_a_name, by_located, changed, changed_with, groups_but, inodes, mounts_but, shown_is_mounted, still_mounted}
 use Rattle.vt_laws_mounts.proofs.letting_go.sweeps.OverlaysGone.{filesystems_take_their_uses}
 use Rattle.vt_laws_mounts.proofs.letting_go.sweeps.WithOverlays.{with_overlays_all_goes}
@@ -36,33 +36,34 @@ module _ (world : World ℕ) (mounts : List (Mount ℕ)) (master : ℕ → Optio
   old_filesystem : (f : Filesystem ℕ) → Among f world.filesystems
       → (is_among nat_eq f.number losing || filesystem_lives nat_eq now f) ≡ true
   old_filesystem f m = ⊎_elim (λ here. ⊎_elim
-      (λ lives. or_second (is_among nat_eq f.number losing) (filesystem_lives nat_eq now f)
-      (or_first (is_mounted nat_eq now f.number) _ lives))
-      (λ gone_with. or_first (is_among nat_eq f.number losing) (filesystem_lives nat_eq now f)
+      (λ lives. or_right (is_among nat_eq f.number losing) (filesystem_lives nat_eq now f)
+      (or_left (is_mounted nat_eq now f.number) _ lives))
+      (λ gone_with. or_left (is_among nat_eq f.number losing) (filesystem_lives nat_eq now f)
       (is_among_numbers f.number losing
       (among-flat_map (filesystems_of_mount world) gone gone_with.0 f.number gone_with.1 (inl gone_with.2))))
       (still_mounted world mounts master filesystems namespaces tasks gone left groups in_use stand loses hears
-      come f.number here)) (λ layered. let t = one_passes (λ merged. has_layer_on nat_eq f.number merged
+      come f.number here)) (λ layered. let t = any_among (λ merged. has_layer_on nat_eq f.number merged
       && is_mounted nat_eq world merged.number) world.filesystems layered in
       let parts = and_parts (has_layer_on nat_eq f.number t.0) (is_mounted nat_eq world t.0.number) t.2 in
-      ⊎_elim (λ lives. or_second (is_among nat_eq f.number losing) (filesystem_lives nat_eq now f)
-      (or_second (is_mounted nat_eq now f.number) _ (any_passes (λ merged. has_layer_on nat_eq f.number merged
+      ⊎_elim (λ lives. or_right (is_among nat_eq f.number losing) (filesystem_lives nat_eq now f)
+      (or_right (is_mounted nat_eq now f.number) _ (any_from_among (λ merged. has_layer_on nat_eq f.number merged
       && is_mounted nat_eq now merged.number) filesystems t.0 (come.kept t.0 t.1)
       (ap (λ b. b && is_mounted nat_eq now t.0.number) parts.0 ∙ lives))))
-      (λ gone_with. or_first (is_among nat_eq f.number losing) (filesystem_lives nat_eq now f)
+      (λ gone_with. or_left (is_among nat_eq f.number losing) (filesystem_lives nat_eq now f)
       (is_among_numbers f.number losing
       (among-flat_map (filesystems_of_mount world) gone gone_with.0 f.number gone_with.1
       (inr (in_layers world f.number t.0 t.1
       (mount_numbered nat_eq world gone_with.0).filesystem gone_with.2 parts.0)))))
       (still_mounted world mounts master filesystems namespaces tasks gone left groups in_use stand loses hears
       come t.0.number parts.1)) (or_cases (is_mounted nat_eq world f.number) _
-      (passes (filesystem_lives nat_eq world) world.filesystems in_use.filesystems f m))
+      (among_from_list_all (filesystem_lives nat_eq world) world.filesystems in_use.filesystems f m))
 
   filesystems_but : FilesystemsInUseBut losing now
-  filesystems_but = all_pass (λ f. is_among nat_eq f.number losing || filesystem_lives nat_eq now f) filesystems
+  filesystems_but = list_all_from_among (λ f. is_among nat_eq f.number losing || filesystem_lives nat_eq now f)
+      filesystems
       (λ f m. ⊎_elim (old_filesystem f)
-      (λ new. or_second (is_among nat_eq f.number losing) (filesystem_lives nat_eq now f)
-      (or_first (is_mounted nat_eq now f.number) _
+      (λ new. or_right (is_among nat_eq f.number losing) (filesystem_lives nat_eq now f)
+      (or_left (is_mounted nat_eq now f.number) _
       (shown_is_mounted world mounts master filesystems namespaces tasks gone left groups in_use stand loses hears come
       f.number new.0 new.1.0 new.1.1.0 new.1.1.1.0))) (come.new f m))
 
@@ -113,16 +114,17 @@ module _ (world : World ℕ) (mounts : List (Mount ℕ)) (master : ℕ → Optio
       objects = flat_map (objects_of_overlay nat_eq f.number) filesystems
 
       used : is_inode_used now f number ≡ true → is_used_or_among lost now f number ≡ true
-      used h = or_second (is_inode_among f.number number lost) (is_inode_used now f number) h
+      used h = or_right (is_inode_among f.number number lost) (is_inode_used now f number) h
 
   inodes_but : InodesInUseBut lost now
   inodes_but = all_from_among (λ f. list_all (is_used_or_among lost now f) f.files.numbers ≡ true) filesystems
-      (λ f m. all_pass (is_used_or_among lost now f) f.files.numbers (λ number n. ⊎_elim (λ was. use_left f number
-      (passes (is_inode_used world f) f.files.numbers
+      (λ f m. list_all_from_among (is_used_or_among lost now f) f.files.numbers
+      (λ number n. ⊎_elim (λ was. use_left f number
+      (among_from_list_all (is_inode_used world f) f.files.numbers
       (among_from_all (λ x. list_all (is_inode_used world x) x.files.numbers
       ≡ true) world.filesystems in_use.inodes f was) number n))
       (λ new. by_a_name world mounts master filesystems namespaces tasks gone left groups in_use stand loses hears come
-      filesystems f number (passes (λ k. nat_eq k f.files.tree.root
+      filesystems f number (among_from_list_all (λ k. nat_eq k f.files.tree.root
       || is_among nat_eq k (named_in f.files)) f.files.numbers new.1.1.1.1 number n)) (come.new f m)))
 
   abbrev all_losers : Losers

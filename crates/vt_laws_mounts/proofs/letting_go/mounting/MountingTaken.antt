@@ -6,7 +6,7 @@ use Rattle.vt_laws_mounts.specs.LettingGo.Leaving.{IsSettledPlain, MountsStand}
 use Rattle.vt_laws_mounts.specs.LettingGo.Mounting.{EndingLetsGo, TakingAwayLetsGo, ended_mounts, loses_its_place, places_lost, used_by_mounts}
 use Rattle.vt_laws_mounts.specs.LettingGo.OneByOne.{GroupsInUseBut, let_go}
 use Rattle.vt_laws_mounts.proofs.letting_go.leaving.Detached.{found-map, not_found-map}
-use Rattle.vt_laws_mounts.proofs.letting_go.Lists.{all_pass, among-filter, among-filter_map, among-from_map, among-map, passes}
+use Rattle.vt_laws_mounts.proofs.letting_go.Lists.{among-filter, among-filter_map, among-from_map, among-map, among_from_list_all, list_all_from_among}
 use Rattle.vt_laws_mounts.proofs.letting_go.mounting.MountingLosers.{Loses, changed, losers_go}
 use Rattle.vt_laws_mounts.proofs.letting_go.leaving.PlacesLeft.{nowhere_parts}
 
@@ -57,17 +57,17 @@ module _ (world : World ℕ) (gone : List ℕ) (namespaces : List (Namespace ℕ
       (not_found-map (change b) (same_number b) world.mounts number)
 
   -- a mount that does not go
-  pub stays : (mount : Mount ℕ) → is_going nat_eq gone mount.number ≡ false
+  pub stays_there : (mount : Mount ℕ) → is_going nat_eq gone mount.number ≡ false
       → after_going nat_eq world gone mount ≡ record mount {
         mount_point = option_map (mount_point_left nat_eq world gone) mount.mount_point;
       }
-  stays mount isnt = ap (λ c. cond c (detached mount)
+  stays_there mount isnt = ap (λ c. cond c (detached mount)
       (record mount { mount_point = option_map (mount_point_left nat_eq world gone) mount.mount_point })) isnt
 
   pub same_namespace : (b : Bool) (mount : Mount ℕ) → is_going nat_eq gone mount.number ≡ false
       → (change b mount).namespace ≡ mount.namespace
-  same_namespace true mount isnt = ap (λ m. m.namespace) (stays mount isnt)
-  same_namespace false mount isnt = ap (λ m. m.namespace) (stays mount isnt)
+  same_namespace true mount isnt = ap (λ m. m.namespace) (stays_there mount isnt)
+  same_namespace false mount isnt = ap (λ m. m.namespace) (stays_there mount isnt)
 
   stays_at : (place : Location ℕ) → is_going nat_eq gone place.mount ≡ false
       → mount_point_left nat_eq world gone place ≡ place
@@ -76,7 +76,7 @@ module _ (world : World ℕ) (gone : List ℕ) (namespaces : List (Namespace ℕ
   pub same_place : (b : Bool) (mount : Mount ℕ) (place : Location ℕ) → mount.mount_point ≡ Some place
       → is_going nat_eq gone mount.number ≡ false
       → is_going nat_eq gone place.mount ≡ false → (change b mount).mount_point ≡ Some place
-  same_place b mount place p isnt on = grind (arith, common_steps, stays, stays_at)
+  same_place b mount place p isnt on = grind (arith, common_steps, stays_there, stays_at)
 
   -- one outside every namespace has no place and is private
   private_still : (propagation : Propagation ℕ) → is_private propagation ≡ true
@@ -88,7 +88,7 @@ module _ (world : World ℕ) (gone : List ℕ) (namespaces : List (Namespace ℕ
 
   pub nowhere_after : (b : Bool) (mount : Mount ℕ) → is_nowhere_or_attached mount ≡ true
       → is_nowhere_or_attached (change b mount) ≡ true
-  nowhere_after b mount h = grind (arith, common_steps, true≢false, nowhere_parts, stays, private_still)
+  nowhere_after b mount h = grind (arith, common_steps, true≢false, nowhere_parts, stays_there, private_still)
 
   module _ (in_use : AllInUse world) (stand : MountsStand world) where
     pub loses : (b : Bool) → Loses world (after b) gone (places_lost world gone)
@@ -103,7 +103,7 @@ module _ (world : World ℕ) (gone : List ℕ) (namespaces : List (Namespace ℕ
           (sym (same_number b from.0) ∙ ap (λ x. x.number) (sym from.2)) ∙ isnt in
           ap (mount_lives nat_eq world) from.2
           ∙ (λ i. is_some (same_namespace b from.0 other i) || is_located nat_eq world (same_number b from.0 i))
-          ∙ passes (mount_lives nat_eq world) world.mounts in_use.mounts from.0 from.1;
+          ∙ among_from_list_all (mount_lives nat_eq world) world.mounts in_use.mounts from.0 from.1;
       locations = λ location m. inl (inl m);
       places = λ mount m place p. ⊎_elim
           (λ is. inr (among-filter_map (λ x. x.mount_point) (filter (loses_its_place gone) world.mounts) mount place
@@ -116,10 +116,11 @@ module _ (world : World ℕ) (gone : List ℕ) (namespaces : List (Namespace ℕ
             change b mount,
             (among-map (change b) world.mounts mount m, (same_place b mount place p parts.0 on, inl on)),
           )) (cases_Bool (loses_its_place gone mount));
-      nowhere = all_pass is_nowhere_or_attached (map (change b) world.mounts) (λ last m.
+      nowhere = list_all_from_among is_nowhere_or_attached (map (change b) world.mounts) (λ last m.
           let from = among-from_map (change b) world.mounts last m in
           ap is_nowhere_or_attached from.2
-          ∙ nowhere_after b from.0 (passes is_nowhere_or_attached world.mounts stand.nowhere from.0 from.1));
+          ∙ nowhere_after b from.0
+          (among_from_list_all is_nowhere_or_attached world.mounts stand.nowhere from.0 from.1));
     }
 
 -- the world without mounts, with other namespaces

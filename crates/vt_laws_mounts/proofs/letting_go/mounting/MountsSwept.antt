@@ -4,7 +4,7 @@ use Rattle.vt_spec.proofs.Common.{Lives, Location, Mount, MountInvariants, Stand
 use Rattle.vt_laws_mounts.specs.LettingGo.Leaving.{MountsStand, stands_on_attached}
 use Rattle.vt_laws_mounts.proofs.letting_go.Chains.{Way}
 use Rattle.vt_laws_mounts.proofs.letting_go.Chains.Way.{ends, goes_on}
-use Rattle.vt_laws_mounts.proofs.letting_go.Lists.{Among, all_pass, among-filter, among-from_filter, among-map, among_from_all, any-filter, one_passes, or_first, passes, held_number}
+use Rattle.vt_laws_mounts.proofs.letting_go.Lists.{Among, list_all_from_among, among-filter, among-from_filter, among-map, among_from_all, any-filter, any_among, or_left, among_from_list_all, held_number}
 use Rattle.vt_laws_mounts.proofs.letting_go.leaving.PlacesLeft.{found_in_filter, found_is_there, found_itself, nowhere_parts, placed_is_attached, private_is_no_member}
 
 -- By their invariants mounts stand, each on one of its namespace.
@@ -25,13 +25,14 @@ module _ (world : World ℕ) (kept : MountInvariants nat_eq world) where
       → list_all (λ place. is_some (mount_at nat_eq world place).namespace) (option_to_list o) ≡ true
   on mount m None e = refl
   on mount m (Some place) e = ap (λ b. b && true) (ap is_some (sym (beside_parent mount m place e))
-      ∙ placed_is_attached mount (passes is_nowhere_or_attached world.mounts kept.nowhere mount m) place e)
+      ∙ placed_is_attached mount (among_from_list_all is_nowhere_or_attached world.mounts kept.nowhere mount m) place e)
 
   pub mounts_stand : MountsStand world
   mounts_stand = record {
     one_number = kept.one_number;
     nowhere = kept.nowhere;
-    on_attached = all_pass (stands_on_attached world) world.mounts (λ mount m. on mount m mount.mount_point refl);
+    on_attached = list_all_from_among (stands_on_attached world) world.mounts
+        (λ mount m. on mount m mount.mount_point refl);
   }
 
   abbrev pub first_mounts : List (Mount ℕ)
@@ -41,7 +42,7 @@ module _ (world : World ℕ) (kept : MountInvariants nat_eq world) where
   of_world mount m = (among-from_filter (mount_lives nat_eq world) world.mounts mount m).0
 
   pub attached_lives : (mount : Mount ℕ) → is_some mount.namespace ≡ true → mount_lives nat_eq world mount ≡ true
-  attached_lives mount e = or_first (is_some mount.namespace) (is_located nat_eq world mount.number) e
+  attached_lives mount e = or_left (is_some mount.namespace) (is_located nat_eq world mount.number) e
 
   abbrev pub IsAttached : ℕ → Type 0
   IsAttached number = is_some (mount_in nat_eq world.mounts number).namespace ≡ true
@@ -81,7 +82,8 @@ module _ (world : World ℕ) (kept : MountInvariants nat_eq world) where
 
   pub unused_private : (mount : Mount ℕ) → Among mount world.mounts → mount_lives nat_eq world mount ≡ false
       → is_private mount.propagation ≡ true
-  unused_private mount m dead = (nowhere_parts mount (passes is_nowhere_or_attached world.mounts kept.nowhere mount m)
+  unused_private mount m dead =
+      (nowhere_parts mount (among_from_list_all is_nowhere_or_attached world.mounts kept.nowhere mount m)
       (or_parts (is_some mount.namespace) (is_located nat_eq world mount.number) dead).0).1
 
   pub members_first : (group : ℕ) → has_members nat_eq first_mounts group ≡ has_members nat_eq world.mounts group
@@ -104,7 +106,7 @@ module _ (world : World ℕ) (kept : MountInvariants nat_eq world) where
 
   pub group_there : (group : ℕ) → has_members nat_eq world.mounts group ≡ true → Among group groups_there
   group_there group has =
-      let t = one_passes (is_member_of nat_eq group) first_mounts (members_first group ∙ has) in
+      let t = any_among (is_member_of nat_eq group) first_mounts (members_first group ∙ has) in
       subst (λ n. Among n groups_there) (ap (λ o. unwrap_or o 0) (held_number group (group_of t.0.propagation) t.2))
       (among-map (λ (mount : Mount ℕ). unwrap_or (group_of mount.propagation) 0) first_mounts t.0 t.1)
 

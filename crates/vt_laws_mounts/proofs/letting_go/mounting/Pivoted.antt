@@ -6,7 +6,7 @@ use Rattle.vt_laws_mounts.specs.LettingGo.InUse.{AllInUse, GroupsInUse}
 use Rattle.vt_laws_mounts.specs.LettingGo.Leaving.{MountsStand}
 use Rattle.vt_laws_mounts.specs.LettingGo.Pivoting.{PivotedLetsGo, PivotsLetGo}
 use Rattle.vt_laws_mounts.proofs.letting_go.leaving.Detached.{found-map, not_found-map}
-use Rattle.vt_laws_mounts.proofs.letting_go.Lists.{Among, all_pass, among-flat_map, among-from_flat_map, among-from_map, among-map, any-map, any_passes, one_passes, or_first, or_second, passes}
+use Rattle.vt_laws_mounts.proofs.letting_go.Lists.{Among, among-flat_map, among-from_flat_map, among-from_map, among-map, among_from_list_all, any-map, any_among, any_from_among, list_all_from_among, or_left, or_right}
 use Rattle.vt_laws_mounts.proofs.letting_go.mounting.MountingLosers.{Loses, StillALocation, StillAPlace, losers_go}
 use Rattle.vt_laws_mounts.proofs.letting_go.leaving.PlacesLeft.{found_is_there, found_itself}
 
@@ -86,27 +86,28 @@ module _ (world : World ℕ) (namespace old new : ℕ) (put : Location ℕ) (in_
   lives mount m = ap (λ b. b || is_located nat_eq after (change mount).number)
       (keeps (λ x. is_some x.namespace) (λ x at. refl) mount)
       ∙ ap (λ n. is_some mount.namespace || is_located nat_eq after n) (number_kept mount) ∙ ⊎_elim
-      (or_first (is_some mount.namespace) (is_located nat_eq after mount.number))
-      (λ at. let t = one_passes (λ l. nat_eq mount.number l.mount) (all_locations world) at in
-      ⊎_elim (λ there. or_second (is_some mount.namespace) (is_located nat_eq after mount.number)
-      (any_passes (λ l. nat_eq mount.number l.mount) (all_locations after) t.0 there t.2))
-      (λ was. or_first (is_some mount.namespace) (is_located nat_eq after mount.number)
+      (or_left (is_some mount.namespace) (is_located nat_eq after mount.number))
+      (λ at. let t = any_among (λ l. nat_eq mount.number l.mount) (all_locations world) at in
+      ⊎_elim (λ there. or_right (is_some mount.namespace) (is_located nat_eq after mount.number)
+      (any_from_among (λ l. nat_eq mount.number l.mount) (all_locations after) t.0 there t.2))
+      (λ was. or_left (is_some mount.namespace) (is_located nat_eq after mount.number)
       (ap (λ (x : Mount ℕ). is_some x.namespace) (itself mount root m root_there
       (sym (ap (λ (l : Location ℕ). nat_eq mount.number l.mount) was) ∙ t.2)) ∙ old_attached)) (still t.0 t.1))
       (or_cases (is_some mount.namespace) (is_located nat_eq world mount.number)
-      (passes (mount_lives nat_eq world) world.mounts in_use.mounts mount m))
+      (among_from_list_all (mount_lives nat_eq world) world.mounts in_use.mounts mount m))
 
   nowhere : (mount : Mount ℕ) → Among mount world.mounts → is_nowhere_or_attached (change mount) ≡ true
   nowhere mount m = by (which mount m)
     where
       in_one : is_some mount.namespace ≡ true → is_nowhere_or_attached (change mount) ≡ true
-      in_one e = or_first (is_some (change mount).namespace) _
+      in_one e = or_left (is_some (change mount).namespace) _
           (keeps (λ x. is_some x.namespace) (λ x at. refl) mount ∙ e)
 
       by : Is mount → is_nowhere_or_attached (change mount) ≡ true
       by (is_target e) = in_one (ap (λ (x : Mount ℕ). is_some x.namespace) e ∙ new_attached)
       by (is_root e) = in_one (ap (λ (x : Mount ℕ). is_some x.namespace) e ∙ old_attached)
-      by (is_other e) = ap is_nowhere_or_attached e ∙ passes is_nowhere_or_attached world.mounts stand.nowhere mount m
+      by (is_other e) = ap is_nowhere_or_attached e ∙ among_from_list_all is_nowhere_or_attached world.mounts
+          stand.nowhere mount m
 
   place_still : (mount : Mount ℕ) → Among mount world.mounts → (place : Location ℕ) → mount.mount_point ≡ Some place
       → StillAPlace after.mounts [] place ⊎ Among place (option_to_list target.mount_point)
@@ -132,7 +133,7 @@ module _ (world : World ℕ) (namespace old new : ℕ) (put : Location ℕ) (in_
         ∙ lives from.0 from.1;
     locations = λ location m. inl (still_used location m);
     places = place_still;
-    nowhere = all_pass is_nowhere_or_attached after.mounts (λ last m.
+    nowhere = list_all_from_among is_nowhere_or_attached after.mounts (λ last m.
         let from = among-from_map change world.mounts last m in
         ap is_nowhere_or_attached from.2 ∙ nowhere from.0 from.1);
   }

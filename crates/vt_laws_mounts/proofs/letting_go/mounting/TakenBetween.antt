@@ -7,7 +7,7 @@ use Rattle.vt_laws_mounts.specs.LettingGo.Leaving.{MountsStand, comes_nowhere, w
 use Rattle.vt_laws_mounts.specs.LettingGo.Overlays.{RealsAreThere}
 use Rattle.vt_laws_mounts.proofs.letting_go.Chains.{Way, chains_alike}
 use Rattle.vt_laws_mounts.proofs.letting_go.Chains.Way.{ends, goes_on}
-use Rattle.vt_laws_mounts.proofs.letting_go.Lists.{Among, among-append, among-append_left, among-append_right, among-filter, among-filter_map, among-from_filter, among-from_filter_map, among-from_map, among-map, among_from_all, any-filter, any-map, any_passes, filter-map, filter_twice, one_passes, or_first, or_second, passes, held_number}
+use Rattle.vt_laws_mounts.proofs.letting_go.Lists.{Among, among-append, among-append_left, among-append_right, among-filter, among-filter_map, among-from_filter, among-from_filter_map, among-from_map, among-map, among_from_all, any-filter, any-map, any_from_among, filter-map, filter_twice, any_among, or_left, or_right, among_from_list_all, held_number}
 use Rattle.vt_laws_mounts.proofs.letting_go.SweptBetween.{SameUses, follows, one_sweep_after_both, with_parts}
 use Rattle.vt_laws_mounts.proofs.letting_go.leaving.PlacesLeft.{found_in_filter, found_is_there, found_itself, place_attached, placed_is_attached, private_is_no_member, was_located}
 use Rattle.vt_laws_mounts.proofs.letting_go.leaving.TreesWithOverlays.{any_changed}
@@ -218,9 +218,9 @@ module _ (world : World ℕ) (tasks : List (Task ℕ)) (namespaces : List (Names
 
   lived : (mount : Mount ℕ) → mount_lives nat_eq once (change mount) ≡ true → mount_lives nat_eq world mount ≡ true
   lived mount lives = ⊎_elim (λ attached. attached_lives world kept mount (was_attached mount attached)) (λ located.
-      let t = one_passes (λ (l : Location ℕ). nat_eq (change mount).number l.mount) (all_locations once) located in
-      or_second (is_some mount.namespace) (is_located nat_eq world mount.number)
-      (any_passes (λ (l : Location ℕ). nat_eq mount.number l.mount) (all_locations world) t.0
+      let t = any_among (λ (l : Location ℕ). nat_eq (change mount).number l.mount) (all_locations once) located in
+      or_right (is_some mount.namespace) (is_located nat_eq world mount.number)
+      (any_from_among (λ (l : Location ℕ). nat_eq mount.number l.mount) (all_locations world) t.0
       (was_located world tasks nowhere_new t.0 t.1) (ap (λ n. nat_eq n t.0.mount) (sym (number-change mount)) ∙ t.2)))
       (or_cases (is_some (change mount).namespace) (is_located nat_eq once (change mount).number) lives)
 
@@ -263,7 +263,7 @@ module _ (world : World ℕ) (tasks : List (Task ℕ)) (namespaces : List (Names
 
   same_master : (group : ℕ) → has_members nat_eq last_mounts group ≡ true → again.master group ≡ once.master group
   same_master group has =
-      let t = one_passes (is_member_of nat_eq group) last_mounts has in
+      let t = any_among (is_member_of nat_eq group) last_mounts has in
       let old = was t.0 t.1 in
       grind (arith, common_steps, hands_alike, masters_alike, source_then, member_was)
 
@@ -271,9 +271,9 @@ module _ (world : World ℕ) (tasks : List (Task ℕ)) (namespaces : List (Names
   mounted_was : (number : ℕ) → is_mounted nat_eq (without_dead_mounts nat_eq once) number ≡ true
       → is_mounted nat_eq (without_dead_mounts nat_eq world) number ≡ true
   mounted_was number is =
-      let t = one_passes (λ (mount : Mount ℕ). nat_eq number mount.filesystem) last_mounts is in
+      let t = any_among (λ (mount : Mount ℕ). nat_eq number mount.filesystem) last_mounts is in
       let old = was t.0 t.1 in
-      grind (arith, common_steps, any_passes, was_first, same_filesystem)
+      grind (arith, common_steps, any_from_among, was_first, same_filesystem)
 
   shows_alike : (number : ℕ) → ((mount : Mount ℕ) → Among mount world.mounts → mount.number ≡ number
       → mount_lives nat_eq once (change mount) ≡ true)
@@ -366,8 +366,8 @@ module _ (world : World ℕ) (tasks : List (Task ℕ)) (namespaces : List (Names
         (filter_map (λ mount. mount.mount_point) first_mounts) location
         (among-append_left (all_locations world) (map root_of first_mounts) location
         (was_located world tasks nowhere_new location at))) (e ∙ shows_alike location.mount (λ mount m same.
-        or_second (is_some (change mount).namespace) (is_located nat_eq once (change mount).number)
-        (any_passes (λ (l : Location ℕ). nat_eq (change mount).number l.mount) (all_locations once) location at
+        or_right (is_some (change mount).namespace) (is_located nat_eq once (change mount).number)
+        (any_from_among (λ (l : Location ℕ). nat_eq (change mount).number l.mount) (all_locations once) location at
         (eq-eqb (change mount).number location.mount (number-change mount ∙ same)))))
 
     root_was : (f : ℕ) (location : Location ℕ) → Among location (map root_of last_mounts)
@@ -397,13 +397,13 @@ module _ (world : World ℕ) (tasks : List (Task ℕ)) (namespaces : List (Names
         let old = was from.0 from.1 in
         let other = point_was old.0 old.1 location (ap (λ (x : Mount ℕ). x.mount_point) (sym old.2) ∙ from.2) in
         let in_one = placed_is_attached other.0
-        (passes is_nowhere_or_attached world.mounts kept.nowhere other.0 other.1) location other.2 in
+        (among_from_list_all is_nowhere_or_attached world.mounts kept.nowhere other.0 other.1) location other.2 in
         was_at f location (among-append_right (all_locations world ++ map root_of first_mounts)
         (filter_map (λ x. x.mount_point) first_mounts) location
         (among-filter_map (λ (x : Mount ℕ). x.mount_point) first_mounts other.0 location
         (among-filter (mount_lives nat_eq world) world.mounts other.0 other.1
         (attached_lives world kept other.0 in_one)) other.2)) (e ∙ shows_alike location.mount (λ mount m same.
-        or_first (is_some (change mount).namespace) (is_located nat_eq once (change mount).number)
+        or_left (is_some (change mount).namespace) (is_located nat_eq once (change mount).number)
         (ap (λ (x : Mount ℕ). is_some x.namespace)
         (sym (found_itself once_mounts afterwards.one_number (change mount) (among-map change world.mounts mount m))
         ∙ ap (mount_in nat_eq once_mounts) (number-change mount ∙ same)) ∙ on)))

@@ -7,9 +7,9 @@ use Rattle.vt_laws_mounts.specs.LettingGo.Leaving.{IsSettledPlain, MountsStand}
 use Rattle.vt_laws_mounts.specs.LettingGo.Mounting.{loses_its_place, places_lost}
 use Rattle.vt_laws_mounts.specs.LettingGo.OneByOne.{GroupsInUseBut, let_go}
 use Rattle.vt_laws_mounts.proofs.letting_go.leaving.Detached.{found-map, not_found-map}
-use Rattle.vt_laws_mounts.proofs.letting_go.Lists.{Among, all_pass, among-filter, among-filter_map, among-from_map, among-map, any_passes, is_among_numbers, map_same, none_passes, or_first, or_second, passes, held_number}
+use Rattle.vt_laws_mounts.proofs.letting_go.Lists.{Among, list_all_from_among, among-filter, among-filter_map, among-from_map, among-map, any_from_among, is_among_numbers, map_same, none_from_among, or_left, or_right, among_from_list_all, held_number}
 use Rattle.vt_laws_mounts.proofs.letting_go.mounting.MountingLosers.{Loses, StillAPlace, changed, losers_go}
-use Rattle.vt_laws_mounts.proofs.letting_go.mounting.MountingTaken.{is_changed, nowhere_after, same_filesystem, same_namespace, same_namespaces, same_number, same_place, same_root, stays, taking_away_lets_go}
+use Rattle.vt_laws_mounts.proofs.letting_go.mounting.MountingTaken.{is_changed, nowhere_after, same_filesystem, same_namespace, same_namespaces, same_number, same_place, same_root, stays_there, taking_away_lets_go}
 use Rattle.vt_laws_mounts.proofs.letting_go.mounting.MountingTaken
 use Rattle.vt_laws_mounts.proofs.letting_go.leaving.PlacesLeft.{found_is_there, found_itself, nowhere_parts, placed_is_attached, private_is_no_member, place_attached}
 
@@ -21,7 +21,7 @@ pub no_members : (world after : World ℕ) (gone : List ℕ) → GroupsInUse wor
     → (group : ℕ) → is_among nat_eq group (groups_of_mounts world gone) ≡ false
     → has_members nat_eq after.mounts group ≡ false → world.master group ≡ None
 no_members world after gone in_use stay group among none = in_use group
-    (none_passes (is_member_of nat_eq group) world.mounts
+    (none_from_among (is_member_of nat_eq group) world.mounts
     (λ mount m. false_from_ne_true (is_member_of nat_eq group mount) (λ is.
     ⊎_elim (λ went. true≢false (sym (is_among_numbers group (groups_of_mounts world gone)
     (among-filter_map (λ x. group_of x.propagation)
@@ -72,9 +72,9 @@ module _ (world : World ℕ) (gone : List ℕ) where
   stays_member : (b : Bool) (mount : Mount ℕ) → is_going nat_eq gone mount.number ≡ false → (group : ℕ)
       → is_member_of nat_eq group mount ≡ true → is_member_of nat_eq group (change b mount) ≡ true
   stays_member true mount isnt group is =
-      grind (arith, common_steps, stays world gone world.namespaces mount isnt, true≢false)
+      grind (arith, common_steps, stays_there world gone world.namespaces mount isnt, true≢false)
   stays_member false mount isnt group is =
-      ap (is_member_of nat_eq group) (stays world gone world.namespaces mount isnt) ∙ is
+      ap (is_member_of nat_eq group) (stays_there world gone world.namespaces mount isnt) ∙ is
 
   masters_end : (b : Bool) (group : ℕ) → world.master group ≡ None → masters b group ≡ None
   masters_end true group e = ap (heir nat_eq without) e
@@ -93,7 +93,7 @@ event_groups world gone in_use =
 
     then_ : GroupsInUseBut (groups_of_mounts world gone) after
     then_ = groups_but world after gone in_use (λ mount m isnt group is.
-        any_passes (is_member_of nat_eq group) after.mounts (change world gone b mount)
+        any_from_among (is_member_of nat_eq group) after.mounts (change world gone b mount)
         (among-map (change world gone b) world.mounts mount m) (stays_member world gone b mount isnt group is))
         (masters_end world gone b)
 
@@ -140,7 +140,7 @@ begun world stand = record {
   root = λ mount. refl;
   filesystem = λ mount. refl;
   place = λ mount at e here there. e;
-  nowhere = λ mount m. passes is_nowhere_or_attached world.mounts stand.nowhere mount m;
+  nowhere = λ mount m. among_from_list_all is_nowhere_or_attached world.mounts stand.nowhere mount m;
   member = λ mount here group is. is;
   master = λ group e. e;
 }
@@ -220,7 +220,7 @@ module _ (world now : World ℕ) (in_use : AllInUse world) (stand : MountsStand 
   placed_in_one : (mount : Mount ℕ) → Among mount world.mounts → (at : Location ℕ) → mount.mount_point ≡ Some at
       → is_some mount.namespace ≡ true
   placed_in_one mount m at p =
-      placed_is_attached mount (passes is_nowhere_or_attached world.mounts stand.nowhere mount m) at p
+      placed_is_attached mount (among_from_list_all is_nowhere_or_attached world.mounts stand.nowhere mount m) at p
 
   stands_in_one : (mount : Mount ℕ) → Among mount world.mounts → (at : Location ℕ) → mount.mount_point ≡ Some at
       → is_some (mount_at nat_eq world at).namespace ≡ true
@@ -230,18 +230,18 @@ module _ (world now : World ℕ) (in_use : AllInUse world) (stand : MountsStand 
       → is_some mount.namespace ≡ true
   member_is_in_one mount m group is = ⊎_elim (λ in_one. in_one) (λ out. absurd (true≢false
       (sym is ∙ private_is_no_member group mount
-      (nowhere_parts mount (passes is_nowhere_or_attached world.mounts stand.nowhere mount m) out).1)))
+      (nowhere_parts mount (among_from_list_all is_nowhere_or_attached world.mounts stand.nowhere mount m) out).1)))
       (cases_Bool (is_some mount.namespace))
 
   lives : (mount : Mount ℕ) → Among mount world.mounts → is_among nat_eq mount.number lost ≡ false
       → mount_lives nat_eq last (faded.change mount) ≡ true
   lives mount m isnt = ⊎_elim
-      (λ in_one. or_first (is_some (faded.change mount).namespace) (is_located nat_eq last (faded.change mount).number)
+      (λ in_one. or_left (is_some (faded.change mount).namespace) (is_located nat_eq last (faded.change mount).number)
       (in_one_still mount m in_one isnt))
-      (λ at. or_second (is_some (faded.change mount).namespace) (is_located nat_eq last (faded.change mount).number)
+      (λ at. or_right (is_some (faded.change mount).namespace) (is_located nat_eq last (faded.change mount).number)
       (ap (is_located nat_eq world) (faded.number mount) ∙ at))
       (or_cases (is_some mount.namespace) (is_located nat_eq world mount.number)
-      (passes (mount_lives nat_eq world) world.mounts in_use.mounts mount m))
+      (among_from_list_all (mount_lives nat_eq world) world.mounts in_use.mounts mount m))
 
   place_still : (mount : Mount ℕ) → Among mount world.mounts → (at : Location ℕ) → mount.mount_point ≡ Some at
       → StillAPlace last.mounts lost at ⊎ Among at (places_lost world lost)
@@ -281,14 +281,14 @@ module _ (world now : World ℕ) (in_use : AllInUse world) (stand : MountsStand 
         (sym (faded.number from.0) ∙ ap (λ (y : Mount ℕ). y.number) (sym from.2)) ∙ isnt);
     locations = λ location m. inl (inl m);
     places = place_still;
-    nowhere = all_pass is_nowhere_or_attached last.mounts (λ x m.
+    nowhere = list_all_from_among is_nowhere_or_attached last.mounts (λ x m.
         let from = among-from_map faded.change world.mounts x m in
         ap is_nowhere_or_attached from.2 ∙ faded.nowhere from.0 from.1);
   }
 
   pub groups : GroupsInUseBut (groups_of_mounts world lost) last
   groups = groups_but world last lost in_use.groups (λ mount m isnt group is.
-      any_passes (is_member_of nat_eq group) last.mounts (faded.change mount)
+      any_from_among (is_member_of nat_eq group) last.mounts (faded.change mount)
       (among-map faded.change world.mounts mount m)
       (faded.member mount (in_one_still mount m (member_is_in_one mount m group is) isnt) group is)) faded.master
 

@@ -2,7 +2,7 @@
 use Rattle.std.proofs.Common.{arith, ◌≡◌, refl, sym, ap, subst, ◌∙◌, ⊎_elim, ℕ, nat_eq, eq-eqb, Bool, true, false, cond, not, ◌||◌, ◌&&◌, List, [], ◌∷◌, filter, map, true≢false, flat_map, ◌++◌, None, All, filter_map}
 use Rattle.vt_spec.proofs.Common.{Filesystem, Layer, Location, World, all_locations, and_parts, cases_Bool, common_steps, filesystem_lives, filter_all, has_layer_on, is_among, is_among_left, is_among_right, is_mounted, is_overlay, layers_in, layers_of, list_all, list_any, located_in, mount_at, mount_lives, named_in, objects_of_overlay, of_overlay, only_used, only_used_by, or_cases, or_parts, root_of, settled, targets_in, used_in, with_mounts, without_dead_filesystems, without_dead_groups, without_dead_in, without_dead_mounts}
 use Rattle.vt_laws_mounts.specs.LettingGo.InUse.{AllInUse, FilesystemsInUse, GroupsInUse, HasTrees, InodesInUse, IsListedTree, MountsInUse, NothingGoes, OneSweepIsEnough, UppersArePlain, WhatIsLeftIsInUse, has_upper_in, is_inode_used}
-use Rattle.vt_laws_mounts.proofs.letting_go.Lists.{Among, all_from_among, all_pass, among-filter, among-flat_map, among-from_flat_map, among-from_map, among-map, among_from_all, any_passes, flat_map_none, one_passes, or_first, among-from_filter, flat_map-filter, flat_map-map, flat_map_alike, is_among_numbers, map_same, or_second, passes}
+use Rattle.vt_laws_mounts.proofs.letting_go.Lists.{Among, all_from_among, list_all_from_among, among-filter, among-flat_map, among-from_flat_map, among-from_map, among-map, among_from_all, any_from_among, flat_map_none, any_among, or_left, among-from_filter, flat_map-filter, flat_map-map, flat_map_alike, is_among_numbers, map_same, or_right, among_from_list_all}
 use Rattle.vt_laws_mounts.proofs.letting_go.Trees.{unnamed_is_empty}
 
 -- Where all is in use
@@ -25,12 +25,12 @@ groups_stay world all = grind (arith, common_steps)
 
 pub mounts_stay : (world : World ℕ) → MountsInUse world → without_dead_mounts nat_eq world ≡ world
 mounts_stay world all = ap (with_mounts world) (filter_all (mount_lives nat_eq world) world.mounts
-    (passes (mount_lives nat_eq world) world.mounts all))
+    (among_from_list_all (mount_lives nat_eq world) world.mounts all))
 
 pub filesystems_stay : (world : World ℕ) → FilesystemsInUse world → without_dead_filesystems nat_eq world ≡ world
 filesystems_stay world all = ap (λ filesystems. record world { filesystems = filesystems })
     (filter_all (filesystem_lives nat_eq world) world.filesystems
-    (passes (filesystem_lives nat_eq world) world.filesystems all))
+    (among_from_list_all (filesystem_lives nat_eq world) world.filesystems all))
 
 pub nothing_goes : NothingGoes
 nothing_goes world all = grind (arith, common_steps, mounts_stay, filesystems_stay, inodes_stay, groups_stay)
@@ -76,7 +76,7 @@ module _ (used : List ℕ) (filesystem : Filesystem ℕ) where
   pub numbers-left : (all : Bool) → list_all (λ number. is_among nat_eq number used) filesystem.files.numbers ≡ all
       → list_all (λ number. is_among nat_eq number used) (left_by all).files.numbers ≡ true
   numbers-left true e = e
-  numbers-left false e = all_pass (λ number. is_among nat_eq number used)
+  numbers-left false e = list_all_from_among (λ number. is_among nat_eq number used)
       (filter (λ number. is_among nat_eq number used) filesystem.files.numbers)
       (λ x m. (among-from_filter (λ number. is_among nat_eq number used) filesystem.files.numbers x m).1)
 
@@ -84,14 +84,14 @@ module _ (used : List ℕ) (filesystem : Filesystem ℕ) where
 pub unused_are_empty : (world : World ℕ) (filesystem : Filesystem ℕ) → IsListedTree filesystem.files
     → UnusedAreEmpty (used_in nat_eq world filesystem) filesystem
 unused_are_empty world filesystem conditions number unused =
-    grind (arith, common_steps, or_parts, unnamed_is_empty, true≢false, eq-eqb, or_second, is_among_left, cases_Bool)
+    grind (arith, common_steps, or_parts, unnamed_is_empty, true≢false, eq-eqb, or_right, is_among_left, cases_Bool)
 
 -- a place that is there is in use
 pub used_at : (world : World ℕ) (filesystem : Filesystem ℕ) (location : Location ℕ) → Among location
     (all_locations world ++ map root_of world.mounts ++ filter_map (λ mount. mount.mount_point) world.mounts)
     → filesystem.number ≡ (mount_at nat_eq world location).filesystem
     → is_inode_used world filesystem location.node ≡ true
-used_at world filesystem location m e = or_second (nat_eq location.node filesystem.files.tree.root) _
+used_at world filesystem location m e = or_right (nat_eq location.node filesystem.files.tree.root) _
     (is_among_left location.node (named_in filesystem.files ++ located_in nat_eq world filesystem.number
     ++ layers_in nat_eq world filesystem.number)
     (flat_map (objects_of_overlay nat_eq filesystem.number) world.filesystems)
@@ -228,9 +228,9 @@ module _ (world : World ℕ) where
       by : (all : Bool) → list_all (λ number. is_among nat_eq number used) filesystem.files.numbers ≡ all
           → list_all (is_inode_used (settled nat_eq world) (left_by used filesystem all))
           (left_by used filesystem all).files.numbers ≡ true
-      by all f = all_pass (is_inode_used (settled nat_eq world) (left_by used filesystem all))
+      by all f = list_all_from_among (is_inode_used (settled nat_eq world) (left_by used filesystem all))
           (left_by used filesystem all).files.numbers (λ number m. still all number
-          (passes (λ n. is_among nat_eq n used) (left_by used filesystem all).files.numbers
+          (among_from_list_all (λ n. is_among nat_eq n used) (left_by used filesystem all).files.numbers
           (numbers-left used filesystem all f) number m))
 
   -- Plain trees
@@ -281,8 +281,8 @@ module _ (world : World ℕ) where
       ap (λ n. is_mounted nat_eq mounted n || list_any (λ merged. has_layer_on nat_eq n merged
       && is_mounted nat_eq mounted merged.number) (settled nat_eq world).filesystems)
       (number-second (after_first filesystem) ∙ number-first filesystem) ∙ ⊎_elim
-      (λ here. or_first (is_mounted nat_eq mounted filesystem.number) _ here)
-      (λ layered. or_second (is_mounted nat_eq mounted filesystem.number) _ (by_overlay layered))
+      (λ here. or_left (is_mounted nat_eq mounted filesystem.number) _ here)
+      (λ layered. or_right (is_mounted nat_eq mounted filesystem.number) _ (by_overlay layered))
       (or_cases (is_mounted nat_eq mounted filesystem.number) _ lives)
     where
       by_overlay : list_any (λ merged. has_layer_on nat_eq filesystem.number merged
@@ -290,15 +290,16 @@ module _ (world : World ℕ) where
           → list_any (λ merged. has_layer_on nat_eq filesystem.number merged && is_mounted nat_eq mounted merged.number)
           (settled nat_eq world).filesystems ≡ true
       by_overlay layered =
-          let t = one_passes (λ merged. has_layer_on nat_eq filesystem.number merged
+          let t = any_among (λ merged. has_layer_on nat_eq filesystem.number merged
           && is_mounted nat_eq mounted merged.number) world.filesystems layered in
           let parts = and_parts (has_layer_on nat_eq filesystem.number t.0)
           (is_mounted nat_eq mounted t.0.number) t.2 in
-          any_passes (λ merged. has_layer_on nat_eq filesystem.number merged && is_mounted nat_eq mounted merged.number)
+          any_from_among
+          (λ merged. has_layer_on nat_eq filesystem.number merged && is_mounted nat_eq mounted merged.number)
           (settled nat_eq world).filesystems (after_second (after_first t.0))
           (among-map after_second first.filesystems (after_first t.0) (among-map after_first living.filesystems t.0
           (among-filter (filesystem_lives nat_eq mounted) world.filesystems t.0 t.1
-          (or_first (is_mounted nat_eq mounted t.0.number) _ parts.1))))
+          (or_left (is_mounted nat_eq mounted t.0.number) _ parts.1))))
           (ap (λ b. b && is_mounted nat_eq mounted (after_second (after_first t.0)).number)
           (layers_on filesystem.number (after_second (after_first t.0))
           ∙ ap (list_any (λ layer. nat_eq filesystem.number layer.filesystem))
@@ -312,9 +313,10 @@ module _ (world : World ℕ) where
 
   pub left_in_use : HasTrees world → UppersArePlain world → AllInUse (settled nat_eq world)
   left_in_use trees plain = record {
-    mounts = all_pass (mount_lives nat_eq world) mounted.mounts
+    mounts = list_all_from_among (mount_lives nat_eq world) mounted.mounts
         (λ mount m. (among-from_filter (mount_lives nat_eq world) world.mounts mount m).1);
-    filesystems = all_pass (filesystem_lives nat_eq (settled nat_eq world)) (settled nat_eq world).filesystems
+    filesystems = list_all_from_among (filesystem_lives nat_eq (settled nat_eq world))
+        (settled nat_eq world).filesystems
         (λ last m. let was = was_there last m in ap (filesystem_lives nat_eq (settled nat_eq world)) was.3
         ∙ still_lives was.0 was.2);
     inodes = all_from_among (λ f. list_all (is_inode_used (settled nat_eq world) f) f.files.numbers ≡ true)

@@ -5,7 +5,7 @@ use Rattle.vt_laws_mounts.specs.LettingGo.InUse.{HasTrees, IsListedTree, is_inod
 use Rattle.vt_laws_mounts.specs.LettingGo.OneByOne.{AllGoesOneByOne, Inode, InodesGoOneByOne, IsPlain, is_inode_among, is_used_or_among, let_go_inode, let_go_inode_of, let_go_inodes}
 use Rattle.vt_laws_mounts.proofs.letting_go.sweeps.InUse.{UnusedAreEmpty, unused_are_empty, no_objects}
 use Rattle.vt_laws_mounts.proofs.letting_go.sweeps.Merged.{named_without}
-use Rattle.vt_laws_mounts.proofs.letting_go.Lists.{Among, flat_map_none, any-filter, among-from_filter, among-from_map, among_from_all, among_numbers, fails, filter_twice, flat_map-map, map_same, none_passes, passes}
+use Rattle.vt_laws_mounts.proofs.letting_go.Lists.{Among, flat_map_none, any-filter, among-from_filter, among-from_map, among_from_all, among_numbers, none_among, filter_twice, flat_map-map, map_same, none_from_among, among_from_list_all}
 use Rattle.vt_laws_mounts.proofs.letting_go.sweeps.OneByOne.{filesystems_go_one_by_one, groups_go_one_by_one, mounts_go_one_by_one}
 use Rattle.std.proofs.Math.Bool.{not-not}
 
@@ -30,7 +30,7 @@ without_none filesystem = ap (λ numbers. record filesystem { files = record fil
 pub no_objects_of : (world : World ℕ) → IsPlain world → (number : ℕ)
     → flat_map (objects_of_overlay nat_eq number) world.filesystems ≡ []
 no_objects_of world plain number = flat_map_none (objects_of_overlay nat_eq number) world.filesystems
-    (λ f m. no_objects world number f (fails is_overlay world.filesystems plain f m))
+    (λ f m. no_objects world number f (none_among is_overlay world.filesystems plain f m))
 
 -- one inode is looked at
 abbrev goes_here : World ℕ → Inode → Filesystem ℕ → ℕ → Bool
@@ -117,9 +117,10 @@ module _ (world : World ℕ) (inode : Inode) (plain : IsPlain world) where
   overlay-step filesystem = ap (λ f. f.overlay) (one_step world inode filesystem)
 
   pub plain-step : IsPlain next
-  plain-step = none_passes is_overlay next.filesystems (λ filesystem m.
+  plain-step = none_from_among is_overlay next.filesystems (λ filesystem m.
       let from = among-from_map step world.filesystems filesystem m in
-      ap is_overlay from.2 ∙ ap is_some (overlay-step from.0) ∙ fails is_overlay world.filesystems plain from.0 from.1)
+      ap is_overlay from.2 ∙ ap is_some (overlay-step from.0) ∙ none_among is_overlay world.filesystems plain from.0
+      from.1)
 
   named-step : (filesystem : Filesystem ℕ) → UnusedAreEmpty (used_in nat_eq world filesystem) filesystem
       → named_in (step filesystem).files ≡ named_in filesystem.files
@@ -198,7 +199,7 @@ node_kept used files numbers all number =
     by true f o there = refl
     by false f None there = refl
     by false f (Some node) there =
-        absurd (true≢false (sym (passes (λ n. is_among nat_eq n used) files.numbers all number
+        absurd (true≢false (sym (among_from_list_all (λ n. is_among nat_eq n used) files.numbers all number
         (among_numbers number files.numbers there)) ∙ f))
 
 pub left_of_plain : (used : List ℕ) (filesystem : Filesystem ℕ) → ListsNumbers nat_eq filesystem.files
@@ -221,7 +222,7 @@ left_of_plain used filesystem numbers plain =
     by : (all : Bool) → list_all (λ number. is_among nat_eq number used) filesystem.files.numbers ≡ all
         → only_used_by nat_eq all used filesystem
         ≡ without_those (λ number. not (is_among nat_eq number used)) filesystem
-    by true e = grind (arith, common_steps, node, node_kept, numbers, filter_all, passes, twice)
+    by true e = grind (arith, common_steps, node, node_kept, numbers, filter_all, among_from_list_all, twice)
     by false e = grind (arith, common_steps, node, numbers, twice, no_real)
 
 -- the numbers beside a tree without some
@@ -247,12 +248,12 @@ plain_sweep world plain = ap (without_dead_in nat_eq (λ filesystem. not (is_ove
     (ap (λ filesystems. record world { filesystems = filesystems })
     (map_same (λ filesystem. only_used nat_eq world (is_overlay filesystem) filesystem) world.filesystems
     (λ filesystem m. ap (λ b. only_used nat_eq world b filesystem)
-    (fails is_overlay world.filesystems plain filesystem m))))
+    (none_among is_overlay world.filesystems plain filesystem m))))
     ∙ ap (λ filesystems. record world { filesystems = filesystems })
     (map_alike (λ filesystem. only_used nat_eq world (not (is_overlay filesystem)) filesystem)
     (λ filesystem. only_used_of nat_eq (used_in nat_eq world filesystem) filesystem) world.filesystems
     (λ filesystem m. ap (λ b. only_used nat_eq world (not b) filesystem)
-    (fails is_overlay world.filesystems plain filesystem m)))
+    (none_among is_overlay world.filesystems plain filesystem m)))
 
 -- What the sweep leaves of a plain tree, where all other inodes are used
 module _ (used : List ℕ) (losers : List Inode) (filesystem : Filesystem ℕ)
@@ -268,7 +269,7 @@ module _ (used : List ℕ) (losers : List Inode) (filesystem : Filesystem ℕ)
       missing : (b : Bool) → is_among nat_eq number filesystem.files.numbers ≡ b
           → is_among nat_eq number filesystem.files.numbers ≡ false
       missing false e = e
-      missing true e = absurd (true≢false (sym (passes (λ n. is_inode_among filesystem.number n losers
+      missing true e = absurd (true≢false (sym (among_from_list_all (λ n. is_inode_among filesystem.number n losers
           || is_among nat_eq n used) filesystem.files.numbers others number
           (among_numbers number filesystem.files.numbers e))
           ∙ ap (λ b. b || is_among nat_eq number used) other ∙ unused))
@@ -280,7 +281,7 @@ module _ (used : List ℕ) (losers : List Inode) (filesystem : Filesystem ℕ)
   unused_goes : (number : ℕ) → Among number filesystem.files.numbers
       → not (not (is_among nat_eq number used)) ≡ not (goes number)
   unfolding goes
-  unused_goes number m = grind (arith, common_steps, passes, numbers, true≢false)
+  unused_goes number m = grind (arith, common_steps, among_from_list_all, numbers, true≢false)
 
   node_swept : (number : ℕ) → cond (not (is_among nat_eq number used)) None (filesystem.files.tree.node number)
       ≡ cond (goes number) None (filesystem.files.tree.node number)
@@ -314,7 +315,7 @@ inodes_go_one_by_one world losers plain trees others = plain_sweep world plain
     let tree = among_from_all (λ f. IsListedTree f.files) world.filesystems trees filesystem m in
     swept (used_in nat_eq world filesystem) losers filesystem tree.numbers
     (among_from_all (λ f. list_all (is_used_or_among losers world f) f.files.numbers
-    ≡ true) world.filesystems others filesystem m) (fails is_overlay world.filesystems plain filesystem m)))
+    ≡ true) world.filesystems others filesystem m) (none_among is_overlay world.filesystems plain filesystem m)))
     ∙ sym (inodes_folded world losers plain (λ filesystem m. unused_are_empty world filesystem
     (among_from_all (λ f. IsListedTree f.files) world.filesystems trees filesystem m)))
 
@@ -323,8 +324,8 @@ pub all_goes_one_by_one : AllGoesOneByOne
 all_goes_one_by_one world losers plain trees others =
     let mounted = without_dead_mounts nat_eq world in
     let living = without_dead_filesystems nat_eq mounted in
-    let plain_living : IsPlain living = none_passes is_overlay living.filesystems (λ filesystem m.
-    fails is_overlay world.filesystems plain filesystem
+    let plain_living : IsPlain living = none_from_among is_overlay living.filesystems (λ filesystem m.
+    none_among is_overlay world.filesystems plain filesystem
     (among-from_filter (filesystem_lives nat_eq mounted) world.filesystems filesystem m).0) in
     let trees_living : HasTrees living = All-filter (filesystem_lives nat_eq mounted)
     (λ filesystem. IsListedTree filesystem.files) world.filesystems trees in

@@ -2,7 +2,7 @@
 use Rattle.std.proofs.Common.{arith, ◌≡◌, refl, sym, ap, ◌∙◌, ℕ, nat_eq, Bool, true, false, cond, not, ◌||◌, ◌&&◌, List, [], filter, true≢false, Option, Some, None, option_map}
 use Rattle.vt_spec.proofs.Common.{Filesystem, ListsNumbers, Overlay, cases_Bool, common_steps, filter_alike, filter_all, is_among, list_all, named_in, only_used_by, only_used_of, real_among, targets_in}
 use Rattle.vt_laws_mounts.specs.LettingGo.Overlays.{real_in}
-use Rattle.vt_laws_mounts.proofs.letting_go.Lists.{Among, filter_twice, flat_map-filter, flat_map_alike, among_numbers, is_among_numbers, passes}
+use Rattle.vt_laws_mounts.proofs.letting_go.Lists.{Among, filter_twice, flat_map-filter, flat_map_alike, among_numbers, is_among_numbers, among_from_list_all}
 use Rattle.std.proofs.Math.Bool.{not-not}
 
 -- without the real objects of the inodes that a test names
@@ -91,7 +91,8 @@ left_of used filesystem numbers has =
         → only_used_by nat_eq all used filesystem ≡ without_all (λ number. not (is_among nat_eq number used)) filesystem
     by true e = sym (without_nothing filesystem)
         ∙ same_without (λ number. false) (λ number. not (is_among nat_eq number used)) filesystem numbers has
-        (λ number there. ap not (sym (passes (λ n. is_among nat_eq n used) filesystem.files.numbers e number
+        (λ number there. ap not
+        (sym (among_from_list_all (λ n. is_among nat_eq n used) filesystem.files.numbers e number
         (among_it number there))))
       where
         among_it : (number : ℕ) → is_among nat_eq number filesystem.files.numbers ≡ true

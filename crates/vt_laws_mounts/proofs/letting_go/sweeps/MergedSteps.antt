@@ -6,7 +6,7 @@ use Rattle.vt_laws_mounts.specs.LettingGo.OneByOne.{Inode, is_inode_among, is_us
 use Rattle.vt_laws_mounts.specs.LettingGo.Overlays.{let_go_in, let_go_in_of, without_inode_of}
 use Rattle.vt_laws_mounts.proofs.letting_go.sweeps.InUse.{UnusedAreEmpty}
 use Rattle.vt_laws_mounts.proofs.letting_go.sweeps.Inodes.{goes_of, goes_on}
-use Rattle.vt_laws_mounts.proofs.letting_go.Lists.{Among, among-from_map, among_numbers, flat_map-step, map_same, passes}
+use Rattle.vt_laws_mounts.proofs.letting_go.Lists.{Among, among-from_map, among_from_list_all, among_numbers, flat_map-step, map_same}
 use Rattle.vt_laws_mounts.proofs.letting_go.sweeps.Merged.{HasReals, left_of, named_without, same_without, without_all, without_both, without_nothing}
 
 pub layers_without : (gone : ℕ → Bool) (filesystem : Filesystem ℕ)
@@ -218,6 +218,6 @@ module _ (chosen : Filesystem ℕ → Bool)
           (goes_of (used_in nat_eq world f) losers f) f all.0.numbers all.1
           (λ number there. same (is_inode_among f.number number losers)
           (is_among nat_eq number (used_in nat_eq world f))
-          (passes (is_used_or_among losers world f) f.files.numbers all.2 number
+          (among_from_list_all (is_used_or_among losers world f) f.files.numbers all.2 number
           (among_numbers number f.files.numbers there)))
       by f m false isnt = sym (without_nothing f)

@@ -6,7 +6,7 @@ use Rattle.vt_laws_mounts.specs.LettingGo.Leaving.{stands_on_attached}
 use Rattle.vt_laws_mounts.specs.LettingGo.Overlays.{real_in}
 use Rattle.vt_laws_mounts.specs.LettingGo.Worlds.{LocationsOfWorldsStand, MountsOfWorldsStand, PlainWorldsAreSettled, RealsOfWorldsAreThere, UppersOfWorldsArePlain, WorldsAreSettled, WorldsHaveTrees}
 use Rattle.vt_laws_mounts.proofs.letting_go.sweeps.InUse.{what_is_left_is_in_use}
-use Rattle.vt_laws_mounts.proofs.letting_go.Lists.{found_by, Among, all_from_among, all_pass, among-append_left, among_from_all, passes}
+use Rattle.vt_laws_mounts.proofs.letting_go.Lists.{found_by, Among, all_from_among, list_all_from_among, among-append_left, among_from_all, among_from_list_all}
 use Rattle.vt_laws_mounts.proofs.letting_go.leaving.PlacesLeft.{found_itself, nowhere_parts}
 
 pub worlds_have_trees : WorldsHaveTrees
@@ -19,7 +19,7 @@ module _ (world : World ℕ) (is : IsWorld nat_eq world) where
   -- a mount with a place is in a namespace
   attached : (mount : Mount ℕ) → Among mount world.mounts → is_some mount.mount_point ≡ true
       → is_some mount.namespace ≡ true
-  attached mount m placed = grind (arith, common_steps, true≢false, nowhere_parts, passes)
+  attached mount m placed = grind (arith, common_steps, true≢false, nowhere_parts, among_from_list_all)
 
   on_attached : (mount : Mount ℕ) → Among mount world.mounts → (place : Location ℕ) → mount.mount_point ≡ Some place
       → is_some (mount_at nat_eq world place).namespace ≡ true
@@ -36,7 +36,8 @@ pub mounts_of_worlds_stand : MountsOfWorldsStand
 mounts_of_worlds_stand world is = record {
   one_number = is.mounts.one_number;
   nowhere = is.mounts.nowhere;
-  on_attached = all_pass (stands_on_attached world) world.mounts (λ mount m. by mount m mount.mount_point refl);
+  on_attached = list_all_from_among (stands_on_attached world) world.mounts
+      (λ mount m. by mount m mount.mount_point refl);
 }
   where
     by : (mount : Mount ℕ) → Among mount world.mounts → (o : Option (Location ℕ)) → mount.mount_point ≡ o
@@ -56,7 +57,8 @@ pub uppers_of_worlds_are_plain : UppersOfWorldsArePlain
 uppers_of_worlds_are_plain world is = all_from_among (λ f. is_overlay f ≡ true
     → All (λ merged. has_upper_in f.number merged ≡ false) world.filesystems) world.filesystems
     (λ f m overlay. all_from_among (λ merged. has_upper_in f.number merged ≡ false) world.filesystems
-    (λ merged n. by f m overlay merged.overlay (passes (of_overlay true (λ o. list_all (is_plain_layer nat_eq world)
+    (λ merged n. by f m overlay merged.overlay
+    (among_from_list_all (of_overlay true (λ o. list_all (is_plain_layer nat_eq world)
     (layers_of o))) world.filesystems is.overlays.plain_layers merged n)))
   where
     by : (f : Filesystem ℕ) → Among f world.filesystems → is_overlay f ≡ true → (o : Option (Overlay ℕ))
@@ -69,7 +71,7 @@ uppers_of_worlds_are_plain world is = all_from_among (λ f. is_overlay f ≡ tru
             → is_overlay (filesystem_numbered nat_eq world layer.filesystem) ≡ false
         plain_layer layer e =
             let parts = and_parts (not (is_overlay (filesystem_numbered nat_eq world layer.filesystem))) _
-            (passes (is_plain_layer nat_eq world) (layers_of overlay) h layer
+            (among_from_list_all (is_plain_layer nat_eq world) (layers_of overlay) h layer
             (among-append_left (option_to_list overlay.upper ++ option_to_list overlay.work) overlay.lowers layer
             (among-append_left (option_to_list overlay.upper) (option_to_list overlay.work) layer
             (subst (λ o. Among layer (option_to_list o)) (sym e) (inl refl))))) in
@@ -104,10 +106,10 @@ reals_of_worlds_are_there world is =
 
 pub locations_of_worlds_stand : LocationsOfWorldsStand
 locations_of_worlds_stand world is =
-    all_pass (λ location. is_among nat_eq location.mount (map (λ mount. mount.number) world.mounts))
+    list_all_from_among (λ location. is_among nat_eq location.mount (map (λ mount. mount.number) world.mounts))
     (all_locations world) (λ location m.
     (and_parts (is_among nat_eq location.mount (map (λ (mount : Mount ℕ). mount.number) world.mounts)) _
-    (passes (is_located_well nat_eq world) (all_locations world) is.tasks.locations_live location m)).0)
+    (among_from_list_all (is_located_well nat_eq world) (all_locations world) is.tasks.locations_live location m)).0)
 
 pub all_in_use : (world : World ℕ) → IsWorld nat_eq world → AllInUse world
 all_in_use world is = subst AllInUse is.nothing_unused

@@ -2,7 +2,7 @@
 use Rattle.std.proofs.Common.{arith, ◌≡◌, refl, sym, ap, ◌∙◌, ℕ, nat_eq, Bool, true, false, cond, not, ◌||◌, ◌&&◌, List, [], ◌∷◌, filter, true≢false, None}
 use Rattle.vt_spec.proofs.Common.{Filesystem, World, and-false, common_steps, filesystem_lives, filter_alike, filter_all, has_members, is_among, mount_lives, or_parts, with_mounts}
 use Rattle.vt_laws_mounts.specs.LettingGo.OneByOne.{FilesystemsGoOneByOne, GroupsGoOneByOne, MountsGoOneByOne, let_go_filesystem, let_go_filesystems, let_go_group, let_go_groups, let_go_mount, let_go_mounts}
-use Rattle.vt_laws_mounts.proofs.letting_go.Lists.{any-filter, filter_twice, passes}
+use Rattle.vt_laws_mounts.proofs.letting_go.Lists.{among_from_list_all, any-filter, filter_twice}
 
 -- one after the other: looked at here, or looked at later
 pub looked_at : (here later lives : Bool)
@@ -29,7 +29,8 @@ mounts_folded world (number ∷ rest) = mounts_folded (let_go_mount world number
     (mount_lives nat_eq world mount)) world.mounts)
 
 pub mounts_go_one_by_one : MountsGoOneByOne
-mounts_go_one_by_one world losers others = grind (arith, common_steps, filter_alike, kept_alike, passes, mounts_folded)
+mounts_go_one_by_one world losers others = grind
+    (arith, common_steps, filter_alike, kept_alike, among_from_list_all, mounts_folded)
 
 -- Filesystems: one that is not mounted keeps none
 filesystem_by_others : (world : World ℕ) (number : ℕ) (filesystem : Filesystem ℕ)
@@ -59,7 +60,7 @@ filesystems_folded world (number ∷ rest) = filesystems_folded (let_go_filesyst
 
 pub filesystems_go_one_by_one : FilesystemsGoOneByOne
 filesystems_go_one_by_one world losers others =
-    grind (arith, common_steps, filter_alike, kept_alike, passes, filesystems_folded)
+    grind (arith, common_steps, filter_alike, kept_alike, among_from_list_all, filesystems_folded)
 
 -- Groups
 groups_folded : (world : World ℕ) (losers : List ℕ) → let_go_groups world losers ≡ record world {

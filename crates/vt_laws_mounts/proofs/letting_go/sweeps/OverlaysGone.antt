@@ -4,7 +4,7 @@ use Rattle.vt_spec.proofs.Common.{Filesystem, Layer, World, filesystem_lives, is
 use Rattle.vt_laws_mounts.specs.LettingGo.InUse.{is_inode_used}
 use Rattle.vt_laws_mounts.specs.LettingGo.OneByOne.{FilesystemsInUseBut, Inode, is_inode_among, is_used_or_among}
 use Rattle.vt_laws_mounts.specs.LettingGo.Overlays.{FilesystemsTakeTheirUses, used_by_filesystem, used_by_filesystems, used_by_numbered, uppers_in}
-use Rattle.vt_laws_mounts.proofs.letting_go.Lists.{Among, all_from_among, all_pass, among-append_left, among-append_right, among-filter, among-flat_map, among-from_filter, among-from_flat_map, among-from_map, among-map, among_from_all, among_numbers, any_passes, is_among_numbers, one_passes, or_first, or_second, passes}
+use Rattle.vt_laws_mounts.proofs.letting_go.Lists.{Among, all_from_among, among-append_left, among-append_right, among-filter, among-flat_map, among-from_filter, among-from_flat_map, among-from_map, among-map, among_from_all, among_from_list_all, among_numbers, any_among, any_from_among, is_among_numbers, list_all_from_among, or_left, or_right}
 use Rattle.vt_laws_mounts.proofs.letting_go.sweeps.WithOverlays.{object_parts}
 
 module _ (world : World ℕ) (losers : List ℕ) (others : FilesystemsInUseBut losers world) where
@@ -18,14 +18,15 @@ module _ (world : World ℕ) (losers : List ℕ) (others : FilesystemsInUseBut l
   lives_or_named : (g : Filesystem ℕ) → Among g world.filesystems
       → (filesystem_lives nat_eq world g ≡ true) ⊎ (is_among nat_eq g.number losers ≡ true)
   lives_or_named g m = ⊎_elim inr inl (or_cases (is_among nat_eq g.number losers) (filesystem_lives nat_eq world g)
-      (passes (λ x. is_among nat_eq x.number losers || filesystem_lives nat_eq world x) world.filesystems others g m))
+      (among_from_list_all (λ x. is_among nat_eq x.number losers || filesystem_lives nat_eq world x) world.filesystems
+      others g m))
 
   named_use : (g : Filesystem ℕ) → Among g world.filesystems → is_among nat_eq g.number losers ≡ true
       → (filesystem number target : ℕ) → nat_eq filesystem target ≡ true → Among (target, number) (used_by_filesystem g)
       → is_inode_among filesystem number taken ≡ true
   named_use g m loses filesystem number target same used =
-      let t = one_passes (nat_eq g.number) losers loses in
-      any_passes (λ inode. nat_eq filesystem inode.0 && nat_eq number inode.1) taken (target, number)
+      let t = any_among (nat_eq g.number) losers loses in
+      any_from_among (λ inode. nat_eq filesystem inode.0 && nat_eq number inode.1) taken (target, number)
       (among-flat_map (used_by_numbered world) losers t.0 (target, number) t.1
       (among-flat_map (λ x. cond (nat_eq x.number t.0) (used_by_filesystem x) []) world.filesystems g (target, number) m
       (subst (λ b. Among (target, number) (cond b (used_by_filesystem g) [])) (sym t.2) used)))
@@ -107,9 +108,9 @@ filesystems_take_their_uses world losers inodes others used =
     all_from_among (λ f. list_all (is_used_or_among (inodes ++ used_by_filesystems world losers)
     (without_dead_filesystems nat_eq world) f) f.files.numbers ≡ true)
     (without_dead_filesystems nat_eq world).filesystems
-    (λ f m. all_pass (is_used_or_among (inodes ++ used_by_filesystems world losers)
+    (λ f m. list_all_from_among (is_used_or_among (inodes ++ used_by_filesystems world losers)
     (without_dead_filesystems nat_eq world) f) f.files.numbers (λ number n. each f number
-    (passes (is_used_or_among inodes world f) f.files.numbers
+    (among_from_list_all (is_used_or_among inodes world f) f.files.numbers
     (among_from_all (λ x. list_all (is_used_or_among inodes world x) x.files.numbers ≡ true) world.filesystems used f
     (among-from_filter (filesystem_lives nat_eq world) world.filesystems f m).0) number n)))
   where
@@ -122,10 +123,10 @@ filesystems_take_their_uses world losers inodes others used =
     each : (f : Filesystem ℕ) (number : ℕ) → is_used_or_among inodes world f number ≡ true
         → is_used_or_among (inodes ++ used_by_filesystems world losers)
         (without_dead_filesystems nat_eq world) f number ≡ true
-    each f number h = ⊎_elim (λ a. or_first _ (is_inode_used (without_dead_filesystems nat_eq world) f number)
-        (more f number (or_first _ _ a))) (λ u. ⊎_elim
-        (λ there. or_second (is_inode_among f.number number (inodes ++ used_by_filesystems world losers)) _ there)
-        (λ named. or_first _ (is_inode_used (without_dead_filesystems nat_eq world) f number)
-        (more f number (or_second (is_inode_among f.number number inodes) _ named)))
+    each f number h = ⊎_elim (λ a. or_left _ (is_inode_used (without_dead_filesystems nat_eq world) f number)
+        (more f number (or_left _ _ a))) (λ u. ⊎_elim
+        (λ there. or_right (is_inode_among f.number number (inodes ++ used_by_filesystems world losers)) _ there)
+        (λ named. or_left _ (is_inode_used (without_dead_filesystems nat_eq world) f number)
+        (more f number (or_right (is_inode_among f.number number inodes) _ named)))
         (still_used world losers others f number u))
         (or_cases (is_inode_among f.number number inodes) (is_inode_used world f number) h)

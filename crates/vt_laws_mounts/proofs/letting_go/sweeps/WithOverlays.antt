@@ -5,7 +5,7 @@ use Rattle.vt_laws_mounts.specs.LettingGo.InUse.{HasTrees, IsListedTree, UppersA
 use Rattle.vt_laws_mounts.specs.LettingGo.OneByOne.{Inode, InodesInUseBut, is_inode_among, is_used_or_among}
 use Rattle.vt_laws_mounts.specs.LettingGo.Overlays.{AllInodesGoOneByOne, MergedGoOneByOne, RealsAreThere, WithOverlaysAllGoes, is_plain, let_go_plain, uppers_in, uppers_of, uppers_of_inode, uppers_of_inode_in}
 use Rattle.vt_laws_mounts.proofs.letting_go.sweeps.InUse.{layers-left, no_objects, no_upper_objects, overlay-left, unused_are_empty}
-use Rattle.vt_laws_mounts.proofs.letting_go.Lists.{Among, all_from_among, all_pass, among-filter, among-filter_map, among-flat_map, among-from_filter, among-from_filter_map, among-from_flat_map, among-from_map, among-map, among_from_all, among_numbers, any_passes, flat_map-map, is_among_numbers, one_passes, passes}
+use Rattle.vt_laws_mounts.proofs.letting_go.Lists.{Among, all_from_among, among-filter, among-filter_map, among-flat_map, among-from_filter, among-from_filter_map, among-from_flat_map, among-from_map, among-map, among_from_all, among_from_list_all, among_numbers, any_among, any_from_among, flat_map-map, is_among_numbers, list_all_from_among}
 use Rattle.vt_laws_mounts.proofs.letting_go.sweeps.Merged.{HasReals, left_of, reals_without, without_all}
 use Rattle.vt_laws_mounts.proofs.letting_go.sweeps.MergedSteps.{Apart, ChosenAreEmpty, chosen_go_one_by_one}
 use Rattle.vt_laws_mounts.proofs.letting_go.sweeps.OneByOne.{filesystems_go_one_by_one, groups_go_one_by_one, mounts_go_one_by_one}
@@ -77,9 +77,9 @@ upper_looked_at : (world : World ℕ) (losers : List Inode) (number object k : �
     → upper_object (overlay.real k) ≡ Some object → is_inode_among g.number k losers ≡ true
     → is_inode_among number object (uppers_of world losers) ≡ true
 upper_looked_at world losers number object k g overlay layer m e d c r among =
-    let t = one_passes (λ inode. nat_eq g.number inode.0 && nat_eq k inode.1) losers among in
+    let t = any_among (λ inode. nat_eq g.number inode.0 && nat_eq k inode.1) losers among in
     let parts = and_parts (nat_eq g.number t.0.0) (nat_eq k t.0.1) t.2 in
-    any_passes (λ inode. nat_eq number inode.0 && nat_eq object inode.1) (uppers_of world losers)
+    any_from_among (λ inode. nat_eq number inode.0 && nat_eq object inode.1) (uppers_of world losers)
     (layer.filesystem, object) (among-flat_map (uppers_of_inode world) losers t.0 (layer.filesystem, object) t.1
     (among-flat_map (uppers_of_inode_in t.0) world.filesystems g (layer.filesystem, object) m
     (subst (λ l. Among (layer.filesystem, object) l) (sym (there t.0 parts.0 parts.1)) (inl refl))))
@@ -151,7 +151,7 @@ module _ (world : World ℕ) (losers : List Inode) (trees : HasTrees world) (rea
       by g n overlay e layer d c k l r false unused =
           inr (upper_looked_at world losers number object k g overlay layer n e d c r
           (looked (is_inode_among g.number k losers) (is_inode_used world g k)
-          (passes (is_used_or_among losers world g) g.files.numbers
+          (among_from_list_all (is_used_or_among losers world g) g.files.numbers
           (among_from_all (λ x. list_all (is_used_or_among losers world x) x.files.numbers
           ≡ true) world.filesystems others g n) k l) unused))
         where
@@ -184,8 +184,8 @@ module _ (world : World ℕ) (losers : List Inode) (trees : HasTrees world) (rea
       (plain_apart after) plain_empty (λ f m is. let was = plain_was f m is in (
         among_from_all (λ x. IsListedTree x.files) world.filesystems trees f was,
         among_from_all HasReals world.filesystems reals f was,
-        all_pass (is_used_or_among (losers ++ uppers_of world losers) after f) f.files.numbers
-            (λ number n. still_used f number (passes (is_used_or_among losers world f) f.files.numbers
+        list_all_from_among (is_used_or_among (losers ++ uppers_of world losers) after f) f.files.numbers
+            (λ number n. still_used f number (among_from_list_all (is_used_or_among losers world f) f.files.numbers
             (among_from_all (λ x. list_all (is_used_or_among losers world x) x.files.numbers
             ≡ true) world.filesystems others f was) number n)),
       ))

@@ -12,7 +12,7 @@ use Rattle.vt_laws_rules.specs.Granted.{IsGranted}
 use Rattle.vt_laws_rules.specs.Granted.IsGranted.{changes_mark, changes_mode, changes_owner, creates, creates_exclusively, keeps_names, makes_directory, makes_hard_link, makes_symlink, makes_whiteout, opens, opens_existing, overwrites_file, removes_directory, renames, unlinks, writes_new_file, writes_part}
 use Rattle.vt_spec.specs.Rights.{cap_chown, is_member}
 use Rattle.vt_spec.specs.declared.attributes.Attr.{Attr}
-use Rattle.vt_laws_trees.proofs.trees.TreesWalked.{Ends, at_end, not_true}
+use Rattle.vt_laws_trees.proofs.trees.TreesWalked.{Ends, at_end, not-false}
 use Rattle.vt_laws_trees.specs.Trees.Settling.{inode_in}
 
 -- Entries
@@ -62,13 +62,13 @@ module _ (fresh : Fresh ℕ) (world : World ℕ) (task : Task ℕ) where
           || is_among same_entry (directory, name) ((to.parent.node, name_of to.last) ∷ [])) ≡ true
           → MayEnter (mount_at nat_eq world from.parent).filesystem directory
       by true f e =
-          one from.parent (name_of from.last) (not_true _ may.0, from_searched) directory name (ap (λ b. b || false) f)
+          one from.parent (name_of from.last) (not-false _ may.0, from_searched) directory name (ap (λ b. b || false) f)
       by false f e =
           let mounts : from.parent.mount ≡ to.parent.mount = eqb-true from.parent.mount to.parent.mount
-          (not_true _ passed.1.1.1.1.1.1.1.1.0) in
+          (not-false _ passed.1.1.1.1.1.1.1.1.0) in
           subst (λ m. MayEnter (mount_at nat_eq world
           (record { mount = m; node = from.parent.node })).filesystem directory) (sym mounts)
-          (one to.parent (name_of to.last) (not_true _ may.1, to_searched) directory name
+          (one to.parent (name_of to.last) (not-false _ may.1, to_searched) directory name
           (ap (λ b. b || is_among same_entry (directory, name) ((to.parent.node, name_of to.last) ∷ [])) (sym f) ∙ e))
 
   -- where a walk ends, the directory of a name may be searched
@@ -81,35 +81,35 @@ module _ (fresh : Fresh ℕ) (world : World ℕ) (task : Task ℕ) where
       λ directory name e. absurd (true≢false (sym e))
   names_granted call permit (writes_new_file path bytes place end named missing fits passed) changes =
       one place.parent (name_of place.last) (
-        not_true _ passed.1.1.1.0,
+        not-false _ passed.1.1.1.0,
         searched _ place end (searched_file_walk world task path) (or_parts _ place.slash named.0).0,
       )
   names_granted call permit (makes_directory path mode place end passed) changes =
       one place.parent (name_of place.last) (
-        not_true _ passed.1.1.1.1.1.0,
+        not-false _ passed.1.1.1.1.1.0,
         searched _ place end (searched_new_walk world task path) passed.0,
       )
   names_granted call permit (makes_symlink text path place fits end passed) changes =
       one place.parent (name_of place.last) (
-        not_true _ passed.1.1.1.1.1.0,
+        not-false _ passed.1.1.1.1.1.0,
         searched _ place end (searched_new_leaf_walk world task path) passed.0,
       )
   names_granted call permit (makes_whiteout path place end passed) changes = one place.parent (name_of place.last) (
-    not_true _ passed.1.1.1.1.1.0,
+    not-false _ passed.1.1.1.1.1.0,
     searched _ place end (searched_new_leaf_walk world task path) passed.0,
   )
   names_granted call permit (makes_hard_link old new from place from_end end named passed) changes =
       one place.parent (name_of place.last) (
-        not_true _ passed.1.1.1.1.1.1.0,
+        not-false _ passed.1.1.1.1.1.1.0,
         searched _ place end (searched_new_leaf_walk world task new) named.0,
       )
   names_granted call permit (unlinks path place end named passed) changes = one place.parent (name_of place.last) (
-    not_true _ passed.1.1.1.1.0,
+    not-false _ passed.1.1.1.1.0,
     searched _ place end (searched_old_leaf_walk world task path) named.0,
   )
   names_granted call permit (removes_directory path place end word passed) changes =
       one place.parent (name_of place.last) (
-        not_true _ passed.1.1.1.1.1.1.0,
+        not-false _ passed.1.1.1.1.1.1.0,
         searched _ place end (searched_old_walk world task path) (special_word place.last word.0 word.1.0 word.1.1.0),
       )
   names_granted call permit (keeps_names old new from to names same passed) changes = tt
@@ -122,12 +122,12 @@ module _ (fresh : Fresh ℕ) (world : World ℕ) (task : Task ℕ) where
   names_granted call permit (opens_existing path access mode place file room end named there passed) changes = tt
   names_granted call permit (creates path access mode place room end named missing passed) changes =
       one place.parent (name_of place.last) (
-        not_true _ passed.1.1.1.0,
+        not-false _ passed.1.1.1.0,
         searched _ place end (searched_file_walk world task path) (or_parts _ place.slash named.0).0,
       )
   names_granted call permit (creates_exclusively path access mode place room end named passed) changes =
       one place.parent (name_of place.last) (
-        not_true _ passed.1.1.1.0,
+        not-false _ passed.1.1.1.0,
         searched _ place end (searched_new_walk world task path) named.0,
       )
   names_granted call permit granted changes = absurd (true≢false (sym changes))
@@ -172,9 +172,9 @@ module _ (fresh : Fresh ℕ) (world : World ℕ) (task : Task ℕ) (filesystem n
   bytes_granted : (call : Call) (permit : Permit ℕ) → GrantedHere call permit → writes_bytes call ≡ true
       → WrittenByRight permit
   bytes_granted call permit (overwrites_file path bytes place file end named there passed) writes =
-      at_location MayWrite file (inl (not_true _ passed.1.1.1.1.1.1.0))
+      at_location MayWrite file (inl (not-false _ passed.1.1.1.1.1.1.0))
   bytes_granted call permit (writes_new_file path bytes place end named missing fits passed) writes =
-      at_directory MayWrite place.parent (inl (not_true _ passed.1.1.1.0))
+      at_directory MayWrite place.parent (inl (not-false _ passed.1.1.1.0))
   bytes_granted call permit (writes_part which offset bytes descriptor found passed) writes = by bytes
     where
       there : (descriptor_numbered task which ≡ Some descriptor) × (descriptor.writes ≡ true)
@@ -203,7 +203,7 @@ module _ (fresh : Fresh ℕ) (world : World ℕ) (task : Task ℕ) (filesystem n
       → OwnedSo (λ was. owns task.credentials was.attr) permit
   mode_granted call permit (changes_mode path mode here end passed) sets =
       set_so (λ was. owns task.credentials was.attr) here.location (owns task.credentials)
-      (not_true _ passed.1.1.1.0) (λ was. refl) (attr_with_mode (attr_at shown here.location) mode)
+      (not-false _ passed.1.1.1.0) (λ was. refl) (attr_with_mode (attr_at shown here.location) mode)
   mode_granted call permit granted sets = absurd (true≢false (sym sets))
 
   abbrev chowns : Attr → Bool
@@ -223,12 +223,12 @@ module _ (fresh : Fresh ℕ) (world : World ℕ) (task : Task ℕ) (filesystem n
   owner_granted call permit (changes_owner path uid gid here end passed) sets =
       set_so (λ was. chowns was.attr) here.location chowns
       (owner_or (attr_at shown here.location) (attr_with_owner (attr_at shown here.location) uid gid)
-      (not_true _ passed.1.1.1.0)) (λ was. refl) (attr_with_owner (attr_at shown here.location) uid gid)
+      (not-false _ passed.1.1.1.0)) (λ was. refl) (attr_with_owner (attr_at shown here.location) uid gid)
   owner_granted call permit granted sets = absurd (true≢false (sym sets))
 
   mark_granted : (call : Call) (permit : Permit ℕ) → GrantedHere call permit → sets_mark call ≡ true
       → has_all task.credentials.capabilities cap_sys_admin ≡ true
-  mark_granted call permit (changes_mark path mark here admin end passed) sets = not_true _ admin.0
+  mark_granted call permit (changes_mark path mark here admin end passed) sets = not-false _ admin.0
   mark_granted call permit granted sets = absurd (true≢false (sym sets))
 
 either : {P : Type 0} (b : Bool) → (b ≡ false → P) → (b ≡ true → P) → P

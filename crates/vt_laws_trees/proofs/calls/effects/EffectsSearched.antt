@@ -3,7 +3,7 @@ use Rattle.std.proofs.Common.{◌≡◌, true≢false, ℕ, suc, zero, ◌+◌, 
 use Rattle.vt_spec.proofs.Common.{Dot, DotDot, Here, LastWord, Location, Named, NoWord, Place, Stop, Task, World, ends_in_slash, execute_right, file_or_symlink, file_walked, final_word, followed, is_special, looks_of, most_symlinks, new_name_rules, node_allows, node_at, path_text, prefix_walked, rename_new_walk, symlink_of, then_walk, walk_start, walk_unless, words}
 use Rattle.vt_spec.specs.declared.errors.Rule.TheVariants.{W3, W6}
 use Rattle.vt_spec.proofs.Walk.{file_walk, follow_rules, is_directory_there, symlink_start, symlink_there, new_leaf_walk, new_walk, object_named, old_leaf_walk, old_walk, place_walk, placed, search_rules, steps_at}
-use Rattle.vt_laws_trees.proofs.trees.TreesWalked.{Ends, ends_next, ends_step, ends_then, ends_unless, not_true}
+use Rattle.vt_laws_trees.proofs.trees.TreesWalked.{Ends, ends_next, ends_step, ends_then, ends_unless, not-false}
 
 module _ (world : World ℕ) (task : Task ℕ) where
   abbrev pub MaySearch : Location ℕ → Type 0
@@ -23,7 +23,7 @@ module _ (world : World ℕ) (task : Task ℕ) where
       (object_named nat_eq world task here.location DotDot) _ (λ passed object e named. absurd (true≢false named))
   searched_placed here (Named name) slash =
       ends_step IsSearched (steps_at nat_eq world task here (Named name)) (search_rules nat_eq world task here.location)
-      (object_named nat_eq world task here.location (Named name)) _ (λ passed object e named. not_true _ passed.1.0)
+      (object_named nat_eq world task here.location (Named name)) _ (λ passed object e named. not-false _ passed.1.0)
 
   searched_place_walk : (path : List ℕ) → Ends IsSearched (place_walk nat_eq world task path)
   searched_place_walk path = ends_next IsSearched (path_text path) _ (λ text.

@@ -3,12 +3,17 @@ use Rattle.std.proofs.Common.{Bool, Ok, false, nat_eq, refl, true≢false, ℕ, 
 use Rattle.vt_spec.proofs.Common.{Dot, DotDot, Here, LastWord, Location, Named, NoWord, NoneFails, Place, Task, World, is_no_word}
 use Rattle.vt_laws_trees.specs.Calls.Searched.{EachLastWordIsLookedUpByRight, EachWordIsLookedUpByRight, IsSearchable}
 use Rattle.vt_spec.proofs.Walk.{object_named, placed, search_rules, stepped, steps_at, steps_with, word_walked}
-use Rattle.vt_laws_trees.proofs.trees.TreesWalked.{Ends, at_end, ends_step, not_true}
+use Rattle.vt_laws_trees.proofs.trees.TreesWalked.{Ends, at_end, ends_step, not-false}
 
 module _ (world : World ℕ) (task : Task ℕ) where
   searchable : (here : Location ℕ) → NoneFails (search_rules nat_eq world task here) → IsSearchable world task here
   searchable here passed =
-      record { directory = not_true _ passed.0; by_task = not_true _ passed.1.0; by_mounter = not_true _ passed.1.1.0 }
+      record {
+        directory = not-false _ passed.0;
+        by_task = not-false _ passed.1.0;
+        by_mounter = not-false _
+            passed.1.1.0;
+      }
 
   -- the place where a word was looked up, and where it leads
   abbrev pub IsStep : Location ℕ → LastWord → Here ℕ → Type 0

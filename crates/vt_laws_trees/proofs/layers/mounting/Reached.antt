@@ -6,7 +6,7 @@ use Rattle.vt_spec.specs.declared.errors.Rule.TheVariants.{W3, W8}
 use Rattle.vt_spec.proofs.Tables.{each_walked, layers_walked, overlay_at, source_walk, walked_if_given}
 use Rattle.vt_spec.proofs.Walk.{directory_walk}
 use Rattle.vt_laws_trees.proofs.trees.TreesOfWorlds.{numbered_all}
-use Rattle.vt_laws_trees.proofs.trees.TreesWalked.{Ends, ends_next, ends_then, ends_unless, not_true}
+use Rattle.vt_laws_trees.proofs.trees.TreesWalked.{Ends, ends_next, ends_then, ends_unless, not-false}
 
 -- a directory that is not removed is reached
 reached_tree : (tree : Tree ℕ) → IsTree tree → (directory : ℕ) → IsDirectory tree directory
@@ -55,7 +55,7 @@ module _ (world : World ℕ) (conditions : IsWorld nat_eq world) (task : Task �
       (λ here.
       ends_unless (λ there. is_directory_at nat_eq world there.location ≡ true) here.steps
       ((not (is_directory_at nat_eq world here.location), W3) ∷ []) here
-      (λ passed. not_true (is_directory_at nat_eq world here.location) passed.0))) (λ here is.
+      (λ passed. not-false (is_directory_at nat_eq world here.location) passed.0))) (λ here is.
       ends_unless (λ there. Reached there.location) here.steps
       ((is_removed_at nat_eq world here.location, W8) ∷ []) here (λ passed. reached_at here.location is passed.0))
 

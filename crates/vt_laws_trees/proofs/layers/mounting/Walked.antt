@@ -6,7 +6,7 @@ use Rattle.vt_spec.specs.declared.errors.Deny.{Deny}
 use Rattle.vt_spec.specs.declared.errors.Rule.TheVariants.{W3, W8}
 use Rattle.vt_spec.proofs.Tables.{each_walked, layer_rules, layers_walked, overlay_at, source_walk, walked_if_given}
 use Rattle.vt_spec.proofs.Walk.{directory_walk}
-use Rattle.vt_laws_trees.proofs.trees.TreesWalked.{Ends, ends_next, ends_then, ends_unless, not_true}
+use Rattle.vt_laws_trees.proofs.trees.TreesWalked.{Ends, ends_next, ends_then, ends_unless, not-false}
 use Rattle.vt_laws_trees.specs.Layers.Layers.NewOverlays.{NoneRefuses}
 
 pub gives_then : {A B : Type 0} (Q : A → Type 0) (R : B → Type 0) (r : Result A Deny) (next : A → Result B Deny)
@@ -34,7 +34,7 @@ module _ (world : World ℕ) (task : Task ℕ) where
       (λ here.
       ends_unless (λ there. is_directory_at nat_eq world there.location ≡ true) here.steps
       ((not (is_directory_at nat_eq world here.location), W3) ∷ []) here
-      (λ passed. not_true (is_directory_at nat_eq world here.location) passed.0))) (λ here is.
+      (λ passed. not-false (is_directory_at nat_eq world here.location) passed.0))) (λ here is.
       ends_unless (λ there. is_directory_at nat_eq world there.location ≡ true) here.steps
       ((is_removed_at nat_eq world here.location, W8) ∷ []) here (λ passed. is))
 

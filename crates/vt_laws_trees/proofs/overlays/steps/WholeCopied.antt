@@ -23,7 +23,7 @@ use Rattle.vt_laws_trees.proofs.layers.views.Stay.{inode_moves_no_path}
 use Rattle.vt_laws_trees.proofs.overlays.whole.UpperGoes.{Goes, goes_by}
 use Rattle.vt_laws_trees.proofs.overlays.steps.WholeAttributes.{top_open, upper_real}
 use Rattle.vt_laws_trees.proofs.overlays.steps.WholeGrown.{directory_alike, grown_is_fine}
-use Rattle.vt_laws_trees.proofs.overlays.steps.WholeNames.{above_named, cut_shows_none, named_led, through_bare, through_free, whole_again, directory_above, entry_named_so, is_fine, named_above, over_same, same_entry, same_through, top_good}
+use Rattle.vt_laws_trees.proofs.overlays.steps.WholeNames.{above_named, cut_shows_none, named_led, through_bare, through_free, whole_again, directory_stands, entry_named_so, is_fine, named_above, over_same, same_entry, same_through, top_good}
 use Rattle.vt_laws_trees.proofs.overlays.steps.WholeParts.{IsFine, real_by, real_by_none}
 use Rattle.vt_spec.proofs.NodeChanges.{kind_of-copied_content}
 
@@ -288,7 +288,7 @@ module _ (stack : Stack ℕ) (merge : Merge ℕ) (whole : IsWhole stack merge) (
     real_d = upper_real merge d stands
 
     ud_directory : is_directory_node (merge.upper.tree.node ud) ≡ true
-    ud_directory = directory_above stack merge whole d ud real_d ∙ has_entries merge.files.tree d w object has
+    ud_directory = directory_stands stack merge whole d ud real_d ∙ has_entries merge.files.tree d w object has
 
     way : (q : List (List ℕ)) × (number_at_path merge.files q ≡ Some d)
     way = let reached = is_reached_in merge.files whole.tree d w object has in

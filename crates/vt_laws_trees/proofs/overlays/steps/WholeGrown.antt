@@ -2,7 +2,7 @@
 use Rattle.std.proofs.Common.{arith, ◌≡◌, ◌≢◌, refl, sym, ap, subst, ◌∙◌, true≢false, eqb-true, eq-eqb, ℕ, nat_eq, Bool, true, false, cond, List, Option, Some, None, is_some, bytes_eq}
 use Rattle.vt_spec.proofs.Common.{Content, FileTree, Lower, Merge, Node, Real, SameObject, Stack, Upper, bytes_of, common_steps, eqb_tells, is_directory, is_directory_node, is_kind_in, is_opaque_in, kind_of, none_before, number_at_path, same_Some, same_content, then_some, with_real}
 use Rattle.vt_spec.specs.declared.attributes.Kind.{Kind}
-use Rattle.vt_spec.specs.declared.attributes.Kind.TheVariants.{Dir, File, Symlink as SymlinkKind, White}
+use Rattle.vt_spec.specs.declared.attributes.Kind.TheVariants.{Dir, File, Symlink, White}
 use Rattle.vt_laws_trees.specs.Layers.Layers.Mounted.{IsAlike}
 use Rattle.vt_laws_trees.specs.Overlays.WhatIsShown.{inode_behind, real_seen}
 use Rattle.vt_laws_trees.proofs.layers.layers.ShownAlike.{white_alike}
@@ -13,7 +13,7 @@ use Rattle.vt_laws_trees.proofs.layers.views.Names.{make_seen}
 same_by : Kind → Kind → List ℕ → List ℕ → Bool
 same_by Dir Dir a b = true
 same_by File File a b = bytes_eq a b
-same_by SymlinkKind SymlinkKind a b = bytes_eq a b
+same_by Symlink Symlink a b = bytes_eq a b
 same_by one other a b = false
 
 content_by : (a b : Content ℕ) → same_content a b ≡ same_by (kind_of a) (kind_of b) (bytes_of a) (bytes_of b)

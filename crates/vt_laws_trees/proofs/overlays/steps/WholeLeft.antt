@@ -17,7 +17,7 @@ use Rattle.vt_laws_trees.proofs.layers.views.Names.{alike_after, alike_both, ali
 use Rattle.vt_laws_trees.proofs.layers.views.Walks.{passes}
 use Rattle.vt_laws_trees.specs.Overlays.WhatIsShown.{IsWhole}
 use Rattle.vt_laws_trees.proofs.overlays.steps.WholeAttributes.{top_open}
-use Rattle.vt_laws_trees.proofs.overlays.steps.WholeNames.{above_named, directory_above, entry_named_so, is_fine, named_above}
+use Rattle.vt_laws_trees.proofs.overlays.steps.WholeNames.{above_named, directory_stands, entry_named_so, is_fine, named_above}
 
 -- a path that does not go through the one entry that changes
 module _ (before after : Tree ℕ) (to : ℕ) (new : List ℕ) (value : Option ℕ) (told : (other : ℕ) (word : List ℕ)
@@ -123,7 +123,7 @@ module _ (stack : Stack ℕ) (merge : Merge ℕ) (whole : IsWhole stack merge) (
       top_tree = (top_open stack merge whole).0
 
       uo_directory : IsDirectory merge.upper.tree uo
-      uo_directory = directory_above stack merge whole object uo real_o ∙ is_dir
+      uo_directory = directory_stands stack merge whole object uo real_o ∙ is_dir
 
       at : (front : List (List ℕ)) (name : List ℕ) (o : Option ℕ) → led merge.upper.tree stack.directory front ≡ o
           → option_and_then (λ n. entry_at merge.upper.tree n name) o ≡ Some uo

@@ -14,7 +14,7 @@ use Rattle.vt_laws_trees.proofs.layers.views.Fronts.{hides_so, hiding_alike}
 use Rattle.vt_laws_trees.proofs.layers.views.Names.{add_name_adds_path, add_name_is_seen, names_leave_inodes, no_entries}
 use Rattle.vt_laws_trees.proofs.overlays.steps.WholeAttributes.{top_open, upper_real}
 use Rattle.vt_laws_trees.proofs.overlays.steps.WholeMade.{white_bare}
-use Rattle.vt_laws_trees.proofs.overlays.steps.WholeNames.{cut_shows_none, directory_above, is_fine, named_above, object_above, same_entry, same_through, through_bare, through_free}
+use Rattle.vt_laws_trees.proofs.overlays.steps.WholeNames.{cut_shows_none, directory_stands, is_fine, named_above, object_above, same_entry, same_through, through_bare, through_free}
 use Rattle.vt_laws_trees.proofs.overlays.steps.WholeParts.{IsFine, real_by, real_by_none, what_is_shown}
 use Rattle.vt_laws_trees.proofs.overlays.steps.WholeStill.{rearranged_is_fine}
 
@@ -70,10 +70,10 @@ module _ (stack : Stack ℕ) (merge : Merge ℕ) (whole : IsWhole stack merge) (
   real_object = upper_real merge object own
 
   ud_directory : is_directory_node (merge.upper.tree.node ud) ≡ true
-  ud_directory = directory_above stack merge whole d ud real_d ∙ may.name_is_free.in_directory
+  ud_directory = directory_stands stack merge whole d ud real_d ∙ may.name_is_free.in_directory
 
   uo_file : is_directory_node (merge.upper.tree.node uo) ≡ false
-  uo_file = directory_above stack merge whole object uo real_object ∙ may.no_directory
+  uo_file = directory_stands stack merge whole object uo real_object ∙ may.no_directory
 
   uo_not_white : is_kind_in White (merge.upper.tree.node uo) ≡ false
   uo_not_white = no_white_object (merge.files.tree.node object) (merge.upper.tree.node uo)

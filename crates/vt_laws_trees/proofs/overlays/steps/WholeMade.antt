@@ -15,7 +15,7 @@ use Rattle.vt_laws_trees.proofs.layers.views.Moves.{through_is_split}
 use Rattle.vt_laws_trees.proofs.layers.views.Names.{make_adds_inode, make_adds_path, no_entries}
 use Rattle.vt_laws_trees.proofs.overlays.steps.WholeAttributes.{top_open, upper_real}
 use Rattle.vt_laws_trees.proofs.overlays.steps.WholeGrown.{grown_is_fine}
-use Rattle.vt_laws_trees.proofs.overlays.steps.WholeNames.{cut_shows_none, directory_above, entry_named_so, is_fine, named_above, same_entry, same_holds, same_is, same_place, same_through, through_bare, through_free}
+use Rattle.vt_laws_trees.proofs.overlays.steps.WholeNames.{cut_shows_none, directory_stands, entry_named_so, is_fine, named_above, same_entry, same_holds, same_is, same_place, same_through, through_bare, through_free}
 use Rattle.vt_laws_trees.proofs.overlays.steps.WholeNew
 use Rattle.vt_laws_trees.proofs.overlays.steps.WholeParts.{IsFine, real_by, real_by_none, what_is_shown}
 use Rattle.vt_laws_trees.proofs.overlays.steps.WholePlaces.{directory_below_top, path_to_is, shown_longer}
@@ -88,7 +88,7 @@ module _ (stack : Stack ℕ) (merge : Merge ℕ) (whole : IsWhole stack merge) (
   real_d = upper_real merge d stands
 
   ud_directory : is_directory_node (merge.upper.tree.node ud) ≡ true
-  ud_directory = directory_above stack merge whole d ud real_d ∙ may.name_is_free.in_directory
+  ud_directory = directory_stands stack merge whole d ud real_d ∙ may.name_is_free.in_directory
 
   abbrev way : List (List ℕ)
   way = may.name_is_free.reached.0
@@ -325,7 +325,7 @@ make_keeps_shown fresh stack merge d w number node whole stands vacant may white
     (by (hides_directory nat_eq stack merge d w) refl)
   where
     upper_directory : IsDirectory merge.upper.tree (upper_of merge d)
-    upper_directory = directory_above stack merge whole d (upper_of merge d) (upper_real merge d stands)
+    upper_directory = directory_stands stack merge whole d (upper_of merge d) (upper_real merge d stands)
         ∙ may.name_is_free.in_directory
 
     by : (b : Bool) → hides_directory nat_eq stack merge d w ≡ b → IsFine stack (record {

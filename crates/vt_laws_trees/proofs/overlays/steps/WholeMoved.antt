@@ -25,7 +25,7 @@ use Rattle.vt_laws_trees.proofs.overlays.steps.WholeLeft.{emptied_alike, lowers_
 use Rattle.vt_laws_trees.proofs.overlays.steps.WholeLinked.{file_hides}
 use Rattle.vt_laws_trees.proofs.overlays.steps.WholeMade.{below_name}
 use Rattle.vt_laws_trees.proofs.overlays.steps.WholeMovedTree
-use Rattle.vt_laws_trees.proofs.overlays.steps.WholeNames.{cut_shows_none, directory_above, is_fine, over_same, same_holds, same_is, same_place, same_through}
+use Rattle.vt_laws_trees.proofs.overlays.steps.WholeNames.{cut_shows_none, directory_stands, is_fine, over_same, same_holds, same_is, same_place, same_through}
 use Rattle.vt_laws_trees.proofs.overlays.steps.WholeParts.{IsFine, real_by, what_is_shown}
 use Rattle.vt_laws_trees.proofs.overlays.steps.WholePlaces.{directory_below_top, path_to_is, shown_longer}
 use Rattle.vt_laws_trees.proofs.overlays.steps.WholeRemoved.{white_hides}
@@ -274,7 +274,7 @@ module _ (fresh : Fresh ℕ) (stack : Stack ℕ) (merge : Merge ℕ) (whole : Is
           own false d =
               let hid : hides (merge.upper.tree.node k) ≡ true =
               ap (λ n. hides (merge.upper.tree.node n)) (eqb-true k uo e)
-              ∙ file_hides (merge.upper.tree.node uo) uo_there (directory_above stack merge whole o uo real_o ∙ d) in
+              ∙ file_hides (merge.upper.tree.node uo) uo_there (directory_stands stack merge whole o uo real_o ∙ d) in
               (more k (not_c k (is_there front k l))).more hid ∙ sym hid
 
       by : (x : Option ℕ) → led merge.upper.tree stack.directory front ≡ x

@@ -19,7 +19,7 @@ use Rattle.vt_laws_trees.specs.Overlays.WhatIsShown.{IsWhole}
 use Rattle.vt_laws_trees.proofs.overlays.steps.WholeAttributes.{top_open, upper_real}
 use Rattle.vt_laws_trees.proofs.overlays.steps.WholeGrown.{directory_alike}
 use Rattle.vt_laws_trees.proofs.overlays.steps.WholeLeft.{beside_led, emptied_alike, emptied_entries, named_in_upper, one_named, own_upper, up_way, way}
-use Rattle.vt_laws_trees.proofs.overlays.steps.WholeNames.{above_named, directory_above, is_fine}
+use Rattle.vt_laws_trees.proofs.overlays.steps.WholeNames.{above_named, directory_stands, is_fine}
 use Rattle.vt_laws_trees.proofs.overlays.steps.WholeParts.{IsFine}
 
 module _ (fresh : Fresh ℕ) (stack : Stack ℕ) (merge : Merge ℕ) (whole : IsWhole stack merge) (f : ℕ) (old : List ℕ)
@@ -60,10 +60,10 @@ module _ (fresh : Fresh ℕ) (stack : Stack ℕ) (merge : Merge ℕ) (whole : Is
   top_directory = (top_open stack merge whole).1
 
   pub uf_directory : IsDirectory merge.upper.tree uf
-  uf_directory = directory_above stack merge whole f uf real_f ∙ has_entries merge.files.tree f old o may.named
+  uf_directory = directory_stands stack merge whole f uf real_f ∙ has_entries merge.files.tree f old o may.named
 
   pub ut_directory : IsDirectory merge.upper.tree ut
-  ut_directory = directory_above stack merge whole t ut real_t ∙ may.in_directory
+  ut_directory = directory_stands stack merge whole t ut real_t ∙ may.in_directory
 
   abbrev pub from_way : List (List ℕ)
   from_way = (way stack merge whole f uf old o uo may.named real_f real_o).0

@@ -132,9 +132,9 @@ module _ (stack : Stack ℕ) (merge : Merge ℕ) (whole : IsWhole stack merge) w
       subst (λ o. SameObject (merge.files.tree.node number) (then_some o (inode_behind stack merge))) r
       (is_fine.objects number)
 
-  pub directory_above : (number u : ℕ) → merge.real number ≡ Some (Upper u)
+  pub directory_stands : (number u : ℕ) → merge.real number ≡ Some (Upper u)
       → is_directory_node (merge.upper.tree.node u) ≡ is_directory_node (merge.files.tree.node number)
-  directory_above number u r = same_directory (merge.files.tree.node number) (merge.upper.tree.node u)
+  directory_stands number u r = same_directory (merge.files.tree.node number) (merge.upper.tree.node u)
       (object_above number u r)
 
   module _ (d ud : ℕ) (r : merge.real d ≡ Some (Upper ud))

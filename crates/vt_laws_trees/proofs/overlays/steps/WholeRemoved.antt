@@ -27,7 +27,7 @@ use Rattle.vt_laws_trees.proofs.layers.views.Stay.{led_where}
 use Rattle.vt_laws_trees.proofs.layers.views.Walks.{entry_gone, goes_through_it}
 use Rattle.vt_laws_trees.proofs.overlays.steps.WholeAttributes.{top_open, upper_real}
 use Rattle.vt_laws_trees.proofs.overlays.steps.WholeMade.{below_name}
-use Rattle.vt_laws_trees.proofs.overlays.steps.WholeNames.{above_named, cut_shows_none, directory_above, entry_named_so, is_fine, named_above, over_same, same_entry, same_holds, same_is, same_place, same_through, through_bare}
+use Rattle.vt_laws_trees.proofs.overlays.steps.WholeNames.{above_named, cut_shows_none, directory_stands, entry_named_so, is_fine, named_above, over_same, same_entry, same_holds, same_is, same_place, same_through, through_bare}
 use Rattle.vt_laws_trees.proofs.overlays.steps.WholeParts.{IsFine, real_by, what_is_shown}
 use Rattle.vt_laws_trees.proofs.overlays.steps.WholePlaces.{shown_longer}
 use Rattle.vt_laws_trees.proofs.overlays.steps.WholeStill.{rearranged_is_fine}
@@ -66,7 +66,7 @@ module _ (stack : Stack ℕ) (merge : Merge ℕ) (whole : IsWhole stack merge) (
   d_directory = has_entries merge.files.tree d w object may.named
 
   ud_directory : is_directory_node (merge.upper.tree.node ud) ≡ true
-  ud_directory = directory_above stack merge whole d ud real_d ∙ d_directory
+  ud_directory = directory_stands stack merge whole d ud real_d ∙ d_directory
 
   way : (q : List (List ℕ)) × (number_at_path merge.files q ≡ Some d)
   way = let reached = is_reached_in merge.files whole.tree d w object may.named in
@@ -248,7 +248,7 @@ module _ (stack : Stack ℕ) (merge : Merge ℕ) (whole : IsWhole stack merge) (
     unreached uo r is_dir path e = by (names_entry before ud w path) refl (goes_through before ud w path) refl
       where
         uo_directory : IsDirectory merge.upper.tree uo
-        uo_directory = directory_above stack merge whole object uo r ∙ is_dir
+        uo_directory = directory_stands stack merge whole object uo r ∙ is_dir
 
         named_in_upper : entry_at merge.upper.tree ud w ≡ Some uo
         named_in_upper = sym (last_name merge.upper.tree stack.directory way.0 w

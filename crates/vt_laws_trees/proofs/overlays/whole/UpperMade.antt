@@ -10,7 +10,7 @@ use Rattle.vt_laws_trees.specs.Overlays.WhatIsShown.{IsWhole}
 use Rattle.vt_laws_trees.proofs.overlays.whole.UpperGoes.{Goes, IsGood, goes_both, goes_by, goes_none}
 use Rattle.vt_laws_trees.proofs.overlays.whole.UpperNames.{freed, freed_free, freed_goes, freed_kind, freed_made, freed_named, freed_reached, freed_used}
 use Rattle.vt_laws_trees.proofs.overlays.steps.WholeAttributes.{upper_real}
-use Rattle.vt_laws_trees.proofs.overlays.steps.WholeNames.{above_named, directory_above, named_above, top_good}
+use Rattle.vt_laws_trees.proofs.overlays.steps.WholeNames.{above_named, directory_stands, named_above, top_good}
 
 -- A directory of the overlay that names lead to, in the upper layer
 module _ (stack : Stack ℕ) (merge : Merge ℕ) (whole : IsWhole stack merge) (d ud : ℕ)
@@ -98,7 +98,7 @@ made_goes fresh stack merge d w number node whole stands vacant may =
     let reached = may.name_is_free.reached in
     let new : Node ℕ = record { attr = node.attr; content = content_with_parent ud node.content } in
     let first = make_over stack.directory merge.upper ud w (fresh 0) new (top_good stack merge whole)
-    (directory_above stack merge whole d ud real_d ∙ may.name_is_free.in_directory)
+    (directory_stands stack merge whole d ud real_d ∙ may.name_is_free.in_directory)
     (up_reached stack merge whole d ud real_d reached.0 reached.1)
     (plain_below stack merge whole d ud real_d reached.0 reached.1 w may.name_is_free.free) vacant
     (fits_above d ud node may.fits) in
@@ -116,7 +116,7 @@ linked_goes stack merge d w object whole stands own may =
     let real_o = upper_real merge object own in
     let reached = may.name_is_free.reached in
     let good = top_good stack merge whole in
-    let is = directory_above stack merge whole d ud real_d ∙ may.name_is_free.in_directory in
+    let is = directory_stands stack merge whole d ud real_d ∙ may.name_is_free.in_directory in
     let plain = plain_below stack merge whole d ud real_d reached.0 reached.1 w may.name_is_free.free in
     let free = freed stack.directory merge.upper good ud w plain in
     let first = freed_goes stack.directory merge.upper good ud w plain in
@@ -131,5 +131,5 @@ linked_goes stack merge d w object whole stands own may =
       };
       is_there = freed_used stack.directory merge.upper good ud w plain uo ∙ whole.shown.upper_there object uo real_o;
       no_directory = freed_kind stack.directory merge.upper good ud w plain uo
-          ∙ directory_above stack merge whole object uo real_o ∙ may.no_directory;
+          ∙ directory_stands stack merge whole object uo real_o ∙ may.no_directory;
     }) tt))

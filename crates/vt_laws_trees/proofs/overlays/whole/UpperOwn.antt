@@ -13,7 +13,7 @@ use Rattle.vt_laws_trees.proofs.overlays.whole.UpperTold.{Told, told_both, told_
 use Rattle.vt_laws_trees.proofs.overlays.steps.WholeAttributes.{upper_real}
 use Rattle.vt_laws_trees.proofs.overlays.steps.WholeLines.{object_copied}
 use Rattle.vt_laws_trees.proofs.overlays.steps.WholeMade.{new_bare}
-use Rattle.vt_laws_trees.proofs.overlays.steps.WholeNames.{directory_above, named_above}
+use Rattle.vt_laws_trees.proofs.overlays.steps.WholeNames.{directory_stands, named_above}
 use Rattle.vt_laws_trees.proofs.overlays.changes.WholeTogether.{both_copied, copied, is_copied, new_of_evens, new_of_odds, stands_now, still_unused, twice}
 
 bare_above : (p : ℕ) (c : Content ℕ) → entries_of c ≡ [] → entries_of (content_with_parent p c) ≡ []
@@ -107,7 +107,7 @@ module _ (fresh : Fresh ℕ) (stack : Stack ℕ) (merge : Merge ℕ) (whole : Is
       (told_both Own one.upper two.upper last (new_own (odds fresh) (new_of_odds fresh) one two second.copied.names)
       (told_name Own two.upper (upper_of two d) w (upper_of two object)
       (placed two object (λ n o e. objects_of_two one two first.objects second.copied.objects n o e)
-      (λ o e. inl (directory_above stack merge whole object o e ∙ may.no_directory))
+      (λ o e. inl (directory_stands stack merge whole object o e ∙ may.no_directory))
       (second.copied.grows object (stands_now fresh stack merge whole distinct unused object may.is_there)))))
     where
       objects_of_two : (one two : Merge ℕ)

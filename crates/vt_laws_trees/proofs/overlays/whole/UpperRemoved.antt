@@ -13,7 +13,7 @@ use Rattle.vt_laws_trees.proofs.overlays.whole.UpperMade.{make_over, named_below
 use Rattle.vt_laws_trees.proofs.overlays.whole.UpperNames.{freed_goes, freed_made, inode_changed, two_changed}
 use Rattle.vt_laws_trees.proofs.overlays.steps.WholeAttributes.{top_open, upper_real}
 use Rattle.vt_laws_trees.proofs.overlays.steps.WholeLeft.{named_in_upper, own_upper}
-use Rattle.vt_laws_trees.proofs.overlays.steps.WholeNames.{above_named, directory_above, is_fine, top_good}
+use Rattle.vt_laws_trees.proofs.overlays.steps.WholeNames.{above_named, directory_stands, is_fine, top_good}
 
 -- what has a name in the overlay is not the upper layer's directory
 pub named_no_top : (stack : Stack ℕ) (merge : Merge ℕ) → IsWhole stack merge → (d : ℕ) (w : List ℕ) (object uo : ℕ)
@@ -37,7 +37,7 @@ module _ (stack : Stack ℕ) (merge : Merge ℕ) (whole : IsWhole stack merge) (
   own_named k e is =
       let found = named_below stack merge whole d ud real_d way there w k e
       (directory_no_whiteout (merge.upper.tree.node k) is) in
-      grind (arith, common_steps, directory_above, is)
+      grind (arith, common_steps, directory_stands, is)
 
   -- where there is none, what has it is no directory
   pub none_named : upper_directory_named merge d w ≡ None
@@ -191,7 +191,7 @@ removed_goes fresh stack merge d w object whole stands vacant may =
     reached = up_reached stack merge whole d (upper_of merge d) real_d way.0 way.1
 
     is : IsDirectory merge.upper.tree (upper_of merge d)
-    is = directory_above stack merge whole d (upper_of merge d) real_d
+    is = directory_stands stack merge whole d (upper_of merge d) real_d
         ∙ has_entries merge.files.tree d w object may.named
 
     empty : (n : ℕ) → entry_at merge.files.tree d w ≡ Some n → entries_in (merge.files.tree.node n) ≡ []

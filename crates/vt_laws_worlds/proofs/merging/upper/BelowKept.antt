@@ -14,7 +14,7 @@ use Rattle.vt_laws_trees.specs.Overlays.WhatIsShown.{IsWhole, layers_under}
 use Rattle.vt_laws_trees.proofs.overlays.steps.WholeAttributes.{top_open, upper_real}
 use Rattle.vt_laws_trees.proofs.overlays.steps.WholeLinked.{file_hides}
 use Rattle.vt_laws_trees.proofs.overlays.steps.WholeMade.{below_name}
-use Rattle.vt_laws_trees.proofs.overlays.steps.WholeNames.{above_named, directory_above, named_above}
+use Rattle.vt_laws_trees.proofs.overlays.steps.WholeNames.{above_named, directory_stands, named_above}
 use Rattle.vt_laws_trees.proofs.overlays.steps.WholePlaces.{directory_below_top, shown_longer}
 use Rattle.vt_laws_worlds.specs.Merging.UpperChanges.{LeadsToDirectory, led_above, seen_below}
 use Rattle.vt_laws_worlds.proofs.merging.upper.Copying.{led_none}
@@ -116,7 +116,7 @@ module _ (stack : Stack ℕ) (m : Merge ℕ) (whole : IsWhole stack m) where
       by (Some u) e =
           let d = top way uncut u e in
           let found = above_named stack m whole way u e (directory_no_whiteout (m.upper.tree.node u) d) in
-          (found.0, (found.1, sym (directory_above stack m whole found.0 u found.2) ∙ d))
+          (found.0, (found.1, sym (directory_stands stack m whole found.0 u found.2) ∙ d))
 
   -- nothing is shown below where the upper layer cuts,
   pub cut_none : (way : List (List ℕ)) (name : List ℕ) → cuts view way ≡ true

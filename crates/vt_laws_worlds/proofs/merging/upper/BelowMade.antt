@@ -19,7 +19,7 @@ use Rattle.vt_laws_trees.proofs.overlays.steps.WholeAttributes.{top_open, upper_
 use Rattle.vt_laws_trees.proofs.overlays.steps.WholeGrown.{directory_alike}
 use Rattle.vt_laws_trees.proofs.overlays.steps.WholeLines.{object_copied}
 use Rattle.vt_laws_trees.proofs.overlays.steps.WholeMade.{new_bare}
-use Rattle.vt_laws_trees.proofs.overlays.steps.WholeNames.{directory_above, entry_named_so, through_free}
+use Rattle.vt_laws_trees.proofs.overlays.steps.WholeNames.{directory_stands, entry_named_so, through_free}
 use Rattle.vt_laws_worlds.specs.Merging.UpperChanges.{AreNew, IsAt, LeadsToDirectory, Place, held_over, node_below, seen_below}
 use Rattle.vt_laws_worlds.specs.Merging.UpperChanges.Place.{Held, Named}
 use Rattle.vt_laws_worlds.proofs.merging.upper.BelowKept.{hides_kept, kept_below, led_is, none_below, same_below, same_cuts, under_mark}
@@ -114,7 +114,7 @@ module _ (fresh : Fresh ℕ) (stack : Stack ℕ) (m : Merge ℕ) (whole : IsWhol
   grown = changed nat_eq m.upper (Make ud w (fresh 0) new_node)
 
   ud_directory : IsDirectory m.upper.tree ud
-  ud_directory = directory_above stack m whole d ud (upper_real m d stands) ∙ may.name_is_free.in_directory
+  ud_directory = directory_stands stack m whole d ud (upper_real m d stands) ∙ may.name_is_free.in_directory
 
   number_later : (path : List (List ℕ)) → number_at_path later.files path
       ≡ cond (names_entry (view_in m.files m.files.tree.root) d w path) (Some number) (number_at_path m.files path)

@@ -19,7 +19,7 @@ use Rattle.vt_laws_trees.proofs.overlays.steps.WholeAttributes.{upper_real}
 use Rattle.vt_laws_trees.proofs.overlays.steps.WholeGrown.{directory_alike}
 use Rattle.vt_laws_trees.proofs.overlays.steps.WholeLeft.{emptied_alike}
 use Rattle.vt_laws_trees.proofs.overlays.steps.WholeLinked.{file_hides}
-use Rattle.vt_laws_trees.proofs.overlays.steps.WholeNames.{directory_above, entry_named_so, through_bare, through_free}
+use Rattle.vt_laws_trees.proofs.overlays.steps.WholeNames.{directory_stands, entry_named_so, through_bare, through_free}
 use Rattle.vt_laws_worlds.specs.Merging.UpperChanges.{LeadsToDirectory, seen_below}
 use Rattle.vt_laws_worlds.specs.Merging.BelowChanges.{LiesUnder}
 use Rattle.vt_laws_worlds.proofs.merging.upper.BelowKept.{HidesAsBefore, hides_kept, kept_below, led_is, none_below, same_cuts, uncut_prefix, under_mark}
@@ -195,10 +195,10 @@ module _ (fresh : Fresh ℕ) (stack : Stack ℕ) (m : Merge ℕ) (whole : IsWhol
           subst (HidesAsBefore stack m then_moved whole whole_later) (sym same)
           (ap (λ r. hides (then_some (upper_object r) then_moved.upper.tree.node)) real_o
           ∙ file_hides (then_moved.upper.tree.node uo) (whole_later.shown.upper_there o uo real_o)
-          (directory_above stack then_moved whole_later o uo real_o ∙ files_same ∙ d)
+          (directory_stands stack then_moved whole_later o uo real_o ∙ files_same ∙ d)
           ∙ sym (ap (λ r. hides (then_some (upper_object r) m.upper.tree.node)) real_o
           ∙ file_hides (m.upper.tree.node uo) (whole.shown.upper_there o uo real_o)
-          (directory_above stack m whole o uo real_o ∙ d)))
+          (directory_stands stack m whole o uo real_o ∙ d)))
 
       by : (b : Bool) → nat_eq n o ≡ b → HidesAsBefore stack m then_moved whole whole_later n
       by true e = own (is_directory_node (m.files.tree.node o)) refl (eqb-true n o e)

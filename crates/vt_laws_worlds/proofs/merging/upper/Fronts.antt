@@ -16,7 +16,7 @@ use Rattle.vt_laws_trees.specs.Overlays.WhatIsShown.{IsWhole, inode_behind, laye
 use Rattle.vt_laws_trees.proofs.overlays.steps.WholeParts.{real_by}
 use Rattle.vt_laws_trees.proofs.overlays.steps.WholeAttributes.{upper_real}
 use Rattle.vt_laws_trees.proofs.overlays.steps.WholeLines.{IsLineCopied, object_copied, stands_copied, to_object}
-use Rattle.vt_laws_trees.proofs.overlays.steps.WholeNames.{above_named, directory_above, entry_named_so, named_above}
+use Rattle.vt_laws_trees.proofs.overlays.steps.WholeNames.{above_named, directory_stands, entry_named_so, named_above}
 use Rattle.vt_laws_worlds.specs.Merging.UpperChanges.{copied_at, copied_to, copy_node, copy_over, led_above, node_seen, object_above}
 use Rattle.vt_laws_worlds.proofs.merging.upper.Copying.{copied_after, copied_longer, directories_count, led_none, led_stands, none_copied, one_is_copied, reached_at, same_seen, stays}
 
@@ -309,7 +309,7 @@ module _ (fresh : Fresh ℕ) (distinct : (j k : ℕ) → fresh j ≡ fresh k →
     above_is = ap (object_above stack m.upper) (without_last_of_longer front name) ∙ ap (λ o. unwrap_or o 0) up
 
     up_directory : IsDirectory m.upper.tree (upper_of m parent)
-    up_directory = directory_above stack m line.copied.whole parent (upper_of m parent) (upper_real m parent stands)
+    up_directory = directory_stands stack m line.copied.whole parent (upper_of m parent) (upper_real m parent stands)
         ∙ ap (λ files. is_directory_node (files.tree.node parent)) line.copied.files
         ∙ has_entries merge.files.tree parent name object entry
 

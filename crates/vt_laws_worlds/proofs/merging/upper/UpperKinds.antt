@@ -7,7 +7,7 @@ use Rattle.vt_laws_trees.proofs.layers.layers.UpperLine.{has_entries}
 use Rattle.vt_laws_trees.specs.Overlays.WhatIsShown.{IsWhole}
 use Rattle.vt_laws_trees.proofs.overlays.steps.WholeAttributes.{upper_real}
 use Rattle.vt_laws_trees.proofs.overlays.steps.WholeLines.{IsCopied, object_copied, stands_copied}
-use Rattle.vt_laws_trees.proofs.overlays.steps.WholeNames.{above_named, directory_above as directory_stands, named_above}
+use Rattle.vt_laws_trees.proofs.overlays.steps.WholeNames.{above_named, directory_stands, named_above}
 use Rattle.vt_laws_trees.proofs.overlays.steps.WholePlaces.{path_to_is}
 use Rattle.vt_laws_trees.proofs.overlays.changes.WholeTogether.{still_unused, twice}
 use Rattle.vt_laws_worlds.specs.Merging.UpperChanges.{AreNew, AttrIsSetAbove, BytesAreSetAbove, LeadsToDirectory, LinkedAbove, MadeAbove, object_of, MarkIsSetAbove, MovedAbove, OpenedIsCopied, RemovedAbove, copied_to, directory_above, directory_below, layers_with, led_above, linked_in, moved_in, object_above, seen_below, IsAt, Place, upper_with}

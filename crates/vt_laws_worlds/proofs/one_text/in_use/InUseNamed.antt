@@ -2,12 +2,12 @@
 use Rattle.std.proofs.Common.{arith, eqb-true, ◌≡◌, refl, sym, ap, subst, ◌∙◌, ⊎_elim, inl, inr, true≢false, ℕ, nat_eq, Bool, true, false, cond, not, List, [], ◌∷◌, ◌++◌, map, flat_map, Option, Some, None, is_some, option_to_list, is_eq}
 use Rattle.vt_spec.proofs.Common.{Content, Descriptor, Directory, Entries, Filesystem, HasLivingGroups, IsMerged, IsTree, IsWorld, Layer, ListsNumbers, Location, Lower, Mount, Namespace, Node, Overlay, Private, Propagation, Real, Regular, Shared, Slave, Symlink, Task, Tree, Unbindable, Upper, Whiteout, World, all_locations, and_parts, below_all, common_steps, directory_used, entries_in, entry_named, entry_named-below, eq_by_cmp, filesystem_numbered, group_of, has_its_root, has_members, holds_of, is_directory_node, is_listed, is_located_well, is_member_of, is_overlay, is_plain_layer, is_sorted, is_there, list_all, list_all-append, locations_of, mount_at, name_cmp, nat_list_cmp_total, node_at, none_from_not_some, numbers_in_use, parent_in, source_of, tied_itself, used_by_filesystem, used_by_mount}
 use Rattle.vt_laws_rules.specs.Numbers.{FilesystemNamed, IsFoundAmong, OverlayIfAnyNamed, WorldNamed, content_named, descriptor_named, layer_named, location_named, mount_named, namespace_named, node_named, none_or, propagation_named, real_named, task_named}
-use Rattle.vt_laws_mounts.proofs.letting_go.Lists.{Among, all_from_among, all_pass, among-append_left, among-append_right, among-flat_map, among-from_map, among-map, among_from_all, among_numbers, is_among_numbers, one_passes, passes}
+use Rattle.vt_laws_mounts.proofs.letting_go.Lists.{Among, all_from_among, among-append_left, among-append_right, among-flat_map, among-from_map, among-map, among_from_all, among_from_list_all, among_numbers, any_among, is_among_numbers, list_all_from_among}
 use Rattle.vt_laws_worlds.specs.OneText.InUse.{AnyWorldsHaveNumbersInUse}
 use Rattle.vt_laws_worlds.specs.Permits.InUse.{is_in_use}
 use Rattle.vt_spec.proofs.Nodes.{same_name}
 use Rattle.vt_laws_trees.proofs.trees.TreesOfWorlds.{number_numbered, numbered_all}
-use Rattle.vt_laws_trees.proofs.trees.TreesTasks.{both}
+use Rattle.vt_laws_trees.proofs.trees.TreesTasks.{and_from}
 use Rattle.vt_laws_worlds.proofs.worlds.Shows.{world_shows}
 use Rattle.vt_laws_mounts.proofs.letting_go.sweeps.OfWorlds.{all_in_use, found_filesystem}
 use Rattle.vt_spec.proofs.NodeChanges.{directory_is_there}
@@ -108,7 +108,7 @@ module _ (world : World ℕ) (whole : IsWorld nat_eq world) where
       let parts = and_parts _ _ is in
       let found = among-from_map (λ (mount : Mount ℕ). mount.number) world.mounts location.mount
       (among_numbers location.mount (map (λ (mount : Mount ℕ). mount.number) world.mounts) parts.0) in
-      both (is_in_use world location.mount) (is_in_use world location.node)
+      and_from (is_in_use world location.mount) (is_in_use world location.node)
       (used_mount found.0 location.mount found.1 (inl found.2))
       (found_used (mount_at nat_eq world location).filesystem location.node parts.1).1
 
@@ -116,7 +116,7 @@ module _ (world : World ℕ) (whole : IsWorld nat_eq world) where
   member_of : (number : ℕ) → has_members nat_eq world.mounts number ≡ true
       → (mount : Mount ℕ) × Among mount world.mounts × (source_of mount.propagation ≡ Some number)
   member_of number has =
-      let found = one_passes (is_member_of nat_eq number) world.mounts has in
+      let found = any_among (is_member_of nat_eq number) world.mounts has in
       (found.0, found.1, member_source number found.0.propagation found.2)
 
   source_used : (mount : Mount ℕ) (number : ℕ) → Among mount world.mounts → source_of mount.propagation ≡ Some number
@@ -171,19 +171,21 @@ module _ (world : World ℕ) (whole : IsWorld nat_eq world) where
   place_of mount there None e = refl
   place_of mount there (Some place) e =
       let shown = (world_shows world whole mount there).mount_point place e in
-      located_named place (both _ (is_some (node_at nat_eq world place)) shown.listed
+      located_named place (and_from _ (is_some (node_at nat_eq world place)) shown.listed
       (directory_is_there (node_at nat_eq world place) shown.directory))
 
   mount_is : (mount : Mount ℕ) → Among mount world.mounts → mount_named (is_in_use world) mount ≡ true
   mount_is mount there =
       let root = found_used mount.filesystem mount.root
       (directory_is_there ((filesystem_numbered nat_eq world mount.filesystem).files.tree.node mount.root)
-      (and_parts _ _ (passes (has_its_root nat_eq world) world.mounts whole.roots mount there)).0) in
-      both _ (propagation_named (is_in_use world) mount.propagation) (both _ (is_in_use world mount.root)
-      (both _ (is_in_use world mount.filesystem) (both _ (none_or (location_named (is_in_use world)) mount.mount_point)
-      (both (is_in_use world mount.number) (none_or (is_in_use world) mount.namespace)
+      (and_parts _ _ (among_from_list_all (has_its_root nat_eq world) world.mounts whole.roots mount there)).0) in
+      and_from _ (propagation_named (is_in_use world) mount.propagation) (and_from _ (is_in_use world mount.root)
+      (and_from _ (is_in_use world mount.filesystem)
+      (and_from _ (none_or (location_named (is_in_use world)) mount.mount_point)
+      (and_from (is_in_use world mount.number) (none_or (is_in_use world) mount.namespace)
       (used_mount mount mount.number there (inl refl)) (namespace_of mount.namespace
-      (passes (λ (m : Mount ℕ). list_all (is_listed nat_eq world) (option_to_list m.namespace)) world.mounts
+      (among_from_list_all (λ (m : Mount ℕ). list_all (is_listed nat_eq world) (option_to_list m.namespace))
+      world.mounts
       whole.namespaces.mounts_listed mount there))) (place_of mount there mount.mount_point refl)) root.0) root.1)
       (propagation_of mount there mount.propagation refl)
 
@@ -201,11 +203,11 @@ module _ (world : World ℕ) (whole : IsWorld nat_eq world) where
     content_is number node (Directory parent entries opaque) e f =
         let here : tree.node number ≡ Some (record { attr = node.attr; content = Directory parent entries opaque }) =
         e ∙ (λ i. Some (record { attr = node.attr; content = f i })) in
-        both (is_in_use world parent) (list_all (λ (entry : List ℕ × ℕ). is_in_use world entry.1) entries)
+        and_from (is_in_use world parent) (list_all (λ (entry : List ℕ × ℕ). is_in_use world entry.1) entries)
         (listed_used filesystem there parent (directory_used tree parent
         (subst (λ (o : Option (Node ℕ)). is_directory_node (tree.node (parent_in number o)) ≡ true) here
         (is_tree.parent_directory number (ap is_directory_node here)))))
-        (all_pass (λ (entry : List ℕ × ℕ). is_in_use world entry.1) entries (λ entry among.
+        (list_all_from_among (λ (entry : List ℕ × ℕ). is_in_use world entry.1) entries (λ entry among.
         listed_used filesystem there entry.1 (is_tree.alive number entry.0 entry.1
         (ap (λ (o : Option (Node ℕ)). entry_named entry.0 (entries_in o)) here ∙ found_by_name entries entry
         (ap (λ (o : Option (Node ℕ)). is_sorted name_cmp (entries_in o)) (sym here) ∙ is_tree.in_order number) among))))
@@ -252,12 +254,12 @@ module _ (world : World ℕ) (whole : IsWorld nat_eq world) where
             (and_parts (not (is_overlay (filesystem_numbered nat_eq world layer.filesystem)))
             (is_directory_node ((filesystem_numbered nat_eq world layer.filesystem).files.tree.node layer.directory))
             is).1) in
-            both (is_in_use world layer.filesystem) (is_in_use world layer.directory) used.0 used.1
+            and_from (is_in_use world layer.filesystem) (is_in_use world layer.directory) used.0 used.1
 
         all_layers : (layers : List (Layer ℕ)) → list_all (is_plain_layer nat_eq world) layers ≡ true
             → list_all (layer_named (is_in_use world)) layers ≡ true
-        all_layers layers is = all_pass (layer_named (is_in_use world)) layers
-            (λ layer among. layer_is layer (passes (is_plain_layer nat_eq world) layers is layer among))
+        all_layers layers is = list_all_from_among (layer_named (is_in_use world)) layers
+            (λ layer among. layer_is layer (among_from_list_all (is_plain_layer nat_eq world) layers is layer among))
 
         some_layer : (o : Option (Layer ℕ)) → list_all (is_plain_layer nat_eq world) (option_to_list o) ≡ true
             → none_or (layer_named (is_in_use world)) o ≡ true
@@ -266,7 +268,7 @@ module _ (world : World ℕ) (whole : IsWorld nat_eq world) where
 
         layers : (list_all (is_plain_layer nat_eq world) (option_to_list overlay.upper ++ option_to_list overlay.work)
             ≡ true) × (list_all (is_plain_layer nat_eq world) overlay.lowers ≡ true)
-        layers = grind (arith, common_steps, and_parts, list_all-append, passes)
+        layers = grind (arith, common_steps, and_parts, list_all-append, among_from_list_all)
 
         above : (list_all (is_plain_layer nat_eq world) (option_to_list overlay.upper) ≡ true)
             × (list_all (is_plain_layer nat_eq world) (option_to_list overlay.work) ≡ true)
@@ -295,37 +297,39 @@ module _ (world : World ℕ) (whole : IsWorld nat_eq world) where
         nowhere_else = λ number out. node_out number out (is_some (tree.node number)) refl;
         has_only = λ number. node_is number (tree.node number) refl;
       };
-      numbers = all_pass (is_in_use world) filesystem.files.numbers
+      numbers = list_all_from_among (is_in_use world) filesystem.files.numbers
           (λ number among. used_filesystem filesystem number there (inr among));
       overlay = overlay_is filesystem.overlay refl;
     }
 
   -- Tasks
   task_is : (task : Task ℕ) → Among task world.tasks → task_named (is_in_use world) task ≡ true
-  task_is task there = both _ (list_all (descriptor_named (is_in_use world)) task.descriptors)
-      (both _ (location_named (is_in_use world) task.directory)
-      (both (is_in_use world task.namespace) (location_named (is_in_use world) task.root) (used_namespace task.namespace
-      (passes (λ (t : Task ℕ). is_listed nat_eq world t.namespace) world.tasks whole.namespaces.tasks_listed task
+  task_is task there = and_from _ (list_all (descriptor_named (is_in_use world)) task.descriptors)
+      (and_from _ (location_named (is_in_use world) task.directory)
+      (and_from (is_in_use world task.namespace) (location_named (is_in_use world) task.root)
+      (used_namespace task.namespace
+      (among_from_list_all (λ (t : Task ℕ). is_listed nat_eq world t.namespace) world.tasks
+      whole.namespaces.tasks_listed task
       there)) (of_location task.root (inl refl))) (of_location task.directory (inr (inl refl))))
-      (all_pass (descriptor_named (is_in_use world)) task.descriptors (λ descriptor among.
+      (list_all_from_among (descriptor_named (is_in_use world)) task.descriptors (λ descriptor among.
       of_location descriptor.location
       (inr (inr (among-map (λ (d : Descriptor ℕ). d.location) task.descriptors descriptor among)))))
     where
       of_location : (location : Location ℕ) → Among location (locations_of task)
           → location_named (is_in_use world) location ≡ true
       of_location location among = located_named location
-          (passes (is_located_well nat_eq world) (all_locations world) whole.tasks.locations_live location
+          (among_from_list_all (is_located_well nat_eq world) (all_locations world) whole.tasks.locations_live location
           (among-flat_map locations_of world.tasks task location there among))
 
   world_is : WorldNamed (is_in_use world) world
   world_is = record {
-    mounts = all_pass (mount_named (is_in_use world)) world.mounts mount_is;
+    mounts = list_all_from_among (mount_named (is_in_use world)) world.mounts mount_is;
     masters = masters;
     filesystems = all_from_among (FilesystemNamed (is_in_use world)) world.filesystems filesystem_is;
-    namespaces = all_pass (namespace_named (is_in_use world)) world.namespaces (λ namespace among.
+    namespaces = list_all_from_among (namespace_named (is_in_use world)) world.namespaces (λ namespace among.
         used_namespace namespace.number (is_among_numbers namespace.number of_namespaces
         (among-map (λ (n : Namespace ℕ). n.number) world.namespaces namespace among)));
-    tasks = all_pass (task_named (is_in_use world)) world.tasks task_is;
+    tasks = list_all_from_among (task_named (is_in_use world)) world.tasks task_is;
   }
 
 pub any_worlds_have_numbers_in_use : AnyWorldsHaveNumbersInUse

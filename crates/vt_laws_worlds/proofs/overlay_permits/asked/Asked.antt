@@ -16,7 +16,7 @@ use Rattle.vt_laws_trees.proofs.trees.ChangesByRemoving.{may_move, old_removable
 use Rattle.vt_laws_trees.proofs.trees.ChangesOfCalls.{place_is_free}
 use Rattle.vt_laws_trees.proofs.trees.TreesOfWorlds.{new_at, numbered_anyhow}
 use Rattle.vt_laws_trees.proofs.trees.TreesSizes.{IsFitWord, fit_name_of, no_longer}
-use Rattle.vt_laws_trees.proofs.trees.TreesTasks.{both, called_there}
+use Rattle.vt_laws_trees.proofs.trees.TreesTasks.{and_from, called_there}
 use Rattle.vt_laws_trees.proofs.trees.TreesWalked.{IsFilePlace, IsOldPlace, at_end, file_named, place_is_file, place_named}
 use Rattle.vt_laws_trees.specs.Trees.{MayMake}
 use Rattle.vt_laws_trees.specs.Trees.Sizes.{is_fit_node}
@@ -139,7 +139,7 @@ module _ (world : World ℕ) (whole : IsWorld nat_eq world) (task : Task ℕ)
   granted_asks call permit (makes_symlink text path place short end passed) =
       made_asked place (symlink_made task text) (new_leaf_is world task path place end) passed.0 passed.1.0
       (inr refl) refl
-      (ap (λ b. b && true) (both (not (is_empty text)) (nat_le (length text) longest_path) (ap not short.0)
+      (ap (λ b. b && true) (and_from (not (is_empty text)) (nat_le (length text) longest_path) (ap not short.0)
       (no_longer longest_path text short.1.0)))
   granted_asks call permit (makes_whiteout path place end passed) =
       let is = new_leaf_is world task path place end in (

@@ -8,7 +8,7 @@ use Rattle.vt_laws_rules.specs.Granted.IsGranted.{changes_mark, changes_mode, ch
 use Rattle.vt_laws_worlds.specs.OverlayPermits.Asked.{change_asked}
 use Rattle.vt_laws_worlds.specs.OverlayPermits.Unlocked.{PermitsSpareWhatIsLocked, SparesLocked, SparesLockedIf}
 use Rattle.vt_laws_worlds.proofs.permits.sees.SeesNames.{old_mount}
-use Rattle.vt_laws_trees.proofs.trees.TreesWalked.{IsNewPlace, IsOldPlace, not_true, place_named}
+use Rattle.vt_laws_trees.proofs.trees.TreesWalked.{IsNewPlace, IsOldPlace, not-false, place_named}
 use Rattle.vt_laws_trees.proofs.trees.PlacesReached.{old_is, old_leaf_is, rename_new_is}
 
 module _ (world : World ℕ) (task : Task ℕ) (fresh : Fresh ℕ) where
@@ -85,7 +85,7 @@ module _ (world : World ℕ) (task : Task ℕ) (fresh : Fresh ℕ) where
       let is = old_leaf_is world task old from names.from_end in
       let to_is = rename_new_is world task new (is_directory_there nat_eq looks from) to names.to_end in
       let one_mount = eqb-true from.parent.mount to.parent.mount
-      (not_true (nat_eq from.parent.mount to.parent.mount) passed.1.1.1.1.1.1.1.1.0) in
+      (not-false (nat_eq from.parent.mount to.parent.mount) passed.1.1.1.1.1.1.1.1.0) in
       let at_to : (mount_at nat_eq world to.parent).filesystem ≡ (mount_at nat_eq world from.parent).filesystem =
       ap (λ m. (mount_at nat_eq world (record { mount = m; node = 0 })).filesystem) (sym one_mount) in
       let locked_from = is_locked_at nat_eq world from.parent in

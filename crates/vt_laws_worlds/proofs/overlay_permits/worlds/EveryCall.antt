@@ -2,7 +2,7 @@
 use Rattle.std.proofs.Common.{◌≡◌, refl, sym, ap, subst, ◌∙◌, ℕ, nat_eq, Bool, true, false, List, [], ◌∷◌, ◌++◌, Option, Some, None, Ok, true≢false}
 use Rattle.vt_spec.proofs.Common.{Call, Change, CopyUp, Filesystem, ForksAreCounted, Fresh, IsWorld, Layer, Location, MountInvariants, MountOverlay, NamespaceInvariants, Outcome, Overlay, OverlayInvariants, Permit, Serves, Task, TaskName, ToChange, ToEnterNamespace, ToExit, ToMake, ToMountOverlay, ToMountPlain, ToOpen, ToOpenNew, ToRemoveDirectory, ToRename, ToSetType, ToUnmount, ToUnmountLazily, ToUnshare, ToWritePart, TreeInvariants, World, after, apply, call_outcome, evens, filesystem_at, filesystem_changed, filesystems-taken_away, finished_by, going, is_copied_up, is_within_limits, judge_in, mount_numbered, namespace_entered, none_is_some, overlay_changed, overlay_filesystem, plain_filesystem, policy, same_name, settled, task_called, unshared, when, with_change, with_copy, with_new_filesystem, without_task}
 use Rattle.vt_laws_rules.proofs.judged.CallsJudged.{call_is_judged_then_applied}
-use Rattle.vt_laws_mounts.proofs.letting_go.Lists.{all_from_among, passes}
+use Rattle.vt_laws_mounts.proofs.letting_go.Lists.{all_from_among, among_from_list_all}
 use Rattle.vt_laws_mounts.proofs.mounts.MountsRetyped.{types_are_of_mounts}
 use Rattle.vt_laws_mounts.proofs.ends.UnmountingEnds.{lazy_is_of_mounts}
 use Rattle.vt_laws_trees.specs.Trees.Calls.{mounts_overlay}
@@ -157,7 +157,7 @@ module _ (world : World ℕ) (fresh : Fresh ℕ) (task : Task ℕ) (call : Call)
   within : is_within_limits task ≡ true
   within = found_all (λ (t : Task ℕ). is_within_limits t ≡ true) (λ t. same_name task.name t.name) world.tasks task
       (all_from_among (λ (t : Task ℕ). is_within_limits t ≡ true) world.tasks
-      (passes is_within_limits world.tasks is.tasks.small_tasks)) found
+      (among_from_list_all is_within_limits world.tasks is.tasks.small_tasks)) found
 
   pub under : IsUnderWay after_call
   under = record {

@@ -3,7 +3,7 @@ use Rattle.std.proofs.Common.{◌≡◌, refl, sym, ap, subst, ◌∙◌, inl, t
 use Rattle.vt_spec.proofs.Common.{All-push, Among, Filesystem, Fresh, HasOwnParents, IsMerged, IsReached, IsTree, IsWorld, Layer, ListsNumbers, Overlay, OverlayInvariants, Serves, TreeInvariants, World, and_true_right, any_pair, directory_used, evens, filesystem_numbered, filter-append, is_fit_filesystem, is_overlay, layers_of, nat_eq_false_turned, new_directory, new_plain, no_filesystem, none_is_some, of_overlay, overlays, plain_filesystem, root_attr, upper_and_work, with_new_filesystem}
 use Rattle.vt_laws_trees.proofs.trees.ChangesByCalls.{new_tree_is}
 use Rattle.vt_laws_trees.proofs.trees.ChangesOfSizes.{fits}
-use Rattle.vt_laws_trees.proofs.trees.TreesTasks.{all_appended, both}
+use Rattle.vt_laws_trees.proofs.trees.TreesTasks.{all_appended, and_from}
 use Rattle.vt_laws_trees.proofs.layers.layers.LowersKept.{kept_same}
 use Rattle.vt_laws_trees.proofs.overlays.changes.WholeOthers.{stays_merged}
 use Rattle.vt_laws_worlds.proofs.worlds.PermitsFilesystems.{appended_apart}
@@ -34,7 +34,7 @@ module _ (world : World ℕ) (fresh : Fresh ℕ) (conditions : IsWorld nat_eq wo
   later = with_new_filesystem world new
 
   new_fits : is_fit_filesystem new ≡ true
-  new_fits = both (fits ((new_plain nat_eq (evens fresh 0) (evens fresh 1)).files.tree.node (evens fresh 1))) true
+  new_fits = and_from (fits ((new_plain nat_eq (evens fresh 0) (evens fresh 1)).files.tree.node (evens fresh 1))) true
       (ap (λ b. fits (cond b (Some (record { attr = root_attr; content = new_directory (evens fresh 1) })) None))
       (eq-eqb (evens fresh 1) (evens fresh 1) refl)) refl
 

@@ -8,7 +8,7 @@ use Rattle.vt_laws_trees.specs.Trees.Settling.{HasFileTrees, HoldsTree, inode_in
 use Rattle.vt_laws_trees.proofs.trees.TreesForgotten.{named_is_used, without_dead_in_is}
 use Rattle.vt_laws_trees.proofs.trees.TreesOfWorlds.{numbered_all}
 use Rattle.vt_laws_mounts.proofs.letting_go.sweeps.InUse.{overlay-left}
-use Rattle.vt_laws_mounts.proofs.letting_go.Lists.{flat_map-map, is_among_numbers, or_second}
+use Rattle.vt_laws_mounts.proofs.letting_go.Lists.{flat_map-map, is_among_numbers, or_right}
 use Rattle.vt_laws_trees.specs.Layers.Layers.Locked.{LeadsAsBefore}
 use Rattle.vt_laws_trees.specs.Layers.Layers.Untouched.{IsKept}
 use Rattle.vt_laws_trees.specs.Layers.Layers.Upper.{IsUpperObject}
@@ -367,7 +367,7 @@ module _ (world : World ℕ) (files : HasFileTrees world)
           found.is_swept ∙ ap (λ b. only_used nat_eq world b g) (and_true_left (not (is_overlay g)) _ layer_is_plain)
 
       directory_is_used : is_among nat_eq layer.directory used ≡ true
-      directory_is_used = or_second (nat_eq layer.directory g.files.tree.root) (is_among nat_eq layer.directory
+      directory_is_used = or_right (nat_eq layer.directory g.files.tree.root) (is_among nat_eq layer.directory
           (named_in g.files ++ located_in nat_eq world g.number ++ layers_in nat_eq world g.number
           ++ flat_map (objects_of_overlay nat_eq g.number) world.filesystems))
           (is_among_left layer.directory (named_in g.files ++ located_in nat_eq world g.number
@@ -385,7 +385,7 @@ module _ (world : World ℕ) (files : HasFileTrees world)
 
       object_is_used : overlay.upper ≡ Some layer → (object : ℕ) → IsUpperObject overlay object
           → is_among nat_eq object used ≡ true
-      object_is_used e object of = or_second (nat_eq object g.files.tree.root)
+      object_is_used e object of = or_right (nat_eq object g.files.tree.root)
           (is_among nat_eq object (named_in g.files ++ located_in nat_eq world g.number
           ++ layers_in nat_eq world g.number ++ flat_map (objects_of_overlay nat_eq g.number) world.filesystems))
           (is_among_right object

@@ -2,7 +2,7 @@
 -- of plain trees.
 use Rattle.std.proofs.Common.{arith, ◌≡◌, refl, sym, ap, subst, ◌∙◌, true≢false, eqb-true, eq-eqb, ⊎_elim, inl, ℕ, nat_eq, Bool, true, false, not, cond, ◌&&◌, ◌||◌, List, [], ◌∷◌, ◌++◌, filter, Option, Some, None, is_some, flat_map, option_to_list}
 use Rattle.vt_spec.proofs.Common.{All-filter, Among, Filesystem, IsMerged, IsReached, IsTree, Layer, ListsNumbers, Overlay, OverlayInvariants, World, among-append, among-append_left, among-append_right, among-filter, among-from_filter, and_from, and_true_left, and_true_right, any_among, any_from_among, any_pair, common_steps, filesystem_lives, filesystem_numbered, has_layer_on, is_mounted, is_overlay, layers_of, layers_of_all, list_any, of_overlay, overlay_or, pair-filter, shown_layers, upper_and_work, without_dead_filesystems}
-use Rattle.vt_laws_mounts.proofs.letting_go.Lists.{or_second}
+use Rattle.vt_laws_mounts.proofs.letting_go.Lists.{or_right}
 use Rattle.vt_laws_mounts.proofs.letting_go.sweeps.OfWorlds.{found_filesystem}
 use Rattle.vt_laws_trees.specs.Layers.Layers.Locked.{LeadsAsBefore}
 use Rattle.vt_laws_trees.proofs.layers.locked.Apart.{found_among, merged_among}
@@ -172,7 +172,7 @@ module _ (world : World ℕ) (files : AreTrees world) (are : OverlayInvariants n
         ap (filesystem_numbered nat_eq living) (sym (number_of_filesystem world layer.filesystem)) ∙ lives_still f
         (there_among world layer.filesystem layer.directory
         (Rattle.vt_spec.proofs.Nodes.directory_used f.files.tree layer.directory directory))
-        (or_second (is_mounted nat_eq world f.number) _
+        (or_right (is_mounted nat_eq world f.number) _
         (any_from_among (λ (g : Filesystem ℕ). has_layer_on nat_eq f.number g
         && is_mounted nat_eq world g.number) world.filesystems (filesystem_numbered nat_eq world number)
         (among-from_filter is_overlay world.filesystems (filesystem_numbered nat_eq world number)

@@ -11,7 +11,7 @@ use Rattle.vt_laws_mounts.specs.LettingGo.InUse.{IsListedTree, is_inode_used}
 use Rattle.vt_laws_mounts.specs.LettingGo.OneByOne.{Inode, is_inode_among}
 use Rattle.vt_laws_mounts.specs.LettingGo.Overlays.{let_go_all_inodes, let_go_in_of, let_go_merged, let_go_plain, uppers_of, uppers_of_inode_in, without_inode_of}
 use Rattle.vt_laws_mounts.proofs.letting_go.leaving.FilesChanged.{none_left}
-use Rattle.vt_laws_mounts.proofs.letting_go.Lists.{Among, among-from_filter, among-from_map, among_from_all, any_passes, flat_map_none, map_same, one_passes}
+use Rattle.vt_laws_mounts.proofs.letting_go.Lists.{Among, among-from_filter, among-from_map, among_from_all, any_among, any_from_among, flat_map_none, map_same}
 use Rattle.vt_laws_mounts.proofs.letting_go.Trees.{named_among}
 use Rattle.vt_laws_worlds.specs.OverlaysLetGo.NamesGiven.{GivenNamesLetGo, OpenedNamesLetGo, name_given, replaced_in_upper, takes_a_name, upper_at_name}
 use Rattle.vt_laws_worlds.specs.OverlaysLetGo.OverlayChanges.{CanChange, inodes_lost_with_upper, merge_after, merge_at, unnamed_by}
@@ -189,7 +189,7 @@ module _ (fresh : Fresh ℕ) (world : World ℕ) (location : Location ℕ) (chan
   has_lost : HasThese (inodes_lost_with_upper fresh world location overlay upper change)
       (replaced_in_upper world overlay upper change)
   has_lost filesystem inode lost =
-      let found = one_passes (λ (i : Inode). nat_eq filesystem i.0 && nat_eq inode i.1)
+      let found = any_among (λ (i : Inode). nat_eq filesystem i.0 && nat_eq inode i.1)
       (map (λ number. (upper.filesystem, number)) (unnamed_by layer.files later_upper))
       (sym (ap (λ names. is_inode_among filesystem inode
       (map (λ number. ((mount_at nat_eq world location).filesystem, number)) names
@@ -197,7 +197,7 @@ module _ (fresh : Fresh ℕ) (world : World ℕ) (location : Location ℕ) (chan
       (no_name_lost before.files change may none)) ∙ lost) in
       let from = among-from_map (λ (number : ℕ). (upper.filesystem, number)) (unnamed_by layer.files later_upper)
       found.0 found.1 in
-      any_passes (λ (i : Inode). nat_eq filesystem i.0 && nat_eq inode i.1)
+      any_from_among (λ (i : Inode). nat_eq filesystem i.0 && nat_eq inode i.1)
       (replaced_in_upper world overlay upper change) found.0
       (subst (λ o. Among found.0 (map (λ number. (upper.filesystem, number)) (option_to_list o)))
       (sym (only_given from.0 from.1)) (inl from.2)) found.2

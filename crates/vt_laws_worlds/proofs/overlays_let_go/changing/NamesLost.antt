@@ -7,7 +7,7 @@ use Rattle.vt_laws_mounts.specs.LettingGo.FileChanges.{names_lost}
 use Rattle.vt_laws_mounts.specs.LettingGo.InUse.{IsListedTree}
 use Rattle.vt_laws_mounts.specs.LettingGo.Overlays.{let_go_all_inodes}
 use Rattle.vt_laws_mounts.proofs.letting_go.leaving.FilesChanged.{none_left}
-use Rattle.vt_laws_mounts.proofs.letting_go.Lists.{Among, all_pass, among-append_left, among-append_right, among-from_filter, among-from_flat_map, among-from_map, among_from_all, among_numbers, is_among_numbers}
+use Rattle.vt_laws_mounts.proofs.letting_go.Lists.{Among, among-append_left, among-append_right, among-from_filter, among-from_flat_map, among-from_map, among_from_all, among_numbers, is_among_numbers, list_all_from_among}
 use Rattle.vt_laws_mounts.proofs.letting_go.leaving.NamesKept.{found_entry}
 use Rattle.vt_laws_mounts.proofs.letting_go.Trees.{named_among}
 use Rattle.vt_laws_worlds.specs.OverlaysLetGo.OverlayChanges.{CanChange, inodes_lost_with_upper, merge_after, merge_at, unnamed_by}
@@ -328,7 +328,7 @@ entry_of files listed k m =
 
 pub only_these_lose_names : OnlyTheseLoseNames
 only_these_lose_names fresh world location change overlay upper conditions can =
-    all_pass (λ inode. is_among nat_eq inode lost) (unnamed_by layer.files later_upper) (λ k m.
+    list_all_from_among (λ inode. is_among nat_eq inode lost) (unnamed_by layer.files later_upper) (λ k m.
     let from = among-from_filter (λ n. not (is_among nat_eq n (named_in later_upper))) (named_in layer.files) k m in
     let place = entry_of layer.files listed k from.0 in
     ⊎_elim (λ named. absurd (true≢false (sym (named_among later_upper can.upper_tree k named)

@@ -11,7 +11,7 @@ use Rattle.vt_laws_mounts.specs.LettingGo.Overlays.{RealsAreThere, let_go_all, l
 use Rattle.vt_laws_mounts.specs.LettingGo.TreesOverlays.{in_use_of, with_filesystems, with_lost}
 use Rattle.vt_laws_mounts.specs.LettingGo.Unmounting.{numbers_of_trees}
 use Rattle.vt_laws_mounts.proofs.letting_go.leaving.FilesChanged.{none_left}
-use Rattle.vt_laws_mounts.proofs.letting_go.Lists.{Among, among-filter, among-from_map, among-map, among_numbers, any_passes, one_passes, or_second, or_first, passes}
+use Rattle.vt_laws_mounts.proofs.letting_go.Lists.{Among, among-filter, among-from_map, among-map, among_numbers, any_from_among, any_among, or_right, or_left, among_from_list_all}
 use Rattle.vt_laws_mounts.proofs.letting_go.mounting.MountingTaken.{after, hands_on, same_filesystem, same_namespace, same_number, shows_the_same, taken_is}
 use Rattle.vt_laws_mounts.proofs.letting_go.mounting.MountingTaken
 use Rattle.vt_laws_mounts.proofs.letting_go.leaving.PlacesLeft.{found_itself, mounts_but}
@@ -35,7 +35,7 @@ mount_there world conditions location on =
 keeps_its_mount : (world : World ℕ) → IsWorld nat_eq world → (gone : List ℕ) (location : Location ℕ)
     → is_on_mount world location ≡ true → is_among nat_eq location.mount gone ≡ false
     → keeps_a_mount world gone (mount_at nat_eq world location).filesystem ≡ true
-keeps_its_mount world conditions gone location on stays = any_passes (λ (m : Mount ℕ). nat_eq number m.filesystem
+keeps_its_mount world conditions gone location on stays = any_from_among (λ (m : Mount ℕ). nat_eq number m.filesystem
     && (not (is_among nat_eq m.number gone) || is_located nat_eq world m.number))
     world.mounts (mount_at nat_eq world location) (mount_there world conditions location on)
     (ap (λ b. b && (not (is_among nat_eq (mount_at nat_eq world location).number gone)
@@ -57,7 +57,7 @@ still_mounted : (world : World ℕ) → IsSettled world → (gone : List ℕ) (n
     → is_mounted nat_eq (without_dead_mounts nat_eq (taken_away nat_eq world gone)) number ≡ true
 still_mounted world settles gone number keeps =
     subst (λ w. is_mounted nat_eq (without_dead_mounts nat_eq w) number ≡ true) (sym (taken_is world gone))
-    (any_passes (λ (m : Mount ℕ). nat_eq number m.filesystem) (without_dead_mounts nat_eq then_).mounts image
+    (any_from_among (λ (m : Mount ℕ). nat_eq number m.filesystem) (without_dead_mounts nat_eq then_).mounts image
     (among-filter (mount_lives nat_eq then_) then_.mounts image
     (among-map (MountingTaken.change world gone world.namespaces b) world.mounts mount kept.1) (⊎_elim stays located
     (or_cases (not (is_among nat_eq mount.number gone)) (is_located nat_eq world mount.number) parts.1)))
@@ -71,7 +71,7 @@ still_mounted world settles gone number keeps =
 
     kept : (m : Mount ℕ) × Among m world.mounts × ((nat_eq number m.filesystem
         && (not (is_among nat_eq m.number gone) || is_located nat_eq world m.number)) ≡ true)
-    kept = one_passes (λ m. nat_eq number m.filesystem
+    kept = any_among (λ m. nat_eq number m.filesystem
         && (not (is_among nat_eq m.number gone) || is_located nat_eq world m.number)) world.mounts keeps
 
     mount : Mount ℕ
@@ -86,11 +86,11 @@ still_mounted world settles gone number keeps =
         (not (is_among nat_eq mount.number gone) || is_located nat_eq world mount.number) kept.2
 
     located : is_located nat_eq world mount.number ≡ true → mount_lives nat_eq then_ image ≡ true
-    located on = or_second (is_some image.namespace) (is_located nat_eq then_ image.number)
+    located on = or_right (is_some image.namespace) (is_located nat_eq then_ image.number)
         (ap (is_located nat_eq world) (same_number world gone world.namespaces b mount) ∙ on)
 
     stays : not (is_among nat_eq mount.number gone) ≡ true → mount_lives nat_eq then_ image ≡ true
-    stays isnt = grind (arith, common_steps, same_namespace, not-true, same_number, passes, settles, kept)
+    stays isnt = grind (arith, common_steps, same_namespace, not-true, same_number, among_from_list_all, settles, kept)
 
 module _ (fresh : Fresh ℕ) (world : World ℕ) (location : Location ℕ) (change : Change ℕ) (overlay : Overlay ℕ)
     (upper : Layer ℕ)
@@ -115,7 +115,7 @@ module _ (fresh : Fresh ℕ) (world : World ℕ) (location : Location ℕ) (chan
       (becomes fresh world location change overlay upper conditions can)
       (among-map swap world.filesystems (merged fresh world location change overlay upper conditions can)
       (merged_there fresh world location change overlay upper conditions can))))
-      (or_first (is_mounted nat_eq (without_dead_mounts nat_eq other) then_merged.number) _
+      (or_left (is_mounted nat_eq (without_dead_mounts nat_eq other) then_merged.number) _
       (ap (is_mounted nat_eq (without_dead_mounts nat_eq other)) (number_of_filesystem world number) ∙ is))
 
   goes_with_mounts : (gone : List ℕ) → keeps_a_mount world gone number ≡ true
@@ -160,10 +160,10 @@ module _ (fresh : Fresh ℕ) (world : World ℕ) (location : Location ℕ) (chan
       (reals_then fresh world location change overlay upper conditions can)
       (all_changed_within fresh world location change overlay upper conditions can
       (in_use_of (with_filesystems (with_tasks world tasks) swap)) (lives_then (with_tasks world tasks) refl
-      (any_passes (λ (m : Mount ℕ). nat_eq number m.filesystem)
+      (any_from_among (λ (m : Mount ℕ). nat_eq number m.filesystem)
       (without_dead_mounts nat_eq (with_tasks world tasks)).mounts at_location
       (among-filter (mount_lives nat_eq (with_tasks world tasks)) world.mounts at_location there
-      (passes (mount_lives nat_eq (with_tasks world tasks)) world.mounts
+      (among_from_list_all (mount_lives nat_eq (with_tasks world tasks)) world.mounts
       (mounts_but world tasks [] settled_world.in_use settled_world.mounts only) at_location there))
       (eq-eqb number number refl))) wider has))
     where

@@ -13,7 +13,7 @@ use Rattle.vt_laws_mounts.specs.LettingGo.Overlays.{RealsAreThere, let_go_all_in
 use Rattle.vt_laws_mounts.specs.LettingGo.TreeChanges.{ChangesTree}
 use Rattle.vt_laws_mounts.specs.LettingGo.TreesOverlays.{ChangesFilesystem, upper_objects, with_filesystems}
 use Rattle.vt_laws_mounts.proofs.letting_go.sweeps.InUse.{no_objects}
-use Rattle.vt_laws_mounts.proofs.letting_go.Lists.{Among, all_from_among, all_pass, among-append_left, among-filter, among-filter_map, among-flat_map, among-from_filter_map, among-from_map, among-map, among_from_all, among_numbers, any_passes, found_in, is_among_numbers, or_first, or_second, passes}
+use Rattle.vt_laws_mounts.proofs.letting_go.Lists.{Among, all_from_among, among-append_left, among-filter, among-filter_map, among-flat_map, among-from_filter_map, among-from_map, among-map, among_from_all, among_from_list_all, among_numbers, any_from_among, found_in, is_among_numbers, list_all_from_among, or_left, or_right}
 use Rattle.vt_laws_mounts.proofs.letting_go.leaving.NamesKept.{changes_keep_names}
 use Rattle.vt_laws_mounts.proofs.letting_go.sweeps.OfWorlds.{found_filesystem, worlds_are_settled}
 use Rattle.vt_laws_mounts.proofs.letting_go.Trees.{named_among}
@@ -26,7 +26,7 @@ use Rattle.vt_laws_worlds.proofs.overlays_let_go.changing.Copied.{numbers_stay}
 of_number : (number : ℕ) (list : List ℕ) (filesystem inode : ℕ) → filesystem ≡ number → Among inode list
     → is_inode_among filesystem inode (map (λ i. (number, i)) list) ≡ true
 of_number number list filesystem inode same m =
-    any_passes (λ (loser : Inode). nat_eq filesystem loser.0 && nat_eq inode loser.1) (map (λ i. (number, i)) list)
+    any_from_among (λ (loser : Inode). nat_eq filesystem loser.0 && nat_eq inode loser.1) (map (λ i. (number, i)) list)
     (number, inode) (among-map (λ i. (number, i)) list inode m)
     (ap (λ b. b && nat_eq inode inode) (eq-eqb filesystem number same) ∙ eq-eqb inode inode refl)
 
@@ -39,7 +39,7 @@ HasThese list wider = (filesystem inode : ℕ) → is_inode_among filesystem ino
 changes_within : (last : World ℕ) (lost wider : List Inode) → HasThese lost wider → (old new : Filesystem ℕ)
     → ChangesFilesystem last lost old new → ChangesFilesystem last wider old new
 changes_within last lost wider has old new is =
-    grind (arith, common_steps, all_pass, or_first, or_second, or_cases, passes)
+    grind (arith, common_steps, list_all_from_among, or_left, or_right, or_cases, among_from_list_all)
 
 -- the real objects of an overlay in a filesystem
 abbrev objects_by : ℕ → List ℕ → Overlay ℕ → List ℕ
@@ -98,7 +98,7 @@ module _ (fresh : Fresh ℕ) (world : World ℕ) (location : Location ℕ) (chan
 
   plain_parts : (not (is_overlay layer) ≡ true) × (is_directory_node (layer.files.tree.node upper.directory) ≡ true)
   plain_parts = and_parts (not (is_overlay layer)) (is_directory_node (layer.files.tree.node upper.directory))
-      (passes (is_plain_layer nat_eq world) (shown_layers overlay)
+      (among_from_list_all (is_plain_layer nat_eq world) (shown_layers overlay)
       (overlay_layers world conditions number overlay can.overlay_there).1 upper
       (among-append_left (option_to_list overlay.upper) overlay.lowers upper
       (subst (λ o. Among upper (option_to_list o)) (sym can.upper_there) (inl refl))))
@@ -223,13 +223,13 @@ module _ (fresh : Fresh ℕ) (world : World ℕ) (location : Location ℕ) (chan
   lost_here : (inode : ℕ) → Among inode lost_names → is_inode_among merged.number inode lost ≡ true
   lost_here inode m = list_any-append (λ (loser : Inode). nat_eq merged.number loser.0 && nat_eq inode loser.1)
       (map (λ i. (number, i)) lost_names) (map (λ i. (upper.filesystem, i)) lost_above)
-      ∙ or_first (is_inode_among merged.number inode (map (λ i. (number, i)) lost_names)) _
+      ∙ or_left (is_inode_among merged.number inode (map (λ i. (number, i)) lost_names)) _
       (of_number number lost_names merged.number inode (number_of_filesystem world number) m)
 
   lost_there : (inode : ℕ) → Among inode lost_above → is_inode_among layer.number inode lost ≡ true
   lost_there inode m = list_any-append (λ (loser : Inode). nat_eq layer.number loser.0 && nat_eq inode loser.1)
       (map (λ i. (number, i)) lost_names) (map (λ i. (upper.filesystem, i)) lost_above)
-      ∙ or_second (is_inode_among layer.number inode (map (λ i. (number, i)) lost_names)) _
+      ∙ or_right (is_inode_among layer.number inode (map (λ i. (number, i)) lost_names)) _
       (of_number upper.filesystem lost_above layer.number inode (number_of_filesystem world upper.filesystem) m)
 
   -- a world in which the overlay is
@@ -239,23 +239,24 @@ module _ (fresh : Fresh ℕ) (world : World ℕ) (location : Location ℕ) (chan
       number = refl;
       root = names_tree.root;
       layers = sym (ap (overlay_or [] layers_of) can.overlay_there);
-      inodes = all_pass (λ k. is_among nat_eq k merged.files.numbers || is_among nat_eq k (named_in later.files)
+      inodes = list_all_from_among
+          (λ k. is_among nat_eq k merged.files.numbers || is_among nat_eq k (named_in later.files)
           || is_among nat_eq k (upper_objects last merged.number)) later.files.numbers (λ k m.
-          or_first (is_among nat_eq k merged.files.numbers || is_among nat_eq k (named_in later.files))
+          or_left (is_among nat_eq k merged.files.numbers || is_among nat_eq k (named_in later.files))
           (is_among nat_eq k (upper_objects last merged.number))
-          (passes (λ n. is_among nat_eq n merged.files.numbers || is_among nat_eq n
+          (among_from_list_all (λ n. is_among nat_eq n merged.files.numbers || is_among nat_eq n
           (named_in later.files)) later.files.numbers names_tree.inodes k m));
-      names = all_pass (λ k. is_among nat_eq k (named_in later.files) || is_inode_among merged.number k lost)
+      names = list_all_from_among (λ k. is_among nat_eq k (named_in later.files) || is_inode_among merged.number k lost)
           (named_in merged.files) (λ k m.
-          ⊎_elim (or_first (is_among nat_eq k (named_in later.files)) (is_inode_among merged.number k lost))
-          (λ gone. or_second (is_among nat_eq k (named_in later.files)) (is_inode_among merged.number k lost)
+          ⊎_elim (or_left (is_among nat_eq k (named_in later.files)) (is_inode_among merged.number k lost))
+          (λ gone. or_right (is_among nat_eq k (named_in later.files)) (is_inode_among merged.number k lost)
           (lost_here k (among_numbers k lost_names gone)))
           (or_cases (is_among nat_eq k (named_in later.files)) (is_among nat_eq k lost_names)
-          (passes (λ n. is_among nat_eq n (named_in later.files) || is_among nat_eq n lost_names)
+          (among_from_list_all (λ n. is_among nat_eq n (named_in later.files) || is_among nat_eq n lost_names)
           (named_in merged.files) names_tree.names k m)));
-      objects = λ target. all_pass (λ k. is_among nat_eq k (objects_of_overlay nat_eq target new_merged)
+      objects = λ target. list_all_from_among (λ k. is_among nat_eq k (objects_of_overlay nat_eq target new_merged)
           || is_inode_among target k lost) (objects_of_overlay nat_eq target merged)
-          (λ k m. or_first (is_among nat_eq k (objects_of_overlay nat_eq target new_merged))
+          (λ k m. or_left (is_among nat_eq k (objects_of_overlay nat_eq target new_merged))
           (is_inode_among target k lost) (is_among_numbers k (objects_of_overlay nat_eq target new_merged)
           (objects_stay target merged.files.numbers later.files.numbers overlay later.real
           (λ inode n. subst (λ (f : FileTree ℕ). Among inode f.numbers) (sym added.files)
@@ -297,12 +298,13 @@ module _ (fresh : Fresh ℕ) (world : World ℕ) (location : Location ℕ) (chan
       number = refl;
       root = added.root;
       layers = refl;
-      inodes = all_pass (λ k. is_among nat_eq k layer.files.numbers || is_among nat_eq k (named_in later.upper)
+      inodes = list_all_from_among
+          (λ k. is_among nat_eq k layer.files.numbers || is_among nat_eq k (named_in later.upper)
           || is_among nat_eq k (upper_objects last layer.number)) later.upper.numbers is_used;
-      names = all_pass (λ k. is_among nat_eq k (named_in later.upper) || is_inode_among layer.number k lost)
+      names = list_all_from_among (λ k. is_among nat_eq k (named_in later.upper) || is_inode_among layer.number k lost)
           (named_in layer.files) (λ k m.
-          ⊎_elim (or_first (is_among nat_eq k (named_in later.upper)) (is_inode_among layer.number k lost))
-          (λ gone. or_second (is_among nat_eq k (named_in later.upper)) (is_inode_among layer.number k lost)
+          ⊎_elim (or_left (is_among nat_eq k (named_in later.upper)) (is_inode_among layer.number k lost))
+          (λ gone. or_right (is_among nat_eq k (named_in later.upper)) (is_inode_among layer.number k lost)
           (lost_there k (among-filter (λ n. not (is_among nat_eq n (named_in later.upper))) (named_in layer.files) k m
           (ap not gone)))) (cases_Bool (is_among nat_eq k (named_in later.upper))));
       objects = λ target. ap (list_all (λ k.

@@ -12,7 +12,7 @@ use Rattle.vt_laws_trees.proofs.layers.layers.ShownTree.{Arrives, arrives, merge
 use Rattle.vt_laws_trees.proofs.layers.layers.ShownWhole.{is_of_object}
 use Rattle.vt_laws_mounts.specs.LettingGo.InUse.{IsListedTree}
 use Rattle.vt_laws_mounts.proofs.letting_go.mounting.AttachedSwept.{new_filesystems_keep_all}
-use Rattle.vt_laws_mounts.proofs.letting_go.Lists.{all_pass, is_among_numbers, or_first, or_second}
+use Rattle.vt_laws_mounts.proofs.letting_go.Lists.{is_among_numbers, list_all_from_among, or_left, or_right}
 use Rattle.vt_laws_mounts.proofs.letting_go.sweeps.OfWorlds.{locations_of_worlds_stand, worlds_are_settled}
 use Rattle.vt_laws_mounts.proofs.letting_go.Trees.{named_among}
 use Rattle.vt_laws_worlds.specs.OverlaysLetGo.NewOverlays.{NewMountsOfOverlaysKeepAll, NewOverlaysAreNamed}
@@ -66,9 +66,10 @@ module _ (layers : List (OpenLayer ℕ)) (are_open : AreOpen layers) (longest : 
 
 pub new_overlays_are_named : NewOverlaysAreNamed
 new_overlays_are_named fresh world overlay conditions are_layers distinct =
-    all_pass (λ n. nat_eq n made.files.tree.root || is_among nat_eq n (named_in made.files)) made.files.numbers (λ n m.
-    ⊎_elim (λ root. or_first (nat_eq n made.files.tree.root) _ (eq-eqb n made.files.tree.root root.1))
-    (λ other. or_second (nat_eq n made.files.tree.root) (is_among nat_eq n (named_in made.files))
+    list_all_from_among (λ n. nat_eq n made.files.tree.root || is_among nat_eq n (named_in made.files))
+    made.files.numbers (λ n m.
+    ⊎_elim (λ root. or_left (nat_eq n made.files.tree.root) _ (eq-eqb n made.files.tree.root root.1))
+    (λ other. or_right (nat_eq n made.files.tree.root) (is_among nat_eq n (named_in made.files))
     (named_among made.files listed n
     (named n other.1 (sym (listed.numbers n) ∙ is_among_numbers n made.files.numbers m))))
     (eqb_tells n made.files.tree.root))

@@ -3,7 +3,7 @@ use Rattle.std.proofs.Common.{◌≡◌, ◌≢◌, refl, sym, ap, subst, ◌∙
 use Rattle.vt_spec.proofs.Common.{Filesystem, HasName, Node, Overlay, Real, SameObject, World, filesystem_numbered, is_among, is_overlay, named_in, or_parts, real_node, then_some}
 use Rattle.vt_laws_mounts.specs.LettingGo.InUse.{IsListedTree}
 use Rattle.vt_laws_mounts.specs.LettingGo.Keeping.{has_only_named}
-use Rattle.vt_laws_mounts.proofs.letting_go.Lists.{all_from_among, all_pass, is_among_numbers}
+use Rattle.vt_laws_mounts.proofs.letting_go.Lists.{all_from_among, is_among_numbers, list_all_from_among}
 use Rattle.vt_laws_mounts.proofs.letting_go.Trees.{named_among}
 use Rattle.vt_laws_mounts.proofs.letting_go.sweeps.OfWorlds.{found_filesystem}
 use Rattle.vt_laws_trees.specs.Overlays.MergedTrees.{IsMergedTree, IsNamedBy}
@@ -28,7 +28,8 @@ module _ (number_of : Real ℕ → ℕ) (world : World ℕ) (f : Filesystem ℕ)
 
   only_named : has_only_named f ≡ true
   only_named =
-      all_pass (λ n. nat_eq n f.files.tree.root || is_among nat_eq n (named_in f.files)) f.files.numbers (λ n m.
+      list_all_from_among (λ n. nat_eq n f.files.tree.root || is_among nat_eq n (named_in f.files)) f.files.numbers
+      (λ n m.
       by n (sym (merged.numbers n) ∙ is_among_numbers n f.files.numbers m)
       (nat_eq n f.files.tree.root || is_among nat_eq n (named_in f.files)) refl)
     where

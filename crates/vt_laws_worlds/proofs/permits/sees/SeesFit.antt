@@ -2,7 +2,7 @@
 use Rattle.std.proofs.Common.{arith, eq-eqb, le-leb, leb-true, ltb-false, ne_eqb, ◌≡◌, ◌≢◌, refl, sym, ap, subst, ◌∙◌, ⊎_elim, true≢false, ℕ, zero, suc, ◌+◌, ◌*◌, nat_eq, nat_le, nat_lt, Bool, true, false, not, cond, List, [], ◌∷◌, ◌&&◌, ◌||◌, length, Option, Some, None, option_map, option_and_then}
 use Rattle.vt_spec.proofs.Common.{AddName, Allowed, Change, CopyUp, FileTree, Filesystem, Fits, Fresh, HasName, Inode, Inodes, IsDirectory, IsReached, IsTree, IsWorld, ListsNumbers, Location, Make, MayReplace, Move, Node, Permit, Remove, SetAttr, SetBytes, SetMark, Task, ToChange, ToList, ToMake, ToOpen, ToOpenNew, ToRead, ToReadPart, ToRemoveDirectory, ToRename, ToStat, ToWritePart, Tree, World, and_true_first, bytes_in, chain, chain_ends, chain_goes_on, common_steps, entry_at, evens, file_is_there, files_at, has_fit_names, has_fit_text, is_among, is_directory_node, is_empty, is_fit_filesystem, is_kind_in, is_no_larger, largest_file, led, mount_at, node_at, overwritten, parent_above, parent_in, reached_named, tree_of, ⊤}
 use Rattle.vt_laws_trees.specs.Calls.Inodes.{change_of, written_if_some}
-use Rattle.vt_laws_mounts.proofs.letting_go.Lists.{all_from_among, among_from_all, among_numbers, passes}
+use Rattle.vt_laws_mounts.proofs.letting_go.Lists.{all_from_among, among_from_all, among_from_list_all, among_numbers}
 use Rattle.vt_laws_worlds.proofs.permits.sees.SeesNames.{tree_here}
 use Rattle.vt_laws_worlds.proofs.permits.sees.SeesTasks.{given_permits_are_seen_to}
 use Rattle.vt_laws_worlds.specs.Permits.Left.{IsGiven}
@@ -116,13 +116,13 @@ module _ (world : World ℕ) (fresh : Fresh ℕ) (task : Task ℕ) (permit : Per
   bytes_small file kind = ⊎_elim (λ good.
       limit (is_kind_in File (node_at nat_eq world file))
       (nat_le (length (bytes_in (node_at nat_eq world file))) largest_file) (and_true_first _ _ _
-      (passes (fit_in (files_at nat_eq world file)) (files_at nat_eq world file).numbers good.0 file.node
+      (among_from_list_all (fit_in (files_at nat_eq world file)) (files_at nat_eq world file).numbers good.0 file.node
       (among_numbers file.node (files_at nat_eq world file).numbers
       (good.1 file.node ∙ file_is_there (node_at nat_eq world file) kind)))) kind) (λ missing. absurd (true≢false
       (sym kind ∙ ap (λ (f : Filesystem ℕ). is_kind_in File (f.files.tree.node file.node)) missing.0)))
       (numbered_all Good (mount_at nat_eq world file).filesystem world.filesystems
       (all_from_among Good world.filesystems (λ f m. (
-        passes is_fit_filesystem world.filesystems whole.files.fit_filesystems f m,
+        among_from_list_all is_fit_filesystem world.filesystems whole.files.fit_filesystems f m,
         among_from_all (λ (g : Filesystem ℕ). ListsNumbers nat_eq g.files) world.filesystems whole.files.numbers f m,
       ))))
     where

@@ -8,20 +8,20 @@ use Rattle.vt_laws_rules.specs.Granted.IsGranted.{changes_mark, changes_mode, ch
 use Rattle.vt_laws_worlds.proofs.permits.sees.SeesNames.{made_as_file, made_at_new, old_mount, same_kind, tree_here}
 use Rattle.vt_laws_worlds.specs.Permits.Sees.{GivenPermitsAreSeenTo, SeesTo}
 use Rattle.vt_spec.specs.Machine.Rules.Conditions.{kind_at}
-use Rattle.vt_spec.specs.declared.attributes.Kind.TheVariants.{Symlink as SymlinkKind}
+use Rattle.vt_spec.specs.declared.attributes.Kind.TheVariants.{Symlink}
 use Rattle.vt_laws_trees.proofs.trees.ChangesByLinks.{may_link}
 use Rattle.vt_laws_trees.proofs.trees.ChangesByRemoving.{may_move, old_removable}
 use Rattle.vt_laws_trees.proofs.trees.TreesEntered.{ends_link_walk}
 use Rattle.vt_laws_trees.proofs.trees.TreesOfMounts.{worlds_are_standing}
 use Rattle.vt_laws_trees.proofs.trees.TreesSizes.{fit_name_of, no_longer}
-use Rattle.vt_laws_trees.proofs.trees.TreesTasks.{both}
-use Rattle.vt_laws_trees.proofs.trees.TreesWalked.{at_end, not_true, place_named}
+use Rattle.vt_laws_trees.proofs.trees.TreesTasks.{and_from}
+use Rattle.vt_laws_trees.proofs.trees.TreesWalked.{at_end, not-false, place_named}
 use Rattle.vt_laws_trees.specs.Trees.Calls.{mounts_overlay}
 use Rattle.vt_laws_worlds.proofs.worlds.ReachedWalks.{directory_walk_end}
 use Rattle.vt_laws_trees.proofs.trees.PlacesReached.{file_is, new_is, new_leaf_is, old_is, old_leaf_is, rename_new_is}
 
 -- a symlink is no directory
-link_is_no_directory : (o : Option (Node ℕ)) → is_kind_in SymlinkKind o ≡ true → is_directory_node o ≡ false
+link_is_no_directory : (o : Option (Node ℕ)) → is_kind_in Symlink o ≡ true → is_directory_node o ≡ false
 link_is_no_directory o e = grind (arith, common_steps, true≢false)
 
 module _ (fresh : Fresh ℕ) (world : World ℕ) (whole : IsWorld nat_eq world) (task : Task ℕ)
@@ -40,7 +40,7 @@ module _ (fresh : Fresh ℕ) (world : World ℕ) (whole : IsWorld nat_eq world) 
   granted_seen call permit other (lists_directory path here end passed) = directory_is path here end
   granted_seen call permit other (reads_symlink path here end passed) =
       link_is_no_directory (node_at nat_eq world here.location)
-      (not_true (kind_at looks here.location SymlinkKind) passed.0)
+      (not-false (kind_at looks here.location Symlink) passed.0)
   granted_seen call permit other (reads_file path here end passed) = passed.0
   granted_seen call permit other (overwrites_file path bytes place file end named there passed) =
       (refl, passed.0, no_longer largest_file bytes passed.1.0)
@@ -53,7 +53,7 @@ module _ (fresh : Fresh ℕ) (world : World ℕ) (whole : IsWorld nat_eq world) 
   granted_seen call permit other (makes_symlink text path place fits end passed) =
       made_at_new world whole task place (symlink_made task text)
       (new_leaf_is world task path place end) passed.0 passed.1.0 (inr refl)
-      (ap (λ b. b && true) (both (not (is_empty text)) (nat_le (length text) longest_path) (ap not fits.0)
+      (ap (λ b. b && true) (and_from (not (is_empty text)) (nat_le (length text) longest_path) (ap not fits.0)
       (no_longer longest_path text fits.1.0)))
   granted_seen call permit other (makes_whiteout path place end passed) =
       made_at_new world whole task place (whiteout_made task)
@@ -84,14 +84,14 @@ module _ (fresh : Fresh ℕ) (world : World ℕ) (whole : IsWorld nat_eq world) 
         old_mount world task place named is,
         old_removable world place named is.0 is.1
             (nil_from_not_some (entries_in (node_at nat_eq world (object_there place))) passed.1.0),
-        not_true (is_directory_at nat_eq world (object_there place)) passed.0,
+        not-false (is_directory_at nat_eq world (object_there place)) passed.0,
       )
   granted_seen call permit other (renames old new from to names another passed) =
       let is = old_leaf_is world task old from names.from_end in
       let to_is = rename_new_is world task new (is_directory_there nat_eq looks from) to names.to_end in
       record {
         to_mount = sym (eqb-true from.parent.mount to.parent.mount
-            (not_true (nat_eq from.parent.mount to.parent.mount) passed.1.1.1.1.1.1.1.1.0));
+            (not-false (nat_eq from.parent.mount to.parent.mount) passed.1.1.1.1.1.1.1.1.0));
         object_mount = old_mount world task from names.from_named.0 is;
         moves =
             may_move world task from to names.from_named.0 is.0 is.1 names.to_named.0 to_is.0.0 to_is.0.1 another passed

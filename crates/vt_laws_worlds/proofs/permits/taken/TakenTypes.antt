@@ -1,7 +1,7 @@
 -- A mount that does not become shared takes no number when its type changes.
 use Rattle.std.proofs.Common.{arith, ◌≡◌, refl, sym, ap, ◌∙◌, ⊎_elim, true≢false, ℕ, zero, suc, nat_eq, Bool, true, false, cond, List, [], ◌∷◌, map, Option, Some, None, find, inl, inr, unwrap_or}
 use Rattle.vt_spec.proofs.Common.{IsWorld, Mount, Private, Propagation, Shared, Slave, ToPrivate, ToShared, ToSlave, ToUnbindable, TypeWord, Unbindable, World, children, common_steps, group_of, holds_of, is_member_of, master_after, mount_in, named_mounts, no_mount, regrouped, retyped, retyped_mount, stands_on, tree_from, type_after, with_master, with_new_groups}
-use Rattle.vt_laws_mounts.proofs.letting_go.Lists.{Among, among-from_filter, among-from_flat_map, none_passes, passes}
+use Rattle.vt_laws_mounts.proofs.letting_go.Lists.{Among, among-from_filter, among-from_flat_map, among_from_list_all, none_from_among}
 use Rattle.vt_laws_worlds.specs.Permits.Taken.{IsUngrouped, is_ungrouped}
 use Rattle.vt_laws_mounts.proofs.letting_go.sweeps.OfWorlds.{all_in_use}
 
@@ -57,7 +57,7 @@ module _ (mounts : List (Mount ℕ)) (all : (mount : Mount ℕ) → Among mount 
 
 module _ (world : World ℕ) (whole : IsWorld nat_eq world) (ungrouped : IsUngrouped world) where
   each_is : (mount : Mount ℕ) → Among mount world.mounts → Ungrouped mount
-  each_is = passes (λ (mount : Mount ℕ). is_ungrouped mount.propagation) world.mounts ungrouped
+  each_is = among_from_list_all (λ (mount : Mount ℕ). is_ungrouped mount.propagation) world.mounts ungrouped
 
   named_is : (number : ℕ) (recursive : Bool) (mount : Mount ℕ)
       → Among mount (named_mounts nat_eq world number recursive) → Ungrouped mount
@@ -66,7 +66,7 @@ module _ (world : World ℕ) (whole : IsWorld nat_eq world) (ungrouped : IsUngro
   -- no group has a master
   no_masters : (group : ℕ) → world.master group ≡ None
   no_masters group = (all_in_use world whole).groups group
-      (none_passes (is_member_of nat_eq group) world.mounts (λ mount among.
+      (none_from_among (is_member_of nat_eq group) world.mounts (λ mount among.
       no_member group mount.propagation (each_is mount among)))
 
   none_left : (group : ℕ → ℕ) (named : List (Mount ℕ)) → ((mount : Mount ℕ) → Among mount named → Ungrouped mount)

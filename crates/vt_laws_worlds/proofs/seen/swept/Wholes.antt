@@ -3,7 +3,7 @@ use Rattle.std.proofs.Common.{arith, ◌≡◌, ap, ◌∙◌, ℕ, nat_eq, Bool
 use Rattle.vt_spec.proofs.Common.{Filesystem, World, common_steps, filesystem_lives, has_layer_on, is_mounted, mount_lives, or_false_right, or_parts, with_mounts, without_dead_filesystems, without_dead_groups, without_dead_inodes, without_dead_mounts}
 use Rattle.vt_spec.proofs.Lists.{none-filter}
 use Rattle.vt_laws_mounts.specs.LettingGo.OneByOne.{let_go_filesystem}
-use Rattle.vt_laws_mounts.proofs.letting_go.Lists.{any-filter, fails, filter_less, none_passes}
+use Rattle.vt_laws_mounts.proofs.letting_go.Lists.{any-filter, filter_less, none_among, none_from_among}
 use Rattle.vt_laws_worlds.specs.Seen.SweptBefore.{FilesystemsMayGoBefore, GroupsMayGoBefore, MountsMayGoBefore}
 
 pub mounts_may_go_before : MountsMayGoBefore
@@ -51,7 +51,8 @@ module _ (world : World ℕ) (number : ℕ) where
 
   -- what is let go is not in use then
   dead : (filesystem : Filesystem ℕ) → stays filesystem ≡ false → filesystem_lives nat_eq mounted filesystem ≡ false
-  dead filesystem e = grind (arith, common_steps, or_parts, or_false_right, mounted_before, none_passes, less, fails)
+  dead filesystem e = grind
+      (arith, common_steps, or_parts, or_false_right, mounted_before, none_from_among, less, none_among)
 
 pub filesystems_may_go_before : FilesystemsMayGoBefore
 filesystems_may_go_before world number =

@@ -1,5 +1,5 @@
 use Rattle.std.proofs.Common.{Err, Ok, ap, map, nat_eq, refl, sym, ◌∙◌}
-use Rattle.vt_spec.proofs.Common.{MountOverlay, ToMountOverlay as MeansToMount, err_from_is_err_and, layer_at, mount_overlay_permit, overlay_at}
+use Rattle.vt_spec.proofs.Common.{MountOverlay, ToMountOverlay, err_from_is_err_and, layer_at, mount_overlay_permit, overlay_at}
 use Rattle.vt_spec.specs.declared.errors.Rule.TheVariants.{M2, M9}
 use Rattle.vt_cred.specs.MountFlags.{flags_of}
 use Rattle.vt_location.specs.Locations.{location_of}
@@ -69,7 +69,8 @@ returns-in_err-overfills_with_overlay g c =
     let options = options_named c.args.options.now in
     let flags = flags_of c.args.flags in
     let place = location_of c.in_ok-destination.destination in
-    let permit = MeansToMount place (overlay_at looks task (lowers_alone (lowers_of c.in_ok-layers.layers.items))) flags in
+    let permit = ToMountOverlay place (overlay_at looks task (lowers_alone (lowers_of c.in_ok-layers.layers.items)))
+    flags in
     let p = err_from_is_err_and c.from_residual-in_err-overfills_with_overlay.result
     c.from_residual-in_err-overfills_with_overlay.ensures.1 in
     rw (p.1, p.2) (no_receivers (MountOverlay c.args.path.now options flags) task
@@ -106,7 +107,7 @@ returns-in_err-lowers g c =
     let p = err_from_is_err_and c.from_residual-in_err-lowers.result c.from_residual-in_err-lowers.ensures.1 in
     rw (p.1) (no_list (MountOverlay c.args.path.now options flags) task
     (mount_overlay_permit nat_eq looks overfills task c.args.path.now options flags)
-    (MeansToMount place overlay flags) _ (left looks task overfills c.args.path.now options flags place
+    (ToMountOverlay place overlay flags) _ (left looks task overfills c.args.path.now options flags place
     (lowers_alone (lowers_of c.in_ok-layers.layers.items)) (sym c.lacks.ensures ∙ c.if-lacks.false) c.in_ok-destination.ensures
     c.in_ok-layers.ensures.ok ∙ skipped _ M2 _ _ (sym c.is_elsewhere.ensures ∙ c.if-is_elsewhere.false)
     ∙ skipped _ M9 _ _ (sym (c.in_ok-overfills_with_overlay.ensures.ok overlay flags) ∙ c.if-branch.false)) p.2)
@@ -125,5 +126,5 @@ returns g c =
     (lowers_alone (lowers_of lowers)) (sym c.lacks.ensures ∙ c.if-lacks.false) c.in_ok-destination.ensures
     c.in_ok-layers.ensures.ok ∙ skipped _ M2 _ _ (sym c.is_elsewhere.ensures ∙ c.if-is_elsewhere.false)
     ∙ skipped _ M9 _ _ (sym (c.in_ok-overfills_with_overlay.ensures.ok overlay flags) ∙ c.if-branch.false)
-    ∙ ap (λ overlay. Ok (MeansToMount place overlay flags)) (granted_overlay looks task lowers _
+    ∙ ap (λ overlay. Ok (ToMountOverlay place overlay flags)) (granted_overlay looks task lowers _
     (c.in_ok-lowers.ensures ∙ ap (map (λ (lower : Lower). layer_at looks (location_of lower.at))) c.as_slice.ensures.value))

@@ -19,7 +19,7 @@ use Rattle.vt_group.proofs.IndexLemmas.{relative_of_source}
 use Rattle.vt_group.proofs.Invariant.{at_nat}
 use Rattle.vt_group.proofs.groups.Members.{member_found}
 use Rattle.vt_group.proofs.Answering.{shown-type}
-use Rattle.vt_group.proofs.SetsLemmas.{same_id}
+use Rattle.vt_group.proofs.SetsLemmas.{same_number}
 use Rattle.vt_group.proofs.groups.Groups.end.Goals as goal
 
 -- the groups that these types and masters mean
@@ -60,7 +60,7 @@ returns-clause-ended c =
           (c.hand_groups.ensures.each count)
           (λ master at apart. unhanded_group lost heir master (held_not (same_group master lost) _
           (λ same. c.lowers.ensures (group_at count)
-          (ap (is_lower c.self.inside.index (group_at count)) (same_id master lost same)
+          (ap (is_lower c.self.inside.index (group_at count)) (same_number master lost same)
           ∙ lists.lower count master at)) apart)))) i;
     }) ∙ (λ i. record {
       peers = filter_map (handed_peer number (told i)) (view i).peers;
@@ -123,7 +123,8 @@ invariant_of-self c =
           let was = was_handed (group_handed lost heir) (value_at c.self.inside.above lower)
           (value_at c.hand_groups.new.above lower) _ upper (c.hand_groups.ensures.each lower)
           (λ master at apart. unhanded_group lost heir master (held_not (same_group master lost) _
-          (λ same. c.lowers.ensures (group_at lower) (ap (is_lower index (group_at lower)) (same_id master lost same)
+          (λ same. c.lowers.ensures (group_at lower)
+          (ap (is_lower index (group_at lower)) (same_number master lost same)
           ∙ lists.lower lower master at)) apart)) mid.0 in
           c.end.ensures.kept.groups (group_at lower) was.0 upper above (sym (at_nat lost.count lower) ∙ mid.1)
           (ap is_some at) was.2 (lists.lower lower was.0 was.1);

@@ -4,7 +4,7 @@ use Rattle.vt_group.specs.declared.index.Index.{Index}
 use Rattle.vt_group.specs.Indexed.{is_relative}
 use Rattle.vt_group.specs.Sets.{has, same_group, same_id}
 use Rattle.vt_group.proofs.index.Inheriting.{handed_group, handed_kind, named_by}
-use Rattle.vt_group.proofs.SetsLemmas.{same_id as same_number}
+use Rattle.vt_group.proofs.SetsLemmas.{same_number}
 use Rattle.vt_group.proofs.index.Index.pass_on.Goals as goal
 
 pub returns-then-eq-clause-mounts : goal.returns-then-eq-clause-mounts

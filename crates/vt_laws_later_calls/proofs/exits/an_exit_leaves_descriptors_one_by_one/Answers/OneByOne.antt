@@ -4,7 +4,7 @@ use Rattle.vt_spec.proofs.Common.{Fresh, Location, MountInvariants, Task, TaskNa
 use Rattle.vt_laws_mounts.proofs.letting_go.ends.EndsInTurn.{one_sweep_for_exits_with_overlays}
 use Rattle.vt_laws_mounts.proofs.letting_go.leaving.LeftOneByOne.{one_sweep_with_overlays}
 use Rattle.vt_laws_mounts.proofs.letting_go.leaving.PlacesLeft.{comes_nowhere_itself, location_among}
-use Rattle.vt_laws_mounts.proofs.letting_go.Lists.{Among, all_pass, among-flat_map, among-from_filter, among-from_flat_map, among-from_map, among-map}
+use Rattle.vt_laws_mounts.proofs.letting_go.Lists.{Among, among-flat_map, among-from_filter, among-from_flat_map, among-from_map, among-map, list_all_from_among}
 use Rattle.vt_laws_mounts.proofs.letting_go.mounting.MountsSwept.{mounts_stand}
 use Rattle.vt_laws_mounts.proofs.letting_go.sweeps.OfWorlds.{worlds_are_settled}
 use Rattle.vt_laws_mounts.specs.LettingGo.InUse.{HasTrees, UppersArePlain}
@@ -25,7 +25,8 @@ still_located task number location known = grind (arith, common_steps, among-fro
 closing_comes_nowhere : (world : World ℕ) (task : Task ℕ) (number : ℕ) → Among task world.tasks
     → comes_nowhere world (with_task world (without_descriptor task number)).tasks ≡ true
 closing_comes_nowhere world task number there =
-    all_pass (is_location_among (all_locations world)) (flat_map locations_of (map change world.tasks)) (λ location m.
+    list_all_from_among (is_location_among (all_locations world)) (flat_map locations_of (map change world.tasks))
+    (λ location m.
     let from = among-from_flat_map locations_of (map change world.tasks) location m in
     let old = among-from_map change world.tasks from.0 from.1 in
     let was = by location old.0 old.1 (same_name task.name old.0.name)

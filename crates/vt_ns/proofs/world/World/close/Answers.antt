@@ -1,6 +1,6 @@
 use Rattle.std.proofs.Common.{ap, map, option_map, subst, sym, ◌≡◌, ◌∙◌}
 use Rattle.vt_spec.proofs.Common.{ToClose, opens_for_writing}
-use Rattle.vt_ns.proofs.Common.{Becomes, IsDone, Permits, WorldValue, access_of, after, done_in_store, kept, kept_of, merged_of, overlays_of_store, passes, remade, without_location}
+use Rattle.vt_ns.proofs.Common.{Becomes, IsDone, Permits, WorldValue, access_of, after, among_from_list_all, done_in_store, kept, kept_of, merged_of, overlays_of_store, remade, without_location}
 use Rattle.vt_tasks.specs.Open.{numbered}
 use Rattle.vt_tasks.specs.TasksValue.{has_files_in_order}
 use Rattle.vt_ns.specs.contracts.world.World.{the_view}
@@ -29,7 +29,7 @@ done c =
     c.leave.ensures.overlays c.args.name.now (ToClose c.args.descriptor) permits
     (file_is_closed (the_view c.self.inside) c.args.name.now c.args.descriptor c.in-Some.closed c.leave.new.mounts
     c.leave.new.store.plain (map merged_of c.leave.new.store.overlays) c.close.new.self c.self.invariant permits
-    c.leave.ensures.slot (passes has_files_in_order c.self.inside.tasks c.close.ensures.order)
+    c.leave.ensures.slot (among_from_list_all has_files_in_order c.self.inside.tasks c.close.ensures.order)
     (sym (ap (option_map (numbered c.args.descriptor)) c.in-Some.is) ∙ c.close.ensures.value)
     c.close.ensures.rest (left_so c))
 

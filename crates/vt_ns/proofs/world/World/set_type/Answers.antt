@@ -2,7 +2,7 @@ use Rattle.std.proofs.Common.{[], ◌∷◌, ap, map, nat_eq, subst, sym, ◌≡
 use Rattle.vt_spec.proofs.Common.{ToSetType, named_mounts}
 use Rattle.vt_location.specs.declared.numbers.MountId.{MountId}
 use Rattle.vt_ns.proofs.Common.{Becomes, Permits, WorldValue, counted, mounts_in, numbers_of, world_of}
-use Rattle.vt_laws_mounts.proofs.letting_go.leaving.PlacesLeft.{number_found}
+use Rattle.vt_laws_mounts.proofs.letting_go.leaving.PlacesLeft.{number-mount_in}
 use Rattle.vt_request.specs.Requests.{type_word_of}
 use Rattle.vt_ns.specs.contracts.world.World.{the_view}
 use Rattle.vt_ns.specs.Retyped.{IsRetyped, counted_after}
@@ -50,7 +50,7 @@ invariant_of-self-2 c =
     let value = the_view c.self.inside in
     let number = counted c.args.change.mount.count in
     let numbers : number ∷ [] ≡ numbers_of (named_mounts nat_eq (world_of value) number c.args.change.recursive) =
-    ap (λ one. one ∷ []) (sym (number_found (mounts_in c.self.inside.mounts) number))
+    ap (λ one. one ∷ []) (sym (number-mount_in (mounts_in c.self.inside.mounts) number))
     ∙ ap (λ b. numbers_of (named_mounts nat_eq (world_of value) number b)) (sym c.if-recursive.false) in
     (types_done value c.self.invariant c.args.name.now number (type_word_of c.args.change.word) c.args.change.recursive
     (subst (λ one. Permits one c.args.name.now (ToSetType number (type_word_of c.args.change.word) c.args.change.recursive))
@@ -65,7 +65,7 @@ returns-clause-ok c =
     let value = the_view c.self.inside in
     let number = counted c.args.change.mount.count in
     let numbers : number ∷ [] ≡ numbers_of (named_mounts nat_eq (world_of value) number c.args.change.recursive) =
-    ap (λ one. one ∷ []) (sym (number_found (mounts_in c.self.inside.mounts) number))
+    ap (λ one. one ∷ []) (sym (number-mount_in (mounts_in c.self.inside.mounts) number))
     ∙ ap (λ b. numbers_of (named_mounts nat_eq (world_of value) number b)) (sym c.if-recursive.false) in
     subst (λ one. Becomes one c.args.name.now (ToSetType number (type_word_of c.args.change.word) c.args.change.recursive)
     (record value {
@@ -99,7 +99,7 @@ returns-clause-counts c =
     let value = the_view c.self.inside in
     let number = counted c.args.change.mount.count in
     let numbers : number ∷ [] ≡ numbers_of (named_mounts nat_eq (world_of value) number c.args.change.recursive) =
-    ap (λ one. one ∷ []) (sym (number_found (mounts_in c.self.inside.mounts) number))
+    ap (λ one. one ∷ []) (sym (number-mount_in (mounts_in c.self.inside.mounts) number))
     ∙ ap (λ b. numbers_of (named_mounts nat_eq (world_of value) number b)) (sym c.if-recursive.false) in
     c.in_ok-self-inside-2.ensures.ok.counts
     ∙ ap (counted_after (type_word_of c.args.change.word) c.self.inside.next) numbers

@@ -1,6 +1,6 @@
 use Rattle.std.proofs.Common.{map, refl, subst, sym, List, ℕ}
 use Rattle.vt_spec.proofs.Common.{IsPermutation-map, ToUnmount, World}
-use Rattle.vt_location.specs.declared.numbers.MountId.{MountId as MountNumber}
+use Rattle.vt_location.specs.declared.numbers.MountId.{MountId}
 use Rattle.vt_ns.proofs.Common.{Becomes, IsDone, IsSeen, Permits, Point, WorldValue, counted, done_in_store, kept, kept_of, merged_of, with_store, world_of}
 use Rattle.vt_ns.specs.contracts.world.World.{the_view}
 use Rattle.vt_ns.specs.Unmounting.{GoTogether}
@@ -36,7 +36,7 @@ done c =
     c.self.inside.store c.take_away.new.store c.self.invariant c.in_ok-take_away.ensures.overlays
     c.args.name.now (ToUnmount (counted c.args.mount.count)) permits
     (unmounted_everywhere value c.self.invariant c.args.name.now (counted c.args.mount.count) permits
-    planned gone c.in_ok-plan.plan.points.items (IsPermutation-map (λ (id : MountNumber). counted id.count)
+    planned gone c.in_ok-plan.plan.points.items (IsPermutation-map (λ (id : MountId). counted id.count)
     c.in_ok-plan.plan.gone.items c.newest_first.new.plan.gone.items c.newest_first.ensures.gone)
     (c.in_ok-plan.ensures.gone world seen) (c.in_ok-plan.ensures.left world refl) (c.in_ok-plan.ensures.each world refl)
     c.take_away.new.mounts c.take_away.new.groups c.take_away.new.store.plain

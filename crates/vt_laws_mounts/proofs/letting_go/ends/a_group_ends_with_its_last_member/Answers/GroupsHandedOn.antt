@@ -2,7 +2,7 @@
 use Rattle.std.proofs.Common.{arith, ◌≡◌, refl, ap, ℕ, suc, nat_eq, eqb-true, eq-eqb, Bool, true, false, find, length, true≢false, Option, Some, None, option_to_list}
 use Rattle.vt_spec.proofs.Common.{Private, Propagation, Shared, Slave, Unbindable, World, and_parts, cases_Bool, chain, common_steps, find-chain_start, has_members, heir, inherited, is_lost_group, list_all, list_any, lost_a_group, map_alike, or_parts, regrouped, regrouped_by, source_of}
 use Rattle.vt_laws_mounts.specs.LettingGo.Groups.{GroupsLiveBut, NoGroupIsHandedOn, OneGroupIsHandedOn, hand_on, handed_on, is_group_or_lives, master_handed_on}
-use Rattle.vt_laws_mounts.proofs.letting_go.Lists.{fails, map_same, one_passes, or_second, passes}
+use Rattle.vt_laws_mounts.proofs.letting_go.Lists.{among_from_list_all, any_among, map_same, none_among, or_right}
 
 find_after_start : (p : ℕ → Bool) (next : ℕ → Option ℕ) (n a : ℕ) → p a ≡ false
     → list_all p (option_to_list (next a)) ≡ true → find p (chain (suc n) next a) ≡ next a
@@ -45,15 +45,15 @@ module _ (world : World ℕ) (group : ℕ) (live : GroupsLiveBut group world)
   no_lower : list_any (lost_a_group nat_eq world) world.mounts ≡ false → (other : ℕ)
       → master_handed_on group (world.master group) (world.master other) ≡ world.master other
   no_lower none other =
-      grind (arith, common_steps, true≢false, eqb-true, one_passes, or_second, fails, and_parts, cases_Bool)
+      grind (arith, common_steps, true≢false, eqb-true, any_among, or_right, none_among, and_parts, cases_Bool)
 
   one_handed_on : regrouped nat_eq world ≡ hand_on world group
   one_handed_on = by (list_any (lost_a_group nat_eq world) world.mounts) refl
     where
       by : (b : Bool) → list_any (lost_a_group nat_eq world) world.mounts ≡ b
           → regrouped_by nat_eq b world ≡ hand_on world group
-      by true e = grind (arith, common_steps, map_alike, inherited_handed_on, passes, heir_handed_on)
-      by false e = grind (arith, common_steps, map_same, no_slave, or_parts, fails, no_lower)
+      by true e = grind (arith, common_steps, map_alike, inherited_handed_on, among_from_list_all, heir_handed_on)
+      by false e = grind (arith, common_steps, map_same, no_slave, or_parts, none_among, no_lower)
 
 pub one_group_is_handed_on : OneGroupIsHandedOn
 one_group_is_handed_on world group live empty = one_handed_on world group live empty

@@ -6,7 +6,7 @@ use Rattle.vt_laws_trees.specs.Calls.Effects.TellsOf.{a_directory, a_symlink, an
 use Rattle.vt_spec.specs.declared.attributes.Kind.TheVariants.{Symlink}
 use Rattle.vt_spec.specs.declared.errors.Deny.{Deny}
 use Rattle.vt_spec.specs.Machine.Rules.Descriptors.{access_rights}
-use Rattle.vt_laws_trees.proofs.trees.TreesWalked.{not_true}
+use Rattle.vt_laws_trees.proofs.trees.TreesWalked.{not-false}
 use Rattle.vt_laws_rules.proofs.given.Inversion.{calls_are_granted}
 use Rattle.vt_laws_rules.specs.Granted.{IsGranted}
 use Rattle.vt_laws_rules.specs.Granted.IsGranted.{creates, creates_exclusively, lists_directory, opens, opens_existing, reads_file, reads_part, reads_symlink}
@@ -37,7 +37,7 @@ module _ (fresh : Fresh ℕ) (world : World ℕ) (task : Task ℕ) where
       × (node_allows task.credentials read_right (node_at nat_eq world directory) ≡ true)
   unfolding are_names
   names_granted call permit names (lists_directory path here end passed) e =
-      (here.location, a_directory path here end, sym (same_names _ names e), not_true _ passed.0)
+      (here.location, a_directory path here end, sym (same_names _ names e), not-false _ passed.0)
   names_granted call permit names granted e = absurd (true≢false (sym (ap are_names e)))
 
   abbrev ToldBytes : Call → List ℕ → Type 0
@@ -54,9 +54,9 @@ module _ (fresh : Fresh ℕ) (world : World ℕ) (task : Task ℕ) where
       → (apply nat_eq fresh world task permit).answer ≡ Ok (Bytes bytes) → ToldBytes call bytes
   unfolding are_bytes
   bytes_granted call permit bytes (reads_file path here end passed) e =
-      inl (here.location, an_object path here end, sym (same_bytes _ bytes e), not_true _ passed.1.1.0)
+      inl (here.location, an_object path here end, sym (same_bytes _ bytes e), not-false _ passed.1.1.0)
   bytes_granted call permit bytes (reads_symlink path here end passed) e =
-      inr (inl (here.location, a_symlink path here end, sym (same_bytes _ bytes e), not_true _ passed.0))
+      inr (inl (here.location, a_symlink path here end, sym (same_bytes _ bytes e), not-false _ passed.0))
   bytes_granted call permit bytes (reads_part which offset size descriptor found) e =
       let there = descriptor_found task which (λ d. d.reads) descriptor found in
       inr (inr (descriptor, which, offset, size, refl, there.0, there.1, sym (same_bytes _ bytes e)))
@@ -81,7 +81,7 @@ module _ (fresh : Fresh ℕ) (world : World ℕ) (task : Task ℕ) where
     access,
     with_copy nat_eq (is_copied_up nat_eq world file access) fresh world file,
     refl,
-    inl (not_true _ passed.1.1.1.1.1.0),
+    inl (not-false _ passed.1.1.1.1.1.0),
   )
 
   opens_new : (place : Place ℕ) (access : Access) (mode : ℕ) → Opens (open_new_permit task place access mode)

@@ -6,7 +6,7 @@ use Rattle.vt_laws_trees.specs.Calls.Reached.{directory_and_new, directory_and_n
 use Rattle.vt_laws_rules.specs.Granted.{IsGranted}
 use Rattle.vt_laws_rules.specs.Granted.IsGranted.{changes_mark, changes_mode, changes_owner, creates, creates_exclusively, makes_directory, makes_hard_link, makes_symlink, makes_whiteout, mounts_tmpfs, overwrites_file, removes_directory, renames, unlinks, writes_new_file, writes_part}
 use Rattle.vt_spec.proofs.Walk.{directory_walk, file_walk, is_directory_there, new_leaf_walk, new_walk, object_walk, old_leaf_walk, old_walk, symlink_walk}
-use Rattle.vt_laws_trees.proofs.trees.TreesWalked.{IsNewPlace, IsOldPlace, IsPlace, at_end, ends_new_walk, ends_old_leaf_walk, ends_old_walk, not_true, place_named}
+use Rattle.vt_laws_trees.proofs.trees.TreesWalked.{IsNewPlace, IsOldPlace, IsPlace, at_end, ends_new_walk, ends_old_leaf_walk, ends_old_walk, not-false, place_named}
 
 -- a walk that is only checked further ended before
 checked_same : {A : Type 0} (steps : List (List ℕ)) (rows : Rules) (a b : A) → walk_unless steps rows a ≡ Ok b → a ≡ b
@@ -131,7 +131,7 @@ module _ (fresh : Fresh ℕ) (world : World ℕ) (task : Task ℕ) (filesystem n
         refl,
         (
           ap (λ mount. (mount_numbered nat_eq world mount).filesystem)
-              (eqb-true from.location.mount place.parent.mount (not_true _ passed.1.1.1.1.1.0)),
+              (eqb-true from.location.mount place.parent.mount (not-false _ passed.1.1.1.1.1.0)),
           tt,
         ),
       ) (apart_at (symlink_walk nat_eq world task old) from (λ walk. place.parent ∷ object_at walk) from_end
@@ -150,7 +150,7 @@ module _ (fresh : Fresh ℕ) (world : World ℕ) (task : Task ℕ) (filesystem n
       (at_end (IsOldPlace world task) (old_leaf_walk nat_eq world task old) from (ends_old_leaf_walk world task old)
       names.from_end) names.from_named.0
       (at_end (IsNewPlace world task) (new_walk nat_eq world task new) to (ends_new_walk world task new) to_end).0
-      names.to_named.0 (eqb-true from.parent.mount to.parent.mount (not_true _ passed.1.1.1.1.1.1.1.1.0))
+      names.to_named.0 (eqb-true from.parent.mount to.parent.mount (not-false _ passed.1.1.1.1.1.1.1.1.0))
       (apart_at (new_walk nat_eq world task new) to
       (λ walk. (from.parent ∷ option_to_list from.object) ++ directory_and_object_at walk) to_end
       (apart_at (old_leaf_walk nat_eq world task old) from

@@ -1,7 +1,7 @@
 -- Where no mount is in a group none is afterwards, if none is made shared.
 use Rattle.std.proofs.Common.{arith, ◌≡◌, refl, sym, ap, subst, ◌∙◌, ⊎_elim, true≢false, ℕ, zero, suc, nat_eq, Bool, true, false, cond, ◌&&◌, List, [], ◌∷◌, ◌++◌, map, filter, flat_map, length, Option, Some, None, All, option_map}
 use Rattle.vt_spec.proofs.Common.{Change, Copies, CopyUp, Filesystem, Fresh, Location, Make, Mount, Move, Permit, Private, Propagation, Remove, SetBytes, Shared, Slave, Task, ToBind, ToChange, ToEnterNamespace, ToExit, ToMake, ToMountOverlay, ToMountPlain, ToMove, ToOpen, ToOpenNew, ToPivot, ToPrivate, ToRemoveDirectory, ToRename, ToSetFlags, ToSetType, ToShared, ToSlave, ToUnbindable, ToUnmount, ToUnmountLazily, ToUnshare, ToWritePart, Twig, TypeWord, Unbindable, World, added_mounts, after_going, all-filter, all-map, and_parts, apply, attach, bind_tree, bindable_children, bindable_tree, bytes_in, children, common_steps, copied_mount, copies_from, deepest_first, detached, evens, filesystem_at, filesystem_changed, filesystems-taken_away, folded, holds_of, inherited, is_copied_up, is_in_ended, is_overlay, list_all, mount_at, mount_lives, mount_numbered, mount_point_left, mount_tree, mounts_of, named_mounts, namespace_entered, namespaces_ended, new_mount, node_at, numbers_by, odds, overwritten, pivoted_mount, plain_filesystem, pwritten, regrouped, retyped_mount, settled, stands_on, stands_under, taken_away, type_after, unmounted_if_there, unshared, with_change, with_copy, with_mount, with_mounts, with_moved_mounts, with_new_filesystem, with_new_groups, with_type, without_mounts_on, without_replaced, without_task}
-use Rattle.vt_laws_mounts.proofs.letting_go.Lists.{Among, all_pass, among-from_filter, among-from_flat_map, passes}
+use Rattle.vt_laws_mounts.proofs.letting_go.Lists.{Among, among-from_filter, among-from_flat_map, among_from_list_all, list_all_from_among}
 use Rattle.vt_laws_worlds.proofs.permits.taken.TakenAttached.{at_destination, copy_by, twigs}
 use Rattle.vt_laws_worlds.proofs.permits.taken.TakenFirst.{IsNoOverlay, found_ungrouped}
 use Rattle.vt_laws_worlds.proofs.permits.taken.TakenTypes.{found_is, makes_groups, tree_is}
@@ -112,7 +112,7 @@ type_free new word makes kind e = grind (arith, common_steps, true≢false)
 
 module _ (world : World ℕ) (plain : IsPlain world) (is : IsUngrouped world) (task : Task ℕ) (fresh : Fresh ℕ) where
   each_free : (mount : Mount ℕ) → Among mount world.mounts → free mount ≡ true
-  each_free = passes free world.mounts is
+  each_free = among_from_list_all free world.mounts is
 
   found_free : (number : ℕ) → free (mount_numbered nat_eq world number) ≡ true
   found_free = found_is world.mounts each_free
@@ -140,7 +140,7 @@ module _ (world : World ℕ) (plain : IsPlain world) (is : IsUngrouped world) (t
   bind_free : (source : Location ℕ) (recursive : Bool) → AllFree (bind_tree nat_eq world source recursive)
   bind_free source false = ap (λ b. b && true) (found_free source.mount)
   bind_free source true = ap (λ b. b && list_all free (copied_below source)) (found_free source.mount)
-      ∙ all_pass free (copied_below source) (λ mount among.
+      ∙ list_all_from_among free (copied_below source) (λ mount among.
       let found =
       among-from_flat_map (bindable_tree nat_eq (length world.mounts) world.mounts) (below source) mount among in
       let child =
@@ -226,7 +226,7 @@ module _ (world : World ℕ) (plain : IsPlain world) (is : IsUngrouped world) (t
       attached_free world fresh place false (bind_tree nat_eq world source recursive) is (bind_free source recursive)
   applied_free (ToMove mount place) other shared =
       attached_free world fresh place true (mount_tree nat_eq world.mounts (mount_numbered nat_eq world mount)) is
-      (all_pass free _
+      (list_all_from_among free _
       (tree_is world.mounts each_free (length world.mounts) (mount_numbered nat_eq world mount) (found_free mount)))
   applied_free (ToUnmount mount) other shared = taken_free world _ is
   applied_free (ToUnmountLazily mount) other shared = folded_free
