@@ -63,7 +63,7 @@ const FILES: Argument = Argument {
 const SCRIPT: Argument = Argument {
     name: "script",
     form: Form::OneOf("VERSION", &["1", "2"]),
-    help: "The version of the scripts' language; 2 has the flag nosymfollow too",
+    help: "The version of the scripts' language; 2 has pivot_root and nosymfollow too",
 };
 
 const FORMAT: &str = "The form of what is written; json is one object a line";
