@@ -156,7 +156,7 @@ taken_regroups world gone closed = ap (λ mounts. regrouped nat_eq (with_mounts 
         → (o : Option (Location ℕ)) → mount.mount_point ≡ o → option_map (mount_point_left nat_eq world gone) o ≡ o
     stays_placed mount m e None p = refl
     stays_placed mount m e (Some place) p = ap (option_map (mount_point_left nat_eq world gone)) (sym p)
-        ∙ ap (λ (x : Mount ℕ). x.mount_point) (sym (Taken.stays world gone world.namespaces mount e))
+        ∙ ap (λ (x : Mount ℕ). x.mount_point) (sym (Taken.stays_there world gone world.namespaces mount e))
         ∙ Taken.same_place world gone world.namespaces false mount place p e
         (other (is_among nat_eq place.mount gone) refl)
       where

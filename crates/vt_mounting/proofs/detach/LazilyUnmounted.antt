@@ -281,14 +281,14 @@ module _ (world : World ℕ) (live : AllGroupsLive world)
 
     unplaced_stays : (x : Mount ℕ) → nat_eq x.number number ≡ false → x.mount_point ≡ None
         → after_going nat_eq now (number ∷ []) x ≡ x
-    unplaced_stays x other none = Taken.stays now (number ∷ []) now.namespaces x (stays_so x other) ∙ (λ i. record x {
+    unplaced_stays x other none = Taken.stays_there now (number ∷ []) now.namespaces x (stays_so x other) ∙ (λ i. record x {
       mount_point = (ap (option_map (mount_point_left nat_eq now (number ∷ []))) none ∙ sym none) i;
     })
 
     placed_stays : (x : Mount ℕ) (place : Location ℕ) → nat_eq x.number number ≡ false → x.mount_point ≡ Some place
         → nat_eq place.mount number ≡ false → after_going nat_eq now (number ∷ []) x ≡ x
     placed_stays x place other p apart_from =
-        let stays = Taken.stays now (number ∷ []) now.namespaces x (stays_so x other) in
+        let stays = Taken.stays_there now (number ∷ []) now.namespaces x (stays_so x other) in
         stays ∙ (λ i. record x {
           mount_point = (ap (λ (y : Mount ℕ). y.mount_point) (sym stays)
               ∙ Taken.same_place now (number ∷ []) now.namespaces false x place p (stays_so x other)
