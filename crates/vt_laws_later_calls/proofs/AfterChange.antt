@@ -203,7 +203,8 @@ module _ {world : World ℕ} {fresh : Fresh ℕ} {name : TaskName} {call : Call}
         ∙ ap (λ w. node_in w shown number) goes
         ∙ ap (λ names. node_in (let_go_all_inodes (with_change nat_eq from world location change) (map (λ inode.
         (shown, inode)) names)) shown number) none
-        ∙ ap (λ (f : FileTree ℕ). f.tree.node number) (files_changed from world it.plain location change changes.something)
+        ∙ ap (λ (f : FileTree ℕ). f.tree.node number)
+        (files_changed from world it.plain location change changes.something)
 
     -- what holds in the changed filesystem, and in the others, holds
     pub in_each : (P : ℕ → FileTree ℕ → Type 0) → P shown (changed nat_eq files change)
@@ -214,7 +215,8 @@ module _ {world : World ℕ} {fresh : Fresh ℕ} {name : TaskName} {call : Call}
         by : (b : Bool) → nat_eq shown number ≡ b → P number (filesystem_numbered nat_eq spent number).files
         by true e = subst (λ n. P n (filesystem_numbered nat_eq spent n).files) (eqb-true shown number e)
             (subst (P shown) (sym spent_shown) here)
-        by false e = subst (P number) (sym (spent_files number ∙ files_other from world it.plain location change number e))
+        by false e = subst (P number)
+            (sym (spent_files number ∙ files_other from world it.plain location change number e))
             (elsewhere number)
 
     -- So ways that stay in the changed tree stay in the world.

@@ -98,7 +98,8 @@ module _ (path : List ℕ) (set : Attr → Attr) {world : World ℕ} {fresh : Fr
       ≡ Ok (Told (record (stat_line (node_at nat_eq world here.location)) { attr = attr })))
       ⊎ ((deny : Deny) × Refused deny × ((policy nat_eq later_fresh later reader (Stat path)).answer ≡ Err deny))
   told Refused reader reading called stands leads later_fresh =
-      by (object_too (looks_of nat_eq world) (looks_of nat_eq later) it.did.task reading Refused _ leads path here walked)
+      by (object_too (looks_of nat_eq world) (looks_of nat_eq later) it.did.task reading Refused _ leads path here
+      walked)
     where
       by : EndsToo (looks_of nat_eq world) (looks_of nat_eq later) it.did.task reading Refused
           (KnownToo changes (stay Refused) reading (own_name later reader reading called) stands) leads
@@ -148,7 +149,8 @@ chown_parts : (looks : Looks ℕ) {too_many : Permit ℕ → Bool} (task : Task 
 chown_parts looks task path uid gid permit (changes_owner _ _ _ here end passed) = (here, end, refl)
 
 tells : {call : Call} (path : List ℕ) (set : Attr → Attr) {world : World ℕ} {fresh : Fresh ℕ} {name : TaskName}
-    (task : Task ℕ) → task_called world name ≡ Some task → (it : HasSucceeded world fresh name call Done) (here : Here ℕ)
+    (task : Task ℕ) → task_called world name ≡ Some task → (it : HasSucceeded world fresh name call Done)
+    (here : Here ℕ)
     → object_walk nat_eq (looks_of nat_eq world) it.did.task path ≡ Ok here → it.did.permit ≡ ToChange here.location
     (SetAttr here.location.node (set (attr_in (node_at nat_eq world here.location))))
     → (line : StatLine) × IsAnswered world name (Stat path) (Told line)

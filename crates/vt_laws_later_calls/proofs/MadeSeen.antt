@@ -110,7 +110,8 @@ module _ {world : World ℕ} {fresh : Fresh ℕ} {name : TaskName} {call : Call}
   pub maker : task_called later name ≡ Some (raised_task name it.did.task)
   maker = caller changes stay
 
-  module _ (reader : Task ℕ) (called : task_called later reader.name ≡ Some reader) (stands : StandsAs it.did.task reader)
+  module _ (reader : Task ℕ) (called : task_called later reader.name ≡ Some reader)
+      (stands : StandsAs it.did.task reader)
       (looks : MayLook it.did.task reader) where
     abbrev pub KnownHere : Location ℕ → Type 0
     KnownHere here = KnownToo changes stay reader called stands here
@@ -208,8 +209,7 @@ mkdir_then_list path mode world fresh name task is plain serves called granted =
         (looks_of nat_eq (policy nat_eq fresh world name (Mkdir path mode)).world) it.did.task reading Never _
         (made_leads it parts.3 reading own stands looks)
         path parts.0 parts.2 (named_place (looks_of nat_eq world) it.did.task path parts.0 parts.1 parts.2)
-        (new_location it parts.3)
-        (new_stepped it parts.3 reading own stands looks parts.0.last parts.2 refl)
+        (new_location it parts.3) (new_stepped it parts.3 reading own stands looks parts.0.last parts.2 refl)
         (ap symlink_text seen) (ap is_directory_node seen)) in
         list_of (policy nat_eq fresh world name (Mkdir path mode)).world later_fresh reader reading found path
         (later_is it).1 _ walk.1
@@ -265,8 +265,7 @@ symlink_then_readlink text path world fresh name task is plain serves called gra
         let at_name = named_place (looks_of nat_eq world) it.did.task path parts.0 parts.1 parts.2 in
         let walk = surely _ _ _ (symlink_named_too (looks_of nat_eq world)
         (looks_of nat_eq (policy nat_eq fresh world name (SymlinkAt text path)).world) it.did.task reading Never _
-        (made_leads it parts.4 reading own stands looks) path parts.0 parts.2 at_name
-        (new_location it parts.4)
+        (made_leads it parts.4 reading own stands looks) path parts.0 parts.2 at_name (new_location it parts.4)
         (new_stepped it parts.4 reading own stands looks parts.0.last parts.2 refl)
         (λ slash. absurd (true≢false (sym slash ∙ at_name.slash_is ∙ parts.3)))) in
         readlink_of (policy nat_eq fresh world name

@@ -191,21 +191,17 @@ module _ {world : World ℕ} {fresh : Fresh ℕ} {name : TaskName} {path : List 
 
   pub opens_new_file : OpensNewFile world fresh name task (OpenFile path access creation) place access mode number
   opens_new_file = (
-    opens_file it task called base new_place outcome
-        tasks,
-    file_seen it task called base new_place outcome tasks
-        ∙ seen,
+    opens_file it task called base new_place outcome tasks,
+    file_seen it task called base new_place outcome tasks ∙ seen,
     subst (ReadsBy world fresh name (OpenFile path access creation) access number) (ap bytes_in seen)
-        (reads_by it task called base new_place outcome
-        tasks),
+        (reads_by it task called base new_place outcome tasks),
   )
 
 pub open_then_pread : OpenThenPread
 open_then_pread world fresh name task path access number is plain serves called granted = (
   here,
   ap (λ t. object_walk nat_eq (looks_of nat_eq world) t path) (sym task_is) ∙ parts.1,
-  opens_file it task called world here.location outcome
-      refl,
+  opens_file it task called world here.location outcome refl,
   reads_by it task called world here.location outcome
       refl,
 )
@@ -237,10 +233,7 @@ open_then_pread world fresh name task path access number is plain serves called 
 
 pub open_or_create_then_pread : OpenOrCreateThenPread
 open_or_create_then_pread world fresh name task path access mode number place file is plain serves called walk object
-    granted = (
-      opens_file it task called world file outcome refl,
-      reads_by it task called world file outcome refl,
-    )
+    granted = (opens_file it task called world file outcome refl, reads_by it task called world file outcome refl)
   where
     it : HasSucceeded world fresh name (OpenFile path access (OrCreate mode)) (Opened number)
     it = record {
@@ -285,8 +278,7 @@ pub exclusive_then_pread : ExclusiveThenPread
 exclusive_then_pread world fresh name task path access mode number is plain serves called granted = (
   parts.0,
   ap (λ t. new_walk nat_eq (looks_of nat_eq world) t path) (sym task_is) ∙ parts.1,
-  opens_new_file it task called mode parts.0
-      (parts.4 ∙ ap (λ t. open_new_permit t parts.0 access mode) task_is),
+  opens_new_file it task called mode parts.0 (parts.4 ∙ ap (λ t. open_new_permit t parts.0 access mode) task_is),
 )
   where
     it : HasSucceeded world fresh name (OpenFile path access (Exclusive mode)) (Opened number)

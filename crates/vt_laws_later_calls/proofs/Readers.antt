@@ -97,7 +97,8 @@ module _ {world : World ℕ} {fresh : Fresh ℕ} {name : TaskName} {call : Call}
   pub caller : task_called left name ≡ Some (raised_task name it.did.task)
   caller = still_called it name it.did.task
       (ap (λ w. task_called w name) changes.does
-      ∙ ap (find (λ (t : Task ℕ). same_name name t.name)) (change_tasks from world it.plain location change) ∙ it.did.called)
+      ∙ ap (find (λ (t : Task ℕ). same_name name t.name)) (change_tasks from world it.plain location change)
+      ∙ it.did.called)
 
   module _ (reader : Task ℕ) (called : task_called left reader.name ≡ Some reader)
       (stands : StandsAs it.did.task reader) where
@@ -155,9 +156,7 @@ module _ {world : World ℕ} {fresh : Fresh ℕ} {name : TaskName} {call : Call}
     leads rights (inr all) = leads_by (λ here known directory e. inl (searched_by_all all here known directory))
     leads rights (inl same) = leads_by (λ here known directory e. inl
         (ap (λ who. node_allows who execute_right (node_at nat_eq left here)) same
-        ∙ ap (node_allows it.did.task.credentials execute_right)
-        (node_here both here)
-        ∙ world_rights it changes
+        ∙ ap (node_allows it.did.task.credentials execute_right) (node_here both here) ∙ world_rights it changes
         rights (mount_at nat_eq world here).filesystem here.node execute_right it.did.task.credentials known.0.1
         (known_there here known) ∙ e))
 

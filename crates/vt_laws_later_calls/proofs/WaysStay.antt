@@ -108,8 +108,11 @@ module _ {world later : World ℕ} {task reader : Task ℕ} {Refused : Deny → 
   -- a step leads to what is known
   next_known : (here : Location ℕ) (word : LastWord) (next : Location ℕ) → KnownDirectory here
       → stepped nat_eq world task here word ≡ Ok next → stepped nat_eq later reader here word ≡ Ok next → Known next
-  next_known here word next known e f =
-      (step_found world it.is task here word next known.0 e, step_found later it.is_later reader here word next known.1 f)
+  next_known here word next known e f = (
+    step_found world it.is task here word next known.0 e,
+    step_found later it.is_later reader here word next
+        known.1 f,
+  )
 
   -- Names
   abbrev named_by : List (Mount ℕ) → Location ℕ → Option ℕ → Result (Location ℕ) Deny
@@ -169,7 +172,8 @@ module _ {world later : World ℕ} {task reader : Task ℕ} {Refused : Deny → 
       by false true h = place_found world it.is task a.mount b found.0 h
       by false false h = none_is_not None b refl h
 
-  hop_known_later : (a b : Location ℕ) → IsFoundDirectory later it.is_later reader a → hop nat_eq later reader a ≡ Some b
+  hop_known_later : (a b : Location ℕ) → IsFoundDirectory later it.is_later reader a → hop nat_eq later reader a
+      ≡ Some b
       → IsFoundDirectory later it.is_later reader b
   hop_known_later a b found e = by (same_location nat_eq a reader.root) (nat_eq a.node (mount_at nat_eq later a).root) e
     where
@@ -306,7 +310,8 @@ module _ {world later : World ℕ} {task reader : Task ℕ} {Refused : Deny → 
     working = it.stands.directory;
     root_known = directory_known task.root (
       root_found world it.is task it.called,
-      subst (IsFoundDirectory later it.is_later reader) it.stands.root (root_found later it.is_later reader it.called_later),
+      subst (IsFoundDirectory later it.is_later reader) it.stands.root
+          (root_found later it.is_later reader it.called_later),
     );
     working_known = directory_known task.directory (
       own_directory_found world it.is task it.called,

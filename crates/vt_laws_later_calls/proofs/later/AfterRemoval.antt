@@ -57,7 +57,8 @@ module _ {world : World ℕ} {fresh : Fresh ℕ} {name : TaskName} {call : Call}
   own_task = called_own it
 
   pub seen_to : SeesTo world it.did.task (ToRemoveDirectory parent word object)
-  seen_to = subst (SeesTo world it.did.task) permit_is (given_permits_are_seen_to world fresh it.did.task it.did.permit it.is
+  seen_to = subst (SeesTo world it.did.task) permit_is
+      (given_permits_are_seen_to world fresh it.did.task it.did.permit it.is
       (given_of world fresh name call answer it.serves it.other it.few it.did))
 
   pub may : MayRemove (files_at nat_eq world parent).tree parent.node word object.node
@@ -84,7 +85,8 @@ module _ {world : World ℕ} {fresh : Fresh ℕ} {name : TaskName} {call : Call}
 
   closed : AreClosed world gone
   closed =
-      trees_closed world it.is.mounts.one_number ((standing_is_computed world it.is.mounts.one_number).0 it.is.mounts.standing)
+      trees_closed world it.is.mounts.one_number
+      ((standing_is_computed world it.is.mounts.one_number).0 it.is.mounts.standing)
       (mounts_on nat_eq world object)
 
   middle_plain : IsPlain middle
@@ -109,7 +111,8 @@ module _ {world : World ℕ} {fresh : Fresh ℕ} {name : TaskName} {call : Call}
   pub mounts_seen : (reader : Task ℕ) → reader.root ≡ it.did.task.root
       → MountsSeen world left it.is it.plain is_left.0 is_left.1 it.did.task reader
   mounts_seen reader roots = record {
-    own = own_mount world left it.is is_left.0 it.did.task gone closed (mount_lives nat_eq spent) living attached_live stays;
+    own = own_mount world left it.is is_left.0 it.did.task gone closed (mount_lives nat_eq spent) living attached_live
+        stays;
     topmost_is = topmost_same world left it.is is_left.0 it.did.task gone closed
         (mount_lives nat_eq spent) living attached_live stays;
     top_is = top_same world left it.is is_left.0 it.did.task gone closed

@@ -91,7 +91,8 @@ module _ {world : World ℕ} {fresh : Fresh ℕ} {name : TaskName} {call : Call}
   is_left = later_is it
 
   pub may : MayBeRenamed world from old to new object replaced
-  may = subst (SeesTo world it.did.task) permit_is (given_permits_are_seen_to world fresh it.did.task it.did.permit it.is
+  may = subst (SeesTo world it.did.task) permit_is
+      (given_permits_are_seen_to world fresh it.did.task it.did.permit it.is
       (given_of world fresh name call answer it.serves it.other it.few it.did))
 
   from_directory : is_directory_node ((files_at nat_eq world from).tree.node from.node) ≡ true

@@ -234,7 +234,8 @@ module _ {path : List ℕ} {world : World ℕ} {fresh : Fresh ℕ} {name : TaskN
   after_tree = record {
     tree = changes_keep_trees (files_at nat_eq world parent) change tree.tree
         (given_changes_are_proper world fresh it.did.task it.did.permit parent change it.is
-        (given_of world fresh name call (Opened number) it.serves refl refl it.did) (ap (change_of fresh world) permit)).0;
+        (given_of world fresh name call (Opened number) it.serves refl refl it.did)
+        (ap (change_of fresh world) permit)).0;
     numbers = changes_keep_numbers (files_at nat_eq world parent) change tree.numbers;
   }
 
@@ -361,14 +362,14 @@ module _ {path : List ℕ} {world : World ℕ} {fresh : Fresh ℕ} {name : TaskN
 
 pub exclusive_twice : ExclusiveTwice
 exclusive_twice path world fresh name task access again mode other number is plain serves called granted = (
-  λ now there room later_fresh.
-      again_refused it facts.1 facts.2 facts.3 facts.4
+  λ now there room later_fresh. again_refused it facts.1 facts.2 facts.3 facts.4
       name now there (subst (StandsAs it.did.task) (same_Some _ now (sym caller_here ∙ there)) raised_stands_so)
       (inl (ap (λ (t : Task ℕ). t.credentials) (sym (same_Some _ now (sym caller_here ∙ there)))
       ∙ raised_credentials name (with_descriptor it.did.task
       (record { mount = facts.0.parent.mount; node = fresh 0 }) access))) room again other later_fresh,
   λ reader reading looks room later_fresh.
-      again_refused it facts.1 facts.2 facts.3 facts.4 reader reading looks.called (subst (λ t. StandsAs t reading) (sym task_is)
+      again_refused it facts.1 facts.2 facts.3 facts.4 reader reading looks.called
+      (subst (λ t. StandsAs t reading) (sym task_is)
       (all_stands _ task reader reading looks)) (inr looks.all) room again other later_fresh,
 )
   where

@@ -68,16 +68,15 @@ module _ {world : World ℕ} {fresh : Fresh ℕ} {name : TaskName} {call : Call}
 
   not_root : object.node ≢ tree.root
   not_root same = file_tree.tree.root_unnamed parent.node word
-      ((may it permit_is).named
-      ∙ ap Some same)
+      ((may it permit_is).named ∙ ap Some same)
 
-  module _ (here : Location ℕ) (known : BothAre world later it.is it.plain is_later.0 is_later.1 it.did.task reader here) where
+  module _ (here : Location ℕ)
+      (known : BothAre world later it.is it.plain is_later.0 is_later.1 it.did.task reader here) where
     abbrev number : ℕ
     number = (mount_at nat_eq world here).filesystem
 
     alike : SeenAlike (mount_at nat_eq world here) (mount_at nat_eq later here)
-    alike = (mounts_seen it permit_is reader
-        roots).own here.mount known.0.0 known.1.0.0
+    alike = (mounts_seen it permit_is reader roots).own here.mount known.0.0 known.1.0.0
 
     files_here : files_at nat_eq later here ≡ (filesystem_numbered nat_eq later number).files
     files_here = ap (λ n. (filesystem_numbered nat_eq later n).files) alike.filesystem
@@ -107,8 +106,7 @@ module _ {world : World ℕ} {fresh : Fresh ℕ} {name : TaskName} {call : Call}
         (mount_at nat_eq later here).root here.node))
         (ap (λ (f : FileTree ℕ). is_removed nat_eq f.tree here.node) files_here
         ∙ ap (is_removed nat_eq (tree_in later number)) removed.1
-        ∙ removed_alone (files_at nat_eq world parent) parent.node word object.node
-        (may it permit_is)
+        ∙ removed_alone (files_at nat_eq world parent) parent.node word object.node (may it permit_is)
         (tree_in later number) (ap (λ n. node_in later number n) (sym removed.1) ∙ as_spent
         ∙ (λ i. node_in spent_world (removed.0 i) (removed.1 i)) ∙ ap (λ (f : FileTree ℕ). f.tree.node object.node)
         (spent_shown it permit_is))
@@ -124,8 +122,7 @@ module _ {world : World ℕ} {fresh : Fresh ℕ} {name : TaskName} {call : Call}
 
     names : DirectoryNamesStay Keeps (tree_in world number) (tree_in later number)
     names directory any next e is_one keeps now =
-        by ((each it permit_is number).entry
-        directory any next e)
+        by ((each it permit_is number).entry directory any next e)
       where
         node : node_in later number directory ≡ node_in spent_world number directory
         node = node_left it permit_is number
@@ -192,10 +189,8 @@ module _ {world : World ℕ} {fresh : Fresh ℕ} {name : TaskName} {call : Call}
         (ap (λ (t : FileTree ℕ). entry_named any (entries_in (t.tree.node here.node))) files_here
         ∙ ap (λ o. entry_named any (entries_in o)) as_spent
         ∙ (λ i. entry_at (tree_in spent_world (same i)) (at i) (word_is i))
-        ∙ ap (λ (t : FileTree ℕ). entry_at t.tree parent.node word)
-        (spent_shown it permit_is)
-        ∙ removed_name (files_at nat_eq world parent) parent.node word object.node
-        (may it permit_is)) f
+        ∙ ap (λ (t : FileTree ℕ). entry_at t.tree parent.node word) (spent_shown it permit_is)
+        ∙ removed_name (files_at nat_eq world parent) parent.node word object.node (may it permit_is)) f
       where
         named : entry_at tree here.node any ≡ Some object.node
         named = ap (λ n. entry_at (tree_in world n) here.node any) (sym same) ∙ e
@@ -229,14 +224,14 @@ module _ {world : World ℕ} {fresh : Fresh ℕ} {name : TaskName} {call : Call}
       (λ a b out e. root_outside a b e) (length world.mounts) place place outside
 
   -- no mount of the task's namespace stands on it
-  place_outside : (a b : Location ℕ) → IsFoundDirectory world it.is it.did.task a → hop nat_eq world it.did.task a ≡ Some b
+  place_outside : (a b : Location ℕ) → IsFoundDirectory world it.is it.did.task a → hop nat_eq world it.did.task a
+      ≡ Some b
       → IsRemoved b → ⊥
   place_outside a b found e removed = true≢false
       (sym (any_from_among (λ (m : Mount ℕ). holds_of (nat_eq it.did.task.namespace) m.namespace)
       (mounts_on nat_eq world object) mount
       (among-filter (λ (m : Mount ℕ). list_any (λ point. is_point nat_eq world point.0 point.1 m)
-      (points_of nat_eq world object)) world.mounts mount there on_it) own)
-      ∙ (reaches it permit_is).1)
+      (points_of nat_eq world object)) world.mounts mount there on_it) own) ∙ (reaches it permit_is).1)
     where
       mount : Mount ℕ
       mount = mount_at nat_eq world a
@@ -270,8 +265,8 @@ module _ {world : World ℕ} {fresh : Fresh ℕ} {name : TaskName} {call : Call}
       → IsOutside (top world later it.is it.plain is_later.0 is_later.1 it.did.task reader here)
   top_outside here found outside =
       (chain_ends_at (λ (l : Location ℕ). IsFoundDirectory world it.is it.did.task l × IsOutside l)
-      (hop nat_eq world it.did.task)
-      (λ a b both e. (hop_known world it.is it.did.task a b both.0 e, λ removed. absurd (place_outside a b both.0 e removed)))
+      (hop nat_eq world it.did.task) (λ a b both e.
+      (hop_known world it.is it.did.task a b both.0 e, λ removed. absurd (place_outside a b both.0 e removed)))
       (length world.mounts) here here (found, outside)).1
 
   -- So ways up stay, where no walk begins in it, or W8 may be the refusal
@@ -279,14 +274,16 @@ module _ {world : World ℕ} {fresh : Fresh ℕ} {name : TaskName} {call : Call}
     abbrev pub Fits : Location ℕ → Type 0
     Fits here = Refused (denial W8) ⊎ IsOutside here
 
-    up_fits : (here : Location ℕ) → BothAre world later it.is it.plain is_later.0 is_later.1 it.did.task reader here → Fits here
+    up_fits : (here : Location ℕ) → BothAre world later it.is it.plain is_later.0 is_later.1 it.did.task reader here
+        → Fits here
         → ends_at here ≡ false → is_lost nat_eq world here ≡ false
         → (GoesUp world later it.is it.plain is_later.0 is_later.1 it.did.task reader here
         × Fits (parent_location nat_eq world here)) ⊎ (Refused (denial W8) × (is_lost nat_eq later here ≡ true))
     up_fits here known fits not_top found =
         by (nat_eq (mount_at nat_eq world here).filesystem fs) (nat_eq here.node object.node) refl refl
       where
-        at_it : IsRemoved here → Fits here → (GoesUp world later it.is it.plain is_later.0 is_later.1 it.did.task reader here
+        at_it : IsRemoved here → Fits here
+            → (GoesUp world later it.is it.plain is_later.0 is_later.1 it.did.task reader here
             × Fits (parent_location nat_eq world here)) ⊎ (Refused (denial W8) × (is_lost nat_eq later here ≡ true))
         at_it removed (inl refused) = inr (refused, lost_there here known removed)
         at_it removed (inr outside) = absurd (true≢false (sym (outside removed) ∙ not_top))

@@ -202,7 +202,8 @@ module _ {world : World ℕ} {fresh : Fresh ℕ} {name : TaskName} {call : Call}
   pub caller : task_called later name ≡ Some (raised_task name it.did.task)
   caller = still_called it name it.did.task
       (ap (λ w. task_called w name) does
-      ∙ ap (find (λ (t : Task ℕ). same_name name t.name)) (change_tasks fresh world it.plain from change) ∙ it.did.called)
+      ∙ ap (find (λ (t : Task ℕ). same_name name t.name)) (change_tasks fresh world it.plain from change)
+      ∙ it.did.called)
 
   pub root_left : (filesystem number : ℕ) → is_some (node_in later filesystem number) ≡ true
       → (tree_in later filesystem).root ≡ (tree_in world filesystem).root
@@ -303,7 +304,8 @@ module _ {world : World ℕ} {fresh : Fresh ℕ} {name : TaskName} {call : Call}
       (λ a b fit e. root_of_child a b e) (length world.mounts) place place fits
 
   -- no mount of the task's namespace stands inside
-  pub point_fits : (a b : Location ℕ) → IsFoundDirectory world it.is it.did.task a → hop nat_eq world it.did.task a ≡ Some b
+  pub point_fits : (a b : Location ℕ) → IsFoundDirectory world it.is it.did.task a → hop nat_eq world it.did.task a
+      ≡ Some b
       → Fits b
   point_fits a b found e = outside_fits b
       (outside.points (mount_at nat_eq world a) b (contains_from_among world.mounts (mount_at nat_eq world a) there)

@@ -122,12 +122,9 @@ module _ {world : World ℕ} {fresh : Fresh ℕ} {name : TaskName} {call : Call}
       is_directory outside
 
   pub mounts_seen : MountsSeen world
-      (later it permit_is uncovered
-      is_directory outside) it.is it.plain
-      (left_is it permit_is uncovered
-      is_directory outside).0
-      (left_is it permit_is uncovered
-      is_directory outside).1 it.did.task reader
+      (later it permit_is uncovered is_directory outside) it.is it.plain
+      (left_is it permit_is uncovered is_directory outside).0
+      (left_is it permit_is uncovered is_directory outside).1 it.did.task reader
   mounts_seen = record {
     own = λ number own listed. alike_by number;
     topmost_is = λ place own. ap (λ mounts. topmost nat_eq mounts place) same;
@@ -382,29 +379,23 @@ module _ {world : World ℕ} {fresh : Fresh ℕ} {name : TaskName} {call : Call}
           let was = only_entry here.node any (at_fs_now ∙ ap Some (sym leads)) in
           none_is_not (entry_named any (entries_in (node_at nat_eq left_world here))) next
           (ap (λ (t : FileTree ℕ). entry_named any (entries_in (t.tree.node here.node))) (files_here here known)
-          ∙ (λ i. entry_at (tree_in left_world (same i)) (was.0 i) (was.1 i))
-          ∙ old_left it permit_is
-          uncovered
-          (seen it permit_is uncovered
-          is_directory outside).moves.replaced_other
+          ∙ (λ i. entry_at (tree_in left_world (same i)) (was.0 i) (was.1 i)) ∙ old_left it permit_is uncovered
+          (seen it permit_is uncovered is_directory outside).moves.replaced_other
           ((λ i. is_some (node_in left_world (sym same i) (sym was.0 i))) ∙ there here known)) f
 
   top_fits : (here : Location ℕ) → IsFoundDirectory world it.is it.did.task here → FitsIn here
       → FitsIn (top world left_world it.is it.plain is_left.0 is_left.1 it.did.task reader here)
   top_fits here found_here fits =
-      (chain_ends_at (λ (l : Location ℕ). IsFoundDirectory world it.is it.did.task l × FitsIn l) (hop nat_eq world it.did.task)
+      (chain_ends_at (λ (l : Location ℕ). IsFoundDirectory world it.is it.did.task l × FitsIn l)
+      (hop nat_eq world it.did.task)
       (λ a b both e. (hop_known world it.is it.did.task a b both.0 e, points_fit a b both.0 e))
       (length world.mounts) here here (found_here, fits)).1
 
   pub fits_ways : (Refused : Deny → Type 0) → FitsWays world
-      (later it permit_is uncovered
-      is_directory outside) it.is it.plain
-      (left_is it permit_is uncovered
-      is_directory outside).0
-      (left_is it permit_is uncovered
-      is_directory outside).1 it.did.task reader Refused
-      (Fits it permit_is uncovered
-      is_directory outside)
+      (later it permit_is uncovered is_directory outside) it.is it.plain
+      (left_is it permit_is uncovered is_directory outside).0
+      (left_is it permit_is uncovered is_directory outside).1 it.did.task reader Refused
+      (Fits it permit_is uncovered is_directory outside)
   fits_ways Refused = record {
     named = λ here any next known fits e f. named_fits here any next known fits e f;
     over = λ place own fits. places_fit place fits;

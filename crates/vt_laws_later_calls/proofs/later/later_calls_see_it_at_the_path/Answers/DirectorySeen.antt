@@ -21,7 +21,7 @@ use Rattle.vt_laws_later_calls.proofs.Stays.{called_own}
 use Rattle.vt_laws_later_calls.proofs.later.later_calls_see_it_at_the_path.Answers.FoundByName.{NamesParts, before, directory_kept, is_directory_before, names_parts, old_listed, old_told, told_alike}
 use Rattle.vt_laws_later_calls.proofs.later.later_calls_see_it_at_the_path.Answers.Unlinked.{Missing}
 use Rattle.vt_laws_later_calls.proofs.Ways.{LeadsToo}
-use Rattle.vt_laws_later_calls.proofs.later.WaysLeft.{FitsWays, Known, MountsSeen, ObjectsStay, node_here, ways_lead}
+use Rattle.vt_laws_later_calls.proofs.later.WaysLeft.{FitsWays, Known, MountsSeen, ObjectsStay, SeesStill, node_here, ways_lead}
 use Rattle.vt_laws_later_calls.proofs.WaysPlaces.{EndsThere, directory_named_too, named_place, symlink_missing, symlink_named_too}
 use Rattle.vt_laws_later_calls.proofs.WaysStay.{StandsAs, node_in}
 
@@ -88,8 +88,7 @@ module _ {world : World ℕ} {fresh : Fresh ℕ} {name : TaskName} {old new : Li
 
   kept : IsKept was (node_at nat_eq later place_after)
   kept = subst (λ n. IsKept was (node_in later n object)) (sym after_fs)
-      (object_left it permit_is parts.uncovered
-      (object_later it permit_is parts.uncovered is_dir outside))
+      (object_left it permit_is parts.uncovered (object_later it permit_is parts.uncovered is_dir outside))
 
   directory_after : is_directory_at nat_eq later place_after ≡ true
   directory_after = directory_kept was (node_at nat_eq later place_after) kept ∙ is_dir
@@ -99,16 +98,22 @@ module _ {world : World ℕ} {fresh : Fresh ℕ} {name : TaskName} {old new : Li
 
   module _ (reader : TaskName) (reading : Task ℕ) (called : task_called later reader ≡ Some reading)
       (stands : StandsAs it.did.task reading) (looks : MayLook it.did.task reading) where
+    abbrev still : SeesStill world later it.is it.plain is_left.0 is_left.1 it.did.task reading Missing Fit
+    still = record {
+      called = own;
+      called_later = own_name later reader reading called;
+      stands = stands;
+      seen = mounts_are reading stands.root;
+      stay = objects_are;
+      fits = ways_are reading stands.root;
+    }
+
     abbrev KnownSo : Location ℕ → Type 0
-    KnownSo = Known world later it.is it.plain is_left.0 is_left.1 it.did.task reading own
-        (own_name later reader reading called) stands Missing (mounts_are reading stands.root) objects_are Fit
-        (ways_are reading stands.root)
+    KnownSo = Known world later it.is it.plain is_left.0 is_left.1 it.did.task reading still
 
     here_is : (here : Location ℕ) → KnownSo here
         → node_at nat_eq later here ≡ node_in later (mount_at nat_eq world here).filesystem here.node
-    here_is here known = node_here world later it.is it.plain is_left.0 is_left.1 it.did.task reading own
-        (own_name later reader reading called) stands Missing (mounts_are reading stands.root) objects_are Fit
-        (ways_are reading stands.root) here known.0
+    here_is here known = node_here world later it.is it.plain is_left.0 is_left.1 it.did.task reading still here known.0
 
     now_there : (here : Location ℕ) → KnownSo here
         → is_some (node_in later (mount_at nat_eq world here).filesystem here.node) ≡ true
@@ -131,9 +136,7 @@ module _ {world : World ℕ} {fresh : Fresh ℕ} {name : TaskName} {old new : Li
             (now_there here known) known.0.0.1 it.did.task.credentials execute_right ∙ e
 
     leads : LeadsToo (looks_of nat_eq world) (looks_of nat_eq later) it.did.task reading Missing KnownSo
-    leads = ways_lead world later it.is it.plain is_left.0 is_left.1 it.did.task reading own
-        (own_name later reader reading called) stands Missing (mounts_are reading stands.root) objects_are Fit
-        (ways_are reading stands.root) searched
+    leads = ways_lead world later it.is it.plain is_left.0 is_left.1 it.did.task reading still searched
         (root_fits it permit_is parts.uncovered is_dir outside)
         (directory_fits it permit_is parts.uncovered is_dir outside)
 
@@ -143,8 +146,7 @@ module _ {world : World ℕ} {fresh : Fresh ℕ} {name : TaskName} {old new : Li
         (here_is to.parent known ∙ ap (λ n. node_in later n to.parent.node) to_fs)
         ∙ new_left it permit_is parts.uncovered
         (ap (λ n. is_some (node_in later n to.parent.node)) (sym to_fs) ∙ now_there to.parent known))
-        ∙ ap Ok (free_left it permit_is parts.uncovered
-        place_after known.0.1.0.0 after_fs refl)
+        ∙ ap Ok (free_left it permit_is parts.uncovered place_after known.0.1.0.0 after_fs refl)
 
     new_told : (later_fresh : Fresh ℕ)
         → ((policy nat_eq later_fresh later reader (Lstat new)).answer ≡ Ok (Told (stat_line was)))
@@ -166,8 +168,7 @@ module _ {world : World ℕ} {fresh : Fresh ℕ} {name : TaskName} {old new : Li
         (λ known.
         stepped_by later reading from.parent from.last parts.from_named None
         (ap (λ o. entry_named (name_of from.last) (entries_in o)) (here_is from.parent known)
-        ∙ old_left it permit_is parts.uncovered
-        seen.moves.replaced_other (now_there from.parent known))) in
+        ∙ old_left it permit_is parts.uncovered seen.moves.replaced_other (now_there from.parent known))) in
         lstat_refused later later_fresh reader reading called old stop.0 stop.2 ∙ ap Err stop.1
 
     -- its names
@@ -270,7 +271,8 @@ module _ (old new : List ℕ) (world : World ℕ) (fresh : Fresh ℕ) (name : Ta
   to_walked : place_walk nat_eq (looks_of nat_eq world) it.did.task new ≡ Ok to
   to_walked = new_parts (looks_of nat_eq world) it.did.task new to to_here
 
-  permit_is : it.did.permit ≡ ToRename from.parent (name_of from.last) to.parent (name_of to.last) (object_there from) None
+  permit_is : it.did.permit ≡ ToRename from.parent (name_of from.last) to.parent (name_of to.last) (object_there from)
+      None
   permit_is = parts.permit_is ∙ ap
       (ToRename from.parent (name_of from.last) to.parent (name_of to.last) (object_there from)) free
 
@@ -295,9 +297,11 @@ module _ (old new : List ℕ) (world : World ℕ) (fresh : Fresh ℕ) (name : Ta
     stat_line (before it parts),
     old_told it parts,
     new_told it parts to_walked permit_is is_dir outside name
-        (raised_task name it.did.task) caller_here (raised_stands name it.did.task) (inl (raised_credentials name it.did.task)),
+        (raised_task name it.did.task) caller_here (raised_stands name it.did.task)
+        (inl (raised_credentials name it.did.task)),
     old_missing it parts to_walked permit_is is_dir outside name
-        (raised_task name it.did.task) caller_here (raised_stands name it.did.task) (inl (raised_credentials name it.did.task)),
+        (raised_task name it.did.task) caller_here (raised_stands name it.did.task)
+        (inl (raised_credentials name it.did.task)),
     λ reader reading looks. (
       new_told it parts to_walked permit_is is_dir outside reader
           reading looks.called (same_stand reader reading looks) (inr looks.all),
@@ -311,9 +315,9 @@ module _ (old new : List ℕ) (world : World ℕ) (fresh : Fresh ℕ) (name : Ta
     names_in (before it parts),
     old_listed it parts directory,
     new_listed it parts to_walked permit_is is_dir outside name
-        (raised_task name it.did.task) caller_here (raised_stands name it.did.task) (inl (raised_credentials name it.did.task)),
-    λ reader reading looks.
-        all_listed it parts to_walked permit_is is_dir outside reader
+        (raised_task name it.did.task) caller_here (raised_stands name it.did.task)
+        (inl (raised_credentials name it.did.task)),
+    λ reader reading looks. all_listed it parts to_walked permit_is is_dir outside reader
         reading looks.called (same_stand reader reading looks) (inr looks.all) looks.all,
   )
 

@@ -137,7 +137,8 @@ module _ {world : World ℕ} {fresh : Fresh ℕ} {name : TaskName} {old new : Li
   pub old_told : (other_fresh : Fresh ℕ)
       → (policy nat_eq other_fresh world name (Lstat old)).answer ≡ Ok (Told (stat_line before))
   old_told other_fresh =
-      let walk = surely _ _ _ (symlink_named_too (looks_of nat_eq world) (looks_of nat_eq world) it.did.task it.did.task Never
+      let walk = surely _ _ _
+      (symlink_named_too (looks_of nat_eq world) (looks_of nat_eq world) it.did.task it.did.task Never
       (IsFound world it.is it.did.task)
       (itself_leads Never world it.is it.plain it.did.task own) old from parts.from_named at_old place_before
       (λ known. old_stepped) (λ slash.
@@ -320,8 +321,7 @@ rename_then_found old new world fresh name task from to is plain serves called f
       stat_line (before it parts),
       old_told it parts,
       λ reader reading path called_too. (
-        λ lead slashed. new_told it parts reader reading path
-            called_too lead slashed,
+        λ lead slashed. new_told it parts reader reading path called_too lead slashed,
         λ lead. old_gone it parts reader reading path called_too lead,
       ),
     )

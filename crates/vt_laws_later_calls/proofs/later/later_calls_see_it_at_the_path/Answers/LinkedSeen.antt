@@ -65,7 +65,8 @@ module _ {world : World ℕ} {fresh : Fresh ℕ} {name : TaskName} {old new : Li
   later = (policy nat_eq fresh world name (LinkTo old new)).world
 
   seen_to : SeesTo world it.did.task (ToChange place.parent change)
-  seen_to = subst (SeesTo world it.did.task) parts.permit_is (given_permits_are_seen_to world fresh it.did.task it.did.permit it.is
+  seen_to = subst (SeesTo world it.did.task) parts.permit_is
+      (given_permits_are_seen_to world fresh it.did.task it.did.permit it.is
       (given_of world fresh name (LinkTo old new) Done it.serves refl refl it.did))
 
   in_directory : is_directory_at nat_eq world place.parent ≡ true
@@ -113,10 +114,12 @@ module _ {world : World ℕ} {fresh : Fresh ℕ} {name : TaskName} {old new : Li
       let own = own_name later reader reading called in
       let at_name = named_place (looks_of nat_eq world) it.did.task new place parts.walked parts.named in
       let walk = surely _ _ _ (symlink_named_too (looks_of nat_eq world)
-      (looks_of nat_eq later) it.did.task reading Never _ (leads changes stay reading own stands rights looks) new place parts.named at_name
+      (looks_of nat_eq later) it.did.task reading Never _ (leads changes stay reading own stands rights looks) new
+      place parts.named at_name
       (record { mount = place.parent.mount; node = object.node }) (λ known.
       stepped_by later reading place.parent place.last parts.named (Some object.node)
-      (ap (λ o. entry_named (name_of place.last) (entries_in o)) (seen_there changes stay reading own stands known) ∙ name_leads (files_at nat_eq world place.parent) Never place.parent.node
+      (ap (λ o. entry_named (name_of place.last) (entries_in o)) (seen_there changes stay reading own stands known)
+      ∙ name_leads (files_at nat_eq world place.parent) Never place.parent.node
       (name_of place.last) object.node in_directory seen_to.1.name_is_free.free)
       ∙ ap Ok (ap (λ mounts. topmost nat_eq mounts (record { mount = place.parent.mount; node = object.node }))
       (later_mounts it changes)
@@ -137,8 +140,7 @@ pub link_then_lstat : LinkThenLstat
 link_then_lstat old new world fresh name task is plain serves called granted = (
   stat_line (node_at nat_eq world parts.from.location),
   λ other_fresh. lstat_of world other_fresh name it.did.task it.did.called old parts.from parts.found,
-  there it parts name (raised_task name it.did.task)
-      (caller_there it parts) (raised_stands name it.did.task)
+  there it parts name (raised_task name it.did.task) (caller_there it parts) (raised_stands name it.did.task)
       (inl (raised_credentials name it.did.task)),
   λ reader reading looks. there it parts reader reading looks.called
       (subst (λ t. StandsAs t reading) (sym task_is) (all_stands _ task reader reading looks)) (inr looks.all),

@@ -1,9 +1,10 @@
 -- The name of a directory that was removed is missing.
 use Rattle.std.proofs.Common.{◌≡◌, refl, sym, ap, subst, ◌∙◌, inl, inr, ◌⊎◌, ℕ, nat_eq, true, false, ◌||◌, List, Some, None, is_some, Ok, Err, Bool}
-use Rattle.vt_spec.proofs.Common.{Done, Fresh, Location, Looks, Lstat, Permit, Place, Rmdir, Task, TaskName, ToRemoveDirectory, World, denial, entries_in, entry_named, execute_right, is_directory_at, is_directory_node, is_special, looks_of, may, mount_at, mount_numbered, name_of, node_allows, node_at, object_there, old_walk, place_walk, policy, raised_task, same_Some, special_word, task_called}
+use Rattle.vt_spec.proofs.Common.{Done, Fresh, IsWorld, Location, Looks, Lstat, Permit, Place, Rmdir, Task, TaskName, ToRemoveDirectory, World, denial, entries_in, entry_named, execute_right, is_directory_at, is_directory_node, is_special, looks_of, may, mount_at, mount_numbered, name_of, node_allows, node_at, object_there, old_walk, place_walk, policy, raised_task, same_Some, special_word, task_called}
 use Rattle.vt_spec.specs.declared.errors.Deny.{Deny}
 use Rattle.vt_spec.specs.declared.errors.Rule.TheVariants.{W4, W6, W8}
 use Rattle.vt_laws_mounts.proofs.mounts.MountsPlaces.{same_location_itself}
+use Rattle.vt_laws_worlds.specs.Worlds.Kept.{IsPlain}
 use Rattle.vt_laws_later_calls.specs.Later.{IsOneInode}
 use Rattle.vt_laws_later_calls.specs.LaterPaths.{RmdirThenLstat}
 use Rattle.vt_laws_later_calls.proofs.later.AfterRemoval.{caller, is_left, mounts_seen, name_left, objects_stay, own_task, rights_left, seen_to}
@@ -13,7 +14,7 @@ use Rattle.vt_laws_later_calls.proofs.Readers.{MayLook, all_stands, own_name, ra
 use Rattle.vt_laws_later_calls.proofs.later.RemovalFits.{Fits, IsOutside, fits_ways}
 use Rattle.vt_laws_later_calls.proofs.later.later_calls_see_it_at_the_path.Answers.Unlinked.{Missing, old_parts}
 use Rattle.vt_laws_later_calls.proofs.Ways.{LeadsToo, same_end}
-use Rattle.vt_laws_later_calls.proofs.later.WaysLeft.{Known, node_here, ways_lead}
+use Rattle.vt_laws_later_calls.proofs.later.WaysLeft.{Known, SeesStill, node_here, ways_lead}
 use Rattle.vt_laws_later_calls.proofs.WaysPlaces.{named_place, symlink_missing}
 use Rattle.vt_laws_later_calls.proofs.WaysStay.{StandsAs, node_in}
 use Rattle.vt_laws_rules.specs.Granted.{IsGranted}
@@ -55,24 +56,26 @@ module _ {world : World ℕ} {fresh : Fresh ℕ} {name : TaskName} {path : List 
     abbrev Fit : Location ℕ → Type 0
     Fit = Fits it parts.permit_is reading stands.root Refused
 
+    abbrev is_later : IsWorld nat_eq later × IsPlain later
+    is_later = is_left it parts.permit_is
+
+    abbrev still : SeesStill world later it.is it.plain is_later.0 is_later.1 it.did.task reading Refused Fit
+    still = record {
+      called = own_task it parts.permit_is;
+      called_later = own_name later reader reading called;
+      stands = stands;
+      seen = mounts_seen it parts.permit_is reading stands.root;
+      stay = objects_stay it parts.permit_is Refused missing;
+      fits = fits_ways it parts.permit_is reading stands.root Refused;
+    }
+
     abbrev KnownSo : Location ℕ → Type 0
-    KnownSo = Known world later it.is it.plain
-        (is_left it parts.permit_is).0
-        (is_left it parts.permit_is).1 it.did.task reading
-        (own_task it parts.permit_is) (own_name later reader reading called) stands Refused
-        (mounts_seen it parts.permit_is reading stands.root)
-        (objects_stay it parts.permit_is Refused missing) Fit
-        (fits_ways it parts.permit_is reading stands.root Refused)
+    KnownSo = Known world later it.is it.plain is_later.0 is_later.1 it.did.task reading still
 
     here_is : (here : Location ℕ) → KnownSo here → node_at nat_eq later here
         ≡ node_in later (mount_at nat_eq world here).filesystem here.node
-    here_is here known = node_here world later it.is it.plain
-        (is_left it parts.permit_is).0
-        (is_left it parts.permit_is).1 it.did.task reading
-        (own_task it parts.permit_is) (own_name later reader reading called) stands Refused
-        (mounts_seen it parts.permit_is reading stands.root)
-        (objects_stay it parts.permit_is Refused missing) Fit
-        (fits_ways it parts.permit_is reading stands.root Refused) here known.0
+    here_is here known = node_here world later it.is it.plain is_later.0 is_later.1 it.did.task reading still here
+        known.0
 
     now_there : (here : Location ℕ) → KnownSo here
         → is_some (node_in later (mount_at nat_eq world here).filesystem here.node) ≡ true
@@ -87,7 +90,8 @@ module _ {world : World ℕ} {fresh : Fresh ℕ} {name : TaskName} {path : List 
         by : MayLook it.did.task reading → may (looks_of nat_eq later) reading here execute_right ≡ true
         by (inr all) = search_all reading.credentials all (node_at nat_eq later here)
             (ap is_directory_node (here_is here known)
-            ∙ (objects_stay it parts.permit_is Refused missing).directory (mount_at nat_eq world here).filesystem here.node known.0.0.1
+            ∙ (objects_stay it parts.permit_is Refused missing).directory (mount_at nat_eq world here).filesystem
+            here.node known.0.0.1
             (now_there here known) ∙ directory)
         by (inl same) = ap (λ who. node_allows who execute_right (node_at nat_eq later here)) same
             ∙ ap (node_allows it.did.task.credentials execute_right) (here_is here known)
@@ -96,13 +100,8 @@ module _ {world : World ℕ} {fresh : Fresh ℕ} {name : TaskName} {path : List 
 
     module _ (root_fits : Fit it.did.task.root) (directory_fits : Fit it.did.task.directory) where
       leads : LeadsToo (looks_of nat_eq world) (looks_of nat_eq later) it.did.task reading Refused KnownSo
-      leads = ways_lead world later it.is it.plain
-          (is_left it parts.permit_is).0
-          (is_left it parts.permit_is).1 it.did.task reading
-          (own_task it parts.permit_is) (own_name later reader reading called) stands Refused
-          (mounts_seen it parts.permit_is reading stands.root)
-          (objects_stay it parts.permit_is Refused missing) Fit
-          (fits_ways it parts.permit_is reading stands.root Refused) searched root_fits directory_fits
+      leads = ways_lead world later it.is it.plain is_later.0 is_later.1 it.did.task reading still searched root_fits
+          directory_fits
 
       gone : (later_fresh : Fresh ℕ)
           → (deny : Deny) × Refused deny × ((policy nat_eq later_fresh later reader (Lstat path)).answer ≡ Err deny)
@@ -166,8 +165,7 @@ rmdir_then_lstat path world fresh name task place is plain serves called walk gr
   λ elsewhere. (
     gone_outside it parts name (raised_task name it.did.task) caller_here
         (raised_stands name it.did.task) (inl (raised_credentials name it.did.task)) (outside elsewhere),
-    λ reader reading looks.
-        gone_outside it parts reader reading looks.called
+    λ reader reading looks. gone_outside it parts reader reading looks.called
         (subst (λ t. StandsAs t reading) (sym task_is) (all_stands _ task reader reading looks)) (inr looks.all)
         (outside elsewhere),
   ),

@@ -121,7 +121,8 @@ module _ {world : World ℕ} {fresh : Fresh ℕ} {name : TaskName} {old new : Li
   later = (policy nat_eq fresh world name (Rename old new)).world
 
   may : MayBeRenamed world from.parent (name_of from.last) to.parent (name_of to.last) (object_there from) None
-  may = subst (SeesTo world it.did.task) parts.permit_is (given_permits_are_seen_to world fresh it.did.task it.did.permit it.is
+  may = subst (SeesTo world it.did.task) parts.permit_is
+      (given_permits_are_seen_to world fresh it.did.task it.did.permit it.is
       (given_of world fresh name (Rename old new) Done it.serves refl refl it.did))
 
   from_directory : is_directory_at nat_eq world from.parent ≡ true
@@ -197,8 +198,10 @@ module _ {world : World ℕ} {fresh : Fresh ℕ} {name : TaskName} {old new : Li
   old_told other_fresh =
       let at_name = named_place (looks_of nat_eq world) it.did.task old from parts.from_walked parts.from_named in
       let own = called_own it in
-      let walk = surely _ _ _ (symlink_named_too (looks_of nat_eq world) (looks_of nat_eq world) it.did.task it.did.task Never
-      (IsFound world it.is it.did.task) (itself_leads Never world it.is it.plain it.did.task own) old from parts.from_named at_name
+      let walk = surely _ _ _
+      (symlink_named_too (looks_of nat_eq world) (looks_of nat_eq world) it.did.task it.did.task Never
+      (IsFound world it.is it.did.task) (itself_leads Never world it.is it.plain it.did.task own) old from
+      parts.from_named at_name
       (record { mount = from.parent.mount; node = object })
       (λ known. stepped_by world it.did.task from.parent from.last parts.from_named (Some object) may.moves.named
       ∙ ap Ok (uncovered world it.is (record { mount = from.parent.mount; node = object }) no_directory))
@@ -218,7 +221,8 @@ module _ {world : World ℕ} {fresh : Fresh ℕ} {name : TaskName} {old new : Li
     to_seen : KnownToo changes stay reading own_reader stands to.parent
         → entry_named (name_of to.last) (entries_in (node_at nat_eq later to.parent)) ≡ Some object
     to_seen known = ap (λ l. entry_named (name_of to.last) (entries_in (node_at nat_eq later l))) to_place
-        ∙ ap (λ o. entry_named (name_of to.last) (entries_in o)) (seen_at changes stay reading own_reader stands to.parent.node ∙ node_changed it changes
+        ∙ ap (λ o. entry_named (name_of to.last) (entries_in o))
+        (seen_at changes stay reading own_reader stands to.parent.node ∙ node_changed it changes
         to.parent.node (ap (λ l. is_some (node_in later (mount_at nat_eq world l).filesystem to.parent.node))
         (sym to_place) ∙ known_there changes stay reading own_reader stands to.parent known))
         ∙ moved_entry (files_at nat_eq world from.parent) Missing from.parent.node (name_of from.last) to.parent.node
@@ -262,7 +266,8 @@ module _ {world : World ℕ} {fresh : Fresh ℕ} {name : TaskName} {old new : Li
         (named_place (looks_of nat_eq world) it.did.task old from parts.from_walked parts.from_named) (denial W6) refl
         (λ known.
         stepped_by later reading from.parent from.last parts.from_named None
-        (ap (λ o. entry_named (name_of from.last) (entries_in o)) (seen_there changes stay reading own_reader stands known)
+        (ap (λ o. entry_named (name_of from.last) (entries_in o))
+        (seen_there changes stay reading own_reader stands known)
         ∙ moved_missing (files_at nat_eq world from.parent) Missing from.parent.node (name_of from.last) to.parent.node
         (name_of to.last) object may.moves.named no_directory in_directory free)) in
         lstat_refused later later_fresh reader reading called old stop.0 stop.2 ∙ ap Err stop.1
@@ -276,8 +281,8 @@ rename_then_lstat old new world fresh name task from to is plain serves called f
   old_told it file parts,
   new_told it file parts name (raised_task name it.did.task) caller_here
       (raised_stands name it.did.task) (inl (raised_credentials name it.did.task)),
-  old_missing it file parts name
-      (raised_task name it.did.task) caller_here (raised_stands name it.did.task) (inl (raised_credentials name it.did.task)),
+  old_missing it file parts name (raised_task name it.did.task) caller_here (raised_stands name it.did.task)
+      (inl (raised_credentials name it.did.task)),
   λ reader reading looks. (
     new_told it file parts reader reading looks.called
         (subst (λ t. StandsAs t reading) (sym task_is) (all_stands _ task reader reading looks)) (inr looks.all),

@@ -63,7 +63,8 @@ module _ {world : World ℕ} {fresh : Fresh ℕ} {name : TaskName} {path : List 
   later = (policy nat_eq fresh world name (Unlink path)).world
 
   seen_to : SeesTo world it.did.task (ToChange place.parent change)
-  seen_to = subst (SeesTo world it.did.task) parts.permit_is (given_permits_are_seen_to world fresh it.did.task it.did.permit it.is
+  seen_to = subst (SeesTo world it.did.task) parts.permit_is
+      (given_permits_are_seen_to world fresh it.did.task it.did.permit it.is
       (given_of world fresh name (Unlink path) Done it.serves refl refl it.did))
 
   in_directory : is_directory_at nat_eq world place.parent ≡ true
@@ -112,8 +113,7 @@ module _ {world : World ℕ} {fresh : Fresh ℕ} {name : TaskName} {path : List 
 
 pub unlink_then_lstat : UnlinkThenLstat
 unlink_then_lstat path world fresh name task is plain serves called granted = (
-  gone it parts name (raised_task name it.did.task)
-      (caller_there it parts) (raised_stands name it.did.task)
+  gone it parts name (raised_task name it.did.task) (caller_there it parts) (raised_stands name it.did.task)
       (inl (raised_credentials name it.did.task)),
   λ reader reading looks. gone it parts reader reading looks.called
       (subst (λ t. StandsAs t reading) (sym task_is) (all_stands _ task reader reading looks)) (inr looks.all),

@@ -201,7 +201,8 @@ module _ {world : World ℕ} {fresh : Fresh ℕ} {name : TaskName} {path bytes :
         let self = own_name left reader reading called in
         let leads_so = leads changes stay
         reading self stands (rights_with_bytes (files_at nat_eq world file) Never file.node bytes) looks in
-        let at_file = found_at world left it.is it.did.task own path place walk named no_slash file reading _ leads_so in
+        let at_file = found_at world left it.is it.did.task own path place walk named no_slash file reading _ leads_so
+        in
         let seen : node_at nat_eq left file ≡ Some (record { attr = old.0; content = Regular bytes }) =
         seen_at changes stay
         reading self stands file.node ∙ all_stays it changes refl
@@ -253,7 +254,8 @@ write_then_read path bytes world fresh name task is plain serves called granted 
     words_pass = or_parts (is_special parts.0.last) parts.0.slash parts.2
 
     seen : (attr : Attr) → ReadsSo (policy nat_eq fresh world name (Write path bytes)).world it.did.task path bytes attr
-        → task_called (policy nat_eq fresh world name (Write path bytes)).world name ≡ Some (raised_task name it.did.task)
+        → task_called (policy nat_eq fresh world name (Write path bytes)).world name ≡ Some
+        (raised_task name it.did.task)
         → IsAnsweredUnless C1 (policy nat_eq fresh world name (Write path bytes)).world name (Read path) (Bytes bytes)
         × IsSeenByAll (policy nat_eq fresh world name (Write path bytes)).world task (Read path) (Bytes bytes)
     seen attr reads there_still = (
@@ -275,10 +277,8 @@ write_then_read path bytes world fresh name task is plain serves called granted 
         (SetBytes file.node bytes))) it.did.permit
         (sym (ap (written_permit nat_eq (looks_of nat_eq world) it.did.task parts.0 bytes) object) ∙ e) in
         let permit_is = sym (same_ok _ it.did.permit rules.1) in
-        seen _ (old_read it parts.1 words_pass.0 words_pass.1 file
-        object rules.0.0 rules.0.1.1.0 permit_is)
-        (rewriter it parts.1 words_pass.0 words_pass.1 file object
-        rules.0.0 rules.0.1.1.0 permit_is)
+        seen _ (old_read it parts.1 words_pass.0 words_pass.1 file object rules.0.0 rules.0.1.1.0 permit_is)
+        (rewriter it parts.1 words_pass.0 words_pass.1 file object rules.0.0 rules.0.1.1.0 permit_is)
     by None object e =
         let small = passing ((nat_lt largest_file (length bytes), E6) ∷ []) _ it.did.permit
         (sym (ap (written_permit nat_eq (looks_of nat_eq world) it.did.task parts.0 bytes) object) ∙ e) in
