@@ -1,7 +1,7 @@
 -- The world that a granted call leaves which changed a tree: mounts are as they were, and each inode is as the change
 -- left it, or is gone.
 use Rattle.std.proofs.Common.{arith, ◌≡◌, refl, sym, ap, subst, ◌∙◌, inl, inr, ◌⊎◌, ⊎_elim, true≢false, ℕ, nat_eq, eqb-true, Bool, true, false, cond, ◌||◌, ◌++◌, List, [], ◌∷◌, map, find, Some, None, is_some, unwrap_or}
-use Rattle.vt_spec.proofs.Common.{Answer, Call, Change, Credentials, FileTree, Filesystem, Fresh, IsWorld, Location, Serves, TaskName, World, apply, changed, common_steps, denial, entries_in, entry_named, files_at, filesystem_numbered, filesystems_changed, folded, is_among, is_directory_node, is_overlay, mount_at, no_filesystem, node_allows, node_at, numbers_raised, parent_in, policy, raised, settled, symlink_text, with_change}
+use Rattle.vt_spec.proofs.Common.{Answer, Call, Change, Credentials, FileTree, Filesystem, Fresh, IsWorld, Location, TaskName, World, apply, changed, common_steps, denial, entries_in, entry_named, files_at, filesystem_numbered, filesystems_changed, folded, is_among, is_directory_node, is_overlay, mount_at, no_filesystem, node_allows, node_at, numbers_raised, parent_in, policy, raised, settled, symlink_text, with_change}
 use Rattle.vt_spec.specs.declared.errors.Deny.{Deny}
 use Rattle.vt_spec.specs.declared.errors.Rule.TheVariants.{W6}
 use Rattle.vt_laws_trees.proofs.calls.inodes.InodesSettled.{settled_holds}
@@ -14,8 +14,6 @@ use Rattle.vt_laws_mounts.proofs.letting_go.leaving.FilesChanged.{file_changes_l
 use Rattle.vt_laws_mounts.proofs.letting_go.sweeps.OfWorlds.{worlds_are_settled}
 use Rattle.vt_laws_worlds.proofs.permits.sees.SeesFit.{given_changes_are_proper}
 use Rattle.vt_laws_trees.specs.Trees.{IsFileTree}
-use Rattle.vt_laws_trees.specs.Trees.Calls.{mounts_overlay}
-use Rattle.vt_laws_trees.specs.Trees.Limits.{names_few_groups}
 use Rattle.vt_laws_trees.proofs.trees.ChangesKeepTrees.{changes_keep_numbers, changes_keep_trees}
 use Rattle.vt_laws_trees.proofs.trees.TreesOfWorlds.{numbered}
 use Rattle.vt_laws_worlds.specs.Worlds.Kept.{IsPlain}
@@ -25,7 +23,7 @@ use Rattle.vt_laws_worlds.proofs.RaisedInUse.{namespace_if, number_if, numbers_r
 use Rattle.vt_laws_worlds.proofs.worlds.SeenTrees.{change_mounts}
 use Rattle.vt_laws_worlds.proofs.settling.SettledTasks.{settling_leaves_a_world}
 use Rattle.vt_laws_later_calls.proofs.Changed.{files_changed, files_other}
-use Rattle.vt_laws_later_calls.proofs.Granted.{IsPermitted}
+use Rattle.vt_laws_later_calls.proofs.Granted.{HasSucceeded}
 use Rattle.vt_laws_later_calls.proofs.OpenedNew.{given_of}
 use Rattle.vt_laws_later_calls.proofs.Stays.{spent_unsettled}
 use Rattle.vt_laws_later_calls.proofs.WaysChanges.{RightsStay, TreeStays}
@@ -109,12 +107,10 @@ raised_files before name changes world number =
     (same_files (number_if changes world) (namespace_if before name changes world) (task_if before name changes world)
     (raised world.change) world)
 
-module _ (world : World ℕ) (fresh : Fresh ℕ) (name : TaskName) (call : Call) (answer : Answer)
-    (is : IsWorld nat_eq world) (plain : IsPlain world) (serves : Serves nat_eq world fresh)
-    (other : mounts_overlay call ≡ false) (few : names_few_groups call ≡ true)
-    (did : IsPermitted world fresh name call answer) where
+module _ {world : World ℕ} {fresh : Fresh ℕ} {name : TaskName} {call : Call} {answer : Answer}
+    (it : HasSucceeded world fresh name call answer) where
   abbrev pub spent : World ℕ
-  spent = (apply nat_eq fresh world did.task did.permit).world
+  spent = (apply nat_eq fresh world it.did.task it.did.permit).world
 
   abbrev pub later : World ℕ
   later = (policy nat_eq fresh world name call).world
@@ -124,14 +120,14 @@ module _ (world : World ℕ) (fresh : Fresh ℕ) (name : TaskName) (call : Call)
 
   -- it is a world
   pub later_is : IsWorld nat_eq later × IsPlain later
-  later_is = subst (λ w. IsWorld nat_eq w × IsPlain w) (sym did.left) (let settles = settling_leaves_a_world spent
-      (spent_unsettled world fresh name call answer is plain serves other few did) in
-      raising_numbers_keeps_world world name (filesystems_changed nat_eq world did.permit) left settles.0 settles.1)
+  later_is = subst (λ w. IsWorld nat_eq w × IsPlain w) (sym it.did.left) (let settles = settling_leaves_a_world spent
+      (spent_unsettled it) in
+      raising_numbers_keeps_world world name (filesystems_changed nat_eq world it.did.permit) left settles.0 settles.1)
 
   pub later_files : (number : ℕ)
       → (filesystem_numbered nat_eq later number).files ≡ (filesystem_numbered nat_eq left number).files
-  later_files number = ap (λ w. (filesystem_numbered nat_eq w number).files) did.left
-      ∙ raised_files world name (filesystems_changed nat_eq world did.permit) left number
+  later_files number = ap (λ w. (filesystem_numbered nat_eq w number).files) it.did.left
+      ∙ raised_files world name (filesystems_changed nat_eq world it.did.permit) left number
 
   -- each inode is as it was, or is gone
   or_gone : (filesystem number : ℕ) → (node_in later filesystem number ≡ node_in spent filesystem number)
@@ -146,13 +142,16 @@ module _ (world : World ℕ) (fresh : Fresh ℕ) (name : TaskName) (call : Call)
   as_spent filesystem number there =
       ⊎_elim (λ same. same) (λ gone. absurd (true≢false (sym there ∙ ap is_some gone))) (or_gone filesystem number)
 
-  -- A change of a tree
-  module _ (location : Location ℕ) (change : Change ℕ) (from : Fresh ℕ)
-      (asks : change_of fresh world did.permit ≡ Some (location, change))
-      (does : spent ≡ with_change nat_eq from world location change)
-      (something : is_some (node_at nat_eq world location) ≡ true)
-      (may : MayChange (files_at nat_eq world location) change)
-      (tree : IsFileTree (files_at nat_eq world location)) where
+  -- A change of a tree, where there is something
+  pub record ChangesTree (location : Location ℕ) (change : Change ℕ) (from : Fresh ℕ) : Type 0 where
+    pub asks : change_of fresh world it.did.permit ≡ Some (location, change)
+    pub does : spent ≡ with_change nat_eq from world location change
+    pub something : is_some (node_at nat_eq world location) ≡ true
+    pub may : MayChange (files_at nat_eq world location) change
+    pub tree : IsFileTree (files_at nat_eq world location)
+
+  module _ {location : Location ℕ} {change : Change ℕ} {from : Fresh ℕ}
+      (changes : ChangesTree location change from) where
     abbrev files : FileTree ℕ
     files = files_at nat_eq world location
 
@@ -161,22 +160,22 @@ module _ (world : World ℕ) (fresh : Fresh ℕ) (name : TaskName) (call : Call)
 
     after_tree : IsListedTree (changed nat_eq files change)
     after_tree = record {
-      tree = changes_keep_trees files change tree.tree
-          (given_changes_are_proper world fresh did.task did.permit location change is
-          (given_of world fresh name call answer serves other few did) asks).0;
-      numbers = changes_keep_numbers files change tree.numbers;
+      tree = changes_keep_trees files change changes.tree.tree
+          (given_changes_are_proper world fresh it.did.task it.did.permit location change it.is
+          (given_of world fresh name call answer it.serves it.other it.few it.did) changes.asks).0;
+      numbers = changes_keep_numbers files change changes.tree.numbers;
     }
 
     goes : left ≡ let_go_all_inodes (with_change nat_eq from world location change) (inodes_lost world location change)
-    goes = ap (settled nat_eq) does
-        ∙ file_changes_let_go from world location change (worlds_are_settled world is) is.files.one_filesystem
-        (listed shown world.filesystems location.node something)
-        (ap is_some (plain_numbered world plain shown)) after_tree may
+    goes = ap (settled nat_eq) changes.does
+        ∙ file_changes_let_go from world location change (worlds_are_settled world it.is) it.is.files.one_filesystem
+        (listed shown world.filesystems location.node changes.something)
+        (ap is_some (plain_numbered world it.plain shown)) after_tree changes.may
 
     pub later_mounts : later.mounts ≡ world.mounts
-    later_mounts = ap (λ (w : World ℕ). w.mounts) (did.left) ∙ ap (λ (w : World ℕ). w.mounts) goes
+    later_mounts = ap (λ (w : World ℕ). w.mounts) (it.did.left) ∙ ap (λ (w : World ℕ). w.mounts) goes
         ∙ all_let_go_mounts (with_change nat_eq from world location change) (inodes_lost world location change)
-        ∙ change_mounts from world plain location change
+        ∙ change_mounts from world it.plain location change
 
     later_root : (number : ℕ) → (tree_in later number).root
         ≡ (tree_in (with_change nat_eq from world location change) number).root
@@ -186,10 +185,10 @@ module _ (world : World ℕ) (fresh : Fresh ℕ) (name : TaskName) (call : Call)
 
     spent_files : (number : ℕ) → (filesystem_numbered nat_eq spent number).files
         ≡ (filesystem_numbered nat_eq (with_change nat_eq from world location change) number).files
-    spent_files number = ap (λ w. (filesystem_numbered nat_eq w number).files) does
+    spent_files number = ap (λ w. (filesystem_numbered nat_eq w number).files) changes.does
 
     pub spent_shown : (filesystem_numbered nat_eq spent shown).files ≡ changed nat_eq files change
-    spent_shown = spent_files shown ∙ files_changed from world plain location change something
+    spent_shown = spent_files shown ∙ files_changed from world it.plain location change changes.something
 
     -- what is seen where the mount of the location shows it
     pub node_changed : (number : ℕ) → is_some (node_in later shown number) ≡ true
@@ -204,7 +203,8 @@ module _ (world : World ℕ) (fresh : Fresh ℕ) (name : TaskName) (call : Call)
         ∙ ap (λ w. node_in w shown number) goes
         ∙ ap (λ names. node_in (let_go_all_inodes (with_change nat_eq from world location change) (map (λ inode.
         (shown, inode)) names)) shown number) none
-        ∙ ap (λ (f : FileTree ℕ). f.tree.node number) (files_changed from world plain location change something)
+        ∙ ap (λ (f : FileTree ℕ). f.tree.node number)
+        (files_changed from world it.plain location change changes.something)
 
     -- what holds in the changed filesystem, and in the others, holds
     pub in_each : (P : ℕ → FileTree ℕ → Type 0) → P shown (changed nat_eq files change)
@@ -215,7 +215,8 @@ module _ (world : World ℕ) (fresh : Fresh ℕ) (name : TaskName) (call : Call)
         by : (b : Bool) → nat_eq shown number ≡ b → P number (filesystem_numbered nat_eq spent number).files
         by true e = subst (λ n. P n (filesystem_numbered nat_eq spent n).files) (eqb-true shown number e)
             (subst (P shown) (sym spent_shown) here)
-        by false e = subst (P number) (sym (spent_files number ∙ files_other from world plain location change number e))
+        by false e = subst (P number)
+            (sym (spent_files number ∙ files_other from world it.plain location change number e))
             (elsewhere number)
 
     -- So ways that stay in the changed tree stay in the world.

@@ -1,13 +1,11 @@
 -- Attributes that were set are told.
 use Rattle.std.proofs.Common.{◌≡◌, refl, sym, ap, subst, ◌∙◌, inl, inr, ◌⊎◌, ⊎_elim, true≢false, ℕ, nat_eq, true, false, List, Option, Some, None, is_some, Ok, Err, Bool}
-use Rattle.vt_spec.proofs.Common.{Call, Change, Chmod, Chown, Done, Filesystem, Fresh, Here, IsWorld, Location, Looks, Node, Permit, Serves, SetAttr, Stat, StatLine, Task, TaskName, ToChange, Told, World, apply, attr_in, attr_with_mode, attr_with_owner, changed, denial, files_at, looks_of, mount_at, node_at, node_with_attr, object_walk, policy, raised_task, same_Some, stat_line, task_called, with_change}
+use Rattle.vt_spec.proofs.Common.{Call, Change, Chmod, Chown, Done, Filesystem, Fresh, Here, IsWorld, Location, Looks, Node, Permit, SetAttr, Stat, StatLine, Task, TaskName, ToChange, Told, World, apply, attr_in, attr_with_mode, attr_with_owner, changed, denial, files_at, looks_of, mount_at, node_at, node_with_attr, object_walk, policy, raised_task, same_Some, stat_line, task_called, with_change}
 use Rattle.vt_spec.specs.declared.attributes.Attr.{Attr}
 use Rattle.vt_spec.specs.declared.errors.Deny.{Deny}
 use Rattle.vt_spec.specs.declared.errors.Rule.TheVariants.{W4}
 use Rattle.vt_laws_trees.specs.Calls.Inodes.{change_of}
 use Rattle.vt_laws_trees.specs.Trees.{IsFileTree}
-use Rattle.vt_laws_trees.specs.Trees.Calls.{mounts_overlay}
-use Rattle.vt_laws_trees.specs.Trees.Limits.{names_few_groups}
 use Rattle.vt_laws_trees.proofs.trees.ChangesNodes.{changed_node_there}
 use Rattle.vt_laws_trees.proofs.trees.TreesOfWorlds.{numbered_all}
 use Rattle.vt_laws_trees.proofs.trees.TreesWalked.{Ends}
@@ -17,8 +15,8 @@ use Rattle.vt_laws_worlds.proofs.worlds.ReachedWalks.{End, object_end}
 use Rattle.vt_laws_worlds.proofs.settling.SettledTasks.{file_trees}
 use Rattle.vt_laws_later_calls.specs.LaterPaths.{ChmodThenStat, ChownThenStat, IsAnsweredUnless, IsSeenByAll, reads_all}
 use Rattle.vt_laws_later_calls.specs.Later.{IsAnswered}
-use Rattle.vt_laws_later_calls.proofs.AfterChange.{spent}
-use Rattle.vt_laws_later_calls.proofs.Granted.{IsPermitted, permitted}
+use Rattle.vt_laws_later_calls.proofs.AfterChange.{ChangesTree, spent}
+use Rattle.vt_laws_later_calls.proofs.Granted.{HasSucceeded, permitted}
 use Rattle.vt_laws_later_calls.proofs.Looked.{stat_of, stat_refused}
 use Rattle.vt_laws_later_calls.proofs.MadeSeen.{Never}
 use Rattle.vt_laws_later_calls.proofs.Readers.{KnownToo, all_stands, caller, leads_all, leads_or_hides, own_name, raised_stands, seen_there}
@@ -56,12 +54,10 @@ abbrev Hidden : Deny → Type 0
 Hidden deny = deny ≡ denial W4
 
 -- A call that sets the attributes of what an object's walk finds
-module _ (call : Call) (path : List ℕ) (set : Attr → Attr) (world : World ℕ) (fresh : Fresh ℕ) (name : TaskName)
-    (is : IsWorld nat_eq world) (plain : IsPlain world) (serves : Serves nat_eq world fresh)
-    (other : mounts_overlay call ≡ false) (few : names_few_groups call ≡ true)
-    (did : IsPermitted world fresh name call Done)
-    (here : Here ℕ) (walked : object_walk nat_eq (looks_of nat_eq world) did.task path ≡ Ok here)
-    (permit : did.permit ≡ ToChange here.location
+module _ (path : List ℕ) (set : Attr → Attr) {world : World ℕ} {fresh : Fresh ℕ} {name : TaskName} {call : Call}
+    (it : HasSucceeded world fresh name call Done) (here : Here ℕ)
+    (walked : object_walk nat_eq (looks_of nat_eq world) it.did.task path ≡ Ok here)
+    (permit : it.did.permit ≡ ToChange here.location
     (SetAttr here.location.node (set (attr_in (node_at nat_eq world here.location))))) where
   abbrev later : World ℕ
   later = (policy nat_eq fresh world name call).world
@@ -73,18 +69,21 @@ module _ (call : Call) (path : List ℕ) (set : Attr → Attr) (world : World �
   change = SetAttr here.location.node attr
 
   something : is_some (node_at nat_eq world here.location) ≡ true
-  something = object_there_is world is did.task
-      (called_own world fresh name call Done is plain serves other few did) path here walked
+  something = object_there_is world it.is it.did.task
+      (called_own it) path here walked
 
   tree : IsFileTree (files_at nat_eq world here.location)
-  tree = tree_there world is plain here.location something
+  tree = tree_there world it.is it.plain here.location something
 
-  asks : change_of fresh world did.permit ≡ Some (here.location, change)
+  asks : change_of fresh world it.did.permit ≡ Some (here.location, change)
   asks = ap (change_of fresh world) permit
 
-  does : spent world fresh name call Done is plain serves other few did
+  does : spent it
       ≡ with_change nat_eq fresh world here.location change
-  does = ap (λ p. (apply nat_eq fresh world did.task p).world) permit
+  does = ap (λ p. (apply nat_eq fresh world it.did.task p).world) permit
+
+  abbrev changes : ChangesTree it here.location change fresh
+  changes = record { asks = asks; does = does; something = something; may = tt; tree = tree }
 
   stay : (Refused : Deny → Type 0) → TreeStays (files_at nat_eq world here.location).tree
       (changed nat_eq (files_at nat_eq world here.location) change).tree Refused
@@ -92,54 +91,49 @@ module _ (call : Call) (path : List ℕ) (set : Attr → Attr) (world : World �
 
   -- what stat tells where its walk leads there
   told : (Refused : Deny → Type 0) (reader : TaskName) (reading : Task ℕ)
-      (called : task_called later reader ≡ Some reading) (stands : StandsAs did.task reading)
-      (leads : LeadsToo (looks_of nat_eq world) (looks_of nat_eq later) did.task reading Refused
-      (KnownToo world fresh name call Done is plain serves other few did here.location change fresh asks does something
-      tt tree Refused (stay Refused) reading (own_name later reader reading called) stands)) (later_fresh : Fresh ℕ)
+      (called : task_called later reader ≡ Some reading) (stands : StandsAs it.did.task reading)
+      (leads : LeadsToo (looks_of nat_eq world) (looks_of nat_eq later) it.did.task reading Refused
+      (KnownToo changes (stay Refused) reading (own_name later reader reading called) stands)) (later_fresh : Fresh ℕ)
       → ((policy nat_eq later_fresh later reader (Stat path)).answer
       ≡ Ok (Told (record (stat_line (node_at nat_eq world here.location)) { attr = attr })))
       ⊎ ((deny : Deny) × Refused deny × ((policy nat_eq later_fresh later reader (Stat path)).answer ≡ Err deny))
   told Refused reader reading called stands leads later_fresh =
-      by (object_too (looks_of nat_eq world) (looks_of nat_eq later) did.task reading Refused _ leads path here walked)
+      by (object_too (looks_of nat_eq world) (looks_of nat_eq later) it.did.task reading Refused _ leads path here
+      walked)
     where
-      by : EndsToo (looks_of nat_eq world) (looks_of nat_eq later) did.task reading Refused
-          (KnownToo world fresh name call Done is plain serves other few did here.location change fresh asks does
-          something tt tree Refused (stay Refused) reading (own_name later reader reading called) stands) leads
+      by : EndsToo (looks_of nat_eq world) (looks_of nat_eq later) it.did.task reading Refused
+          (KnownToo changes (stay Refused) reading (own_name later reader reading called) stands) leads
           (object_walk nat_eq (looks_of nat_eq later) reading path) here
           → ((policy nat_eq later_fresh later reader (Stat path)).answer
           ≡ Ok (Told (record (stat_line (node_at nat_eq world here.location)) { attr = attr })))
           ⊎ ((deny : Deny) × Refused deny × ((policy nat_eq later_fresh later reader (Stat path)).answer ≡ Err deny))
       by (inl ends) = inl (stat_of later later_fresh reader reading called path _ ends.0.1
           ∙ ap (λ o. Ok (Told (stat_line o)))
-          (seen_there world fresh name call Done is plain serves other few did here.location change fresh asks does
-          something tt tree Refused (stay Refused) reading (own_name later reader reading called) stands ends.1
+          (seen_there changes (stay Refused) reading (own_name later reader reading called) stands ends.1
           ∙ changed_node_there (files_at nat_eq world here.location) here.location.node (node_with_attr attr))
           ∙ ap (λ line. Ok (Told line)) (line_with_attr attr (node_at nat_eq world here.location) something))
       by (inr stop) = inr (stop.0.deny, stop.1, stat_refused later later_fresh reader reading called path stop.0 stop.2)
 
-  caller_there : task_called later name ≡ Some (raised_task name did.task)
+  caller_there : task_called later name ≡ Some (raised_task name it.did.task)
   caller_there =
-      caller world fresh name call Done is plain serves other few did here.location change fresh asks does something tt
-      tree Never (stay Never)
+      caller changes (stay Never)
 
   own_told : (later_fresh : Fresh ℕ) → ((policy nat_eq later_fresh later name (Stat path)).answer
       ≡ Ok (Told (record (stat_line (node_at nat_eq world here.location)) { attr = attr })))
       ⊎ ((policy nat_eq later_fresh later name (Stat path)).answer ≡ Err (denial W4))
   own_told later_fresh = ⊎_elim inl (λ refused. inr (refused.2 ∙ ap Err refused.1))
-      (told Hidden name (raised_task name did.task) caller_there (raised_stands name did.task)
-      (leads_or_hides world fresh name call Done is plain serves other few did here.location change fresh asks does
-      something tt tree Hidden (stay Hidden)
-      (raised_task name did.task) (own_name later name (raised_task name did.task) caller_there)
-      (raised_stands name did.task) refl) later_fresh)
+      (told Hidden name (raised_task name it.did.task) caller_there (raised_stands name it.did.task)
+      (leads_or_hides changes (stay Hidden)
+      (raised_task name it.did.task) (own_name later name (raised_task name it.did.task) caller_there)
+      (raised_stands name it.did.task) refl) later_fresh)
 
   all_told : (reader : TaskName) (reading : Task ℕ) → task_called later reader ≡ Some reading
-      → StandsAs did.task reading → reads_all reading.credentials ≡ true → (later_fresh : Fresh ℕ)
+      → StandsAs it.did.task reading → reads_all reading.credentials ≡ true → (later_fresh : Fresh ℕ)
       → (policy nat_eq later_fresh later reader (Stat path)).answer
       ≡ Ok (Told (record (stat_line (node_at nat_eq world here.location)) { attr = attr }))
   all_told reader reading called stands all later_fresh = ⊎_elim (λ e. e) (λ refused. absurd refused.1)
       (told Never reader reading called stands
-      (leads_all world fresh name call Done is plain serves other few did here.location change fresh asks does something
-      tt tree Never (stay Never) reading (own_name later reader reading called) stands all) later_fresh)
+      (leads_all changes (stay Never) reading (own_name later reader reading called) stands all) later_fresh)
 
 -- chmod(2), chown(2)
 chmod_parts : (looks : Looks ℕ) {too_many : Permit ℕ → Bool} (task : Task ℕ) (path : List ℕ) (mode : ℕ)
@@ -154,39 +148,47 @@ chown_parts : (looks : Looks ℕ) {too_many : Permit ℕ → Bool} (task : Task 
     (SetAttr here.location.node (attr_with_owner (attr_in (looks.node here.location)) uid gid)))
 chown_parts looks task path uid gid permit (changes_owner _ _ _ here end passed) = (here, end, refl)
 
-tells : (call : Call) (path : List ℕ) (set : Attr → Attr) (world : World ℕ) (fresh : Fresh ℕ) (name : TaskName)
-    (task : Task ℕ) (is : IsWorld nat_eq world) (plain : IsPlain world) (serves : Serves nat_eq world fresh)
-    (other : mounts_overlay call ≡ false) (few : names_few_groups call ≡ true) → task_called world name ≡ Some task
-    → (did : IsPermitted world fresh name call Done) (here : Here ℕ)
-    → object_walk nat_eq (looks_of nat_eq world) did.task path ≡ Ok here → did.permit ≡ ToChange here.location
+tells : {call : Call} (path : List ℕ) (set : Attr → Attr) {world : World ℕ} {fresh : Fresh ℕ} {name : TaskName}
+    (task : Task ℕ) → task_called world name ≡ Some task → (it : HasSucceeded world fresh name call Done)
+    (here : Here ℕ)
+    → object_walk nat_eq (looks_of nat_eq world) it.did.task path ≡ Ok here → it.did.permit ≡ ToChange here.location
     (SetAttr here.location.node (set (attr_in (node_at nat_eq world here.location))))
     → (line : StatLine) × IsAnswered world name (Stat path) (Told line)
     × IsAnsweredUnless W4 (policy nat_eq fresh world name call).world name (Stat path)
     (Told (record line { attr = set line.attr }))
     × IsSeenByAll (policy nat_eq fresh world name call).world task (Stat path)
     (Told (record line { attr = set line.attr }))
-tells call path set world fresh name task is plain serves other few called did here walked permit = (
+tells path set {world = world} task called it here walked permit = (
   stat_line (node_at nat_eq world here.location),
-  λ other_fresh. stat_of world other_fresh name did.task did.called path here walked,
-  own_told call path set world fresh name is plain serves other few did here walked permit,
-  λ reader reading looks.
-      all_told call path set world fresh name is plain serves other few did here walked permit reader reading
-      looks.called (subst (λ t. StandsAs t reading) (same_Some task did.task (sym called ∙ did.called))
+  λ other_fresh. stat_of world other_fresh _ it.did.task it.did.called path here walked,
+  own_told path set it here walked permit,
+  λ reader reading looks. all_told path set it here walked permit reader reading looks.called
+      (subst (λ t. StandsAs t reading) (same_Some task it.did.task (sym called ∙ it.did.called))
       (all_stands _ task reader reading looks)) looks.all,
 )
 
 pub chmod_then_stat : ChmodThenStat
 chmod_then_stat path mode world fresh name task is plain serves called granted =
-    let did = permitted world fresh name (Chmod path mode) Done refl granted in
-    let parts = chmod_parts (looks_of nat_eq world) did.task path mode did.permit did.granted in
-    tells (Chmod path mode) path
-    (λ attr. attr_with_mode attr mode) world fresh name task is plain serves refl refl called did parts.0 parts.1
-    parts.2
+    let it : HasSucceeded world fresh name (Chmod path mode) Done = record {
+      is = is;
+      plain = plain;
+      serves = serves;
+      other = refl;
+      few = refl;
+      did = permitted world fresh name (Chmod path mode) Done refl granted;
+    } in
+    let parts = chmod_parts (looks_of nat_eq world) it.did.task path mode it.did.permit it.did.granted in
+    tells path (λ attr. attr_with_mode attr mode) task called it parts.0 parts.1 parts.2
 
 pub chown_then_stat : ChownThenStat
 chown_then_stat path uid gid world fresh name task is plain serves called granted =
-    let did = permitted world fresh name (Chown path uid gid) Done refl granted in
-    let parts = chown_parts (looks_of nat_eq world) did.task path uid gid did.permit did.granted in
-    tells (Chown path uid gid) path
-    (λ attr. attr_with_owner attr uid gid) world fresh name task is plain serves refl refl called did parts.0 parts.1
-    parts.2
+    let it : HasSucceeded world fresh name (Chown path uid gid) Done = record {
+      is = is;
+      plain = plain;
+      serves = serves;
+      other = refl;
+      few = refl;
+      did = permitted world fresh name (Chown path uid gid) Done refl granted;
+    } in
+    let parts = chown_parts (looks_of nat_eq world) it.did.task path uid gid it.did.permit it.did.granted in
+    tells path (λ attr. attr_with_owner attr uid gid) task called it parts.0 parts.1 parts.2

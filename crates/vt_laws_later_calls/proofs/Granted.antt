@@ -1,11 +1,14 @@
 -- What a granted call of the machine leaves.
 use Rattle.std.proofs.Common.{arith, ◌≡◌, refl, sym, ap, ◌∙◌, ℕ, nat_eq, Bool, true, false, cond, not, List, [], ◌∷◌, ◌||◌, Option, Some, None, Result, Ok, Err, find, is_ok, map, ok_or, option_map}
-use Rattle.vt_spec.proofs.Common.{Answer, Call, Fresh, Judgement, Outcome, Permit, Task, TaskName, World, after, answer-finished_by, apply, common_steps, denial, filesystems_changed, filesystems_changed_by, finished, finished_by, judge_in, looks_of, numbers_raised, only_looks, overfills, policy, raised_task, same_name, settled, task_called}
+use Rattle.vt_spec.proofs.Common.{Answer, Call, Fresh, IsWorld, Judgement, Outcome, Permit, Serves, Task, TaskName, World, after, answer-finished_by, apply, common_steps, denial, filesystems_changed, filesystems_changed_by, finished, finished_by, judge_in, looks_of, numbers_raised, only_looks, overfills, policy, raised_task, same_name, settled, task_called}
 use Rattle.vt_spec.specs.declared.errors.Deny.{Deny}
 use Rattle.vt_spec.specs.declared.errors.Rule.TheVariants.{S2}
 use Rattle.vt_laws_rules.proofs.judged.CallsJudged.{policy_judges_then_applies}
 use Rattle.vt_laws_rules.proofs.given.Inversion.{calls_are_granted}
 use Rattle.vt_laws_rules.specs.Granted.{IsGranted}
+use Rattle.vt_laws_trees.specs.Trees.Calls.{mounts_overlay}
+use Rattle.vt_laws_trees.specs.Trees.Limits.{names_few_groups}
+use Rattle.vt_laws_worlds.specs.Worlds.Kept.{IsPlain}
 
 -- what a call that was granted, and does not only look, was permitted, and what it left
 pub record IsPermitted (world : World ℕ) (fresh : Fresh ℕ) (name : TaskName) (call : Call)
@@ -19,6 +22,16 @@ pub record IsPermitted (world : World ℕ) (fresh : Fresh ℕ) (name : TaskName)
   pub left : (policy nat_eq fresh world name call).world
       ≡ numbers_raised nat_eq world name (filesystems_changed nat_eq world permit)
       (settled nat_eq (apply nat_eq fresh world task permit).world)
+
+-- a call, other than a mount of an overlay, that succeeded in a world of plain filesystems
+pub record HasSucceeded (world : World ℕ) (fresh : Fresh ℕ) (name : TaskName) (call : Call)
+    (answer : Answer) : Type 0 where
+  pub is : IsWorld nat_eq world
+  pub plain : IsPlain world
+  pub serves : Serves nat_eq world fresh
+  pub other : mounts_overlay call ≡ false
+  pub few : names_few_groups call ≡ true
+  pub did : IsPermitted world fresh name call answer
 
 module _ (world : World ℕ) (fresh : Fresh ℕ) (name : TaskName) (call : Call) (answer : Answer)
     (changes : only_looks call ≡ false) where

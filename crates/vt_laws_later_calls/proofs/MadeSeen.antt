@@ -1,6 +1,6 @@
 -- A new object is found at its path.
 use Rattle.std.proofs.Common.{◌≡◌, refl, sym, ap, subst, ◌∙◌, inl, inr, ◌⊎◌, true≢false, ℕ, nat_eq, Bool, true, false, cond, not, ◌&&◌, List, [], ◌∷◌, Option, Some, None, is_some, Ok, Err, Result, option_to_list, unwrap_or}
-use Rattle.vt_spec.proofs.Common.{Answer, Bytes, Call, Change, Done, Fresh, Here, IsWorld, LastWord, Location, Looks, Ls, Make, Mkdir, Names, Node, Permit, Place, Readlink, Serves, Stop, SymlinkAt, Task, TaskName, ToMake, World, apply, bytes_in, changed, denial, directory_mode, directory_used, entries_in, entry_named, files_at, is_directory_node, is_kind_in, is_special, looks_of, make_permit, mount_at, name_of, names_in, new_attr, new_directory, new_leaf_walk, new_walk, node_allows, node_at, odds, place_walk, policy, raised_task, read_right, same_Some, stepped, symlink_text, task_called, topmost, with_change}
+use Rattle.vt_spec.proofs.Common.{Answer, Bytes, Call, Change, Done, Fresh, Here, LastWord, Location, Looks, Ls, Make, Mkdir, Names, Node, Permit, Place, Readlink, Stop, SymlinkAt, Task, TaskName, ToMake, World, apply, bytes_in, changed, denial, directory_mode, directory_used, entries_in, entry_named, files_at, is_directory_node, is_kind_in, is_special, looks_of, make_permit, mount_at, name_of, names_in, new_attr, new_directory, new_leaf_walk, new_walk, node_allows, node_at, odds, place_walk, policy, raised_task, read_right, same_Some, stepped, symlink_text, task_called, topmost, with_change}
 use Rattle.vt_spec.specs.declared.attributes.Kind.TheVariants.{Symlink}
 use Rattle.vt_spec.specs.declared.errors.Deny.{Deny}
 use Rattle.vt_spec.specs.declared.errors.Rule.TheVariants.{C1, W6}
@@ -11,14 +11,11 @@ use Rattle.vt_laws_worlds.specs.Permits.Sees.{MayBeMade, SeesTo}
 use Rattle.vt_laws_worlds.proofs.permits.sees.SeesNames.{tree_here}
 use Rattle.vt_laws_worlds.proofs.permits.sees.SeesTasks.{given_permits_are_seen_to}
 use Rattle.vt_laws_trees.specs.Trees.{IsFileTree}
-use Rattle.vt_laws_trees.specs.Trees.Calls.{mounts_overlay}
-use Rattle.vt_laws_trees.specs.Trees.Limits.{names_few_groups}
-use Rattle.vt_laws_worlds.specs.Worlds.Kept.{IsPlain}
 use Rattle.vt_laws_worlds.proofs.worlds.SeenTrees.{unused_inode}
 use Rattle.vt_laws_later_calls.specs.LaterPaths.{MkdirThenList, SymlinkThenReadlink}
 use Rattle.vt_laws_later_calls.specs.Later.{IsAnswered}
-use Rattle.vt_laws_later_calls.proofs.AfterChange.{all_stays, later_is, later_mounts, spent}
-use Rattle.vt_laws_later_calls.proofs.Granted.{IsPermitted, permitted}
+use Rattle.vt_laws_later_calls.proofs.AfterChange.{ChangesTree, all_stays, later_is, later_mounts, spent}
+use Rattle.vt_laws_later_calls.proofs.Granted.{HasSucceeded, permitted}
 use Rattle.vt_laws_later_calls.proofs.Looked.{list_of, read_all, readlink_of}
 use Rattle.vt_laws_later_calls.proofs.OpenedNew.{given_of, made_node}
 use Rattle.vt_laws_later_calls.proofs.Readers.{KnownToo, MayLook, all_stands, caller, leads, own_name, raised_credentials, raised_stands, seen_at, seen_there, stepped_by, uncovered}
@@ -62,11 +59,9 @@ no_slash_there true some none e = absurd (true≢false (sym (ap not none) ∙ e)
 no_slash_there false some none e = refl
 
 -- A call that made an object
-module _ (world : World ℕ) (fresh : Fresh ℕ) (name : TaskName) (call : Call) (answer : Answer)
-    (is : IsWorld nat_eq world) (plain : IsPlain world) (serves : Serves nat_eq world fresh)
-    (other : mounts_overlay call ≡ false) (few : names_few_groups call ≡ true)
-    (did : IsPermitted world fresh name call answer) (parent : Location ℕ) (entry : List ℕ) (node : Node ℕ)
-    (permit : did.permit ≡ ToMake parent entry node) where
+module _ {world : World ℕ} {fresh : Fresh ℕ} {name : TaskName} {call : Call} {answer : Answer}
+    (it : HasSucceeded world fresh name call answer) {parent : Location ℕ} {entry : List ℕ} {node : Node ℕ}
+    (permit : it.did.permit ≡ ToMake parent entry node) where
   abbrev later : World ℕ
   later = (policy nat_eq fresh world name call).world
 
@@ -74,24 +69,24 @@ module _ (world : World ℕ) (fresh : Fresh ℕ) (name : TaskName) (call : Call)
   change = Make parent.node entry (fresh 0) node
 
   pub may : MayBeMade world parent entry node
-  may = subst (SeesTo world did.task) permit (given_permits_are_seen_to world fresh did.task did.permit is
-      (given_of world fresh name call answer serves other few did))
+  may = subst (SeesTo world it.did.task) permit (given_permits_are_seen_to world fresh it.did.task it.did.permit it.is
+      (given_of world fresh name call answer it.serves it.other it.few it.did))
 
   pub something : is_some (node_at nat_eq world parent) ≡ true
   something = directory_used (files_at nat_eq world parent).tree parent.node may.name_is_free.in_directory
 
   pub tree : IsFileTree (files_at nat_eq world parent)
-  tree = tree_here world is parent may.name_is_free.in_directory
+  tree = tree_here world it.is parent may.name_is_free.in_directory
 
   pub new : (files_at nat_eq world parent).tree.node (fresh 0) ≡ None
-  new = unused_inode world fresh serves is.files.numbers 0 (mount_at nat_eq world parent).filesystem
+  new = unused_inode world fresh it.serves it.is.files.numbers 0 (mount_at nat_eq world parent).filesystem
 
-  pub asks : change_of fresh world did.permit ≡ Some (parent, change)
+  pub asks : change_of fresh world it.did.permit ≡ Some (parent, change)
   asks = ap (change_of fresh world) permit
 
-  pub does : spent world fresh name call answer is plain serves other few did
+  pub does : spent it
       ≡ with_change nat_eq (odds fresh) world parent change
-  does = ap (λ p. (apply nat_eq fresh world did.task p).world) permit
+  does = ap (λ p. (apply nat_eq fresh world it.did.task p).world) permit
 
   pub made : IsMade (files_at nat_eq world parent) parent.node (fresh 0)
   made = record { in_directory = may.name_is_free.in_directory; is_new = new }
@@ -109,39 +104,36 @@ module _ (world : World ℕ) (fresh : Fresh ℕ) (name : TaskName) (call : Call)
   abbrev pub new_location : Location ℕ
   new_location = record { mount = parent.mount; node = fresh 0 }
 
-  pub maker : task_called later name ≡ Some (raised_task name did.task)
-  maker = caller world fresh name call answer is plain serves other few did parent change
-      (odds fresh) asks does something made tree Never stay
+  abbrev changes : ChangesTree it parent change (odds fresh)
+  changes = record { asks = asks; does = does; something = something; may = made; tree = tree }
 
-  module _ (reader : Task ℕ) (called : task_called later reader.name ≡ Some reader) (stands : StandsAs did.task reader)
-      (looks : MayLook did.task reader) where
+  pub maker : task_called later name ≡ Some (raised_task name it.did.task)
+  maker = caller changes stay
+
+  module _ (reader : Task ℕ) (called : task_called later reader.name ≡ Some reader)
+      (stands : StandsAs it.did.task reader)
+      (looks : MayLook it.did.task reader) where
     abbrev pub KnownHere : Location ℕ → Type 0
-    KnownHere here = KnownToo world fresh name call answer is plain serves other few did parent change
-        (odds fresh) asks does something made tree Never stay reader called stands here
+    KnownHere here = KnownToo changes stay reader called stands here
 
-    pub made_leads : LeadsToo (looks_of nat_eq world) (looks_of nat_eq later) did.task reader Never KnownHere
-    made_leads = leads world fresh name call answer is plain serves other few did parent change
-        (odds fresh) asks does something made tree Never stay reader called stands rights looks
+    pub made_leads : LeadsToo (looks_of nat_eq world) (looks_of nat_eq later) it.did.task reader Never KnownHere
+    made_leads = leads changes stay reader called stands rights looks
 
     pub node_seen : node_at nat_eq later new_location ≡ Some node
-    node_seen = seen_at world fresh name call answer is plain serves other few did parent change
-        (odds fresh) asks does something made tree Never stay reader called stands (fresh 0)
-        ∙ all_stays world fresh name call answer is plain serves other few did parent change
-        (odds fresh) asks does something made tree (ap option_to_list may.name_is_free.free) (fresh 0)
+    node_seen = seen_at changes stay reader called stands (fresh 0)
+        ∙ all_stays it changes (ap option_to_list may.name_is_free.free) (fresh 0)
         ∙ made_node (files_at nat_eq world parent) parent.node entry (fresh 0) node may.name_is_free.in_directory new
 
     pub entry_seen : KnownHere parent → entry_named entry (entries_in (node_at nat_eq later parent)) ≡ Some (fresh 0)
     entry_seen known = ap (λ o. entry_named entry (entries_in o))
-        (seen_there world fresh name call answer is plain serves other few did parent change
-        (odds fresh) asks does something made tree Never stay reader called stands known)
+        (seen_there changes stay reader called stands known)
         ∙ made_entry (files_at nat_eq world parent) Never parent.node entry
         (fresh 0) may.name_is_free.in_directory may.name_is_free.free node new
 
     -- no mount stands over it
     over : topmost nat_eq later.mounts new_location ≡ new_location
     over = ap (λ mounts. topmost nat_eq mounts new_location)
-        (later_mounts world fresh name call answer is plain serves other few did parent change
-        (odds fresh) asks does something made tree) ∙ uncovered world is new_location (ap is_directory_node new)
+        (later_mounts it changes) ∙ uncovered world it.is new_location (ap is_directory_node new)
 
     pub new_stepped : (last : LastWord) → is_special last ≡ false → name_of last ≡ entry → KnownHere parent
         → stepped nat_eq (looks_of nat_eq later) reader parent last ≡ Ok new_location
@@ -164,27 +156,34 @@ either_way false answer = inr refl
 pub mkdir_then_list : MkdirThenList
 mkdir_then_list path mode world fresh name task is plain serves called granted = (
   λ later_fresh. subst (λ a. (a ≡ Ok (Names [])) ⊎ (a ≡ Err (denial C1)))
-      (sym (listed name (raised_task name did.task) caller_there (raised_stands name did.task) (inl
-      (raised_credentials name did.task)) later_fresh)) (either_way _ (Names [])),
+      (sym (listed name (raised_task name it.did.task) caller_there (raised_stands name it.did.task) (inl
+      (raised_credentials name it.did.task)) later_fresh)) (either_way _ (Names [])),
   λ reader reading looks later_fresh. listed reader reading looks.called
       (subst (λ t. StandsAs t reading) (sym task_is) (all_stands _ task reader reading looks))
       (inr looks.all) later_fresh ∙ ap (λ b. cond b (Ok (Names [])) (Err (denial C1)))
       (read_all reading.credentials looks.all _ (new_directory parts.0.parent.node)),
 )
   where
-    did : IsPermitted world fresh name (Mkdir path mode) Done
-    did = permitted world fresh name (Mkdir path mode) Done refl granted
+    it : HasSucceeded world fresh name (Mkdir path mode) Done
+    it = record {
+      is = is;
+      plain = plain;
+      serves = serves;
+      other = refl;
+      few = refl;
+      did = permitted world fresh name (Mkdir path mode) Done refl granted;
+    }
 
-    task_is : did.task ≡ task
-    task_is = same_Some did.task task (sym did.called ∙ called)
+    task_is : it.did.task ≡ task
+    task_is = same_Some it.did.task task (sym it.did.called ∙ called)
 
-    parts : (place : Place ℕ) × (place_walk nat_eq (looks_of nat_eq world) did.task path ≡ Ok place)
-        × (is_special place.last ≡ false) × (did.permit ≡ make_permit place (directory_made did.task place mode))
-    parts = mkdir_parts (looks_of nat_eq world) did.task path mode did.permit did.granted
+    parts : (place : Place ℕ) × (place_walk nat_eq (looks_of nat_eq world) it.did.task path ≡ Ok place)
+        × (is_special place.last ≡ false) × (it.did.permit ≡ make_permit place (directory_made it.did.task place mode))
+    parts = mkdir_parts (looks_of nat_eq world) it.did.task path mode it.did.permit it.did.granted
 
     node : Node ℕ
     node = record {
-      attr = new_attr did.task (unwrap_or mode directory_mode);
+      attr = new_attr it.did.task (unwrap_or mode directory_mode);
       content = new_directory parts.0.parent.node;
     }
 
@@ -192,34 +191,28 @@ mkdir_then_list path mode world fresh name task is plain serves called granted =
     left = (policy nat_eq fresh world name (Mkdir path mode)).world
 
     caller_there : task_called (policy nat_eq fresh world name (Mkdir path mode)).world name
-        ≡ Some (raised_task name did.task)
-    caller_there = maker world fresh name (Mkdir path mode) Done is plain serves refl refl did parts.0.parent
-        (name_of parts.0.last) _ parts.3
+        ≡ Some (raised_task name it.did.task)
+    caller_there = maker it parts.3
 
     listed : (reader : TaskName) (reading : Task ℕ)
         → task_called (policy nat_eq fresh world name (Mkdir path mode)).world reader ≡ Some reading
-        → StandsAs did.task reading → MayLook did.task reading → (later_fresh : Fresh ℕ)
+        → StandsAs it.did.task reading → MayLook it.did.task reading → (later_fresh : Fresh ℕ)
         → (policy nat_eq later_fresh (policy nat_eq fresh world name (Mkdir path mode)).world reader (Ls path)).answer
         ≡ cond (node_allows reading.credentials read_right (Some (record {
-          attr = new_attr did.task (unwrap_or mode directory_mode);
+          attr = new_attr it.did.task (unwrap_or mode directory_mode);
           content = new_directory parts.0.parent.node;
         }))) (Ok (Names [])) (Err (denial C1))
     listed reader reading found stands looks later_fresh =
         let own = own_name (policy nat_eq fresh world name (Mkdir path mode)).world reader reading found in
-        let seen = node_seen world fresh name (Mkdir path mode) Done is plain serves refl refl did parts.0.parent
-        (name_of parts.0.last) _ parts.3 reading own stands looks in
+        let seen = node_seen it parts.3 reading own stands looks in
         let walk = surely _ _ _ (directory_named_too (looks_of nat_eq world)
-        (looks_of nat_eq (policy nat_eq fresh world name (Mkdir path mode)).world) did.task reading Never _
-        (made_leads world fresh name (Mkdir path mode) Done is plain serves refl refl did parts.0.parent
-        (name_of parts.0.last) _ parts.3 reading own stands looks)
-        path parts.0 parts.2 (named_place (looks_of nat_eq world) did.task path parts.0 parts.1 parts.2)
-        (new_location world fresh name (Mkdir path mode) Done is plain serves refl refl did parts.0.parent
-        (name_of parts.0.last) _ parts.3)
-        (new_stepped world fresh name (Mkdir path mode) Done is plain serves refl refl did parts.0.parent
-        (name_of parts.0.last) _ parts.3 reading own stands looks parts.0.last parts.2 refl)
+        (looks_of nat_eq (policy nat_eq fresh world name (Mkdir path mode)).world) it.did.task reading Never _
+        (made_leads it parts.3 reading own stands looks)
+        path parts.0 parts.2 (named_place (looks_of nat_eq world) it.did.task path parts.0 parts.1 parts.2)
+        (new_location it parts.3) (new_stepped it parts.3 reading own stands looks parts.0.last parts.2 refl)
         (ap symlink_text seen) (ap is_directory_node seen)) in
         list_of (policy nat_eq fresh world name (Mkdir path mode)).world later_fresh reader reading found path
-        (later_is world fresh name (Mkdir path mode) Done is plain serves refl refl did).1 _ walk.1
+        (later_is it).1 _ walk.1
         ∙ (λ i. cond (node_allows reading.credentials read_right (seen i)) (Ok (Names (names_in (seen i))))
         (Err (denial C1)))
 
@@ -234,45 +227,46 @@ symlink_parts looks task text path permit (makes_symlink _ _ place fits end pass
 
 pub symlink_then_readlink : SymlinkThenReadlink
 symlink_then_readlink text path world fresh name task is plain serves called granted = (
-  told name (raised_task name did.task) caller_there (raised_stands name did.task)
-      (inl (raised_credentials name did.task)),
+  told name (raised_task name it.did.task) caller_there (raised_stands name it.did.task)
+      (inl (raised_credentials name it.did.task)),
   λ reader reading looks. told reader reading looks.called
       (subst (λ t. StandsAs t reading) (sym task_is) (all_stands _ task reader reading looks)) (inr looks.all),
 )
   where
-    did : IsPermitted world fresh name (SymlinkAt text path) Done
-    did = permitted world fresh name (SymlinkAt text path) Done refl granted
+    it : HasSucceeded world fresh name (SymlinkAt text path) Done
+    it = record {
+      is = is;
+      plain = plain;
+      serves = serves;
+      other = refl;
+      few = refl;
+      did = permitted world fresh name (SymlinkAt text path) Done refl granted;
+    }
 
-    task_is : did.task ≡ task
-    task_is = same_Some did.task task (sym did.called ∙ called)
+    task_is : it.did.task ≡ task
+    task_is = same_Some it.did.task task (sym it.did.called ∙ called)
 
-    parts : (place : Place ℕ) × (place_walk nat_eq (looks_of nat_eq world) did.task path ≡ Ok place)
+    parts : (place : Place ℕ) × (place_walk nat_eq (looks_of nat_eq world) it.did.task path ≡ Ok place)
         × (is_special place.last ≡ false) × (place.slash ≡ false)
-        × (did.permit ≡ make_permit place (symlink_made did.task text))
-    parts = symlink_parts (looks_of nat_eq world) did.task text path did.permit did.granted
+        × (it.did.permit ≡ make_permit place (symlink_made it.did.task text))
+    parts = symlink_parts (looks_of nat_eq world) it.did.task text path it.did.permit it.did.granted
 
     caller_there : task_called (policy nat_eq fresh world name (SymlinkAt text path)).world name
-        ≡ Some (raised_task name did.task)
-    caller_there = maker world fresh name (SymlinkAt text path) Done is plain serves refl refl did parts.0.parent
-        (name_of parts.0.last) _ parts.4
+        ≡ Some (raised_task name it.did.task)
+    caller_there = maker it parts.4
 
     told : (reader : TaskName) (reading : Task ℕ)
         → task_called (policy nat_eq fresh world name (SymlinkAt text path)).world reader ≡ Some reading
-        → StandsAs did.task reading → MayLook did.task reading
+        → StandsAs it.did.task reading → MayLook it.did.task reading
         → IsAnswered (policy nat_eq fresh world name (SymlinkAt text path)).world reader (Readlink path) (Bytes text)
     told reader reading found stands looks later_fresh =
         let own = own_name (policy nat_eq fresh world name (SymlinkAt text path)).world reader reading found in
-        let seen = node_seen world fresh name (SymlinkAt text path) Done is plain serves refl refl did parts.0.parent
-        (name_of parts.0.last) _ parts.4 reading own stands looks in
-        let at_name = named_place (looks_of nat_eq world) did.task path parts.0 parts.1 parts.2 in
+        let seen = node_seen it parts.4 reading own stands looks in
+        let at_name = named_place (looks_of nat_eq world) it.did.task path parts.0 parts.1 parts.2 in
         let walk = surely _ _ _ (symlink_named_too (looks_of nat_eq world)
-        (looks_of nat_eq (policy nat_eq fresh world name (SymlinkAt text path)).world) did.task reading Never _
-        (made_leads world fresh name (SymlinkAt text path) Done is plain serves refl refl did parts.0.parent
-        (name_of parts.0.last) _ parts.4 reading own stands looks) path parts.0 parts.2 at_name
-        (new_location world fresh name (SymlinkAt text path) Done is plain serves refl refl did parts.0.parent
-        (name_of parts.0.last) _ parts.4)
-        (new_stepped world fresh name (SymlinkAt text path) Done is plain serves refl refl did parts.0.parent
-        (name_of parts.0.last) _ parts.4 reading own stands looks parts.0.last parts.2 refl)
+        (looks_of nat_eq (policy nat_eq fresh world name (SymlinkAt text path)).world) it.did.task reading Never _
+        (made_leads it parts.4 reading own stands looks) path parts.0 parts.2 at_name (new_location it parts.4)
+        (new_stepped it parts.4 reading own stands looks parts.0.last parts.2 refl)
         (λ slash. absurd (true≢false (sym slash ∙ at_name.slash_is ∙ parts.3)))) in
         readlink_of (policy nat_eq fresh world name
         (SymlinkAt text path)).world later_fresh reader reading found path _ walk.1 (ap (is_kind_in Symlink) seen)

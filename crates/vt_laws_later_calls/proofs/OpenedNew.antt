@@ -13,7 +13,7 @@ use Rattle.vt_laws_worlds.specs.Permits.Sees.{MayBeMade, SeesTo}
 use Rattle.vt_laws_worlds.proofs.permits.sees.SeesTasks.{given_permits_are_seen_to}
 use Rattle.vt_laws_later_calls.specs.Later.{CreateThenPread, ExclusiveThenPread, OpenOrCreateThenPread, OpenThenPread, OpensFile, OpensNewFile, ReadsBy}
 use Rattle.vt_laws_later_calls.proofs.Changed.{files_changed}
-use Rattle.vt_laws_later_calls.proofs.Granted.{IsPermitted, permitted}
+use Rattle.vt_laws_later_calls.proofs.Granted.{HasSucceeded, IsPermitted, permitted}
 use Rattle.vt_laws_later_calls.proofs.Opened.{called_replaced, descriptors_in_order, inserted_found, open_parts, open_spent, opened_number}
 use Rattle.vt_laws_later_calls.proofs.Stays.{still_called, still_seen}
 use Rattle.vt_laws_later_calls.proofs.Through.{descriptor_located, pread_of, raised_descriptors}
@@ -23,11 +23,10 @@ use Rattle.vt_laws_rules.specs.Granted.{IsGranted}
 use Rattle.vt_laws_rules.specs.Granted.IsGranted.{creates, creates_exclusively, opens_existing}
 
 -- A call that leaves a descriptor on a file, in a world that has the tasks of the one before
-module _ (world : World ℕ) (fresh : Fresh ℕ) (name : TaskName) (task : Task ℕ) (path : List ℕ) (access : Access)
-    (creation : Creation) (number : ℕ) (is : IsWorld nat_eq world) (plain : IsPlain world)
-    (serves : Serves nat_eq world fresh) (called : task_called world name ≡ Some task)
-    (did : IsPermitted world fresh name (OpenFile path access creation) (Opened number)) (base : World ℕ)
-    (file : Location ℕ) (outcome : apply nat_eq fresh world did.task did.permit ≡ opened base task file access)
+module _ {world : World ℕ} {fresh : Fresh ℕ} {name : TaskName} {path : List ℕ} {access : Access} {creation : Creation}
+    {number : ℕ} (it : HasSucceeded world fresh name (OpenFile path access creation) (Opened number))
+    (task : Task ℕ) (called : task_called world name ≡ Some task) (base : World ℕ)
+    (file : Location ℕ) (outcome : apply nat_eq fresh world it.did.task it.did.permit ≡ opened base task file access)
     (tasks : base.tasks ≡ world.tasks) where
   abbrev call : Call
   call = OpenFile path access creation
@@ -36,7 +35,7 @@ module _ (world : World ℕ) (fresh : Fresh ℕ) (name : TaskName) (task : Task 
   later = (policy nat_eq fresh world name call).world
 
   is_free : number ≡ free_number task
-  is_free = opened_number (free_number task) number (sym (ap (λ (o : Outcome ℕ). o.answer) outcome) ∙ did.answered)
+  is_free = opened_number (free_number task) number (sym (ap (λ (o : Outcome ℕ). o.answer) outcome) ∙ it.did.answered)
 
   abbrev new_task : Task ℕ
   new_task = with_descriptor task file access
@@ -49,16 +48,16 @@ module _ (world : World ℕ) (fresh : Fresh ℕ) (name : TaskName) (task : Task 
     writes = opens_for_writing access;
   }
 
-  spent : (apply nat_eq fresh world did.task did.permit).world ≡ with_task base new_task
+  spent : (apply nat_eq fresh world it.did.task it.did.permit).world ≡ with_task base new_task
   spent = ap (λ (o : Outcome ℕ). o.world) outcome
 
-  there : task_called (apply nat_eq fresh world did.task did.permit).world name ≡ Some new_task
+  there : task_called (apply nat_eq fresh world it.did.task it.did.permit).world name ≡ Some new_task
   there = ap (λ w. task_called w name) spent
       ∙ called_replaced base name task new_task (ap (find (λ (t : Task ℕ). same_name name t.name)) tasks ∙ called)
       (sym (name_found world name task called))
 
   in_order : is_within_limits task ≡ true
-  in_order = among_from_list_all is_within_limits world.tasks is.tasks.small_tasks task
+  in_order = among_from_list_all is_within_limits world.tasks it.is.tasks.small_tasks task
       (called_there world.tasks name task called)
 
   found : descriptor_numbered new_task number ≡ Some new_descriptor
@@ -67,11 +66,11 @@ module _ (world : World ℕ) (fresh : Fresh ℕ) (name : TaskName) (task : Task 
 
   -- what is at the file
   pub file_seen : node_at nat_eq later file ≡ node_at nat_eq base file
-  file_seen = still_seen world fresh name call (Opened number) is plain serves refl refl did name new_task there file
+  file_seen = still_seen it name new_task there file
       (descriptor_located new_task number new_descriptor found) ∙ ap (λ w. node_at nat_eq w file) spent
 
   still : task_called later name ≡ Some (raised_task name new_task)
-  still = still_called world fresh name call (Opened number) is plain serves refl refl did name new_task there
+  still = still_called it name new_task there
 
   still_found : descriptor_numbered (raised_task name new_task) number ≡ Some new_descriptor
   still_found = ap (find (λ (d : Descriptor ℕ). nat_eq number d.number)) (raised_descriptors name new_task) ∙ found
@@ -161,123 +160,141 @@ module _ (world : World ℕ) (fresh : Fresh ℕ) (is : IsWorld nat_eq world) (pl
       ∙ made_node (files_at nat_eq world directory) directory.node name (fresh 0) node made.name_is_free.in_directory
       (unused_inode world fresh serves is.files.numbers 0 (mount_at nat_eq world directory).filesystem)
 
-module _ (world : World ℕ) (fresh : Fresh ℕ) (name : TaskName) (task : Task ℕ) (path : List ℕ) (access : Access)
-    (mode number : ℕ) (creation : Creation) (is : IsWorld nat_eq world) (plain : IsPlain world)
-    (serves : Serves nat_eq world fresh) (called : task_called world name ≡ Some task)
-    (did : IsPermitted world fresh name (OpenFile path access creation) (Opened number)) (place : Place ℕ)
-    (permit : did.permit ≡ open_new_permit task place access mode) where
-  task_is : did.task ≡ task
-  task_is = same_Some did.task task (sym did.called ∙ called)
+module _ {world : World ℕ} {fresh : Fresh ℕ} {name : TaskName} {path : List ℕ} {access : Access} {creation : Creation}
+    {number : ℕ} (it : HasSucceeded world fresh name (OpenFile path access creation) (Opened number))
+    (task : Task ℕ) (called : task_called world name ≡ Some task) (mode : ℕ) (place : Place ℕ)
+    (permit : it.did.permit ≡ open_new_permit task place access mode) where
+  task_is : it.did.task ≡ task
+  task_is = same_Some it.did.task task (sym it.did.called ∙ called)
 
-  seen_to : SeesTo world did.task did.permit
-  seen_to = given_permits_are_seen_to world fresh did.task did.permit is
-      (given_of world fresh name (OpenFile path access creation) (Opened number) serves refl refl did)
+  seen_to : SeesTo world it.did.task it.did.permit
+  seen_to = given_permits_are_seen_to world fresh it.did.task it.did.permit it.is
+      (given_of world fresh name (OpenFile path access creation) (Opened number) it.serves refl refl it.did)
 
   may : MayBeMade world place.parent (name_of place.last) (new_file task mode [])
-  may = (subst (SeesTo world did.task) permit seen_to).0
+  may = (subst (SeesTo world it.did.task) permit seen_to).0
 
   abbrev base : World ℕ
-  base = made_world world fresh is plain serves place.parent (name_of place.last) (new_file task mode []) may
+  base = made_world world fresh it.is it.plain it.serves place.parent (name_of place.last) (new_file task mode []) may
 
   abbrev new_place : Location ℕ
   new_place = record { mount = place.parent.mount; node = fresh 0 }
 
-  outcome : apply nat_eq fresh world did.task did.permit ≡ opened base task new_place access
-  outcome = ap (apply nat_eq fresh world did.task) permit ∙ ap (λ t. opened base t new_place access) task_is
+  outcome : apply nat_eq fresh world it.did.task it.did.permit ≡ opened base task new_place access
+  outcome = ap (apply nat_eq fresh world it.did.task) permit ∙ ap (λ t. opened base t new_place access) task_is
 
   tasks : base.tasks ≡ world.tasks
-  tasks = made_tasks world fresh is plain serves place.parent (name_of place.last) (new_file task mode []) may
+  tasks = made_tasks world fresh it.is it.plain it.serves place.parent (name_of place.last) (new_file task mode []) may
 
   seen : node_at nat_eq base new_place ≡ Some (new_file task mode [])
-  seen = made_seen world fresh is plain serves place.parent (name_of place.last) (new_file task mode []) may
+  seen = made_seen world fresh it.is it.plain it.serves place.parent (name_of place.last) (new_file task mode []) may
 
   pub opens_new_file : OpensNewFile world fresh name task (OpenFile path access creation) place access mode number
   opens_new_file = (
-    opens_file world fresh name task path access creation number is plain serves called did base new_place outcome
-        tasks,
-    file_seen world fresh name task path access creation number is plain serves called did base new_place outcome tasks
-        ∙ seen,
+    opens_file it task called base new_place outcome tasks,
+    file_seen it task called base new_place outcome tasks ∙ seen,
     subst (ReadsBy world fresh name (OpenFile path access creation) access number) (ap bytes_in seen)
-        (reads_by world fresh name task path access creation number is plain serves called did base new_place outcome
-        tasks),
+        (reads_by it task called base new_place outcome tasks),
   )
 
 pub open_then_pread : OpenThenPread
 open_then_pread world fresh name task path access number is plain serves called granted = (
   here,
   ap (λ t. object_walk nat_eq (looks_of nat_eq world) t path) (sym task_is) ∙ parts.1,
-  opens_file world fresh name task path access NoCreation number is plain serves called did world here.location outcome
-      refl,
-  reads_by world fresh name task path access NoCreation number is plain serves called did world here.location outcome
+  opens_file it task called world here.location outcome refl,
+  reads_by it task called world here.location outcome
       refl,
 )
   where
-    did : IsPermitted world fresh name (OpenFile path access NoCreation) (Opened number)
-    did = permitted world fresh name (OpenFile path access NoCreation) (Opened number) refl granted
+    it : HasSucceeded world fresh name (OpenFile path access NoCreation) (Opened number)
+    it = record {
+      is = is;
+      plain = plain;
+      serves = serves;
+      other = refl;
+      few = refl;
+      did = permitted world fresh name (OpenFile path access NoCreation) (Opened number) refl granted;
+    }
 
-    task_is : did.task ≡ task
-    task_is = same_Some did.task task (sym did.called ∙ called)
+    task_is : it.did.task ≡ task
+    task_is = same_Some it.did.task task (sym it.did.called ∙ called)
 
-    parts : (here : Here ℕ) × (object_walk nat_eq (looks_of nat_eq world) did.task path ≡ Ok here)
-        × (did.permit ≡ ToOpen here.location access)
-    parts = open_parts (looks_of nat_eq world) did.task path access did.permit did.granted
+    parts : (here : Here ℕ) × (object_walk nat_eq (looks_of nat_eq world) it.did.task path ≡ Ok here)
+        × (it.did.permit ≡ ToOpen here.location access)
+    parts = open_parts (looks_of nat_eq world) it.did.task path access it.did.permit it.did.granted
 
     here : Here ℕ
     here = parts.0
 
-    outcome : apply nat_eq fresh world did.task did.permit ≡ opened world task here.location access
-    outcome = ap (apply nat_eq fresh world did.task) parts.2
-        ∙ open_spent fresh world plain did.task here.location access
+    outcome : apply nat_eq fresh world it.did.task it.did.permit ≡ opened world task here.location access
+    outcome = ap (apply nat_eq fresh world it.did.task) parts.2
+        ∙ open_spent fresh world plain it.did.task here.location access
         ∙ ap (λ t. opened world t here.location access) task_is
 
 pub open_or_create_then_pread : OpenOrCreateThenPread
 open_or_create_then_pread world fresh name task path access mode number place file is plain serves called walk object
-    granted = (
-      opens_file world fresh name task path access
-          (OrCreate mode) number is plain serves called did world file outcome refl,
-      reads_by world fresh name task path access (OrCreate mode) number is plain serves called did world file outcome refl,
-    )
+    granted = (opens_file it task called world file outcome refl, reads_by it task called world file outcome refl)
   where
-    did : IsPermitted world fresh name (OpenFile path access (OrCreate mode)) (Opened number)
-    did = permitted world fresh name (OpenFile path access (OrCreate mode)) (Opened number) refl granted
+    it : HasSucceeded world fresh name (OpenFile path access (OrCreate mode)) (Opened number)
+    it = record {
+      is = is;
+      plain = plain;
+      serves = serves;
+      other = refl;
+      few = refl;
+      did = permitted world fresh name (OpenFile path access (OrCreate mode)) (Opened number) refl granted;
+    }
 
-    task_is : did.task ≡ task
-    task_is = same_Some did.task task (sym did.called ∙ called)
+    task_is : it.did.task ≡ task
+    task_is = same_Some it.did.task task (sym it.did.called ∙ called)
 
-    outcome : apply nat_eq fresh world did.task did.permit ≡ opened world task file access
-    outcome = ap (apply nat_eq fresh world did.task)
-        (there_parts (looks_of nat_eq world) did.task path access mode place file did.permit
-        (ap (λ t. file_walk nat_eq (looks_of nat_eq world) t path) task_is ∙ walk) object did.granted)
-        ∙ open_spent fresh world plain did.task file access ∙ ap (λ t. opened world t file access) task_is
+    outcome : apply nat_eq fresh world it.did.task it.did.permit ≡ opened world task file access
+    outcome = ap (apply nat_eq fresh world it.did.task)
+        (there_parts (looks_of nat_eq world) it.did.task path access mode place file it.did.permit
+        (ap (λ t. file_walk nat_eq (looks_of nat_eq world) t path) task_is ∙ walk) object it.did.granted)
+        ∙ open_spent fresh world plain it.did.task file access ∙ ap (λ t. opened world t file access) task_is
 
 pub create_then_pread : CreateThenPread
 create_then_pread world fresh name task path access mode number place is plain serves called walk object granted =
-    opens_new_file world fresh name task path access mode number (OrCreate mode) is plain serves called did place
-    (missing_parts (looks_of nat_eq world) did.task path access mode place did.permit
-    (ap (λ t. file_walk nat_eq (looks_of nat_eq world) t path) task_is ∙ walk) object did.granted
+    opens_new_file it task called mode place
+    (missing_parts (looks_of nat_eq world) it.did.task path access mode place it.did.permit
+    (ap (λ t. file_walk nat_eq (looks_of nat_eq world) t path) task_is ∙ walk) object it.did.granted
     ∙ ap (λ t. open_new_permit t place access mode) task_is)
   where
-    did : IsPermitted world fresh name (OpenFile path access (OrCreate mode)) (Opened number)
-    did = permitted world fresh name (OpenFile path access (OrCreate mode)) (Opened number) refl granted
+    it : HasSucceeded world fresh name (OpenFile path access (OrCreate mode)) (Opened number)
+    it = record {
+      is = is;
+      plain = plain;
+      serves = serves;
+      other = refl;
+      few = refl;
+      did = permitted world fresh name (OpenFile path access (OrCreate mode)) (Opened number) refl granted;
+    }
 
-    task_is : did.task ≡ task
-    task_is = same_Some did.task task (sym did.called ∙ called)
+    task_is : it.did.task ≡ task
+    task_is = same_Some it.did.task task (sym it.did.called ∙ called)
 
 pub exclusive_then_pread : ExclusiveThenPread
 exclusive_then_pread world fresh name task path access mode number is plain serves called granted = (
   parts.0,
   ap (λ t. new_walk nat_eq (looks_of nat_eq world) t path) (sym task_is) ∙ parts.1,
-  opens_new_file world fresh name task path access mode number (Exclusive mode) is plain serves called did parts.0
-      (parts.4 ∙ ap (λ t. open_new_permit t parts.0 access mode) task_is),
+  opens_new_file it task called mode parts.0 (parts.4 ∙ ap (λ t. open_new_permit t parts.0 access mode) task_is),
 )
   where
-    did : IsPermitted world fresh name (OpenFile path access (Exclusive mode)) (Opened number)
-    did = permitted world fresh name (OpenFile path access (Exclusive mode)) (Opened number) refl granted
+    it : HasSucceeded world fresh name (OpenFile path access (Exclusive mode)) (Opened number)
+    it = record {
+      is = is;
+      plain = plain;
+      serves = serves;
+      other = refl;
+      few = refl;
+      did = permitted world fresh name (OpenFile path access (Exclusive mode)) (Opened number) refl granted;
+    }
 
-    task_is : did.task ≡ task
-    task_is = same_Some did.task task (sym did.called ∙ called)
+    task_is : it.did.task ≡ task
+    task_is = same_Some it.did.task task (sym it.did.called ∙ called)
 
-    parts : (place : Place ℕ) × (new_walk nat_eq (looks_of nat_eq world) did.task path ≡ Ok place)
+    parts : (place : Place ℕ) × (new_walk nat_eq (looks_of nat_eq world) it.did.task path ≡ Ok place)
         × (is_special place.last ≡ false) × (place.slash ≡ false)
-        × (did.permit ≡ open_new_permit did.task place access mode)
-    parts = exclusive_parts (looks_of nat_eq world) did.task path access mode did.permit did.granted
+        × (it.did.permit ≡ open_new_permit it.did.task place access mode)
+    parts = exclusive_parts (looks_of nat_eq world) it.did.task path access mode it.did.permit it.did.granted

@@ -1,29 +1,24 @@
 -- Who looks after a call that changed a tree, and where walks lead for him: for the caller himself, and for each task
 -- that stands where he does and may search everything.
 use Rattle.std.proofs.Common.{arith, ◌≡◌, refl, sym, ap, ◌∙◌, inl, inr, ◌⊎◌, true≢false, ℕ, nat_eq, Bool, true, false, ◌∷◌, length, Option, Some, None, is_some, option_map, ok_or, find, zero, suc, []}
-use Rattle.vt_spec.proofs.Common.{Answer, Call, Change, Dot, DotDot, Fresh, IsWorld, LastWord, Location, Mount, Named, NoWord, Serves, Task, TaskName, World, among_from_all, chain, changed, child_at, common_steps, denial, entries_in, entry_named, execute_right, files_at, is_directory_at, is_directory_node, is_special, last_or, looks_of, may, mount_at, name_of, node_allows, node_at, policy, raised_task, root_of, same_name, stands_at, task_called, topmost, with_change}
+use Rattle.vt_spec.proofs.Common.{Answer, Call, Change, Dot, DotDot, Fresh, IsWorld, LastWord, Location, Mount, Named, NoWord, Task, TaskName, World, among_from_all, chain, changed, child_at, common_steps, denial, entries_in, entry_named, execute_right, files_at, is_directory_at, is_directory_node, is_special, last_or, looks_of, may, mount_at, name_of, node_allows, node_at, policy, raised_task, root_of, same_name, stands_at, task_called, topmost}
 use Rattle.vt_spec.specs.declared.errors.Deny.{Deny}
 use Rattle.vt_spec.specs.declared.errors.Rule.TheVariants.{W4, W6}
 use Rattle.vt_spec.proofs.Walk.{stepped}
-use Rattle.vt_laws_trees.specs.Calls.Inodes.{change_of}
-use Rattle.vt_laws_mounts.specs.LettingGo.FileChanges.{MayChange}
 use Rattle.vt_laws_mounts.proofs.mounts.MountsFound.{found_in}
 use Rattle.vt_laws_mounts.proofs.mounts.MountsPlaces.{stands_there}
-use Rattle.vt_laws_trees.specs.Trees.{IsFileTree}
-use Rattle.vt_laws_trees.specs.Trees.Calls.{mounts_overlay}
-use Rattle.vt_laws_trees.specs.Trees.Limits.{names_few_groups}
 use Rattle.vt_laws_trees.proofs.trees.TreesOfMounts.{worlds_are_standing}
 use Rattle.vt_laws_worlds.specs.Worlds.Kept.{IsPlain}
 use Rattle.vt_laws_worlds.proofs.worlds.CallsKept.{name_found}
 use Rattle.vt_laws_worlds.proofs.worlds.SeenTrees.{change_tasks}
 use Rattle.vt_laws_later_calls.specs.LaterPaths.{LooksFrom, reads_all}
-use Rattle.vt_laws_later_calls.proofs.AfterChange.{later_is, node_changed, spent, world_rights, world_stays}
-use Rattle.vt_laws_later_calls.proofs.Granted.{IsPermitted}
+use Rattle.vt_laws_later_calls.proofs.AfterChange.{ChangesTree, later_is, node_changed, world_rights, world_stays}
+use Rattle.vt_laws_later_calls.proofs.Granted.{HasSucceeded}
 use Rattle.vt_laws_later_calls.proofs.Looked.{search_all}
 use Rattle.vt_laws_later_calls.proofs.Stays.{called_own, still_called}
 use Rattle.vt_laws_later_calls.proofs.Ways.{LeadsToo}
 use Rattle.vt_laws_later_calls.proofs.WaysChanges.{RightsStay, TreeStays}
-use Rattle.vt_laws_later_calls.proofs.WaysStay.{Known, StandsAs, WorldStays, node_here, node_in, world_leads}
+use Rattle.vt_laws_later_calls.proofs.WaysStay.{Known, SeesLater, StandsAs, WorldStays, node_here, node_in, world_leads}
 
 -- a task goes by its own name
 pub own_name : (world : World ℕ) (name : TaskName) (task : Task ℕ) → task_called world name ≡ Some task
@@ -84,95 +79,90 @@ uncovered world is location no_directory = by (child_at nat_eq world.mounts loca
         world.mounts (worlds_are_standing world is).places mount found.0 location (stands_there location mount found.1))
         ∙ no_directory))
 
-module _ (world : World ℕ) (fresh : Fresh ℕ) (name : TaskName) (call : Call) (answer : Answer)
-    (is : IsWorld nat_eq world) (plain : IsPlain world) (serves : Serves nat_eq world fresh)
-    (other : mounts_overlay call ≡ false) (few : names_few_groups call ≡ true)
-    (did : IsPermitted world fresh name call answer) (location : Location ℕ) (change : Change ℕ) (from : Fresh ℕ)
-    (asks : change_of fresh world did.permit ≡ Some (location, change))
-    (does : spent world fresh name call answer is plain serves other few did
-    ≡ with_change nat_eq from world location change) (something : is_some (node_at nat_eq world location) ≡ true)
-    (allowed : MayChange (files_at nat_eq world location) change) (tree : IsFileTree (files_at nat_eq world location))
-    (Refused : Deny → Type 0) (stay : TreeStays (files_at nat_eq world location).tree
+module _ {world : World ℕ} {fresh : Fresh ℕ} {name : TaskName} {call : Call} {answer : Answer}
+    {it : HasSucceeded world fresh name call answer} {location : Location ℕ} {change : Change ℕ} {from : Fresh ℕ}
+    (changes : ChangesTree it location change from) {Refused : Deny → Type 0}
+    (stay : TreeStays (files_at nat_eq world location).tree
     (changed nat_eq (files_at nat_eq world location) change).tree Refused) where
   abbrev pub left : World ℕ
   left = (policy nat_eq fresh world name call).world
 
   pub stays : WorldStays world left Refused
-  stays =
-      world_stays world fresh name call answer is plain serves other few did location change from asks does something
-      allowed tree Refused stay
+  stays = world_stays it changes Refused stay
 
   pub is_left : IsWorld nat_eq left × IsPlain left
-  is_left = later_is world fresh name call answer is plain serves other few did
+  is_left = later_is it
 
   -- the caller is there still
-  pub caller : task_called left name ≡ Some (raised_task name did.task)
-  caller = still_called world fresh name call answer is plain serves other few did name did.task
-      (ap (λ w. task_called w name) does
-      ∙ ap (find (λ (t : Task ℕ). same_name name t.name)) (change_tasks from world plain location change) ∙ did.called)
+  pub caller : task_called left name ≡ Some (raised_task name it.did.task)
+  caller = still_called it name it.did.task
+      (ap (λ w. task_called w name) changes.does
+      ∙ ap (find (λ (t : Task ℕ). same_name name t.name)) (change_tasks from world it.plain location change)
+      ∙ it.did.called)
 
   module _ (reader : Task ℕ) (called : task_called left reader.name ≡ Some reader)
-      (stands : StandsAs did.task reader) where
+      (stands : StandsAs it.did.task reader) where
+    abbrev both : SeesLater world left it.did.task reader Refused
+    both = record {
+      is = it.is;
+      plain = it.plain;
+      is_later = is_left.0;
+      plain_later = is_left.1;
+      called = called_own it;
+      called_later = called;
+      stands = stands;
+      stay = stays;
+    }
+
     abbrev pub KnownToo : Location ℕ → Type 0
-    KnownToo here = Known world left is plain is_left.0 is_left.1 did.task reader
-        (called_own world fresh name call answer is plain serves other few did) called stands Refused stays here
+    KnownToo here = Known both here
 
     pub known_there : (here : Location ℕ) → KnownToo here
         → is_some (node_in left (mount_at nat_eq world here).filesystem here.node) ≡ true
-    known_there here known = ap is_some (sym (node_here world left is plain is_left.0 is_left.1 did.task reader
-        (called_own world fresh name call answer is plain serves other few did) called stands Refused stays here))
+    known_there here known = ap is_some (sym (node_here both here))
         ∙ known.1.1
 
     -- what is at the location of the change
     pub seen_there : KnownToo location → node_at nat_eq left location
         ≡ (changed nat_eq (files_at nat_eq world location) change).tree.node location.node
-    seen_there known = node_here world left is plain is_left.0 is_left.1 did.task reader
-        (called_own world fresh name call answer is plain serves other few did) called stands Refused stays location
-        ∙ node_changed world fresh name call answer is plain serves other few did location change from asks does
-        something allowed tree location.node (known_there location known)
+    seen_there known = node_here both location
+        ∙ node_changed it changes location.node (known_there location known)
 
     -- and at an inode of that filesystem
     pub seen_at : (number : ℕ) → node_at nat_eq left (record { mount = location.mount; node = number })
         ≡ node_in left (mount_at nat_eq world location).filesystem number
-    seen_at number = node_here world left is plain is_left.0 is_left.1 did.task reader
-        (called_own world fresh name call answer is plain serves other few did) called stands Refused stays
+    seen_at number = node_here both
         (record { mount = location.mount; node = number })
 
     leads_by : ((here : Location ℕ) → KnownToo here → is_directory_at nat_eq world here ≡ true
-        → may (looks_of nat_eq world) did.task here execute_right ≡ true
+        → may (looks_of nat_eq world) it.did.task here execute_right ≡ true
         → (may (looks_of nat_eq left) reader here execute_right ≡ true)
         ⊎ ((may (looks_of nat_eq left) reader here execute_right ≡ false) × Refused (denial W4)))
-        → LeadsToo (looks_of nat_eq world) (looks_of nat_eq left) did.task reader Refused KnownToo
-    leads_by rights = world_leads world left is plain is_left.0 is_left.1 did.task reader
-        (called_own world fresh name call answer is plain serves other few did) called stands Refused stays rights
+        → LeadsToo (looks_of nat_eq world) (looks_of nat_eq left) it.did.task reader Refused KnownToo
+    leads_by rights = world_leads both rights
 
     searched_by_all : reads_all reader.credentials ≡ true → (here : Location ℕ) → KnownToo here
         → is_directory_at nat_eq world here ≡ true → may (looks_of nat_eq left) reader here execute_right ≡ true
     searched_by_all all here known directory = search_all reader.credentials all (node_at nat_eq left here)
-        (ap is_directory_node (node_here world left is plain is_left.0 is_left.1 did.task reader
-        (called_own world fresh name call answer is plain serves other few did) called stands Refused stays here)
+        (ap is_directory_node (node_here both here)
         ∙ stays.directory (mount_at nat_eq world here).filesystem here.node known.0.1 (known_there here known)
         ∙ directory)
 
     -- where rights stay
     pub leads : RightsStay (files_at nat_eq world location).tree
         (changed nat_eq (files_at nat_eq world location) change).tree
-        → MayLook did.task reader → LeadsToo (looks_of nat_eq world)
-        (looks_of nat_eq left) did.task reader Refused KnownToo
+        → MayLook it.did.task reader → LeadsToo (looks_of nat_eq world)
+        (looks_of nat_eq left) it.did.task reader Refused KnownToo
     leads rights (inr all) = leads_by (λ here known directory e. inl (searched_by_all all here known directory))
     leads rights (inl same) = leads_by (λ here known directory e. inl
         (ap (λ who. node_allows who execute_right (node_at nat_eq left here)) same
-        ∙ ap (node_allows did.task.credentials execute_right)
-        (node_here world left is plain is_left.0 is_left.1 did.task reader
-        (called_own world fresh name call answer is plain serves other few did) called stands Refused stays here)
-        ∙ world_rights world fresh name call answer is plain serves other few did location change from asks does
-        something allowed tree
-        rights (mount_at nat_eq world here).filesystem here.node execute_right did.task.credentials known.0.1
+        ∙ ap (node_allows it.did.task.credentials execute_right) (node_here both here) ∙ world_rights it changes
+        rights (mount_at nat_eq world here).filesystem here.node execute_right it.did.task.credentials known.0.1
         (known_there here known) ∙ e))
 
     -- where they may be lost, and that is a refusal
     pub leads_or_hides : Refused (denial W4)
-        → LeadsToo (looks_of nat_eq world) (looks_of nat_eq left) did.task reader Refused KnownToo
+        → LeadsToo (looks_of nat_eq world) (looks_of nat_eq left) it.did.task reader Refused KnownToo
     leads_or_hides hides = leads_by
         (λ here known directory e. by (may (looks_of nat_eq left) reader here execute_right))
       where
@@ -181,5 +171,5 @@ module _ (world : World ℕ) (fresh : Fresh ℕ) (name : TaskName) (call : Call)
         by false = inr (refl, hides)
 
     pub leads_all : reads_all reader.credentials ≡ true
-        → LeadsToo (looks_of nat_eq world) (looks_of nat_eq left) did.task reader Refused KnownToo
+        → LeadsToo (looks_of nat_eq world) (looks_of nat_eq left) it.did.task reader Refused KnownToo
     leads_all all = leads_by (λ here known directory e. inl (searched_by_all all here known directory))

@@ -1,15 +1,13 @@
 -- What tasks are on stays where what nothing uses goes.
-use Rattle.std.proofs.Common.{◌≡◌, sym, ap, subst, ◌∙◌, ℕ, nat_eq, true, false, List, Some}
-use Rattle.vt_spec.proofs.Common.{Answer, Call, Fresh, IsWorld, Location, Outcome, Serves, Task, TaskName, World, apply, filesystems_changed, locations_of, mount_at, node_at, numbers_raised, policy, raised, raised_task, settled, task_called}
+use Rattle.std.proofs.Common.{◌≡◌, sym, ap, subst, ◌∙◌, ℕ, nat_eq, List, Some}
+use Rattle.vt_spec.proofs.Common.{Answer, Call, Fresh, Location, Outcome, Task, TaskName, World, apply, filesystems_changed, locations_of, mount_at, node_at, numbers_raised, policy, raised, raised_task, settled, task_called}
 use Rattle.vt_laws_mounts.proofs.letting_go.Lists.{Among}
-use Rattle.vt_laws_trees.specs.Trees.Calls.{mounts_overlay}
-use Rattle.vt_laws_trees.specs.Trees.Limits.{names_few_groups}
-use Rattle.vt_laws_worlds.specs.Worlds.Kept.{IsPlain, IsWorldButForUse}
+use Rattle.vt_laws_worlds.specs.Worlds.Kept.{IsWorldButForUse}
 use Rattle.vt_laws_worlds.proofs.worlds.CallsKept.{applied, name_found, unsettled}
 use Rattle.vt_laws_worlds.proofs.Raised.{FilesBy, same_files}
 use Rattle.vt_laws_worlds.proofs.RaisedInUse.{namespace_if, number_if, numbers_raised_are, task_if}
 use Rattle.vt_laws_worlds.proofs.settling.SettledTasks.{of_task, same_node}
-use Rattle.vt_laws_later_calls.proofs.Granted.{IsPermitted, called_raised}
+use Rattle.vt_laws_later_calls.proofs.Granted.{HasSucceeded, called_raised}
 use Rattle.vt_laws_trees.proofs.trees.TreesTasks.{called_there}
 
 -- raised numbers hide no inode
@@ -21,35 +19,35 @@ node_raised before name changed world location =
     (same_files (number_if changed world) (namespace_if before name changed world) (task_if before name changed world)
     (raised world.change) world)
 
-module _ (world : World ℕ) (fresh : Fresh ℕ) (name : TaskName) (call : Call) (answer : Answer)
-    (is : IsWorld nat_eq world) (plain : IsPlain world) (serves : Serves nat_eq world fresh)
-    (other : mounts_overlay call ≡ false) (few : names_few_groups call ≡ true)
-    (did : IsPermitted world fresh name call answer) where
+module _ {world : World ℕ} {fresh : Fresh ℕ} {name : TaskName} {call : Call} {answer : Answer}
+    (it : HasSucceeded world fresh name call answer) where
   abbrev spent_world : World ℕ
-  spent_world = (apply nat_eq fresh world did.task did.permit).world
+  spent_world = (apply nat_eq fresh world it.did.task it.did.permit).world
 
   abbrev later : World ℕ
   later = (policy nat_eq fresh world name call).world
 
-  pub called_own : task_called world did.task.name ≡ Some did.task
-  called_own = ap (task_called world) (sym (name_found world name did.task did.called)) ∙ did.called
+  pub called_own : task_called world it.did.task.name ≡ Some it.did.task
+  called_own = ap (task_called world) (sym (name_found world name it.did.task it.did.called)) ∙ it.did.called
 
   pub spent_unsettled : IsWorldButForUse spent_world
   spent_unsettled = subst (λ (o : Outcome ℕ). IsWorldButForUse o.world)
-      (applied world fresh did.task call did.permit is plain serves called_own other few did.judged)
-      (unsettled world fresh did.task call did.permit is plain serves called_own other few did.judged)
+      (applied world fresh it.did.task call it.did.permit it.is it.plain it.serves called_own it.other it.few
+      it.did.judged)
+      (unsettled world fresh it.did.task call it.did.permit it.is it.plain it.serves called_own it.other it.few
+      it.did.judged)
 
   -- each task is there after the last step,
   pub still_called : (reader : TaskName) (reading : Task ℕ) → task_called spent_world reader ≡ Some reading
       → task_called later reader ≡ Some (raised_task name reading)
   still_called reader reading e =
-      ap (λ w. task_called w reader) did.left ∙ called_raised name reader reading spent_world.tasks e
+      ap (λ w. task_called w reader) it.did.left ∙ called_raised name reader reading spent_world.tasks e
 
   -- and where it is, or has a file open, stands what the call left there
   pub still_seen : (reader : TaskName) (reading : Task ℕ) → task_called spent_world reader ≡ Some reading
       → (location : Location ℕ) → Among location (locations_of reading)
       → node_at nat_eq later location ≡ node_at nat_eq spent_world location
-  still_seen reader reading e location m = ap (λ w. node_at nat_eq w location) did.left
-      ∙ node_raised world name (filesystems_changed nat_eq world did.permit) (settled nat_eq spent_world) location
+  still_seen reader reading e location m = ap (λ w. node_at nat_eq w location) it.did.left
+      ∙ node_raised world name (filesystems_changed nat_eq world it.did.permit) (settled nat_eq spent_world) location
       ∙ same_node spent_world spent_unsettled location (of_task spent_world spent_unsettled reading
       (called_there spent_world.tasks reader reading e) location m)

@@ -9,7 +9,7 @@ use Rattle.vt_laws_worlds.specs.Worlds.Kept.{IsPlain}
 use Rattle.vt_laws_worlds.proofs.worlds.SeenTrees.{change_of_plain, changed_one, found_new, old_number}
 use Rattle.vt_laws_trees.proofs.trees.TreesOfWorlds.{numbered}
 use Rattle.vt_laws_later_calls.specs.Later.{IsOneInode, PwriteThenPread}
-use Rattle.vt_laws_later_calls.proofs.Granted.{IsPermitted, permitted}
+use Rattle.vt_laws_later_calls.proofs.Granted.{HasSucceeded, permitted}
 use Rattle.vt_laws_later_calls.proofs.Stays.{still_called, still_seen}
 use Rattle.vt_laws_trees.proofs.trees.TreesTasks.{called_there, tasks-pwritten}
 use Rattle.vt_laws_rules.specs.Granted.{IsGranted}
@@ -120,10 +120,10 @@ pub pwrite_then_pread : PwriteThenPread
 pwrite_then_pread world fresh name reader task reading written read offset bytes is plain serves called found
     called_too found_too same reads granted later_fresh =
     pread_of later later_fresh reader (raised_task name reading) read read.number offset (length bytes)
-    (still_called world fresh name call Done is plain serves refl refl did reader reading there)
+    (still_called it reader reading there)
     (ap (find (λ (d : Descriptor ℕ). nat_eq read.number d.number)) (raised_descriptors name reading) ∙ found_too) reads
     ∙ ap (λ o. Ok (Bytes (take (length bytes) (drop offset (bytes_in o)))))
-    (still_seen world fresh name call Done is plain serves refl refl did reader reading there read.location
+    (still_seen it reader reading there read.location
     (descriptor_located reading read.number read found_too) ∙ ap (λ w. node_at nat_eq w read.location) spent)
     ∙ ap (λ b. Ok (Bytes b)) (written_there world fresh plain written.location read.location offset same
     (open_regular world name task written.number written is called found) bytes)
@@ -134,18 +134,25 @@ pwrite_then_pread world fresh name reader task reading written read offset bytes
     later : World ℕ
     later = (policy nat_eq fresh world name (Pwrite written.number offset bytes)).world
 
-    did : IsPermitted world fresh name (Pwrite written.number offset bytes) Done
-    did = permitted world fresh name (Pwrite written.number offset bytes) Done refl granted
+    it : HasSucceeded world fresh name (Pwrite written.number offset bytes) Done
+    it = record {
+      is = is;
+      plain = plain;
+      serves = serves;
+      other = refl;
+      few = refl;
+      did = permitted world fresh name (Pwrite written.number offset bytes) Done refl granted;
+    }
 
-    task_is : task ≡ did.task
-    task_is = same_Some task did.task (sym called ∙ did.called)
+    task_is : task ≡ it.did.task
+    task_is = same_Some task it.did.task (sym called ∙ it.did.called)
 
-    spent : (apply nat_eq fresh world did.task did.permit).world
+    spent : (apply nat_eq fresh world it.did.task it.did.permit).world
         ≡ pwritten nat_eq fresh world written.location offset bytes
-    spent = ap (λ p. (apply nat_eq fresh world did.task p).world)
-        (pwrite_parts (looks_of nat_eq world) did.task written offset bytes did.permit
-        (ap (λ t. descriptor_numbered t written.number) (sym task_is) ∙ found) did.granted)
+    spent = ap (λ p. (apply nat_eq fresh world it.did.task p).world)
+        (pwrite_parts (looks_of nat_eq world) it.did.task written offset bytes it.did.permit
+        (ap (λ t. descriptor_numbered t written.number) (sym task_is) ∙ found) it.did.granted)
 
-    there : task_called (apply nat_eq fresh world did.task did.permit).world reader ≡ Some reading
+    there : task_called (apply nat_eq fresh world it.did.task it.did.permit).world reader ≡ Some reading
     there = ap (λ w. task_called w reader) spent ∙ ap (find (λ (t : Task ℕ). same_name reader t.name))
         (tasks-pwritten fresh world written.location offset bytes) ∙ called_too

@@ -57,19 +57,29 @@ pub record StandsAs (task reader : Task ℕ) : Type 0 where
   pub root : reader.root ≡ task.root
   pub directory : reader.directory ≡ task.directory
 
-module _ (world later : World ℕ) (is : IsWorld nat_eq world) (plain : IsPlain world) (is_later : IsWorld nat_eq later)
-    (plain_later : IsPlain later) (task reader : Task ℕ) (called : task_called world task.name ≡ Some task)
-    (called_later : task_called later reader.name ≡ Some reader) (stands : StandsAs task reader)
-    (Refused : Deny → Type 0) (stay : WorldStays world later Refused) where
+-- a task in a world, and a reader later who stands as it does: what is there in both worlds is as it was, but for what
+-- is refused
+pub record SeesLater (world later : World ℕ) (task reader : Task ℕ) (Refused : Deny → Type 0) : Type 0 where
+  pub is : IsWorld nat_eq world
+  pub plain : IsPlain world
+  pub is_later : IsWorld nat_eq later
+  pub plain_later : IsPlain later
+  pub called : task_called world task.name ≡ Some task
+  pub called_later : task_called later reader.name ≡ Some reader
+  pub stands : StandsAs task reader
+  pub stay : WorldStays world later Refused
+
+module _ {world later : World ℕ} {task reader : Task ℕ} {Refused : Deny → Type 0}
+    (it : SeesLater world later task reader Refused) where
   -- a location that is there in both worlds
   abbrev pub Known : Location ℕ → Type 0
-  Known here = IsFound world is task here × IsFound later is_later reader here
+  Known here = IsFound world it.is task here × IsFound later it.is_later reader here
 
   abbrev KnownDirectory : Location ℕ → Type 0
-  KnownDirectory here = IsFoundDirectory world is task here × IsFoundDirectory later is_later reader here
+  KnownDirectory here = IsFoundDirectory world it.is task here × IsFoundDirectory later it.is_later reader here
 
   same_mount : (number : ℕ) → mount_numbered nat_eq later number ≡ mount_numbered nat_eq world number
-  same_mount number = ap (λ mounts. mount_in nat_eq mounts number) stay.mounts
+  same_mount number = ap (λ mounts. mount_in nat_eq mounts number) it.stay.mounts
 
   pub node_here : (here : Location ℕ)
       → node_at nat_eq later here ≡ node_in later (mount_at nat_eq world here).filesystem here.node
@@ -86,20 +96,23 @@ module _ (world later : World ℕ) (is : IsWorld nat_eq world) (plain : IsPlain 
   directory_too : (here : Location ℕ) → Known here
       → is_directory_at nat_eq later here ≡ is_directory_at nat_eq world here
   directory_too here known = ap is_directory_node (node_here here)
-      ∙ stay.directory (mount_at nat_eq world here).filesystem here.node (there here known) (there_later here known)
+      ∙ it.stay.directory (mount_at nat_eq world here).filesystem here.node (there here known) (there_later here known)
 
   known_directory : (here : Location ℕ) → Known here → is_directory_at nat_eq world here ≡ true → KnownDirectory here
   known_directory here known directory = ((known.0.0, directory), (known.1.0, directory_too here known ∙ directory))
 
   directory_known : (here : Location ℕ) → KnownDirectory here → Known here
   directory_known here known =
-      (directory_found world is task here known.0, directory_found later is_later reader here known.1)
+      (directory_found world it.is task here known.0, directory_found later it.is_later reader here known.1)
 
   -- a step leads to what is known
   next_known : (here : Location ℕ) (word : LastWord) (next : Location ℕ) → KnownDirectory here
       → stepped nat_eq world task here word ≡ Ok next → stepped nat_eq later reader here word ≡ Ok next → Known next
-  next_known here word next known e f =
-      (step_found world is task here word next known.0 e, step_found later is_later reader here word next known.1 f)
+  next_known here word next known e f = (
+    step_found world it.is task here word next known.0 e,
+    step_found later it.is_later reader here word next
+        known.1 f,
+  )
 
   -- Names
   abbrev named_by : List (Mount ℕ) → Location ℕ → Option ℕ → Result (Location ℕ) Deny
@@ -115,7 +128,7 @@ module _ (world later : World ℕ) (is : IsWorld nat_eq world) (plain : IsPlain 
       later_is : (o : Option ℕ) → entry_at (tree_in later (mount_at nat_eq world here).filesystem) here.node name ≡ o
           → stepped nat_eq later reader here (Named name) ≡ named_by world.mounts here o
       later_is o f = ap (λ n. named_by later.mounts here (entry_named name (entries_in n))) (node_here here)
-          ∙ ap (named_by later.mounts here) f ∙ ap (λ mounts. named_by mounts here o) stay.mounts
+          ∙ ap (named_by later.mounts here) f ∙ ap (λ mounts. named_by mounts here o) it.stay.mounts
 
       no_answer : (deny : Deny) (a : Location ℕ) → Path (Result (Location ℕ) Deny) (Err deny) (Ok a) → ⊥
       no_answer deny a f = cc
@@ -137,7 +150,7 @@ module _ (world later : World ℕ) (is : IsWorld nat_eq world) (plain : IsPlain 
           ⊎ ((deny : Deny) × Refused deny × (stepped nat_eq later reader here (Named name) ≡ Err deny))
       by None f g = absurd (no_answer (denial W6) next (ap (named_by world.mounts here) (sym f) ∙ g))
       by (Some object) f g = inside object (ap (named_by world.mounts here) (sym f) ∙ g) e
-          (stay.entry (mount_at nat_eq world here).filesystem here.node name object f
+          (it.stay.entry (mount_at nat_eq world here).filesystem here.node name object f
           (there_later here (directory_known here known)))
 
   -- Up
@@ -149,24 +162,25 @@ module _ (world later : World ℕ) (is : IsWorld nat_eq world) (plain : IsPlain 
   abbrev top_by : List (Mount ℕ) → Location ℕ → Location ℕ → Location ℕ
   top_by mounts root here = last_or here (chain (length mounts) (hop_by mounts root) here)
 
-  hop_known : (a b : Location ℕ) → IsFoundDirectory world is task a → hop nat_eq world task a ≡ Some b
-      → IsFoundDirectory world is task b
+  hop_known : (a b : Location ℕ) → IsFoundDirectory world it.is task a → hop nat_eq world task a ≡ Some b
+      → IsFoundDirectory world it.is task b
   hop_known a b found e = by (same_location nat_eq a task.root) (nat_eq a.node (mount_at nat_eq world a).root) e
     where
       by : (p q : Bool) → cond p None (cond q (mount_at nat_eq world a).mount_point None) ≡ Some b
-          → IsFoundDirectory world is task b
+          → IsFoundDirectory world it.is task b
       by true q h = none_is_not None b refl h
-      by false true h = place_found world is task a.mount b found.0 h
+      by false true h = place_found world it.is task a.mount b found.0 h
       by false false h = none_is_not None b refl h
 
-  hop_known_later : (a b : Location ℕ) → IsFoundDirectory later is_later reader a → hop nat_eq later reader a ≡ Some b
-      → IsFoundDirectory later is_later reader b
+  hop_known_later : (a b : Location ℕ) → IsFoundDirectory later it.is_later reader a → hop nat_eq later reader a
+      ≡ Some b
+      → IsFoundDirectory later it.is_later reader b
   hop_known_later a b found e = by (same_location nat_eq a reader.root) (nat_eq a.node (mount_at nat_eq later a).root) e
     where
       by : (p q : Bool) → cond p None (cond q (mount_at nat_eq later a).mount_point None) ≡ Some b
-          → IsFoundDirectory later is_later reader b
+          → IsFoundDirectory later it.is_later reader b
       by true q h = none_is_not None b refl h
-      by false true h = place_found later is_later reader a.mount b found.0 h
+      by false true h = place_found later it.is_later reader a.mount b found.0 h
       by false false h = none_is_not None b refl h
 
   -- where `..` goes on from
@@ -174,14 +188,14 @@ module _ (world later : World ℕ) (is : IsWorld nat_eq world) (plain : IsPlain 
   top here = top_by world.mounts task.root here
 
   top_same : (here : Location ℕ) → top_by later.mounts reader.root here ≡ top here
-  top_same here = λ i. top_by (stay.mounts i) (stands.root i) here
+  top_same here = λ i. top_by (it.stay.mounts i) (it.stands.root i) here
 
   top_known : (here : Location ℕ) → KnownDirectory here → KnownDirectory (top here)
   top_known here known = (
-    chain_ends_at (IsFoundDirectory world is task) (hop nat_eq world task) hop_known
+    chain_ends_at (IsFoundDirectory world it.is task) (hop nat_eq world task) hop_known
         (length world.mounts) here here known.0,
-    subst (IsFoundDirectory later is_later reader) (top_same here)
-        (chain_ends_at (IsFoundDirectory later is_later reader) (hop nat_eq later reader) hop_known_later
+    subst (IsFoundDirectory later it.is_later reader) (top_same here)
+        (chain_ends_at (IsFoundDirectory later it.is_later reader) (hop nat_eq later reader) hop_known_later
         (length later.mounts) here here known.1),
   )
 
@@ -215,7 +229,7 @@ module _ (world later : World ℕ) (is : IsWorld nat_eq world) (plain : IsPlain 
 
       tree_later : IsFileTree (filesystem_numbered nat_eq later (mount_at nat_eq world here).filesystem).files
       tree_later = subst (λ (m : Mount ℕ). IsFileTree (filesystem_numbered nat_eq later m.filesystem).files)
-          (same_mount here.mount) (tree_here later is_later here known.1.1)
+          (same_mount here.mount) (tree_here later it.is_later here known.1.1)
 
       names : DirectoryNamesStay (λ n. ⊤) (tree_in world (mount_at nat_eq world here).filesystem)
           (tree_in later (mount_at nat_eq world here).filesystem)
@@ -229,23 +243,23 @@ module _ (world later : World ℕ) (is : IsWorld nat_eq world) (plain : IsPlain 
           ≡ true
       root_there = subst (λ (m : Mount ℕ). is_some (node_in later m.filesystem m.root) ≡ true) (same_mount here.mount)
           (directory_used (tree_in later (mount_at nat_eq later here).filesystem) (mount_at nat_eq later here).root
-          (mount_root later is_later here.mount known.1.0.0))
+          (mount_root later it.is_later here.mount known.1.0.0))
 
       present : is_removed nat_eq files_later.tree here.node ≡ false
-      present = present_later (λ n. ⊤) files_here files_later (tree_here world is here known.0.1).tree tree_later
-          (stay.root (mount_at nat_eq world here).filesystem) (λ directory name number entry keeps. tt) names
+      present = present_later (λ n. ⊤) files_here files_later (tree_here world it.is here known.0.1).tree tree_later
+          (it.stay.root (mount_at nat_eq world here).filesystem) (λ directory name number entry keeps. tt) names
           (mount_at nat_eq world here).root here.node known.0.1 is_directory_later tt root_there parts.0
           (not-false _ parts.1)
 
       under : is_directory_under nat_eq files_later point.root here.node ≡ true
-      under = under_later (λ n. ⊤) files_here files_later (tree_here world is here known.0.1).tree tree_later
-          (stay.root (mount_at nat_eq world here).filesystem) (λ directory name number entry keeps. tt) names
+      under = under_later (λ n. ⊤) files_here files_later (tree_here world it.is here known.0.1).tree tree_later
+          (it.stay.root (mount_at nat_eq world here).filesystem) (λ directory name number entry keeps. tt) names
           (mount_at nat_eq world here).root here.node known.0.1 is_directory_later tt root_there parts.0
           (not-false _ parts.1)
 
   up_too : (here next : Location ℕ) → KnownDirectory here → stepped nat_eq world task here DotDot ≡ Ok next
       → stepped nat_eq later reader here DotDot ≡ Ok next
-  up_too here next known e = (λ i. up_by (stay.mounts i) (stands.root i)
+  up_too here next known e = (λ i. up_by (it.stay.mounts i) (it.stands.root i)
       (parent_in (top_same here i).node (node_at nat_eq later (top_same here i)))
       (is_lost nat_eq later (top_same here i)) (top_same here i))
       ∙ by (same_location nat_eq (top here) task.root || nat_eq (top here).node (mount_at nat_eq world (top here)).root)
@@ -257,7 +271,7 @@ module _ (world later : World ℕ) (is : IsWorld nat_eq world) (plain : IsPlain 
       same_parent : parent_in (top here).node (node_at nat_eq later (top here))
           ≡ parent_in (top here).node (node_at nat_eq world (top here))
       same_parent = ap (parent_in (top here).node) (node_here (top here))
-          ∙ stay.parent (mount_at nat_eq world (top here)).filesystem (top here).node
+          ∙ it.stay.parent (mount_at nat_eq world (top here)).filesystem (top here).node
           (there (top here) (directory_known (top here) at_top))
           (there_later (top here) (directory_known (top here) at_top))
 
@@ -292,23 +306,24 @@ module _ (world later : World ℕ) (is : IsWorld nat_eq world) (plain : IsPlain 
       ⊎ ((may (looks_of nat_eq later) reader here execute_right ≡ false) × Refused (denial W4)))
       → LeadsToo (looks_of nat_eq world) (looks_of nat_eq later) task reader Refused Known
   world_leads rights = record {
-    root = stands.root;
-    working = stands.directory;
+    root = it.stands.root;
+    working = it.stands.directory;
     root_known = directory_known task.root (
-      root_found world is task called,
-      subst (IsFoundDirectory later is_later reader) stands.root (root_found later is_later reader called_later),
+      root_found world it.is task it.called,
+      subst (IsFoundDirectory later it.is_later reader) it.stands.root
+          (root_found later it.is_later reader it.called_later),
     );
     working_known = directory_known task.directory (
-      own_directory_found world is task called,
-      subst (IsFoundDirectory later is_later reader) stands.directory
-          (own_directory_found later is_later reader called_later),
+      own_directory_found world it.is task it.called,
+      subst (IsFoundDirectory later it.is_later reader) it.stands.directory
+          (own_directory_found later it.is_later reader it.called_later),
     );
     directory = λ here known directory. directory_too here known ∙ directory;
     search = rights;
     mounter = λ here. ap (λ o. mounter_allows o execute_right (node_at nat_eq later here))
-        (plain_numbered later plain_later (mount_at nat_eq later here).filesystem);
+        (plain_numbered later it.plain_later (mount_at nat_eq later here).filesystem);
     step = λ here word next known directory e. step_too here word next (known_directory here known directory) e;
     nosymfollow = λ here known. ap (λ (m : Mount ℕ). m.flags.nosymfollow) (same_mount here.mount);
     link = λ here known. ap symlink_text (node_here here)
-        ∙ stay.link (mount_at nat_eq world here).filesystem here.node (there here known) (there_later here known);
+        ∙ it.stay.link (mount_at nat_eq world here).filesystem here.node (there here known) (there_later here known);
   }

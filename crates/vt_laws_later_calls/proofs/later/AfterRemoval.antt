@@ -1,7 +1,7 @@
 -- The world that a granted rmdir leaves: the task's own mounts are seen as they were, the directory has lost its name,
 -- and walks that do not go up from it lead where they led.
 use Rattle.std.proofs.Common.{arith, ◌≡◌, ◌≢◌, refl, sym, ap, subst, ◌∙◌, inl, inr, ◌⊎◌, ⊎_elim, ℕ, nat_eq, eqb-true, Bool, true, false, ◌||◌, List, filter, Some, None, Ok, is_some, find, unwrap_or}
-use Rattle.vt_spec.proofs.Common.{Answer, Call, Change, Credentials, FileTree, Filesystem, Fresh, IsWorld, Location, Mount, Remove, Serves, Task, TaskName, ToRemoveDirectory, Tree, World, and_parts, apply, changed, common_steps, denial, directory_used, entries_in, entry_at, entry_named, files_at, filesystem_numbered, filesystems-taken_away, is_directory_node, is_going, is_located, is_mount_point_in, looks_of, mount_at, mount_lives, mount_numbered, mounts_on, no_filesystem, node_allows, node_at, parent_in, policy, raised_task, same_name, symlink_text, task_called, tasks-taken_away, with_change, without_mounts_on}
+use Rattle.vt_spec.proofs.Common.{Answer, Call, Change, Credentials, FileTree, Filesystem, Fresh, IsWorld, Location, Mount, Remove, Task, TaskName, ToRemoveDirectory, Tree, World, and_parts, apply, changed, common_steps, denial, directory_used, entries_in, entry_at, entry_named, files_at, filesystem_numbered, filesystems-taken_away, is_directory_node, is_going, is_located, is_mount_point_in, looks_of, mount_at, mount_lives, mount_numbered, mounts_on, no_filesystem, node_allows, node_at, parent_in, policy, raised_task, same_name, symlink_text, task_called, tasks-taken_away, with_change, without_mounts_on}
 use Rattle.vt_spec.specs.declared.errors.Deny.{Deny}
 use Rattle.vt_spec.specs.declared.errors.Rule.TheVariants.{W6}
 use Rattle.vt_laws_mounts.specs.LettingGo.Unmounting.{numbers_of_trees}
@@ -12,8 +12,6 @@ use Rattle.vt_laws_worlds.proofs.overlays_let_go.changing.MountsOfOthers.{reache
 use Rattle.vt_laws_worlds.specs.Permits.Sees.{SeesTo}
 use Rattle.vt_laws_worlds.proofs.permits.sees.SeesTasks.{given_permits_are_seen_to}
 use Rattle.vt_laws_trees.specs.Trees.{MayRemove}
-use Rattle.vt_laws_trees.specs.Trees.Calls.{mounts_overlay}
-use Rattle.vt_laws_trees.specs.Trees.Limits.{names_few_groups}
 use Rattle.vt_laws_worlds.specs.Worlds.Kept.{IsPlain}
 use Rattle.vt_laws_worlds.specs.Worlds.Permits.{IsReached}
 use Rattle.vt_laws_worlds.proofs.worlds.PermitsSeen.{taken_plain}
@@ -21,7 +19,7 @@ use Rattle.vt_laws_worlds.proofs.worlds.Reached.{IsOn, is_reached}
 use Rattle.vt_laws_worlds.proofs.worlds.SeenTrees.{change_mounts, change_tasks}
 use Rattle.vt_laws_later_calls.proofs.AfterChange.{as_spent, later_files, later_is}
 use Rattle.vt_laws_later_calls.proofs.Changed.{files_changed, files_other}
-use Rattle.vt_laws_later_calls.proofs.Granted.{IsPermitted}
+use Rattle.vt_laws_later_calls.proofs.Granted.{HasSucceeded}
 use Rattle.vt_laws_later_calls.proofs.OpenedNew.{given_of}
 use Rattle.vt_laws_later_calls.proofs.later.SettledRoots.{root_settled}
 use Rattle.vt_laws_later_calls.proofs.Stays.{called_own, spent_unsettled, still_called}
@@ -31,16 +29,14 @@ use Rattle.vt_laws_later_calls.proofs.later.WaysMounts.{own_mount, top_same, top
 use Rattle.vt_laws_later_calls.proofs.later.WaysRemoved.{removed_entry, removed_kind, removed_link, removed_name, removed_parent, removed_rights}
 use Rattle.vt_laws_later_calls.proofs.WaysStay.{mount_root, node_in, tree_in}
 
-module _ (world : World ℕ) (fresh : Fresh ℕ) (name : TaskName) (call : Call) (answer : Answer)
-    (is : IsWorld nat_eq world) (plain : IsPlain world) (serves : Serves nat_eq world fresh)
-    (other : mounts_overlay call ≡ false) (few : names_few_groups call ≡ true)
-    (did : IsPermitted world fresh name call answer) (parent : Location ℕ) (word : List ℕ) (object : Location ℕ)
-    (permit_is : did.permit ≡ ToRemoveDirectory parent word object) where
+module _ {world : World ℕ} {fresh : Fresh ℕ} {name : TaskName} {call : Call} {answer : Answer}
+    (it : HasSucceeded world fresh name call answer) {parent : Location ℕ} {word : List ℕ}
+    {object : Location ℕ} (permit_is : it.did.permit ≡ ToRemoveDirectory parent word object) where
   abbrev pub left : World ℕ
   left = (policy nat_eq fresh world name call).world
 
   abbrev pub spent : World ℕ
-  spent = (apply nat_eq fresh world did.task did.permit).world
+  spent = (apply nat_eq fresh world it.did.task it.did.permit).world
 
   abbrev middle : World ℕ
   middle = without_mounts_on nat_eq world object
@@ -55,68 +51,71 @@ module _ (world : World ℕ) (fresh : Fresh ℕ) (name : TaskName) (call : Call)
   shown = (mount_at nat_eq world parent).filesystem
 
   pub is_left : IsWorld nat_eq left × IsPlain left
-  is_left = later_is world fresh name call answer is plain serves other few did
+  is_left = later_is it
 
-  pub own_task : task_called world did.task.name ≡ Some did.task
-  own_task = called_own world fresh name call answer is plain serves other few did
+  pub own_task : task_called world it.did.task.name ≡ Some it.did.task
+  own_task = called_own it
 
-  pub seen_to : SeesTo world did.task (ToRemoveDirectory parent word object)
-  seen_to = subst (SeesTo world did.task) permit_is (given_permits_are_seen_to world fresh did.task did.permit is
-      (given_of world fresh name call answer serves other few did))
+  pub seen_to : SeesTo world it.did.task (ToRemoveDirectory parent word object)
+  seen_to = subst (SeesTo world it.did.task) permit_is
+      (given_permits_are_seen_to world fresh it.did.task it.did.permit it.is
+      (given_of world fresh name call answer it.serves it.other it.few it.did))
 
   pub may : MayRemove (files_at nat_eq world parent).tree parent.node word object.node
   may = seen_to.1
 
   -- the parent is reached, and no mount of the task's namespace stands on the directory
-  pub reaches : IsReached world did.task parent
-      × (is_mount_point_in nat_eq (looks_of nat_eq world) did.task.namespace object ≡ false)
-  reaches = removal_reached fresh world is did.task own_task call (ToRemoveDirectory parent word object)
-      (did.judged ∙ ap Ok permit_is)
+  pub reaches : IsReached world it.did.task parent
+      × (is_mount_point_in nat_eq (looks_of nat_eq world) it.did.task.namespace object ≡ false)
+  reaches = removal_reached fresh world it.is it.did.task own_task call (ToRemoveDirectory parent word object)
+      (it.did.judged ∙ ap Ok permit_is)
 
-  pub own_parent : IsOn world is did.task parent.mount
+  pub own_parent : IsOn world it.is it.did.task parent.mount
   own_parent = ((and_parts _ _ reaches.0.there).0, reaches.0.seen)
 
   pub parent_there : is_some (node_at nat_eq world parent) ≡ true
   parent_there = (and_parts _ _ reaches.0.there).1
 
   -- Mounts
-  stays : (number : ℕ) → IsOn world is did.task number → is_going nat_eq gone number ≡ false
+  stays : (number : ℕ) → IsOn world it.is it.did.task number → is_going nat_eq gone number ≡ false
   stays number own =
       let root : Location ℕ = record { mount = number; node = (mount_numbered nat_eq world number).root } in
-      reached_stays world is did.task object root reaches.1 (is_reached world is did.task root
-      (own, directory_used (files_at nat_eq world root).tree root.node (mount_root world is number own.0)))
+      reached_stays world it.is it.did.task object root reaches.1 (is_reached world it.is it.did.task root
+      (own, directory_used (files_at nat_eq world root).tree root.node (mount_root world it.is number own.0)))
 
   closed : AreClosed world gone
   closed =
-      trees_closed world is.mounts.one_number ((standing_is_computed world is.mounts.one_number).0 is.mounts.standing)
+      trees_closed world it.is.mounts.one_number
+      ((standing_is_computed world it.is.mounts.one_number).0 it.is.mounts.standing)
       (mounts_on nat_eq world object)
 
   middle_plain : IsPlain middle
-  middle_plain = taken_plain world gone plain
+  middle_plain = taken_plain world gone it.plain
 
   does : spent ≡ with_change nat_eq fresh middle parent change
-  does = ap (λ p. (apply nat_eq fresh world did.task p).world) permit_is
+  does = ap (λ p. (apply nat_eq fresh world it.did.task p).world) permit_is
 
   living : left.mounts ≡ filter (mount_lives nat_eq spent) middle.mounts
-  living = ap (λ (w : World ℕ). w.mounts) did.left ∙ ap (filter (mount_lives nat_eq spent))
+  living = ap (λ (w : World ℕ). w.mounts) it.did.left ∙ ap (filter (mount_lives nat_eq spent))
       (ap (λ (w : World ℕ). w.mounts) does ∙ change_mounts fresh middle middle_plain parent change)
 
   attached_live : (mount : Mount ℕ) → is_some mount.namespace ≡ true → mount_lives nat_eq spent mount ≡ true
   attached_live mount e = ap (λ b. b || is_located nat_eq spent mount.number) e
 
   -- the caller is there still
-  pub caller : task_called left name ≡ Some (raised_task name did.task)
-  caller = still_called world fresh name call answer is plain serves other few did name did.task
+  pub caller : task_called left name ≡ Some (raised_task name it.did.task)
+  caller = still_called it name it.did.task
       (ap (λ w. task_called w name) does ∙ ap (find (λ (t : Task ℕ). same_name name t.name))
-      (change_tasks fresh middle middle_plain parent change ∙ tasks-taken_away world gone) ∙ did.called)
+      (change_tasks fresh middle middle_plain parent change ∙ tasks-taken_away world gone) ∙ it.did.called)
 
-  pub mounts_seen : (reader : Task ℕ) → reader.root ≡ did.task.root
-      → MountsSeen world left is plain is_left.0 is_left.1 did.task reader
+  pub mounts_seen : (reader : Task ℕ) → reader.root ≡ it.did.task.root
+      → MountsSeen world left it.is it.plain is_left.0 is_left.1 it.did.task reader
   mounts_seen reader roots = record {
-    own = own_mount world left is is_left.0 did.task gone closed (mount_lives nat_eq spent) living attached_live stays;
-    topmost_is = topmost_same world left is is_left.0 did.task gone closed
+    own = own_mount world left it.is is_left.0 it.did.task gone closed (mount_lives nat_eq spent) living attached_live
+        stays;
+    topmost_is = topmost_same world left it.is is_left.0 it.did.task gone closed
         (mount_lives nat_eq spent) living attached_live stays;
-    top_is = top_same world left is is_left.0 did.task gone closed
+    top_is = top_same world left it.is is_left.0 it.did.task gone closed
         (mount_lives nat_eq spent) living attached_live stays reader roots;
   }
 
@@ -183,14 +182,14 @@ module _ (world : World ℕ) (fresh : Fresh ℕ) (name : TaskName) (call : Call)
   pub node_left : (filesystem number : ℕ) → is_some (node_in left filesystem number) ≡ true
       → node_in left filesystem number ≡ node_in spent filesystem number
   node_left filesystem number there =
-      as_spent world fresh name call answer is plain serves other few did filesystem number there
+      as_spent it filesystem number there
 
   pub root_left : (filesystem number : ℕ) → is_some (node_in left filesystem number) ≡ true
       → (tree_in left filesystem).root ≡ (tree_in world filesystem).root
   root_left filesystem number there =
-      let files = later_files world fresh name call answer is plain serves other few did filesystem in
+      let files = later_files it filesystem in
       ap (λ (f : FileTree ℕ). f.tree.root) files ∙ root_settled spent
-      (spent_unsettled world fresh name call answer is plain serves other few did).files.one_filesystem filesystem
+      (spent_unsettled it).files.one_filesystem filesystem
       number (ap (λ (f : FileTree ℕ). is_some (f.tree.node number)) (sym files) ∙ there) ∙ (each filesystem).root
 
   pub rights_left : (filesystem number : ℕ) → is_some (node_in left filesystem number) ≡ true

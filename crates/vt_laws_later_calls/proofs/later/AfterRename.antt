@@ -1,6 +1,6 @@
 -- The world that a granted rename leaves: the object has its new name and what it had, and no mount stands on it.
 use Rattle.std.proofs.Common.{arith, ◌≡◌, ◌≢◌, refl, sym, ap, subst, ◌∙◌, true≢false, ℕ, nat_eq, eq-eqb, ne_eqb, Bool, true, false, cond, ◌&&◌, ◌||◌, List, [], length, filter, find, Option, Some, None, is_some, option_map, unwrap_or, bytes_eq}
-use Rattle.vt_spec.proofs.Common.{Among, Answer, Call, Change, FileTree, Filesystem, Fresh, IsWorld, Location, Mount, Move, Serves, TaskName, ToRename, World, among-filter, among-from_filter, among_from_list_all, and_from, any_from_among, apply, bytes_decides, changed, child_at, common_steps, directory_from_entry, directory_used, entries_in, entry_at, entry_named, files_at, filesystem_at, filesystem_numbered, filesystems-without_replaced, is_among, is_directory_node, is_mount_point_anywhere, is_nowhere_or_attached, is_point, list_any, looks_of, mount_at, mount_lives, mount_numbered, mounts_on, no_filesystem, number-mount_in, points_of, policy, root_of, shown-without_replaced, stands_at, topmost, with_change, without_replaced}
+use Rattle.vt_spec.proofs.Common.{Among, Answer, Call, Change, FileTree, Filesystem, Fresh, IsWorld, Location, Mount, Move, TaskName, ToRename, World, among-filter, among-from_filter, among_from_list_all, and_from, any_from_among, apply, bytes_decides, changed, child_at, common_steps, directory_from_entry, directory_used, entries_in, entry_at, entry_named, files_at, filesystem_at, filesystem_numbered, filesystems-without_replaced, is_among, is_directory_node, is_mount_point_anywhere, is_nowhere_or_attached, is_point, list_any, looks_of, mount_at, mount_lives, mount_numbered, mounts_on, no_filesystem, number-mount_in, points_of, policy, root_of, shown-without_replaced, stands_at, topmost, with_change, without_replaced}
 use Rattle.vt_laws_mounts.proofs.letting_go.leaving.PlacesLeft.{nowhere_parts}
 use Rattle.vt_laws_trees.specs.Layers.Layers.Untouched.{IsKept}
 use Rattle.vt_laws_trees.proofs.layers.layers.LowersKept.{kept_both, kept_same, others_stay}
@@ -18,15 +18,13 @@ use Rattle.vt_laws_worlds.proofs.permits.sees.SeesNames.{tree_here}
 use Rattle.vt_laws_worlds.proofs.permits.sees.SeesTasks.{given_permits_are_seen_to}
 use Rattle.vt_laws_mounts.specs.LettingGo.Unmounting.{numbers_of_trees}
 use Rattle.vt_laws_trees.specs.Trees.{IsFileTree}
-use Rattle.vt_laws_trees.specs.Trees.Calls.{mounts_overlay}
-use Rattle.vt_laws_trees.specs.Trees.Limits.{names_few_groups}
 use Rattle.vt_laws_trees.proofs.trees.TreesOfWorlds.{number_numbered}
 use Rattle.vt_laws_worlds.specs.Worlds.Kept.{IsPlain}
 use Rattle.vt_laws_worlds.proofs.worlds.PermitsSeen.{replaced_plain}
 use Rattle.vt_laws_worlds.proofs.worlds.SeenTrees.{change_mounts}
 use Rattle.vt_laws_later_calls.proofs.AfterChange.{as_spent, later_is}
 use Rattle.vt_laws_later_calls.proofs.Changed.{files_changed}
-use Rattle.vt_laws_later_calls.proofs.Granted.{IsPermitted}
+use Rattle.vt_laws_later_calls.proofs.Granted.{HasSucceeded}
 use Rattle.vt_laws_later_calls.proofs.OpenedNew.{given_of}
 use Rattle.vt_laws_later_calls.proofs.later.WaysMounts.{placed_before, stops}
 use Rattle.vt_laws_later_calls.proofs.WaysStay.{node_in, tree_in}
@@ -69,18 +67,16 @@ module _ (world : World ℕ) (is : IsWorld nat_eq world) (object : Location ℕ)
           let found = found_in (stands_at nat_eq place) world.mounts mount e in
           absurd (none_on_it mount place found.0 (stands_there place mount found.1) same node)
 
-module _ (world : World ℕ) (fresh : Fresh ℕ) (name : TaskName) (call : Call) (answer : Answer)
-    (is : IsWorld nat_eq world) (plain : IsPlain world) (serves : Serves nat_eq world fresh)
-    (other : mounts_overlay call ≡ false) (few : names_few_groups call ≡ true)
-    (did : IsPermitted world fresh name call answer) (from : Location ℕ) (old : List ℕ) (to : Location ℕ) (new : List ℕ)
-    (object : Location ℕ) (replaced : Option (Location ℕ))
-    (permit_is : did.permit ≡ ToRename from old to new object replaced)
+module _ {world : World ℕ} {fresh : Fresh ℕ} {name : TaskName} {call : Call} {answer : Answer}
+    (it : HasSucceeded world fresh name call answer) {from : Location ℕ} {old : List ℕ}
+    {to : Location ℕ} {new : List ℕ} {object : Location ℕ} {replaced : Option (Location ℕ)}
+    (permit_is : it.did.permit ≡ ToRename from old to new object replaced)
     (uncovered : is_mount_point_anywhere (looks_of nat_eq world) object ≡ false) where
   abbrev pub left : World ℕ
   left = (policy nat_eq fresh world name call).world
 
   abbrev spent : World ℕ
-  spent = (apply nat_eq fresh world did.task did.permit).world
+  spent = (apply nat_eq fresh world it.did.task it.did.permit).world
 
   abbrev middle : World ℕ
   middle = without_replaced nat_eq world replaced
@@ -92,18 +88,19 @@ module _ (world : World ℕ) (fresh : Fresh ℕ) (name : TaskName) (call : Call)
   shown = (mount_at nat_eq world from).filesystem
 
   pub is_left : IsWorld nat_eq left × IsPlain left
-  is_left = later_is world fresh name call answer is plain serves other few did
+  is_left = later_is it
 
   pub may : MayBeRenamed world from old to new object replaced
-  may = subst (SeesTo world did.task) permit_is (given_permits_are_seen_to world fresh did.task did.permit is
-      (given_of world fresh name call answer serves other few did))
+  may = subst (SeesTo world it.did.task) permit_is
+      (given_permits_are_seen_to world fresh it.did.task it.did.permit it.is
+      (given_of world fresh name call answer it.serves it.other it.few it.did))
 
   from_directory : is_directory_node ((files_at nat_eq world from).tree.node from.node) ≡ true
   from_directory =
       directory_from_entry old object.node ((files_at nat_eq world from).tree.node from.node) may.moves.named
 
   tree : IsFileTree (files_at nat_eq world from)
-  tree = tree_here world is from from_directory
+  tree = tree_here world it.is from from_directory
 
   pub object_shown : (mount_at nat_eq world object).filesystem ≡ shown
   object_shown = ap (λ m. (mount_numbered nat_eq world m).filesystem) may.object_mount
@@ -113,7 +110,7 @@ module _ (world : World ℕ) (fresh : Fresh ℕ) (name : TaskName) (call : Call)
 
   -- Filesystems
   middle_plain : IsPlain middle
-  middle_plain = replaced_plain world replaced plain
+  middle_plain = replaced_plain world replaced it.plain
 
   middle_files : files_at nat_eq middle from ≡ files_at nat_eq world from
   middle_files = ap (λ n. (filesystem_numbered nat_eq middle n).files) (shown-without_replaced world replaced from)
@@ -121,7 +118,7 @@ module _ (world : World ℕ) (fresh : Fresh ℕ) (name : TaskName) (call : Call)
       (filesystems-without_replaced world replaced)
 
   does : spent ≡ with_change nat_eq fresh middle from change
-  does = ap (λ p. (apply nat_eq fresh world did.task p).world) permit_is
+  does = ap (λ p. (apply nat_eq fresh world it.did.task p).world) permit_is
 
   spent_shown : (filesystem_numbered nat_eq spent shown).files ≡ changed nat_eq (files_at nat_eq world from) change
   spent_shown = ap (λ w. (filesystem_numbered nat_eq w shown).files) does
@@ -133,7 +130,7 @@ module _ (world : World ℕ) (fresh : Fresh ℕ) (name : TaskName) (call : Call)
 
   node_left : (number : ℕ) → is_some (node_in left shown number) ≡ true
       → node_in left shown number ≡ (changed nat_eq (files_at nat_eq world from) change).tree.node number
-  node_left number there = as_spent world fresh name call answer is plain serves other few did shown number there
+  node_left number there = as_spent it shown number there
       ∙ ap (λ (f : FileTree ℕ). f.tree.node number) spent_shown
 
   entry_left : (directory : ℕ) (word : List ℕ) → is_some (node_in left shown directory) ≡ true
@@ -184,7 +181,7 @@ module _ (world : World ℕ) (fresh : Fresh ℕ) (name : TaskName) (call : Call)
 
   -- Mounts
   living : left.mounts ≡ filter (mount_lives nat_eq spent) middle.mounts
-  living = ap (λ (w : World ℕ). w.mounts) did.left ∙ ap (filter (mount_lives nat_eq spent))
+  living = ap (λ (w : World ℕ). w.mounts) it.did.left ∙ ap (filter (mount_lives nat_eq spent))
       (ap (λ (w : World ℕ). w.mounts) does ∙ change_mounts fresh middle middle_plain from change)
 
   in_middle : (mount : Mount ℕ) → Among mount left.mounts → Among mount middle.mounts
@@ -198,16 +195,16 @@ module _ (world : World ℕ) (fresh : Fresh ℕ) (name : TaskName) (call : Call)
       by : (o : Option (Location ℕ)) → Among mount (without_replaced nat_eq world o).mounts
           → (was : Mount ℕ) × Among was world.mounts × (was.mount_point ≡ Some place)
       by None among = (mount, among, e)
-      by (Some gone) among = placed_before world is (numbers_of_trees world (mounts_on nat_eq world gone))
-          (trees_closed world is.mounts.one_number
-          ((standing_is_computed world is.mounts.one_number).0 is.mounts.standing) (mounts_on nat_eq world gone))
+      by (Some gone) among = placed_before world it.is (numbers_of_trees world (mounts_on nat_eq world gone))
+          (trees_closed world it.is.mounts.one_number
+          ((standing_is_computed world it.is.mounts.one_number).0 it.is.mounts.standing) (mounts_on nat_eq world gone))
           mount place among e
 
   pub left_mount : (number : ℕ) → is_among nat_eq number (numbers_of left.mounts) ≡ true
       → (mount_numbered nat_eq left number).filesystem ≡ (mount_numbered nat_eq world number).filesystem
   left_mount number listed = ap (λ (m : Mount ℕ). m.filesystem)
       (sym (ap (mount_numbered nat_eq middle) (sym (number-mount_in left.mounts number))
-      ∙ found_itself middle.mounts (replaced_keeps_mounts world replaced is.mounts).one_number
+      ∙ found_itself middle.mounts (replaced_keeps_mounts world replaced it.is.mounts).one_number
       (mount_numbered nat_eq left number)
       (in_middle (mount_numbered nat_eq left number) (found_there left.mounts number listed))))
       ∙ shown-without_replaced world replaced (record { mount = number; node = 0 })
@@ -226,5 +223,5 @@ module _ (world : World ℕ) (fresh : Fresh ℕ) (name : TaskName) (call : Call)
       by (Some mount) e =
           let found = found_in (stands_at nat_eq place) left.mounts mount e in
           let was = placed_in_world mount place found.0 (stands_there place mount found.1) in
-          absurd (none_on_it world is object uncovered was.0 place was.1 was.2
+          absurd (none_on_it world it.is object uncovered was.0 place was.1 was.2
           (sym (left_mount place.mount listed) ∙ same ∙ sym object_shown) node)

@@ -1,6 +1,6 @@
 -- A name that open made exists.
 use Rattle.std.proofs.Common.{arith, ◌≡◌, refl, sym, ap, subst, ◌∙◌, inl, inr, ◌⊎◌, ℕ, nat_eq, nat_le, length, eqb-true, true, false, List, [], ◌∷◌, Option, Some, None, is_some, option_map, Result, Ok, Err, find, reverse}
-use Rattle.vt_spec.proofs.Common.{Access, Answer, Call, Change, Credentials, Exclusive, FileTree, Fresh, IsWorld, Judgement, Location, Looks, Make, Named, Node, NoneFails, OpenFile, Opened, Place, Rules, Serves, Stop, Task, TaskName, World, after, and_then, answer-finished_by, apply, changed, common_steps, contains_from_among, denial, directory_used, ends_in_slash, entries_in, entry_location, entry_named, execute_right, files_at, filesystem_numbered, final_word, found_among, is_directory_at, is_directory_node, is_special, last_word, looks_of, most_descriptors, mount_at, name_of, new_file, new_walk, node_allows, node_at, odds, open_new_permit, open_permit, passed, place_walk, placed, policy, raised_task, same_Some, same_name, search_rules, settled, steps_at, stopped_by, task_called, then_walk, unless, walk_start, walk_unless, with_descriptor, with_new_inode, with_task, words, words_walked}
+use Rattle.vt_spec.proofs.Common.{Access, Answer, Call, Change, Credentials, Exclusive, FileTree, Fresh, IsWorld, Judgement, Location, Looks, Make, Named, Node, NoneFails, OpenFile, Opened, Place, Rules, Stop, Task, TaskName, World, after, and_then, answer-finished_by, apply, changed, common_steps, contains_from_among, denial, directory_used, ends_in_slash, entries_in, entry_location, entry_named, execute_right, files_at, filesystem_numbered, final_word, found_among, is_directory_at, is_directory_node, is_special, last_word, looks_of, most_descriptors, mount_at, name_of, new_file, new_walk, node_allows, node_at, odds, open_new_permit, open_permit, passed, place_walk, placed, policy, raised_task, same_Some, same_name, search_rules, settled, steps_at, stopped_by, task_called, then_walk, unless, walk_start, walk_unless, with_descriptor, with_new_inode, with_task, words, words_walked}
 use Rattle.vt_spec.specs.declared.errors.Deny.{Deny}
 use Rattle.vt_spec.specs.declared.errors.Rule.TheVariants.{E1, W4}
 use Rattle.vt_spec.specs.Machine.Looks as Look
@@ -22,7 +22,7 @@ use Rattle.vt_laws_worlds.proofs.worlds.SeenTrees.{change_mounts, change_tasks, 
 use Rattle.vt_laws_later_calls.specs.LaterPaths.{ExclusiveTwice}
 use Rattle.vt_laws_later_calls.proofs.AfterChange.{later_files, later_is, listed, spent}
 use Rattle.vt_laws_later_calls.proofs.Changed.{files_changed, files_other}
-use Rattle.vt_laws_later_calls.proofs.Granted.{IsPermitted, permitted}
+use Rattle.vt_laws_later_calls.proofs.Granted.{HasSucceeded, permitted}
 use Rattle.vt_laws_later_calls.proofs.Looked.{search_all}
 use Rattle.vt_laws_later_calls.proofs.MadeSeen.{Never, new_parts}
 use Rattle.vt_laws_later_calls.proofs.Opened.{called_replaced}
@@ -32,7 +32,7 @@ use Rattle.vt_laws_later_calls.proofs.Stays.{called_own, still_called}
 use Rattle.vt_laws_later_calls.proofs.Ways.{LeadsToo, Stops, at, search_too}
 use Rattle.vt_laws_later_calls.proofs.WaysChanges.{RightsStay, TreeStays, made_entry, rights_made, ways_made}
 use Rattle.vt_laws_later_calls.proofs.WaysPlaces.{NamedPlace, front_too, named_place, through}
-use Rattle.vt_laws_later_calls.proofs.WaysStay.{Known, StandsAs, WorldStays, node_here, node_in, tree_in, world_leads}
+use Rattle.vt_laws_later_calls.proofs.WaysStay.{Known, SeesLater, StandsAs, WorldStays, node_here, node_in, tree_in, world_leads}
 
 -- A world in which one filesystem shows another tree
 module _ (world later : World ℕ) (shown : ℕ) (files : FileTree ℕ) (mounts : later.mounts ≡ world.mounts)
@@ -185,12 +185,10 @@ unfolding open_permit
 exclusive_refused world fresh name task path access mode place called room walk named no_slash there =
     grind (arith, common_steps, there, answer-finished_by)
 
-module _ (path : List ℕ) (world : World ℕ) (fresh : Fresh ℕ) (name : TaskName) (task : Task ℕ) (access : Access)
-    (mode number : ℕ) (is : IsWorld nat_eq world) (plain : IsPlain world) (serves : Serves nat_eq world fresh)
-    (called : task_called world name ≡ Some task)
-    (did : IsPermitted world fresh name (OpenFile path access (Exclusive mode)) (Opened number)) (place : Place ℕ)
-    (walk : new_walk nat_eq (looks_of nat_eq world) did.task path ≡ Ok place) (named : is_special place.last ≡ false)
-    (no_slash : place.slash ≡ false) (permit : did.permit ≡ open_new_permit did.task place access mode) where
+module _ {path : List ℕ} {world : World ℕ} {fresh : Fresh ℕ} {name : TaskName} {access : Access} {mode number : ℕ}
+    (it : HasSucceeded world fresh name (OpenFile path access (Exclusive mode)) (Opened number)) {place : Place ℕ}
+    (walk : new_walk nat_eq (looks_of nat_eq world) it.did.task path ≡ Ok place) (named : is_special place.last ≡ false)
+    (no_slash : place.slash ≡ false) (permit : it.did.permit ≡ open_new_permit it.did.task place access mode) where
   abbrev call : Call
   call = OpenFile path access (Exclusive mode)
 
@@ -198,7 +196,7 @@ module _ (path : List ℕ) (world : World ℕ) (fresh : Fresh ℕ) (name : TaskN
   later = (policy nat_eq fresh world name call).world
 
   abbrev node : Node ℕ
-  node = new_file did.task mode []
+  node = new_file it.did.task mode []
 
   abbrev parent : Location ℕ
   parent = place.parent
@@ -213,63 +211,64 @@ module _ (path : List ℕ) (world : World ℕ) (fresh : Fresh ℕ) (name : TaskN
   base = with_new_inode nat_eq fresh world parent entry node
 
   abbrev new_task : Task ℕ
-  new_task = with_descriptor did.task (record { mount = parent.mount; node = fresh 0 }) access
+  new_task = with_descriptor it.did.task (record { mount = parent.mount; node = fresh 0 }) access
 
-  own : task_called world did.task.name ≡ Some did.task
-  own = called_own world fresh name call (Opened number) is plain serves refl refl did
+  own : task_called world it.did.task.name ≡ Some it.did.task
+  own = called_own it
 
   may : MayBeMade world parent entry node
-  may = (subst (SeesTo world did.task) permit
-      (given_permits_are_seen_to world fresh did.task did.permit is (given_of world fresh name call
-      (Opened number) serves refl refl did))).0
+  may = (subst (SeesTo world it.did.task) permit
+      (given_permits_are_seen_to world fresh it.did.task it.did.permit it.is (given_of world fresh name call
+      (Opened number) it.serves refl refl it.did))).0
 
   something : is_some (node_at nat_eq world parent) ≡ true
   something = directory_used (files_at nat_eq world parent).tree parent.node may.name_is_free.in_directory
 
   tree : IsFileTree (files_at nat_eq world parent)
-  tree = tree_here world is parent may.name_is_free.in_directory
+  tree = tree_here world it.is parent may.name_is_free.in_directory
 
   new : (files_at nat_eq world parent).tree.node (fresh 0) ≡ None
-  new = unused_inode world fresh serves is.files.numbers 0 (mount_at nat_eq world parent).filesystem
+  new = unused_inode world fresh it.serves it.is.files.numbers 0 (mount_at nat_eq world parent).filesystem
 
   after_tree : IsListedTree (changed nat_eq (files_at nat_eq world parent) change)
   after_tree = record {
     tree = changes_keep_trees (files_at nat_eq world parent) change tree.tree
-        (given_changes_are_proper world fresh did.task did.permit parent change is
-        (given_of world fresh name call (Opened number) serves refl refl did) (ap (change_of fresh world) permit)).0;
+        (given_changes_are_proper world fresh it.did.task it.did.permit parent change it.is
+        (given_of world fresh name call (Opened number) it.serves refl refl it.did)
+        (ap (change_of fresh world) permit)).0;
     numbers = changes_keep_numbers (files_at nat_eq world parent) change tree.numbers;
   }
 
-  spent_is : spent world fresh name call (Opened number) is plain serves refl refl did ≡ with_task base new_task
-  spent_is = ap (λ p. (apply nat_eq fresh world did.task p).world) permit
+  spent_is : spent it ≡ with_task base new_task
+  spent_is = ap (λ p. (apply nat_eq fresh world it.did.task p).world) permit
 
-  settles : settled nat_eq (spent world fresh name call (Opened number) is plain serves refl refl did)
+  settles : settled nat_eq (spent it)
       ≡ with_task base new_task
-  settles = ap (λ p. settled nat_eq (apply nat_eq fresh world did.task p).world) permit
-      ∙ opened_new_keeps_all fresh world did.task parent entry node access
-      (worlds_are_settled world is) is.files.one_filesystem
-      is.tasks.one_task (contains_from_among world.tasks did.task (found_among (λ
-      (t : Task ℕ). same_name name t.name) world.tasks did.task did.called))
+  settles = ap (λ p. settled nat_eq (apply nat_eq fresh world it.did.task p).world) permit
+      ∙ opened_new_keeps_all fresh world it.did.task parent entry node access
+      (worlds_are_settled world it.is) it.is.files.one_filesystem
+      it.is.tasks.one_task (contains_from_among world.tasks it.did.task (found_among (λ
+      (t : Task ℕ). same_name name t.name) world.tasks it.did.task it.did.called))
       (listed (mount_at nat_eq world parent).filesystem world.filesystems parent.node something)
-      (ap is_some (plain_numbered world plain (mount_at nat_eq world parent).filesystem)) after_tree
+      (ap is_some (plain_numbered world it.plain (mount_at nat_eq world parent).filesystem)) after_tree
       (record { in_directory = may.name_is_free.in_directory; is_new = new }) may.name_is_free.free
 
   mounts_stay : later.mounts ≡ world.mounts
-  mounts_stay = ap (λ (w : World ℕ). w.mounts) did.left ∙ ap (λ (w : World ℕ). w.mounts) settles
-      ∙ change_mounts (odds fresh) world plain parent change
+  mounts_stay = ap (λ (w : World ℕ). w.mounts) it.did.left ∙ ap (λ (w : World ℕ). w.mounts) settles
+      ∙ change_mounts (odds fresh) world it.plain parent change
 
   files_stay : (n : ℕ) → (filesystem_numbered nat_eq later n).files ≡ (filesystem_numbered nat_eq base n).files
-  files_stay n = later_files world fresh name call (Opened number) is plain serves refl refl did n
+  files_stay n = later_files it n
       ∙ ap (λ w. (filesystem_numbered nat_eq w n).files) settles
 
   here_files : (filesystem_numbered nat_eq later (mount_at nat_eq world parent).filesystem).files ≡ changed nat_eq
       (files_at nat_eq world parent) change
   here_files = files_stay (mount_at nat_eq world parent).filesystem
-      ∙ files_changed (odds fresh) world plain parent change something
+      ∙ files_changed (odds fresh) world it.plain parent change something
 
   other_files : (n : ℕ) → nat_eq (mount_at nat_eq world parent).filesystem n ≡ false
       → (filesystem_numbered nat_eq later n).files ≡ (filesystem_numbered nat_eq world n).files
-  other_files n other = files_stay n ∙ files_other (odds fresh) world plain parent change n other
+  other_files n other = files_stay n ∙ files_other (odds fresh) world it.plain parent change n other
 
   stays : WorldStays world later Never
   stays = stays_by world later (mount_at nat_eq world parent).filesystem
@@ -278,42 +277,52 @@ module _ (path : List ℕ) (world : World ℕ) (fresh : Fresh ℕ) (name : TaskN
       (fresh 0) may.name_is_free.in_directory may.name_is_free.free node new)
 
   is_later : IsWorld nat_eq later × IsPlain later
-  is_later = later_is world fresh name call (Opened number) is plain serves refl refl did
+  is_later = later_is it
 
   caller_there : task_called later name ≡ Some (raised_task name new_task)
-  caller_there = still_called world fresh name call (Opened number) is plain serves refl refl did name new_task
-      (ap (λ w. task_called w name) spent_is ∙ called_replaced base name did.task new_task
-      (ap (find (λ (t : Task ℕ). same_name name t.name)) (change_tasks (odds fresh) world plain parent change)
-      ∙ did.called) (sym (name_found world name did.task did.called)))
+  caller_there = still_called it name new_task
+      (ap (λ w. task_called w name) spent_is ∙ called_replaced base name it.did.task new_task
+      (ap (find (λ (t : Task ℕ). same_name name t.name)) (change_tasks (odds fresh) world it.plain parent change)
+      ∙ it.did.called) (sym (name_found world name it.did.task it.did.called)))
 
   again_refused : (reader : TaskName) (reading : Task ℕ) → task_called later reader ≡ Some reading
-      → StandsAs did.task reading
-      → MayLook did.task reading → nat_le most_descriptors (length reading.descriptors) ≡ false
+      → StandsAs it.did.task reading
+      → MayLook it.did.task reading → nat_le most_descriptors (length reading.descriptors) ≡ false
       → (again : Access) (other : ℕ) → (later_fresh : Fresh ℕ)
       → (policy nat_eq later_fresh later reader (OpenFile path again (Exclusive other))).answer ≡ Err (denial E1)
   again_refused reader reading found stands looks room again other later_fresh = by
-      (place_too (looks_of nat_eq world) (looks_of nat_eq later) did.task reading Never _ leads path place named
-      (named_place (looks_of nat_eq world) did.task path place
-      (new_parts (looks_of nat_eq world) did.task path place walk) named)
+      (place_too (looks_of nat_eq world) (looks_of nat_eq later) it.did.task reading Never _ leads path place named
+      (named_place (looks_of nat_eq world) it.did.task path place
+      (new_parts (looks_of nat_eq world) it.did.task path place walk) named)
       (Some (record { mount = parent.mount; node = fresh 0 })) there)
     where
       self : task_called later reading.name ≡ Some reading
       self = own_name later reader reading found
 
+      both : SeesLater world later it.did.task reading Never
+      both = record {
+        is = it.is;
+        plain = it.plain;
+        is_later = is_later.0;
+        plain_later = is_later.1;
+        called = own;
+        called_later = self;
+        stands = stands;
+        stay = stays;
+      }
+
       at_node : (here : Location ℕ) → node_at nat_eq later here
           ≡ node_in later (mount_at nat_eq world here).filesystem here.node
       at_node here =
-          node_here world later is plain is_later.0 is_later.1 did.task reading own self stands Never stays here
+          node_here both here
 
-      leads : LeadsToo (looks_of nat_eq world) (looks_of nat_eq later) did.task reading Never
-          (Known world later is plain is_later.0 is_later.1 did.task reading own
-          (own_name later reader reading found) stands Never stays)
-      leads = world_leads world later is plain is_later.0 is_later.1 did.task reading own self stands Never stays
+      leads : LeadsToo (looks_of nat_eq world) (looks_of nat_eq later) it.did.task reading Never
+          (Known both)
+      leads = world_leads both
           (λ here known directory e. inl (searched here known directory e looks))
         where
-          searched : (here : Location ℕ) → Known world later is plain is_later.0 is_later.1 did.task reading own
-              (own_name later reader reading found) stands Never stays here → is_directory_at nat_eq world here ≡ true
-              → Look.may (looks_of nat_eq world) did.task here execute_right ≡ true → MayLook did.task reading
+          searched : (here : Location ℕ) → Known both here → is_directory_at nat_eq world here ≡ true
+              → Look.may (looks_of nat_eq world) it.did.task here execute_right ≡ true → MayLook it.did.task reading
               → Look.may (looks_of nat_eq later) reading here execute_right ≡ true
           searched here known directory e (inr all) = search_all reading.credentials all (node_at nat_eq later here)
               (ap is_directory_node (at_node here)
@@ -321,15 +330,14 @@ module _ (path : List ℕ) (world : World ℕ) (fresh : Fresh ℕ) (name : TaskN
               (ap is_some (sym (at_node here)) ∙ known.1.1) ∙ directory)
           searched here known directory e (inl same) =
               ap (λ who. node_allows who execute_right (node_at nat_eq later here)) same
-              ∙ ap (node_allows did.task.credentials execute_right) (at_node here)
+              ∙ ap (node_allows it.did.task.credentials execute_right) (at_node here)
               ∙ rights_by world later (mount_at nat_eq world parent).filesystem (changed nat_eq
               (files_at nat_eq world parent) change) mounts_stay here_files other_files
               (rights_made (files_at nat_eq world parent) Never parent.node entry
               (fresh 0) may.name_is_free.in_directory may.name_is_free.free node new)
-              (mount_at nat_eq world here).filesystem here.node execute_right did.task.credentials known.0.1 ∙ e
+              (mount_at nat_eq world here).filesystem here.node execute_right it.did.task.credentials known.0.1 ∙ e
 
-      there : Known world later is plain is_later.0 is_later.1 did.task reading own
-          (own_name later reader reading found) stands Never stays parent
+      there : Known both parent
           → entry_location nat_eq (looks_of nat_eq later) parent entry
           ≡ Some (record { mount = parent.mount; node = fresh 0 })
       there known = ap (λ o. option_map {U = Location ℕ} (λ object. record { mount = parent.mount; node = object })
@@ -354,40 +362,44 @@ module _ (path : List ℕ) (world : World ℕ) (fresh : Fresh ℕ) (name : TaskN
 
 pub exclusive_twice : ExclusiveTwice
 exclusive_twice path world fresh name task access again mode other number is plain serves called granted = (
-  λ now there room later_fresh.
-      again_refused path world fresh name task access mode number is plain serves called did facts.0 facts.1 facts.2
-      facts.3 facts.4
-      name now there (subst (StandsAs did.task) (same_Some _ now (sym caller_here ∙ there)) raised_stands_so)
+  λ now there room later_fresh. again_refused it facts.1 facts.2 facts.3 facts.4
+      name now there (subst (StandsAs it.did.task) (same_Some _ now (sym caller_here ∙ there)) raised_stands_so)
       (inl (ap (λ (t : Task ℕ). t.credentials) (sym (same_Some _ now (sym caller_here ∙ there)))
-      ∙ raised_credentials name (with_descriptor did.task
+      ∙ raised_credentials name (with_descriptor it.did.task
       (record { mount = facts.0.parent.mount; node = fresh 0 }) access))) room again other later_fresh,
   λ reader reading looks room later_fresh.
-      again_refused path world fresh name task access mode number is plain serves called did facts.0 facts.1 facts.2
-      facts.3 facts.4 reader reading looks.called (subst (λ t. StandsAs t reading) (sym task_is)
+      again_refused it facts.1 facts.2 facts.3 facts.4 reader reading looks.called
+      (subst (λ t. StandsAs t reading) (sym task_is)
       (all_stands _ task reader reading looks)) (inr looks.all) room again other later_fresh,
 )
   where
-    did : IsPermitted world fresh name (OpenFile path access (Exclusive mode)) (Opened number)
-    did = permitted world fresh name (OpenFile path access (Exclusive mode)) (Opened number) refl granted
+    it : HasSucceeded world fresh name (OpenFile path access (Exclusive mode)) (Opened number)
+    it = record {
+      is = is;
+      plain = plain;
+      serves = serves;
+      other = refl;
+      few = refl;
+      did = permitted world fresh name (OpenFile path access (Exclusive mode)) (Opened number) refl granted;
+    }
 
-    task_is : did.task ≡ task
-    task_is = same_Some did.task task (sym did.called ∙ called)
+    task_is : it.did.task ≡ task
+    task_is = same_Some it.did.task task (sym it.did.called ∙ called)
 
-    facts : (place : Place ℕ) × (new_walk nat_eq (looks_of nat_eq world) did.task path ≡ Ok place)
+    facts : (place : Place ℕ) × (new_walk nat_eq (looks_of nat_eq world) it.did.task path ≡ Ok place)
         × (is_special place.last ≡ false)
-        × (place.slash ≡ false) × (did.permit ≡ open_new_permit did.task place access mode)
-    facts = exclusive_parts (looks_of nat_eq world) did.task path access mode did.permit did.granted
+        × (place.slash ≡ false) × (it.did.permit ≡ open_new_permit it.did.task place access mode)
+    facts = exclusive_parts (looks_of nat_eq world) it.did.task path access mode it.did.permit it.did.granted
 
     caller_here : task_called (policy nat_eq fresh world name (OpenFile path access (Exclusive mode))).world name
-        ≡ Some (raised_task name (with_descriptor did.task
+        ≡ Some (raised_task name (with_descriptor it.did.task
         (record { mount = facts.0.parent.mount; node = fresh 0 }) access))
     caller_here =
-        caller_there path world fresh name task access mode number is plain serves called did facts.0 facts.1 facts.2
-        facts.3 facts.4
+        caller_there it facts.1 facts.2 facts.3 facts.4
 
-    raised_stands_so : StandsAs did.task (raised_task name (with_descriptor did.task
+    raised_stands_so : StandsAs it.did.task (raised_task name (with_descriptor it.did.task
         (record { mount = facts.0.parent.mount; node = fresh 0 }) access))
     raised_stands_so =
         let raised = raised_stands name
-        (with_descriptor did.task (record { mount = facts.0.parent.mount; node = fresh 0 }) access) in
+        (with_descriptor it.did.task (record { mount = facts.0.parent.mount; node = fresh 0 }) access) in
         record { root = raised.root; directory = raised.directory }

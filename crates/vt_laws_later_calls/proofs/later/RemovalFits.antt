@@ -1,6 +1,6 @@
 -- After a granted rmdir ways up stay, but from the directory that was removed: there is W8, or no walk comes there.
 use Rattle.std.proofs.Common.{arith, ◌≡◌, ◌≢◌, refl, sym, ap, subst, ◌∙◌, inl, inr, ◌⊎◌, ⊎_elim, true≢false, ℕ, nat_eq, eqb-true, eq-eqb, Bool, true, false, not, ◌&&◌, ◌||◌, List, [], length, Some, None, is_some, option_map}
-use Rattle.vt_spec.proofs.Common.{Among, Answer, Call, FileTree, Fresh, IsWorld, Location, Mount, Serves, Task, TaskName, ToRemoveDirectory, Tree, World, among-filter, among_from_list_all, and_from, and_parts, any_from_among, child_at, common_steps, denial, directory_from_entry, directory_used, entries_in, entry_at, entry_named, files_at, filesystem_at, filesystem_numbered, holds_of, hop, is_directory_node, is_directory_under, is_lost, is_point, is_removed, list_any, mount_at, mount_numbered, mounts_on, node_at, none_is_not, not-false, of_overlay, or_false_left, or_parts, or_right, parent_in, parent_location, points_of, reached_named, root_of, same_Some, same_location, topmost, upper_points}
+use Rattle.vt_spec.proofs.Common.{Among, Answer, Call, FileTree, Fresh, IsWorld, Location, Mount, Task, TaskName, ToRemoveDirectory, Tree, World, among-filter, among_from_list_all, and_from, and_parts, any_from_among, child_at, common_steps, denial, directory_from_entry, directory_used, entries_in, entry_at, entry_named, files_at, filesystem_at, filesystem_numbered, holds_of, hop, is_directory_node, is_directory_under, is_lost, is_point, is_removed, list_any, mount_at, mount_numbered, mounts_on, node_at, none_is_not, not-false, of_overlay, or_false_left, or_parts, or_right, parent_in, parent_location, points_of, reached_named, root_of, same_Some, same_location, topmost, upper_points}
 use Rattle.vt_spec.specs.declared.errors.Deny.{Deny}
 use Rattle.vt_spec.specs.declared.errors.Rule.TheVariants.{W8}
 use Rattle.vt_laws_mounts.proofs.letting_go.leaving.PlacesLeft.{nowhere_parts}
@@ -8,80 +8,75 @@ use Rattle.vt_laws_mounts.proofs.mounts.MountsFound.{found_in, placed_among}
 use Rattle.vt_laws_mounts.proofs.mounts.MountsReplaced.{found_itself}
 use Rattle.vt_laws_worlds.proofs.permits.sees.SeesNames.{tree_here}
 use Rattle.vt_laws_trees.specs.Trees.{IsFileTree}
-use Rattle.vt_laws_trees.specs.Trees.Calls.{mounts_overlay}
-use Rattle.vt_laws_trees.specs.Trees.Limits.{names_few_groups}
 use Rattle.vt_laws_trees.proofs.trees.TreesEntered.{chain_ends_at}
 use Rattle.vt_laws_trees.proofs.trees.TreesOfWorlds.{number_numbered}
 use Rattle.vt_laws_trees.proofs.trees.TreesReached.{not_removed_reached}
 use Rattle.vt_laws_worlds.specs.Worlds.Kept.{IsPlain}
 use Rattle.vt_laws_worlds.proofs.worlds.Reached.{IsFoundDirectory}
 use Rattle.vt_laws_later_calls.proofs.later.AfterRemoval.{each, is_left, left, may, mounts_seen, node_left, reaches, root_left, seen_to, shown, spent, spent_shown}
-use Rattle.vt_laws_later_calls.proofs.Granted.{IsPermitted}
+use Rattle.vt_laws_later_calls.proofs.Granted.{HasSucceeded}
 use Rattle.vt_laws_later_calls.proofs.later.WaysLeft.{BothAre, FitsWays, GoesUp, top}
 use Rattle.vt_laws_later_calls.proofs.later.WaysMounts.{SeenAlike, hop_known, hop_place}
 use Rattle.vt_laws_later_calls.proofs.later.WaysRemoved.{nothing_in_it, removed_alone, removed_name}
 use Rattle.vt_laws_later_calls.proofs.WaysStay.{mount_root, node_in, tree_in}
 use Rattle.vt_laws_later_calls.proofs.WaysTrees.{DirectoryNamesStay, KeepsAbove, present_later, under_later}
 
-module _ (world : World ℕ) (fresh : Fresh ℕ) (name : TaskName) (call : Call) (answer : Answer)
-    (is : IsWorld nat_eq world) (plain : IsPlain world) (serves : Serves nat_eq world fresh)
-    (other : mounts_overlay call ≡ false) (few : names_few_groups call ≡ true)
-    (did : IsPermitted world fresh name call answer) (parent : Location ℕ) (word : List ℕ) (object : Location ℕ)
-    (permit_is : did.permit ≡ ToRemoveDirectory parent word object) (reader : Task ℕ)
-    (roots : reader.root ≡ did.task.root) where
+module _ {world : World ℕ} {fresh : Fresh ℕ} {name : TaskName} {call : Call} {answer : Answer}
+    (it : HasSucceeded world fresh name call answer) {parent : Location ℕ} {word : List ℕ}
+    {object : Location ℕ} (permit_is : it.did.permit ≡ ToRemoveDirectory parent word object) (reader : Task ℕ)
+    (roots : reader.root ≡ it.did.task.root) where
   abbrev later : World ℕ
-  later = left world fresh name call answer is plain serves other few did parent word object permit_is
+  later = left it permit_is
 
   abbrev fs : ℕ
-  fs = shown world fresh name call answer is plain serves other few did parent word object permit_is
+  fs = shown it permit_is
 
   abbrev pub is_later : IsWorld nat_eq later × IsPlain later
-  is_later = is_left world fresh name call answer is plain serves other few did parent word object permit_is
+  is_later = is_left it permit_is
 
   abbrev spent_world : World ℕ
-  spent_world = spent world fresh name call answer is plain serves other few did parent word object permit_is
+  spent_world = spent it permit_is
 
   abbrev tree : Tree ℕ
   tree = (files_at nat_eq world parent).tree
 
   parent_directory : is_directory_node (tree.node parent.node) ≡ true
   parent_directory = directory_from_entry word object.node (tree.node parent.node)
-      (may world fresh name call answer is plain serves other few did parent word object permit_is).named
+      (may it permit_is).named
 
   file_tree : IsFileTree (files_at nat_eq world parent)
-  file_tree = tree_here world is parent parent_directory
+  file_tree = tree_here world it.is parent parent_directory
 
   -- the directory that was removed
   abbrev pub IsRemoved : Location ℕ → Type 0
   IsRemoved here = ((mount_at nat_eq world here).filesystem ≡ fs) × (here.node ≡ object.node)
 
   abbrev ends_at : Location ℕ → Bool
-  ends_at here = same_location nat_eq here did.task.root || nat_eq here.node (mount_at nat_eq world here).root
+  ends_at here = same_location nat_eq here it.did.task.root || nat_eq here.node (mount_at nat_eq world here).root
 
   -- it is not that, or `..` stays there
   abbrev pub IsOutside : Location ℕ → Type 0
   IsOutside here = IsRemoved here
-      → (same_location nat_eq here did.task.root || nat_eq here.node (mount_at nat_eq world here).root) ≡ true
+      → (same_location nat_eq here it.did.task.root || nat_eq here.node (mount_at nat_eq world here).root) ≡ true
 
   -- what has entries is not that
   not_above : (number : ℕ) (any : List ℕ) (next : ℕ) → number ≡ fs
       → entry_at (tree_in world number) object.node any ≡ Some next → ⊥
   not_above number any next same e = nothing_in_it (files_at nat_eq world parent) parent.node word object.node
-      (may world fresh name call answer is plain serves other few did parent word object permit_is) any next
+      (may it permit_is) any next
       (ap (λ n. entry_at (tree_in world n) object.node any) (sym same) ∙ e)
 
   not_root : object.node ≢ tree.root
   not_root same = file_tree.tree.root_unnamed parent.node word
-      ((may world fresh name call answer is plain serves other few did parent word object permit_is).named
-      ∙ ap Some same)
+      ((may it permit_is).named ∙ ap Some same)
 
-  module _ (here : Location ℕ) (known : BothAre world later is plain is_later.0 is_later.1 did.task reader here) where
+  module _ (here : Location ℕ)
+      (known : BothAre world later it.is it.plain is_later.0 is_later.1 it.did.task reader here) where
     abbrev number : ℕ
     number = (mount_at nat_eq world here).filesystem
 
     alike : SeenAlike (mount_at nat_eq world here) (mount_at nat_eq later here)
-    alike = (mounts_seen world fresh name call answer is plain serves other few did parent word object permit_is reader
-        roots).own here.mount known.0.0 known.1.0.0
+    alike = (mounts_seen it permit_is reader roots).own here.mount known.0.0 known.1.0.0
 
     files_here : files_at nat_eq later here ≡ (filesystem_numbered nat_eq later number).files
     files_here = ap (λ n. (filesystem_numbered nat_eq later n).files) alike.filesystem
@@ -91,17 +86,17 @@ module _ (world : World ℕ) (fresh : Fresh ℕ) (name : TaskName) (call : Call)
         ∙ directory_used (files_at nat_eq later here).tree here.node known.1.1
 
     as_spent : node_in later number here.node ≡ node_in spent_world number here.node
-    as_spent = node_left world fresh name call answer is plain serves other few did parent word object permit_is number
+    as_spent = node_left it permit_is number
         here.node there
 
     tree_later : IsFileTree (filesystem_numbered nat_eq later number).files
     tree_later = subst IsFileTree files_here (tree_here later is_later.0 here known.1.1)
 
     tree_before : IsFileTree (filesystem_numbered nat_eq world number).files
-    tree_before = tree_here world is here known.0.1
+    tree_before = tree_here world it.is here known.0.1
 
     root_same : (tree_in later number).root ≡ (tree_in world number).root
-    root_same = root_left world fresh name call answer is plain serves other few did parent word object permit_is number
+    root_same = root_left it permit_is number
         here.node there
 
     -- from it `..` leads nowhere
@@ -111,11 +106,10 @@ module _ (world : World ℕ) (fresh : Fresh ℕ) (name : TaskName) (call : Call)
         (mount_at nat_eq later here).root here.node))
         (ap (λ (f : FileTree ℕ). is_removed nat_eq f.tree here.node) files_here
         ∙ ap (is_removed nat_eq (tree_in later number)) removed.1
-        ∙ removed_alone (files_at nat_eq world parent) parent.node word object.node
-        (may world fresh name call answer is plain serves other few did parent word object permit_is)
+        ∙ removed_alone (files_at nat_eq world parent) parent.node word object.node (may it permit_is)
         (tree_in later number) (ap (λ n. node_in later number n) (sym removed.1) ∙ as_spent
         ∙ (λ i. node_in spent_world (removed.0 i) (removed.1 i)) ∙ ap (λ (f : FileTree ℕ). f.tree.node object.node)
-        (spent_shown world fresh name call answer is plain serves other few did parent word object permit_is))
+        (spent_shown it permit_is))
         (λ same. not_root (same ∙ root_same ∙ ap (λ n. (tree_in world n).root) removed.0)))
 
     -- from another one it leads where it led
@@ -128,11 +122,10 @@ module _ (world : World ℕ) (fresh : Fresh ℕ) (name : TaskName) (call : Call)
 
     names : DirectoryNamesStay Keeps (tree_in world number) (tree_in later number)
     names directory any next e is_one keeps now =
-        by ((each world fresh name call answer is plain serves other few did parent word object permit_is number).entry
-        directory any next e)
+        by ((each it permit_is number).entry directory any next e)
       where
         node : node_in later number directory ≡ node_in spent_world number directory
-        node = node_left world fresh name call answer is plain serves other few did parent word object permit_is number
+        node = node_left it permit_is number
             directory now
 
         by : (entry_at (tree_in spent_world number) directory any ≡ Some next)
@@ -142,11 +135,11 @@ module _ (world : World ℕ) (fresh : Fresh ℕ) (name : TaskName) (call : Call)
         by (inr lost) = absurd (keeps lost.1 lost.2)
 
     goes_up : Keeps here.node → is_lost nat_eq world here ≡ false
-        → GoesUp world later is plain is_later.0 is_later.1 did.task reader here
+        → GoesUp world later it.is it.plain is_later.0 is_later.1 it.did.task reader here
     goes_up keeps found = record {
       parent = ap (λ (f : FileTree ℕ). parent_in here.node (f.tree.node here.node)) files_here
           ∙ ap (parent_in here.node) as_spent
-          ∙ (each world fresh name call answer is plain serves other few did parent word object permit_is
+          ∙ (each it permit_is
           number).parents here.node keeps;
       not_lost = (λ i. is_removed nat_eq (files_here i).tree here.node
           || not (is_directory_under nat_eq (files_here i) (alike.root i) here.node))
@@ -196,10 +189,8 @@ module _ (world : World ℕ) (fresh : Fresh ℕ) (name : TaskName) (call : Call)
         (ap (λ (t : FileTree ℕ). entry_named any (entries_in (t.tree.node here.node))) files_here
         ∙ ap (λ o. entry_named any (entries_in o)) as_spent
         ∙ (λ i. entry_at (tree_in spent_world (same i)) (at i) (word_is i))
-        ∙ ap (λ (t : FileTree ℕ). entry_at t.tree parent.node word)
-        (spent_shown world fresh name call answer is plain serves other few did parent word object permit_is)
-        ∙ removed_name (files_at nat_eq world parent) parent.node word object.node
-        (may world fresh name call answer is plain serves other few did parent word object permit_is)) f
+        ∙ ap (λ (t : FileTree ℕ). entry_at t.tree parent.node word) (spent_shown it permit_is)
+        ∙ removed_name (files_at nat_eq world parent) parent.node word object.node (may it permit_is)) f
       where
         named : entry_at tree here.node any ≡ Some object.node
         named = ap (λ n. entry_at (tree_in world n) here.node any) (sym same) ∙ e
@@ -207,20 +198,20 @@ module _ (world : World ℕ) (fresh : Fresh ℕ) (name : TaskName) (call : Call)
         is_directory : is_directory_node (tree.node object.node) ≡ true
         is_directory =
             let seen =
-            seen_to world fresh name call answer is plain serves other few did parent word object permit_is in
+            seen_to it permit_is in
             ap (λ m. is_directory_node (node_in world (mount_numbered nat_eq world m).filesystem object.node))
             (sym seen.0) ∙ seen.2
 
         at : here.node ≡ parent.node
         at = sym (file_tree.tree.one_parent here.node any object.node named is_directory)
             ∙ file_tree.tree.one_parent parent.node word object.node
-            (may world fresh name call answer is plain serves other few did parent word object permit_is).named
+            (may it permit_is).named
             is_directory
 
         word_is : any ≡ word
         word_is =
             file_tree.tree.one_name parent.node any word object.node (ap (λ n. entry_at tree n any) (sym at) ∙ named)
-            (may world fresh name call answer is plain serves other few did parent word object permit_is).named
+            (may it permit_is).named
             is_directory
 
   -- Mounts
@@ -233,26 +224,26 @@ module _ (world : World ℕ) (fresh : Fresh ℕ) (name : TaskName) (call : Call)
       (λ a b out e. root_outside a b e) (length world.mounts) place place outside
 
   -- no mount of the task's namespace stands on it
-  place_outside : (a b : Location ℕ) → IsFoundDirectory world is did.task a → hop nat_eq world did.task a ≡ Some b
+  place_outside : (a b : Location ℕ) → IsFoundDirectory world it.is it.did.task a → hop nat_eq world it.did.task a
+      ≡ Some b
       → IsRemoved b → ⊥
   place_outside a b found e removed = true≢false
-      (sym (any_from_among (λ (m : Mount ℕ). holds_of (nat_eq did.task.namespace) m.namespace)
+      (sym (any_from_among (λ (m : Mount ℕ). holds_of (nat_eq it.did.task.namespace) m.namespace)
       (mounts_on nat_eq world object) mount
       (among-filter (λ (m : Mount ℕ). list_any (λ point. is_point nat_eq world point.0 point.1 m)
-      (points_of nat_eq world object)) world.mounts mount there on_it) own)
-      ∙ (reaches world fresh name call answer is plain serves other few did parent word object permit_is).1)
+      (points_of nat_eq world object)) world.mounts mount there on_it) own) ∙ (reaches it permit_is).1)
     where
       mount : Mount ℕ
       mount = mount_at nat_eq world a
 
       at : (mount_at nat_eq world a).mount_point ≡ Some b
-      at = hop_place world is did.task a b e
+      at = hop_place world it.is it.did.task a b e
 
       there : Among (mount_at nat_eq world a) world.mounts
       there = placed_among world.mounts a.mount b at
 
       same_mount : object.mount ≡ parent.mount
-      same_mount = (seen_to world fresh name call answer is plain serves other few did parent word object permit_is).0
+      same_mount = (seen_to it permit_is).0
 
       number_is : (mount_at nat_eq world b).filesystem ≡ (filesystem_at nat_eq world object).number
       number_is = removed.0 ∙ ap (λ m. (mount_numbered nat_eq world m).filesystem) (sym same_mount)
@@ -267,15 +258,15 @@ module _ (world : World ℕ) (fresh : Fresh ℕ) (name : TaskName) (call : Call)
           ∙ and_from _ _ (eq-eqb b.node object.node removed.1)
           (eq-eqb (mount_at nat_eq world b).filesystem (filesystem_at nat_eq world object).number number_is))
 
-      own : holds_of (nat_eq did.task.namespace) (mount_at nat_eq world a).namespace ≡ true
+      own : holds_of (nat_eq it.did.task.namespace) (mount_at nat_eq world a).namespace ≡ true
       own = grind (arith, common_steps, true≢false, at, nowhere_parts, among_from_list_all, there, and_parts)
 
-  top_outside : (here : Location ℕ) → IsFoundDirectory world is did.task here → IsOutside here
-      → IsOutside (top world later is plain is_later.0 is_later.1 did.task reader here)
+  top_outside : (here : Location ℕ) → IsFoundDirectory world it.is it.did.task here → IsOutside here
+      → IsOutside (top world later it.is it.plain is_later.0 is_later.1 it.did.task reader here)
   top_outside here found outside =
-      (chain_ends_at (λ (l : Location ℕ). IsFoundDirectory world is did.task l × IsOutside l)
-      (hop nat_eq world did.task)
-      (λ a b both e. (hop_known world is did.task a b both.0 e, λ removed. absurd (place_outside a b both.0 e removed)))
+      (chain_ends_at (λ (l : Location ℕ). IsFoundDirectory world it.is it.did.task l × IsOutside l)
+      (hop nat_eq world it.did.task) (λ a b both e.
+      (hop_known world it.is it.did.task a b both.0 e, λ removed. absurd (place_outside a b both.0 e removed)))
       (length world.mounts) here here (found, outside)).1
 
   -- So ways up stay, where no walk begins in it, or W8 may be the refusal
@@ -283,20 +274,22 @@ module _ (world : World ℕ) (fresh : Fresh ℕ) (name : TaskName) (call : Call)
     abbrev pub Fits : Location ℕ → Type 0
     Fits here = Refused (denial W8) ⊎ IsOutside here
 
-    up_fits : (here : Location ℕ) → BothAre world later is plain is_later.0 is_later.1 did.task reader here → Fits here
+    up_fits : (here : Location ℕ) → BothAre world later it.is it.plain is_later.0 is_later.1 it.did.task reader here
+        → Fits here
         → ends_at here ≡ false → is_lost nat_eq world here ≡ false
-        → (GoesUp world later is plain is_later.0 is_later.1 did.task reader here
+        → (GoesUp world later it.is it.plain is_later.0 is_later.1 it.did.task reader here
         × Fits (parent_location nat_eq world here)) ⊎ (Refused (denial W8) × (is_lost nat_eq later here ≡ true))
     up_fits here known fits not_top found =
         by (nat_eq (mount_at nat_eq world here).filesystem fs) (nat_eq here.node object.node) refl refl
       where
-        at_it : IsRemoved here → Fits here → (GoesUp world later is plain is_later.0 is_later.1 did.task reader here
+        at_it : IsRemoved here → Fits here
+            → (GoesUp world later it.is it.plain is_later.0 is_later.1 it.did.task reader here
             × Fits (parent_location nat_eq world here)) ⊎ (Refused (denial W8) × (is_lost nat_eq later here ≡ true))
         at_it removed (inl refused) = inr (refused, lost_there here known removed)
         at_it removed (inr outside) = absurd (true≢false (sym (outside removed) ∙ not_top))
 
         elsewhere : ((mount_at nat_eq world here).filesystem ≡ fs → here.node ≢ object.node)
-            → (GoesUp world later is plain is_later.0 is_later.1 did.task reader here
+            → (GoesUp world later it.is it.plain is_later.0 is_later.1 it.did.task reader here
             × Fits (parent_location nat_eq world here)) ⊎ (Refused (denial W8) × (is_lost nat_eq later here ≡ true))
         elsewhere keeps = inl (
           goes_up here known keeps found,
@@ -304,7 +297,7 @@ module _ (world : World ℕ) (fresh : Fresh ℕ) (name : TaskName) (call : Call)
         )
 
         by : (p q : Bool) → nat_eq (mount_at nat_eq world here).filesystem fs ≡ p → nat_eq here.node object.node ≡ q
-            → (GoesUp world later is plain is_later.0 is_later.1 did.task reader here
+            → (GoesUp world later it.is it.plain is_later.0 is_later.1 it.did.task reader here
             × Fits (parent_location nat_eq world here)) ⊎ (Refused (denial W8) × (is_lost nat_eq later here ≡ true))
         by true true e f = at_it (eqb-true _ _ e, eqb-true _ _ f) fits
         by true false e f = elsewhere (λ same same_node.
@@ -312,7 +305,7 @@ module _ (world : World ℕ) (fresh : Fresh ℕ) (name : TaskName) (call : Call)
         by false q e f = elsewhere (λ same same_node.
             absurd (true≢false (sym (eq-eqb (mount_at nat_eq world here).filesystem fs same) ∙ e)))
 
-    pub fits_ways : FitsWays world later is plain is_later.0 is_later.1 did.task reader Refused Fits
+    pub fits_ways : FitsWays world later it.is it.plain is_later.0 is_later.1 it.did.task reader Refused Fits
     fits_ways = record {
       named = λ here any next known fits e f. named here any next known e f fits;
       over = λ place own fits. over place fits;
@@ -321,7 +314,7 @@ module _ (world : World ℕ) (fresh : Fresh ℕ) (name : TaskName) (call : Call)
     }
       where
         named : (here : Location ℕ) (any : List ℕ) (next : ℕ)
-            → BothAre world later is plain is_later.0 is_later.1 did.task reader here
+            → BothAre world later it.is it.plain is_later.0 is_later.1 it.did.task reader here
             → entry_named any (entries_in (node_at nat_eq world here)) ≡ Some next
             → entry_named any (entries_in (node_at nat_eq later here)) ≡ Some next
             → Fits here → Fits (record { mount = here.mount; node = next })
@@ -334,7 +327,7 @@ module _ (world : World ℕ) (fresh : Fresh ℕ) (name : TaskName) (call : Call)
         over place (inl refused) = inl refused
         over place (inr outside) = inr (over_outside place outside)
 
-        hopped : (here : Location ℕ) → BothAre world later is plain is_later.0 is_later.1 did.task reader here
-            → Fits here → Fits (top world later is plain is_later.0 is_later.1 did.task reader here)
+        hopped : (here : Location ℕ) → BothAre world later it.is it.plain is_later.0 is_later.1 it.did.task reader here
+            → Fits here → Fits (top world later it.is it.plain is_later.0 is_later.1 it.did.task reader here)
         hopped here known (inl refused) = inl refused
         hopped here known (inr outside) = inr (top_outside here known.0 outside)

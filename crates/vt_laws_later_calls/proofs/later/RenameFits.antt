@@ -1,6 +1,6 @@
 -- After a granted rename of a directory to a free name walks that begin outside of it lead where they led.
 use Rattle.std.proofs.Common.{arith, ◌≡◌, ◌≢◌, refl, sym, ap, ◌∙◌, inl, inr, ◌⊎◌, true≢false, ℕ, nat_eq, eqb-true, eq-eqb, Bool, true, false, cond, List, [], ◌∷◌, ◌++◌, length, find, Option, Some, None, is_some, option_map, option_to_list}
-use Rattle.vt_spec.proofs.Common.{Among, Answer, Call, Change, Credentials, FileTree, Fresh, IsReached, IsWorld, Location, Move, Node, Serves, Task, TaskName, ToRename, Tree, World, allows, among_from_list_all, and_from, and_parts, apply, attr_in, bytes_in, changed, changed_node, child_at, common_steps, contains_from_among, denial, directory_from_entry, directory_used, entries_in, entry_at, entry_named, files_at, filesystem_numbered, found, hop, is_directory_node, is_directory_under, is_kind, is_mount_point_anywhere, is_nowhere_or_attached, led, led-append, list_all, looks_of, mount_at, node_allows, node_at, node_with_entry, node_with_parent, node_without_entry, none_is_not, parent-node_with_entry, parent-node_without_entry, parent_in, raised_task, root_of, same_Some, same_name, symlink_text, task_called, topmost, when, with_change, with_name, without_name, without_parent}
+use Rattle.vt_spec.proofs.Common.{Among, Answer, Call, Change, Credentials, FileTree, Fresh, IsReached, IsWorld, Location, Move, Node, Task, TaskName, ToRename, Tree, World, allows, among_from_list_all, and_from, and_parts, apply, attr_in, bytes_in, changed, changed_node, child_at, common_steps, contains_from_among, denial, directory_from_entry, directory_used, entries_in, entry_at, entry_named, files_at, filesystem_numbered, found, hop, is_directory_node, is_directory_under, is_kind, is_mount_point_anywhere, is_nowhere_or_attached, led, led-append, list_all, looks_of, mount_at, node_allows, node_at, node_with_entry, node_with_parent, node_without_entry, none_is_not, parent-node_with_entry, parent-node_without_entry, parent_in, raised_task, root_of, same_Some, same_name, symlink_text, task_called, topmost, when, with_change, with_name, without_name, without_parent}
 use Rattle.vt_spec.specs.declared.attributes.Kind.TheVariants.{Symlink}
 use Rattle.vt_spec.specs.declared.errors.Deny.{Deny}
 use Rattle.vt_spec.specs.declared.errors.Rule.TheVariants.{W6}
@@ -16,8 +16,6 @@ use Rattle.vt_laws_mounts.proofs.mounts.MountsReplaced.{found_itself}
 use Rattle.vt_laws_worlds.specs.Permits.Sees.{MayBeRenamed}
 use Rattle.vt_laws_worlds.proofs.permits.sees.SeesNames.{tree_here}
 use Rattle.vt_laws_trees.specs.Trees.{IsFileTree}
-use Rattle.vt_laws_trees.specs.Trees.Calls.{mounts_overlay}
-use Rattle.vt_laws_trees.specs.Trees.Limits.{names_few_groups}
 use Rattle.vt_laws_trees.proofs.trees.ChangesNodes.{elsewhere, part_stays}
 use Rattle.vt_laws_trees.proofs.trees.TreesAbove.{under_seen}
 use Rattle.vt_laws_trees.proofs.trees.TreesEntered.{chain_ends_at}
@@ -25,9 +23,9 @@ use Rattle.vt_laws_worlds.specs.Worlds.Kept.{IsPlain}
 use Rattle.vt_laws_worlds.proofs.worlds.Reached.{IsFoundDirectory}
 use Rattle.vt_laws_worlds.proofs.worlds.SeenTrees.{change_tasks}
 use Rattle.vt_laws_later_calls.specs.LaterNames.{StandsOutside, lies_in}
-use Rattle.vt_laws_later_calls.proofs.AfterChange.{all_stays, as_spent, in_each, later_files, later_mounts}
+use Rattle.vt_laws_later_calls.proofs.AfterChange.{ChangesTree, all_stays, as_spent, in_each, later_files, later_mounts}
 use Rattle.vt_laws_later_calls.proofs.later.AfterRename.{is_left, left, may, object_shown, shown}
-use Rattle.vt_laws_later_calls.proofs.Granted.{IsPermitted}
+use Rattle.vt_laws_later_calls.proofs.Granted.{HasSucceeded}
 use Rattle.vt_laws_later_calls.proofs.later.SettledRoots.{root_settled}
 use Rattle.vt_laws_later_calls.proofs.Stays.{spent_unsettled, still_called}
 use Rattle.vt_laws_later_calls.proofs.WaysChanges.{RightsStay}
@@ -109,40 +107,39 @@ module _ (files : FileTree ℕ) (from : ℕ) (old : List ℕ) (to : ℕ) (new : 
           ∙ (λ i. cond (f i) (Some object) (cond (g i) None (entry_at files.tree here any))) ∙ e
           )
 
-module _ (world : World ℕ) (fresh : Fresh ℕ) (name : TaskName) (call : Call) (answer : Answer)
-    (is : IsWorld nat_eq world) (plain : IsPlain world) (serves : Serves nat_eq world fresh)
-    (other : mounts_overlay call ≡ false) (few : names_few_groups call ≡ true)
-    (did : IsPermitted world fresh name call answer) (from : Location ℕ) (old : List ℕ) (to : Location ℕ) (new : List ℕ)
-    (object : Location ℕ) (permit_is : did.permit ≡ ToRename from old to new object None)
+module _ {world : World ℕ} {fresh : Fresh ℕ} {name : TaskName} {call : Call} {answer : Answer}
+    (it : HasSucceeded world fresh name call answer) {from : Location ℕ} {old : List ℕ}
+    {to : Location ℕ} {new : List ℕ} {object : Location ℕ}
+    (permit_is : it.did.permit ≡ ToRename from old to new object None)
     (uncovered : is_mount_point_anywhere (looks_of nat_eq world) object ≡ false)
     (is_directory : is_directory_node ((files_at nat_eq world from).tree.node object.node) ≡ true)
-    (outside : StandsOutside world did.task object) where
+    (outside : StandsOutside world it.did.task object) where
   abbrev pub later : World ℕ
   later =
-      left world fresh name call answer is plain serves other few did from old to new object None permit_is uncovered
+      left it permit_is uncovered
 
   abbrev pub spent : World ℕ
-  spent = (apply nat_eq fresh world did.task did.permit).world
+  spent = (apply nat_eq fresh world it.did.task it.did.permit).world
 
   abbrev pub fs : ℕ
-  fs = shown world fresh name call answer is plain serves other few did from old to new object None permit_is uncovered
+  fs = shown it permit_is uncovered
 
   abbrev pub tree : Tree ℕ
   tree = (files_at nat_eq world from).tree
 
   abbrev pub left_is : IsWorld nat_eq later × IsPlain later
   left_is =
-      is_left world fresh name call answer is plain serves other few did from old to new object None permit_is uncovered
+      is_left it permit_is uncovered
 
   pub seen : MayBeRenamed world from old to new object None
-  seen = may world fresh name call answer is plain serves other few did from old to new object None permit_is uncovered
+  seen = may it permit_is uncovered
 
   from_directory : is_directory_node ((files_at nat_eq world from).tree.node from.node) ≡ true
   from_directory =
       directory_from_entry old object.node ((files_at nat_eq world from).tree.node from.node) seen.moves.named
 
   pub file_tree : IsFileTree (files_at nat_eq world from)
-  file_tree = tree_here world is from from_directory
+  file_tree = tree_here world it.is from from_directory
 
   free : entry_at (files_at nat_eq world from).tree to.node new ≡ None
   free = ap (λ m. entry_at (files_at nat_eq world (record { mount = m; node = from.node })).tree to.node new)
@@ -157,9 +154,9 @@ module _ (world : World ℕ) (fresh : Fresh ℕ) (name : TaskName) (call : Call)
   change = Move from.node old to.node new object.node
 
   does : spent ≡ with_change nat_eq fresh world from change
-  does = ap (λ p. (apply nat_eq fresh world did.task p).world) permit_is
+  does = ap (λ p. (apply nat_eq fresh world it.did.task p).world) permit_is
 
-  asks : change_of fresh world did.permit ≡ Some (from, change)
+  asks : change_of fresh world it.did.permit ≡ Some (from, change)
   asks = ap (change_of fresh world) permit_is
 
   something : is_some (node_at nat_eq world from) ≡ true
@@ -168,15 +165,16 @@ module _ (world : World ℕ) (fresh : Fresh ℕ) (name : TaskName) (call : Call)
   allowed : IsMoved (files_at nat_eq world from) from.node old to.node object.node
   allowed = record { named = seen.moves.named; in_directory = seen.moves.in_directory }
 
+  abbrev changes : ChangesTree it from change fresh
+  changes = record { asks = asks; does = does; something = something; may = allowed; tree = file_tree }
+
   pub mounts_same : later.mounts ≡ world.mounts
   mounts_same =
-      later_mounts world fresh name call answer is plain serves other few did from change fresh asks does something
-      allowed file_tree
+      later_mounts it changes
 
   pub each : (number : ℕ) → IsMovedIn object.node (number ≡ fs) (tree_in world number) (tree_in spent number)
   each =
-      in_each world fresh name call answer is plain serves other few did from change fresh asks does something allowed
-      file_tree (λ number f. IsMovedIn object.node (number ≡ fs) (tree_in world number) f.tree)
+      in_each it changes (λ number f. IsMovedIn object.node (number ≡ fs) (tree_in world number) f.tree)
       (moved_in (files_at nat_eq world from) from.node old to.node new object.node seen.moves.named
       seen.moves.in_directory free (fs ≡ fs) refl) (λ number. record {
         root = refl;
@@ -190,29 +188,29 @@ module _ (world : World ℕ) (fresh : Fresh ℕ) (name : TaskName) (call : Call)
   pub node_left : (filesystem number : ℕ) → is_some (node_in later filesystem number) ≡ true
       → node_in later filesystem number ≡ node_in spent filesystem number
   node_left filesystem number there =
-      as_spent world fresh name call answer is plain serves other few did filesystem number there
+      as_spent it filesystem number there
 
   -- the object and the caller are there still
   pub object_later : is_some (node_in later fs object.node) ≡ true
   object_later =
       let files = files_at nat_eq world from in
-      ap is_some (all_stays world fresh name call answer is plain serves other few did from change fresh asks does
-      something allowed file_tree (ap option_to_list free) object.node)
+      ap is_some (all_stays it changes (ap option_to_list free) object.node)
       ∙ directory_used (changed nat_eq files change).tree object.node
       ((moved_in files from.node old to.node new object.node seen.moves.named seen.moves.in_directory free
       (fs ≡ fs) refl).directory object.node ∙ is_directory)
 
-  pub caller : task_called later name ≡ Some (raised_task name did.task)
-  caller = still_called world fresh name call answer is plain serves other few did name did.task
+  pub caller : task_called later name ≡ Some (raised_task name it.did.task)
+  caller = still_called it name it.did.task
       (ap (λ w. task_called w name) does
-      ∙ ap (find (λ (t : Task ℕ). same_name name t.name)) (change_tasks fresh world plain from change) ∙ did.called)
+      ∙ ap (find (λ (t : Task ℕ). same_name name t.name)) (change_tasks fresh world it.plain from change)
+      ∙ it.did.called)
 
   pub root_left : (filesystem number : ℕ) → is_some (node_in later filesystem number) ≡ true
       → (tree_in later filesystem).root ≡ (tree_in world filesystem).root
   root_left filesystem number there =
-      let files = later_files world fresh name call answer is plain serves other few did filesystem in
+      let files = later_files it filesystem in
       ap (λ (f : FileTree ℕ). f.tree.root) files ∙ root_settled spent
-      (spent_unsettled world fresh name call answer is plain serves other few did).files.one_filesystem filesystem
+      (spent_unsettled it).files.one_filesystem filesystem
       number (ap (λ (f : FileTree ℕ). is_some (f.tree.node number)) (sym files) ∙ there) ∙ (each filesystem).root
 
   pub rights_left : (filesystem number : ℕ) → is_some (node_in later filesystem number) ≡ true
@@ -259,7 +257,7 @@ module _ (world : World ℕ) (fresh : Fresh ℕ) (name : TaskName) (call : Call)
       → is_directory_node (tree.node here.node) ≡ true → InIt here.node → lies_in world object here ≡ true
   lies_so here same directory way =
       let shown_is =
-      object_shown world fresh name call answer is plain serves other few did from old to new object None permit_is
+      object_shown it permit_is
       uncovered in
       and_from _ _ (eq-eqb _ _ (same ∙ sym shown_is))
       (ap (λ n. is_directory_under nat_eq (filesystem_numbered nat_eq world n).files object.node here.node) shown_is
@@ -291,11 +289,11 @@ module _ (world : World ℕ) (fresh : Fresh ℕ) (name : TaskName) (call : Call)
   outside_fits : (here : Location ℕ) → lies_in world object here ≡ false → Fits here
   outside_fits here lies same directory way = absurd (true≢false (sym (lies_so here same directory way) ∙ lies))
 
-  pub root_fits : Fits did.task.root
-  root_fits = outside_fits did.task.root outside.root
+  pub root_fits : Fits it.did.task.root
+  root_fits = outside_fits it.did.task.root outside.root
 
-  pub directory_fits : Fits did.task.directory
-  directory_fits = outside_fits did.task.directory outside.directory
+  pub directory_fits : Fits it.did.task.directory
+  directory_fits = outside_fits it.did.task.directory outside.directory
 
   root_of_child : (a b : Location ℕ) → option_map root_of (child_at nat_eq world.mounts a) ≡ Some b → Fits b
   root_of_child a b e same directory way =
@@ -306,22 +304,23 @@ module _ (world : World ℕ) (fresh : Fresh ℕ) (name : TaskName) (call : Call)
       (λ a b fit e. root_of_child a b e) (length world.mounts) place place fits
 
   -- no mount of the task's namespace stands inside
-  pub point_fits : (a b : Location ℕ) → IsFoundDirectory world is did.task a → hop nat_eq world did.task a ≡ Some b
+  pub point_fits : (a b : Location ℕ) → IsFoundDirectory world it.is it.did.task a → hop nat_eq world it.did.task a
+      ≡ Some b
       → Fits b
   point_fits a b found e = outside_fits b
       (outside.points (mount_at nat_eq world a) b (contains_from_among world.mounts (mount_at nat_eq world a) there)
       (own (mount_at nat_eq world a).namespace refl found.0.1) at)
     where
       at : (mount_at nat_eq world a).mount_point ≡ Some b
-      at = hop_place world is did.task a b e
+      at = hop_place world it.is it.did.task a b e
 
       there : Among (mount_at nat_eq world a) world.mounts
       there = placed_among world.mounts a.mount b at
 
       own : (o : Option ℕ) → (mount_at nat_eq world a).namespace ≡ o
-          → list_all (nat_eq did.task.namespace) (option_to_list o) ≡ true
-          → (mount_at nat_eq world a).namespace ≡ Some did.task.namespace
+          → list_all (nat_eq it.did.task.namespace) (option_to_list o) ≡ true
+          → (mount_at nat_eq world a).namespace ≡ Some it.did.task.namespace
       own None f g = absurd (true≢false (sym (ap is_some at) ∙ (nowhere_parts (mount_at nat_eq world a)
-          (among_from_list_all is_nowhere_or_attached world.mounts is.mounts.nowhere (mount_at nat_eq world a) there)
+          (among_from_list_all is_nowhere_or_attached world.mounts it.is.mounts.nowhere (mount_at nat_eq world a) there)
           (ap is_some f)).0))
-      own (Some n) f g = f ∙ ap Some (sym (eqb-true did.task.namespace n (and_parts _ _ g).0))
+      own (Some n) f g = f ∙ ap Some (sym (eqb-true it.did.task.namespace n (and_parts _ _ g).0))

@@ -1,15 +1,13 @@
 -- After a granted rename of a directory to a free name ways up stay, from wherever a walk that begins outside of it
 -- comes.
 use Rattle.std.proofs.Common.{arith, ◌≡◌, ◌≢◌, refl, sym, ap, subst, ◌∙◌, inl, inr, ◌⊎◌, ⊎_elim, true≢false, ℕ, nat_eq, eqb-true, eq-eqb, Bool, true, false, cond, not, ◌||◌, List, [], ◌∷◌, ◌++◌, length, Option, Some, None, is_some, option_and_then}
-use Rattle.vt_spec.proofs.Common.{Answer, Call, FileTree, Fresh, IsReached, IsWorld, Location, Mount, Serves, Task, TaskName, ToRename, Tree, World, chain, common_steps, denial, directory_used, entries_in, entry_at, entry_named, files_at, filesystem_numbered, found, hop, is_directory_node, is_directory_under, is_lost, is_mount_point_anywhere, is_removed, last_or, led, looks_of, mount_at, mount_in, mount_numbered, node_at, none_is_not, not-false, or_parts, parent_in, parent_location, reached_named, same_location, topmost}
+use Rattle.vt_spec.proofs.Common.{Answer, Call, FileTree, Fresh, IsReached, IsWorld, Location, Mount, Task, TaskName, ToRename, Tree, World, chain, common_steps, denial, directory_used, entries_in, entry_at, entry_named, files_at, filesystem_numbered, found, hop, is_directory_node, is_directory_under, is_lost, is_mount_point_anywhere, is_removed, last_or, led, looks_of, mount_at, mount_in, mount_numbered, node_at, none_is_not, not-false, or_parts, parent_in, parent_location, reached_named, same_location, topmost}
 use Rattle.vt_spec.specs.declared.errors.Deny.{Deny}
 use Rattle.vt_spec.specs.declared.errors.Rule.TheVariants.{W8}
 use Rattle.vt_spec.proofs.Trees.{last_step}
 use Rattle.vt_laws_trees.proofs.layers.views.Moves.{led_parts}
 use Rattle.vt_laws_worlds.proofs.permits.sees.SeesNames.{tree_here}
 use Rattle.vt_laws_trees.specs.Trees.{IsFileTree}
-use Rattle.vt_laws_trees.specs.Trees.Calls.{mounts_overlay}
-use Rattle.vt_laws_trees.specs.Trees.Limits.{names_few_groups}
 use Rattle.vt_laws_trees.proofs.trees.TreesAbove.{under_seen}
 use Rattle.vt_laws_trees.proofs.trees.TreesEntered.{chain_ends_at}
 use Rattle.vt_laws_trees.proofs.trees.TreesReached.{not_removed_reached}
@@ -17,7 +15,7 @@ use Rattle.vt_laws_worlds.specs.Worlds.Kept.{IsPlain}
 use Rattle.vt_laws_worlds.proofs.worlds.Reached.{IsFoundDirectory}
 use Rattle.vt_laws_later_calls.specs.LaterNames.{StandsOutside}
 use Rattle.vt_laws_later_calls.proofs.later.AfterRename.{old_left}
-use Rattle.vt_laws_later_calls.proofs.Granted.{IsPermitted}
+use Rattle.vt_laws_later_calls.proofs.Granted.{HasSucceeded}
 use Rattle.vt_laws_later_calls.proofs.later.RenameFits.{Fits, InIt, IsMovedIn, each, file_tree, from_outside, fs, in_further, in_reached, its_entry, later, left_is, mounts_same, node_left, over_fits, point_fits, root_left, seen, spent, tree}
 use Rattle.vt_laws_later_calls.proofs.later.WaysLeft.{BothAre, FitsWays, GoesUp, MountsSeen, top}
 use Rattle.vt_laws_later_calls.proofs.later.WaysMounts.{SeenAlike, hop_known}
@@ -33,104 +31,100 @@ hop_by mounts root here = cond (same_location nat_eq here root) None
 abbrev top_by : List (Mount ℕ) → Location ℕ → Location ℕ → Location ℕ
 top_by mounts root here = last_or here (chain (length mounts) (hop_by mounts root) here)
 
-module _ (world : World ℕ) (fresh : Fresh ℕ) (name : TaskName) (call : Call) (answer : Answer)
-    (is : IsWorld nat_eq world) (plain : IsPlain world) (serves : Serves nat_eq world fresh)
-    (other : mounts_overlay call ≡ false) (few : names_few_groups call ≡ true)
-    (did : IsPermitted world fresh name call answer) (from : Location ℕ) (old : List ℕ) (to : Location ℕ) (new : List ℕ)
-    (object : Location ℕ) (permit_is : did.permit ≡ ToRename from old to new object None)
+module _ {world : World ℕ} {fresh : Fresh ℕ} {name : TaskName} {call : Call} {answer : Answer}
+    (it : HasSucceeded world fresh name call answer) {from : Location ℕ} {old : List ℕ}
+    {to : Location ℕ} {new : List ℕ} {object : Location ℕ}
+    (permit_is : it.did.permit ≡ ToRename from old to new object None)
     (uncovered : is_mount_point_anywhere (looks_of nat_eq world) object ≡ false)
     (is_directory : is_directory_node ((files_at nat_eq world from).tree.node object.node) ≡ true)
-    (outside : StandsOutside world did.task object) (reader : Task ℕ) (roots : reader.root ≡ did.task.root) where
+    (outside : StandsOutside world it.did.task object) (reader : Task ℕ) (roots : reader.root ≡ it.did.task.root) where
   abbrev left_world : World ℕ
   left_world =
-      later world fresh name call answer is plain serves other few did from old to new object permit_is uncovered
+      later it permit_is uncovered
       is_directory outside
 
   abbrev own_fs : ℕ
-  own_fs = fs world fresh name call answer is plain serves other few did from old to new object permit_is uncovered
+  own_fs = fs it permit_is uncovered
       is_directory outside
 
   abbrev is_left : IsWorld nat_eq left_world × IsPlain left_world
   is_left =
-      left_is world fresh name call answer is plain serves other few did from old to new object permit_is uncovered
+      left_is it permit_is uncovered
       is_directory outside
 
   abbrev Inside : ℕ → Type 0
-  Inside = InIt world fresh name call answer is plain serves other few did from old to new object permit_is uncovered
+  Inside = InIt it permit_is uncovered
       is_directory outside
 
   abbrev FitsIn : Location ℕ → Type 0
-  FitsIn = Fits world fresh name call answer is plain serves other few did from old to new object permit_is uncovered
+  FitsIn = Fits it permit_is uncovered
       is_directory outside
 
   abbrev BothDirectories : Location ℕ → Type 0
-  BothDirectories = BothAre world left_world is plain is_left.0 is_left.1 did.task reader
+  BothDirectories = BothAre world left_world it.is it.plain is_left.0 is_left.1 it.did.task reader
 
   abbrev Up : Location ℕ → Type 0
-  Up = GoesUp world left_world is plain is_left.0 is_left.1 did.task reader
+  Up = GoesUp world left_world it.is it.plain is_left.0 is_left.1 it.did.task reader
 
   abbrev spent_world : World ℕ
   spent_world =
-      spent world fresh name call answer is plain serves other few did from old to new object permit_is uncovered
+      spent it permit_is uncovered
       is_directory outside
 
   abbrev whole : Tree ℕ
-  whole = tree world fresh name call answer is plain serves other few did from old to new object permit_is uncovered
+  whole = tree it permit_is uncovered
       is_directory outside
 
   whole_is : IsFileTree (files_at nat_eq world from)
   whole_is =
-      file_tree world fresh name call answer is plain serves other few did from old to new object permit_is uncovered
+      file_tree it permit_is uncovered
       is_directory outside
 
   each_in : (number : ℕ) → IsMovedIn object.node (number ≡ own_fs) (tree_in world number) (tree_in spent_world number)
-  each_in = each world fresh name call answer is plain serves other few did from old to new object permit_is uncovered
+  each_in = each it permit_is uncovered
       is_directory outside
 
   left_node : (filesystem number : ℕ) → is_some (node_in left_world filesystem number) ≡ true
       → node_in left_world filesystem number ≡ node_in spent_world filesystem number
   left_node =
-      node_left world fresh name call answer is plain serves other few did from old to new object permit_is uncovered
+      node_left it permit_is uncovered
       is_directory outside
 
   further : (here : ℕ) (any : List ℕ) (next : ℕ) → Inside here → entry_at whole here any ≡ Some next → Inside next
   further =
-      in_further world fresh name call answer is plain serves other few did from old to new object permit_is uncovered
+      in_further it permit_is uncovered
       is_directory outside
 
   not_around : Inside from.node → ⊥
   not_around =
-      from_outside world fresh name call answer is plain serves other few did from old to new object permit_is uncovered
+      from_outside it permit_is uncovered
       is_directory outside
 
   reached_in : (n : ℕ) → Inside n → IsReached whole n
   reached_in =
-      in_reached world fresh name call answer is plain serves other few did from old to new object permit_is uncovered
+      in_reached it permit_is uncovered
       is_directory outside
 
-  points_fit : (a b : Location ℕ) → IsFoundDirectory world is did.task a → hop nat_eq world did.task a ≡ Some b
+  points_fit : (a b : Location ℕ) → IsFoundDirectory world it.is it.did.task a → hop nat_eq world it.did.task a ≡ Some b
       → FitsIn b
   points_fit =
-      point_fits world fresh name call answer is plain serves other few did from old to new object permit_is uncovered
+      point_fits it permit_is uncovered
       is_directory outside
 
   places_fit : (place : Location ℕ) → FitsIn place → FitsIn (topmost nat_eq world.mounts place)
   places_fit =
-      over_fits world fresh name call answer is plain serves other few did from old to new object permit_is uncovered
+      over_fits it permit_is uncovered
       is_directory outside
 
   only_entry : (here : ℕ) (any : List ℕ) → entry_at whole here any ≡ Some object.node → (here ≡ from.node) × (any ≡ old)
   only_entry =
-      its_entry world fresh name call answer is plain serves other few did from old to new object permit_is uncovered
+      its_entry it permit_is uncovered
       is_directory outside
 
   pub mounts_seen : MountsSeen world
-      (later world fresh name call answer is plain serves other few did from old to new object permit_is uncovered
-      is_directory outside) is plain
-      (left_is world fresh name call answer is plain serves other few did from old to new object permit_is uncovered
-      is_directory outside).0
-      (left_is world fresh name call answer is plain serves other few did from old to new object permit_is uncovered
-      is_directory outside).1 did.task reader
+      (later it permit_is uncovered is_directory outside) it.is it.plain
+      (left_is it permit_is uncovered is_directory outside).0
+      (left_is it permit_is uncovered is_directory outside).1 it.did.task reader
   mounts_seen = record {
     own = λ number own listed. alike_by number;
     topmost_is = λ place own. ap (λ mounts. topmost nat_eq mounts place) same;
@@ -138,7 +132,7 @@ module _ (world : World ℕ) (fresh : Fresh ℕ) (name : TaskName) (call : Call)
   }
     where
       same : left_world.mounts ≡ world.mounts
-      same = mounts_same world fresh name call answer is plain serves other few did from old to new object permit_is
+      same = mounts_same it permit_is
           uncovered is_directory outside
 
       mount_same : (number : ℕ) → mount_numbered nat_eq left_world number ≡ mount_numbered nat_eq world number
@@ -168,11 +162,11 @@ module _ (world : World ℕ) (fresh : Fresh ℕ) (name : TaskName) (call : Call)
     tree_later = subst IsFileTree files_here (tree_here left_world is_left.0 here known.1.1)
 
     tree_before : IsFileTree (filesystem_numbered nat_eq world number).files
-    tree_before = tree_here world is here known.0.1
+    tree_before = tree_here world it.is here known.0.1
 
     root_same : (tree_in left_world number).root ≡ (tree_in world number).root
     root_same =
-        root_left world fresh name call answer is plain serves other few did from old to new object permit_is uncovered
+        root_left it permit_is uncovered
         is_directory outside number here.node there
 
     now_directory : is_directory_node (node_in left_world number here.node) ≡ true
@@ -327,7 +321,7 @@ module _ (world : World ℕ) (fresh : Fresh ℕ) (name : TaskName) (call : Call)
             reached_later top_of from_top.0 (led_later top_of from_top.0 here.node root_in from_top.1 root_there))
 
   up_fits : (Refused : Deny → Type 0) (here : Location ℕ) → BothDirectories here → FitsIn here
-      → (same_location nat_eq here did.task.root || nat_eq here.node (mount_at nat_eq world here).root) ≡ false
+      → (same_location nat_eq here it.did.task.root || nat_eq here.node (mount_at nat_eq world here).root) ≡ false
       → is_lost nat_eq world here ≡ false → (Up here × FitsIn (parent_location nat_eq world here))
       ⊎ (Refused (denial W8) × (is_lost nat_eq left_world here ≡ true))
   up_fits Refused here known fits not_top found_so = inl (by (nat_eq (mount_at nat_eq world here).filesystem own_fs)
@@ -345,7 +339,7 @@ module _ (world : World ℕ) (fresh : Fresh ℕ) (name : TaskName) (call : Call)
           → Up here × FitsIn (parent_location nat_eq world here)
       inside same way =
           let root_in = fits same (directory_here same) way in (
-            inside_goes here known found_so same way root_in (or_parts (same_location nat_eq here did.task.root)
+            inside_goes here known found_so same way root_in (or_parts (same_location nat_eq here it.did.task.root)
                 (nat_eq here.node (mount_at nat_eq world here).root) not_top).1,
             λ again directory above. root_in,
           )
@@ -381,33 +375,27 @@ module _ (world : World ℕ) (fresh : Fresh ℕ) (name : TaskName) (call : Call)
       directory_here = ap (λ n. is_directory_node (node_in world n here.node)) (sym same) ∙ known.0.1
 
       moved_here : object.node ≡ next → Inside (mount_at nat_eq world here).root
-      moved_here it =
-          let was = only_entry here.node any (at_fs_now ∙ ap Some (sym it)) in
+      moved_here leads =
+          let was = only_entry here.node any (at_fs_now ∙ ap Some (sym leads)) in
           none_is_not (entry_named any (entries_in (node_at nat_eq left_world here))) next
           (ap (λ (t : FileTree ℕ). entry_named any (entries_in (t.tree.node here.node))) (files_here here known)
-          ∙ (λ i. entry_at (tree_in left_world (same i)) (was.0 i) (was.1 i))
-          ∙ old_left world fresh name call answer is plain serves other few did from old to new object None permit_is
-          uncovered
-          (seen world fresh name call answer is plain serves other few did from old to new object permit_is uncovered
-          is_directory outside).moves.replaced_other
+          ∙ (λ i. entry_at (tree_in left_world (same i)) (was.0 i) (was.1 i)) ∙ old_left it permit_is uncovered
+          (seen it permit_is uncovered is_directory outside).moves.replaced_other
           ((λ i. is_some (node_in left_world (sym same i) (sym was.0 i))) ∙ there here known)) f
 
-  top_fits : (here : Location ℕ) → IsFoundDirectory world is did.task here → FitsIn here
-      → FitsIn (top world left_world is plain is_left.0 is_left.1 did.task reader here)
+  top_fits : (here : Location ℕ) → IsFoundDirectory world it.is it.did.task here → FitsIn here
+      → FitsIn (top world left_world it.is it.plain is_left.0 is_left.1 it.did.task reader here)
   top_fits here found_here fits =
-      (chain_ends_at (λ (l : Location ℕ). IsFoundDirectory world is did.task l × FitsIn l) (hop nat_eq world did.task)
-      (λ a b both e. (hop_known world is did.task a b both.0 e, points_fit a b both.0 e))
+      (chain_ends_at (λ (l : Location ℕ). IsFoundDirectory world it.is it.did.task l × FitsIn l)
+      (hop nat_eq world it.did.task)
+      (λ a b both e. (hop_known world it.is it.did.task a b both.0 e, points_fit a b both.0 e))
       (length world.mounts) here here (found_here, fits)).1
 
   pub fits_ways : (Refused : Deny → Type 0) → FitsWays world
-      (later world fresh name call answer is plain serves other few did from old to new object permit_is uncovered
-      is_directory outside) is plain
-      (left_is world fresh name call answer is plain serves other few did from old to new object permit_is uncovered
-      is_directory outside).0
-      (left_is world fresh name call answer is plain serves other few did from old to new object permit_is uncovered
-      is_directory outside).1 did.task reader Refused
-      (Fits world fresh name call answer is plain serves other few did from old to new object permit_is uncovered
-      is_directory outside)
+      (later it permit_is uncovered is_directory outside) it.is it.plain
+      (left_is it permit_is uncovered is_directory outside).0
+      (left_is it permit_is uncovered is_directory outside).1 it.did.task reader Refused
+      (Fits it permit_is uncovered is_directory outside)
   fits_ways Refused = record {
     named = λ here any next known fits e f. named_fits here any next known fits e f;
     over = λ place own fits. places_fit place fits;

@@ -68,16 +68,22 @@ module _ (world later : World ℕ) (is : IsWorld nat_eq world) (plain : IsPlain 
         → is_lost nat_eq world here ≡ false → (GoesUp here × Fits (parent_location nat_eq world here))
         ⊎ (Refused (denial W8) × (is_lost nat_eq later here ≡ true))
 
-  module _ (called : task_called world task.name ≡ Some task)
-      (called_later : task_called later reader.name ≡ Some reader)
-      (stands : StandsAs task reader) (Refused : Deny → Type 0) (seen : MountsSeen)
-      (stay : ObjectsStay world later Refused) (Fits : Location ℕ → Type 0) (fits : FitsWays Refused Fits) where
+  -- the task, and a reader later who stands as it does, to whom ways from what fits stay
+  pub record SeesStill (Refused : Deny → Type 0) (Fits : Location ℕ → Type 0) : Type 0 where
+    pub called : task_called world task.name ≡ Some task
+    pub called_later : task_called later reader.name ≡ Some reader
+    pub stands : StandsAs task reader
+    pub seen : MountsSeen
+    pub stay : ObjectsStay world later Refused
+    pub fits : FitsWays Refused Fits
+
+  module _ {Refused : Deny → Type 0} {Fits : Location ℕ → Type 0} (it : SeesStill Refused Fits) where
     -- a location that is there in both worlds, and fits
     abbrev pub Known : Location ℕ → Type 0
     Known here = BothFound here × Fits here
 
     alike : (here : Location ℕ) → BothFound here → SeenAlike (mount_at nat_eq world here) (mount_at nat_eq later here)
-    alike here known = seen.own here.mount known.0.0 known.1.0.0
+    alike here known = it.seen.own here.mount known.0.0 known.1.0.0
 
     pub node_here : (here : Location ℕ) → BothFound here
         → node_at nat_eq later here ≡ node_in later (mount_at nat_eq world here).filesystem here.node
@@ -90,7 +96,7 @@ module _ (world later : World ℕ) (is : IsWorld nat_eq world) (plain : IsPlain 
     directory_too : (here : Location ℕ) → BothFound here
         → is_directory_at nat_eq later here ≡ is_directory_at nat_eq world here
     directory_too here known = ap is_directory_node (node_here here known)
-        ∙ stay.directory (mount_at nat_eq world here).filesystem here.node known.0.1 (there_later here known)
+        ∙ it.stay.directory (mount_at nat_eq world here).filesystem here.node known.0.1 (there_later here known)
 
     both_are : (here : Location ℕ) → BothFound here → is_directory_at nat_eq world here ≡ true → BothAre here
     both_are here known directory = ((known.0.0, directory), (known.1.0, directory_too here known ∙ directory))
@@ -133,14 +139,14 @@ module _ (world later : World ℕ) (is : IsWorld nat_eq world) (plain : IsPlain 
         inside object f g (inl stays) =
             let place : Location ℕ = record { mount = here.mount; node = object } in
             let now : stepped nat_eq later reader here (Named name) ≡ Ok next =
-            ap (named_by later.mounts here) (at_later (Some object) stays) ∙ ap Ok (seen.topmost_is place known.0.0)
+            ap (named_by later.mounts here) (at_later (Some object) stays) ∙ ap Ok (it.seen.topmost_is place known.0.0)
             ∙ g in
             inl (
               now,
               (
                 next_found here (Named name) next known e now,
                 subst Fits (same_ok (topmost nat_eq world.mounts place) next g)
-                    (fits.over place known.0.0 (fits.named here name object known fit f
+                    (it.fits.over place known.0.0 (it.fits.named here name object known fit f
                     (at_later (Some object) stays))),
               ),
             )
@@ -151,7 +157,7 @@ module _ (world later : World ℕ) (is : IsWorld nat_eq world) (plain : IsPlain 
             → Steps here (Named name) next
         by None f g = absurd (no_answer (denial W6) next (ap (named_by world.mounts here) (sym f) ∙ g))
         by (Some object) f g = inside object f (ap (named_by world.mounts here) (sym f) ∙ g)
-            (stay.entry (mount_at nat_eq world here).filesystem here.node name object f
+            (it.stay.entry (mount_at nat_eq world here).filesystem here.node name object f
             (there_later here (both_found here known)))
 
     -- Up
@@ -169,19 +175,19 @@ module _ (world later : World ℕ) (is : IsWorld nat_eq world) (plain : IsPlain 
       above_known : BothAre above
       above_known = (
         top_known world is task here known.0,
-        subst (IsFoundDirectory later is_later reader) (seen.top_is here known)
+        subst (IsFoundDirectory later is_later reader) (it.seen.top_is here known)
             (top_known later is_later reader here known.1),
       )
 
       ends_same : is_top_by reader.root (mount_at nat_eq later above).root above
           ≡ is_top_by task.root (mount_at nat_eq world above).root above
-      ends_same = λ i. is_top_by (stands.root i) ((alike above (both_found above above_known)).root i) above
+      ends_same = λ i. is_top_by (it.stands.root i) ((alike above (both_found above above_known)).root i) above
 
       later_up : stepped nat_eq later reader here DotDot
           ≡ up_by later.mounts (is_top_by task.root (mount_at nat_eq world above).root above)
           (is_lost nat_eq later above) (parent_in above.node (node_at nat_eq later above)) above
       later_up = ap (λ (at : Location ℕ). up_by later.mounts (is_top_by reader.root (mount_at nat_eq later at).root at)
-          (is_lost nat_eq later at) (parent_in at.node (node_at nat_eq later at)) at) (seen.top_is here known)
+          (is_lost nat_eq later at) (parent_in at.node (node_at nat_eq later at)) at) (it.seen.top_is here known)
           ∙ ap (λ b. up_by later.mounts b (is_lost nat_eq later above)
           (parent_in above.node (node_at nat_eq later above)) above) ends_same
 
@@ -198,9 +204,9 @@ module _ (world later : World ℕ) (is : IsWorld nat_eq world) (plain : IsPlain 
               ⊎ (Refused (denial W8) × (is_lost nat_eq later above ≡ true)) → Steps here DotDot next
           on p g (inl goes) = found_too (later_up
               ∙ (λ i. up_by later.mounts (p i) (goes.0.not_lost i) (goes.0.parent i) above)
-              ∙ ap Ok (seen.topmost_is (parent_location nat_eq world above) above_known.0.0) ∙ g)
+              ∙ ap Ok (it.seen.topmost_is (parent_location nat_eq world above) above_known.0.0) ∙ g)
               (subst Fits (same_ok (topmost nat_eq world.mounts (parent_location nat_eq world above)) next g)
-              (fits.over (parent_location nat_eq world above) above_known.0.0 goes.1))
+              (it.fits.over (parent_location nat_eq world above) above_known.0.0 goes.1))
           on p g (inr lost) = inr (
             denial W8,
             lost.0,
@@ -214,9 +220,9 @@ module _ (world later : World ℕ) (is : IsWorld nat_eq world) (plain : IsPlain 
               → Steps here DotDot next
           by true f q lost g = found_too (later_up ∙ ap (λ b. up_by later.mounts b (is_lost nat_eq later above)
               (parent_in above.node (node_at nat_eq later above)) above) f ∙ g)
-              (subst Fits (same_ok above next g) (fits.hopped here known fit))
+              (subst Fits (same_ok above next g) (it.fits.hopped here known fit))
           by false f true lost g = absurd (no_answer (denial W8) next g)
-          by false f false lost g = on f g (fits.up above above_known (fits.hopped here known fit) f lost)
+          by false f false lost g = on f g (it.fits.up above above_known (it.fits.hopped here known fit) f lost)
 
     step_too : (here : Location ℕ) (word : LastWord) (next : Location ℕ) → BothAre here → Fits here
         → stepped nat_eq world task here word ≡ Ok next → Steps here word next
@@ -235,20 +241,21 @@ module _ (world later : World ℕ) (is : IsWorld nat_eq world) (plain : IsPlain 
         → Fits task.root → Fits task.directory
         → LeadsToo (looks_of nat_eq world) (looks_of nat_eq later) task reader Refused Known
     ways_lead rights root_fits directory_fits = record {
-      root = stands.root;
-      working = stands.directory;
+      root = it.stands.root;
+      working = it.stands.directory;
       root_known = (
         both_found task.root (
-          root_found world is task called,
-          subst (IsFoundDirectory later is_later reader) stands.root (root_found later is_later reader called_later),
+          root_found world is task it.called,
+          subst (IsFoundDirectory later is_later reader) it.stands.root
+              (root_found later is_later reader it.called_later),
         ),
         root_fits,
       );
       working_known = (
         both_found task.directory (
-          own_directory_found world is task called,
-          subst (IsFoundDirectory later is_later reader) stands.directory
-              (own_directory_found later is_later reader called_later),
+          own_directory_found world is task it.called,
+          subst (IsFoundDirectory later is_later reader) it.stands.directory
+              (own_directory_found later is_later reader it.called_later),
         ),
         directory_fits,
       );
@@ -259,5 +266,5 @@ module _ (world later : World ℕ) (is : IsWorld nat_eq world) (plain : IsPlain 
       step = λ here word next known directory e. step_too here word next (both_are here known.0 directory) known.1 e;
       nosymfollow = λ here known. ap (λ flags. flags.nosymfollow) (alike here known.0).flags;
       link = λ here known. ap symlink_text (node_here here known.0)
-          ∙ stay.link (mount_at nat_eq world here).filesystem here.node known.0.0.1 (there_later here known.0);
+          ∙ it.stay.link (mount_at nat_eq world here).filesystem here.node known.0.0.1 (there_later here known.0);
     }

@@ -221,7 +221,8 @@ module _ (world : World ℕ) (fresh : Fresh ℕ) (task : Task ℕ) (is : IsWorld
             → is_going nat_eq ended mount.number ≡ b → is_in namespace.number (change mount) ≡ false
         by mount e true goes =
             ap (is_in namespace.number) (UnsharedLeft.goes world fresh task is serves called mount goes)
-        by mount e false isnt = ap (is_in namespace.number) (MountingTaken.stays_there base ended lasting mount isnt) ∙ e
+        by mount e false isnt = ap (is_in namespace.number) (MountingTaken.stays_there base ended lasting mount isnt)
+            ∙ e
 
     found_same : (mount : Mount ℕ) → Among mount (mounts_of nat_eq base namespace.number) → (place : Location ℕ)
         → mount.mount_point ≡ Some place

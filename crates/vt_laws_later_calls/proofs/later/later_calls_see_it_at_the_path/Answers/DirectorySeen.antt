@@ -11,7 +11,7 @@ use Rattle.vt_laws_later_calls.specs.LaterNames.{IsAnsweredUnlessBy, RenameDirec
 use Rattle.vt_laws_later_calls.specs.Later.{IsAnswered}
 use Rattle.vt_laws_later_calls.specs.LaterPaths.{IsAnsweredUnless, IsRefused, LooksFrom, reads_all}
 use Rattle.vt_laws_later_calls.proofs.later.AfterRename.{free_left, may, new_left, object_left, old_left, to_shown}
-use Rattle.vt_laws_later_calls.proofs.Granted.{IsPermitted, permitted}
+use Rattle.vt_laws_later_calls.proofs.Granted.{HasSucceeded, permitted}
 use Rattle.vt_laws_later_calls.proofs.Looked.{list_of, list_refused, lstat_of, lstat_refused, read_all, search_all}
 use Rattle.vt_laws_later_calls.proofs.MadeSeen.{new_parts}
 use Rattle.vt_laws_later_calls.proofs.Readers.{MayLook, all_stands, own_name, raised_credentials, raised_stands, stepped_by}
@@ -21,19 +21,18 @@ use Rattle.vt_laws_later_calls.proofs.Stays.{called_own}
 use Rattle.vt_laws_later_calls.proofs.later.later_calls_see_it_at_the_path.Answers.FoundByName.{NamesParts, before, directory_kept, is_directory_before, names_parts, old_listed, old_told, told_alike}
 use Rattle.vt_laws_later_calls.proofs.later.later_calls_see_it_at_the_path.Answers.Unlinked.{Missing}
 use Rattle.vt_laws_later_calls.proofs.Ways.{LeadsToo}
-use Rattle.vt_laws_later_calls.proofs.later.WaysLeft.{FitsWays, Known, MountsSeen, ObjectsStay, node_here, ways_lead}
+use Rattle.vt_laws_later_calls.proofs.later.WaysLeft.{FitsWays, Known, MountsSeen, ObjectsStay, SeesStill, node_here, ways_lead}
 use Rattle.vt_laws_later_calls.proofs.WaysPlaces.{EndsThere, directory_named_too, named_place, symlink_missing, symlink_named_too}
 use Rattle.vt_laws_later_calls.proofs.WaysStay.{StandsAs, node_in}
 
-module _ (world : World ℕ) (fresh : Fresh ℕ) (name : TaskName) (old new : List ℕ) (from to : Place ℕ)
-    (is : IsWorld nat_eq world) (plain : IsPlain world) (serves : Serves nat_eq world fresh)
-    (did : IsPermitted world fresh name (Rename old new) Done)
-    (parts : NamesParts (looks_of nat_eq world) did.task old new from to did.permit)
-    (to_walked : place_walk nat_eq (looks_of nat_eq world) did.task new ≡ Ok to)
-    (permit_is : did.permit ≡ ToRename from.parent (name_of from.last) to.parent (name_of to.last)
+module _ {world : World ℕ} {fresh : Fresh ℕ} {name : TaskName} {old new : List ℕ} {from to : Place ℕ}
+    (it : HasSucceeded world fresh name (Rename old new) Done)
+    (parts : NamesParts (looks_of nat_eq world) it.did.task old new from to it.did.permit)
+    (to_walked : place_walk nat_eq (looks_of nat_eq world) it.did.task new ≡ Ok to)
+    (permit_is : it.did.permit ≡ ToRename from.parent (name_of from.last) to.parent (name_of to.last)
     (object_there from) None)
     (is_dir : is_directory_node ((files_at nat_eq world from.parent).tree.node (object_there from).node) ≡ true)
-    (outside : StandsOutside world did.task (object_there from)) where
+    (outside : StandsOutside world it.did.task (object_there from)) where
   abbrev later : World ℕ
   later = (policy nat_eq fresh world name (Rename old new)).world
 
@@ -48,120 +47,106 @@ module _ (world : World ℕ) (fresh : Fresh ℕ) (name : TaskName) (old new : Li
 
   seen : MayBeRenamed world from.parent (name_of from.last) to.parent (name_of to.last) (object_there from) None
   seen =
-      may world fresh name (Rename old new) Done is plain serves refl refl did from.parent (name_of from.last) to.parent
-      (name_of to.last) (object_there from) None permit_is parts.uncovered
+      may it permit_is parts.uncovered
 
   abbrev own_fs : ℕ
   own_fs =
-      fs world fresh name (Rename old new) Done is plain serves refl refl did from.parent (name_of from.last) to.parent
-      (name_of to.last) (object_there from) permit_is parts.uncovered is_dir outside
+      fs it permit_is parts.uncovered is_dir outside
 
   abbrev is_left : IsWorld nat_eq later × IsPlain later
-  is_left = left_is world fresh name (Rename old new) Done is plain serves refl refl did from.parent
-      (name_of from.last) to.parent (name_of to.last) (object_there from) permit_is parts.uncovered is_dir outside
+  is_left = left_is it permit_is parts.uncovered is_dir outside
 
   abbrev Fit : Location ℕ → Type 0
-  Fit = Fits world fresh name (Rename old new) Done is plain serves refl refl did from.parent
-      (name_of from.last) to.parent (name_of to.last) (object_there from) permit_is parts.uncovered is_dir outside
+  Fit = Fits it permit_is parts.uncovered is_dir outside
 
-  mounts_are : (reading : Task ℕ) → reading.root ≡ did.task.root
-      → MountsSeen world later is plain is_left.0 is_left.1 did.task reading
-  mounts_are = mounts_seen world fresh name (Rename old new) Done is plain serves refl refl did from.parent
-      (name_of from.last) to.parent (name_of to.last) (object_there from) permit_is parts.uncovered is_dir outside
+  mounts_are : (reading : Task ℕ) → reading.root ≡ it.did.task.root
+      → MountsSeen world later it.is it.plain is_left.0 is_left.1 it.did.task reading
+  mounts_are = mounts_seen it permit_is parts.uncovered is_dir outside
 
   objects_are : ObjectsStay world later Missing
-  objects_are = objects_stay world fresh name (Rename old new) Done is plain serves refl refl did from.parent
-      (name_of from.last) to.parent (name_of to.last) (object_there from) permit_is parts.uncovered is_dir outside
+  objects_are = objects_stay it permit_is parts.uncovered is_dir outside
       Missing refl
 
-  ways_are : (reading : Task ℕ) → reading.root ≡ did.task.root
-      → FitsWays world later is plain is_left.0 is_left.1 did.task reading Missing Fit
-  ways_are reading roots = fits_ways world fresh name (Rename old new) Done is plain serves refl refl did from.parent
-      (name_of from.last) to.parent (name_of to.last) (object_there from) permit_is parts.uncovered is_dir outside
+  ways_are : (reading : Task ℕ) → reading.root ≡ it.did.task.root
+      → FitsWays world later it.is it.plain is_left.0 is_left.1 it.did.task reading Missing Fit
+  ways_are reading roots = fits_ways it permit_is parts.uncovered is_dir outside
       reading roots Missing
 
   rights_are : (filesystem number : ℕ) → is_some (node_in later filesystem number) ≡ true
       → is_some (node_in world filesystem number) ≡ true → (who : Credentials) (wanted : ℕ)
       → node_allows who wanted (node_in later filesystem number)
       ≡ node_allows who wanted (node_in world filesystem number)
-  rights_are = rights_left world fresh name (Rename old new) Done is plain serves refl refl did from.parent
-      (name_of from.last) to.parent (name_of to.last) (object_there from) permit_is parts.uncovered is_dir outside
+  rights_are = rights_left it permit_is parts.uncovered is_dir outside
 
   to_fs : (mount_at nat_eq world to.parent).filesystem ≡ own_fs
-  to_fs = to_shown world fresh name (Rename old new) Done is plain serves refl refl did from.parent
-      (name_of from.last) to.parent (name_of to.last) (object_there from) None permit_is parts.uncovered
+  to_fs = to_shown it permit_is parts.uncovered
 
   after_fs : (mount_at nat_eq later place_after).filesystem ≡ own_fs
   after_fs = ap (λ mounts. (mount_in nat_eq mounts to.parent.mount).filesystem)
-      (mounts_same world fresh name (Rename old new) Done is plain serves refl refl did from.parent
-      (name_of from.last) to.parent (name_of to.last) (object_there from) permit_is parts.uncovered is_dir outside)
+      (mounts_same it permit_is parts.uncovered is_dir outside)
       ∙ to_fs
 
   kept : IsKept was (node_at nat_eq later place_after)
   kept = subst (λ n. IsKept was (node_in later n object)) (sym after_fs)
-      (object_left world fresh name (Rename old new) Done is plain serves refl refl did from.parent
-      (name_of from.last) to.parent (name_of to.last) (object_there from) None permit_is parts.uncovered
-      (object_later world fresh name (Rename old new) Done is plain serves refl refl did from.parent
-      (name_of from.last) to.parent (name_of to.last) (object_there from) permit_is parts.uncovered is_dir outside))
+      (object_left it permit_is parts.uncovered (object_later it permit_is parts.uncovered is_dir outside))
 
   directory_after : is_directory_at nat_eq later place_after ≡ true
   directory_after = directory_kept was (node_at nat_eq later place_after) kept ∙ is_dir
 
-  own : task_called world did.task.name ≡ Some did.task
-  own = called_own world fresh name (Rename old new) Done is plain serves refl refl did
+  own : task_called world it.did.task.name ≡ Some it.did.task
+  own = called_own it
 
   module _ (reader : TaskName) (reading : Task ℕ) (called : task_called later reader ≡ Some reading)
-      (stands : StandsAs did.task reading) (looks : MayLook did.task reading) where
+      (stands : StandsAs it.did.task reading) (looks : MayLook it.did.task reading) where
+    abbrev still : SeesStill world later it.is it.plain is_left.0 is_left.1 it.did.task reading Missing Fit
+    still = record {
+      called = own;
+      called_later = own_name later reader reading called;
+      stands = stands;
+      seen = mounts_are reading stands.root;
+      stay = objects_are;
+      fits = ways_are reading stands.root;
+    }
+
     abbrev KnownSo : Location ℕ → Type 0
-    KnownSo = Known world later is plain is_left.0 is_left.1 did.task reading own
-        (own_name later reader reading called) stands Missing (mounts_are reading stands.root) objects_are Fit
-        (ways_are reading stands.root)
+    KnownSo = Known world later it.is it.plain is_left.0 is_left.1 it.did.task reading still
 
     here_is : (here : Location ℕ) → KnownSo here
         → node_at nat_eq later here ≡ node_in later (mount_at nat_eq world here).filesystem here.node
-    here_is here known = node_here world later is plain is_left.0 is_left.1 did.task reading own
-        (own_name later reader reading called) stands Missing (mounts_are reading stands.root) objects_are Fit
-        (ways_are reading stands.root) here known.0
+    here_is here known = node_here world later it.is it.plain is_left.0 is_left.1 it.did.task reading still here known.0
 
     now_there : (here : Location ℕ) → KnownSo here
         → is_some (node_in later (mount_at nat_eq world here).filesystem here.node) ≡ true
     now_there here known = ap is_some (sym (here_is here known)) ∙ known.0.1.1
 
     searched : (here : Location ℕ) → KnownSo here → is_directory_at nat_eq world here ≡ true
-        → may_do (looks_of nat_eq world) did.task here execute_right ≡ true
+        → may_do (looks_of nat_eq world) it.did.task here execute_right ≡ true
         → (may_do (looks_of nat_eq later) reading here execute_right ≡ true)
         ⊎ ((may_do (looks_of nat_eq later) reading here execute_right ≡ false) × Missing (denial W4))
     searched here known directory e = inl (by looks)
       where
-        by : MayLook did.task reading → may_do (looks_of nat_eq later) reading here execute_right ≡ true
+        by : MayLook it.did.task reading → may_do (looks_of nat_eq later) reading here execute_right ≡ true
         by (inr all) = search_all reading.credentials all (node_at nat_eq later here)
             (ap is_directory_node (here_is here known)
             ∙ objects_are.directory (mount_at nat_eq world here).filesystem here.node known.0.0.1 (now_there here known)
             ∙ directory)
         by (inl same) = ap (λ who. node_allows who execute_right (node_at nat_eq later here)) same
-            ∙ ap (node_allows did.task.credentials execute_right) (here_is here known)
+            ∙ ap (node_allows it.did.task.credentials execute_right) (here_is here known)
             ∙ rights_are (mount_at nat_eq world here).filesystem here.node
-            (now_there here known) known.0.0.1 did.task.credentials execute_right ∙ e
+            (now_there here known) known.0.0.1 it.did.task.credentials execute_right ∙ e
 
-    leads : LeadsToo (looks_of nat_eq world) (looks_of nat_eq later) did.task reading Missing KnownSo
-    leads = ways_lead world later is plain is_left.0 is_left.1 did.task reading own
-        (own_name later reader reading called) stands Missing (mounts_are reading stands.root) objects_are Fit
-        (ways_are reading stands.root) searched
-        (root_fits world fresh name (Rename old new) Done is plain serves refl refl did from.parent
-        (name_of from.last) to.parent (name_of to.last) (object_there from) permit_is parts.uncovered is_dir outside)
-        (directory_fits world fresh name (Rename old new) Done is plain serves refl refl did from.parent
-        (name_of from.last) to.parent (name_of to.last) (object_there from) permit_is parts.uncovered is_dir outside)
+    leads : LeadsToo (looks_of nat_eq world) (looks_of nat_eq later) it.did.task reading Missing KnownSo
+    leads = ways_lead world later it.is it.plain is_left.0 is_left.1 it.did.task reading still searched
+        (root_fits it permit_is parts.uncovered is_dir outside)
+        (directory_fits it permit_is parts.uncovered is_dir outside)
 
     new_stepped : KnownSo to.parent → stepped nat_eq (looks_of nat_eq later) reading to.parent to.last ≡ Ok place_after
     new_stepped known = stepped_by later reading to.parent to.last parts.to_named (Some object)
         (ap (λ o. entry_named (name_of to.last) (entries_in o))
         (here_is to.parent known ∙ ap (λ n. node_in later n to.parent.node) to_fs)
-        ∙ new_left world fresh name (Rename old new) Done is plain serves refl refl did from.parent
-        (name_of from.last) to.parent (name_of to.last) (object_there from) None permit_is parts.uncovered
+        ∙ new_left it permit_is parts.uncovered
         (ap (λ n. is_some (node_in later n to.parent.node)) (sym to_fs) ∙ now_there to.parent known))
-        ∙ ap Ok (free_left world fresh name (Rename old new) Done is plain serves refl refl did from.parent
-        (name_of from.last) to.parent (name_of to.last) (object_there from) None permit_is parts.uncovered
-        place_after known.0.1.0.0 after_fs refl)
+        ∙ ap Ok (free_left it permit_is parts.uncovered place_after known.0.1.0.0 after_fs refl)
 
     new_told : (later_fresh : Fresh ℕ)
         → ((policy nat_eq later_fresh later reader (Lstat new)).answer ≡ Ok (Told (stat_line was)))
@@ -170,30 +155,28 @@ module _ (world : World ℕ) (fresh : Fresh ℕ) (name : TaskName) (old new : Li
         ∙ ap (λ line. Ok (Told line)) (told_alike was (node_at nat_eq later place_after) kept)))
         (λ stop. inr (lstat_refused later later_fresh reader reading called new stop.0 stop.2 ∙ ap Err stop.1))
         (symlink_named_too (looks_of nat_eq world)
-        (looks_of nat_eq later) did.task reading Missing KnownSo leads new to parts.to_named
-        (named_place (looks_of nat_eq world) did.task new to to_walked parts.to_named) place_after new_stepped
+        (looks_of nat_eq later) it.did.task reading Missing KnownSo leads new to parts.to_named
+        (named_place (looks_of nat_eq world) it.did.task new to to_walked parts.to_named) place_after new_stepped
         (λ slash. (directory_no_link (node_at nat_eq later place_after) directory_after, directory_after)))
 
     old_missing : (later_fresh : Fresh ℕ)
         → (policy nat_eq later_fresh later reader (Lstat old)).answer ≡ Err (denial W6)
     old_missing later_fresh =
         let stop = symlink_missing (looks_of nat_eq world)
-        (looks_of nat_eq later) did.task reading Missing KnownSo leads old from parts.from_named
-        (named_place (looks_of nat_eq world) did.task old from parts.from_walked parts.from_named) (denial W6) refl
+        (looks_of nat_eq later) it.did.task reading Missing KnownSo leads old from parts.from_named
+        (named_place (looks_of nat_eq world) it.did.task old from parts.from_walked parts.from_named) (denial W6) refl
         (λ known.
         stepped_by later reading from.parent from.last parts.from_named None
         (ap (λ o. entry_named (name_of from.last) (entries_in o)) (here_is from.parent known)
-        ∙ old_left world fresh name (Rename old new) Done is plain serves refl refl did from.parent
-        (name_of from.last) to.parent (name_of to.last) (object_there from) None permit_is parts.uncovered
-        seen.moves.replaced_other (now_there from.parent known))) in
+        ∙ old_left it permit_is parts.uncovered seen.moves.replaced_other (now_there from.parent known))) in
         lstat_refused later later_fresh reader reading called old stop.0 stop.2 ∙ ap Err stop.1
 
     -- its names
     list_walk : EndsThere Missing (directory_walk nat_eq (looks_of nat_eq later) reading new) place_after
-        (named_place (looks_of nat_eq world) did.task new to to_walked parts.to_named).here.left
+        (named_place (looks_of nat_eq world) it.did.task new to to_walked parts.to_named).here.left
     list_walk = directory_named_too (looks_of nat_eq world)
-        (looks_of nat_eq later) did.task reading Missing KnownSo leads new to parts.to_named
-        (named_place (looks_of nat_eq world) did.task new to to_walked parts.to_named) place_after new_stepped
+        (looks_of nat_eq later) it.did.task reading Missing KnownSo leads new to parts.to_named
+        (named_place (looks_of nat_eq world) it.did.task new to to_walked parts.to_named) place_after new_stepped
         (directory_no_link (node_at nat_eq later place_after) directory_after) directory_after
 
     abbrev Listed : Fresh ℕ → Type 0
@@ -212,7 +195,7 @@ module _ (world : World ℕ) (fresh : Fresh ℕ) (name : TaskName) (old new : Li
         read false e = inr (inl e)
 
         by : EndsThere Missing (directory_walk nat_eq (looks_of nat_eq later) reading new) place_after
-            (named_place (looks_of nat_eq world) did.task new to to_walked parts.to_named).here.left
+            (named_place (looks_of nat_eq world) it.did.task new to to_walked parts.to_named).here.left
             → Listed later_fresh ⊎ (RefusedBy later_fresh C1 ⊎ RefusedBy later_fresh W6)
         by (inl ends) = read (node_allows reading.credentials read_right (node_at nat_eq later place_after))
             (list_of later later_fresh reader reading called new is_left.1 _ ends.1)
@@ -229,7 +212,7 @@ module _ (world : World ℕ) (fresh : Fresh ℕ) (name : TaskName) (old new : Li
         may_read (Some node) directory = read_all reading.credentials all node.attr node.content
 
         by : EndsThere Missing (directory_walk nat_eq (looks_of nat_eq later) reading new) place_after
-            (named_place (looks_of nat_eq world) did.task new to to_walked parts.to_named).here.left
+            (named_place (looks_of nat_eq world) it.did.task new to to_walked parts.to_named).here.left
             → Listed later_fresh ⊎ RefusedBy later_fresh W6
         by (inl ends) = inl (list_of later later_fresh reader reading called new is_left.1 _ ends.1
             ∙ ap (λ b. cond b (Ok (Names (names_in (node_at nat_eq later place_after)))) (Err (denial C1)))
@@ -262,70 +245,79 @@ module _ (old new : List ℕ) (world : World ℕ) (fresh : Fresh ℕ) (name : Ta
       → LooksFrom (policy nat_eq fresh world name (Rename old new)).world task reader reading
       → IsAnsweredUnless W6 (policy nat_eq fresh world name (Rename old new)).world reader (Ls new) (Names names))
 
-  did : IsPermitted world fresh name (Rename old new) Done
-  did = permitted world fresh name (Rename old new) Done refl granted
+  abbrev it : HasSucceeded world fresh name (Rename old new) Done
+  it = record {
+    is = is;
+    plain = plain;
+    serves = serves;
+    other = refl;
+    few = refl;
+    did = permitted world fresh name (Rename old new) Done refl granted;
+  }
 
-  task_is : did.task ≡ task
-  task_is = same_Some did.task task (sym did.called ∙ called)
+  task_is : it.did.task ≡ task
+  task_is = same_Some it.did.task task (sym it.did.called ∙ called)
 
-  to_here : new_walk nat_eq (looks_of nat_eq world) did.task new ≡ Ok to
+  to_here : new_walk nat_eq (looks_of nat_eq world) it.did.task new ≡ Ok to
   to_here = ap (λ t. new_walk nat_eq (looks_of nat_eq world) t new) task_is ∙ to_is
 
   two : is_one_object nat_eq (looks_of nat_eq world) (object_there from) to.object ≡ false
   two = ap (is_one_object nat_eq (looks_of nat_eq world) (object_there from)) free
 
-  parts : NamesParts (looks_of nat_eq world) did.task old new from to did.permit
-  parts = names_parts (looks_of nat_eq world) did.task old new from to did.permit
-      (ap (λ t. old_leaf_walk nat_eq (looks_of nat_eq world) t old) task_is ∙ from_is) to_here two did.judged
+  parts : NamesParts (looks_of nat_eq world) it.did.task old new from to it.did.permit
+  parts = names_parts (looks_of nat_eq world) it.did.task old new from to it.did.permit
+      (ap (λ t. old_leaf_walk nat_eq (looks_of nat_eq world) t old) task_is ∙ from_is) to_here two it.did.judged
 
-  to_walked : place_walk nat_eq (looks_of nat_eq world) did.task new ≡ Ok to
-  to_walked = new_parts (looks_of nat_eq world) did.task new to to_here
+  to_walked : place_walk nat_eq (looks_of nat_eq world) it.did.task new ≡ Ok to
+  to_walked = new_parts (looks_of nat_eq world) it.did.task new to to_here
 
-  permit_is : did.permit ≡ ToRename from.parent (name_of from.last) to.parent (name_of to.last) (object_there from) None
+  permit_is : it.did.permit ≡ ToRename from.parent (name_of from.last) to.parent (name_of to.last) (object_there from)
+      None
   permit_is = parts.permit_is ∙ ap
       (ToRename from.parent (name_of from.last) to.parent (name_of to.last) (object_there from)) free
 
   is_dir : is_directory_node ((files_at nat_eq world from.parent).tree.node (object_there from).node) ≡ true
-  is_dir = is_directory_before world fresh name old new from to is plain serves did parts directory
+  is_dir = is_directory_before it parts directory
 
-  outside : StandsOutside world did.task (object_there from)
+  outside : StandsOutside world it.did.task (object_there from)
   outside = subst (λ t. StandsOutside world t (object_there from)) (sym task_is) stands
 
   caller_here : task_called (policy nat_eq fresh world name (Rename old new)).world name
-      ≡ Some (raised_task name did.task)
-  caller_here = caller world fresh name (Rename old new) Done is plain serves refl refl did from.parent
-      (name_of from.last) to.parent (name_of to.last) (object_there from) permit_is parts.uncovered is_dir outside
+      ≡ Some (raised_task name it.did.task)
+  caller_here = caller it permit_is parts.uncovered is_dir outside
 
   same_stand : (reader : TaskName) (reading : Task ℕ)
       → LooksFrom (policy nat_eq fresh world name (Rename old new)).world task reader reading
-      → StandsAs did.task reading
+      → StandsAs it.did.task reading
   same_stand reader reading looks =
       subst (λ t. StandsAs t reading) (sym task_is) (all_stands _ task reader reading looks)
 
   moved_told : RenamedTold
   moved_told = (
-    stat_line (before world fresh name old new from to is plain serves did parts),
-    old_told world fresh name old new from to is plain serves did parts,
-    new_told world fresh name old new from to is plain serves did parts to_walked permit_is is_dir outside name
-        (raised_task name did.task) caller_here (raised_stands name did.task) (inl (raised_credentials name did.task)),
-    old_missing world fresh name old new from to is plain serves did parts to_walked permit_is is_dir outside name
-        (raised_task name did.task) caller_here (raised_stands name did.task) (inl (raised_credentials name did.task)),
+    stat_line (before it parts),
+    old_told it parts,
+    new_told it parts to_walked permit_is is_dir outside name
+        (raised_task name it.did.task) caller_here (raised_stands name it.did.task)
+        (inl (raised_credentials name it.did.task)),
+    old_missing it parts to_walked permit_is is_dir outside name
+        (raised_task name it.did.task) caller_here (raised_stands name it.did.task)
+        (inl (raised_credentials name it.did.task)),
     λ reader reading looks. (
-      new_told world fresh name old new from to is plain serves did parts to_walked permit_is is_dir outside reader
+      new_told it parts to_walked permit_is is_dir outside reader
           reading looks.called (same_stand reader reading looks) (inr looks.all),
-      old_missing world fresh name old new from to is plain serves did parts to_walked permit_is is_dir outside reader
+      old_missing it parts to_walked permit_is is_dir outside reader
           reading looks.called (same_stand reader reading looks) (inr looks.all),
     ),
   )
 
   moved_listed : RenamedListed
   moved_listed = (
-    names_in (before world fresh name old new from to is plain serves did parts),
-    old_listed world fresh name old new from to is plain serves did parts directory,
-    new_listed world fresh name old new from to is plain serves did parts to_walked permit_is is_dir outside name
-        (raised_task name did.task) caller_here (raised_stands name did.task) (inl (raised_credentials name did.task)),
-    λ reader reading looks.
-        all_listed world fresh name old new from to is plain serves did parts to_walked permit_is is_dir outside reader
+    names_in (before it parts),
+    old_listed it parts directory,
+    new_listed it parts to_walked permit_is is_dir outside name
+        (raised_task name it.did.task) caller_here (raised_stands name it.did.task)
+        (inl (raised_credentials name it.did.task)),
+    λ reader reading looks. all_listed it parts to_walked permit_is is_dir outside reader
         reading looks.called (same_stand reader reading looks) (inr looks.all) looks.all,
   )
 

@@ -1,7 +1,7 @@
 -- An object that was renamed, over another one or not, is found where its new name leads, with what it had; the old
 -- name is missing.
 use Rattle.std.proofs.Common.{◌≡◌, refl, sym, ap, subst, ◌∙◌, inl, inr, ◌⊎◌, ⊎_elim, true≢false, ℕ, nat_eq, Bool, true, false, cond, not, ◌&&◌, List, [], ◌∷◌, Option, Some, None, is_some, Ok, Err, length, map, unwrap_or}
-use Rattle.vt_spec.proofs.Common.{Done, Fresh, IsWorld, LastWord, Location, Looks, Ls, Lstat, Names, Node, Permit, Place, Rename, Serves, Task, TaskName, ToRename, Told, World, and_then-Ok, denial, directory_from_entry, ends_in_slash, entries_in, entry_at, entry_named, files_at, holds_of, is_directory, is_directory_at, is_directory_node, is_directory_there, is_mount_point_anywhere, is_one_object, is_special, looks_of, mount_at, name_of, names_in, new_walk, node_allows, node_at, object_there, old_leaf_walk, old_walk, old_word_rules, or_parts, passing, place_walk, policy, read_right, rename_new_walk, rename_permit, rename_rules, renamed_permit, same_Some, same_ok, stat_line, stepped, task_called, walk_end}
+use Rattle.vt_spec.proofs.Common.{Done, Fresh, IsWorld, LastWord, Location, Looks, Ls, Lstat, Names, Node, Permit, Place, Rename, Task, TaskName, ToRename, Told, World, and_then-Ok, denial, directory_from_entry, ends_in_slash, entries_in, entry_at, entry_named, files_at, holds_of, is_directory, is_directory_at, is_directory_node, is_directory_there, is_mount_point_anywhere, is_one_object, is_special, looks_of, mount_at, name_of, names_in, new_walk, node_allows, node_at, object_there, old_leaf_walk, old_walk, old_word_rules, or_parts, passing, place_walk, policy, read_right, rename_new_walk, rename_permit, rename_rules, renamed_permit, same_Some, same_ok, stat_line, stepped, task_called, walk_end}
 use Rattle.vt_spec.specs.declared.errors.Rule.TheVariants.{C1, W3, W6}
 use Rattle.vt_laws_worlds.specs.Permits.Sees.{MayBeRenamed}
 use Rattle.vt_laws_worlds.proofs.permits.sees.SeesNames.{tree_here}
@@ -10,7 +10,7 @@ use Rattle.vt_laws_worlds.specs.Worlds.Kept.{IsPlain}
 use Rattle.vt_laws_worlds.proofs.worlds.Reached.{IsFound, directory_no_link}
 use Rattle.vt_laws_later_calls.specs.LaterNames.{LeadsToName, RenameThenFound, RenameThenListed}
 use Rattle.vt_laws_later_calls.proofs.later.AfterRename.{free_left, free_over, is_left, may, new_left, object_left, object_shown, old_left, to_shown}
-use Rattle.vt_laws_later_calls.proofs.Granted.{IsPermitted, permitted}
+use Rattle.vt_laws_later_calls.proofs.Granted.{HasSucceeded, IsPermitted, permitted}
 use Rattle.vt_laws_later_calls.proofs.Looked.{list_of, lstat_of, lstat_refused}
 use Rattle.vt_laws_later_calls.proofs.MadeSeen.{Never, surely}
 use Rattle.vt_laws_later_calls.proofs.Opened.{walk_ended}
@@ -94,10 +94,9 @@ there_is : (test : Location ℕ → Bool) (o : Option (Location ℕ)) (default :
 there_is test None default e = absurd (true≢false (sym e))
 there_is test (Some a) default e = e
 
-module _ (world : World ℕ) (fresh : Fresh ℕ) (name : TaskName) (old new : List ℕ) (from to : Place ℕ)
-    (is : IsWorld nat_eq world) (plain : IsPlain world) (serves : Serves nat_eq world fresh)
-    (did : IsPermitted world fresh name (Rename old new) Done)
-    (parts : NamesParts (looks_of nat_eq world) did.task old new from to did.permit) where
+module _ {world : World ℕ} {fresh : Fresh ℕ} {name : TaskName} {old new : List ℕ} {from to : Place ℕ}
+    (it : HasSucceeded world fresh name (Rename old new) Done)
+    (parts : NamesParts (looks_of nat_eq world) it.did.task old new from to it.did.permit) where
   abbrev object : ℕ
   object = (object_there from).node
 
@@ -111,12 +110,10 @@ module _ (world : World ℕ) (fresh : Fresh ℕ) (name : TaskName) (old new : Li
   place_before = record { mount = from.parent.mount; node = object }
 
   seen : MayBeRenamed world from.parent (name_of from.last) to.parent (name_of to.last) (object_there from) to.object
-  seen = may world fresh name (Rename old new) Done is plain serves refl refl did from.parent
-      (name_of from.last) to.parent (name_of to.last) (object_there from) to.object parts.permit_is parts.uncovered
+  seen = may it parts.permit_is parts.uncovered
 
   object_fs : (mount_at nat_eq world (object_there from)).filesystem ≡ fs
-  object_fs = object_shown world fresh name (Rename old new) Done is plain serves refl refl did from.parent
-      (name_of from.last) to.parent (name_of to.last) (object_there from) to.object parts.permit_is parts.uncovered
+  object_fs = object_shown it parts.permit_is parts.uncovered
 
   abbrev pub before : Option (Node ℕ)
   before = (files_at nat_eq world from.parent).tree.node object
@@ -127,26 +124,27 @@ module _ (world : World ℕ) (fresh : Fresh ℕ) (name : TaskName) (old new : Li
       ∙ there_is (is_directory_at nat_eq world) from.object from.parent e
 
   -- Before the call
-  at_old : NamedPlace (looks_of nat_eq world) did.task old from
-  at_old = named_place (looks_of nat_eq world) did.task old from parts.from_walked parts.from_named
+  at_old : NamedPlace (looks_of nat_eq world) it.did.task old from
+  at_old = named_place (looks_of nat_eq world) it.did.task old from parts.from_walked parts.from_named
 
-  own : task_called world did.task.name ≡ Some did.task
-  own = called_own world fresh name (Rename old new) Done is plain serves refl refl did
+  own : task_called world it.did.task.name ≡ Some it.did.task
+  own = called_own it
 
-  old_stepped : stepped nat_eq (looks_of nat_eq world) did.task from.parent from.last ≡ Ok place_before
-  old_stepped = stepped_by world did.task from.parent from.last parts.from_named (Some object) seen.moves.named
-      ∙ ap Ok (free_over world is (object_there from) parts.uncovered place_before (sym object_fs) refl)
+  old_stepped : stepped nat_eq (looks_of nat_eq world) it.did.task from.parent from.last ≡ Ok place_before
+  old_stepped = stepped_by world it.did.task from.parent from.last parts.from_named (Some object) seen.moves.named
+      ∙ ap Ok (free_over world it.is (object_there from) parts.uncovered place_before (sym object_fs) refl)
 
   pub old_told : (other_fresh : Fresh ℕ)
       → (policy nat_eq other_fresh world name (Lstat old)).answer ≡ Ok (Told (stat_line before))
   old_told other_fresh =
-      let walk = surely _ _ _ (symlink_named_too (looks_of nat_eq world) (looks_of nat_eq world) did.task did.task Never
-      (IsFound world is did.task)
-      (itself_leads Never world is plain did.task own) old from parts.from_named at_old place_before
+      let walk = surely _ _ _
+      (symlink_named_too (looks_of nat_eq world) (looks_of nat_eq world) it.did.task it.did.task Never
+      (IsFound world it.is it.did.task)
+      (itself_leads Never world it.is it.plain it.did.task own) old from parts.from_named at_old place_before
       (λ known. old_stepped) (λ slash.
       let directory = is_directory_before (parts.from_slash (sym at_old.slash_is ∙ slash)) in
       (directory_no_link before directory, directory))) in
-      lstat_of world other_fresh name did.task did.called old _ walk.1
+      lstat_of world other_fresh name it.did.task it.did.called old _ walk.1
 
   pub old_listed : is_directory_there nat_eq (looks_of nat_eq world) from ≡ true → (other_fresh : Fresh ℕ)
       → ((policy nat_eq other_fresh world name (Ls old)).answer ≡ Ok (Names (names_in before)))
@@ -154,11 +152,11 @@ module _ (world : World ℕ) (fresh : Fresh ℕ) (name : TaskName) (old new : Li
   old_listed directory_there other_fresh =
       let directory = is_directory_before directory_there in
       let walk = surely _ _ _ (directory_named_too (looks_of nat_eq world)
-      (looks_of nat_eq world) did.task did.task Never (IsFound world is did.task)
-      (itself_leads Never world is plain did.task own) old from parts.from_named at_old place_before
+      (looks_of nat_eq world) it.did.task it.did.task Never (IsFound world it.is it.did.task)
+      (itself_leads Never world it.is it.plain it.did.task own) old from parts.from_named at_old place_before
       (λ known. old_stepped) (directory_no_link before directory) directory) in
-      by (node_allows did.task.credentials read_right before)
-      (list_of world other_fresh name did.task did.called old plain _ walk.1)
+      by (node_allows it.did.task.credentials read_right before)
+      (list_of world other_fresh name it.did.task it.did.called old it.plain _ walk.1)
     where
       by : (b : Bool) → (policy nat_eq other_fresh world name (Ls old)).answer
           ≡ cond b (Ok (Names (names_in before))) (Err (denial C1))
@@ -169,8 +167,7 @@ module _ (world : World ℕ) (fresh : Fresh ℕ) (name : TaskName) (old new : Li
 
   -- After it
   left_is : IsWorld nat_eq later × IsPlain later
-  left_is = is_left world fresh name (Rename old new) Done is plain serves refl refl did from.parent
-      (name_of from.last) to.parent (name_of to.last) (object_there from) to.object parts.permit_is parts.uncovered
+  left_is = is_left it parts.permit_is parts.uncovered
 
   module _ (reader : TaskName) (reading : Task ℕ) (path : List ℕ)
       (called : task_called later reader ≡ Some reading) where
@@ -206,15 +203,13 @@ module _ (world : World ℕ) (fresh : Fresh ℕ) (name : TaskName) (old new : Li
     -- by the new name
     module _ (lead : LeadsToName world later reading path to.parent to.last) where
       to_fs : (mount_at nat_eq world to.parent).filesystem ≡ fs
-      to_fs = to_shown world fresh name (Rename old new) Done is plain serves refl refl did from.parent
-          (name_of from.last) to.parent (name_of to.last) (object_there from) to.object parts.permit_is parts.uncovered
+      to_fs = to_shown it parts.permit_is parts.uncovered
 
       abbrev place_after : Location ℕ
       place_after = record { mount = lead.place.parent.mount; node = object }
 
       entry_after : entry_at (tree_in later fs) to.parent.node (name_of to.last) ≡ Some object
-      entry_after = new_left world fresh name (Rename old new) Done is plain serves refl refl did from.parent
-          (name_of from.last) to.parent (name_of to.last) (object_there from) to.object parts.permit_is parts.uncovered
+      entry_after = new_left it parts.permit_is parts.uncovered
           (there to.parent to.last parts.to_named to_fs lead)
 
       entry_here : entry_named (name_of lead.place.last) (entries_in (node_at nat_eq later lead.place.parent))
@@ -230,17 +225,14 @@ module _ (world : World ℕ) (fresh : Fresh ℕ) (name : TaskName) (old new : Li
       kept : IsKept before (node_at nat_eq later place_after)
       kept = subst (λ n. IsKept before (node_in later n object))
           (sym (parent_fs to.parent to.last parts.to_named to_fs lead))
-          (object_left world fresh name (Rename old new) Done is plain serves refl refl did from.parent
-          (name_of from.last) to.parent (name_of to.last) (object_there from) to.object parts.permit_is parts.uncovered
+          (object_left it parts.permit_is parts.uncovered
           (ap (λ n. is_some (node_in later n object)) (sym (parent_fs to.parent to.last parts.to_named to_fs lead))
           ∙ object_there_still))
 
       new_stepped : stepped nat_eq (looks_of nat_eq later) reading lead.place.parent lead.place.last ≡ Ok place_after
       new_stepped = stepped_by later reading lead.place.parent lead.place.last
           (named_so to.parent to.last parts.to_named to_fs lead) (Some object) entry_here
-          ∙ ap Ok (free_left world fresh name (Rename old new) Done is plain serves refl refl did from.parent
-          (name_of from.last) to.parent
-          (name_of to.last) (object_there from) to.object parts.permit_is parts.uncovered place_after
+          ∙ ap Ok (free_left it parts.permit_is parts.uncovered place_after
           (parent_found to.parent to.last parts.to_named to_fs lead).0.0
           (parent_fs to.parent to.last parts.to_named to_fs lead) refl)
 
@@ -294,9 +286,7 @@ module _ (world : World ℕ) (fresh : Fresh ℕ) (name : TaskName) (old new : Li
         (at_name from.parent from.last parts.from_named refl lead) (denial W6) refl (λ known.
         stepped_by later reading lead.place.parent lead.place.last named None
         (leads_to from.parent from.last parts.from_named refl lead None
-        (old_left world fresh name (Rename old new) Done is plain serves refl refl did from.parent
-        (name_of from.last) to.parent (name_of to.last)
-        (object_there from) to.object parts.permit_is parts.uncovered seen.moves.replaced_other
+        (old_left it parts.permit_is parts.uncovered seen.moves.replaced_other
         (there from.parent from.last parts.from_named refl lead)))) in
         lstat_refused later later_fresh reader reading called path stop.0 stop.2 ∙ ap Err stop.1
 
@@ -319,24 +309,37 @@ module _ (old new : List ℕ) (world : World ℕ) (fresh : Fresh ℕ) (name : Ta
 
 pub rename_then_found : RenameThenFound
 rename_then_found old new world fresh name task from to is plain serves called from_is to_is two granted =
-    let did = renamed old new world fresh name task from to called from_is to_is two granted in
+    let it : HasSucceeded world fresh name (Rename old new) Done = record {
+      is = is;
+      plain = plain;
+      serves = serves;
+      other = refl;
+      few = refl;
+      did = renamed old new world fresh name task from to called from_is to_is two granted;
+    } in
     let parts = parts_of old new world fresh name task from to called from_is to_is two granted in (
-      stat_line (before world fresh name old new from to is plain serves did parts),
-      old_told world fresh name old new from to is plain serves did parts,
+      stat_line (before it parts),
+      old_told it parts,
       λ reader reading path called_too. (
-        λ lead slashed. new_told world fresh name old new from to is plain serves did parts reader reading path
-            called_too lead slashed,
-        λ lead. old_gone world fresh name old new from to is plain serves did parts reader reading path called_too lead,
+        λ lead slashed. new_told it parts reader reading path called_too lead slashed,
+        λ lead. old_gone it parts reader reading path called_too lead,
       ),
     )
 
 pub rename_then_listed : RenameThenListed
 rename_then_listed old new world fresh name task from to is plain serves called from_is to_is two granted directory =
-    let did = renamed old new world fresh name task from to called from_is to_is two granted in
+    let it : HasSucceeded world fresh name (Rename old new) Done = record {
+      is = is;
+      plain = plain;
+      serves = serves;
+      other = refl;
+      few = refl;
+      did = renamed old new world fresh name task from to called from_is to_is two granted;
+    } in
     let parts = parts_of old new world fresh name task from to called from_is to_is two granted in (
-      names_in (before world fresh name old new from to is plain serves did parts),
-      old_listed world fresh name old new from to is plain serves did parts directory,
+      names_in (before it parts),
+      old_listed it parts directory,
       λ reader reading path called_too lead.
-          new_listed world fresh name old new from to is plain serves did parts reader reading path called_too lead
+          new_listed it parts reader reading path called_too lead
           directory,
     )

@@ -1,17 +1,16 @@
 -- A name more leads to the object of the old one.
 use Rattle.std.proofs.Common.{◌≡◌, ◌≢◌, refl, sym, ap, subst, ◌∙◌, inl, inr, true≢false, ℕ, nat_eq, eqb-true, true, false, List, Some, is_some, Ok, option_to_list, Bool}
-use Rattle.vt_spec.proofs.Common.{Change, Done, Fresh, Here, IsWorld, LinkTo, Location, Looks, Lstat, Permit, Place, Serves, Task, TaskName, ToChange, Told, World, apply, changed, directory_used, entries_in, entry_named, files_at, is_directory_at, is_directory_node, is_special, linking, looks_of, name_of, node_at, not-false, place_walk, policy, raised_task, same_Some, stat_line, symlink_walk, task_called, topmost, with_change}
+use Rattle.vt_spec.proofs.Common.{Change, Done, Fresh, Here, LinkTo, Location, Looks, Lstat, Permit, Place, Task, TaskName, ToChange, Told, World, apply, changed, directory_used, entries_in, entry_named, files_at, is_directory_at, is_directory_node, is_special, linking, looks_of, name_of, node_at, not-false, place_walk, policy, raised_task, same_Some, stat_line, symlink_walk, task_called, topmost, with_change}
 use Rattle.vt_spec.specs.Machine.Looks as Look
 use Rattle.vt_laws_trees.specs.Calls.Inodes.{change_of}
 use Rattle.vt_laws_worlds.specs.Permits.Sees.{SeesTo}
 use Rattle.vt_laws_worlds.proofs.permits.sees.SeesNames.{tree_here}
 use Rattle.vt_laws_worlds.proofs.permits.sees.SeesTasks.{given_permits_are_seen_to}
 use Rattle.vt_laws_trees.specs.Trees.{IsFileTree}
-use Rattle.vt_laws_worlds.specs.Worlds.Kept.{IsPlain}
 use Rattle.vt_laws_later_calls.specs.LaterPaths.{LinkThenLstat}
 use Rattle.vt_laws_later_calls.specs.Later.{IsAnswered}
-use Rattle.vt_laws_later_calls.proofs.AfterChange.{all_stays, later_mounts, spent}
-use Rattle.vt_laws_later_calls.proofs.Granted.{IsPermitted, permitted}
+use Rattle.vt_laws_later_calls.proofs.AfterChange.{ChangesTree, all_stays, later_mounts, spent}
+use Rattle.vt_laws_later_calls.proofs.Granted.{HasSucceeded, permitted}
 use Rattle.vt_laws_later_calls.proofs.Looked.{lstat_of}
 use Rattle.vt_laws_later_calls.proofs.MadeSeen.{Never, new_leaf_parts, no_slash_there, surely}
 use Rattle.vt_laws_later_calls.proofs.OpenedNew.{given_of}
@@ -50,10 +49,9 @@ link_parts looks task old new permit (makes_hard_link _ _ from place from_end en
       permit_is = refl;
     }
 
-module _ (world : World ℕ) (fresh : Fresh ℕ) (name : TaskName) (old new : List ℕ) (is : IsWorld nat_eq world)
-    (plain : IsPlain world) (serves : Serves nat_eq world fresh)
-    (did : IsPermitted world fresh name (LinkTo old new) Done)
-    (parts : LinkParts (looks_of nat_eq world) did.task old new did.permit) where
+module _ {world : World ℕ} {fresh : Fresh ℕ} {name : TaskName} {old new : List ℕ}
+    (it : HasSucceeded world fresh name (LinkTo old new) Done)
+    (parts : LinkParts (looks_of nat_eq world) it.did.task old new it.did.permit) where
   abbrev place : Place ℕ
   place = parts.place
 
@@ -66,9 +64,10 @@ module _ (world : World ℕ) (fresh : Fresh ℕ) (name : TaskName) (old new : Li
   abbrev later : World ℕ
   later = (policy nat_eq fresh world name (LinkTo old new)).world
 
-  seen_to : SeesTo world did.task (ToChange place.parent change)
-  seen_to = subst (SeesTo world did.task) parts.permit_is (given_permits_are_seen_to world fresh did.task did.permit is
-      (given_of world fresh name (LinkTo old new) Done serves refl refl did))
+  seen_to : SeesTo world it.did.task (ToChange place.parent change)
+  seen_to = subst (SeesTo world it.did.task) parts.permit_is
+      (given_permits_are_seen_to world fresh it.did.task it.did.permit it.is
+      (given_of world fresh name (LinkTo old new) Done it.serves refl refl it.did))
 
   in_directory : is_directory_at nat_eq world place.parent ≡ true
   in_directory = seen_to.1.name_is_free.in_directory
@@ -77,14 +76,17 @@ module _ (world : World ℕ) (fresh : Fresh ℕ) (name : TaskName) (old new : Li
   something = directory_used (files_at nat_eq world place.parent).tree place.parent.node in_directory
 
   tree : IsFileTree (files_at nat_eq world place.parent)
-  tree = tree_here world is place.parent in_directory
+  tree = tree_here world it.is place.parent in_directory
 
-  asks : change_of fresh world did.permit ≡ Some (place.parent, change)
+  asks : change_of fresh world it.did.permit ≡ Some (place.parent, change)
   asks = ap (change_of fresh world) parts.permit_is
 
-  does : spent world fresh name (LinkTo old new) Done is plain serves refl refl did
+  does : spent it
       ≡ with_change nat_eq fresh world place.parent change
-  does = ap (λ p. (apply nat_eq fresh world did.task p).world) parts.permit_is
+  does = ap (λ p. (apply nat_eq fresh world it.did.task p).world) parts.permit_is
+
+  abbrev changes : ChangesTree it place.parent change fresh
+  changes = record { asks = asks; does = does; something = something; may = tt; tree = tree }
 
   stay : TreeStays (files_at nat_eq world place.parent).tree
       (changed nat_eq (files_at nat_eq world place.parent) change).tree Never
@@ -106,58 +108,56 @@ module _ (world : World ℕ) (fresh : Fresh ℕ) (name : TaskName) (old new : Li
       (sym same) ∙ sym (ap (is_directory_at nat_eq world) same_object) ∙ parts.no_directory)
 
   there : (reader : TaskName) (reading : Task ℕ) → task_called later reader ≡ Some reading
-      → StandsAs did.task reading → MayLook did.task reading
+      → StandsAs it.did.task reading → MayLook it.did.task reading
       → IsAnswered later reader (Lstat new) (Told (stat_line (node_at nat_eq world object)))
   there reader reading called stands looks later_fresh =
       let own = own_name later reader reading called in
-      let at_name = named_place (looks_of nat_eq world) did.task new place parts.walked parts.named in
+      let at_name = named_place (looks_of nat_eq world) it.did.task new place parts.walked parts.named in
       let walk = surely _ _ _ (symlink_named_too (looks_of nat_eq world)
-      (looks_of nat_eq later) did.task reading Never _ (leads world fresh name
-      (LinkTo old new) Done is plain serves refl refl did place.parent change fresh asks does something tt tree Never
-      stay reading own stands rights looks) new place parts.named at_name
+      (looks_of nat_eq later) it.did.task reading Never _ (leads changes stay reading own stands rights looks) new
+      place parts.named at_name
       (record { mount = place.parent.mount; node = object.node }) (λ known.
       stepped_by later reading place.parent place.last parts.named (Some object.node)
-      (ap (λ o. entry_named (name_of place.last) (entries_in o)) (seen_there world fresh name
-      (LinkTo old new) Done is plain serves refl refl did place.parent change fresh asks does something tt tree Never
-      stay reading own stands known) ∙ name_leads (files_at nat_eq world place.parent) Never place.parent.node
+      (ap (λ o. entry_named (name_of place.last) (entries_in o)) (seen_there changes stay reading own stands known)
+      ∙ name_leads (files_at nat_eq world place.parent) Never place.parent.node
       (name_of place.last) object.node in_directory seen_to.1.name_is_free.free)
       ∙ ap Ok (ap (λ mounts. topmost nat_eq mounts (record { mount = place.parent.mount; node = object.node }))
-      (later_mounts world fresh name
-      (LinkTo old new) Done is plain serves refl refl did place.parent change fresh asks does something tt tree)
-      ∙ uncovered world is (record { mount = place.parent.mount; node = object.node })
+      (later_mounts it changes)
+      ∙ uncovered world it.is (record { mount = place.parent.mount; node = object.node })
       (sym (ap (is_directory_at nat_eq world) same_object) ∙ parts.no_directory)))
       (λ slash. absurd (true≢false (sym slash ∙ at_name.slash_is ∙ parts.no_slash)))) in
       lstat_of later later_fresh reader reading called new _ walk.1 ∙ ap (λ o. Ok (Told (stat_line o)))
-      (seen_at world fresh name
-      (LinkTo old new) Done is plain serves refl refl did place.parent change fresh asks does something tt tree Never
-      stay reading own stands object.node ∙ all_stays world fresh name
-      (LinkTo old new) Done is plain serves refl refl did place.parent change fresh asks does something tt tree
+      (seen_at changes stay reading own stands object.node ∙ all_stays it changes
       (ap option_to_list seen_to.1.name_is_free.free) object.node
       ∙ named_other (files_at nat_eq world place.parent) Never place.parent.node
       (name_of place.last) object.node in_directory seen_to.1.name_is_free.free object.node object_other
       ∙ sym (ap (node_at nat_eq world) same_object))
 
-  caller_there : task_called later name ≡ Some (raised_task name did.task)
-  caller_there = caller world fresh name
-      (LinkTo old new) Done is plain serves refl refl did place.parent change fresh asks does something tt tree Never
-      stay
+  caller_there : task_called later name ≡ Some (raised_task name it.did.task)
+  caller_there = caller changes stay
 
 pub link_then_lstat : LinkThenLstat
 link_then_lstat old new world fresh name task is plain serves called granted = (
   stat_line (node_at nat_eq world parts.from.location),
-  λ other_fresh. lstat_of world other_fresh name did.task did.called old parts.from parts.found,
-  there world fresh name old new is plain serves did parts name (raised_task name did.task)
-      (caller_there world fresh name old new is plain serves did parts) (raised_stands name did.task)
-      (inl (raised_credentials name did.task)),
-  λ reader reading looks. there world fresh name old new is plain serves did parts reader reading looks.called
+  λ other_fresh. lstat_of world other_fresh name it.did.task it.did.called old parts.from parts.found,
+  there it parts name (raised_task name it.did.task) (caller_there it parts) (raised_stands name it.did.task)
+      (inl (raised_credentials name it.did.task)),
+  λ reader reading looks. there it parts reader reading looks.called
       (subst (λ t. StandsAs t reading) (sym task_is) (all_stands _ task reader reading looks)) (inr looks.all),
 )
   where
-    did : IsPermitted world fresh name (LinkTo old new) Done
-    did = permitted world fresh name (LinkTo old new) Done refl granted
+    it : HasSucceeded world fresh name (LinkTo old new) Done
+    it = record {
+      is = is;
+      plain = plain;
+      serves = serves;
+      other = refl;
+      few = refl;
+      did = permitted world fresh name (LinkTo old new) Done refl granted;
+    }
 
-    task_is : did.task ≡ task
-    task_is = same_Some did.task task (sym did.called ∙ called)
+    task_is : it.did.task ≡ task
+    task_is = same_Some it.did.task task (sym it.did.called ∙ called)
 
-    parts : LinkParts (looks_of nat_eq world) did.task old new did.permit
-    parts = link_parts (looks_of nat_eq world) did.task old new did.permit did.granted
+    parts : LinkParts (looks_of nat_eq world) it.did.task old new it.did.permit
+    parts = link_parts (looks_of nat_eq world) it.did.task old new it.did.permit it.did.granted

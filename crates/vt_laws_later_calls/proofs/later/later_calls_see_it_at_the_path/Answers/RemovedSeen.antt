@@ -1,6 +1,6 @@
 -- The name of a directory that was removed is missing.
 use Rattle.std.proofs.Common.{◌≡◌, refl, sym, ap, subst, ◌∙◌, inl, inr, ◌⊎◌, ℕ, nat_eq, true, false, ◌||◌, List, Some, None, is_some, Ok, Err, Bool}
-use Rattle.vt_spec.proofs.Common.{Done, Fresh, IsWorld, Location, Looks, Lstat, Permit, Place, Rmdir, Serves, Task, TaskName, ToRemoveDirectory, World, denial, entries_in, entry_named, execute_right, is_directory_at, is_directory_node, is_special, looks_of, may, mount_at, mount_numbered, name_of, node_allows, node_at, object_there, old_walk, place_walk, policy, raised_task, same_Some, special_word, task_called}
+use Rattle.vt_spec.proofs.Common.{Done, Fresh, IsWorld, Location, Looks, Lstat, Permit, Place, Rmdir, Task, TaskName, ToRemoveDirectory, World, denial, entries_in, entry_named, execute_right, is_directory_at, is_directory_node, is_special, looks_of, may, mount_at, mount_numbered, name_of, node_allows, node_at, object_there, old_walk, place_walk, policy, raised_task, same_Some, special_word, task_called}
 use Rattle.vt_spec.specs.declared.errors.Deny.{Deny}
 use Rattle.vt_spec.specs.declared.errors.Rule.TheVariants.{W4, W6, W8}
 use Rattle.vt_laws_mounts.proofs.mounts.MountsPlaces.{same_location_itself}
@@ -8,13 +8,13 @@ use Rattle.vt_laws_worlds.specs.Worlds.Kept.{IsPlain}
 use Rattle.vt_laws_later_calls.specs.Later.{IsOneInode}
 use Rattle.vt_laws_later_calls.specs.LaterPaths.{RmdirThenLstat}
 use Rattle.vt_laws_later_calls.proofs.later.AfterRemoval.{caller, is_left, mounts_seen, name_left, objects_stay, own_task, rights_left, seen_to}
-use Rattle.vt_laws_later_calls.proofs.Granted.{IsPermitted, permitted}
+use Rattle.vt_laws_later_calls.proofs.Granted.{HasSucceeded, permitted}
 use Rattle.vt_laws_later_calls.proofs.Looked.{lstat_refused, search_all}
 use Rattle.vt_laws_later_calls.proofs.Readers.{MayLook, all_stands, own_name, raised_credentials, raised_stands, stepped_by}
 use Rattle.vt_laws_later_calls.proofs.later.RemovalFits.{Fits, IsOutside, fits_ways}
 use Rattle.vt_laws_later_calls.proofs.later.later_calls_see_it_at_the_path.Answers.Unlinked.{Missing, old_parts}
 use Rattle.vt_laws_later_calls.proofs.Ways.{LeadsToo, same_end}
-use Rattle.vt_laws_later_calls.proofs.later.WaysLeft.{Known, node_here, ways_lead}
+use Rattle.vt_laws_later_calls.proofs.later.WaysLeft.{Known, SeesStill, node_here, ways_lead}
 use Rattle.vt_laws_later_calls.proofs.WaysPlaces.{named_place, symlink_missing}
 use Rattle.vt_laws_later_calls.proofs.WaysStay.{StandsAs, node_in}
 use Rattle.vt_laws_rules.specs.Granted.{IsGranted}
@@ -41,9 +41,9 @@ rmdir_parts looks task path place permit walk (removes_directory _ other end wor
       permit_is = ap (λ (p : Place ℕ). ToRemoveDirectory p.parent (name_of p.last) (object_there p)) same;
     }
 
-module _ (world : World ℕ) (fresh : Fresh ℕ) (name : TaskName) (path : List ℕ) (is : IsWorld nat_eq world)
-    (plain : IsPlain world) (serves : Serves nat_eq world fresh) (did : IsPermitted world fresh name (Rmdir path) Done)
-    (place : Place ℕ) (parts : RmdirParts (looks_of nat_eq world) did.task path place did.permit) where
+module _ {world : World ℕ} {fresh : Fresh ℕ} {name : TaskName} {path : List ℕ} {place : Place ℕ}
+    (it : HasSucceeded world fresh name (Rmdir path) Done)
+    (parts : RmdirParts (looks_of nat_eq world) it.did.task path place it.did.permit) where
   abbrev later : World ℕ
   later = (policy nat_eq fresh world name (Rmdir path)).world
 
@@ -51,116 +51,89 @@ module _ (world : World ℕ) (fresh : Fresh ℕ) (name : TaskName) (path : List 
   word = name_of place.last
 
   module _ (reader : TaskName) (reading : Task ℕ) (called : task_called later reader ≡ Some reading)
-      (stands : StandsAs did.task reading) (looks : MayLook did.task reading) (Refused : Deny → Type 0)
+      (stands : StandsAs it.did.task reading) (looks : MayLook it.did.task reading) (Refused : Deny → Type 0)
       (missing : Refused (denial W6)) where
     abbrev Fit : Location ℕ → Type 0
-    Fit = Fits world fresh name (Rmdir path) Done is plain serves refl refl did place.parent word
-        (object_there place) parts.permit_is reading stands.root Refused
+    Fit = Fits it parts.permit_is reading stands.root Refused
+
+    abbrev is_later : IsWorld nat_eq later × IsPlain later
+    is_later = is_left it parts.permit_is
+
+    abbrev still : SeesStill world later it.is it.plain is_later.0 is_later.1 it.did.task reading Refused Fit
+    still = record {
+      called = own_task it parts.permit_is;
+      called_later = own_name later reader reading called;
+      stands = stands;
+      seen = mounts_seen it parts.permit_is reading stands.root;
+      stay = objects_stay it parts.permit_is Refused missing;
+      fits = fits_ways it parts.permit_is reading stands.root Refused;
+    }
 
     abbrev KnownSo : Location ℕ → Type 0
-    KnownSo = Known world later is plain
-        (is_left world fresh name (Rmdir path) Done is plain serves refl refl did place.parent word
-        (object_there place) parts.permit_is).0
-        (is_left world fresh name (Rmdir path) Done is plain serves refl refl did place.parent word
-        (object_there place) parts.permit_is).1 did.task reading
-        (own_task world fresh name (Rmdir path) Done is plain serves refl refl did place.parent word
-        (object_there place) parts.permit_is) (own_name later reader reading called) stands Refused
-        (mounts_seen world fresh name (Rmdir path) Done is plain serves refl refl did place.parent word
-        (object_there place) parts.permit_is reading stands.root)
-        (objects_stay world fresh name (Rmdir path) Done is plain serves refl refl did place.parent word
-        (object_there place) parts.permit_is Refused missing) Fit
-        (fits_ways world fresh name (Rmdir path) Done is plain serves refl refl did place.parent word
-        (object_there place) parts.permit_is reading stands.root Refused)
+    KnownSo = Known world later it.is it.plain is_later.0 is_later.1 it.did.task reading still
 
     here_is : (here : Location ℕ) → KnownSo here → node_at nat_eq later here
         ≡ node_in later (mount_at nat_eq world here).filesystem here.node
-    here_is here known = node_here world later is plain
-        (is_left world fresh name (Rmdir path) Done is plain serves refl refl did place.parent word
-        (object_there place) parts.permit_is).0
-        (is_left world fresh name (Rmdir path) Done is plain serves refl refl did place.parent word
-        (object_there place) parts.permit_is).1 did.task reading
-        (own_task world fresh name (Rmdir path) Done is plain serves refl refl did place.parent word
-        (object_there place) parts.permit_is) (own_name later reader reading called) stands Refused
-        (mounts_seen world fresh name (Rmdir path) Done is plain serves refl refl did place.parent word
-        (object_there place) parts.permit_is reading stands.root)
-        (objects_stay world fresh name (Rmdir path) Done is plain serves refl refl did place.parent word
-        (object_there place) parts.permit_is Refused missing) Fit
-        (fits_ways world fresh name (Rmdir path) Done is plain serves refl refl did place.parent word
-        (object_there place) parts.permit_is reading stands.root Refused) here known.0
+    here_is here known = node_here world later it.is it.plain is_later.0 is_later.1 it.did.task reading still here
+        known.0
 
     now_there : (here : Location ℕ) → KnownSo here
         → is_some (node_in later (mount_at nat_eq world here).filesystem here.node) ≡ true
     now_there here known = ap is_some (sym (here_is here known)) ∙ known.0.1.1
 
     searched : (here : Location ℕ) → KnownSo here → is_directory_at nat_eq world here ≡ true
-        → may (looks_of nat_eq world) did.task here execute_right ≡ true
+        → may (looks_of nat_eq world) it.did.task here execute_right ≡ true
         → (may (looks_of nat_eq later) reading here execute_right ≡ true)
         ⊎ ((may (looks_of nat_eq later) reading here execute_right ≡ false) × Refused (denial W4))
     searched here known directory e = inl (by looks)
       where
-        by : MayLook did.task reading → may (looks_of nat_eq later) reading here execute_right ≡ true
+        by : MayLook it.did.task reading → may (looks_of nat_eq later) reading here execute_right ≡ true
         by (inr all) = search_all reading.credentials all (node_at nat_eq later here)
             (ap is_directory_node (here_is here known)
-            ∙ (objects_stay world fresh name (Rmdir path) Done is plain serves refl refl did place.parent word
-            (object_there place)
-            parts.permit_is Refused missing).directory (mount_at nat_eq world here).filesystem here.node known.0.0.1
+            ∙ (objects_stay it parts.permit_is Refused missing).directory (mount_at nat_eq world here).filesystem
+            here.node known.0.0.1
             (now_there here known) ∙ directory)
         by (inl same) = ap (λ who. node_allows who execute_right (node_at nat_eq later here)) same
-            ∙ ap (node_allows did.task.credentials execute_right) (here_is here known)
-            ∙ rights_left world fresh name (Rmdir path) Done is plain serves refl refl did place.parent word
-            (object_there place) parts.permit_is (mount_at nat_eq world here).filesystem here.node
-            (now_there here known) known.0.0.1 did.task.credentials execute_right ∙ e
+            ∙ ap (node_allows it.did.task.credentials execute_right) (here_is here known)
+            ∙ rights_left it parts.permit_is (mount_at nat_eq world here).filesystem here.node
+            (now_there here known) known.0.0.1 it.did.task.credentials execute_right ∙ e
 
-    module _ (root_fits : Fit did.task.root) (directory_fits : Fit did.task.directory) where
-      leads : LeadsToo (looks_of nat_eq world) (looks_of nat_eq later) did.task reading Refused KnownSo
-      leads = ways_lead world later is plain
-          (is_left world fresh name (Rmdir path) Done is plain serves refl refl did place.parent word
-          (object_there place) parts.permit_is).0
-          (is_left world fresh name (Rmdir path) Done is plain serves refl refl did place.parent word
-          (object_there place) parts.permit_is).1 did.task reading
-          (own_task world fresh name (Rmdir path) Done is plain serves refl refl did place.parent word
-          (object_there place) parts.permit_is) (own_name later reader reading called) stands Refused
-          (mounts_seen world fresh name (Rmdir path) Done is plain serves refl refl did place.parent word
-          (object_there place) parts.permit_is reading stands.root)
-          (objects_stay world fresh name (Rmdir path) Done is plain serves refl refl did place.parent word
-          (object_there place) parts.permit_is Refused missing) Fit
-          (fits_ways world fresh name (Rmdir path) Done is plain serves refl refl did place.parent word
-          (object_there place) parts.permit_is reading stands.root Refused) searched root_fits directory_fits
+    module _ (root_fits : Fit it.did.task.root) (directory_fits : Fit it.did.task.directory) where
+      leads : LeadsToo (looks_of nat_eq world) (looks_of nat_eq later) it.did.task reading Refused KnownSo
+      leads = ways_lead world later it.is it.plain is_later.0 is_later.1 it.did.task reading still searched root_fits
+          directory_fits
 
       gone : (later_fresh : Fresh ℕ)
           → (deny : Deny) × Refused deny × ((policy nat_eq later_fresh later reader (Lstat path)).answer ≡ Err deny)
       gone later_fresh =
           let stop = symlink_missing (looks_of nat_eq world)
-          (looks_of nat_eq later) did.task reading Refused KnownSo leads path place parts.named
-          (named_place (looks_of nat_eq world) did.task path place parts.walked parts.named) (denial W6) missing
+          (looks_of nat_eq later) it.did.task reading Refused KnownSo leads path place parts.named
+          (named_place (looks_of nat_eq world) it.did.task path place parts.walked parts.named) (denial W6) missing
           (λ known.
           stepped_by later reading place.parent place.last parts.named None
           (ap (λ o. entry_named word (entries_in o)) (here_is place.parent known)
-          ∙ name_left world fresh name (Rmdir path) Done is plain serves refl refl did place.parent word
-          (object_there place) parts.permit_is (now_there place.parent known))) in
+          ∙ name_left it parts.permit_is (now_there place.parent known))) in
           (stop.0.deny, stop.1, lstat_refused later later_fresh reader reading called path stop.0 stop.2)
 
   abbrev OutsideOf : Task ℕ → Location ℕ → Type 0
-  OutsideOf reading here = (roots : reading.root ≡ did.task.root)
-      → IsOutside world fresh name (Rmdir path) Done is plain serves refl refl did place.parent word
-      (object_there place) parts.permit_is reading roots here
+  OutsideOf reading here = (roots : reading.root ≡ it.did.task.root)
+      → IsOutside it parts.permit_is reading roots here
 
-  root_outside : (reading : Task ℕ) → OutsideOf reading did.task.root
+  root_outside : (reading : Task ℕ) → OutsideOf reading it.did.task.root
   root_outside reading roots removed =
-      ap (λ b. b || nat_eq did.task.root.node (mount_at nat_eq world did.task.root).root)
-      (same_location_itself did.task.root)
+      ap (λ b. b || nat_eq it.did.task.root.node (mount_at nat_eq world it.did.task.root).root)
+      (same_location_itself it.did.task.root)
 
   same_mount : (object_there place).mount ≡ place.parent.mount
-  same_mount = (seen_to world fresh name (Rmdir path) Done is plain serves refl refl did place.parent word
-      (object_there place) parts.permit_is).0
+  same_mount = (seen_to it parts.permit_is).0
 
-  directory_outside : (IsOneInode world did.task.directory (object_there place) → ⊥) → (reading : Task ℕ)
-      → OutsideOf reading did.task.directory
+  directory_outside : (IsOneInode world it.did.task.directory (object_there place) → ⊥) → (reading : Task ℕ)
+      → OutsideOf reading it.did.task.directory
   directory_outside other reading roots removed =
       absurd (other (removed.0 ∙ ap (λ m. (mount_numbered nat_eq world m).filesystem) (sym same_mount), removed.1))
 
   module _ (reader : TaskName) (reading : Task ℕ) (called : task_called later reader ≡ Some reading)
-      (stands : StandsAs did.task reading) (looks : MayLook did.task reading) where
+      (stands : StandsAs it.did.task reading) (looks : MayLook it.did.task reading) where
     gone_or_lost : (later_fresh : Fresh ℕ)
         → ((policy nat_eq later_fresh later reader (Lstat path)).answer ≡ Err (denial W6))
         ⊎ ((policy nat_eq later_fresh later reader (Lstat path)).answer ≡ Err (denial W8))
@@ -176,7 +149,7 @@ module _ (world : World ℕ) (fresh : Fresh ℕ) (name : TaskName) (path : List 
         by deny (inl same) e = inl (e ∙ ap Err same)
         by deny (inr same) e = inr (e ∙ ap Err same)
 
-    gone_outside : (IsOneInode world did.task.directory (object_there place) → ⊥) → (later_fresh : Fresh ℕ)
+    gone_outside : (IsOneInode world it.did.task.directory (object_there place) → ⊥) → (later_fresh : Fresh ℕ)
         → (policy nat_eq later_fresh later reader (Lstat path)).answer ≡ Err (denial W6)
     gone_outside other later_fresh =
         let refused = gone reader reading called stands looks Missing refl (inr (root_outside reading stands.root))
@@ -185,37 +158,42 @@ module _ (world : World ℕ) (fresh : Fresh ℕ) (name : TaskName) (path : List 
 
 pub rmdir_then_lstat : RmdirThenLstat
 rmdir_then_lstat path world fresh name task place is plain serves called walk granted = (
-  gone_or_lost world fresh name path is plain serves did place parts name (raised_task name did.task) caller_here
-      (raised_stands name did.task) (inl (raised_credentials name did.task)),
-  λ reader reading looks. gone_or_lost world fresh name path is plain serves did place parts reader reading looks.called
+  gone_or_lost it parts name (raised_task name it.did.task) caller_here
+      (raised_stands name it.did.task) (inl (raised_credentials name it.did.task)),
+  λ reader reading looks. gone_or_lost it parts reader reading looks.called
       (subst (λ t. StandsAs t reading) (sym task_is) (all_stands _ task reader reading looks)) (inr looks.all),
   λ elsewhere. (
-    gone_outside world fresh name path is plain serves did place parts name (raised_task name did.task) caller_here
-        (raised_stands name did.task) (inl (raised_credentials name did.task)) (outside elsewhere),
-    λ reader reading looks.
-        gone_outside world fresh name path is plain serves did place parts reader reading looks.called
+    gone_outside it parts name (raised_task name it.did.task) caller_here
+        (raised_stands name it.did.task) (inl (raised_credentials name it.did.task)) (outside elsewhere),
+    λ reader reading looks. gone_outside it parts reader reading looks.called
         (subst (λ t. StandsAs t reading) (sym task_is) (all_stands _ task reader reading looks)) (inr looks.all)
         (outside elsewhere),
   ),
 )
   where
-    did : IsPermitted world fresh name (Rmdir path) Done
-    did = permitted world fresh name (Rmdir path) Done refl granted
+    it : HasSucceeded world fresh name (Rmdir path) Done
+    it = record {
+      is = is;
+      plain = plain;
+      serves = serves;
+      other = refl;
+      few = refl;
+      did = permitted world fresh name (Rmdir path) Done refl granted;
+    }
 
-    task_is : did.task ≡ task
-    task_is = same_Some did.task task (sym did.called ∙ called)
+    task_is : it.did.task ≡ task
+    task_is = same_Some it.did.task task (sym it.did.called ∙ called)
 
     outside : (IsOneInode world task.directory (object_there place) → ⊥)
-        → IsOneInode world did.task.directory (object_there place) → ⊥
+        → IsOneInode world it.did.task.directory (object_there place) → ⊥
     outside elsewhere one = elsewhere
         (subst (λ (t : Task ℕ). IsOneInode world t.directory (object_there place)) task_is one)
 
-    parts : RmdirParts (looks_of nat_eq world) did.task path place did.permit
-    parts = rmdir_parts (looks_of nat_eq world) did.task path place did.permit
-        (ap (λ t. old_walk nat_eq (looks_of nat_eq world) t path) task_is ∙ walk) did.granted
+    parts : RmdirParts (looks_of nat_eq world) it.did.task path place it.did.permit
+    parts = rmdir_parts (looks_of nat_eq world) it.did.task path place it.did.permit
+        (ap (λ t. old_walk nat_eq (looks_of nat_eq world) t path) task_is ∙ walk) it.did.granted
 
     caller_here : task_called (policy nat_eq fresh world name (Rmdir path)).world name
-        ≡ Some (raised_task name did.task)
+        ≡ Some (raised_task name it.did.task)
     caller_here =
-        caller world fresh name (Rmdir path) Done is plain serves refl refl did place.parent (name_of place.last)
-        (object_there place) parts.permit_is
+        caller it parts.permit_is

@@ -1,6 +1,6 @@
 -- An object that was renamed is found by its new name, and the old one is missing.
 use Rattle.std.proofs.Common.{◌≡◌, ◌≢◌, refl, sym, ap, subst, ◌∙◌, inl, inr, ◌⊎◌, ⊎_elim, true≢false, ℕ, nat_eq, Bool, true, false, not, ◌&&◌, List, [], ◌∷◌, Option, Some, None, is_some, option_map, Ok, Err, option_to_list, unwrap_or}
-use Rattle.vt_spec.proofs.Common.{Change, Done, Fresh, IsWorld, Location, Looks, Lstat, Move, Permit, Place, Rename, Serves, StatLine, Task, TaskName, ToRename, Told, World, and_then-Ok, apply, changed, denial, directory_from_entry, directory_used, entries_in, entry_at, entry_named, execute_right, files_at, holds_of, is_directory_at, is_directory_node, is_directory_there, is_one_object, is_special, looks_of, mount_at, mounter_allows, name_of, new_walk, node_at, object_there, old_leaf_walk, old_walk, old_word_rules, passing, place_walk, policy, raised_task, rename_new_walk, rename_permit, rename_rules, renamed_permit, same_Some, same_ok, stat_line, stepped, task_called, topmost, walk_end, with_change}
+use Rattle.vt_spec.proofs.Common.{Change, Done, Fresh, IsWorld, Location, Looks, Lstat, Move, Permit, Place, Rename, StatLine, Task, TaskName, ToRename, Told, World, and_then-Ok, apply, changed, denial, directory_from_entry, directory_used, entries_in, entry_at, entry_named, execute_right, files_at, holds_of, is_directory_at, is_directory_node, is_directory_there, is_one_object, is_special, looks_of, mount_at, mounter_allows, name_of, new_walk, node_at, object_there, old_leaf_walk, old_walk, old_word_rules, passing, place_walk, policy, raised_task, rename_new_walk, rename_permit, rename_rules, renamed_permit, same_Some, same_ok, stat_line, stepped, task_called, topmost, walk_end, with_change}
 use Rattle.vt_spec.specs.declared.errors.Deny.{Deny}
 use Rattle.vt_spec.specs.declared.errors.Rule.TheVariants.{W3, W6}
 use Rattle.vt_laws_trees.specs.Calls.Inodes.{change_of}
@@ -14,8 +14,8 @@ use Rattle.vt_laws_worlds.proofs.Plain.{plain_numbered}
 use Rattle.vt_laws_worlds.proofs.worlds.Reached.{IsFound, directory_found, step_found}
 use Rattle.vt_laws_worlds.proofs.worlds.ReachedWalks.{own_directory_found, root_found}
 use Rattle.vt_laws_later_calls.specs.LaterPaths.{RenameThenLstat}
-use Rattle.vt_laws_later_calls.proofs.AfterChange.{all_stays, later_mounts, node_changed, spent}
-use Rattle.vt_laws_later_calls.proofs.Granted.{IsPermitted, permitted}
+use Rattle.vt_laws_later_calls.proofs.AfterChange.{ChangesTree, all_stays, later_mounts, node_changed, spent}
+use Rattle.vt_laws_later_calls.proofs.Granted.{HasSucceeded, permitted}
 use Rattle.vt_laws_later_calls.proofs.Looked.{lstat_of, lstat_refused}
 use Rattle.vt_laws_later_calls.proofs.MadeSeen.{Never, new_parts, no_slash_there, surely}
 use Rattle.vt_laws_later_calls.proofs.Opened.{walk_ended}
@@ -107,11 +107,10 @@ there_no : (test : Location ℕ → Bool) (o : Option (Location ℕ)) (default :
 there_no test None default there e = absurd (true≢false there)
 there_no test (Some a) default there e = e
 
-module _ (world : World ℕ) (fresh : Fresh ℕ) (name : TaskName) (old new : List ℕ) (from to : Place ℕ)
-    (is : IsWorld nat_eq world) (plain : IsPlain world) (serves : Serves nat_eq world fresh)
-    (did : IsPermitted world fresh name (Rename old new) Done)
+module _ {world : World ℕ} {fresh : Fresh ℕ} {name : TaskName} {old new : List ℕ} {from to : Place ℕ}
+    (it : HasSucceeded world fresh name (Rename old new) Done)
     (file : is_directory_there nat_eq (looks_of nat_eq world) from ≡ false)
-    (parts : RenameParts (looks_of nat_eq world) did.task old new from to did.permit) where
+    (parts : RenameParts (looks_of nat_eq world) it.did.task old new from to it.did.permit) where
   abbrev object : ℕ
   object = (object_there from).node
 
@@ -122,8 +121,9 @@ module _ (world : World ℕ) (fresh : Fresh ℕ) (name : TaskName) (old new : Li
   later = (policy nat_eq fresh world name (Rename old new)).world
 
   may : MayBeRenamed world from.parent (name_of from.last) to.parent (name_of to.last) (object_there from) None
-  may = subst (SeesTo world did.task) parts.permit_is (given_permits_are_seen_to world fresh did.task did.permit is
-      (given_of world fresh name (Rename old new) Done serves refl refl did))
+  may = subst (SeesTo world it.did.task) parts.permit_is
+      (given_permits_are_seen_to world fresh it.did.task it.did.permit it.is
+      (given_of world fresh name (Rename old new) Done it.serves refl refl it.did))
 
   from_directory : is_directory_at nat_eq world from.parent ≡ true
   from_directory = directory_from_entry (name_of from.last) object
@@ -133,7 +133,7 @@ module _ (world : World ℕ) (fresh : Fresh ℕ) (name : TaskName) (old new : Li
   something = directory_used (files_at nat_eq world from.parent).tree from.parent.node from_directory
 
   tree : IsFileTree (files_at nat_eq world from.parent)
-  tree = tree_here world is from.parent from_directory
+  tree = tree_here world it.is from.parent from_directory
 
   -- what has the new name is seen through the mount of the old one
   to_place : to.parent ≡ record { mount = from.parent.mount; node = to.parent.node }
@@ -161,15 +161,18 @@ module _ (world : World ℕ) (fresh : Fresh ℕ) (name : TaskName) (old new : Li
   in_directory : is_directory_node ((files_at nat_eq world from.parent).tree.node to.parent.node) ≡ true
   in_directory = may.moves.in_directory
 
-  asks : change_of fresh world did.permit ≡ Some (from.parent, change)
+  asks : change_of fresh world it.did.permit ≡ Some (from.parent, change)
   asks = ap (change_of fresh world) parts.permit_is
 
-  does : spent world fresh name (Rename old new) Done is plain serves refl refl did
+  does : spent it
       ≡ with_change nat_eq fresh world from.parent change
-  does = ap (λ p. (apply nat_eq fresh world did.task p).world) parts.permit_is
+  does = ap (λ p. (apply nat_eq fresh world it.did.task p).world) parts.permit_is
 
   allowed : IsMoved (files_at nat_eq world from.parent) from.parent.node (name_of from.last) to.parent.node object
   allowed = record { named = may.moves.named; in_directory = may.moves.in_directory }
+
+  abbrev changes : ChangesTree it from.parent change fresh
+  changes = record { asks = asks; does = does; something = something; may = allowed; tree = tree }
 
   stay : TreeStays (files_at nat_eq world from.parent).tree
       (changed nat_eq (files_at nat_eq world from.parent) change).tree Missing
@@ -193,64 +196,50 @@ module _ (world : World ℕ) (fresh : Fresh ℕ) (name : TaskName) (old new : Li
   -- before
   old_told : (other_fresh : Fresh ℕ) → (policy nat_eq other_fresh world name (Lstat old)).answer ≡ Ok (Told line)
   old_told other_fresh =
-      let at_name = named_place (looks_of nat_eq world) did.task old from parts.from_walked parts.from_named in
-      let own = called_own world fresh name (Rename old new) Done is plain serves refl refl did in
-      let walk = surely _ _ _ (symlink_named_too (looks_of nat_eq world) (looks_of nat_eq world) did.task did.task Never
-      (IsFound world is did.task) (itself_leads Never world is plain did.task own) old from parts.from_named at_name
+      let at_name = named_place (looks_of nat_eq world) it.did.task old from parts.from_walked parts.from_named in
+      let own = called_own it in
+      let walk = surely _ _ _
+      (symlink_named_too (looks_of nat_eq world) (looks_of nat_eq world) it.did.task it.did.task Never
+      (IsFound world it.is it.did.task) (itself_leads Never world it.is it.plain it.did.task own) old from
+      parts.from_named at_name
       (record { mount = from.parent.mount; node = object })
-      (λ known. stepped_by world did.task from.parent from.last parts.from_named (Some object) may.moves.named
-      ∙ ap Ok (uncovered world is (record { mount = from.parent.mount; node = object }) no_directory))
+      (λ known. stepped_by world it.did.task from.parent from.last parts.from_named (Some object) may.moves.named
+      ∙ ap Ok (uncovered world it.is (record { mount = from.parent.mount; node = object }) no_directory))
       (λ slash. absurd (true≢false (sym slash ∙ at_name.slash_is ∙ parts.from_slash)))) in
-      lstat_of world other_fresh name did.task did.called old _ walk.1
+      lstat_of world other_fresh name it.did.task it.did.called old _ walk.1
 
   module _ (reader : TaskName) (reading : Task ℕ) (called : task_called later reader ≡ Some reading)
-      (stands : StandsAs did.task reading) (looks : MayLook did.task reading) where
+      (stands : StandsAs it.did.task reading) (looks : MayLook it.did.task reading) where
     own_reader : task_called later reading.name ≡ Some reading
     own_reader = own_name later reader reading called
 
-    leads_so : LeadsToo (looks_of nat_eq world) (looks_of nat_eq later) did.task reading Missing
-        (KnownToo world fresh name
-        (Rename old new) Done is plain serves refl refl did from.parent change fresh asks does something allowed tree
-        Missing stay reading own_reader stands)
-    leads_so = leads world fresh name
-        (Rename old new) Done is plain serves refl refl did from.parent change fresh asks does something allowed tree
-        Missing stay reading own_reader stands rights looks
+    leads_so : LeadsToo (looks_of nat_eq world) (looks_of nat_eq later) it.did.task reading Missing
+        (KnownToo changes stay reading own_reader stands)
+    leads_so = leads changes stay reading own_reader stands rights looks
 
     -- the new name
-    to_seen : KnownToo world fresh name
-        (Rename old new) Done is plain serves refl refl did from.parent change fresh asks does something allowed tree
-        Missing stay reading own_reader stands to.parent
+    to_seen : KnownToo changes stay reading own_reader stands to.parent
         → entry_named (name_of to.last) (entries_in (node_at nat_eq later to.parent)) ≡ Some object
     to_seen known = ap (λ l. entry_named (name_of to.last) (entries_in (node_at nat_eq later l))) to_place
-        ∙ ap (λ o. entry_named (name_of to.last) (entries_in o)) (seen_at world fresh name
-        (Rename old new) Done is plain serves refl refl did from.parent change fresh asks does something allowed tree
-        Missing stay reading own_reader stands to.parent.node ∙ node_changed world fresh name
-        (Rename old new) Done is plain serves refl refl did from.parent change fresh asks does something allowed tree
+        ∙ ap (λ o. entry_named (name_of to.last) (entries_in o))
+        (seen_at changes stay reading own_reader stands to.parent.node ∙ node_changed it changes
         to.parent.node (ap (λ l. is_some (node_in later (mount_at nat_eq world l).filesystem to.parent.node))
-        (sym to_place) ∙ known_there world fresh name
-        (Rename old new) Done is plain serves refl refl did from.parent change fresh asks does something allowed tree
-        Missing stay reading own_reader stands to.parent known))
+        (sym to_place) ∙ known_there changes stay reading own_reader stands to.parent known))
         ∙ moved_entry (files_at nat_eq world from.parent) Missing from.parent.node (name_of from.last) to.parent.node
         (name_of to.last) object may.moves.named no_directory in_directory free
 
-    new_stepped : KnownToo world fresh name
-        (Rename old new) Done is plain serves refl refl did from.parent change fresh asks does something allowed tree
-        Missing stay reading own_reader stands to.parent
+    new_stepped : KnownToo changes stay reading own_reader stands to.parent
         → stepped nat_eq (looks_of nat_eq later) reading to.parent to.last
         ≡ Ok (record { mount = from.parent.mount; node = object })
     new_stepped known = stepped_by later reading to.parent to.last parts.to_named (Some object) (to_seen known)
         ∙ ap (λ m. Ok (topmost nat_eq later.mounts (record { mount = m; node = object }))) may.to_mount
         ∙ ap (λ mounts. Ok (topmost nat_eq mounts (record { mount = from.parent.mount; node = object })))
-        (later_mounts world fresh name
-        (Rename old new) Done is plain serves refl refl did from.parent change fresh asks does something allowed tree)
-        ∙ ap Ok (uncovered world is (record { mount = from.parent.mount; node = object }) no_directory)
+        (later_mounts it changes)
+        ∙ ap Ok (uncovered world it.is (record { mount = from.parent.mount; node = object }) no_directory)
 
     object_seen : node_at nat_eq later (record { mount = from.parent.mount; node = object })
         ≡ node_at nat_eq world (record { mount = from.parent.mount; node = object })
-    object_seen = seen_at world fresh name
-        (Rename old new) Done is plain serves refl refl did from.parent change fresh asks does something allowed tree
-        Missing stay reading own_reader stands object ∙ all_stays world fresh name
-        (Rename old new) Done is plain serves refl refl did from.parent change fresh asks does something allowed tree
+    object_seen = seen_at changes stay reading own_reader stands object ∙ all_stays it changes
         (ap option_to_list free) object
         ∙ moved_object (files_at nat_eq world from.parent) Missing from.parent.node (name_of from.last) to.parent.node
         (name_of to.last) object
@@ -260,12 +249,12 @@ module _ (world : World ℕ) (fresh : Fresh ℕ) (name : TaskName) (old new : Li
     new_told : (later_fresh : Fresh ℕ) → ((policy nat_eq later_fresh later reader (Lstat new)).answer ≡ Ok (Told line))
         ⊎ ((policy nat_eq later_fresh later reader (Lstat new)).answer ≡ Err (denial W6))
     new_told later_fresh =
-        let at_name = named_place (looks_of nat_eq world) did.task new to parts.to_walked parts.to_named in
+        let at_name = named_place (looks_of nat_eq world) it.did.task new to parts.to_walked parts.to_named in
         ⊎_elim (λ ends. inl (lstat_of later later_fresh reader reading called new _ ends.1
         ∙ ap (λ o. Ok (Told (stat_line o))) object_seen))
         (λ stop. inr (lstat_refused later later_fresh reader reading called new stop.0 stop.2 ∙ ap Err stop.1))
         (symlink_named_too (looks_of nat_eq world)
-        (looks_of nat_eq later) did.task reading Missing _ leads_so new to parts.to_named at_name
+        (looks_of nat_eq later) it.did.task reading Missing _ leads_so new to parts.to_named at_name
         (record { mount = from.parent.mount; node = object }) new_stepped
         (λ slash. absurd (true≢false (sym slash ∙ at_name.slash_is ∙ parts.to_slash))))
 
@@ -273,49 +262,53 @@ module _ (world : World ℕ) (fresh : Fresh ℕ) (name : TaskName) (old new : Li
         → (policy nat_eq later_fresh later reader (Lstat old)).answer ≡ Err (denial W6)
     old_missing later_fresh =
         let stop = symlink_missing (looks_of nat_eq world)
-        (looks_of nat_eq later) did.task reading Missing _ leads_so old from parts.from_named
-        (named_place (looks_of nat_eq world) did.task old from parts.from_walked parts.from_named) (denial W6) refl
+        (looks_of nat_eq later) it.did.task reading Missing _ leads_so old from parts.from_named
+        (named_place (looks_of nat_eq world) it.did.task old from parts.from_walked parts.from_named) (denial W6) refl
         (λ known.
         stepped_by later reading from.parent from.last parts.from_named None
-        (ap (λ o. entry_named (name_of from.last) (entries_in o)) (seen_there world fresh name
-        (Rename old new) Done is plain serves refl refl did from.parent change fresh asks does something allowed tree
-        Missing stay reading own_reader stands known)
+        (ap (λ o. entry_named (name_of from.last) (entries_in o))
+        (seen_there changes stay reading own_reader stands known)
         ∙ moved_missing (files_at nat_eq world from.parent) Missing from.parent.node (name_of from.last) to.parent.node
         (name_of to.last) object may.moves.named no_directory in_directory free)) in
         lstat_refused later later_fresh reader reading called old stop.0 stop.2 ∙ ap Err stop.1
 
-  caller_there : task_called later name ≡ Some (raised_task name did.task)
-  caller_there = caller world fresh name
-      (Rename old new) Done is plain serves refl refl did from.parent change fresh asks does something allowed tree
-      Missing stay
+  caller_there : task_called later name ≡ Some (raised_task name it.did.task)
+  caller_there = caller changes stay
 
 pub rename_then_lstat : RenameThenLstat
 rename_then_lstat old new world fresh name task from to is plain serves called from_is to_is file free granted = (
-  line world fresh name old new from to is plain serves did file parts,
-  old_told world fresh name old new from to is plain serves did file parts,
-  new_told world fresh name old new from to is plain serves did file parts name (raised_task name did.task) caller_here
-      (raised_stands name did.task) (inl (raised_credentials name did.task)),
-  old_missing world fresh name old new from to is plain serves did file parts name
-      (raised_task name did.task) caller_here (raised_stands name did.task) (inl (raised_credentials name did.task)),
+  line it file parts,
+  old_told it file parts,
+  new_told it file parts name (raised_task name it.did.task) caller_here
+      (raised_stands name it.did.task) (inl (raised_credentials name it.did.task)),
+  old_missing it file parts name (raised_task name it.did.task) caller_here (raised_stands name it.did.task)
+      (inl (raised_credentials name it.did.task)),
   λ reader reading looks. (
-    new_told world fresh name old new from to is plain serves did file parts reader reading looks.called
+    new_told it file parts reader reading looks.called
         (subst (λ t. StandsAs t reading) (sym task_is) (all_stands _ task reader reading looks)) (inr looks.all),
-    old_missing world fresh name old new from to is plain serves did file parts reader reading looks.called
+    old_missing it file parts reader reading looks.called
         (subst (λ t. StandsAs t reading) (sym task_is) (all_stands _ task reader reading looks)) (inr looks.all),
   ),
 )
   where
-    did : IsPermitted world fresh name (Rename old new) Done
-    did = permitted world fresh name (Rename old new) Done refl granted
+    it : HasSucceeded world fresh name (Rename old new) Done
+    it = record {
+      is = is;
+      plain = plain;
+      serves = serves;
+      other = refl;
+      few = refl;
+      did = permitted world fresh name (Rename old new) Done refl granted;
+    }
 
-    task_is : did.task ≡ task
-    task_is = same_Some did.task task (sym did.called ∙ called)
+    task_is : it.did.task ≡ task
+    task_is = same_Some it.did.task task (sym it.did.called ∙ called)
 
-    parts : RenameParts (looks_of nat_eq world) did.task old new from to did.permit
-    parts = rename_parts (looks_of nat_eq world) did.task old new from to did.permit
+    parts : RenameParts (looks_of nat_eq world) it.did.task old new from to it.did.permit
+    parts = rename_parts (looks_of nat_eq world) it.did.task old new from to it.did.permit
         (ap (λ t. old_leaf_walk nat_eq (looks_of nat_eq world) t old) task_is ∙ from_is)
-        (ap (λ t. new_walk nat_eq (looks_of nat_eq world) t new) task_is ∙ to_is) file free did.judged
+        (ap (λ t. new_walk nat_eq (looks_of nat_eq world) t new) task_is ∙ to_is) file free it.did.judged
 
     caller_here : task_called (policy nat_eq fresh world name (Rename old new)).world name
-        ≡ Some (raised_task name did.task)
-    caller_here = caller_there world fresh name old new from to is plain serves did file parts
+        ≡ Some (raised_task name it.did.task)
+    caller_here = caller_there it file parts

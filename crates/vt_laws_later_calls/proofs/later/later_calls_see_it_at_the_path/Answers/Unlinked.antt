@@ -1,6 +1,6 @@
 -- A name that was removed is missing.
 use Rattle.std.proofs.Common.{◌≡◌, refl, sym, ap, subst, ◌∙◌, inl, inr, ℕ, nat_eq, true, false, not, ◌&&◌, List, [], ◌∷◌, Some, None, is_some, Ok, Err, Bool}
-use Rattle.vt_spec.proofs.Common.{Change, Done, Fresh, IsWorld, Looks, Lstat, Permit, Place, Serves, Task, TaskName, ToChange, Unlink, World, apply, denial, directory_from_entry, directory_used, entries_in, entry_named, files_at, is_directory_at, is_directory_there, is_special, looks_of, name_of, node_at, object_there, old_walk, place_walk, policy, raised_task, removing, same_Some, task_called}
+use Rattle.vt_spec.proofs.Common.{changed, Change, Done, Fresh, Looks, Lstat, Permit, Place, Task, TaskName, ToChange, Unlink, World, apply, denial, directory_from_entry, directory_used, entries_in, entry_named, files_at, is_directory_at, is_directory_there, is_special, looks_of, name_of, node_at, object_there, old_walk, place_walk, policy, raised_task, removing, same_Some, task_called}
 use Rattle.vt_spec.specs.declared.errors.Deny.{Deny}
 use Rattle.vt_spec.specs.declared.errors.Rule.TheVariants.{W3, W6}
 use Rattle.vt_laws_trees.specs.Calls.Inodes.{change_of}
@@ -8,14 +8,14 @@ use Rattle.vt_laws_worlds.specs.Permits.Sees.{SeesTo}
 use Rattle.vt_laws_worlds.proofs.permits.sees.SeesNames.{tree_here}
 use Rattle.vt_laws_worlds.proofs.permits.sees.SeesTasks.{given_permits_are_seen_to}
 use Rattle.vt_laws_trees.specs.Trees.{IsFileTree}
-use Rattle.vt_laws_worlds.specs.Worlds.Kept.{IsPlain}
 use Rattle.vt_laws_later_calls.specs.LaterPaths.{UnlinkThenLstat}
-use Rattle.vt_laws_later_calls.proofs.Granted.{IsPermitted, permitted}
+use Rattle.vt_laws_later_calls.proofs.Granted.{HasSucceeded, permitted}
 use Rattle.vt_laws_later_calls.proofs.Looked.{lstat_refused}
 use Rattle.vt_laws_later_calls.proofs.OpenedNew.{given_of}
 use Rattle.vt_laws_later_calls.proofs.Readers.{MayLook, all_stands, caller, leads, own_name, raised_credentials, raised_stands, seen_there, stepped_by}
 use Rattle.vt_laws_later_calls.proofs.Ways.{both_walked, walk_passing}
-use Rattle.vt_laws_later_calls.proofs.WaysChanges.{name_missing, rights_removed, ways_removed}
+use Rattle.vt_laws_later_calls.proofs.AfterChange.{ChangesTree}
+use Rattle.vt_laws_later_calls.proofs.WaysChanges.{TreeStays, name_missing, rights_removed, ways_removed}
 use Rattle.vt_laws_later_calls.proofs.WaysPlaces.{named_place, symlink_missing}
 use Rattle.vt_laws_later_calls.proofs.WaysStay.{StandsAs}
 use Rattle.vt_laws_rules.specs.Granted.{IsGranted}
@@ -50,9 +50,9 @@ unlink_parts looks task path permit (unlinks _ place end named passed) =
     let old = old_parts looks task path place (olds.1 ∙ ap Ok slash.1) in
     record { place = place; walked = old.0; named = named.0; permit_is = refl }
 
-module _ (world : World ℕ) (fresh : Fresh ℕ) (name : TaskName) (path : List ℕ) (is : IsWorld nat_eq world)
-    (plain : IsPlain world) (serves : Serves nat_eq world fresh) (did : IsPermitted world fresh name (Unlink path) Done)
-    (parts : UnlinkParts (looks_of nat_eq world) did.task path did.permit) where
+module _ {world : World ℕ} {fresh : Fresh ℕ} {name : TaskName} {path : List ℕ}
+    (it : HasSucceeded world fresh name (Unlink path) Done)
+    (parts : UnlinkParts (looks_of nat_eq world) it.did.task path it.did.permit) where
   abbrev place : Place ℕ
   place = parts.place
 
@@ -62,9 +62,10 @@ module _ (world : World ℕ) (fresh : Fresh ℕ) (name : TaskName) (path : List 
   abbrev later : World ℕ
   later = (policy nat_eq fresh world name (Unlink path)).world
 
-  seen_to : SeesTo world did.task (ToChange place.parent change)
-  seen_to = subst (SeesTo world did.task) parts.permit_is (given_permits_are_seen_to world fresh did.task did.permit is
-      (given_of world fresh name (Unlink path) Done serves refl refl did))
+  seen_to : SeesTo world it.did.task (ToChange place.parent change)
+  seen_to = subst (SeesTo world it.did.task) parts.permit_is
+      (given_permits_are_seen_to world fresh it.did.task it.did.permit it.is
+      (given_of world fresh name (Unlink path) Done it.serves refl refl it.did))
 
   in_directory : is_directory_at nat_eq world place.parent ≡ true
   in_directory = directory_from_entry (name_of place.last) (object_there place).node
@@ -74,55 +75,62 @@ module _ (world : World ℕ) (fresh : Fresh ℕ) (name : TaskName) (path : List 
   something = directory_used (files_at nat_eq world place.parent).tree place.parent.node in_directory
 
   tree : IsFileTree (files_at nat_eq world place.parent)
-  tree = tree_here world is place.parent in_directory
+  tree = tree_here world it.is place.parent in_directory
+
+  abbrev changes : ChangesTree it place.parent change fresh
+  changes = record {
+    asks = ap (change_of fresh world) parts.permit_is;
+    does = ap (λ p. (apply nat_eq fresh world it.did.task p).world) parts.permit_is;
+    something = something;
+    may = tt;
+    tree = tree;
+  }
+
+  stay : TreeStays (files_at nat_eq world place.parent).tree
+      (changed nat_eq (files_at nat_eq world place.parent) change).tree Missing
+  stay = ways_removed (files_at nat_eq world place.parent) Missing place.parent.node (name_of place.last)
+      (object_there place).node seen_to.1.named seen_to.2 refl
 
   gone : (reader : TaskName) (reading : Task ℕ) → task_called later reader ≡ Some reading
-      → StandsAs did.task reading → MayLook did.task reading → (later_fresh : Fresh ℕ)
+      → StandsAs it.did.task reading → MayLook it.did.task reading → (later_fresh : Fresh ℕ)
       → (policy nat_eq later_fresh later reader (Lstat path)).answer ≡ Err (denial W6)
   gone reader reading called stands looks later_fresh =
-      let stop = symlink_missing (looks_of nat_eq world) (looks_of nat_eq later) did.task reading Missing _
-      (leads world fresh name (Unlink path) Done is plain serves refl refl did place.parent change fresh
-      (ap (change_of fresh world) parts.permit_is)
-      (ap (λ p. (apply nat_eq fresh world did.task p).world) parts.permit_is) something tt tree Missing
-      (ways_removed (files_at nat_eq world place.parent) Missing place.parent.node (name_of place.last)
-      (object_there place).node seen_to.1.named seen_to.2 refl) reading (own_name later reader reading called) stands
+      let stop = symlink_missing (looks_of nat_eq world) (looks_of nat_eq later) it.did.task reading Missing _
+      (leads changes stay reading (own_name later reader reading called) stands
       (rights_removed (files_at nat_eq world place.parent) Missing place.parent.node (name_of place.last)
       (object_there place).node seen_to.1.named seen_to.2) looks)
-      path place parts.named (named_place (looks_of nat_eq world) did.task path place parts.walked parts.named)
+      path place parts.named (named_place (looks_of nat_eq world) it.did.task path place parts.walked parts.named)
       (denial W6) refl (λ known.
       stepped_by later reading place.parent place.last parts.named None
       (ap (λ o. entry_named (name_of place.last) (entries_in o))
-      (seen_there world fresh name (Unlink path) Done is plain serves refl refl did place.parent change fresh
-      (ap (change_of fresh world) parts.permit_is)
-      (ap (λ p. (apply nat_eq fresh world did.task p).world) parts.permit_is) something tt tree Missing
-      (ways_removed (files_at nat_eq world place.parent) Missing place.parent.node (name_of place.last)
-      (object_there place).node seen_to.1.named seen_to.2 refl)
-      reading (own_name later reader reading called) stands known)
+      (seen_there changes stay reading (own_name later reader reading called) stands known)
       ∙ name_missing (files_at nat_eq world place.parent) Missing place.parent.node (name_of place.last)
       (object_there place).node seen_to.1.named seen_to.2)) in
       lstat_refused later later_fresh reader reading called path stop.0 stop.2 ∙ ap Err stop.1
 
-  caller_there : task_called later name ≡ Some (raised_task name did.task)
-  caller_there = caller world fresh name (Unlink path) Done is plain serves refl refl did place.parent change fresh
-      (ap (change_of fresh world) parts.permit_is)
-      (ap (λ p. (apply nat_eq fresh world did.task p).world) parts.permit_is) something tt tree Missing
-      (ways_removed (files_at nat_eq world place.parent) Missing place.parent.node (name_of place.last)
-      (object_there place).node seen_to.1.named seen_to.2 refl)
+  caller_there : task_called later name ≡ Some (raised_task name it.did.task)
+  caller_there = caller changes stay
 
 pub unlink_then_lstat : UnlinkThenLstat
 unlink_then_lstat path world fresh name task is plain serves called granted = (
-  gone world fresh name path is plain serves did parts name (raised_task name did.task)
-      (caller_there world fresh name path is plain serves did parts) (raised_stands name did.task)
-      (inl (raised_credentials name did.task)),
-  λ reader reading looks. gone world fresh name path is plain serves did parts reader reading looks.called
+  gone it parts name (raised_task name it.did.task) (caller_there it parts) (raised_stands name it.did.task)
+      (inl (raised_credentials name it.did.task)),
+  λ reader reading looks. gone it parts reader reading looks.called
       (subst (λ t. StandsAs t reading) (sym task_is) (all_stands _ task reader reading looks)) (inr looks.all),
 )
   where
-    did : IsPermitted world fresh name (Unlink path) Done
-    did = permitted world fresh name (Unlink path) Done refl granted
+    it : HasSucceeded world fresh name (Unlink path) Done
+    it = record {
+      is = is;
+      plain = plain;
+      serves = serves;
+      other = refl;
+      few = refl;
+      did = permitted world fresh name (Unlink path) Done refl granted;
+    }
 
-    task_is : did.task ≡ task
-    task_is = same_Some did.task task (sym did.called ∙ called)
+    task_is : it.did.task ≡ task
+    task_is = same_Some it.did.task task (sym it.did.called ∙ called)
 
-    parts : UnlinkParts (looks_of nat_eq world) did.task path did.permit
-    parts = unlink_parts (looks_of nat_eq world) did.task path did.permit did.granted
+    parts : UnlinkParts (looks_of nat_eq world) it.did.task path it.did.permit
+    parts = unlink_parts (looks_of nat_eq world) it.did.task path it.did.permit it.did.granted

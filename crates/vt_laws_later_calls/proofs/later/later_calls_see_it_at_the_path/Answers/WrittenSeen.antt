@@ -1,6 +1,6 @@
 -- Bytes that were written at a path are read there.
 use Rattle.std.proofs.Common.{◌≡◌, refl, sym, ap, subst, ◌∙◌, inl, inr, ◌⊎◌, ℕ, nat_eq, Bool, true, false, cond, ◌||◌, List, [], ◌∷◌, length, reverse, Option, Some, None, is_some, ok_or, Ok, Err, nat_lt, arith}
-use Rattle.vt_spec.proofs.Common.{Bytes, Change, Content, Directory, Done, Fresh, IsWorld, Location, Looks, Node, Permit, Place, Read, Regular, Serves, SetBytes, Symlink, Task, TaskName, ToChange, Whiteout, World, Write, allows, and_then-Ok, apply, changed, common_steps, denial, ends_in_slash, file_mode, file_walk, file_word_rules, files_at, is_absolute, is_directory_at, is_directory_node, is_kind, is_kind_in, is_special, kind_of, largest_file, looks_of, make_permit, make_rules, name_of, new_attr, new_file, node_at, node_with_bytes, object_walk, or_parts, passing, path_text, policy, raised_task, read_right, rewrite_rules, same_Some, same_ok, stepped, symlink_text, task_called, unnumbered, walk_end, walk_start, with_change, words, words_walked, write_permit, written_permit}
+use Rattle.vt_spec.proofs.Common.{Bytes, Change, Content, Directory, Done, Fresh, IsWorld, Location, Looks, Node, Permit, Place, Read, Regular, SetBytes, Symlink, Task, TaskName, ToChange, Whiteout, World, Write, allows, and_then-Ok, apply, changed, common_steps, denial, ends_in_slash, file_mode, file_walk, file_word_rules, files_at, is_absolute, is_directory_at, is_directory_node, is_kind, is_kind_in, is_special, kind_of, largest_file, looks_of, make_permit, make_rules, new_attr, new_file, node_at, node_with_bytes, object_walk, or_parts, passing, path_text, policy, raised_task, read_right, rewrite_rules, same_Some, same_ok, stepped, symlink_text, task_called, unnumbered, walk_end, walk_start, with_change, words, words_walked, write_permit, written_permit}
 use Rattle.vt_spec.specs.declared.attributes.Attr.{Attr}
 use Rattle.vt_spec.specs.declared.attributes.Kind.TheVariants.{File, White}
 use Rattle.vt_spec.specs.declared.errors.Deny.{Deny}
@@ -15,9 +15,9 @@ use Rattle.vt_laws_worlds.proofs.worlds.Reached.{others_are_files}
 use Rattle.vt_laws_worlds.proofs.worlds.ReachedPlaces.{IsEndPlace, file_walk_end}
 use Rattle.vt_laws_worlds.proofs.worlds.ReachedWalks.{own_directory_found, root_found}
 use Rattle.vt_laws_later_calls.specs.LaterPaths.{IsAnsweredUnless, IsSeenByAll, WriteThenRead}
-use Rattle.vt_laws_later_calls.proofs.AfterChange.{all_stays, later_is, spent}
+use Rattle.vt_laws_later_calls.proofs.AfterChange.{ChangesTree, all_stays, later_is, spent}
 use Rattle.vt_laws_later_calls.proofs.AttrSeen.{tree_there}
-use Rattle.vt_laws_later_calls.proofs.Granted.{IsPermitted, permitted}
+use Rattle.vt_laws_later_calls.proofs.Granted.{HasSucceeded, permitted}
 use Rattle.vt_laws_later_calls.proofs.Looked.{read_all, read_of}
 use Rattle.vt_laws_later_calls.proofs.MadeSeen.{Never, made_leads, maker, new_stepped, node_seen, surely}
 use Rattle.vt_laws_later_calls.proofs.Opened.{walk_ended}
@@ -128,51 +128,46 @@ ReadsSo later task path bytes attr =
     → MayLook task reading → (later_fresh : Fresh ℕ) → (policy nat_eq later_fresh later reader (Read path)).answer
     ≡ cond (allows reading.credentials attr File read_right) (Ok (Bytes bytes)) (Err (denial C1))
 
-module _ (world : World ℕ) (fresh : Fresh ℕ) (name : TaskName) (path bytes : List ℕ) (is : IsWorld nat_eq world)
-    (plain : IsPlain world) (serves : Serves nat_eq world fresh)
-    (did : IsPermitted world fresh name (Write path bytes) Done)
-    (place : Place ℕ) (walk : file_walk nat_eq (looks_of nat_eq world) did.task path ≡ Ok place)
+module _ {world : World ℕ} {fresh : Fresh ℕ} {name : TaskName} {path bytes : List ℕ} {place : Place ℕ}
+    (it : HasSucceeded world fresh name (Write path bytes) Done)
+    (walk : file_walk nat_eq (looks_of nat_eq world) it.did.task path ≡ Ok place)
     (named : is_special place.last ≡ false) (no_slash : place.slash ≡ false) where
   abbrev left : World ℕ
   left = (policy nat_eq fresh world name (Write path bytes)).world
 
   left_plain : IsPlain left
-  left_plain = (later_is world fresh name (Write path bytes) Done is plain serves refl refl did).1
+  left_plain = (later_is it).1
 
-  own : task_called world did.task.name ≡ Some did.task
-  own = called_own world fresh name (Write path bytes) Done is plain serves refl refl did
+  own : task_called world it.did.task.name ≡ Some it.did.task
+  own = called_own it
 
   -- a file that was made
-  module _ (permit : did.permit ≡ make_permit place (new_file did.task file_mode bytes)) where
-    new_read : ReadsSo left did.task path bytes (new_attr did.task file_mode)
+  module _ (permit : it.did.permit ≡ make_permit place (new_file it.did.task file_mode bytes)) where
+    new_read : ReadsSo left it.did.task path bytes (new_attr it.did.task file_mode)
     new_read reader reading called stands looks later_fresh =
         let self = own_name left reader reading called in
-        let seen = node_seen world fresh name (Write path bytes) Done is plain serves refl refl did place.parent
-        (name_of place.last) (new_file did.task file_mode bytes) permit reading self stands looks in
-        let finds = file_found world left is did.task own path place walk named no_slash
+        let seen = node_seen it permit reading self stands looks in
+        let finds = file_found world left it.is it.did.task own path place walk named no_slash
         (record { mount = place.parent.mount; node = fresh 0 }) reading _
-        (made_leads world fresh name (Write path bytes) Done is plain serves refl refl did place.parent
-        (name_of place.last) (new_file did.task file_mode bytes) permit reading self stands looks)
-        (new_stepped world fresh name (Write path bytes) Done is plain serves refl refl did place.parent
-        (name_of place.last) (new_file did.task file_mode bytes) permit reading self stands looks place.last named refl)
+        (made_leads it permit reading self stands looks)
+        (new_stepped it permit reading self stands looks place.last named refl)
         (ap symlink_text seen) in
         read_of left later_fresh reader reading called path left_plain _ finds.1.1
-        (new_attr did.task file_mode) bytes seen
+        (new_attr it.did.task file_mode) bytes seen
 
-    new_maker : task_called left name ≡ Some (raised_task name did.task)
-    new_maker = maker world fresh name (Write path bytes) Done is plain serves refl refl did place.parent
-        (name_of place.last) (new_file did.task file_mode bytes) permit
+    new_maker : task_called left name ≡ Some (raised_task name it.did.task)
+    new_maker = maker it permit
 
   -- a file that got other bytes
   module _ (file : Location ℕ) (object : place.object ≡ Some file)
       (no_directory : is_directory_at nat_eq world file ≡ false)
       (no_whiteout : is_kind_in White (node_at nat_eq world file) ≡ false)
-      (permit : did.permit ≡ ToChange file (SetBytes file.node bytes)) where
+      (permit : it.did.permit ≡ ToChange file (SetBytes file.node bytes)) where
     abbrev change : Change ℕ
     change = SetBytes file.node bytes
 
-    ends : IsEndPlace world is did.task own place
-    ends = subst (Ends (IsEndPlace world is did.task own)) walk (file_walk_end world is did.task own path)
+    ends : IsEndPlace world it.is it.did.task own place
+    ends = subst (Ends (IsEndPlace world it.is it.did.task own)) walk (file_walk_end world it.is it.did.task own path)
 
     something : is_some (node_at nat_eq world file) ≡ true
     something = (ends.2 file object).0.1
@@ -183,40 +178,40 @@ module _ (world : World ℕ) (fresh : Fresh ℕ) (name : TaskName) (path bytes :
         (ends.2 file object).1 no_directory no_whiteout)
 
     tree : IsFileTree (files_at nat_eq world file)
-    tree = tree_there world is plain file something
+    tree = tree_there world it.is it.plain file something
 
-    asks : change_of fresh world did.permit ≡ Some (file, change)
+    asks : change_of fresh world it.did.permit ≡ Some (file, change)
     asks = ap (change_of fresh world) permit
 
-    does : spent world fresh name (Write path bytes) Done is plain serves refl refl did
+    does : spent it
         ≡ with_change nat_eq fresh world file change
-    does = ap (λ p. (apply nat_eq fresh world did.task p).world) permit
+    does = ap (λ p. (apply nat_eq fresh world it.did.task p).world) permit
+
+    abbrev changes : ChangesTree it file change fresh
+    changes = record { asks = asks; does = does; something = something; may = tt; tree = tree }
 
     stay : TreeStays (files_at nat_eq world file).tree (changed nat_eq (files_at nat_eq world file) change).tree Never
     stay = ways_with_bytes (files_at nat_eq world file) Never file.node bytes
 
-    rewriter : task_called left name ≡ Some (raised_task name did.task)
-    rewriter = caller world fresh name
-        (Write path bytes) Done is plain serves refl refl did file change fresh asks does something tt tree Never stay
+    rewriter : task_called left name ≡ Some (raised_task name it.did.task)
+    rewriter = caller changes stay
 
-    old_read : ReadsSo left did.task path bytes old.0
+    old_read : ReadsSo left it.did.task path bytes old.0
     old_read reader reading called stands looks later_fresh =
         let self = own_name left reader reading called in
-        let leads_so = leads world fresh name
-        (Write path bytes) Done is plain serves refl refl did file change fresh asks does something tt tree Never stay
+        let leads_so = leads changes stay
         reading self stands (rights_with_bytes (files_at nat_eq world file) Never file.node bytes) looks in
-        let at_file = found_at world left is did.task own path place walk named no_slash file reading _ leads_so in
+        let at_file = found_at world left it.is it.did.task own path place walk named no_slash file reading _ leads_so
+        in
         let seen : node_at nat_eq left file ≡ Some (record { attr = old.0; content = Regular bytes }) =
-        seen_at world fresh name
-        (Write path bytes) Done is plain serves refl refl did file change fresh asks does something tt tree Never stay
-        reading self stands file.node ∙ all_stays world fresh name
-        (Write path bytes) Done is plain serves refl refl did file change fresh asks does something tt tree refl
+        seen_at changes stay
+        reading self stands file.node ∙ all_stays it changes refl
         file.node
         ∙ changed_node_there (files_at nat_eq world file) file.node (node_with_bytes bytes) ∙ ap (node_with_bytes bytes) old.2 in
-        let before : stepped nat_eq (looks_of nat_eq world) did.task place.parent place.last ≡ Ok file =
-        ap (stepped nat_eq (looks_of nat_eq world) did.task place.parent) (named_last place.last named)
+        let before : stepped nat_eq (looks_of nat_eq world) it.did.task place.parent place.last ≡ Ok file =
+        ap (stepped nat_eq (looks_of nat_eq world) it.did.task place.parent) (named_last place.last named)
         ∙ ap (λ o. ok_or o (denial W6)) (at_file.object_is ∙ object) in
-        let finds = file_found world left is did.task own path place walk named no_slash file reading _ leads_so
+        let finds = file_found world left it.is it.did.task own path place walk named no_slash file reading _ leads_so
         (λ known. kept _ _ _ (leads_so.step place.parent place.last file known at_file.directory before))
         (ap symlink_text seen) in
         read_of left later_fresh reader reading called path left_plain _ finds.1.1 old.0 bytes seen
@@ -237,28 +232,36 @@ write_parts looks task path bytes permit e =
 pub write_then_read : WriteThenRead
 write_then_read path bytes world fresh name task is plain serves called granted = by parts.0.object refl parts.3
   where
-    did : IsPermitted world fresh name (Write path bytes) Done
-    did = permitted world fresh name (Write path bytes) Done refl granted
+    it : HasSucceeded world fresh name (Write path bytes) Done
+    it = record {
+      is = is;
+      plain = plain;
+      serves = serves;
+      other = refl;
+      few = refl;
+      did = permitted world fresh name (Write path bytes) Done refl granted;
+    }
 
-    task_is : did.task ≡ task
-    task_is = same_Some did.task task (sym did.called ∙ called)
+    task_is : it.did.task ≡ task
+    task_is = same_Some it.did.task task (sym it.did.called ∙ called)
 
-    parts : (place : Place ℕ) × (file_walk nat_eq (looks_of nat_eq world) did.task path ≡ Ok place)
+    parts : (place : Place ℕ) × (file_walk nat_eq (looks_of nat_eq world) it.did.task path ≡ Ok place)
         × ((is_special place.last || place.slash) ≡ false)
-        × (written_permit nat_eq (looks_of nat_eq world) did.task place bytes place.object ≡ Ok did.permit)
-    parts = write_parts (looks_of nat_eq world) did.task path bytes did.permit did.judged
+        × (written_permit nat_eq (looks_of nat_eq world) it.did.task place bytes place.object ≡ Ok it.did.permit)
+    parts = write_parts (looks_of nat_eq world) it.did.task path bytes it.did.permit it.did.judged
 
     words_pass : (is_special parts.0.last ≡ false) × (parts.0.slash ≡ false)
     words_pass = or_parts (is_special parts.0.last) parts.0.slash parts.2
 
-    seen : (attr : Attr) → ReadsSo (policy nat_eq fresh world name (Write path bytes)).world did.task path bytes attr
-        → task_called (policy nat_eq fresh world name (Write path bytes)).world name ≡ Some (raised_task name did.task)
+    seen : (attr : Attr) → ReadsSo (policy nat_eq fresh world name (Write path bytes)).world it.did.task path bytes attr
+        → task_called (policy nat_eq fresh world name (Write path bytes)).world name ≡ Some
+        (raised_task name it.did.task)
         → IsAnsweredUnless C1 (policy nat_eq fresh world name (Write path bytes)).world name (Read path) (Bytes bytes)
         × IsSeenByAll (policy nat_eq fresh world name (Write path bytes)).world task (Read path) (Bytes bytes)
     seen attr reads there_still = (
       λ later_fresh. subst (λ a. (a ≡ Ok (Bytes bytes)) ⊎ (a ≡ Err (denial C1)))
-          (sym (reads name (raised_task name did.task) there_still (raised_stands name did.task) (inl
-          (raised_credentials name did.task)) later_fresh)) (either_read _ bytes),
+          (sym (reads name (raised_task name it.did.task) there_still (raised_stands name it.did.task) (inl
+          (raised_credentials name it.did.task)) later_fresh)) (either_read _ bytes),
       λ reader reading looks later_fresh. reads reader reading looks.called
           (subst (λ t. StandsAs t reading) (sym task_is) (all_stands _ task reader reading looks))
           (inr looks.all) later_fresh ∙ ap (λ b. cond b (Ok (Bytes bytes)) (Err (denial C1)))
@@ -266,24 +269,22 @@ write_then_read path bytes world fresh name task is plain serves called granted 
     )
 
     by : (o : Option (Location ℕ)) → parts.0.object ≡ o
-        → written_permit nat_eq (looks_of nat_eq world) did.task parts.0 bytes parts.0.object ≡ Ok did.permit
+        → written_permit nat_eq (looks_of nat_eq world) it.did.task parts.0 bytes parts.0.object ≡ Ok it.did.permit
         → IsAnsweredUnless C1 (policy nat_eq fresh world name (Write path bytes)).world name (Read path) (Bytes bytes)
         × IsSeenByAll (policy nat_eq fresh world name (Write path bytes)).world task (Read path) (Bytes bytes)
     by (Some file) object e =
-        let rules = passing (rewrite_rules (looks_of nat_eq world) did.task file bytes) (Ok (ToChange file
-        (SetBytes file.node bytes))) did.permit
-        (sym (ap (written_permit nat_eq (looks_of nat_eq world) did.task parts.0 bytes) object) ∙ e) in
-        let permit_is = sym (same_ok _ did.permit rules.1) in
-        seen _ (old_read world fresh name path bytes is plain serves did parts.0 parts.1 words_pass.0 words_pass.1 file
-        object rules.0.0 rules.0.1.1.0 permit_is)
-        (rewriter world fresh name path bytes is plain serves did parts.0 parts.1 words_pass.0 words_pass.1 file object
-        rules.0.0 rules.0.1.1.0 permit_is)
+        let rules = passing (rewrite_rules (looks_of nat_eq world) it.did.task file bytes) (Ok (ToChange file
+        (SetBytes file.node bytes))) it.did.permit
+        (sym (ap (written_permit nat_eq (looks_of nat_eq world) it.did.task parts.0 bytes) object) ∙ e) in
+        let permit_is = sym (same_ok _ it.did.permit rules.1) in
+        seen _ (old_read it parts.1 words_pass.0 words_pass.1 file object rules.0.0 rules.0.1.1.0 permit_is)
+        (rewriter it parts.1 words_pass.0 words_pass.1 file object rules.0.0 rules.0.1.1.0 permit_is)
     by None object e =
-        let small = passing ((nat_lt largest_file (length bytes), E6) ∷ []) _ did.permit
-        (sym (ap (written_permit nat_eq (looks_of nat_eq world) did.task parts.0 bytes) object) ∙ e) in
-        let rules = passing (make_rules (looks_of nat_eq world) did.task parts.0 (unnumbered parts.0
-        (new_file did.task file_mode bytes))) _ did.permit small.1 in
-        let permit_is = sym (same_ok _ did.permit rules.1) in
-        seen (new_attr did.task file_mode)
-        (new_read world fresh name path bytes is plain serves did parts.0 parts.1 words_pass.0 words_pass.1 permit_is)
-        (new_maker world fresh name path bytes is plain serves did parts.0 parts.1 words_pass.0 words_pass.1 permit_is)
+        let small = passing ((nat_lt largest_file (length bytes), E6) ∷ []) _ it.did.permit
+        (sym (ap (written_permit nat_eq (looks_of nat_eq world) it.did.task parts.0 bytes) object) ∙ e) in
+        let rules = passing (make_rules (looks_of nat_eq world) it.did.task parts.0 (unnumbered parts.0
+        (new_file it.did.task file_mode bytes))) _ it.did.permit small.1 in
+        let permit_is = sym (same_ok _ it.did.permit rules.1) in
+        seen (new_attr it.did.task file_mode)
+        (new_read it parts.1 words_pass.0 words_pass.1 permit_is)
+        (new_maker it parts.1 words_pass.0 words_pass.1 permit_is)
