@@ -193,7 +193,7 @@ module _ (world : World ℕ) (fresh : Fresh ℕ) (task : Task ℕ) (is : IsWorld
       stays_member mount m member isnt =
           any_from_among (is_member_of nat_eq group) without.mounts (change mount)
           (among-map change base.mounts mount m)
-          (ap (is_member_of nat_eq group) (MountingTaken.stays base ended lasting mount isnt) ∙ member)
+          (ap (is_member_of nat_eq group) (MountingTaken.stays_there base ended lasting mount isnt) ∙ member)
 
       by : (mount : Mount ℕ) → Among mount base.mounts → is_member_of nat_eq group mount ≡ true
           → (b : Bool) → is_going nat_eq ended mount.number ≡ b → has_members nat_eq without.mounts group ≡ true
@@ -228,7 +228,7 @@ module _ (world : World ℕ) (fresh : Fresh ℕ) (task : Task ℕ) (is : IsWorld
 
       by : (b : Bool) → is_going nat_eq ended mount.number ≡ b → lost_a_group nat_eq without (change mount) ≡ false
       by true e = ap (lost_a_group nat_eq without) (goes mount e)
-      by false e = ap (lost_a_group nat_eq without) (MountingTaken.stays base ended lasting mount e)
+      by false e = ap (lost_a_group nat_eq without) (MountingTaken.stays_there base ended lasting mount e)
           ∙ of_source (source_of mount.propagation) refl
 
   abbrev pub ended_world : World ℕ

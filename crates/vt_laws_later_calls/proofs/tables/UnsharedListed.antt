@@ -192,7 +192,7 @@ module _ (world : World ℕ) (fresh : Fresh ℕ) (task : Task ℕ) (is : IsWorld
     below mount m place e = parent_of base base_is mount m place e
 
     unchanged : (mount : Mount ℕ) → Among mount base.mounts → IsInside mount → change mount ≡ mount
-    unchanged mount m e = MountingTaken.stays base ended lasting mount isnt
+    unchanged mount m e = MountingTaken.stays_there base ended lasting mount isnt
         ∙ (λ i. record mount { mount_point = points mount.mount_point refl i })
       where
         isnt : is_going nat_eq ended mount.number ≡ false
@@ -203,7 +203,7 @@ module _ (world : World ℕ) (fresh : Fresh ℕ) (task : Task ℕ) (is : IsWorld
         points None f = ap (option_map (mount_point_left nat_eq base ended)) f ∙ sym f
         points (Some place) f =
             let on = below mount m place f in
-            sym (ap (λ (x : Mount ℕ). x.mount_point) (MountingTaken.stays base ended lasting mount isnt))
+            sym (ap (λ (x : Mount ℕ). x.mount_point) (MountingTaken.stays_there base ended lasting mount isnt))
             ∙ MountingTaken.same_place base ended lasting false mount place f isnt
             (ap (is_going nat_eq ended) (sym on.number) ∙ stays on.parent on.there (sym on.namespace ∙ e)) ∙ sym f
 
@@ -221,7 +221,7 @@ module _ (world : World ℕ) (fresh : Fresh ℕ) (task : Task ℕ) (is : IsWorld
             → is_going nat_eq ended mount.number ≡ b → is_in namespace.number (change mount) ≡ false
         by mount e true goes =
             ap (is_in namespace.number) (UnsharedLeft.goes world fresh task is serves called mount goes)
-        by mount e false isnt = ap (is_in namespace.number) (MountingTaken.stays base ended lasting mount isnt) ∙ e
+        by mount e false isnt = ap (is_in namespace.number) (MountingTaken.stays_there base ended lasting mount isnt) ∙ e
 
     found_same : (mount : Mount ℕ) → Among mount (mounts_of nat_eq base namespace.number) → (place : Location ℕ)
         → mount.mount_point ≡ Some place
