@@ -73,18 +73,16 @@ binds_give_no_foothold world names name source path recursive it fresh serves = 
         → IfOk j (Binds world names it.is it.sealed_off task member recursive)
         → GivesNoFoothold world names name (Bind source path recursive) fresh
     judged_by task member e (Ok permit) judged its =
-        permit_out world names name (Bind source path recursive) it refl fresh serves task e
-        (ToBind its.0 its.1 recursive) (judged ∙ ap Ok its.2)
+        permit_out it refl fresh serves task e (ToBind its.0 its.1 recursive) (judged ∙ ap Ok its.2)
         (λ ends. bound_as_before world names it.is it.sealed_off fresh serves its.0 its.1 recursive its.3 its.4 its.5
         its.6)
-    judged_by task member e (Err deny) judged its = refused_out world names name (Bind source path recursive) it fresh
-        (ap (λ o. is_ok (ran name (Bind source path recursive) world fresh o).answer) e ∙ ap (λ j. is_ok
-        (run_by world names name (Bind source path recursive) it fresh fresh world fresh task j).answer) judged)
+    judged_by task member e (Err deny) judged its = refused_out it fresh
+        (ap (λ o. is_ok (ran name (Bind source path recursive) world fresh o).answer) e
+        ∙ ap (λ j. is_ok (run_by it world fresh task j).answer) judged)
 
     by : (o : Option (Task ℕ)) → task_called world name ≡ o
         → GivesNoFoothold world names name (Bind source path recursive) fresh
-    by None e = refused_out world names name (Bind source path recursive) it fresh
-        (ap (λ o. is_ok (ran name (Bind source path recursive) world fresh o).answer) e)
+    by None e = refused_out it fresh (ap (λ o. is_ok (ran name (Bind source path recursive) world fresh o).answer) e)
     by (Some task) e =
         let member = member_called world names it.is it.sealed_off name it.theirs task e in
         judged_by task member e (judge_in nat_eq fresh world task (Bind source path recursive)) refl

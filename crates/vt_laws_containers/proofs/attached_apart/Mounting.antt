@@ -50,20 +50,19 @@ plain_mounts_give_no_foothold world names name path flags it fresh serves = by (
         → IfOk j (Mounts world names it.is it.sealed_off task member flags)
         → GivesNoFoothold world names name (MountPlain path flags) fresh
     judged_by task member e (Ok permit) judged its =
-        permit_out world names name (MountPlain path flags) it refl fresh serves task e (ToMountPlain its.0 flags)
-        (judged ∙ ap Ok its.1) (λ ends. mounted_as_before world names it.is it.sealed_off fresh serves its.0 its.2 its.3
-        (plain_filesystem nat_eq fresh) refl (λ layer m. absurd m) (ap (λ b. b && true)
-        (or_left (nat_eq (evens fresh 1) (evens fresh 1))
+        permit_out it refl fresh serves task e (ToMountPlain its.0 flags) (judged ∙ ap Ok its.1)
+        (λ ends. mounted_as_before world names it.is it.sealed_off fresh serves its.0 its.2 its.3
+        (plain_filesystem nat_eq fresh) refl (λ layer m. absurd m)
+        (ap (λ b. b && true) (or_left (nat_eq (evens fresh 1) (evens fresh 1))
         (is_among nat_eq (evens fresh 1) (named_in (plain_filesystem nat_eq fresh).files))
         (eq-eqb (evens fresh 1) (evens fresh 1) refl))) flags)
-    judged_by task member e (Err deny) judged its = refused_out world names name (MountPlain path flags) it fresh
-        (ap (λ o. is_ok (ran name (MountPlain path flags) world fresh o).answer) e ∙ ap (λ j. is_ok
-        (run_by world names name (MountPlain path flags) it fresh fresh world fresh task j).answer) judged)
+    judged_by task member e (Err deny) judged its = refused_out it fresh
+        (ap (λ o. is_ok (ran name (MountPlain path flags) world fresh o).answer) e
+        ∙ ap (λ j. is_ok (run_by it world fresh task j).answer) judged)
 
     by : (o : Option (Task ℕ)) → task_called world name ≡ o
         → GivesNoFoothold world names name (MountPlain path flags) fresh
-    by None e = refused_out world names name (MountPlain path flags) it fresh
-        (ap (λ o. is_ok (ran name (MountPlain path flags) world fresh o).answer) e)
+    by None e = refused_out it fresh (ap (λ o. is_ok (ran name (MountPlain path flags) world fresh o).answer) e)
     by (Some task) e =
         let member = member_called world names it.is it.sealed_off name it.theirs task e in
         judged_by task member e (judge_in nat_eq fresh world task (MountPlain path flags)) refl

@@ -113,16 +113,15 @@ moves_give_no_foothold world names name source path it fresh serves = by (task_c
         → IfOk j (Moves world names it.is it.sealed_off task member)
         → GivesNoFoothold world names name (MoveMount source path) fresh
     judged_by task member e (Ok permit) judged its =
-        permit_out world names name (MoveMount source path) it refl fresh serves task e (ToMove its.0.mount its.1)
-        (judged ∙ ap Ok its.2) (λ ends. moved_as_before world names it.is it.sealed_off fresh serves its.0 its.1 its.3)
-    judged_by task member e (Err deny) judged its = refused_out world names name (MoveMount source path) it fresh
-        (ap (λ o. is_ok (ran name (MoveMount source path) world fresh o).answer) e ∙ ap (λ j. is_ok
-        (run_by world names name (MoveMount source path) it fresh fresh world fresh task j).answer) judged)
+        permit_out it refl fresh serves task e (ToMove its.0.mount its.1) (judged ∙ ap Ok its.2)
+        (λ ends. moved_as_before world names it.is it.sealed_off fresh serves its.0 its.1 its.3)
+    judged_by task member e (Err deny) judged its = refused_out it fresh
+        (ap (λ o. is_ok (ran name (MoveMount source path) world fresh o).answer) e
+        ∙ ap (λ j. is_ok (run_by it world fresh task j).answer) judged)
 
     by : (o : Option (Task ℕ)) → task_called world name ≡ o
         → GivesNoFoothold world names name (MoveMount source path) fresh
-    by None e = refused_out world names name (MoveMount source path) it fresh
-        (ap (λ o. is_ok (ran name (MoveMount source path) world fresh o).answer) e)
+    by None e = refused_out it fresh (ap (λ o. is_ok (ran name (MoveMount source path) world fresh o).answer) e)
     by (Some task) e =
         let member = member_called world names it.is it.sealed_off name it.theirs task e in
         judged_by task member e (judge_in nat_eq fresh world task (MoveMount source path)) refl

@@ -21,8 +21,7 @@ overlay_mounts_give_no_foothold world names name path options flags it fresh ser
         → GivesNoFoothold world names name (MountOverlay path options flags) fresh
     granted_out task member e permit judged its =
         let overlay : Overlay ℕ = overlay_at (looks_of nat_eq world) task its.places in
-        permit_out world names name (MountOverlay path options flags) it refl fresh serves task e
-        (ToMountOverlay its.here overlay flags) (judged ∙ ap Ok its.is_so)
+        permit_out it refl fresh serves task e (ToMountOverlay its.here overlay flags) (judged ∙ ap Ok its.is_so)
         (λ ends. mounted_as_before world names it.is it.sealed_off fresh serves its.here its.on its.own
         (overlay_filesystem nat_eq (evens fresh) world overlay) refl
         (all_used world names it.is it.sealed_off task member its.places its.all)
@@ -36,14 +35,13 @@ overlay_mounts_give_no_foothold world names name path options flags it fresh ser
         (mounts_overlay world names it.is it.sealed_off task member fresh path options flags permit
         (calls_are_granted nat_eq (looks_of nat_eq world) (overfills nat_eq fresh world task) task
         (MountOverlay path options flags) permit judged))
-    judged_by task member e (Err deny) judged = refused_out world names name (MountOverlay path options flags) it fresh
+    judged_by task member e (Err deny) judged = refused_out it fresh
         (ap (λ o. is_ok (ran name (MountOverlay path options flags) world fresh o).answer) e
-        ∙ ap (λ j. is_ok (run_by world names name (MountOverlay path options flags) it fresh fresh world fresh task
-        j).answer) judged)
+        ∙ ap (λ j. is_ok (run_by it world fresh task j).answer) judged)
 
     by : (o : Option (Task ℕ)) → task_called world name ≡ o
         → GivesNoFoothold world names name (MountOverlay path options flags) fresh
-    by None e = refused_out world names name (MountOverlay path options flags) it fresh
-        (ap (λ o. is_ok (ran name (MountOverlay path options flags) world fresh o).answer) e)
+    by None e = refused_out it fresh (ap (λ o. is_ok (ran name (MountOverlay path options flags) world fresh o).answer)
+        e)
     by (Some task) e = judged_by task (member_called world names it.is it.sealed_off name it.theirs task e) e
         (judge_in nat_eq fresh world task (MountOverlay path options flags)) refl

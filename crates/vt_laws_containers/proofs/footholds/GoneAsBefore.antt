@@ -71,9 +71,9 @@ module _ (world : World ℕ) (gone : List ℕ) where
   taken_filesystems = grind (arith, common_steps)
 
 -- Mounts of theirs that go
-module _ (world : World ℕ) (names : List TaskName) (name : TaskName) (call : Call)
-    (it : IsCallOfTheirs world names name call) (few : names_few_groups call ≡ true)
-    (fresh : Fresh ℕ) (serves : Serves nat_eq world fresh)
+module _ {world : World ℕ} {names : List TaskName} {name : TaskName} {call : Call}
+    (it : IsCallOfTheirs world names name call) (few : names_few_groups call ≡ true) (fresh : Fresh ℕ)
+    (serves : Serves nat_eq world fresh)
     (task : Task ℕ) (called : task_called world name ≡ Some task) where
   abbrev ours : ℕ → Bool
   ours = is_own_namespace nat_eq world names
@@ -89,7 +89,7 @@ module _ (world : World ℕ) (names : List TaskName) (name : TaskName) (call : C
       → (t : Task ℕ) × Among t world.tasks × (t.namespace ≡ n))
       → OthersAsBefore world (taken_away nat_eq world gone) names names
   own_gone_before gone own tasked = subst (λ w. OthersAsBefore world w names names) (taken_there world gone)
-      (gone_as_before world names name call it few fresh serves task called (gone_there world gone) [] goes
+      (gone_as_before it few fresh serves task called (gone_there world gone) [] goes
       (λ mount m n e. tasked mount (subst (λ (w : World ℕ). Among mount w.mounts) (taken_there world gone) m) n e))
     where
       goes : (number : ℕ) → is_going nat_eq (gone_there world gone) number ≡ true

@@ -22,7 +22,7 @@ pub as_itself : (world : World ℕ) (names : List TaskName) → IsWorld nat_eq w
 as_itself world names is sealed_off = tasks_as_before world names names is sealed_off world.tasks world.filesystems
     (tasks_beside world names is world.filesystems (λ f m. inl (f, m, refl, refl)))
 
-module _ (world : World ℕ) (names : List TaskName) (name : TaskName) (call : Call)
+module _ {world : World ℕ} {names : List TaskName} {name : TaskName} {call : Call}
     (it : IsCallOfTheirs world names name call) (fresh : Fresh ℕ) where
   abbrev later : World ℕ
   later = (policy nat_eq fresh world name call).world
@@ -76,7 +76,7 @@ module _ (world : World ℕ) (names : List TaskName) (name : TaskName) (call : C
       stays : grown names name call answer_given ≡ names
       stays = by (task_called world name) refl
 
-module _ (world : World ℕ) (names : List TaskName) (name : TaskName) (call : Call)
+module _ {world : World ℕ} {names : List TaskName} {name : TaskName} {call : Call}
     (it : IsCallOfTheirs world names name call) (fresh : Fresh ℕ) (serves : Serves nat_eq world fresh)
     (few : names_few_groups call ≡ true) where
   abbrev after_call : World ℕ
@@ -104,7 +104,7 @@ module _ (world : World ℕ) (names : List TaskName) (name : TaskName) (call : C
   granted_out changes permits = by its_answer refl
     where
       by : (answer : Result Answer Deny) → its_answer ≡ answer → GivesNoFoothold world names name call fresh
-      by (Err deny) e = refused_out world names name call it fresh (ap is_ok e)
+      by (Err deny) e = refused_out it fresh (ap is_ok e)
       by (Ok answer) e =
           let did = permitted world fresh name call answer changes e in
           let set = grown names name call (apply nat_eq fresh world did.task did.permit).answer in

@@ -1,6 +1,6 @@
 -- Removals, renames and lazy unmounts of theirs give others no foothold: all mounts that go are theirs.
-use Rattle.std.proofs.Common.{◌≡◌, refl, sym, ap, subst, ◌∙◌, ⊎_elim, ℕ, nat_eq, eq-eqb, true, false, true≢false, List, [], Option, Some, None, Ok, is_some}
-use Rattle.vt_spec.proofs.Common.{Among, Call, Change, Filesystem, Fresh, IsWorld, Location, Mount, MountInvariants, Move, Overlay, Permit, Remove, Serves, Task, TaskName, ToRemoveDirectory, ToRename, ToUnmountLazily, World, any_pair, apply, filesystem_at, filesystem_numbered, folded, found_or_none, holds_of, is_going, is_locked_at, is_mount_point_in, is_overlay, is_own_namespace, judge_in, lazily_unmounted, looks_of, members, mount_at, mount_numbered, mounts_on, none_is_some, numbers_raised, overfills, part_of, points_of, settled, taken_away, task_called, unmounted_if_there, used_alone, with_change, without_mounts_on}
+use Rattle.std.proofs.Common.{◌≡◌, refl, sym, ap, subst, ◌∙◌, ⊎_elim, ℕ, nat_eq, eq-eqb, true, false, true≢false, List, [], Option, Some, None, Ok}
+use Rattle.vt_spec.proofs.Common.{Among, Call, Change, Filesystem, Fresh, IsWorld, Location, Mount, MountInvariants, Move, Overlay, Permit, Remove, Serves, Task, TaskName, ToRemoveDirectory, ToRename, ToUnmountLazily, World, any_pair, apply, filesystem_at, filesystem_numbered, folded, found_or_none, holds_of, is_own_namespace, judge_in, lazily_unmounted, looks_of, members, mount_at, mount_numbered, mounts_on, none_is_some, numbers_raised, overfills, part_of, points_of, settled, taken_away, task_called, unmounted_if_there, used_alone, with_change, without_mounts_on}
 use Rattle.vt_laws_rules.proofs.given.GivenPermits.{permits_are_for_their_calls}
 use Rattle.vt_laws_rules.proofs.given.Inversion.{calls_are_granted}
 use Rattle.vt_laws_trees.specs.Trees.Calls.{mounts_overlay}
@@ -13,17 +13,16 @@ use Rattle.vt_laws_worlds.proofs.worlds.FitPermitsNamed.{all_permits_fit}
 use Rattle.vt_laws_worlds.specs.OverlayPermits.Asked.{change_asked}
 use Rattle.vt_laws_sealed.proofs.part.part.PartOfPart.{is_own}
 use Rattle.vt_laws_members.proofs.judging.Grounds.{theirs_from}
-use Rattle.vt_laws_members.specs.Judging.{is_theirs}
 use Rattle.vt_laws_members.proofs.judging.MountPoints.{in_own}
 use Rattle.vt_laws_members.proofs.judging.SeenInPart.{OnTheirs, theirs_directly}
-use Rattle.vt_laws_members.specs.Changes.Changes.{IsCallOfTheirs, left}
+use Rattle.vt_laws_members.specs.Changes.Changes.{IsCallOfTheirs}
 use Rattle.vt_laws_members.proofs.changes.files.OneFilesystem.{found_numbered}
 use Rattle.vt_laws_members.proofs.changes.letting_go.PartMounts.{part_mounts}
 use Rattle.vt_laws_members.proofs.changes.looks.Told.{member_called}
 use Rattle.vt_laws_members.proofs.changes.names.Elsewhere.{own_here, plain_points}
-use Rattle.vt_laws_members.proofs.changes.names.GrantedNames.{Names}
+use Rattle.vt_laws_members.proofs.changes.names.GrantedNames.{Names, naming_of}
 use Rattle.vt_laws_members.proofs.changes.names.NamesEnding.{naming_alone}
-use Rattle.vt_laws_members.proofs.changes.names.RemovalsEnding.{removed_free, replaced_free}
+use Rattle.vt_laws_members.proofs.changes.names.RemovalsEnding.{IsFree, removed_free, replaced_free}
 use Rattle.vt_laws_members.proofs.overlay_names.names.OverlayRemovals.{points_alone}
 use Rattle.vt_laws_members.proofs.detached.lazily.Order.{same_turns, turns_own}
 use Rattle.vt_laws_members.proofs.detached.lazily.Turns.{SameButGroups, TookAway, events_alike, took, took_none}
@@ -37,38 +36,32 @@ use Rattle.vt_laws_containers.proofs.footholds.GoneAsBefore.{files_as_before, ow
 use Rattle.vt_laws_containers.proofs.footholds.Granting.{EndsInAWorld}
 use Rattle.vt_laws_containers.proofs.footholds.TakenAsBefore.{taken_tasks}
 use Rattle.vt_laws_containers.proofs.footholds.TakingPermits.{tasked_later}
-use Rattle.vt_laws_containers.proofs.footholds.TasksPermits.{Before, changed_before, kept, permit_out, stays, swept_out}
+use Rattle.vt_laws_containers.proofs.footholds.TasksPermits.{Before, changed_before, kept, permit_out, swept_out}
+use Rattle.vt_laws_members.proofs.changes.letting_go.Regrouped.{TheirsGo}
 
-module _ (world : World ℕ) (names : List TaskName) (name : TaskName) (call : Call)
-    (it : IsCallOfTheirs world names name call) (few : names_few_groups call ≡ true)
-    (fresh : Fresh ℕ) (serves : Serves nat_eq world fresh)
+module _ {world : World ℕ} {names : List TaskName} {name : TaskName} {call : Call}
+    (it : IsCallOfTheirs world names name call) (few : names_few_groups call ≡ true) (fresh : Fresh ℕ)
+    (serves : Serves nat_eq world fresh)
     (task : Task ℕ) (called : task_called world name ≡ Some task) where
   member : Among task (members world names)
   member = member_called world names it.is it.sealed_off name it.theirs task called
 
-  -- what goes is on the mount of its directory, not locked, and no mount of the caller's namespace is on it
-  abbrev IsFree : Location ℕ → Location ℕ → Type 0
-  IsFree gone location = (is_theirs world names gone.mount ≡ true) × (is_locked_at nat_eq world gone ≡ false)
-      × (is_mount_point_in nat_eq (looks_of nat_eq world) task.namespace gone ≡ false) × (gone.mount ≡ location.mount)
-
   -- A change by which a directory goes, with the mounts on it
   module _ (permit : Permit ℕ) (judged : judge_in nat_eq fresh world task call ≡ Ok permit)
-      (same_set : left names name call ≡ names) (gone location : Location ℕ) (change : Change ℕ)
+      (gone location : Location ℕ) (change : Change ℕ)
       (asks : change_asked fresh world permit ≡ Some (location, change)) (names_it : Names change)
-      (free : IsFree gone location) where
+      (free : IsFree world names task gone location) where
     on : OnTheirs world names it.is gone
-    on = theirs_from world names it.is.mounts gone.mount free.0
+    on = theirs_from world names it.is.mounts gone.mount free.on
 
     one_filesystem : filesystem_at nat_eq world gone ≡ filesystem_at nat_eq world location
-    one_filesystem = ap (λ m. filesystem_numbered nat_eq world (mount_numbered nat_eq world m).filesystem) free.3
+    one_filesystem = ap (λ m. filesystem_numbered nat_eq world (mount_numbered nat_eq world m).filesystem) free.beside
 
-    plain_alone : is_overlay (filesystem_at nat_eq world location) ≡ false
-        → used_alone nat_eq world names (filesystem_at nat_eq world gone).number ≡ true
-    plain_alone plain = cc (
+    gone_alone : used_alone nat_eq world names (filesystem_at nat_eq world gone).number ≡ true
+    gone_alone = cc (
       one_filesystem,
       found_numbered (mount_at nat_eq world location).filesystem world.filesystems,
-      naming_alone world names name call it fresh fresh fresh serves task called same_set permit judged
-          location change asks names_it plain,
+      naming_alone (naming_of it task called fresh serves permit judged location change asks names_it),
     )
 
     points_own : (point : ℕ × ℕ) → Among point (points_of nat_eq world gone)
@@ -77,8 +70,7 @@ module _ (world : World ℕ) (names : List TaskName) (name : TaskName) (call : C
       where
         by : (o : Option (Overlay ℕ)) → (filesystem_at nat_eq world gone).overlay ≡ o → (point : ℕ × ℕ)
             → Among point (points_of nat_eq world gone) → used_alone nat_eq world names point.0 ≡ true
-        by None e = plain_points world names it.is gone e
-            (plain_alone (ap is_overlay (sym one_filesystem) ∙ ap is_some e))
+        by None e = plain_points world names it.is gone e gone_alone
         by (Some overlay) e =
             points_alone world names it.is it.sealed_off gone overlay e (theirs_directly world names it.is gone on)
 
@@ -104,8 +96,8 @@ module _ (world : World ℕ) (names : List TaskName) (name : TaskName) (call : C
         → IsWorld nat_eq (numbers_raised nat_eq world name changed (settled nat_eq done))
         → OthersAsBefore world done names names
     removed_before changed ends = files_as_before world base done names names
-        (own_gone_before world names name call it few fresh serves task called list
-        (own_go world names it.is gone on only_own) (λ mount m n e.
+        (own_gone_before it few fresh serves task called list (own_go world names it.is gone on only_own)
+        (λ mount m n e.
         let of = tasked_later world done name changed ends mount
         (subst (Among mount) (sym (ap (λ (w : World ℕ). w.mounts) changes.same)) m) n e in (
           of.0,
@@ -115,14 +107,13 @@ module _ (world : World ℕ) (names : List TaskName) (name : TaskName) (call : C
 
   removes_before : (parent : Location ℕ) (entry : List ℕ) (directory : Location ℕ)
       → judge_in nat_eq fresh world task call ≡ Ok (ToRemoveDirectory parent entry directory)
-      → EndsInAWorld world names name call it fresh serves few task (ToRemoveDirectory parent entry directory)
-      → Before world names name call it few fresh serves task called (ToRemoveDirectory parent entry directory)
+      → EndsInAWorld it fresh serves few task (ToRemoveDirectory parent entry directory)
+      → Before it few fresh serves task called (ToRemoveDirectory parent entry directory)
   removes_before parent entry directory judged ends =
-      kept world names name call it few fresh serves task called (ToRemoveDirectory parent entry directory) judged refl
+      kept it few fresh serves task called (ToRemoveDirectory parent entry directory) judged refl
       (apply nat_eq fresh world task (ToRemoveDirectory parent entry directory)).world
-      (removed_before (ToRemoveDirectory parent entry directory) judged
-      (stays world names name call it few fresh serves task called (ToRemoveDirectory parent entry directory) judged
-      refl) directory parent (Remove parent.node entry directory.node) refl tt
+      (removed_before (ToRemoveDirectory parent entry directory) judged directory parent
+      (Remove parent.node entry directory.node) refl tt
       (removed_free world names it.is it.sealed_off task member fresh call (ToRemoveDirectory parent entry directory)
       (calls_are_granted nat_eq (looks_of nat_eq world) (overfills nat_eq fresh world task) task call
       (ToRemoveDirectory parent entry directory) judged) parent entry directory refl) _ ends)
@@ -130,22 +121,20 @@ module _ (world : World ℕ) (names : List TaskName) (name : TaskName) (call : C
   renames_before : (from : Location ℕ) (old : List ℕ) (to : Location ℕ) (new : List ℕ) (object : Location ℕ)
       (replaced : Option (Location ℕ))
       → judge_in nat_eq fresh world task call ≡ Ok (ToRename from old to new object replaced)
-      → EndsInAWorld world names name call it fresh serves few task (ToRename from old to new object replaced)
-      → Before world names name call it few fresh serves task called (ToRename from old to new object replaced)
+      → EndsInAWorld it fresh serves few task (ToRename from old to new object replaced)
+      → Before it few fresh serves task called (ToRename from old to new object replaced)
   renames_before from old to new object None judged ends =
-      kept world names name call it few fresh serves task called (ToRename from old to new object None) judged refl
+      kept it few fresh serves task called (ToRename from old to new object None) judged refl
       (apply nat_eq fresh world task (ToRename from old to new object None)).world
-      (changed_before world names name call it few fresh serves task called
+      (changed_before it few fresh serves task called
       (apply nat_eq fresh world task (ToRename from old to new object None)).world
       (change_changes_files world it.is.files.one_filesystem fresh from (Move from.node old to.node new object.node)))
   renames_before from old to new object (Some gone) judged ends =
-      kept world names name call it few fresh serves task called (ToRename from old to new object (Some gone)) judged
+      kept it few fresh serves task called (ToRename from old to new object (Some gone)) judged
       refl (apply nat_eq fresh world task (ToRename from old to new object (Some gone))).world
-      (removed_before (ToRename from old to new object (Some gone)) judged
-      (stays world names name call it few fresh serves task called (ToRename from old to new object (Some gone)) judged
-      refl) gone from (Move from.node old to.node new object.node) refl tt
-      (replaced_free world names it.is it.sealed_off task member fresh call
-      (ToRename from old to new object (Some gone))
+      (removed_before (ToRename from old to new object (Some gone)) judged gone from
+      (Move from.node old to.node new object.node) refl tt (replaced_free world names it.is it.sealed_off task member
+      fresh call (ToRename from old to new object (Some gone))
       (calls_are_granted nat_eq (looks_of nat_eq world) (overfills nat_eq fresh world task) task call
       (ToRename from old to new object (Some gone)) judged) from old to new object gone refl) _ ends)
 
@@ -176,13 +165,15 @@ module _ (world : World ℕ) (names : List TaskName) (name : TaskName) (call : C
     is_its = in_own world names it.is task member (mount_numbered nat_eq world number)
         (ap (holds_of (nat_eq task.namespace)) in_callers ∙ eq-eqb task.namespace task.namespace refl)
 
-    all_gone : (gone : List ℕ) × ((m : Mount ℕ) → Among m world.mounts → is_going nat_eq gone m.number ≡ true
-        → is_own world names (members world names) m ≡ true) × TookAway world detached_ones gone
+    all_gone : (gone : List ℕ) × TheirsGo world names gone × TookAway world detached_ones gone
         × TookAway part (folded (unmounted_if_there nat_eq) part (taken_in_turn world number)) gone
     all_gone = events_alike world names it.is it.sealed_off number (taken_in_turn world number) world part []
         (begun world it.is.mounts number) (subst (IsUnderWay part in_part number part)
-        (same_turns world names it.is it.sealed_off number is_there is_its) (begun part in_part number))
-        (λ m n none. absurd (true≢false (sym none))) (took_none world it.is.mounts) (took_none part in_part)
+        (same_turns world names it.is it.sealed_off number is_there is_its) (begun part in_part number)) (record {
+          is = it.is;
+          sealed_off = it.sealed_off;
+          own_go = λ m n none. absurd (true≢false (sym none));
+        }) (took_none world it.is.mounts) (took_none part in_part)
         (turns_own world names it.is it.sealed_off number is_there is_its)
 
     same : SameButGroups detached_ones (taken_away nat_eq world all_gone.0)
@@ -192,10 +183,10 @@ module _ (world : World ℕ) (names : List TaskName) (name : TaskName) (call : C
     same_swept =
         cc (settled_without_groups (taken_away nat_eq world all_gone.0), same, settled_without_groups detached_ones)
 
-    taken_before : EndsInAWorld world names name call it fresh serves few task (ToUnmountLazily number)
+    taken_before : EndsInAWorld it fresh serves few task (ToUnmountLazily number)
         → OthersAsBefore world (taken_away nat_eq world all_gone.0) names names
     taken_before ends =
-        own_gone_before world names name call it few fresh serves task called all_gone.0 all_gone.1 (λ mount m n e.
+        own_gone_before it few fresh serves task called all_gone.0 all_gone.1.own_go (λ mount m n e.
         let of = tasked_later world detached_ones name [] ends mount
         (subst (Among mount) (sym (ap (λ (w : World ℕ). w.mounts) same)) m) n e in (
           of.0,
@@ -204,22 +195,22 @@ module _ (world : World ℕ) (names : List TaskName) (name : TaskName) (call : C
         ))
 
     lazy_out : GivesNoFoothold world names name call fresh
-    lazy_out = swept_out world names name call it few fresh serves task called (ToUnmountLazily number) judged (λ ends.
-        kept world names name call it few fresh serves task called (ToUnmountLazily number) judged refl
+    lazy_out = swept_out it few fresh serves task called (ToUnmountLazily number) judged
+        (λ ends. kept it few fresh serves task called (ToUnmountLazily number) judged refl
         (settled nat_eq detached_ones) (subst (λ w. OthersAsBefore world w names names) same_swept
         (swept_as_before world (taken_away nat_eq world all_gone.0) names names (taken_before ends))))
 
   by_permit : (permit : Permit ℕ) → judge_in nat_eq fresh world task call ≡ Ok permit → is_of_removing permit ≡ true
       → GivesNoFoothold world names name call fresh
   by_permit (ToRemoveDirectory parent entry directory) judged e =
-      permit_out world names name call it few fresh serves task called (ToRemoveDirectory parent entry directory) judged
+      permit_out it few fresh serves task called (ToRemoveDirectory parent entry directory) judged
       (removes_before parent entry directory judged)
   by_permit (ToRename from old to new object replaced) judged e =
-      permit_out world names name call it few fresh serves task called (ToRename from old to new object replaced) judged
+      permit_out it few fresh serves task called (ToRename from old to new object replaced) judged
       (renames_before from old to new object replaced judged)
   by_permit (ToUnmountLazily number) judged e = lazy_out number judged
   by_permit permit judged e = absurd (true≢false (sym e))
 
 pub removing_gives_no_foothold : RemovingGivesNoFoothold
 removing_gives_no_foothold world names name call it few fresh serves task called permit judged is_one =
-    by_permit world names name call it few fresh serves task called permit judged is_one
+    by_permit it few fresh serves task called permit judged is_one

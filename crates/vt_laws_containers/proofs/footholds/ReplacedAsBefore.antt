@@ -152,9 +152,9 @@ module _ (world : World ℕ) (names : List TaskName) (is : IsWorld nat_eq world)
   }
 
 -- The permits
-module _ (world : World ℕ) (names : List TaskName) (name : TaskName) (call : Call)
-    (it : IsCallOfTheirs world names name call) (few : names_few_groups call ≡ true)
-    (fresh : Fresh ℕ) (serves : Serves nat_eq world fresh)
+module _ {world : World ℕ} {names : List TaskName} {name : TaskName} {call : Call}
+    (it : IsCallOfTheirs world names name call) (few : names_few_groups call ≡ true) (fresh : Fresh ℕ)
+    (serves : Serves nat_eq world fresh)
     (task : Task ℕ) (called : task_called world name ≡ Some task) where
   its_member : Among task (members world names)
   its_member = member_called world names it.is it.sealed_off name it.theirs task called
@@ -181,13 +181,13 @@ module _ (world : World ℕ) (names : List TaskName) (name : TaskName) (call : C
   -- mount(2) with MS_REMOUNT and MS_BIND
   flags_before : (number : ℕ) (flags : MountFlags)
       → judge_in nat_eq fresh world task call ≡ Ok (ToSetFlags number flags)
-      → Before world names name call it few fresh serves task called (ToSetFlags number flags)
+      → Before it few fresh serves task called (ToSetFlags number flags)
   flags_before number flags judged =
       let for = permits_are_for_their_calls fresh world task call (ToSetFlags number flags) judged in
       let placed = (all_permits_fit world fresh task call (ToSetFlags number flags) it.is serves
-      (ap (task_called world) (sym (name_found world name task called)) ∙ called)
-      (ap mounts_overlay for.1) judged).names in
-      kept world names name call it few fresh serves task called (ToSetFlags number flags) judged refl
+      (ap (task_called world) (sym (name_found world name task called)) ∙ called) (ap mounts_overlay for.1)
+      judged).names in
+      kept it few fresh serves task called (ToSetFlags number flags) judged refl
       (apply nat_eq fresh world task (ToSetFlags number flags)).world (subst (λ w. OthersAsBefore world w names names)
       (sym (ap (with_mounts world) (map_alike (replaced_if_same nat_eq (record old { flags = flags }))
       (set world number flags) world.mounts same_set)))
@@ -365,19 +365,19 @@ module _ (world : World ℕ) (names : List TaskName) (name : TaskName) (call : C
         tasks_fixed [] same = refl
         tasks_fixed (t ∷ rest) same = cc (same t (inl refl), tasks_fixed rest (λ x m. same x (inr m)))
 
-    pivot_before : Before world names name call it few fresh serves task called (ToPivot new put)
-    pivot_before = kept world names name call it few fresh serves task called (ToPivot new put) judged refl
+    pivot_before : Before it few fresh serves task called (ToPivot new put)
+    pivot_before = kept it few fresh serves task called (ToPivot new put) judged refl
         (apply nat_eq fresh world task (ToPivot new put)).world
         (replaced_as_before world names it.is it.sealed_off change pivot_replaces (map turned world.tasks)
         turned_beside)
 
   of_replacing : (permit : Permit ℕ) → judge_in nat_eq fresh world task call ≡ Ok permit
-      → is_of_replacing permit ≡ true → Before world names name call it few fresh serves task called permit
+      → is_of_replacing permit ≡ true → Before it few fresh serves task called permit
   of_replacing (ToSetFlags number flags) judged e = flags_before number flags judged
   of_replacing (ToPivot new put) judged e = pivot_before new put judged
   of_replacing permit judged e = absurd (true≢false (sym e))
 
 pub replacing_gives_no_foothold : ReplacingGivesNoFoothold
 replacing_gives_no_foothold world names name call it few fresh serves task called permit judged is_one =
-    permit_out world names name call it few fresh serves task called permit judged
-    (λ ends. of_replacing world names name call it few fresh serves task called permit judged is_one)
+    permit_out it few fresh serves task called permit judged
+    (λ ends. of_replacing it few fresh serves task called permit judged is_one)

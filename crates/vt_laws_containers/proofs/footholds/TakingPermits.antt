@@ -61,7 +61,7 @@ filter_twice p q r [] same none = refl
 filter_twice {A} p q r (x ∷ xs) same none =
     grind (arith, common_steps, filter_twice p q r xs (λ y m. same y (inr m)) (λ y m. none y (inr m)))
 
-module _ (world : World ℕ) (names : List TaskName) (name : TaskName) (call : Call)
+module _ {world : World ℕ} {names : List TaskName} {name : TaskName} {call : Call}
     (it : IsCallOfTheirs world names name call) where
   apart : IsApart world names
   apart = apart_if_sealed world names it.is it.sealed_off
@@ -157,38 +157,37 @@ module _ (world : World ℕ) (names : List TaskName) (name : TaskName) (call : C
         gone ended_takes
 
 -- _exit(2)
-module _ (world : World ℕ) (names : List TaskName) (name : TaskName) (it : IsCallOfTheirs world names name Exit)
+module _ {world : World ℕ} {names : List TaskName} {name : TaskName} (it : IsCallOfTheirs world names name Exit)
     (task : Task ℕ) (called : task_called world name ≡ Some task) where
   abbrev rest : List (Task ℕ)
-  rest = filter (stays world names name it task called) world.tasks
+  rest = filter (stays it task called) world.tasks
 
   abbrev is_left : Task ℕ → Bool
-  is_left = its world names name it task called
+  is_left = its it task called
 
   others_rest : filter (λ (t : Task ℕ). not (is_left t)) rest ≡ outsiders world names
-  others_rest = filter_twice (λ (t : Task ℕ). not (is_left t)) (stays world names name it task called)
+  others_rest = filter_twice (λ (t : Task ℕ). not (is_left t)) (stays it task called)
       (λ (t : Task ℕ). not (is_member_task names t)) world.tasks
-      (λ t m stay. ap not (same t stay (is_member_task names t) refl)) (λ t m gone. ap not
-      (ap (is_member_task names) (sym (is_task world names name it task called t m
-      (not-false (same_name name t.name) gone)))
-      ∙ (among-from_filter (is_member_task names) world.tasks task (member world names name it task called)).1))
+      (λ t m stay. ap not (same t stay (is_member_task names t) refl))
+      (λ t m gone. ap not (ap (is_member_task names)
+      (sym (is_task it task called t m (not-false (same_name name t.name) gone)))
+      ∙ (among-from_filter (is_member_task names) world.tasks task (member it task called)).1))
     where
-      same : (t : Task ℕ) → stays world names name it task called t ≡ true → (b : Bool) → is_member_task names t ≡ b
+      same : (t : Task ℕ) → stays it task called t ≡ true → (b : Bool) → is_member_task names t ≡ b
           → is_left t ≡ b
-      same t stay true e = set_from world names name it task called t e stay
-      same t stay false e = false_from_ne_true (is_left t) (λ h.
-          true≢false (sym (set_parts world names name it task called t h).0 ∙ e))
+      same t stay true e = set_from it task called t e stay
+      same t stay false e = false_from_ne_true (is_left t) (λ h. true≢false (sym (set_parts it task called t h).0 ∙ e))
 
   exit_before : (changed : List ℕ) → IsWorld nat_eq (numbers_raised nat_eq world name changed
       (settled nat_eq (namespaces_ended nat_eq (without_task world name))))
       → OthersAsBefore world (namespaces_ended nat_eq (without_task world name)) names (left names name Exit)
-  exit_before changed ends = ended_as_before world names name Exit it (left names name Exit) rest others_rest
+  exit_before changed ends = ended_as_before it (left names name Exit) rest others_rest
       (λ n h. let at = any_among (λ (t : Task ℕ). nat_eq n t.namespace) (filter is_left rest) h in
       any_from_among (λ (t : Task ℕ). nat_eq n t.namespace) (members world names) at.0
-      (new_old world names name it task called at.0 at.1) at.2)
-      (λ l m. let from = among-from_flat_map locations_of (filter is_left rest) l m in
-      inl (among-flat_map locations_of (members world names) from.0 l
-      (new_old world names name it task called from.0 from.1) from.2)) changed ends
+      (new_old it task called at.0 at.1) at.2) (λ l m. let from = among-from_flat_map locations_of (filter is_left rest)
+      l m in
+      inl (among-flat_map locations_of (members world names) from.0 l (new_old it task called from.0 from.1) from.2))
+      changed ends
 
   pub exits_before : (fresh : Fresh ℕ) (changed : List ℕ) → IsWorld nat_eq (numbers_raised nat_eq world name changed
       (settled nat_eq (apply nat_eq fresh world task ToExit).world))
@@ -196,7 +195,7 @@ module _ (world : World ℕ) (names : List TaskName) (name : TaskName) (it : IsC
   exits_before fresh changed = subst (λ n. IsWorld nat_eq (numbers_raised nat_eq world name changed
       (settled nat_eq (namespaces_ended nat_eq (without_task world n))))
       → OthersAsBefore world (namespaces_ended nat_eq (without_task world n)) names (left names name Exit))
-      (its_name world names name it task called) (exit_before changed)
+      (its_name it task called) (exit_before changed)
 
 -- setns(2)
 pub entering_before : (world : World ℕ) (names : List TaskName) (name target_name : TaskName)
@@ -206,23 +205,18 @@ pub entering_before : (world : World ℕ) (names : List TaskName) (name target_n
     (settled nat_eq (apply nat_eq fresh world task (ToEnterNamespace target.namespace)).world))
     → OthersAsBefore world (apply nat_eq fresh world task (ToEnterNamespace target.namespace)).world names names
 entering_before world names name target_name it task called target target_in fresh changed ends =
-    ended_as_before world names name (Setns target_name) it names
-    (map (replaced_if_called (mine world names name target_name it task called target target_in)) world.tasks)
-    (others_unmoved world names name (Setns target_name) it task called
-    (mine world names name target_name it task called target target_in) refl)
-    (λ n h. entered_was world names name target_name it task called target target_in n
+    ended_as_before it names (map (replaced_if_called (mine it task called target target_in)) world.tasks)
+    (others_unmoved world names name (Setns target_name) it task called (mine it task called target target_in) refl)
+    (λ n h. entered_was it task called target target_in n
     (sym (ap (list_any (λ (t : Task ℕ). nat_eq n t.namespace))
-    (of_set world names name (Setns target_name) it task called
-    (mine world names name target_name it task called target target_in)
-    (stands world names name target_name it task called target target_in) world.tasks)) ∙ h))
-    (places_left world names name (Setns target_name) it task called
-    (mine world names name target_name it task called target target_in)
-    (stands world names name target_name it task called target target_in)) changed ends
+    (of_set it task called (mine it task called target target_in) (stands it task called target target_in) world.tasks))
+    ∙ h)) (places_left it task called (mine it task called target target_in) (stands it task called target target_in))
+    changed ends
 
 -- umount(2)
-module _ (world : World ℕ) (names : List TaskName) (name : TaskName) (call : Call)
-    (it : IsCallOfTheirs world names name call) (few : names_few_groups call ≡ true)
-    (fresh : Fresh ℕ) (serves : Serves nat_eq world fresh)
+module _ {world : World ℕ} {names : List TaskName} {name : TaskName} {call : Call}
+    (it : IsCallOfTheirs world names name call) (few : names_few_groups call ≡ true) (fresh : Fresh ℕ)
+    (serves : Serves nat_eq world fresh)
     (task : Task ℕ) (called : task_called world name ≡ Some task) where
   its_apart : IsApart world names
   its_apart = apart_if_sealed world names it.is it.sealed_off
@@ -255,25 +249,24 @@ module _ (world : World ℕ) (names : List TaskName) (name : TaskName) (call : C
       let goes = others_go (mirror world names its_apart) (their_names world names its_apart)
       (mirror_stands world names its_apart NothingNew (λ mount group m is_in new. new)) task.namespace
       (own_out world names its_apart task.namespace
-      ∙ ours_is_not_out world names its_apart task.namespace (its_own world names name call it task its_member))
-      number placed k h in (
+      ∙ ours_is_not_out world names its_apart task.namespace (its_own it task its_member)) number placed k h in (
         goes.0,
         goes.1,
         ⊎_elim (λ own. own)
             (λ theirs. absurd (true≢false (sym (own_out world names its_apart goes.0 ∙ theirs) ∙ goes.2)))
             (side world names its_apart goes.0 (placed_listed world names its_apart (mount_numbered nat_eq world k)
-            (there_in world names name call it k goes.0 goes.1) goes.0 goes.1)),
+            (there_in it k goes.0 goes.1) goes.0 goes.1)),
       )
 
   umount_before : (number : ℕ) → judge_in nat_eq fresh world task call ≡ Ok (ToUnmount number)
-      → EndsInAWorld world names name call it fresh serves few task (ToUnmount number)
-      → Before world names name call it few fresh serves task called (ToUnmount number)
+      → EndsInAWorld it fresh serves few task (ToUnmount number)
+      → Before it few fresh serves task called (ToUnmount number)
   umount_before number judged ends =
       let for = permits_are_for_their_calls fresh world task call (ToUnmount number) judged in
       let placed = (all_permits_fit world fresh task call (ToUnmount number) it.is serves
-      (ap (task_called world) (sym (name_found world name task called)) ∙ called)
-      (ap mounts_overlay for.1) judged).names.0 in
-      kept world names name call it few fresh serves task called (ToUnmount number) judged refl
+      (ap (task_called world) (sym (name_found world name task called)) ∙ called) (ap mounts_overlay for.1)
+      judged).names.0 in
+      kept it few fresh serves task called (ToUnmount number) judged refl
       (apply nat_eq fresh world task (ToUnmount number)).world
       (gone_as_before (going nat_eq world (mount_numbered nat_eq world number)) [] (umount_goes number placed)
       (λ mount m n e.
@@ -286,15 +279,15 @@ module _ (world : World ℕ) (names : List TaskName) (name : TaskName) (call : C
       )))
 
   of_detaching : (permit : Permit ℕ) → judge_in nat_eq fresh world task call ≡ Ok permit → is_of_detaching permit ≡ true
-      → EndsInAWorld world names name call it fresh serves few task permit
-      → Before world names name call it few fresh serves task called permit
+      → EndsInAWorld it fresh serves few task permit
+      → Before it few fresh serves task called permit
   of_detaching ToExit judged e ends =
       let for : call ≡ Exit = permits_are_for_their_calls fresh world task call ToExit judged in
       subst (λ c. OthersAsBefore world (apply nat_eq fresh world task ToExit).world names (left names name c)) (sym for)
-      (exits_before world names name (subst (IsCallOfTheirs world names name) for it) task called fresh [] ends)
+      (exits_before (subst (IsCallOfTheirs world names name) for it) task called fresh [] ends)
   of_detaching (ToEnterNamespace namespace) judged e ends =
       let for = permits_are_for_their_calls fresh world task call (ToEnterNamespace namespace) judged in
-      kept world names name call it few fresh serves task called (ToEnterNamespace namespace) judged refl
+      kept it few fresh serves task called (ToEnterNamespace namespace) judged refl
       (apply nat_eq fresh world task (ToEnterNamespace namespace)).world
       (enters_before namespace for.0 (subst (IsCallOfTheirs world names name) for.1 it)
       (sym (ap (judge_in nat_eq fresh world task) for.1) ∙ judged) ends)
@@ -305,7 +298,7 @@ module _ (world : World ℕ) (names : List TaskName) (name : TaskName) (call : C
 
       enters_before : (n : ℕ) (target_name : TaskName) (its_call : IsCallOfTheirs world names name (Setns target_name))
           → judge_in nat_eq fresh world task (Setns target_name) ≡ Ok (ToEnterNamespace n)
-          → EndsInAWorld world names name call it fresh serves few task (ToEnterNamespace n)
+          → EndsInAWorld it fresh serves few task (ToEnterNamespace n)
           → OthersAsBefore world (apply nat_eq fresh world task (ToEnterNamespace n)).world names names
       enters_before n target_name its_call so ended =
           let target : Enters world names it.is it.sealed_off task its_member (ToEnterNamespace n) =
@@ -321,5 +314,5 @@ module _ (world : World ℕ) (names : List TaskName) (name : TaskName) (call : C
 
 pub detaching_gives_no_foothold : DetachingGivesNoFoothold
 detaching_gives_no_foothold world names name call it few fresh serves task called permit judged is_one =
-    permit_out world names name call it few fresh serves task called permit judged
-    (of_detaching world names name call it few fresh serves task called permit judged is_one)
+    permit_out it few fresh serves task called permit judged
+    (of_detaching it few fresh serves task called permit judged is_one)

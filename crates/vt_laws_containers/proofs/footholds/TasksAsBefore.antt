@@ -104,8 +104,7 @@ others_unmoved world names name call it task called mine named =
     unmoved t m =
         let from = among-from_filter (λ (x : Task ℕ). not (is_member_task names x)) world.tasks t m in
         ⊎_elim (λ its. absurd (true≢false (sym member ∙ ap (is_member_task names) its.1
-        ∙ not-true (is_member_task names t) from.1))) (λ same. same)
-        (replaced_how world names name call it task called mine named t from.0)
+        ∙ not-true (is_member_task names t) from.1))) (λ same. same) (replaced_how it task called mine named t from.0)
 
 -- It stands where members get.
 pub caller_beside : (world : World ℕ) (names : List TaskName) (name : TaskName) (call : Call)
@@ -115,11 +114,10 @@ pub caller_beside : (world : World ℕ) (names : List TaskName) (name : TaskName
     → ((filesystem : Filesystem ℕ) → Among filesystem filesystems → GoesOn world names filesystem)
     → StandsBeside world names names it.is (map (replaced_if_called mine) world.tasks) filesystems
 caller_beside world names name call it task called mine stands spaced filesystems files = record {
-  own = λ n. ap (list_any (λ (t : Task ℕ). nat_eq n t.namespace))
-      (of_set world names name call it task called mine stands world.tasks)
-      ∙ spaces_kept world names name call it task called mine stands.named spaced n;
+  own = λ n. ap (list_any (λ (t : Task ℕ). nat_eq n t.namespace)) (of_set it task called mine stands world.tasks)
+      ∙ spaces_kept it task called mine stands.named spaced n;
   others = others_unmoved world names name call it task called mine stands.named;
-  located = places_left world names name call it task called mine stands;
+  located = places_left it task called mine stands;
   files = files;
 }
 
@@ -138,7 +136,7 @@ append_none [] = refl
 append_none (x ∷ xs) = ap (λ l. x ∷ l) (append_none xs)
 
 -- A child beside its parent, in the set with the child
-module _ (world : World ℕ) (names : List TaskName) (name : TaskName) (call : Call)
+module _ {world : World ℕ} {names : List TaskName} {name : TaskName} {call : Call}
     (it : IsCallOfTheirs world names name call) (task : Task ℕ) (called : task_called world name ≡ Some task)
     (credentials : Credentials) where
   abbrev parent : Task ℕ
@@ -181,7 +179,7 @@ module _ (world : World ℕ) (names : List TaskName) (name : TaskName) (call : C
   members_are = grind (arith, common_steps, filter_append, filter_changed, member_alike, child_member)
 
   replaced_how_here : (t : Task ℕ) → Among t world.tasks → ((replaced t ≡ parent) × (task ≡ t)) ⊎ (replaced t ≡ t)
-  replaced_how_here = replaced_how world names name call it task called parent refl
+  replaced_how_here = replaced_how it task called parent refl
 
   others_are : filter (λ (t : Task ℕ). not (is_member_task set t)) tasks ≡ outsiders world names
   others_are = filter_append (λ (t : Task ℕ). not (is_member_task set t)) (map replaced world.tasks) (child ∷ [])

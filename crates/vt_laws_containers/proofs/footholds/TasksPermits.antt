@@ -32,9 +32,9 @@ abbrev ends_task : Permit ℕ → Bool
 ends_task ToExit = true
 ends_task permit = false
 
-module _ (world : World ℕ) (names : List TaskName) (name : TaskName) (call : Call)
-    (it : IsCallOfTheirs world names name call) (few : names_few_groups call ≡ true)
-    (fresh : Fresh ℕ) (serves : Serves nat_eq world fresh)
+module _ {world : World ℕ} {names : List TaskName} {name : TaskName} {call : Call}
+    (it : IsCallOfTheirs world names name call) (few : names_few_groups call ≡ true) (fresh : Fresh ℕ)
+    (serves : Serves nat_eq world fresh)
     (task : Task ℕ) (called : task_called world name ≡ Some task) where
   member : Among task (members world names)
   member = member_called world names it.is it.sealed_off name it.theirs task called
@@ -177,7 +177,7 @@ module _ (world : World ℕ) (names : List TaskName) (name : TaskName) (call : C
         places = λ l m. inl m;
       }) refl world.filesystems its_files)
   of_tasks (ToFork credentials) judged e = tasks_as_before world names _ it.is it.sealed_off _ world.filesystems
-      (child_beside world names name call it task called credentials)
+      (child_beside it task called credentials)
   of_tasks permit judged e = absurd (true≢false (sym e))
 
   -- Files
@@ -231,37 +231,36 @@ module _ (world : World ℕ) (names : List TaskName) (name : TaskName) (call : C
 
   -- by the one permit of the call, whose world is swept
   pub swept_out : (permit : Permit ℕ) → judge_in nat_eq fresh world task call ≡ Ok permit
-      → (EndsInAWorld world names name call it fresh serves few task permit
+      → (EndsInAWorld it fresh serves few task permit
       → OthersAsBefore world (settled nat_eq (apply nat_eq fresh world task permit).world) names
       (grown names name call (apply nat_eq fresh world task permit).answer))
       → GivesNoFoothold world names name call fresh
   swept_out permit judged before = by (only_looks call) refl
     where
       by : (b : Bool) → only_looks call ≡ b → GivesNoFoothold world names name call fresh
-      by true e = looks_out world names name call it fresh e
-      by false e = granted_out world names name call it fresh serves few e
-          (one_permit world names name call it fresh serves few task called permit judged before)
+      by true e = looks_out it fresh e
+      by false e = granted_out it fresh serves few e (one_permit it fresh serves few task called permit judged before)
 
   -- or before the sweep
   pub permit_out : (permit : Permit ℕ) → judge_in nat_eq fresh world task call ≡ Ok permit
-      → (EndsInAWorld world names name call it fresh serves few task permit → Before permit)
+      → (EndsInAWorld it fresh serves few task permit → Before permit)
       → GivesNoFoothold world names name call fresh
   permit_out permit judged before = swept_out permit judged (λ ends.
       swept_as_before world (apply nat_eq fresh world task permit).world names
       (grown names name call (apply nat_eq fresh world task permit).answer) (before ends))
 
 pub looks_give_no_foothold : LooksGiveNoFoothold
-looks_give_no_foothold world names name call it fresh looks = looks_out world names name call it fresh looks
+looks_give_no_foothold world names name call it fresh looks = looks_out it fresh looks
 
 pub denials_give_no_foothold : DenialsGiveNoFoothold
-denials_give_no_foothold world names name call it fresh refused = refused_out world names name call it fresh refused
+denials_give_no_foothold world names name call it fresh refused = refused_out it fresh refused
 
 pub tasks_give_no_foothold : TasksGiveNoFoothold
 tasks_give_no_foothold world names name call it few fresh serves task called permit judged is_one =
-    permit_out world names name call it few fresh serves task called permit judged
-    (λ ends. of_tasks world names name call it few fresh serves task called permit judged is_one)
+    permit_out it few fresh serves task called permit judged
+    (λ ends. of_tasks it few fresh serves task called permit judged is_one)
 
 pub files_give_no_foothold : FilesGiveNoFoothold
 files_give_no_foothold world names name call it few fresh serves task called permit judged is_one =
-    permit_out world names name call it few fresh serves task called permit judged
-    (λ ends. of_files world names name call it few fresh serves task called permit judged is_one)
+    permit_out it few fresh serves task called permit judged
+    (λ ends. of_files it few fresh serves task called permit judged is_one)

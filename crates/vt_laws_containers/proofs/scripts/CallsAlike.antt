@@ -28,7 +28,7 @@ keeps_others_out Unshare = false
 keeps_others_out call = true
 
 -- By the permit
-module _ (world : World ℕ) (names : List TaskName) (name : TaskName) (call : Call)
+module _ {world : World ℕ} {names : List TaskName} {name : TaskName} {call : Call}
     (it : IsCallOfTheirs world names name call) (few : names_few_groups call ≡ true) (fresh : Fresh ℕ)
     (serves : Serves nat_eq world fresh) (keeps : keeps_others_out call ≡ true) where
   abbrev None_given : Type 0
@@ -116,8 +116,7 @@ module _ (world : World ℕ) (names : List TaskName) (name : TaskName) (call : C
       judged_by task e (Ok permit) judged = by_permit task e permit judged
       judged_by task e (Err deny) judged = denials_give_no_foothold world names name call it fresh
           (ap (λ found. is_ok (ran name call world fresh found).answer) e
-          ∙ ap (λ judgement. is_ok (run_by world names name call it fresh fresh world fresh task judgement).answer)
-          judged ∙ refused (only_looks call))
+          ∙ ap (λ judgement. is_ok (run_by it world fresh task judgement).answer) judged ∙ refused (only_looks call))
         where
           refused : (b : Bool) → is_ok (finished_by nat_eq (b || true) world name [] (denied world deny)).answer ≡ false
           refused true = refl
@@ -133,7 +132,7 @@ pub calls_give_no_foothold : (world : World ℕ) (names : List TaskName) (name :
     → IsCallOfTheirs world names name call → names_few_groups call ≡ true → (fresh : Fresh ℕ)
     → Serves nat_eq world fresh → keeps_others_out call ≡ true → GivesNoFoothold world names name call fresh
 calls_give_no_foothold world names name call it few fresh serves keeps =
-    keeping world names name call it few fresh serves keeps
+    keeping it few fresh serves keeps
 
 -- along a run
 each_so : (others : Bool) (calls : List Asked) → AreFew calls → (at : Stand)

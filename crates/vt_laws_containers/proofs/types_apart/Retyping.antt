@@ -49,8 +49,8 @@ module _ (world : World ℕ) (names : List TaskName) (is : IsWorld nat_eq world)
             (is_so (holds_of (nat_eq task.namespace) (mount_at nat_eq world here.location).namespace) passed.0),
       ))))
 
-module _ (world : World ℕ) (names : List TaskName) (name : TaskName) (path : List ℕ) (word : TypeWord)
-    (recursive : Bool) (it : IsCallOfTheirs world names name (SetType path word recursive)) (fresh : Fresh ℕ)
+module _ {world : World ℕ} {names : List TaskName} {name : TaskName} {path : List ℕ} {word : TypeWord}
+    {recursive : Bool} (it : IsCallOfTheirs world names name (SetType path word recursive)) (fresh : Fresh ℕ)
     (serves : Serves nat_eq world fresh) where
   abbrev NoneGiven : Type 0
   NoneGiven = GivesNoFoothold world names name (SetType path word recursive) fresh
@@ -60,20 +60,20 @@ module _ (world : World ℕ) (names : List TaskName) (name : TaskName) (path : L
       → IfOk j (SetsType world names it.is it.sealed_off task member word recursive) → NoneGiven
   judged_by task member e (Ok permit) judged its =
       let granted = judged ∙ ap Ok its.1 in
-      swept_out world names name (SetType path word recursive) it refl fresh serves task e
-      (ToSetType its.0.mount word recursive) granted (λ ends. subst (λ w. OthersAsBefore world w names names)
+      swept_out it refl fresh serves task e (ToSetType its.0.mount word recursive) granted
+      (λ ends. subst (λ w. OthersAsBefore world w names names)
       (sym (types_settled world (all_in_use world it.is) fresh word
-      (named world names name path word recursive it task e fresh fresh its.0 its.2 its.3 granted)))
+      (named it task e fresh fresh its.0 its.2 its.3 granted)))
       (types_as_before world names it.is it.sealed_off fresh serves word
-      (named world names name path word recursive it task e fresh fresh its.0 its.2 its.3 granted)
-      (all_own world names name path word recursive it task e fresh fresh its.0 its.2 its.3 granted)))
-  judged_by task member e (Err deny) judged its = refused_out world names name (SetType path word recursive) it fresh
-      (ap (λ o. is_ok (ran name (SetType path word recursive) world fresh o).answer) e ∙ ap (λ j. is_ok
-      (run_by world names name (SetType path word recursive) it fresh fresh world fresh task j).answer) judged)
+      (named it task e fresh fresh its.0 its.2 its.3 granted)
+      (all_own it task e fresh fresh its.0 its.2 its.3 granted)))
+  judged_by task member e (Err deny) judged its = refused_out it fresh
+      (ap (λ o. is_ok (ran name (SetType path word recursive) world fresh o).answer) e
+      ∙ ap (λ j. is_ok (run_by it world fresh task j).answer) judged)
 
   by_caller : (o : Option (Task ℕ)) → task_called world name ≡ o → NoneGiven
-  by_caller None e = refused_out world names name (SetType path word recursive) it fresh
-      (ap (λ o. is_ok (ran name (SetType path word recursive) world fresh o).answer) e)
+  by_caller None e = refused_out it fresh (ap (λ o. is_ok (ran name (SetType path word recursive) world fresh o).answer)
+      e)
   by_caller (Some task) e =
       let member = member_called world names it.is it.sealed_off name it.theirs task e in
       judged_by task member e (judge_in nat_eq fresh world task (SetType path word recursive)) refl
@@ -81,4 +81,4 @@ module _ (world : World ℕ) (names : List TaskName) (name : TaskName) (path : L
 
 pub types_give_no_foothold : TypesGiveNoFoothold
 types_give_no_foothold world names name path word recursive it fresh serves =
-    by_caller world names name path word recursive it fresh serves (task_called world name) refl
+    by_caller it fresh serves (task_called world name) refl

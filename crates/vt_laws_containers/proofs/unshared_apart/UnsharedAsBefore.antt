@@ -22,7 +22,7 @@ use Rattle.vt_laws_containers.proofs.footholds.AsBefore.{OthersAsBefore}
 use Rattle.vt_laws_containers.proofs.footholds.Mirror.{placed_listed}
 use Rattle.vt_laws_containers.proofs.footholds.TasksAsBefore.{others_unmoved}
 
-module _ (world : World ℕ) (names : List TaskName) (name : TaskName) (it : IsCallOfTheirs world names name Unshare)
+module _ {world : World ℕ} {names : List TaskName} {name : TaskName} (it : IsCallOfTheirs world names name Unshare)
     (task : Task ℕ) (called : task_called world name ≡ Some task) (fresh : Fresh ℕ)
     (serves : Serves nat_eq world fresh) where
   its_apart : IsApart world names
@@ -102,7 +102,7 @@ module _ (world : World ℕ) (names : List TaskName) (name : TaskName) (it : IsC
       (λ t. ap (λ n. is_among same_name n names) (name-replaced_if_called moved t))
 
   how : (t : Task ℕ) → Among t old → ((replaced t ≡ moved) × (task ≡ t)) ⊎ (replaced t ≡ t)
-  how t m = replaced_how world names name Unshare it task called moved refl t (in_world t m)
+  how t m = replaced_how it task called moved refl t (in_world t m)
 
   set_from : (t : Task ℕ) → Among t new → (u : Task ℕ) × Among u old × (t ≡ replaced u)
   set_from t m = among-from_map replaced old t (subst (Among t) set_is m)
@@ -355,7 +355,8 @@ module _ (world : World ℕ) (names : List TaskName) (name : TaskName) (it : IsC
         (theirs_directly world names it.is l on))
         (λ late. let there = among-append_right (map turn world.mounts) copies late.0 late.1 in
         shown_was late.0 there (copy_owned late.0 late.1) (mount_at nat_eq left l).filesystem
-        (ap (λ (x : Mount ℕ). x.filesystem) (found_left late.0 there l late.2))) rest) (places_moved world names name it task called fresh serves l m)
+        (ap (λ (x : Mount ℕ). x.filesystem) (found_left late.0 there l late.2))) rest)
+        (places_moved it task called fresh serves l m)
 
     direct_was : (n : ℕ) → Among n (used_directly nat_eq left names) → Among n (used_directly nat_eq world names)
     direct_was n m = ⊎_elim

@@ -25,13 +25,13 @@ either_as_before world names name it task called fresh serves =
 
     by : (b : Bool) → list_any (λ (t : Task ℕ). nat_eq task.namespace t.namespace) rest ≡ b
         → OthersAsBefore world (namespaces_ended nat_eq (unshared nat_eq world fresh task)) names names
-    by false e = unshared_as_before world names name it task called fresh serves true (λ t m differ.
-        none_among (λ (x : Task ℕ). nat_eq task.namespace x.namespace) rest e t
+    by false e = unshared_as_before it task called fresh serves true
+        (λ t m differ. none_among (λ (x : Task ℕ). nat_eq task.namespace x.namespace) rest e t
         (among-filter (λ (x : Task ℕ). not (same_name task.name x.name)) world.tasks t m (ap not differ)))
     by true e =
         let at = any_among (λ (t : Task ℕ). nat_eq task.namespace t.namespace) rest e in
         let from = among-from_filter (λ (t : Task ℕ). not (same_name task.name t.name)) world.tasks at.0 at.1 in
-        unshared_as_before world names name it task called fresh serves false (
+        unshared_as_before it task called fresh serves false (
           at.0,
           from.0,
           sym (eqb-true task.namespace at.0.namespace at.2),
@@ -53,13 +53,12 @@ unshares_give_no_foothold world names name it fresh serves = by (task_called wor
         → (j : Judgement ℕ) → judge_in nat_eq fresh world task Unshare ≡ j → IfOk j Unshares
         → GivesNoFoothold world names name Unshare fresh
     judged_by task e (Ok permit) judged known =
-        permit_out world names name Unshare it refl fresh serves task e ToUnshare (judged ∙ ap Ok known)
+        permit_out it refl fresh serves task e ToUnshare (judged ∙ ap Ok known)
         (λ ends. either_as_before world names name it task e fresh serves)
-    judged_by task e (Err deny) judged known = refused_out world names name Unshare it fresh
+    judged_by task e (Err deny) judged known = refused_out it fresh
         (ap (λ o. is_ok (ran name Unshare world fresh o).answer) e
-        ∙ ap (λ j. is_ok (run_by world names name Unshare it fresh fresh world fresh task j).answer) judged)
+        ∙ ap (λ j. is_ok (run_by it world fresh task j).answer) judged)
 
     by : (o : Option (Task ℕ)) → task_called world name ≡ o → GivesNoFoothold world names name Unshare fresh
-    by None e = refused_out world names name Unshare it fresh
-        (ap (λ o. is_ok (ran name Unshare world fresh o).answer) e)
+    by None e = refused_out it fresh (ap (λ o. is_ok (ran name Unshare world fresh o).answer) e)
     by (Some task) e = judged_by task e (judge_in nat_eq fresh world task Unshare) refl (unshares task)

@@ -17,7 +17,7 @@ use Rattle.vt_laws_members.proofs.changes.letting_go.Umounting.{of_passed}
 use Rattle.vt_laws_members.proofs.changes.looks.Granted.{of_rules, of_walk}
 use Rattle.vt_laws_members.proofs.changes.looks.Told.{member_called, ran, same_caller}
 use Rattle.vt_laws_members.proofs.changes.part.SettledPart.{part_in_use}
-use Rattle.vt_laws_members.proofs.changes.tasks.Denied.{denial_ends_alike, run_by, same_judgement, unnamed_ends_alike}
+use Rattle.vt_laws_members.proofs.changes.tasks.Denied.{denial_ends_alike, ran_there, run_by, unnamed_ends_alike}
 use Rattle.vt_laws_members.specs.Attached.Attaching.{BindsEndAlike}
 use Rattle.vt_laws_members.proofs.attached.AttachedAlike.{copies_alike}
 use Rattle.vt_laws_members.proofs.attached.CopiesAlike.{base, base_part, no_new_ones, parts, parts_alike}
@@ -117,7 +117,7 @@ module _ (world : World ℕ) (names : List TaskName) (is : IsWorld nat_eq world)
       )) n
 
 -- A granted bind
-module _ (world : World ℕ) (names : List TaskName) (name : TaskName) (source path : List ℕ) (recursive : Bool)
+module _ {world : World ℕ} {names : List TaskName} {name : TaskName} {source path : List ℕ} {recursive : Bool}
     (it : IsCallOfTheirs world names name (Bind source path recursive)) (task : Task ℕ)
     (called : task_called world name ≡ Some task) (fresh : Fresh ℕ) (serves : Serves nat_eq world fresh)
     (from here : Location ℕ) (from_on : is_theirs world names from.mount ≡ true)
@@ -179,19 +179,16 @@ module _ (world : World ℕ) (names : List TaskName) (name : TaskName) (source p
 
   first : policy nat_eq fresh world name (Bind source path recursive)
       ≡ granted Done (numbers_raised nat_eq world name [] now)
-  first = ap (ran name (Bind source path recursive) world fresh) called
-      ∙ ap (run_by world names name (Bind source path recursive) it fresh fresh world fresh task) judged
+  first = ap (ran name (Bind source path recursive) world fresh) called ∙ ap (run_by it world fresh task) judged
       ∙ ap (λ w. granted Done (numbers_raised nat_eq world name [] w))
-      (binds_keep_all fresh world task from here recursive (all_in_use world it.is)
-      (mounts_of_worlds_stand world it.is) (locations_of_worlds_stand world it.is)
-      (placed world names it.is it.sealed_off here here_theirs own))
+      (binds_keep_all fresh world task from here recursive (all_in_use world it.is) (mounts_of_worlds_stand world it.is)
+      (locations_of_worlds_stand world it.is) (placed world names it.is it.sealed_off here here_theirs own))
 
   second : policy nat_eq fresh part name (Bind source path recursive)
       ≡ granted Done (numbers_raised nat_eq part name [] now_there)
   second = ap (ran name (Bind source path recursive) part fresh)
       (same_caller world names it.is it.sealed_off name it.theirs ∙ called)
-      ∙ ap (run_by world names name (Bind source path recursive) it fresh fresh part fresh task)
-      (sym (same_judgement world names name (Bind source path recursive) it fresh fresh task called) ∙ judged)
+      ∙ ran_there it fresh fresh task called judged
       ∙ ap (λ w. granted Done (numbers_raised nat_eq part name [] w))
       (binds_keep_all fresh part task from here recursive (part_in_use world names it.is it.sealed_off)
       (mounts_stand_there world names it.is it.sealed_off) (locations_stand_there world names it.is)
@@ -229,16 +226,14 @@ binds_end_alike world names name source path recursive it fresh serves = by (tas
         → IfOk j (Binds world names it.is it.sealed_off task member recursive)
         → EndsAlike world names name (Bind source path recursive) fresh fresh
     judged_by task member e (Ok permit) judged its =
-        bind_ends world names name source path recursive it task e fresh serves its.0 its.1 its.3 its.4 its.5 its.6
-        (judged ∙ ap Ok its.2)
+        bind_ends it task e fresh serves its.0 its.1 its.3 its.4 its.5 its.6 (judged ∙ ap Ok its.2)
     judged_by task member e (Err deny) judged its =
-        denial_ends_alike world names name (Bind source path recursive) it fresh fresh
-        (ap (λ o. is_ok (ran name (Bind source path recursive) world fresh o).answer) e ∙ ap (λ j. is_ok
-        (run_by world names name (Bind source path recursive) it fresh fresh world fresh task j).answer) judged)
+        denial_ends_alike it fresh fresh (ap (λ o. is_ok (ran name (Bind source path recursive) world fresh o).answer) e
+        ∙ ap (λ j. is_ok (run_by it world fresh task j).answer) judged)
 
     by : (o : Option (Task ℕ)) → task_called world name ≡ o
         → EndsAlike world names name (Bind source path recursive) fresh fresh
-    by None e = unnamed_ends_alike world names name (Bind source path recursive) it fresh fresh e
+    by None e = unnamed_ends_alike it fresh fresh e
     by (Some task) e =
         let member = member_called world names it.is it.sealed_off name it.theirs task e in
         judged_by task member e (judge_in nat_eq fresh world task (Bind source path recursive)) refl

@@ -21,7 +21,7 @@ use Rattle.vt_laws_members.proofs.changes.letting_go.PartMounts.{part_mounts}
 use Rattle.vt_laws_members.proofs.changes.letting_go.Umounting.{of_passed}
 use Rattle.vt_laws_members.proofs.changes.looks.Granted.{of_rules, of_walk}
 use Rattle.vt_laws_members.proofs.changes.looks.Told.{member_called, ran, same_caller}
-use Rattle.vt_laws_members.proofs.changes.tasks.Denied.{denial_ends_alike, run_by, same_judgement, unnamed_ends_alike}
+use Rattle.vt_laws_members.proofs.changes.tasks.Denied.{denial_ends_alike, ran_there, run_by, unnamed_ends_alike}
 use Rattle.vt_laws_members.specs.Attached.Attaching.{MovesEndAlike}
 use Rattle.vt_laws_members.proofs.attached.CopiesAlike.{attached_there, base_part, no_new_ones, parts, parts_alike}
 use Rattle.vt_laws_members.proofs.attached.Destination.{at_destination, at_source, placed, placed_there, there}
@@ -107,7 +107,7 @@ moves_stay w fresh from here serves kept can attached from_there = record {
 }
 
 -- A granted move
-module _ (world : World ℕ) (names : List TaskName) (name : TaskName) (source path : List ℕ)
+module _ {world : World ℕ} {names : List TaskName} {name : TaskName} {source path : List ℕ}
     (it : IsCallOfTheirs world names name (MoveMount source path)) (task : Task ℕ)
     (called : task_called world name ≡ Some task) (fresh : Fresh ℕ) (serves : Serves nat_eq world fresh)
     (from here : Location ℕ) (to : MovesTo world names from here)
@@ -228,15 +228,13 @@ module _ (world : World ℕ) (names : List TaskName) (name : TaskName) (source p
 
   first : policy nat_eq fresh world name (MoveMount source path)
       ≡ granted Done (numbers_raised nat_eq world name [] (settled nat_eq now))
-  first = ap (ran name (MoveMount source path) world fresh) called
-      ∙ ap (run_by world names name (MoveMount source path) it fresh fresh world fresh task) judged
+  first = ap (ran name (MoveMount source path) world fresh) called ∙ ap (run_by it world fresh task) judged
 
   second : policy nat_eq fresh part name (MoveMount source path)
       ≡ granted Done (numbers_raised nat_eq part name [] (settled nat_eq now_there))
   second = ap (ran name (MoveMount source path) part fresh)
       (same_caller world names it.is it.sealed_off name it.theirs ∙ called)
-      ∙ ap (run_by world names name (MoveMount source path) it fresh fresh part fresh task)
-      (sym (same_judgement world names name (MoveMount source path) it fresh fresh task called) ∙ judged)
+      ∙ ran_there it fresh fresh task called judged
 
   move_ends : EndsAlike world names name (MoveMount source path) fresh fresh
   move_ends = subst (λ p. EndAlike
@@ -254,15 +252,14 @@ moves_end_alike world names name source path it fresh serves = by (task_called w
         → IfOk j (Moves world names it.is it.sealed_off task member)
         → EndsAlike world names name (MoveMount source path) fresh fresh
     judged_by task member e (Ok permit) judged its =
-        move_ends world names name source path it task e fresh serves its.0 its.1 its.3 (judged ∙ ap Ok its.2)
+        move_ends it task e fresh serves its.0 its.1 its.3 (judged ∙ ap Ok its.2)
     judged_by task member e (Err deny) judged its =
-        denial_ends_alike world names name (MoveMount source path) it fresh fresh
-        (ap (λ o. is_ok (ran name (MoveMount source path) world fresh o).answer) e ∙ ap (λ j. is_ok
-        (run_by world names name (MoveMount source path) it fresh fresh world fresh task j).answer) judged)
+        denial_ends_alike it fresh fresh (ap (λ o. is_ok (ran name (MoveMount source path) world fresh o).answer) e
+        ∙ ap (λ j. is_ok (run_by it world fresh task j).answer) judged)
 
     by : (o : Option (Task ℕ)) → task_called world name ≡ o
         → EndsAlike world names name (MoveMount source path) fresh fresh
-    by None e = unnamed_ends_alike world names name (MoveMount source path) it fresh fresh e
+    by None e = unnamed_ends_alike it fresh fresh e
     by (Some task) e =
         let member = member_called world names it.is it.sealed_off name it.theirs task e in
         judged_by task member e (judge_in nat_eq fresh world task (MoveMount source path)) refl

@@ -13,7 +13,7 @@ use Rattle.vt_laws_members.proofs.changes.letting_go.Umounting.{of_passed}
 use Rattle.vt_laws_members.proofs.changes.looks.Granted.{of_rules, of_walk}
 use Rattle.vt_laws_members.proofs.changes.looks.Told.{member_called, ran, same_caller}
 use Rattle.vt_laws_members.proofs.changes.part.SettledPart.{part_in_use}
-use Rattle.vt_laws_members.proofs.changes.tasks.Denied.{denial_ends_alike, run_by, same_judgement, unnamed_ends_alike}
+use Rattle.vt_laws_members.proofs.changes.tasks.Denied.{denial_ends_alike, ran_there, run_by, unnamed_ends_alike}
 use Rattle.vt_laws_members.specs.Attached.Attaching.{PlainMountsEndAlike}
 use Rattle.vt_laws_members.proofs.attached.AttachedAlike.{copies_alike}
 use Rattle.vt_laws_members.proofs.attached.CopiesAlike.{base_part, parts, parts_alike}
@@ -44,7 +44,7 @@ module _ (world : World ℕ) (names : List TaskName) (is : IsWorld nat_eq world)
       (λ passed. (here.location, refl, on, owned world names is sealed_off task member here.location passed.0))))
 
 -- A granted mount of a plain filesystem
-module _ (world : World ℕ) (names : List TaskName) (name : TaskName) (path : List ℕ) (flags : MountFlags)
+module _ {world : World ℕ} {names : List TaskName} {name : TaskName} {path : List ℕ} {flags : MountFlags}
     (it : IsCallOfTheirs world names name (MountPlain path flags)) (task : Task ℕ)
     (called : task_called world name ≡ Some task) (fresh : Fresh ℕ) (serves : Serves nat_eq world fresh)
     (here : Location ℕ) (on : is_theirs world names here.mount ≡ true)
@@ -103,8 +103,7 @@ module _ (world : World ℕ) (names : List TaskName) (name : TaskName) (path : L
 
   first : policy nat_eq fresh world name (MountPlain path flags)
       ≡ granted Done (numbers_raised nat_eq world name [] now)
-  first = ap (ran name (MountPlain path flags) world fresh) called
-      ∙ ap (run_by world names name (MountPlain path flags) it fresh fresh world fresh task) judged
+  first = ap (ran name (MountPlain path flags) world fresh) called ∙ ap (run_by it world fresh task) judged
       ∙ ap (λ w. granted Done (numbers_raised nat_eq world name [] w))
       (new_mounts_of_trees_keep_all fresh world task here flags (all_in_use world it.is)
       (mounts_of_worlds_stand world it.is) (locations_of_worlds_stand world it.is)
@@ -114,8 +113,7 @@ module _ (world : World ℕ) (names : List TaskName) (name : TaskName) (path : L
       ≡ granted Done (numbers_raised nat_eq part name [] now_there)
   second = ap (ran name (MountPlain path flags) part fresh)
       (same_caller world names it.is it.sealed_off name it.theirs ∙ called)
-      ∙ ap (run_by world names name (MountPlain path flags) it fresh fresh part fresh task)
-      (sym (same_judgement world names name (MountPlain path flags) it fresh fresh task called) ∙ judged)
+      ∙ ran_there it fresh fresh task called judged
       ∙ ap (λ w. granted Done (numbers_raised nat_eq part name [] w))
       (new_mounts_of_trees_keep_all fresh part task here flags (part_in_use world names it.is it.sealed_off)
       (mounts_stand_there world names it.is it.sealed_off) (locations_stand_there world names it.is)
@@ -151,15 +149,14 @@ plain_mounts_end_alike world names name path flags it fresh serves = by (task_ca
         → IfOk j (Mounts world names it.is it.sealed_off task member flags)
         → EndsAlike world names name (MountPlain path flags) fresh fresh
     judged_by task member e (Ok permit) judged its =
-        mount_alike world names name path flags it task e fresh serves its.0 its.2 its.3 (judged ∙ ap Ok its.1)
+        mount_alike it task e fresh serves its.0 its.2 its.3 (judged ∙ ap Ok its.1)
     judged_by task member e (Err deny) judged its =
-        denial_ends_alike world names name (MountPlain path flags) it fresh fresh
-        (ap (λ o. is_ok (ran name (MountPlain path flags) world fresh o).answer) e ∙ ap (λ j. is_ok
-        (run_by world names name (MountPlain path flags) it fresh fresh world fresh task j).answer) judged)
+        denial_ends_alike it fresh fresh (ap (λ o. is_ok (ran name (MountPlain path flags) world fresh o).answer) e
+        ∙ ap (λ j. is_ok (run_by it world fresh task j).answer) judged)
 
     by : (o : Option (Task ℕ)) → task_called world name ≡ o
         → EndsAlike world names name (MountPlain path flags) fresh fresh
-    by None e = unnamed_ends_alike world names name (MountPlain path flags) it fresh fresh e
+    by None e = unnamed_ends_alike it fresh fresh e
     by (Some task) e =
         let member = member_called world names it.is it.sealed_off name it.theirs task e in
         judged_by task member e (judge_in nat_eq fresh world task (MountPlain path flags)) refl

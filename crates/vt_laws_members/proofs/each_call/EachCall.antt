@@ -54,19 +54,19 @@ permits_fit : (world : World ℕ) (fresh : Fresh ℕ) (task : Task ℕ) (asked :
 permits_fit world fresh task asked permit (writes_part number offset bytes descriptor found passed) = tt
 permits_fit world fresh task asked permit other_way = tt
 
-module _ (world : World ℕ) (names : List TaskName) (name : TaskName) (call : Call)
+module _ {world : World ℕ} {names : List TaskName} {name : TaskName} {call : Call}
     (it : IsCallOfTheirs world names name call) (fresh : Fresh ℕ) where
   -- by its permit
   fit_ends : only_looks call ≡ false → ((task : Task ℕ) → task_called world name ≡ Some task → (permit : Permit ℕ)
       → judge_in nat_eq fresh world task call ≡ Ok permit → Fits call permit
       → EndsAlike world names name call fresh fresh) → EndsAlike world names name call fresh fresh
-  fit_ends looks ends = by_permit world names name call it fresh fresh looks (λ task called permit judged.
+  fit_ends looks ends = by_permit it fresh fresh looks (λ task called permit judged.
       ends task called permit judged (permits_fit world fresh task call permit
       (calls_are_granted nat_eq (looks_of nat_eq world) (overfills nat_eq fresh world task) task call permit judged)))
 
 each_fork : (world : World ℕ) (names : List TaskName) (name : TaskName) (words : Option ForkWords)
     → AlwaysEndsAlike world names name (Fork words)
-each_fork world names name words it fresh serves = fit_ends world names name (Fork words) it fresh refl of
+each_fork world names name words it fresh serves = fit_ends it fresh refl of
   where
     of : (task : Task ℕ) → task_called world name ≡ Some task → (permit : Permit ℕ)
         → judge_in nat_eq fresh world task (Fork words) ≡ Ok permit → Forks permit
@@ -77,7 +77,7 @@ each_fork world names name words it fresh serves = fit_ends world names name (Fo
 
 each_rmdir : (world : World ℕ) (names : List TaskName) (name : TaskName) (path : List ℕ)
     → AlwaysEndsAlike world names name (Rmdir path)
-each_rmdir world names name path it fresh serves = fit_ends world names name (Rmdir path) it fresh refl of
+each_rmdir world names name path it fresh serves = fit_ends it fresh refl of
   where
     of : (task : Task ℕ) → task_called world name ≡ Some task → (permit : Permit ℕ)
         → judge_in nat_eq fresh world task (Rmdir path) ≡ Ok permit → Removes permit
@@ -90,7 +90,7 @@ each_rmdir world names name path it fresh serves = fit_ends world names name (Rm
 
 each_rename : (world : World ℕ) (names : List TaskName) (name : TaskName) (old new : List ℕ)
     → AlwaysEndsAlike world names name (Rename old new)
-each_rename world names name old new it fresh serves = fit_ends world names name (Rename old new) it fresh refl of
+each_rename world names name old new it fresh serves = fit_ends it fresh refl of
   where
     of : (task : Task ℕ) → task_called world name ≡ Some task → (permit : Permit ℕ)
         → judge_in nat_eq fresh world task (Rename old new) ≡ Ok permit → Renames permit

@@ -75,7 +75,7 @@ module _ (root new : Mount ℕ) (put : Location ℕ) where
       by false m = inl m
 
 -- A granted pivot
-module _ (world : World ℕ) (names : List TaskName) (name : TaskName) (new_path put_path : List ℕ)
+module _ {world : World ℕ} {names : List TaskName} {name : TaskName} {new_path put_path : List ℕ}
     (it : IsCallOfTheirs world names name (PivotRoot new_path put_path)) (task : Task ℕ)
     (called : task_called world name ≡ Some task) (fresh supply : Fresh ℕ) (number : ℕ) (put : Location ℕ)
     (judged : judge_in nat_eq fresh world task (PivotRoot new_path put_path) ≡ Ok (ToPivot number put)) where
@@ -106,7 +106,7 @@ module _ (world : World ℕ) (names : List TaskName) (name : TaskName) (new_path
   -- both worlds allow it
   judged_there : judge_in nat_eq supply part task (PivotRoot new_path put_path) ≡ Ok (ToPivot number put)
   judged_there =
-      sym (same_judgement world names name (PivotRoot new_path put_path) it fresh supply task called) ∙ judged
+      sym (same_judgement it fresh supply task called) ∙ judged
 
   may : CanPivot world space root new put
   may = subst (λ j. IfOk j (PivotsThere world it.is.mounts task)) judged
@@ -283,14 +283,13 @@ module _ (world : World ℕ) (names : List TaskName) (name : TaskName) (new_path
   left_too = numbers_raised nat_eq part name [] (settled nat_eq (remade plan part (map move part.tasks)))
 
   first : policy nat_eq fresh world name (PivotRoot new_path put_path) ≡ granted Done left_one
-  first = ap (ran name (PivotRoot new_path put_path) world fresh) called
-      ∙ ap (run_by world names name (PivotRoot new_path put_path) it fresh supply world fresh task) judged
+  first = ap (ran name (PivotRoot new_path put_path) world fresh) called ∙ ap (run_by it world fresh task) judged
       ∙ ap (λ w. granted Done (numbers_raised nat_eq world name [] (settled nat_eq w))) (as_remade world)
 
   second : policy nat_eq supply part name (PivotRoot new_path put_path) ≡ granted Done left_too
   second = ap (ran name (PivotRoot new_path put_path) part supply)
       (same_caller world names it.is it.sealed_off name it.theirs ∙ called)
-      ∙ ap (run_by world names name (PivotRoot new_path put_path) it fresh supply part supply task) judged_there
+      ∙ ap (run_by it part supply task) judged_there
       ∙ ap (λ w. granted Done (numbers_raised nat_eq part name [] (settled nat_eq w))) pivots_part
 
   pivot_alike : EndsAlike world names name (PivotRoot new_path put_path) fresh supply
@@ -307,14 +306,14 @@ pivots_end_alike world names name new put it fresh supply = by (task_called worl
         → (j : Judgement ℕ) → judge_in nat_eq fresh world task (PivotRoot new put) ≡ j
         → IfOk j (PivotsThere world it.is.mounts task) → EndsAlike world names name (PivotRoot new put) fresh supply
     judged_by task e (Ok (ToPivot number at)) judged its =
-        pivot_alike world names name new put it task e fresh supply number at judged
+        pivot_alike it task e fresh supply number at judged
     judged_by task e (Ok permit) judged its = absurd its
-    judged_by task e (Err deny) judged its = denial_ends_alike world names name (PivotRoot new put) it fresh supply
-        (ap (λ o. is_ok (ran name (PivotRoot new put) world fresh o).answer) e ∙ ap (λ j. is_ok
-        (run_by world names name (PivotRoot new put) it fresh supply world fresh task j).answer) judged)
+    judged_by task e (Err deny) judged its = denial_ends_alike it fresh supply
+        (ap (λ o. is_ok (ran name (PivotRoot new put) world fresh o).answer) e
+        ∙ ap (λ j. is_ok (run_by it world fresh task j).answer) judged)
 
     by : (o : Option (Task ℕ)) → task_called world name ≡ o
         → EndsAlike world names name (PivotRoot new put) fresh supply
-    by None e = unnamed_ends_alike world names name (PivotRoot new put) it fresh supply e
+    by None e = unnamed_ends_alike it fresh supply e
     by (Some task) e = judged_by task e (judge_in nat_eq fresh world task (PivotRoot new put)) refl
         (pivots_there world it.is.mounts task new put)

@@ -12,7 +12,7 @@ use Rattle.vt_laws_members.specs.Changes.Changes.{EndAlike, IsCallOfTheirs, grow
 use Rattle.vt_laws_members.specs.Changes.NameChanges.{EndsAlikeByOne}
 use Rattle.vt_laws_members.proofs.changes.looks.Granted.{of_rules}
 use Rattle.vt_laws_members.proofs.changes.looks.Told.{member_called, ran, same_caller}
-use Rattle.vt_laws_members.proofs.changes.tasks.Denied.{denial_ends_alike, run_by, same_judgement, unnamed_ends_alike}
+use Rattle.vt_laws_members.proofs.changes.tasks.Denied.{denial_ends_alike, ran_there, run_by, unnamed_ends_alike}
 use Rattle.vt_laws_members.proofs.changes.tasks.Rights.{only_task}
 use Rattle.vt_laws_members.proofs.changes.letting_go.CutNamespace.{in_space}
 use Rattle.vt_laws_members.proofs.changes.letting_go.Heard.{apart, own_in, space_in_part}
@@ -30,7 +30,7 @@ is_exit Exit = true
 is_exit call = false
 
 -- What an unshare makes of the tasks of the set
-module _ (world : World ℕ) (names : List TaskName) (name : TaskName) (it : IsCallOfTheirs world names name Unshare)
+module _ {world : World ℕ} {names : List TaskName} {name : TaskName} (it : IsCallOfTheirs world names name Unshare)
     (task : Task ℕ) (called : task_called world name ≡ Some task) (fresh : Fresh ℕ)
     (serves : Serves nat_eq world fresh) where
   abbrev part : World ℕ
@@ -92,7 +92,7 @@ module _ (world : World ℕ) (names : List TaskName) (name : TaskName) (it : IsC
   can_part = record {
     kept = part_mounts world names it.is it.sealed_off;
     serves = serves_part world names fresh serves;
-    listed = part_listed world names name exits task called;
+    listed = part_listed exits task called;
     live = list_all_from_among (has_tasks nat_eq part) part.namespaces (λ n m.
         (among-from_filter (λ (x : Namespace ℕ). in_spaces old x.number) world.namespaces n m).1);
     there = member;
@@ -326,13 +326,11 @@ module _ (world : World ℕ) (names : List TaskName) (name : TaskName) (it : IsC
         → EndsAlikeByOne world names name Unshare fresh
     unshare_alike judged =
         let first : policy nat_eq fresh world name Unshare ≡ granted Done left_one =
-        ap (ran name Unshare world fresh) called
-        ∙ ap (run_by world names name Unshare it fresh fresh world fresh task) judged
+        ap (ran name Unshare world fresh) called ∙ ap (run_by it world fresh task) judged
         ∙ ap (λ w. granted Done (numbers_raised nat_eq world name [] (settled nat_eq w))) world_so in
         let second : policy nat_eq fresh part name Unshare ≡ granted Done left_too =
         ap (ran name Unshare part fresh) (same_caller world names it.is it.sealed_off name it.theirs ∙ called)
-        ∙ ap (run_by world names name Unshare it fresh fresh part fresh task)
-        (sym (same_judgement world names name Unshare it fresh fresh task called) ∙ judged)
+        ∙ ran_there it fresh fresh task called judged
         ∙ ap (λ w. granted Done (numbers_raised nat_eq part name [] (settled nat_eq w))) part_so in
         subst (λ p. EndAlike (grown names name Unshare (policy nat_eq fresh world name Unshare).answer)
         (policy nat_eq fresh world name Unshare) p) (sym second)
@@ -375,13 +373,13 @@ unshares_end_alike world names name it fresh serves = by (task_called world name
         → (j : Judgement ℕ) → judge_in nat_eq fresh world task Unshare ≡ j → IfOk j Unshares
         → EndsAlikeByOne world names name Unshare fresh
     judged_by task e (Ok permit) judged known =
-        granted_alike world names name it task e fresh serves (judged ∙ ap Ok known)
+        granted_alike it task e fresh serves (judged ∙ ap Ok known)
         (list_any (λ (t : Task ℕ). nat_eq task.namespace t.namespace)
         (filter (λ (t : Task ℕ). not (same_name task.name t.name)) world.tasks)) refl
-    judged_by task e (Err deny) judged known = denial_ends_alike world names name Unshare it fresh fresh
+    judged_by task e (Err deny) judged known = denial_ends_alike it fresh fresh
         (ap (λ o. is_ok (ran name Unshare world fresh o).answer) e
-        ∙ ap (λ j. is_ok (run_by world names name Unshare it fresh fresh world fresh task j).answer) judged)
+        ∙ ap (λ j. is_ok (run_by it world fresh task j).answer) judged)
 
     by : (o : Option (Task ℕ)) → task_called world name ≡ o → EndsAlikeByOne world names name Unshare fresh
-    by None e = unnamed_ends_alike world names name Unshare it fresh fresh e
+    by None e = unnamed_ends_alike it fresh fresh e
     by (Some task) e = judged_by task e (judge_in nat_eq fresh world task Unshare) refl (unshares task)

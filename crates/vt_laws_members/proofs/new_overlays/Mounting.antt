@@ -6,15 +6,15 @@ use Rattle.vt_laws_mounts.specs.LettingGo.Keeping.{has_only_named}
 use Rattle.vt_laws_worlds.proofs.overlays_let_go.mounting.NewOverlays.{new_overlays_are_named}
 use Rattle.vt_laws_members.specs.Changes.Changes.{EndAlike, EndsAlike, IsCallOfTheirs, grown}
 use Rattle.vt_laws_members.proofs.changes.looks.Told.{member_called, ran, same_caller}
-use Rattle.vt_laws_members.proofs.changes.tasks.Denied.{denial_ends_alike, run_by, same_judgement, unnamed_ends_alike}
+use Rattle.vt_laws_members.proofs.changes.tasks.Denied.{denial_ends_alike, ran_there, run_by, unnamed_ends_alike}
 use Rattle.vt_laws_members.specs.NewOverlays.OverlayMounts.{OverlayMountsEndAlike}
 use Rattle.vt_laws_members.proofs.new_overlays.LayersTheirs.{MountsOverlay, all_used, mounts_overlay, shown_used}
 use Rattle.vt_laws_members.proofs.new_overlays.NewFilesystem.{mounted_alike, now, now_there, settled_here, settled_there}
 use Rattle.vt_laws_members.proofs.new_overlays.SameOverlay.{same_overlay}
 
 -- A granted mount of an overlay
-module _ (world : World ℕ) (names : List TaskName) (name : TaskName) (path : List ℕ) (options : Option OverlayWords)
-    (flags : MountFlags) (it : IsCallOfTheirs world names name (MountOverlay path options flags)) (task : Task ℕ)
+module _ {world : World ℕ} {names : List TaskName} {name : TaskName} {path : List ℕ} {options : Option OverlayWords}
+    {flags : MountFlags} (it : IsCallOfTheirs world names name (MountOverlay path options flags)) (task : Task ℕ)
     (member : Among task (members world names)) (called : task_called world name ≡ Some task) (fresh : Fresh ℕ)
     (serves : Serves nat_eq world fresh) (permit : Permit ℕ)
     (its : MountsOverlay world names it.is it.sealed_off task member flags permit)
@@ -40,7 +40,8 @@ module _ (world : World ℕ) (names : List TaskName) (name : TaskName) (path : L
   new_layers = all_used world names it.is it.sealed_off task member its.places its.all
 
   abbrev later : World ℕ
-  later = now world names it.is it.sealed_off fresh serves its.here its.on its.own new_one refl new_layers new_named flags
+  later = now world names it.is it.sealed_off fresh serves its.here its.on its.own new_one refl new_layers new_named
+      flags
 
   abbrev later_there : World ℕ
   later_there =
@@ -51,16 +52,14 @@ module _ (world : World ℕ) (names : List TaskName) (name : TaskName) (path : L
   granted_so = judged ∙ ap Ok its.is_so
 
   first : policy nat_eq fresh world name call ≡ granted Done (numbers_raised nat_eq world name [] later)
-  first = ap (ran name call world fresh) called
-      ∙ ap (run_by world names name call it fresh fresh world fresh task) granted_so
+  first = ap (ran name call world fresh) called ∙ ap (run_by it world fresh task) granted_so
       ∙ ap (λ w. granted Done (numbers_raised nat_eq world name [] w))
       (settled_here world names it.is it.sealed_off fresh serves its.here its.on its.own new_one refl new_layers
       new_named flags)
 
   second : policy nat_eq fresh part name call ≡ granted Done (numbers_raised nat_eq part name [] later_there)
   second = ap (ran name call part fresh) (same_caller world names it.is it.sealed_off name it.theirs ∙ called)
-      ∙ ap (run_by world names name call it fresh fresh part fresh task)
-      (sym (same_judgement world names name call it fresh fresh task called) ∙ granted_so)
+      ∙ ran_there it fresh fresh task called granted_so
       ∙ ap (λ f. granted Done (numbers_raised nat_eq part name []
       (settled nat_eq (mounted nat_eq (odds fresh) part its.here f flags))))
       (same_overlay world names it.is overlay its.are_layers
@@ -85,18 +84,16 @@ overlay_mounts_end_alike world names name path options flags it fresh serves = b
         → (j : Judgement ℕ) → judge_in nat_eq fresh world task (MountOverlay path options flags) ≡ j
         → EndsAlike world names name (MountOverlay path options flags) fresh fresh
     judged_by task member e (Ok permit) judged =
-        mount_alike world names name path options flags it task member e fresh serves permit
+        mount_alike it task member e fresh serves permit
         (mounts_overlay world names it.is it.sealed_off task member fresh path options flags permit
         (calls_are_granted nat_eq (looks_of nat_eq world) (overfills nat_eq fresh world task) task
         (MountOverlay path options flags) permit judged)) judged
     judged_by task member e (Err deny) judged =
-        denial_ends_alike world names name (MountOverlay path options flags) it fresh fresh
-        (ap (λ o. is_ok (ran name (MountOverlay path options flags) world fresh o).answer) e
-        ∙ ap (λ j. is_ok (run_by world names name (MountOverlay path options flags) it fresh fresh world fresh task
-        j).answer) judged)
+        denial_ends_alike it fresh fresh (ap (λ o. is_ok (ran name (MountOverlay path options flags) world fresh
+        o).answer) e ∙ ap (λ j. is_ok (run_by it world fresh task j).answer) judged)
 
     by : (o : Option (Task ℕ)) → task_called world name ≡ o
         → EndsAlike world names name (MountOverlay path options flags) fresh fresh
-    by None e = unnamed_ends_alike world names name (MountOverlay path options flags) it fresh fresh e
+    by None e = unnamed_ends_alike it fresh fresh e
     by (Some task) e = judged_by task (member_called world names it.is it.sealed_off name it.theirs task e) e
         (judge_in nat_eq fresh world task (MountOverlay path options flags)) refl

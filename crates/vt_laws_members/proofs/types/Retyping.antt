@@ -12,7 +12,7 @@ use Rattle.vt_laws_members.proofs.judging.MountTrees.{children_own, own_theirs, 
 use Rattle.vt_laws_members.specs.Changes.Changes.{EndAlike, EndsAlike, IsCallOfTheirs, grown}
 use Rattle.vt_laws_members.proofs.changes.looks.Granted.{of_rules, of_walk}
 use Rattle.vt_laws_members.proofs.changes.looks.Told.{member_called, ran, same_caller}
-use Rattle.vt_laws_members.proofs.changes.tasks.Denied.{denial_ends_alike, run_by, same_judgement, unnamed_ends_alike}
+use Rattle.vt_laws_members.proofs.changes.tasks.Denied.{denial_ends_alike, ran_there, run_by, unnamed_ends_alike}
 use Rattle.vt_laws_members.proofs.changes.letting_go.Moving.{StandsHere, at_directory, one}
 use Rattle.vt_laws_members.proofs.changes.letting_go.Umounting.{of_passed}
 use Rattle.vt_laws_members.proofs.changes.part.SettledPart.{part_in_use}
@@ -100,10 +100,10 @@ module _ (world : World ℕ) (names : List TaskName) (is : IsWorld nat_eq world)
     named_alike false = ap (λ m. m ∷ []) (same_mount world names is.mounts number theirs)
 
 -- A granted call
-module _ (world : World ℕ) (names : List TaskName) (name : TaskName) (path : List ℕ) (word : TypeWord)
-    (recursive : Bool) (it : IsCallOfTheirs world names name (SetType path word recursive)) (task : Task ℕ)
-    (called : task_called world name ≡ Some task) (fresh other : Fresh ℕ)
-    (here : Location ℕ) (on : is_theirs world names here.mount ≡ true)
+module _ {world : World ℕ} {names : List TaskName} {name : TaskName} {path : List ℕ} {word : TypeWord}
+    {recursive : Bool} (it : IsCallOfTheirs world names name (SetType path word recursive)) (task : Task ℕ)
+    (called : task_called world name ≡ Some task) (fresh other : Fresh ℕ) (here : Location ℕ)
+    (on : is_theirs world names here.mount ≡ true)
     (own : is_own world names (members world names) (mount_at nat_eq world here) ≡ true)
     (judged : judge_in nat_eq fresh world task (SetType path word recursive)
     ≡ Ok (ToSetType here.mount word recursive)) where
@@ -143,8 +143,7 @@ module _ (world : World ℕ) (names : List TaskName) (name : TaskName) (path : L
 
     first : policy nat_eq fresh world name (SetType path word recursive)
         ≡ granted Done (numbers_raised nat_eq world name [] now)
-    first = ap (ran name (SetType path word recursive) world fresh) called
-        ∙ ap (run_by world names name (SetType path word recursive) it fresh other world fresh task) judged
+    first = ap (ran name (SetType path word recursive) world fresh) called ∙ ap (run_by it world fresh task) judged
         ∙ ap (λ w. granted Done (numbers_raised nat_eq world name [] w))
         (types_settled world (all_in_use world it.is) fresh word named)
 
@@ -152,8 +151,7 @@ module _ (world : World ℕ) (names : List TaskName) (name : TaskName) (path : L
         ≡ granted Done (numbers_raised nat_eq there name [] now_there)
     second = ap (ran name (SetType path word recursive) there other)
         (same_caller world names it.is it.sealed_off name it.theirs ∙ called)
-        ∙ ap (run_by world names name (SetType path word recursive) it fresh other there other task)
-        (sym (same_judgement world names name (SetType path word recursive) it fresh other task called) ∙ judged)
+        ∙ ran_there it fresh other task called judged
         ∙ ap (λ l. granted Done (numbers_raised nat_eq there name []
         (settled nat_eq (retyped nat_eq there (numbers_by nat_eq other l) word l))))
         (named_alike world names it.is here.mount theirs its_own recursive)
@@ -192,8 +190,8 @@ module _ (world : World ℕ) (names : List TaskName) (name : TaskName) (path : L
       same = same_kind world names it.is it.sealed_off fresh serves word named all_own other serves_there no_groups
 
 -- A call, granted or refused
-module _ (world : World ℕ) (names : List TaskName) (name : TaskName) (path : List ℕ) (word : TypeWord)
-    (recursive : Bool) (it : IsCallOfTheirs world names name (SetType path word recursive)) (fresh other : Fresh ℕ)
+module _ {world : World ℕ} {names : List TaskName} {name : TaskName} {path : List ℕ} {word : TypeWord}
+    {recursive : Bool} (it : IsCallOfTheirs world names name (SetType path word recursive)) (fresh other : Fresh ℕ)
     (ends : (task : Task ℕ) → task_called world name ≡ Some task
     → (here : Location ℕ) → is_theirs world names here.mount ≡ true
     → is_own world names (members world names) (mount_at nat_eq world here) ≡ true
@@ -205,13 +203,12 @@ module _ (world : World ℕ) (names : List TaskName) (name : TaskName) (path : L
       → EndsAlike world names name (SetType path word recursive) fresh other
   judged_by task member e (Ok permit) judged its = ends task e its.0 its.2 its.3 (judged ∙ ap Ok its.1)
   judged_by task member e (Err deny) judged its =
-      denial_ends_alike world names name (SetType path word recursive) it fresh other
-      (ap (λ o. is_ok (ran name (SetType path word recursive) world fresh o).answer) e ∙ ap (λ j. is_ok
-      (run_by world names name (SetType path word recursive) it fresh other world fresh task j).answer) judged)
+      denial_ends_alike it fresh other (ap (λ o. is_ok (ran name (SetType path word recursive) world fresh o).answer) e
+      ∙ ap (λ j. is_ok (run_by it world fresh task j).answer) judged)
 
   all_end : (o : Option (Task ℕ)) → task_called world name ≡ o
       → EndsAlike world names name (SetType path word recursive) fresh other
-  all_end None e = unnamed_ends_alike world names name (SetType path word recursive) it fresh other e
+  all_end None e = unnamed_ends_alike it fresh other e
   all_end (Some task) e =
       let member = member_called world names it.is it.sealed_off name it.theirs task e in
       judged_by task member e (judge_in nat_eq fresh world task (SetType path word recursive)) refl
@@ -219,12 +216,10 @@ module _ (world : World ℕ) (names : List TaskName) (name : TaskName) (path : L
 
 pub types_end_alike : TypesEndAlike
 types_end_alike world names name path word recursive it fresh serves =
-    all_end world names name path word recursive it fresh fresh (λ task e here on own judged.
-    by_one world names name path word recursive it task e fresh fresh here on own judged serves refl)
+    all_end it fresh fresh (λ task e here on own judged. by_one it task e fresh fresh here on own judged serves refl)
     (task_called world name) refl
 
 pub other_types_end_alike : OtherTypesEndAlike
 other_types_end_alike world names name path word recursive it no_groups fresh other serves serves_there =
-    all_end world names name path word recursive it fresh other (λ task e here on own judged.
-    by_any world names name path word recursive it task e fresh other here on own judged serves serves_there no_groups)
-    (task_called world name) refl
+    all_end it fresh other (λ task e here on own judged. by_any it task e fresh other here on own judged serves
+    serves_there no_groups) (task_called world name) refl

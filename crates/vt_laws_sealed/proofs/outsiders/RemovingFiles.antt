@@ -6,7 +6,7 @@ use Rattle.vt_laws_rules.proofs.given.Inversion.{calls_are_granted}
 use Rattle.vt_laws_rules.specs.Granted.{IsGranted}
 use Rattle.vt_laws_rules.specs.Granted.IsGranted.{removes_directory, renames}
 use Rattle.vt_laws_trees.proofs.trees.PlacesReached.{old_is, rename_new_is}
-use Rattle.vt_laws_trees.proofs.trees.TreesWalked.{not_true, place_named}
+use Rattle.vt_laws_trees.proofs.trees.TreesWalked.{not-false, place_named}
 use Rattle.vt_laws_mounts.proofs.mounts.MountsReplaced.{found_itself}
 use Rattle.vt_laws_trees.proofs.layers.layers.LowersMounts.{same_filesystems_without, same_mounted_without}
 use Rattle.vt_laws_trees.proofs.layers.layers.LowersWorld.{number_of_filesystem, the_rest_stays}
@@ -148,7 +148,7 @@ module _ (world : World ℕ) (fresh : Fresh ℕ) (names : List TaskName) (name :
       let to_is = rename_new_is world task other (is_directory_there nat_eq (looks_of nat_eq world) from_place)
       to_place both.to_end in
       let together = eqb-true from_place.parent.mount to_place.parent.mount
-      (not_true (nat_eq from_place.parent.mount to_place.parent.mount) passed.1.1.1.1.1.1.1.1.0) in
+      (not-false (nat_eq from_place.parent.mount to_place.parent.mount) passed.1.1.1.1.1.1.1.1.0) in
       one_mount replaced from (on_mount (entry_at (files_at nat_eq world to_place.parent).tree
       to_place.parent.node (name_of to_place.last))
       (sym (place_named world to_place.parent to_place.last to_place.object both.to_named.0 to_is.0.0).1 ∙ same_object)

@@ -4,7 +4,7 @@ use Rattle.vt_spec.proofs.Common.{Among, Dot, DotDot, IsWorld, LastWord, Locatio
 use Rattle.vt_spec.specs.declared.errors.Deny.{Deny}
 use Rattle.vt_spec.specs.declared.errors.Rule.TheVariants.{W6}
 use Rattle.vt_spec.specs.Machine.Walking.{hop}
-use Rattle.vt_laws_trees.proofs.trees.TreesEntered.{chain_ends}
+use Rattle.vt_laws_trees.proofs.trees.TreesEntered.{chain_ends_at}
 use Rattle.vt_laws_mounts.proofs.mounts.MountsPlaces.{stands_there}
 use Rattle.vt_laws_mounts.proofs.mounts.MountsReplaced.{found_itself}
 use Rattle.vt_laws_worlds.proofs.worlds.Reached.{namespace_below}
@@ -63,7 +63,7 @@ module _ (world : World ℕ) (is : IsWorld nat_eq world) (task : Task ℕ) (ther
 
   pub topmost_ground : (location : Location ℕ) → OnGround location → OnGround (topmost nat_eq world.mounts location)
   topmost_ground location ground =
-      chain_ends OnGround (λ here. option_map root_of (child_at nat_eq world.mounts here)) child_ground
+      chain_ends_at OnGround (λ here. option_map root_of (child_at nat_eq world.mounts here)) child_ground
       (length world.mounts) location location ground
 
   -- so is a parent
@@ -96,8 +96,8 @@ module _ (world : World ℕ) (is : IsWorld nat_eq world) (task : Task ℕ) (ther
   step_ground here next NoWord ground e = let same : here ≡ next = cc in subst OnGround same ground
   step_ground here next Dot ground e = let same : here ≡ next = cc in subst OnGround same ground
   step_ground here next DotDot ground e = up_ground (last_or here (hops nat_eq (looks_of nat_eq world) task here)) next
-      (chain_ends OnGround (hop nat_eq (looks_of nat_eq world) task) hop_ground (length world.mounts) here here ground)
-      e
+      (chain_ends_at OnGround (hop nat_eq (looks_of nat_eq world) task) hop_ground (length world.mounts) here here
+      ground) e
   step_ground here next (Named name) ground e = by (entry_location nat_eq (looks_of nat_eq world) here name) refl e
     where
       by : (o : Option (Location ℕ)) → entry_location nat_eq (looks_of nat_eq world) here name ≡ o

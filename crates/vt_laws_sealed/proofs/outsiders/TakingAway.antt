@@ -1,7 +1,7 @@
 -- Mounts of others that are taken away: what is left for the set.
 use Rattle.std.proofs.Common.{arith, ◌≡◌, refl, sym, ap, subst, ◌∙◌, ⊎_elim, inl, inr, ℕ, nat_eq, Bool, true, false, cond, true≢false, List, [], Option, Some, None, length, map, option_map}
 use Rattle.vt_spec.proofs.Common.{Among, Location, Mount, Namespace, Private, Stands, Task, TaskName, World, after_going, among-from_filter, among-from_map, among_from_all, common_steps, detached, false_from_ne_true, holds_of, is_going, is_own_mount, is_own_namespace, list_any, lost_a_group, mount_at, mount_numbered, mount_point_left, mount_point_of_parent, none_is_some, other_mounts, own_mounts, pair-map, regrouped_by, same_Some, sealed, settled, taken_away, with_mounts}
-use Rattle.vt_laws_trees.proofs.trees.TreesEntered.{chain_ends}
+use Rattle.vt_laws_trees.proofs.trees.TreesEntered.{chain_ends_at}
 use Rattle.vt_laws_mounts.specs.Mounts.Invariants.{OneNumberEach}
 use Rattle.vt_laws_mounts.proofs.mounts.MountsReplaced.{found_itself}
 use Rattle.vt_laws_worlds.proofs.worlds.Reached.{namespace_below}
@@ -63,7 +63,7 @@ module _ (world : World ℕ) (names : List TaskName) {New : ℕ → Type 0} (apa
       by false = (mount.namespace, option_map new_point mount.mount_point, mount.propagation, refl, inl refl)
 
   point_stays : (point : Location ℕ) → goes point.mount ≡ false → new_point point ≡ point
-  point_stays point on = chain_ends (λ (here : Location ℕ). here ≡ point) (mount_point_of_parent nat_eq before gone)
+  point_stays point on = chain_ends_at (λ (here : Location ℕ). here ≡ point) (mount_point_of_parent nat_eq before gone)
       (λ here next e h. none_is_some next (sym (ap (λ b. cond b (mount_at nat_eq before point).mount_point None) on)
       ∙ ap (mount_point_of_parent nat_eq before gone) (sym e) ∙ h)) (length world.mounts) point point refl
 

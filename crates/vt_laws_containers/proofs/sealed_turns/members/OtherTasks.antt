@@ -31,12 +31,12 @@ each_fork_ends_alike world names name words it fresh other = by (task_called wor
         forks_end_alike world names name words it task e fresh other (child_credentials task.credentials words)
         (granted_fork fresh world task words permit j)
     judged task e (Err deny) j = denials_end_alike world names name (Fork words) it fresh other
-        (ap (λ found. is_ok (ran name (Fork words) world fresh found).answer) e ∙ ap (λ judgement. is_ok
-        (run_by world names name (Fork words) it fresh other world fresh task judgement).answer) j)
+        (ap (λ found. is_ok (ran name (Fork words) world fresh found).answer) e
+        ∙ ap (λ judgement. is_ok (run_by it world fresh task judgement).answer) j)
 
     by : (found : Option (Task ℕ)) → task_called world name ≡ found
         → EndsAlike world names name (Fork words) fresh other
-    by None e = unnamed_ends_alike world names name (Fork words) it fresh other e
+    by None e = unnamed_ends_alike it fresh other e
     by (Some task) e = judged task e (judge_in nat_eq fresh world task (Fork words)) refl
 
 pub their_forks_are_of_the_grown_part : TheirForksAreOfTheGrownPart

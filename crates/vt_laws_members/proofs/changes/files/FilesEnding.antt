@@ -1,6 +1,6 @@
 -- An edit of a file on a plain filesystem ends in the part as in the world.
 use Rattle.std.proofs.Common.{arith, ◌≡◌, refl, sym, ap, subst, ◌∙◌, ℕ, nat_eq, true, false, true≢false, List, [], ◌∷◌, Option, Some, None, Ok, filter, is_some, map, ◌||◌, IfOk}
-use Rattle.vt_spec.proofs.Common.{Among, Call, Change, Chmod, Chown, Done, FileTree, Filesystem, Fresh, Location, Opaque, Overlay, Task, TaskName, ToChange, World, Write, changed_at, common_steps, filesystem_at, filesystem_changed, finished_by, granted, is_among, is_member_task, is_overlay, judge_in, mount_at, numbers_of_change, numbers_raised, only_looks, part_of, policy, raised_task, settled, task_called, used_filesystems, with_change}
+use Rattle.vt_spec.proofs.Common.{Among, Call, Change, Done, FileTree, Filesystem, Fresh, Location, Overlay, Task, TaskName, ToChange, World, changed_at, common_steps, filesystem_at, filesystem_changed, finished_by, granted, is_among, is_member_task, is_overlay, judge_in, mount_at, numbers_of_change, numbers_raised, only_looks, part_of, policy, raised_task, settled, task_called, used_filesystems, with_change}
 use Rattle.vt_spec.specs.Language.Changes
 use Rattle.vt_laws_mounts.specs.LettingGo.InUse.{AllInUse}
 use Rattle.vt_laws_mounts.specs.LettingGo.TreesOverlays.{with_filesystems}
@@ -18,16 +18,15 @@ use Rattle.vt_laws_members.proofs.changes.files.FilesRaised.{both, left, left_so
 use Rattle.vt_laws_members.proofs.changes.looks.Told.{member_called, ran, same_caller}
 use Rattle.vt_laws_members.proofs.changes.part.PartAgain.{part_again}
 use Rattle.vt_laws_members.proofs.changes.part.SettledPart.{part_in_use}
-use Rattle.vt_laws_members.proofs.changes.tasks.Denied.{run_by, same_judgement}
+use Rattle.vt_laws_members.proofs.changes.tasks.Denied.{ran_there, run_by}
 
 pub no_overlay : (o : Option (Overlay ℕ)) → is_some o ≡ false → o ≡ None
 no_overlay None e = refl
 no_overlay (Some overlay) e = absurd (true≢false e)
 
-module _ (world : World ℕ) (names : List TaskName) (name : TaskName) (call : Call)
-    (it : IsCallOfTheirs world names name call)
-    (fresh other : Fresh ℕ) (task : Task ℕ) (found : task_called world name ≡ Some task)
-    (looks : only_looks call ≡ false)
+module _ {world : World ℕ} {names : List TaskName} {name : TaskName} {call : Call}
+    (it : IsCallOfTheirs world names name call) (fresh other : Fresh ℕ) (task : Task ℕ)
+    (found : task_called world name ≡ Some task) (looks : only_looks call ≡ false)
     (stays : grown names name call (Ok Done) ≡ names) (location : Location ℕ) (change : Change ℕ) (is : IsEdit change)
     (plain : is_overlay (filesystem_at nat_eq world location) ≡ false)
     (used : is_among nat_eq (mount_at nat_eq world location).filesystem (used_filesystems nat_eq world names) ≡ true)
@@ -46,7 +45,7 @@ module _ (world : World ℕ) (names : List TaskName) (name : TaskName) (call : C
 
   -- a run of the change
   changes_so : (w : World ℕ) (supply : Fresh ℕ) → filesystem_at nat_eq w location ≡ old
-      → run_by world names name call it fresh other w supply task (Ok (ToChange location change))
+      → run_by it w supply task (Ok (ToChange location change))
       ≡ granted Done (numbers_raised nat_eq w name (old.number ∷ [])
       (settled nat_eq (with_filesystems w (swap old files))))
   changes_so w supply e = ap (λ b. finished_by nat_eq (b || false) w name (changed_at nat_eq w location)
@@ -84,9 +83,9 @@ module _ (world : World ℕ) (names : List TaskName) (name : TaskName) (call : C
       ∙ (old_used world names it.is number used)) (one_in_part world names it.is number used))
 
   pub edit_ends : ran name call world fresh (Some task)
-      ≡ run_by world names name call it fresh other world fresh task (Ok (ToChange location change))
+      ≡ run_by it world fresh task (Ok (ToChange location change))
       → ran name call part other (Some task)
-      ≡ run_by world names name call it fresh other part other task (Ok (ToChange location change))
+      ≡ run_by it part other task (Ok (ToChange location change))
       → EndsAlike world names name call fresh other
   edit_ends one two =
       let first : policy nat_eq fresh world name call ≡ granted Done left_here =
@@ -105,10 +104,10 @@ module _ (world : World ℕ) (names : List TaskName) (name : TaskName) (call : C
       (record { answer = refl; part = parts_alike })))
 
 -- A call whose walk leads to what it edits
-module _ (world : World ℕ) (names : List TaskName) (name : TaskName) (call : Call)
-    (it : IsCallOfTheirs world names name call)
-    (task : Task ℕ) (found : task_called world name ≡ Some task) (fresh other : Fresh ℕ) (location : Location ℕ)
-    (change : Change ℕ) (granted_so : judge_in nat_eq fresh world task call ≡ Ok (ToChange location change))
+module _ {world : World ℕ} {names : List TaskName} {name : TaskName} {call : Call}
+    (it : IsCallOfTheirs world names name call) (task : Task ℕ) (found : task_called world name ≡ Some task)
+    (fresh other : Fresh ℕ) (location : Location ℕ) (change : Change ℕ)
+    (granted_so : judge_in nat_eq fresh world task call ≡ Ok (ToChange location change))
     (plain : is_overlay (filesystem_at nat_eq world location) ≡ false) (looks : only_looks call ≡ false)
     (stays : grown names name call (Ok Done) ≡ names)
     (edits : IfOk (judge_in nat_eq fresh world task call) (Edits (is_theirs world names))) where
@@ -118,36 +117,30 @@ module _ (world : World ℕ) (names : List TaskName) (name : TaskName) (call : C
   pub walked_edit_ends : EndsAlike world names name call fresh other
   walked_edit_ends =
       let ground = theirs_from world names it.is.mounts location.mount edit.0 in
-      edit_ends world names name call it fresh other task found looks stays location change edit.1 plain
+      edit_ends it fresh other task found looks stays location change edit.1 plain
       (theirs_used world names it.is location ground) (filesystem_alike world names it.is location ground)
-      (ap (run_by world names name call it fresh other world fresh task) granted_so)
-      (ap (run_by world names name call it fresh other (part_of nat_eq world names) other task)
-      (sym (same_judgement world names name call it fresh other task found) ∙ granted_so))
+      (ap (run_by it world fresh task) granted_so) (ran_there it fresh other task found granted_so)
 
 pub writes_end_alike : WritesEndAlike
 writes_end_alike world names name path bytes it task found fresh other location change granted_so plain =
-    walked_edit_ends world names name
-    (Write path bytes) it task found fresh other location change granted_so plain refl refl
+    walked_edit_ends it task found fresh other location change granted_so plain refl refl
     (writes_edit world names it.is it.sealed_off task
     (member_called world names it.is it.sealed_off name it.theirs task found) path bytes)
 
 pub chmods_end_alike : ChmodsEndAlike
 chmods_end_alike world names name path mode it task found fresh other location change granted_so plain =
-    walked_edit_ends world names name
-    (Chmod path mode) it task found fresh other location change granted_so plain refl refl
+    walked_edit_ends it task found fresh other location change granted_so plain refl refl
     (chmods_edit world names it.is it.sealed_off task
     (member_called world names it.is it.sealed_off name it.theirs task found) path mode)
 
 pub chowns_end_alike : ChownsEndAlike
 chowns_end_alike world names name path uid gid it task found fresh other location change granted_so plain =
-    walked_edit_ends world names name
-    (Chown path uid gid) it task found fresh other location change granted_so plain refl refl
+    walked_edit_ends it task found fresh other location change granted_so plain refl refl
     (chowns_edit world names it.is it.sealed_off task
     (member_called world names it.is it.sealed_off name it.theirs task found) path uid gid)
 
 pub opaques_end_alike : OpaquesEndAlike
 opaques_end_alike world names name path mark it task found fresh other location change granted_so plain =
-    walked_edit_ends world names name
-    (Opaque path mark) it task found fresh other location change granted_so plain refl refl
+    walked_edit_ends it task found fresh other location change granted_so plain refl refl
     (opaques_edit world names it.is it.sealed_off task
     (member_called world names it.is it.sealed_off name it.theirs task found) path mark)

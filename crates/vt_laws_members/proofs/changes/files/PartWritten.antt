@@ -8,7 +8,7 @@ use Rattle.vt_laws_members.specs.Changes.Changes.{PartWritesEndAlike}
 use Rattle.vt_laws_members.proofs.changes.files.FilesEnding.{edit_ends}
 use Rattle.vt_laws_members.proofs.changes.looks.Granted.{of_rules, opened_theirs}
 use Rattle.vt_laws_members.proofs.changes.looks.Told.{member_called, open_file}
-use Rattle.vt_laws_members.proofs.changes.tasks.Denied.{run_by, same_judgement}
+use Rattle.vt_laws_members.proofs.changes.tasks.Denied.{ran_there, run_by}
 
 -- these bytes to one of these files, if it is a write at an offset
 abbrev pub Writes : (files : List (Location ℕ)) (bytes : List ℕ) → Permit ℕ → Type 0
@@ -45,16 +45,14 @@ module _ (world : World ℕ) (names : List TaskName) (is : IsWorld nat_eq world)
 
 pub part_writes_end_alike : PartWritesEndAlike
 part_writes_end_alike world names name descriptor offset byte bytes it task called fresh other file at written
-    granted_so plain = edit_ends world names name call it fresh other task called refl refl file
+    granted_so plain = edit_ends it fresh other task called refl refl file
     (SetBytes file.node (overwritten at (byte ∷ bytes) (bytes_in (node_at nat_eq world file)))) tt plain
     (located_used world names it.is file theirs.0)
     (sym (found world names (mount_at nat_eq world file).filesystem (located_used world names it.is file theirs.0))
     ∙ ap (filesystem_numbered nat_eq part) (sym (located world names file theirs.0)))
-    (ap (run_by world names name call it fresh other world fresh task) judged)
-    (ap (run_by world names name call it fresh other part other task)
-    (sym (same_judgement world names name call it fresh other task called) ∙ judged)
-    ∙ ap (λ node. run_by world names name call it fresh other part other task
-    (Ok (ToChange file (SetBytes file.node (overwritten at (byte ∷ bytes) (bytes_in node))))))
+    (ap (run_by it world fresh task) judged) (ran_there it fresh other task called judged
+    ∙ ap (λ node. run_by it part other task (Ok (ToChange file
+    (SetBytes file.node (overwritten at (byte ∷ bytes) (bytes_in node))))))
     (sym (open_file world names it.is it.sealed_off file theirs.0)))
   where
     call : Call

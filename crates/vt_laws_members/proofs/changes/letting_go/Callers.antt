@@ -12,7 +12,7 @@ use Rattle.vt_laws_members.proofs.changes.tasks.Rights.{any_mapped, only_task}
 use Rattle.vt_laws_members.proofs.changes.letting_go.Ends.{let_go_alike}
 
 -- a task in the place of the caller
-module _ (world : World ℕ) (names : List TaskName) (name : TaskName) (call : Call)
+module _ {world : World ℕ} {names : List TaskName} {name : TaskName} {call : Call}
     (it : IsCallOfTheirs world names name call) (task : Task ℕ) (called : task_called world name ≡ Some task)
     (mine : Task ℕ) (named : mine.name ≡ task.name) where
   -- it is the caller, or as it was
@@ -53,9 +53,9 @@ pub record StandsOnTheirs (world : World ℕ) (names : List TaskName) (name : Ta
   pub places : (l : Location ℕ) → Among l (locations_of mine)
       → Among l (locations_of task) ⊎ IsTheirs world names it.is.mounts l.mount
 
-module _ (world : World ℕ) (names : List TaskName) (name : TaskName) (call : Call)
-    (it : IsCallOfTheirs world names name call)
-    (task : Task ℕ) (called : task_called world name ≡ Some task) (mine : Task ℕ)
+module _ {world : World ℕ} {names : List TaskName} {name : TaskName} {call : Call}
+    (it : IsCallOfTheirs world names name call) (task : Task ℕ) (called : task_called world name ≡ Some task)
+    (mine : Task ℕ)
     (stands : StandsOnTheirs world names name call it task mine) where
   abbrev part : World ℕ
   part = part_of nat_eq world names
@@ -76,7 +76,7 @@ module _ (world : World ℕ) (names : List TaskName) (name : TaskName) (call : C
   member = member_called world names it.is it.sealed_off name it.theirs task called
 
   how : (t : Task ℕ) → Among t world.tasks → ((replaced t ≡ mine) × (task ≡ t)) ⊎ (replaced t ≡ t)
-  how = replaced_how world names name call it task called mine stands.named
+  how = replaced_how it task called mine stands.named
 
   pub of_set : (tasks : List (Task ℕ))
       → filter (is_member_task names) (map replaced tasks) ≡ map replaced (filter (is_member_task names) tasks)

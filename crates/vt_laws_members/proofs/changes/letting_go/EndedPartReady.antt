@@ -1,6 +1,6 @@
 -- So is the part, where they are detached in it, too.
-use Rattle.std.proofs.Common.{arith, ◌≡◌, refl, sym, ap, subst, ◌∙◌, ◌⊎◌, inl, inr, ⊎_elim, ℕ, nat_eq, Bool, true, false, List, Option, Some, None, filter, is_some, eq-eqb}
-use Rattle.vt_spec.proofs.Common.{Among, IsWorld, Location, Mount, MountInvariants, Task, TaskName, World, all_locations, among-filter, among-filter_map, among-flat_map, among-from_filter, among-from_filter_map, among-from_flat_map, among-from_map, among-map, any_from_among, common_steps, holds_of, is_at, is_going, is_located, is_member_task, list_any, locations, locations_of, members, mount_lives, none_is_some, or_left, or_right, own_lowers, pair-filter, pair-map, part_of, roots_and_directories, sealed, used_filesystems, without_dead_mounts}
+use Rattle.std.proofs.Common.{arith, ◌≡◌, refl, sym, ap, subst, ◌∙◌, ◌⊎◌, inl, inr, ⊎_elim, ℕ, nat_eq, true, List, Option, Some, None, filter, is_some, eq-eqb}
+use Rattle.vt_spec.proofs.Common.{Among, Location, Mount, Task, TaskName, World, all_locations, among-filter, among-filter_map, among-flat_map, among-from_filter, among-from_filter_map, among-from_flat_map, among-from_map, among-map, any_from_among, common_steps, holds_of, is_at, is_located, is_member_task, list_any, locations, locations_of, members, mount_lives, none_is_some, or_left, or_right, own_lowers, pair-filter, pair-map, part_of, roots_and_directories, used_filesystems, without_dead_mounts}
 use Rattle.vt_laws_mounts.specs.Mounts.Invariants.{OneNumberEach}
 use Rattle.vt_laws_sealed.proofs.part.part.Observed.{lowers_same, used_same}
 use Rattle.vt_laws_sealed.proofs.part.part.PartOfPart.{is_own, keep, kept_how}
@@ -8,22 +8,14 @@ use Rattle.vt_laws_members.proofs.judging.MountPoints.{part_mount}
 use Rattle.vt_laws_members.proofs.judging.MountTrees.{part_one_number}
 use Rattle.vt_laws_members.proofs.changes.letting_go.Changed.{mount_parent}
 use Rattle.vt_laws_members.proofs.changes.letting_go.LessSeen.{AreLess, less_lowers, less_used}
-use Rattle.vt_laws_members.proofs.changes.letting_go.NamespaceLess.{KeepsShape, SetIsLess, ended, ended_less, ended_mount, ended_part, place_shown, placed_so, shape_kept}
+use Rattle.vt_laws_members.proofs.changes.letting_go.NamespaceLess.{Detaches, KeepsShape, LeavesWorlds, ended, ended_less, ended_mount, ended_part, place_shown, placed_so, shape_kept}
 use Rattle.vt_laws_members.proofs.changes.letting_go.PartFiles.{cut_in_part, numbers_in_part, plain_in_part}
 use Rattle.vt_laws_members.proofs.changes.letting_go.Ready.{NoOthers, Ready}
-use Rattle.vt_laws_members.proofs.changes.letting_go.Regrouped.{left_part}
+use Rattle.vt_laws_members.proofs.changes.letting_go.Regrouped.{left_by}
 use Rattle.vt_laws_members.proofs.changes.letting_go.WorldReady.{sees_living}
 
-module _ (world : World ℕ) (names : List TaskName) (is : IsWorld nat_eq world)
-    (sealed_off : sealed nat_eq world names ≡ true) (set : List TaskName) (gone : List ℕ)
-    (own_go : (m : Mount ℕ) → Among m world.mounts → is_going nat_eq gone m.number ≡ true
-    → is_own world names (members world names) m ≡ true) (lasts : ℕ → Bool) (tasks tasks_too : List (Task ℕ))
-    (change change_too : ℕ) (same : filter (is_member_task set) tasks_too ≡ filter (is_member_task set) tasks)
-    (fewer : SetIsLess world names is set tasks) (all : (t : Task ℕ) → Among t tasks_too → is_member_task set t ≡ true)
-    (still : (m : Mount ℕ) → Among m world.mounts → is_going nat_eq gone m.number ≡ false
-    → is_own world names (members world names) m ≡ true → is_own world names (filter (is_member_task set) tasks) m
-    ≡ true) (b : Bool) (kept_there : MountInvariants nat_eq
-    (ended_part world names is sealed_off set gone own_go lasts tasks tasks_too change change_too same fewer b)) where
+module _ {world : World ℕ} {names set : List TaskName} {gone : List ℕ} (it : Detaches world names set gone)
+    (leaves : LeavesWorlds it) where
   abbrev part : World ℕ
   part = part_of nat_eq world names
 
@@ -31,31 +23,31 @@ module _ (world : World ℕ) (names : List TaskName) (is : IsWorld nat_eq world)
   old = members world names
 
   abbrev new : List (Task ℕ)
-  new = filter (is_member_task set) tasks_too
+  new = filter (is_member_task set) it.tasks_too
 
   abbrev kept : Mount ℕ → Option (Mount ℕ)
   kept = keep world names old
 
   abbrev after_world : World ℕ
-  after_world = ended world names is sealed_off set gone own_go lasts tasks tasks_too change change_too same fewer b
+  after_world = ended it
 
   abbrev after_part : World ℕ
-  after_part = ended_part world names is sealed_off set gone own_go lasts tasks tasks_too change change_too same fewer b
+  after_part = ended_part it
 
   less : AreLess world names set after_world after_part
-  less = ended_less world names is sealed_off set gone own_go lasts tasks tasks_too change change_too same fewer b
+  less = ended_less it
 
   abbrev t_part : World ℕ
-  t_part = left_part world names is sealed_off gone own_go
+  t_part = left_by part gone
 
   abbrev after : Mount ℕ → Mount ℕ
-  after = ended_mount b t_part part gone
+  after = ended_mount it.regroups t_part part gone
 
   abbrev living : World ℕ
   living = without_dead_mounts nat_eq after_part
 
   shape : (m : Mount ℕ) → KeepsShape m (after m)
-  shape m = shape_kept b t_part part gone m
+  shape m = shape_kept it.regroups t_part part gone m
 
   was : (y : Mount ℕ) → Among y living.mounts → (z : Mount ℕ) × Among z part.mounts × (y ≡ after z)
   was y n =
@@ -75,16 +67,15 @@ module _ (world : World ℕ) (names : List TaskName) (is : IsWorld nat_eq world)
 
   located_so : (l : Location ℕ) → Among l (locations new) → (y : Mount ℕ) × Among y living.mounts × (l.mount ≡ y.number)
   located_so l m =
-      let on = place_shown world names is sealed_off set gone own_go lasts
-      tasks tasks_too change change_too same fewer b l (subst (λ ts. Among l (locations ts)) same m) in
+      let on = place_shown it l (subst (λ ts. Among l (locations ts)) it.same m) in
       let shown : (y : Mount ℕ) × (kept on.0 ≡ Some y) = (on.3, on.4) in
       let there = among-filter_map kept world.mounts on.0 shown.0 on.1 shown.1 in
       let t = among-from_flat_map locations_of new l m in
       let number : l.mount ≡ (after shown.0).number =
       on.2 ∙ sym (number_kept on.0 shown.0 shown.1) ∙ sym (shape shown.0).number in (
         after shown.0,
-        located_lives shown.0 l there (among-flat_map locations_of tasks_too t.0 l
-            (among-from_filter (is_member_task set) tasks_too t.0 t.1).0 t.2) number,
+        located_lives shown.0 l there (among-flat_map locations_of it.tasks_too t.0 l
+            (among-from_filter (is_member_task set) it.tasks_too t.0 t.1).0 t.2) number,
         number,
       )
 
@@ -92,7 +83,7 @@ module _ (world : World ℕ) (names : List TaskName) (is : IsWorld nat_eq world)
       → (n : ℕ) × (y.namespace ≡ Some n) × (u : Mount ℕ) × Among u living.mounts × (l.mount ≡ u.number)
       × (u.namespace ≡ Some n)
   parents_so y l n point =
-      let up = mount_parent after_part kept_there y l
+      let up = mount_parent after_part leaves.kept_there y l
       (among-from_filter (mount_lives nat_eq after_part) after_part.mounts y n).0 point in (
         up.0,
         up.1,
@@ -106,20 +97,19 @@ module _ (world : World ℕ) (names : List TaskName) (is : IsWorld nat_eq world)
   -- a mount of theirs is theirs after, or in no namespace
   own_after : (z : Mount ℕ) → Among z world.mounts → is_own world names old z ≡ true →
       (is_own world names new (after z) ≡ true) ⊎ ((after z).namespace ≡ None)
-  own_after z at own = ⊎_elim (λ out. inr out.0) (λ stays. inl (ap (λ ts. is_own world names ts (after z)) same
-      ∙ ap (holds_of (λ i. list_any (λ (t : Task ℕ). nat_eq i t.namespace) (filter (is_member_task set) tasks))) stays.0
-      ∙ still z at stays.2 own)) (placed_so b t_part part gone z)
+  own_after z at own = ⊎_elim (λ out. inr out.0) (λ stays. inl (ap (λ ts. is_own world names ts (after z)) it.same
+      ∙ ap (holds_of (λ i. list_any (λ (t : Task ℕ). nat_eq i t.namespace) (filter (is_member_task set) it.tasks)))
+      stays.0 ∙ leaves.still z at stays.2 own)) (placed_so it.regroups t_part part gone z)
 
   none_after : (z : Mount ℕ) → z.namespace ≡ None → (after z).namespace ≡ None
-  none_after z e = ⊎_elim (λ out. out.0) (λ stays. stays.0 ∙ e) (placed_so b t_part part gone z)
+  none_after z e = ⊎_elim (λ out. out.0) (λ stays. stays.0 ∙ e) (placed_so it.regroups t_part part gone z)
 
   in_or_out : (z : Mount ℕ) → Among z part.mounts
       → (is_own world names new (after z) ≡ true) ⊎ ((after z).namespace ≡ None)
   in_or_out z n =
       let from = among-from_filter_map kept world.mounts z n in
-      ⊎_elim
-      (λ same. ⊎_elim (own_after z (subst (λ q. Among q world.mounts) same from.1)) (λ none. inr (none_after z none))
-      (part_mount world names is from.0 z from.1 from.2))
+      ⊎_elim (λ whole. ⊎_elim (own_after z (subst (λ q. Among q world.mounts) whole from.1))
+      (λ none. inr (none_after z none)) (part_mount world names it.is from.0 z from.1 from.2))
       (λ stub. inr (none_after z (ap (λ (q : Mount ℕ). q.namespace) (sym stub.0))))
       (kept_how world names old from.0 z from.2)
 
@@ -128,8 +118,9 @@ module _ (world : World ℕ) (names : List TaskName) (is : IsWorld nat_eq world)
     mounts = λ y n e. let from = was y n in
         subst (λ (q : Mount ℕ). (is_own world names new q ≡ true) ⊎ (q.namespace ≡ None)) (sym from.2)
         (in_or_out from.0 from.1);
-    locations = λ l m e. let t = among-from_flat_map locations_of tasks_too l m in
-        among-flat_map locations_of new t.0 l (among-filter (is_member_task set) tasks_too t.0 t.1 (all t.0 t.1)) t.2;
+    locations = λ l m e. let t = among-from_flat_map locations_of it.tasks_too l m in among-flat_map locations_of new
+        t.0 l (among-filter (is_member_task set) it.tasks_too t.0 t.1
+        (leaves.all t.0 t.1)) t.2;
   }
 
   stood_so : (y : Mount ℕ) → Among y living.mounts → is_at nat_eq (roots_and_directories new) y ≡ true
@@ -145,16 +136,16 @@ module _ (world : World ℕ) (names : List TaskName) (is : IsWorld nat_eq world)
   pub ended_part_ready : Ready living set (used_filesystems nat_eq after_world set) (own_lowers nat_eq after_world set)
   ended_part_ready = record {
     used_are = used_same after_part living set (sees_living after_part set)
-        ∙ less_used world names is set after_world after_part less;
+        ∙ less_used world names it.is set after_world after_part less;
     lowers_are = lowers_same after_part living set (sees_living after_part set)
-        ∙ less_lowers world names is set after_world after_part less;
+        ∙ less_lowers world names it.is set after_world after_part less;
     one = one_living;
     lives = λ y n. (among-from_filter (mount_lives nat_eq after_part) after_part.mounts y n).1;
     located = located_so;
     parents = parents_so;
     stood = stood_so;
-    one_filesystem = numbers_in_part world names is;
-    plain = plain_in_part world names is;
+    one_filesystem = numbers_in_part world names it.is;
+    plain = plain_in_part world names it.is;
     free = λ y m u. inl (record { itself = alone y.number; overlays = λ merged n has. alone merged.number });
-    cut = cut_in_part world names is set after_world after_part less;
+    cut = cut_in_part world names it.is set after_world after_part less;
   }

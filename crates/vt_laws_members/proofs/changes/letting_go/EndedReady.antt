@@ -1,6 +1,6 @@
 -- Where mounts of theirs are detached, the world is ready to be swept.
 use Rattle.std.proofs.Common.{arith, ◌≡◌, refl, sym, ap, subst, ◌∙◌, ◌⊎◌, inl, inr, ⊎_elim, ℕ, nat_eq, Bool, true, false, true≢false, List, Option, Some, None, filter, is_some, not, eq-eqb, eqb-true}
-use Rattle.vt_spec.proofs.Common.{Among, IsWorld, Location, Mount, MountInvariants, Task, TaskName, World, all_locations, among-filter, among-flat_map, among-from_filter, among-from_flat_map, among-from_map, among-map, among_from_list_all, among_numbers, and_parts, any_among, any_from_among, common_steps, is_at, is_going, is_located, is_member_task, is_own_namespace, list_any, locations, locations_of, members, mount_at, mount_lives, mount_numbered, no_outsider_on, none_among, not-true, or_cases, or_left, or_right, other_mounts, outsiders, own_lowers, pair-filter, roots_and_directories, sealed, used_alone, used_filesystems, wholly_locked, without_dead_mounts}
+use Rattle.vt_spec.proofs.Common.{Among, Location, Mount, Task, TaskName, World, all_locations, among-filter, among-flat_map, among-from_filter, among-from_flat_map, among-from_map, among-map, among_from_list_all, among_numbers, and_parts, any_among, any_from_among, common_steps, is_at, is_located, is_member_task, is_own_namespace, list_any, locations, locations_of, members, mount_at, mount_lives, mount_numbered, no_outsider_on, none_among, not-true, or_cases, or_left, or_right, other_mounts, outsiders, own_lowers, pair-filter, roots_and_directories, used_alone, used_filesystems, wholly_locked, without_dead_mounts}
 use Rattle.vt_laws_sealed.proofs.part.part.MountsOver.{nowhere_stands}
 use Rattle.vt_laws_mounts.specs.Mounts.Invariants.{OneNumberEach}
 use Rattle.vt_laws_mounts.proofs.mounts.MountsReplaced.{found_itself}
@@ -9,34 +9,24 @@ use Rattle.vt_laws_sealed.proofs.part.part.PartOfPart.{is_own}
 use Rattle.vt_laws_sealed.proofs.part.seals.ByPart.{used_are_free}
 use Rattle.vt_laws_members.proofs.changes.letting_go.Changed.{mount_under, mount_parent}
 use Rattle.vt_laws_members.proofs.changes.letting_go.LessSeen.{used_was}
-use Rattle.vt_laws_members.proofs.changes.letting_go.NamespaceLess.{KeepsShape, SetIsLess, ended, ended_less, ended_mount, ended_part, one_after, place_shown, placed_so, root_ground, shape_kept}
+use Rattle.vt_laws_members.proofs.changes.letting_go.NamespaceLess.{Detaches, KeepsShape, LeavesWorlds, ended, ended_less, ended_mount, ended_part, one_after, place_shown, placed_so, root_ground, shape_kept}
 use Rattle.vt_laws_members.proofs.changes.letting_go.Ready.{Alone, NoOthers, Ready, layered_overlay}
-use Rattle.vt_laws_members.proofs.changes.letting_go.Regrouped.{left}
+use Rattle.vt_laws_members.proofs.changes.letting_go.Regrouped.{left_by}
 use Rattle.vt_laws_members.proofs.changes.letting_go.WorldReady.{all_named_there, plain_in, sees_living, whole_cut}
 
-module _ (world : World ℕ) (names : List TaskName) (is : IsWorld nat_eq world)
-    (sealed_off : sealed nat_eq world names ≡ true) (set : List TaskName) (gone : List ℕ)
-    (own_go : (m : Mount ℕ) → Among m world.mounts → is_going nat_eq gone m.number ≡ true
-    → is_own world names (members world names) m ≡ true) (lasts : ℕ → Bool) (tasks tasks_too : List (Task ℕ))
-    (change change_too : ℕ) (same : filter (is_member_task set) tasks_too ≡ filter (is_member_task set) tasks)
-    (fewer : SetIsLess world names is set tasks)
-    (others : (l : Location ℕ) → Among l (locations (filter (λ t. not (is_member_task set t)) tasks))
-    → Among l (locations (outsiders world names)))
-    (still : (m : Mount ℕ) → Among m world.mounts → is_going nat_eq gone m.number ≡ false
-    → is_own world names (members world names) m ≡ true → is_own world names (filter (is_member_task set) tasks) m
-    ≡ true) (b : Bool) (kept : MountInvariants nat_eq
-    (ended world names is sealed_off set gone own_go lasts tasks tasks_too change change_too same fewer b)) where
+module _ {world : World ℕ} {names set : List TaskName} {gone : List ℕ} (it : Detaches world names set gone)
+    (leaves : LeavesWorlds it) where
   abbrev old : List (Task ℕ)
   old = members world names
 
   abbrev new : List (Task ℕ)
-  new = filter (is_member_task set) tasks
+  new = filter (is_member_task set) it.tasks
 
   abbrev after_world : World ℕ
-  after_world = ended world names is sealed_off set gone own_go lasts tasks tasks_too change change_too same fewer b
+  after_world = ended it
 
   abbrev after : Mount ℕ → Mount ℕ
-  after = ended_mount b (left world names is sealed_off gone own_go) world gone
+  after = ended_mount it.regroups (left_by world gone) world gone
 
   abbrev living : World ℕ
   living = without_dead_mounts nat_eq after_world
@@ -48,30 +38,30 @@ module _ (world : World ℕ) (names : List TaskName) (is : IsWorld nat_eq world)
   located_lives : (m : Mount ℕ) (l : Location ℕ) → Among m world.mounts → Among l (all_locations after_world)
       → l.mount ≡ m.number → Among (after m) living.mounts
   located_lives m l at n e =
-      grind (arith, common_steps, among-filter, among-map, or_right, any_from_among, eq-eqb, shape_kept, left)
+      grind (arith, common_steps, among-filter, among-map, or_right, any_from_among, eq-eqb, shape_kept, left_by)
 
   of_all : (l : Location ℕ) → Among l (locations new) → Among l (all_locations after_world)
   of_all l m =
       let t = among-from_flat_map locations_of new l m in
-      among-flat_map locations_of tasks t.0 l (among-from_filter (is_member_task set) tasks t.0 t.1).0 t.2
+      among-flat_map locations_of it.tasks t.0 l (among-from_filter (is_member_task set) it.tasks t.0 t.1).0 t.2
 
   shape : (m : Mount ℕ) → KeepsShape m (after m)
-  shape m = shape_kept b (left world names is sealed_off gone own_go) world gone m
+  shape m = shape_kept it.regroups (left_by world gone) world gone m
 
   one_living : OneNumberEach living
   one_living =
       pair-filter (λ (p q : Mount ℕ). nat_eq p.number q.number) (mount_lives nat_eq after_world) after_world.mounts
-      (one_after world names is sealed_off set gone own_go lasts tasks tasks_too change change_too same fewer b)
+      (one_after it)
 
   -- a mount in a namespace of theirs is theirs after, or in none
   own_after : (m : Mount ℕ) (n : ℕ) → Among m world.mounts → m.namespace ≡ Some n
       → is_own_namespace nat_eq world names n ≡ true
       → (is_own world names new (after m) ≡ true) ⊎ ((after m).namespace ≡ None)
-  own_after m n at e own = grind (arith, common_steps, placed_so, left)
+  own_after m n at e own = grind (arith, common_steps, placed_so, left_by)
 
   none_after : (m : Mount ℕ) → m.namespace ≡ None → (after m).namespace ≡ None
   none_after m e = ⊎_elim (λ out. out.0) (λ stays. stays.0 ∙ e)
-      (placed_so b (left world names is sealed_off gone own_go) world gone m)
+      (placed_so it.regroups (left_by world gone) world gone m)
 
   -- where others have no foothold
   module _ (number : ℕ) (none : no_outsider_on nat_eq world names number ≡ true) where
@@ -101,25 +91,25 @@ module _ (world : World ℕ) (names : List TaskName) (is : IsWorld nat_eq world)
     locations_own : (l : Location ℕ) → Among l (all_locations living) → (mount_at nat_eq living l).filesystem ≡ number
         → Among l (locations new)
     locations_own l m e =
-        let t = among-from_flat_map locations_of tasks l m in
+        let t = among-from_flat_map locations_of it.tasks l m in
         by t.0 t.1 t.2 (is_member_task set t.0) refl
       where
-        by : (t : Task ℕ) → Among t tasks → Among l (locations_of t) → (c : Bool) → is_member_task set t ≡ c
+        by : (t : Task ℕ) → Among t it.tasks → Among l (locations_of t) → (c : Bool) → is_member_task set t ≡ c
             → Among l (locations new)
         by t n at true member =
-            among-flat_map locations_of new t l (among-filter (is_member_task set) tasks t n member) at
+            among-flat_map locations_of new t l (among-filter (is_member_task set) it.tasks t n member) at
         by t n at false other =
-            let out = others l (among-flat_map locations_of (filter (λ y. not (is_member_task set y)) tasks) t l
-            (among-filter (λ y. not (is_member_task set y)) tasks t n (ap not other)) at) in
+            let out = leaves.others l (among-flat_map locations_of (filter (λ y. not (is_member_task set y)) it.tasks)
+            t l (among-filter (λ y. not (is_member_task set y)) it.tasks t n (ap not other)) at) in
             let from = among-from_flat_map locations_of (outsiders world names) l out in
-            let under = mount_under world names is sealed_off l (among-flat_map locations_of world.tasks from.0 l
+            let under = mount_under world names it.is it.sealed_off l (among-flat_map locations_of world.tasks from.0 l
             (among-from_filter (λ y. not (is_member_task names y)) world.tasks from.0 from.1).0 from.2) in
             let alive = located_lives under.0 l under.1 m under.2 in
             let shows : (mount_at nat_eq living l).filesystem ≡ (mount_at nat_eq world l).filesystem =
             ap (λ i. (mount_numbered nat_eq living i).filesystem) (under.2 ∙ sym (shape under.0).number)
             ∙ ap (λ (q : Mount ℕ). q.filesystem) (found_itself living.mounts one_living (after under.0) alive)
-            ∙ (shape under.0).filesystem
-            ∙ ap (λ (q : Mount ℕ). q.filesystem) (sym (found_itself world.mounts is.mounts.one_number under.0 under.1))
+            ∙ (shape under.0).filesystem ∙ ap (λ (q : Mount ℕ). q.filesystem)
+            (sym (found_itself world.mounts it.is.mounts.one_number under.0 under.1))
             ∙ sym (ap (λ i. (mount_numbered nat_eq world i).filesystem) under.2) in
             absurd (true≢false (sym (eq-eqb number (mount_at nat_eq world l).filesystem (sym (sym shows ∙ e)))
             ∙ none_among (λ q. nat_eq number (mount_at nat_eq world q).filesystem) (locations (outsiders world names))
@@ -145,15 +135,14 @@ module _ (world : World ℕ) (names : List TaskName) (is : IsWorld nat_eq world)
 
   located_so : (l : Location ℕ) → Among l (locations new) → (y : Mount ℕ) × Among y living.mounts × (l.mount ≡ y.number)
   located_so l m =
-      let on = place_shown world names is sealed_off set gone own_go lasts
-      tasks tasks_too change change_too same fewer b l m in
+      let on = place_shown it l m in
       (after on.0, located_lives on.0 l on.1 (of_all l m) on.2, on.2 ∙ sym (shape on.0).number)
 
   parents_so : (y : Mount ℕ) (l : Location ℕ) → Among y living.mounts → y.mount_point ≡ Some l
       → (n : ℕ) × (y.namespace ≡ Some n) × (u : Mount ℕ) × Among u living.mounts × (l.mount ≡ u.number)
       × (u.namespace ≡ Some n)
   parents_so y l n point =
-      let up = mount_parent after_world kept y l
+      let up = mount_parent after_world leaves.kept y l
       (among-from_filter (mount_lives nat_eq after_world) after_world.mounts y n).0 point in (
         up.0,
         up.1,
@@ -169,8 +158,7 @@ module _ (world : World ℕ) (names : List TaskName) (is : IsWorld nat_eq world)
   stood_so y n h =
       let from = was y n in
       let l = any_among (λ (p : Location ℕ). nat_eq p.mount y.number) (roots_and_directories new) h in
-      let ground = root_ground world names is sealed_off set gone own_go lasts
-      tasks tasks_too change change_too same fewer b l.0 l.1 from.0 from.1 (eqb-true l.0.mount from.0.number
+      let ground = root_ground it l.0 l.1 from.0 from.1 (eqb-true l.0.mount from.0.number
       (ap (nat_eq l.0.mount) (sym (ap (λ (q : Mount ℕ). q.number) from.2 ∙ (shape from.0).number)) ∙ l.2)) in
       subst (λ (q : Mount ℕ). (is_own world names new q ≡ true) ⊎ (q.mount_point ≡ None)) (sym from.2)
       (by from.0 from.1 (⊎_elim inl (λ stood. inr stood.0) ground) from.0.namespace refl from.0.mount_point refl)
@@ -178,10 +166,10 @@ module _ (world : World ℕ) (names : List TaskName) (is : IsWorld nat_eq world)
       by : (m : Mount ℕ) → Among m world.mounts → (is_own world names old m ≡ true) ⊎ (m.namespace ≡ None)
           → (o : Option ℕ) → m.namespace ≡ o → (p : Option (Location ℕ)) → m.mount_point ≡ p
           → (is_own world names new (after m) ≡ true) ⊎ ((after m).mount_point ≡ None)
-      by m at how o e None f = grind (arith, common_steps, placed_so, left)
-      by m at (inr none) o e (Some l) f = absurd (nowhere_stands world names is.mounts m l at none f)
-      by m at (inl own) None e (Some l) f = absurd (nowhere_stands world names is.mounts m l at e f)
-      by m at (inl own) (Some j) e (Some l) f = grind (arith, common_steps, placed_so, left)
+      by m at how o e None f = grind (arith, common_steps, placed_so, left_by)
+      by m at (inr none) o e (Some l) f = absurd (nowhere_stands world names it.is.mounts m l at none f)
+      by m at (inl own) None e (Some l) f = absurd (nowhere_stands world names it.is.mounts m l at e f)
+      by m at (inl own) (Some j) e (Some l) f = grind (arith, common_steps, placed_so, left_by)
 
   pub ended_ready : Ready living set (used_filesystems nat_eq after_world set) (own_lowers nat_eq after_world set)
   ended_ready = record {
@@ -192,14 +180,13 @@ module _ (world : World ℕ) (names : List TaskName) (is : IsWorld nat_eq world)
     located = located_so;
     parents = parents_so;
     stood = stood_so;
-    one_filesystem = is.files.one_filesystem;
-    plain = plain_in world names is;
-    free = λ x m u. ⊎_elim (λ h. inl (alone x.number h)) (λ h. inr (all_named_there world names is x m h))
+    one_filesystem = it.is.files.one_filesystem;
+    plain = plain_in world names it.is;
+    free = λ x m u. ⊎_elim (λ h. inl (alone x.number h)) (λ h. inr (all_named_there world names it.is x m h))
         (or_cases (used_alone nat_eq world names x.number) (wholly_locked nat_eq world names x.number)
-        (used_are_free world names sealed_off x.number (among_numbers (used_filesystems nat_eq world names) x.number
-        (used_was world names is set after_world
-        (ended_part world names is sealed_off set gone own_go lasts tasks tasks_too change change_too same fewer b)
-        (ended_less world names is sealed_off set gone own_go lasts tasks tasks_too change change_too same fewer b)
+        (used_are_free world names it.sealed_off x.number
+        (among_numbers (used_filesystems nat_eq world names) x.number
+        (used_was world names it.is set after_world (ended_part it) (ended_less it)
         x.number u))));
-    cut = λ x m unused low. whole_cut world is (own_lowers nat_eq after_world set) x m;
+    cut = λ x m unused low. whole_cut world it.is (own_lowers nat_eq after_world set) x m;
   }

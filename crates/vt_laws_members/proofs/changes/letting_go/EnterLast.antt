@@ -1,13 +1,13 @@
 -- Each setns(2) ends in the part as in the world: where the caller was the last task of its namespace, that one ends.
 use Rattle.std.proofs.Common.{◌≡◌, refl, sym, ap, subst, ◌∙◌, ◌⊎◌, ⊎_elim, ℕ, nat_eq, Bool, true, false, true≢false, List, [], Option, Some, None, Ok, Err, filter, map, not, ◌||◌, eq-eqb, eqb-true, IfOk, is_ok, unwrap_or}
-use Rattle.vt_spec.proofs.Common.{Among, Done, Exit, Fresh, Judgement, Mount, MountInvariants, Namespace, Setns, Task, TaskName, ToEnterNamespace, World, after_going, among-filter, among-from_filter, among-from_map, among-map, among_from_list_all, any_among, any_from_among, entered_at, granted, has_tasks, holds_of, is_going, is_member_task, is_own_namespace, judge_in, list_all, list_all_from_among, list_any, lost_a_group, members, namespaces_ended, none_among, none_from_among, not-true, numbers_raised, or_left, or_right, part_of, policy, replaced_if_called, same_name, settled, task_called}
+use Rattle.vt_spec.proofs.Common.{Among, Done, Exit, Fresh, Judgement, Mount, MountInvariants, Namespace, Setns, Task, TaskName, ToEnterNamespace, World, among-filter, among-from_filter, among-from_map, among-map, among_from_list_all, any_among, any_from_among, entered_at, granted, has_tasks, holds_of, is_going, is_member_task, is_own_namespace, judge_in, list_all, list_all_from_among, list_any, members, namespaces_ended, none_among, none_from_among, not-true, numbers_raised, or_left, or_right, part_of, policy, replaced_if_called, same_name, settled, task_called}
 use Rattle.vt_laws_mounts.proofs.ends.Ending.{ended_namespaces_keep_mounts}
 use Rattle.vt_laws_worlds.proofs.kept.MountsAlike.{same_mounts}
 use Rattle.vt_laws_sealed.proofs.part.part.PartOfPart.{is_own}
 use Rattle.vt_laws_members.specs.Changes.Changes.{EndAlike, EndsAlike, IsCallOfTheirs, grown}
 use Rattle.vt_laws_members.specs.Changes.LettingGo.{SetnsEndsAlike}
 use Rattle.vt_laws_members.proofs.changes.looks.Told.{member_called, ran, same_caller}
-use Rattle.vt_laws_members.proofs.changes.tasks.Denied.{denial_ends_alike, run_by, same_judgement, unnamed_ends_alike}
+use Rattle.vt_laws_members.proofs.changes.tasks.Denied.{denial_ends_alike, ran_there, run_by, unnamed_ends_alike}
 use Rattle.vt_laws_members.proofs.changes.letting_go.Callers.{all_in_set, of_set, others_left, places_left, replaced_apart, roots_left, same_set}
 use Rattle.vt_laws_members.proofs.changes.letting_go.CutNamespace.{in_same, in_space, numbers_in}
 use Rattle.vt_laws_members.proofs.changes.letting_go.Detached.{detached_parts}
@@ -15,12 +15,13 @@ use Rattle.vt_laws_members.proofs.changes.letting_go.Entering.{Enters, entered, 
 use Rattle.vt_laws_members.proofs.changes.letting_go.ExitLast.{ends_so}
 use Rattle.vt_laws_members.proofs.changes.letting_go.Heard.{own_in, space_in_part}
 use Rattle.vt_laws_members.proofs.changes.letting_go.Leaving.{in_world, part_listed}
-use Rattle.vt_laws_members.proofs.changes.letting_go.NamespaceLess.{SetIsLess, ended, ended_part}
+use Rattle.vt_laws_members.proofs.changes.letting_go.NamespaceLess.{Detaches, SetIsLess, ended, ended_part}
 use Rattle.vt_laws_members.proofs.changes.letting_go.PartMounts.{part_mounts}
 use Rattle.vt_laws_members.proofs.changes.letting_go.Regrouped.{flags_same}
 use Rattle.vt_laws_worlds.proofs.worlds.CallsKept.{name_found}
+use Rattle.vt_laws_members.proofs.changes.letting_go.Taken.{group_lost}
 
-module _ (world : World ℕ) (names : List TaskName) (name called_so : TaskName)
+module _ {world : World ℕ} {names : List TaskName} {name called_so : TaskName}
     (it : IsCallOfTheirs world names name (Setns called_so)) (task : Task ℕ)
     (called : task_called world name ≡ Some task) (target : Task ℕ) (target_in : Among target (members world names))
     (away : nat_eq task.namespace target.namespace ≡ false)
@@ -36,13 +37,13 @@ module _ (world : World ℕ) (names : List TaskName) (name called_so : TaskName)
   k = task.namespace
 
   exits : IsCallOfTheirs world names name Exit
-  exits = exit_it world names name called_so it task called target target_in
+  exits = exit_it it task called target target_in
 
   abbrev moved : Task ℕ → Task ℕ
-  moved = replaced world names name called_so it task called target target_in
+  moved = replaced it task called target target_in
 
   abbrev caller : Task ℕ
-  caller = mine world names name called_so it task called target target_in
+  caller = mine it task called target target_in
 
   abbrev rest : List (Task ℕ)
   rest = map moved world.tasks
@@ -54,24 +55,23 @@ module _ (world : World ℕ) (names : List TaskName) (name called_so : TaskName)
   in_space_of n t = nat_eq n t.namespace
 
   known : (t : Task ℕ) → Among t old → Among t world.tasks
-  known = in_world world names name exits task called
+  known = in_world exits task called
 
   how : (t : Task ℕ) → Among t world.tasks
       → ((moved t ≡ caller) × (task ≡ t)) ⊎ ((moved t ≡ t) × (same_name task.name t.name ≡ false))
-  how = replaced_apart world names name (Setns called_so) it task called caller refl
+  how = replaced_apart it task called caller refl
 
   set_is : filter (is_member_task names) rest ≡ map moved old
-  set_is = of_set world names name (Setns called_so) it task called caller
-      (stands world names name called_so it task called target target_in) world.tasks
+  set_is = of_set it task called caller (stands it task called target target_in) world.tasks
 
   less : SetIsLess world names it.is names rest
   less = record {
-    entered = λ n h. entered_was world names name called_so it task called target target_in n
+    entered = λ n h. entered_was it task called target target_in n
         (sym (ap (list_any (in_space_of n)) set_is) ∙ h);
-    roots = roots_left world names name (Setns called_so) it task called caller
-        (stands world names name called_so it task called target target_in);
-    places = places_left world names name (Setns called_so) it task called caller
-        (stands world names name called_so it task called target target_in);
+    roots = roots_left it task called caller
+        (stands it task called target target_in);
+    places = places_left it task called caller
+        (stands it task called target target_in);
   }
 
   theirs_ends : is_own_namespace nat_eq world names k ≡ true
@@ -121,21 +121,29 @@ module _ (world : World ℕ) (names : List TaskName) (name called_so : TaskName)
       by (Some n) h own = ap (list_any (in_space_of n)) set_is ∙ still_in n h old known own
 
   abbrev flag : Bool
-  flag = list_any (lost_a_group nat_eq (record world { mounts = map (after_going nat_eq world gone) world.mounts }))
-      (map (after_going nat_eq world gone) world.mounts)
+  flag = group_lost world gone
 
   same : filter (is_member_task names) rest_too ≡ filter (is_member_task names) rest
-  same = same_set world names name (Setns called_so) it task called caller
-      (stands world names name called_so it task called target target_in)
+  same = same_set it task called caller (stands it task called target target_in)
+
+  abbrev ends : Detaches world names names gone
+  ends = record {
+    go = record { is = it.is; sealed_off = it.sealed_off; own_go = own_go };
+    lasts = lasts;
+    tasks = rest;
+    tasks_too = rest_too;
+    change = world.change;
+    change_too = part.change;
+    same = same;
+    fewer = less;
+    regroups = flag;
+  }
 
   abbrev v : World ℕ
-  v = ended world names it.is it.sealed_off names gone own_go lasts rest rest_too world.change part.change same less
-      flag
+  v = ended ends
 
   abbrev v_part : World ℕ
-  v_part =
-      ended_part world names it.is it.sealed_off names gone own_go lasts rest rest_too world.change part.change same
-      less flag
+  v_part = ended_part ends
 
   others_live : (w : World ℕ) (list : List (Task ℕ)) → ((t : Task ℕ) → Among t list → Among t world.tasks)
       → ((n : Namespace ℕ) → Among n w.namespaces → list_any (in_space_of n.number) list ≡ true)
@@ -158,9 +166,9 @@ module _ (world : World ℕ) (names : List TaskName) (name called_so : TaskName)
   part_ends : namespaces_ended nat_eq (record part { tasks = rest_too }) ≡ v_part
   part_ends = ends_so (record part { tasks = rest_too }) k gone
       (ap (map (λ (m : Mount ℕ). m.number)) (space_in_part world names it.is it.sealed_off k theirs_ends))
-      (part_listed world names name exits task called) (none_in part.tasks known) (others_live part part.tasks known
-      (λ n m. (among-from_filter (λ (s : Namespace ℕ). list_any (in_space_of s.number) old) world.namespaces n m).1))
-      flag (sym (flags_same world names it.is it.sealed_off gone own_go))
+      (part_listed exits task called) (none_in part.tasks known)
+      (others_live part part.tasks known (λ n m. (among-from_filter (λ (s : Namespace ℕ).
+      list_any (in_space_of s.number) old) world.namespaces n m).1)) flag (sym (flags_same ends.go))
 
   kept : MountInvariants nat_eq v
   kept = subst (MountInvariants nat_eq) world_ends (ended_namespaces_keep_mounts (record world { tasks = rest })
@@ -177,28 +185,28 @@ module _ (world : World ℕ) (names : List TaskName) (name called_so : TaskName)
   left_too = numbers_raised nat_eq part name [] (settled nat_eq v_part)
 
   parts : part_of nat_eq left_one names ≡ part_of nat_eq left_too names
-  parts = detached_parts world names it.is it.sealed_off names gone own_go lasts rest rest_too world.change part.change
-      same less (others_left world names name (Setns called_so) it task called caller
-      (stands world names name called_so it task called target target_in))
-      (all_in_set world names name (Setns called_so) it task called caller
-      (stands world names name called_so it task called target target_in)) mounts_stay flag kept kept_there name
+  parts = detached_parts ends (record {
+    others = others_left it task called caller (stands it task called target target_in);
+    all = all_in_set it task called caller (stands it task called target target_in);
+    still = mounts_stay;
+    kept = kept;
+    kept_there = kept_there;
+  }) name
 
   pub last_setns_alike : (fresh supply : Fresh ℕ)
       → judge_in nat_eq fresh world task (Setns called_so) ≡ Ok (ToEnterNamespace target.namespace)
       → EndsAlike world names name (Setns called_so) fresh supply
   last_setns_alike fresh supply judged =
       let first : policy nat_eq fresh world name (Setns called_so) ≡ granted Done left_one =
-      ap (ran name (Setns called_so) world fresh) called
-      ∙ ap (run_by world names name (Setns called_so) it fresh supply world fresh task) judged
+      ap (ran name (Setns called_so) world fresh) called ∙ ap (run_by it world fresh task) judged
       ∙ ap (λ w. granted Done (numbers_raised nat_eq world name [] (settled nat_eq w))) world_ends in
       let second : policy nat_eq supply part name (Setns called_so) ≡ granted Done left_too =
       ap (ran name (Setns called_so) part supply) (same_caller world names it.is it.sealed_off name it.theirs ∙ called)
-      ∙ ap (run_by world names name (Setns called_so) it fresh supply part supply task)
-      (sym (same_judgement world names name (Setns called_so) it fresh supply task called) ∙ judged)
+      ∙ ran_there it fresh supply task called judged
       ∙ ap (λ o. granted Done (numbers_raised nat_eq part name [] (settled nat_eq (namespaces_ended nat_eq
       (record part {
         tasks = map (replaced_if_called (entered_at task target.namespace (unwrap_or o task.root))) part.tasks;
-      }))))) (root_alike world names name called_so it task called target target_in)
+      }))))) (root_alike it task called target target_in)
       ∙ ap (λ w. granted Done (numbers_raised nat_eq part name [] (settled nat_eq w))) part_ends in
       subst (λ p. EndAlike (grown names name (Setns called_so)
       (policy nat_eq fresh world name (Setns called_so)).answer)
@@ -207,7 +215,7 @@ module _ (world : World ℕ) (names : List TaskName) (name called_so : TaskName)
       (record { answer = refl; part = parts }))
 
 -- by whether it stays, or another task does
-module _ (world : World ℕ) (names : List TaskName) (name called_so : TaskName)
+module _ {world : World ℕ} {names : List TaskName} {name called_so : TaskName}
     (it : IsCallOfTheirs world names name (Setns called_so)) (task : Task ℕ)
     (called : task_called world name ≡ Some task) (fresh supply : Fresh ℕ) where
   abbrev stays : Task ℕ → Bool
@@ -219,18 +227,17 @@ module _ (world : World ℕ) (names : List TaskName) (name called_so : TaskName)
       → list_any (λ (t : Task ℕ). nat_eq task.namespace t.namespace) (filter stays world.tasks) ≡ c
       → EndsAlike world names name (Setns called_so) fresh supply
   granted_alike target target_in judged true c e f =
-      entering_alike world names name called_so it task called target target_in
-      (entered_itself world names name called_so it task called target target_in
-      (sym (eqb-true task.namespace target.namespace e))) fresh supply judged
+      entering_alike it task called target target_in
+      (entered_itself it task called target target_in (sym (eqb-true task.namespace target.namespace e))) fresh supply
+      judged
   granted_alike target target_in judged false true e f =
       let other = any_among (λ (t : Task ℕ). nat_eq task.namespace t.namespace) (filter stays world.tasks) f in
       let from = among-from_filter stays world.tasks other.0 other.1 in
-      entering_alike world names name called_so it task called target target_in
-      (entered world names name called_so it task called target target_in other.0 from.0
-      (sym (eqb-true task.namespace other.0.namespace other.2)) (not-true (same_name name other.0.name) from.1))
-      fresh supply judged
+      entering_alike it task called target target_in
+      (entered it task called target target_in other.0 from.0 (sym (eqb-true task.namespace other.0.namespace other.2))
+      (not-true (same_name name other.0.name) from.1)) fresh supply judged
   granted_alike target target_in judged false false e f =
-      last_setns_alike world names name called_so it task called target target_in e f fresh supply judged
+      last_setns_alike it task called target target_in e f fresh supply judged
 
   judged_by : (member : Among task (members world names)) (j : Judgement ℕ)
       → judge_in nat_eq fresh world task (Setns called_so) ≡ j
@@ -239,17 +246,16 @@ module _ (world : World ℕ) (names : List TaskName) (name called_so : TaskName)
   judged_by member (Ok permit) judged its =
       granted_alike its.0 its.1 (judged ∙ ap Ok its.2) (nat_eq task.namespace its.0.namespace)
       (list_any (λ (t : Task ℕ). nat_eq task.namespace t.namespace) (filter stays world.tasks)) refl refl
-  judged_by member (Err deny) judged its = denial_ends_alike world names name (Setns called_so) it fresh supply
-      (ap (λ o. is_ok (ran name (Setns called_so) world fresh o).answer) called ∙ ap (λ j. is_ok
-      (run_by world names name (Setns called_so) it fresh supply world fresh task j).answer) judged)
+  judged_by member (Err deny) judged its = denial_ends_alike it fresh supply
+      (ap (λ o. is_ok (ran name (Setns called_so) world fresh o).answer) called
+      ∙ ap (λ j. is_ok (run_by it world fresh task j).answer) judged)
 
 pub setns_ends_alike : SetnsEndsAlike
 setns_ends_alike world names name called_so it fresh supply = by (task_called world name) refl
   where
     by : (o : Option (Task ℕ)) → task_called world name ≡ o → EndsAlike world names name (Setns called_so) fresh supply
-    by None e = unnamed_ends_alike world names name (Setns called_so) it fresh supply e
+    by None e = unnamed_ends_alike it fresh supply e
     by (Some task) e =
         let member = member_called world names it.is it.sealed_off name it.theirs task e in
-        judged_by world names name called_so it task e fresh supply member
-        (judge_in nat_eq fresh world task (Setns called_so)) refl
+        judged_by it task e fresh supply member (judge_in nat_eq fresh world task (Setns called_so)) refl
         (enters world names it.is it.sealed_off task member called_so (it.among_them called_so refl))

@@ -15,7 +15,7 @@ use Rattle.vt_laws_members.proofs.changes.letting_go.Leaving.{in_world, its_name
 use Rattle.vt_laws_members.proofs.changes.letting_go.Moving.{On, alike, one, other}
 use Rattle.vt_laws_members.proofs.changes.looks.Granted.{of_rules}
 use Rattle.vt_laws_members.proofs.changes.looks.Told.{member_called}
-use Rattle.vt_laws_members.proofs.changes.tasks.Denied.{run_by, same_judgement}
+use Rattle.vt_laws_members.proofs.changes.tasks.Denied.{ran_there, run_by}
 
 -- The permit of setns(2)
 module _ (world : World ℕ) (names : List TaskName) (is : IsWorld nat_eq world)
@@ -44,7 +44,7 @@ abbrev is_exit : Call → Bool
 is_exit Exit = true
 is_exit call = false
 
-module _ (world : World ℕ) (names : List TaskName) (name called_so : TaskName)
+module _ {world : World ℕ} {names : List TaskName} {name called_so : TaskName}
     (it : IsCallOfTheirs world names name (Setns called_so)) (task : Task ℕ)
     (called : task_called world name ≡ Some task) (target : Task ℕ)
     (target_in : Among target (members world names)) where
@@ -129,8 +129,7 @@ module _ (world : World ℕ) (names : List TaskName) (name called_so : TaskName)
       (ap (λ (x : Task ℕ). nat_eq n x.namespace) (sym its.0) ∙ here))
       (λ same. any_from_among (λ (t : Task ℕ). nat_eq n t.namespace) theirs from.0 from.1
       (ap (λ (x : Task ℕ). nat_eq n x.namespace) (sym same) ∙ here))
-      (replaced_how world names name (Setns called_so) it task called mine refl from.0
-      (in_world world names name exit_it task called from.0 from.1))
+      (replaced_how it task called mine refl from.0 (in_world exit_it task called from.0 from.1))
 
   pub stands : StandsOnTheirs world names name (Setns called_so) it task mine
   stands = grind (arith, common_steps, root_on)
@@ -143,35 +142,33 @@ module _ (world : World ℕ) (names : List TaskName) (name called_so : TaskName)
         ≡ list_any (λ (t : Task ℕ). nat_eq n t.namespace) theirs
     own n = same_truth (list_any (λ (t : Task ℕ). nat_eq n t.namespace) (map replaced theirs))
         (list_any (λ (t : Task ℕ). nat_eq n t.namespace) theirs) (entered_was n)
-        (λ h. entered n theirs (in_world world names name exit_it task called) (λ t m. m) h)
+        (λ h. entered n theirs (in_world exit_it task called) (λ t m. m) h)
 
     -- No namespace ends
     world_stays : namespaces_ended nat_eq (record world { tasks = map replaced world.tasks })
         ≡ record world { tasks = map replaced world.tasks }
     world_stays = none_ends (record world { tasks = map replaced world.tasks }) it.is.namespaces.mounts_listed
         (list_all_from_among (has_tasks nat_eq (record world { tasks = map replaced world.tasks })) world.namespaces
-        (λ n m. entered n.number world.tasks (λ t k. k) (in_world world names name exit_it task called)
+        (λ n m. entered n.number world.tasks (λ t k. k) (in_world exit_it task called)
         (among_from_list_all (has_tasks nat_eq world) world.namespaces it.is.namespaces.namespaces_live n m)))
         (none_lost world it.is.mounts)
 
     part_stays : namespaces_ended nat_eq (record part { tasks = map replaced part.tasks })
         ≡ record part { tasks = map replaced part.tasks }
-    part_stays = none_ends (record part { tasks = map replaced part.tasks })
-        (part_listed world names name exit_it task called)
+    part_stays = none_ends (record part { tasks = map replaced part.tasks }) (part_listed exit_it task called)
         (list_all_from_among (has_tasks nat_eq (record part { tasks = map replaced part.tasks })) part.namespaces
-        (λ n m. entered n.number theirs (in_world world names name exit_it task called) (λ t k. k)
+        (λ n m. entered n.number theirs (in_world exit_it task called) (λ t k. k)
         (among-from_filter (λ (s : Namespace ℕ). list_any (λ (t : Task ℕ). nat_eq s.number t.namespace) theirs)
-        world.namespaces n m).1)) (part_keeps world names name exit_it task called)
+        world.namespaces n m).1)) (part_keeps exit_it task called)
 
     pub entering_alike : (fresh supply : Fresh ℕ)
         → judge_in nat_eq fresh world task (Setns called_so) ≡ Ok (ToEnterNamespace space)
         → EndsAlike world names name (Setns called_so) fresh supply
     entering_alike fresh supply judged =
-        moved_alike world names name (Setns called_so) it task called mine stands fresh supply refl own
-        (ap (run_by world names name (Setns called_so) it fresh supply world fresh task) judged
-        ∙ ap (λ w. granted Done (numbers_raised nat_eq world name [] (settled nat_eq w))) world_stays)
-        (ap (run_by world names name (Setns called_so) it fresh supply part supply task)
-        (sym (same_judgement world names name (Setns called_so) it fresh supply task called) ∙ judged)
+        moved_alike it task called mine stands fresh supply refl own
+        (ap (run_by it world fresh task) judged ∙ ap (λ w. granted Done
+        (numbers_raised nat_eq world name [] (settled nat_eq w))) world_stays)
+        (ran_there it fresh supply task called judged
         ∙ ap (λ o. granted Done (numbers_raised nat_eq part name [] (settled nat_eq (namespaces_ended nat_eq
         (record part {
           tasks = map (replaced_if_called (entered_at task space (unwrap_or o task.root))) part.tasks;
@@ -181,10 +178,10 @@ module _ (world : World ℕ) (names : List TaskName) (name called_so : TaskName)
   module _ (other_task : Task ℕ) (there : Among other_task world.tasks)
       (together : other_task.namespace ≡ task.namespace) (differ : same_name name other_task.name ≡ false) where
     other_same : replaced other_task ≡ other_task
-    other_same = cc (its_name world names name exit_it task called, differ)
+    other_same = cc (its_name exit_it task called, differ)
 
     other_in : Among other_task theirs
-    other_in = in_old world names name exit_it task called other_task there together differ
+    other_in = in_old exit_it task called other_task there together differ
 
     pub entered : (n : ℕ) (list : List (Task ℕ)) → ((t : Task ℕ) → Among t list → Among t world.tasks)
         → ((t : Task ℕ) → Among t theirs → Among t list) → list_any (λ (t : Task ℕ). nat_eq n t.namespace) list ≡ true
@@ -197,7 +194,7 @@ module _ (world : World ℕ) (names : List TaskName) (name called_so : TaskName)
         ∙ ap (nat_eq n) (together ∙ ap (λ (x : Task ℕ). x.namespace) its.1) ∙ at.2))
         (λ same. any_from_among (λ (t : Task ℕ). nat_eq n t.namespace) (map replaced list) (replaced at.0)
         (among-map replaced list at.0 at.1) (ap (λ (x : Task ℕ). nat_eq n x.namespace) same ∙ at.2))
-        (replaced_how world names name (Setns called_so) it task called mine refl at.0 (within at.0 at.1))
+        (replaced_how it task called mine refl at.0 (within at.0 at.1))
 
   -- It stays in its namespace
   pub entered_itself : space ≡ task.namespace → (n : ℕ) (list : List (Task ℕ))
@@ -207,7 +204,7 @@ module _ (world : World ℕ) (names : List TaskName) (name called_so : TaskName)
   entered_itself same_space n list within all h =
       let at = any_among (λ (t : Task ℕ). nat_eq n t.namespace) list h in
       any_from_among (λ (t : Task ℕ). nat_eq n t.namespace) (map replaced list) (replaced at.0)
-      (among-map replaced list at.0 at.1) (ap (nat_eq n) (⊎_elim
-      (λ its. ap (λ (x : Task ℕ). x.namespace) its.0 ∙ same_space ∙ ap (λ (x : Task ℕ). x.namespace) its.1)
-      (λ same. ap (λ (x : Task ℕ). x.namespace) same)
-      (replaced_how world names name (Setns called_so) it task called mine refl at.0 (within at.0 at.1))) ∙ at.2)
+      (among-map replaced list at.0 at.1) (ap (nat_eq n)
+      (⊎_elim (λ its. ap (λ (x : Task ℕ). x.namespace) its.0 ∙ same_space ∙ ap (λ (x : Task ℕ). x.namespace) its.1)
+      (λ same. ap (λ (x : Task ℕ). x.namespace) same) (replaced_how it task called mine refl at.0 (within at.0 at.1)))
+      ∙ at.2)

@@ -12,9 +12,10 @@ use Rattle.vt_laws_members.proofs.changes.letting_go.CutNamespace.{in_same, in_s
 use Rattle.vt_laws_members.proofs.changes.letting_go.Detached.{detached_parts}
 use Rattle.vt_laws_members.proofs.changes.letting_go.Heard.{own_in, space_in_part}
 use Rattle.vt_laws_members.proofs.changes.letting_go.Leaving.{all_left, in_world, is_task, its_name, member, new_old, old_new, others_left, part_listed, same_left, stays, tasks, tasks_too}
-use Rattle.vt_laws_members.proofs.changes.letting_go.NamespaceLess.{ended, ended_part, less_of_fewer}
+use Rattle.vt_laws_members.proofs.changes.letting_go.NamespaceLess.{Detaches, ended, ended_part, less_of_fewer}
 use Rattle.vt_laws_members.proofs.changes.letting_go.PartMounts.{part_mounts}
 use Rattle.vt_laws_members.proofs.changes.letting_go.Regrouped.{flags_same, regroup_is, regrouped_mount, regrouped_so}
+use Rattle.vt_laws_members.proofs.changes.letting_go.Taken.{group_lost}
 
 -- A world in which one namespace has lost its last task
 module _ (w : World ℕ) (k : ℕ) (gone : List ℕ) (same : numbers_in w k ≡ gone) where
@@ -40,7 +41,7 @@ module _ (w : World ℕ) (k : ℕ) (gone : List ℕ) (same : numbers_in w k ≡ 
         namespaces = remain;
       })
 
-module _ (world : World ℕ) (names : List TaskName) (name : TaskName) (it : IsCallOfTheirs world names name Exit)
+module _ {world : World ℕ} {names : List TaskName} {name : TaskName} (it : IsCallOfTheirs world names name Exit)
     (task : Task ℕ) (called : task_called world name ≡ Some task)
     (empty : list_any (λ (t : Task ℕ). nat_eq task.namespace t.namespace)
     (filter (λ (t : Task ℕ). not (same_name name t.name)) world.tasks) ≡ false) where
@@ -57,17 +58,16 @@ module _ (world : World ℕ) (names : List TaskName) (name : TaskName) (it : IsC
   k = task.namespace
 
   abbrev rest : List (Task ℕ)
-  rest = tasks world names name it task called
+  rest = tasks it task called
 
   abbrev rest_too : List (Task ℕ)
-  rest_too = tasks_too world names name it task called
+  rest_too = tasks_too it task called
 
   abbrev stays_on : Task ℕ → Bool
-  stays_on = stays world names name it task called
+  stays_on = stays it task called
 
   theirs_ends : is_own_namespace nat_eq world names k ≡ true
-  theirs_ends = any_from_among (λ (t : Task ℕ). nat_eq k t.namespace) old task (member world names name it task called)
-      (eq-eqb k k refl)
+  theirs_ends = any_from_among (λ (t : Task ℕ). nat_eq k t.namespace) old task (member it task called) (eq-eqb k k refl)
 
   abbrev gone : List ℕ
   gone = numbers_in world k
@@ -92,9 +92,9 @@ module _ (world : World ℕ) (names : List TaskName) (name : TaskName) (it : IsC
       → list_any (λ (t : Task ℕ). nat_eq n t.namespace) (filter (is_member_task set) rest) ≡ true
   still n apart h =
       let at = any_among (λ (t : Task ℕ). nat_eq n t.namespace) (filter stays_on old)
-      (still_in n apart old (in_world world names name it task called) h) in
+      (still_in n apart old (in_world it task called) h) in
       any_from_among (λ (t : Task ℕ). nat_eq n t.namespace) (filter (is_member_task set) rest) at.0
-      (old_new world names name it task called at.0 at.1) at.2
+      (old_new it task called at.0 at.1) at.2
 
   mounts_stay : (m : Mount ℕ) → Among m world.mounts → is_going nat_eq gone m.number ≡ false
       → is_own world names old m ≡ true → is_own world names (filter (is_member_task set) rest) m ≡ true
@@ -106,18 +106,26 @@ module _ (world : World ℕ) (names : List TaskName) (name : TaskName) (it : IsC
       by (Some n) h own = still n h own
 
   abbrev flag : Bool
-  flag = list_any (lost_a_group nat_eq (record world { mounts = map (after_going nat_eq world gone) world.mounts }))
-      (map (after_going nat_eq world gone) world.mounts)
+  flag = group_lost world gone
+
+  abbrev ends : Detaches world names set gone
+  ends = record {
+    go = record { is = it.is; sealed_off = it.sealed_off; own_go = own_go };
+    lasts = lasts;
+    tasks = rest;
+    tasks_too = rest_too;
+    change = world.change;
+    change_too = part.change;
+    same = same_left it task called;
+    fewer = less_of_fewer world names it.is set rest (new_old it task called);
+    regroups = flag;
+  }
 
   abbrev v : World ℕ
-  v = ended world names it.is it.sealed_off set gone own_go lasts rest rest_too world.change part.change
-      (same_left world names name it task called)
-      (less_of_fewer world names it.is set rest (new_old world names name it task called)) flag
+  v = ended ends
 
   abbrev v_part : World ℕ
-  v_part = ended_part world names it.is it.sealed_off set gone own_go lasts rest rest_too world.change part.change
-      (same_left world names name it task called)
-      (less_of_fewer world names it.is set rest (new_old world names name it task called)) flag
+  v_part = ended_part ends
 
   world_ends : namespaces_ended nat_eq (record world { tasks = rest }) ≡ v
   world_ends = ends_so (record world { tasks = rest }) k gone refl it.is.namespaces.mounts_listed empty
@@ -133,20 +141,19 @@ module _ (world : World ℕ) (names : List TaskName) (name : TaskName) (it : IsC
   part_ends : namespaces_ended nat_eq (record part { tasks = rest_too }) ≡ v_part
   part_ends = ends_so (record part { tasks = rest_too }) k gone
       (ap (map (λ (m : Mount ℕ). m.number)) (space_in_part world names it.is it.sealed_off k theirs_ends))
-      (part_listed world names name it task called)
-      (none_from_among (λ (t : Task ℕ). nat_eq k t.namespace) rest_too (λ t m.
+      (part_listed it task called) (none_from_among (λ (t : Task ℕ). nat_eq k t.namespace) rest_too (λ t m.
       let from = among-from_filter stays_on part.tasks t m in
       none_among (λ (t : Task ℕ). nat_eq k t.namespace) rest empty t
-      (among-filter stays_on world.tasks t (in_world world names name it task called t from.0) from.1)))
+      (among-filter stays_on world.tasks t (in_world it task called t from.0) from.1)))
       (list_all_from_among (λ (n : Namespace ℕ). nat_eq k n.number || has_tasks nat_eq
       (record part { tasks = rest_too }) n) part.namespaces (λ n m. by n m (nat_eq k n.number) refl)) flag
-      (sym (flags_same world names it.is it.sealed_off gone own_go))
+      (sym (flags_same ends.go))
     where
       by : (n : Namespace ℕ) → Among n part.namespaces → (b : Bool) → nat_eq k n.number ≡ b
           → (nat_eq k n.number || has_tasks nat_eq (record part { tasks = rest_too }) n) ≡ true
       by n m true e = or_left (nat_eq k n.number) _ e
       by n m false e = or_right (nat_eq k n.number) _
-          (still_in n.number e old (in_world world names name it task called)
+          (still_in n.number e old (in_world it task called)
           (among-from_filter (λ (s : Namespace ℕ). list_any (λ (t : Task ℕ). nat_eq s.number t.namespace) old)
           world.namespaces n m).1)
 
@@ -160,11 +167,13 @@ module _ (world : World ℕ) (names : List TaskName) (name : TaskName) (it : IsC
 
   parts : part_of nat_eq (numbers_raised nat_eq world name [] (settled nat_eq v)) set
       ≡ part_of nat_eq (numbers_raised nat_eq part name [] (settled nat_eq v_part)) set
-  parts = detached_parts world names it.is it.sealed_off set gone own_go lasts rest rest_too world.change part.change
-      (same_left world names name it task called)
-      (less_of_fewer world names it.is set rest (new_old world names name it task called))
-      (others_left world names name it task called) (all_left world names name it task called) mounts_stay flag kept
-      kept_there name
+  parts = detached_parts ends (record {
+    others = others_left it task called;
+    all = all_left it task called;
+    still = mounts_stay;
+    kept = kept;
+    kept_there = kept_there;
+  }) name
 
   abbrev left_one : World ℕ
   left_one = numbers_raised nat_eq world name [] (settled nat_eq v)
@@ -174,16 +183,16 @@ module _ (world : World ℕ) (names : List TaskName) (name : TaskName) (it : IsC
 
   first : (fresh : Fresh ℕ) → policy nat_eq fresh world name Exit ≡ granted Done left_one
   first fresh = ap (ran name Exit world fresh) called
-      ∙ ap (λ n. granted Done (numbers_raised nat_eq world name [] (settled nat_eq (namespaces_ended nat_eq
-      (record world { tasks = filter (λ (t : Task ℕ). not (same_name n t.name)) world.tasks })))))
-      (sym (its_name world names name it task called))
+      ∙ ap (λ n. granted Done (numbers_raised nat_eq world name []
+      (settled nat_eq (namespaces_ended nat_eq (record world
+      { tasks = filter (λ (t : Task ℕ). not (same_name n t.name)) world.tasks }))))) (sym (its_name it task called))
       ∙ ap (λ w. granted Done (numbers_raised nat_eq world name [] (settled nat_eq w))) world_ends
 
   second : (other : Fresh ℕ) → policy nat_eq other part name Exit ≡ granted Done left_too
   second other = ap (ran name Exit part other) (same_caller world names it.is it.sealed_off name it.theirs ∙ called)
-      ∙ ap (λ n. granted Done (numbers_raised nat_eq part name [] (settled nat_eq (namespaces_ended nat_eq
-      (record part { tasks = filter (λ (t : Task ℕ). not (same_name n t.name)) part.tasks })))))
-      (sym (its_name world names name it task called))
+      ∙ ap (λ n. granted Done (numbers_raised nat_eq part name []
+      (settled nat_eq (namespaces_ended nat_eq (record part
+      { tasks = filter (λ (t : Task ℕ). not (same_name n t.name)) part.tasks }))))) (sym (its_name it task called))
       ∙ ap (λ w. granted Done (numbers_raised nat_eq part name [] (settled nat_eq w))) part_ends
 
   pub last_exit_alike : (fresh other : Fresh ℕ) → EndsAlike world names name Exit fresh other

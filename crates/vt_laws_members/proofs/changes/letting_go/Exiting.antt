@@ -26,7 +26,7 @@ pub none_ends : (b : World ℕ) → MountsAreListed b → list_all (has_tasks na
     → list_any (lost_a_group nat_eq b) b.mounts ≡ false → namespaces_ended nat_eq b ≡ b
 none_ends b listed all none = cc (no_namespace_ends b listed all)
 
-module _ (world : World ℕ) (names : List TaskName) (name : TaskName) (it : IsCallOfTheirs world names name Exit)
+module _ {world : World ℕ} {names : List TaskName} {name : TaskName} (it : IsCallOfTheirs world names name Exit)
     (task : Task ℕ) (called : task_called world name ≡ Some task) where
   abbrev its_part : World ℕ
   its_part = part_of nat_eq world names
@@ -35,7 +35,7 @@ module _ (world : World ℕ) (names : List TaskName) (name : TaskName) (it : IsC
   its_old = members world names
 
   abbrev its_rest : List (Task ℕ)
-  its_rest = tasks_too world names name it task called
+  its_rest = tasks_too it task called
 
   apart : IsApart world names
   apart = apart_if_sealed world names it.is it.sealed_off
@@ -68,7 +68,7 @@ module _ (world : World ℕ) (names : List TaskName) (name : TaskName) (it : IsC
       placed : (y : Mount ℕ) → Among y its_part.mounts → (g : ℕ) → source_of y.propagation ≡ Some g → (o : Option ℕ)
           → y.namespace ≡ o → Among y world.mounts × (is_own world names its_old y ≡ true)
       placed y m g e None f = absurd (source_placed y.propagation g e (private_in_part world names it.is y m f))
-      placed y m g e (Some n) f = own_part world names name it task called y m n f
+      placed y m g e (Some n) f = own_part it task called y m n f
 
       by : (y : Mount ℕ) → Among y its_part.mounts → (o : Option ℕ) → source_of y.propagation ≡ o
           → (is_lost_group nat_eq its_part o || is_lost_group nat_eq its_part (then_some o its_part.master)) ≡ false
@@ -84,7 +84,7 @@ module _ (world : World ℕ) (names : List TaskName) (name : TaskName) (it : IsC
           ap (λ b. not b || is_lost_group nat_eq its_part (its_part.master g)) (heard_there g heard lives)
           ∙ above g heard lives (list_any (is_member_of nat_eq g) (own_mounts nat_eq world names)) (world.master g) refl
 
-module _ (world : World ℕ) (names : List TaskName) (name : TaskName) (it : IsCallOfTheirs world names name Exit)
+module _ {world : World ℕ} {names : List TaskName} {name : TaskName} (it : IsCallOfTheirs world names name Exit)
     (task : Task ℕ) (called : task_called world name ≡ Some task) (other : Task ℕ) (there : Among other world.tasks)
     (together : other.namespace ≡ task.namespace) (differ : same_name name other.name ≡ false) where
   abbrev part : World ℕ
@@ -100,10 +100,10 @@ module _ (world : World ℕ) (names : List TaskName) (name : TaskName) (it : IsC
   stays t = not (same_name name t.name)
 
   abbrev rest : List (Task ℕ)
-  rest = tasks world names name it task called
+  rest = tasks it task called
 
   abbrev rest_too : List (Task ℕ)
-  rest_too = tasks_too world names name it task called
+  rest_too = tasks_too it task called
 
   abbrev new : List (Task ℕ)
   new = filter (is_member_task set) rest
@@ -115,8 +115,8 @@ module _ (world : World ℕ) (names : List TaskName) (name : TaskName) (it : IsC
       by : (b : Bool) → is_member_task names other ≡ b → b ≡ true
       by true e = refl
       by false e = absurd (true≢false (sym (any_from_among (λ (t : Task ℕ). nat_eq other.namespace t.namespace) old task
-          (member world names name it task called) (eq-eqb other.namespace task.namespace together))
-          ∙ namespace_outside world names (apart world names name it task called) other
+          (member it task called) (eq-eqb other.namespace task.namespace together))
+          ∙ namespace_outside world names (apart it task called) other
           (among-filter (λ t. not (is_member_task names t)) world.tasks other there (ap not e))))
 
   other_stays : stays other ≡ true
@@ -136,22 +136,21 @@ module _ (world : World ℕ) (names : List TaskName) (name : TaskName) (it : IsC
     own = λ n. same_truth (list_any (λ (t : Task ℕ). nat_eq n t.namespace) new)
         (list_any (λ (t : Task ℕ). nat_eq n t.namespace) old)
         (λ h. let at = any_among (λ (t : Task ℕ). nat_eq n t.namespace) new h in
-        any_from_among (λ (t : Task ℕ). nat_eq n t.namespace) old at.0
-        (new_old world names name it task called at.0 at.1) at.2)
+        any_from_among (λ (t : Task ℕ). nat_eq n t.namespace) old at.0 (new_old it task called at.0 at.1) at.2)
         (λ h. let at = any_among (λ (t : Task ℕ). nat_eq n t.namespace) (filter stays old)
         (entered n old (λ t m. (among-from_filter (is_member_task names) world.tasks t m).0) in_old h) in
         any_from_among (λ (t : Task ℕ). nat_eq n t.namespace) new at.0
-        (old_new world names name it task called at.0 at.1) at.2);
+        (old_new it task called at.0 at.1) at.2);
     roots = λ l m.
         let from = among-from_flat_map (λ (t : Task ℕ). t.root ∷ t.directory ∷ []) new l m in
-        let t = new_old world names name it task called from.0 from.1 in
+        let t = new_old it task called from.0 from.1 in
+        ⊎_elim (λ e. subst (λ (k : Location ℕ). IsTheirs world names it.is.mounts k.mount) (sym e)
+        (root_theirs world names it.is from.0 t)) (λ rest.
         ⊎_elim (λ e. subst (λ (k : Location ℕ). IsTheirs world names it.is.mounts k.mount)
-        (sym e) (root_theirs world names it.is from.0 t)) (λ rest. ⊎_elim
-        (λ e. subst (λ (k : Location ℕ). IsTheirs world names it.is.mounts k.mount)
         (sym e) (directory_theirs world names it.is from.0 t)) (λ none. absurd none) rest) from.2;
     places = λ l m. let from = among-from_flat_map locations_of new l m in
-        inl (among-flat_map locations_of old from.0 l (new_old world names name it task called from.0 from.1) from.2);
-    others = others_left world names name it task called;
+        inl (among-flat_map locations_of old from.0 l (new_old it task called from.0 from.1) from.2);
+    others = others_left it task called;
   }
 
   -- No namespace ends
@@ -163,23 +162,23 @@ module _ (world : World ℕ) (names : List TaskName) (name : TaskName) (it : IsC
       (none_lost world it.is.mounts)
 
   part_stays : namespaces_ended nat_eq (record part { tasks = rest_too }) ≡ record part { tasks = rest_too }
-  part_stays = none_ends (record part { tasks = rest_too }) (part_listed world names name it task called)
+  part_stays = none_ends (record part { tasks = rest_too }) (part_listed it task called)
       (list_all_from_among (has_tasks nat_eq (record part { tasks = rest_too })) part.namespaces
       (λ n m. entered n.number old (λ t k. (among-from_filter (is_member_task names) world.tasks t k).0) in_old
       (among-from_filter (λ (s : Namespace ℕ). list_any (λ (t : Task ℕ). nat_eq s.number t.namespace) old)
-      world.namespaces n m).1)) (part_keeps world names name it task called)
+      world.namespaces n m).1)) (part_keeps it task called)
 
   pub exit_alike : (fresh supply : Fresh ℕ) → EndsAlike world names name Exit fresh supply
   exit_alike fresh supply = let_go_alike world names set name Exit it task called fresh supply Done refl rest rest_too
-      (ap (λ n. granted Done (numbers_raised nat_eq world name [] (settled nat_eq (namespaces_ended nat_eq
-      (record world { tasks = filter (λ (t : Task ℕ). not (same_name n t.name)) world.tasks })))))
-      (sym (its_name world names name it task called))
+      (ap (λ n. granted Done (numbers_raised nat_eq world name []
+      (settled nat_eq (namespaces_ended nat_eq (record world
+      { tasks = filter (λ (t : Task ℕ). not (same_name n t.name)) world.tasks }))))) (sym (its_name it task called))
       ∙ ap (λ w. granted Done (numbers_raised nat_eq world name [] (settled nat_eq w))) world_stays)
-      (ap (λ n. granted Done (numbers_raised nat_eq part name [] (settled nat_eq (namespaces_ended nat_eq
-      (record part { tasks = filter (λ (t : Task ℕ). not (same_name n t.name)) part.tasks })))))
-      (sym (its_name world names name it task called))
-      ∙ ap (λ w. granted Done (numbers_raised nat_eq part name [] (settled nat_eq w))) part_stays)
-      lets_go (same_left world names name it task called) (all_left world names name it task called)
+      (ap (λ n. granted Done (numbers_raised nat_eq part name []
+      (settled nat_eq (namespaces_ended nat_eq (record part
+      { tasks = filter (λ (t : Task ℕ). not (same_name n t.name)) part.tasks }))))) (sym (its_name it task called))
+      ∙ ap (λ w. granted Done (numbers_raised nat_eq part name [] (settled nat_eq w))) part_stays) lets_go
+      (same_left it task called) (all_left it task called)
 
 pub exits_end_alike : ExitsEndAlike
 exits_end_alike world names name it fresh supply = by (task_called world name) refl
@@ -192,11 +191,11 @@ exits_end_alike world names name it fresh supply = by (task_called world name) r
         let other = any_among (λ (t : Task ℕ). nat_eq task.namespace t.namespace)
         (filter (λ (t : Task ℕ). not (same_name name t.name)) world.tasks) h in
         let from = among-from_filter (λ (t : Task ℕ). not (same_name name t.name)) world.tasks other.0 other.1 in
-        exit_alike world names name it task e other.0 from.0 (sym (eqb-true task.namespace other.0.namespace other.2))
+        exit_alike it task e other.0 from.0 (sym (eqb-true task.namespace other.0.namespace other.2))
         (not-true (same_name name other.0.name) from.1) fresh supply
-    last_or_not task e false h = last_exit_alike world names name it task e h fresh supply
+    last_or_not task e false h = last_exit_alike it task e h fresh supply
 
     by : (o : Option (Task ℕ)) → task_called world name ≡ o → EndsAlike world names name Exit fresh supply
-    by None e = unnamed_ends_alike world names name Exit it fresh supply e
+    by None e = unnamed_ends_alike it fresh supply e
     by (Some task) e = last_or_not task e (list_any (λ (t : Task ℕ). nat_eq task.namespace t.namespace)
         (filter (λ (t : Task ℕ). not (same_name name t.name)) world.tasks)) refl

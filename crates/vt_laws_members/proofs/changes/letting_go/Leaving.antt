@@ -25,7 +25,7 @@ filter_mid {A} p q r (x ∷ xs) less = by (r x) refl (q x) (filter_mid p q r xs 
         ≡ filter p (cond (q x) (x ∷ filter q xs) (filter q xs))
     by b e c later = grind (arith, common_steps, skip)
 
-module _ (world : World ℕ) (names : List TaskName) (name : TaskName) (it : IsCallOfTheirs world names name Exit)
+module _ {world : World ℕ} {names : List TaskName} {name : TaskName} (it : IsCallOfTheirs world names name Exit)
     (task : Task ℕ) (called : task_called world name ≡ Some task) where
   abbrev part : World ℕ
   part = part_of nat_eq world names

@@ -13,7 +13,7 @@ use Rattle.vt_laws_members.specs.Changes.Changes.{EndsAlike}
 use Rattle.vt_laws_members.specs.Changes.LettingGo.{ChdirsEndAlike, ChrootsEndAlike, ClosesEndAlike}
 use Rattle.vt_laws_members.proofs.changes.looks.Granted.{of_rules, of_walk}
 use Rattle.vt_laws_members.proofs.changes.looks.Told.{member_called, ran}
-use Rattle.vt_laws_members.proofs.changes.tasks.Denied.{denial_ends_alike, run_by, same_judgement, unnamed_ends_alike}
+use Rattle.vt_laws_members.proofs.changes.tasks.Denied.{denial_ends_alike, ran_there, run_by, unnamed_ends_alike}
 use Rattle.vt_laws_members.proofs.changes.letting_go.Callers.{moved_alike, spaces_kept}
 
 -- The permit of close(2)
@@ -83,8 +83,10 @@ closes_end_alike world names name number it fresh other = by (task_called world 
         → EndsAlike world names name (Close number) fresh other
     granted_so task e judged =
         let member = member_called world names it.is it.sealed_off name it.theirs task e in
-        moved_alike world names name (Close number) it task e
-        (record task { descriptors = filter (λ (d : Descriptor ℕ). not (number == d.number)) task.descriptors })
+        moved_alike it task e (record task {
+          descriptors = filter (λ (d : Descriptor ℕ). not (number == d.number))
+              task.descriptors;
+        })
         (record {
           named = refl;
           root = root_theirs world names it.is task member;
@@ -96,22 +98,20 @@ closes_end_alike world names name number it fresh other = by (task_called world 
               (sym d.2) (among-map (λ (d : Descriptor ℕ). d.location) task.descriptors d.0
               (among-from_filter (λ (d : Descriptor ℕ). not
               (number == d.number)) task.descriptors d.0 d.1).0))) rest)) m);
-        }) fresh other refl (spaces_kept world names name (Close number) it task e
+        }) fresh other refl (spaces_kept it task e
         (record task { descriptors = filter (λ (d : Descriptor ℕ). not (number == d.number)) task.descriptors }) refl
-        refl) (ap (run_by world names name (Close number) it fresh other world fresh task) judged)
-        (ap (run_by world names name (Close number) it fresh other part other task)
-        (sym (same_judgement world names name (Close number) it fresh other task e) ∙ judged))
+        refl) (ap (run_by it world fresh task) judged) (ran_there it fresh other task e judged)
 
     judged_by : (task : Task ℕ) → task_called world name ≡ Some task → (j : Judgement ℕ)
         → judge_in nat_eq fresh world task (Close number) ≡ j → IfOk j (Closes number)
         → EndsAlike world names name (Close number) fresh other
     judged_by task e (Ok permit) judged its = granted_so task e (judged ∙ ap Ok its)
-    judged_by task e (Err deny) judged its = denial_ends_alike world names name (Close number) it fresh other
+    judged_by task e (Err deny) judged its = denial_ends_alike it fresh other
         (ap (λ o. is_ok (ran name (Close number) world fresh o).answer) e
-        ∙ ap (λ j. is_ok (run_by world names name (Close number) it fresh other world fresh task j).answer) judged)
+        ∙ ap (λ j. is_ok (run_by it world fresh task j).answer) judged)
 
     by : (o : Option (Task ℕ)) → task_called world name ≡ o → EndsAlike world names name (Close number) fresh other
-    by None e = unnamed_ends_alike world names name (Close number) it fresh other e
+    by None e = unnamed_ends_alike it fresh other e
     by (Some task) e = judged_by task e (judge_in nat_eq fresh world task (Close number)) refl (closes task number)
 
 pub chdirs_end_alike : ChdirsEndAlike
@@ -125,18 +125,16 @@ chdirs_end_alike world names name path it fresh other = by (task_called world na
         → judge_in nat_eq fresh world task (Chdir path) ≡ Ok (ToSetDirectory l)
         → EndsAlike world names name (Chdir path) fresh other
     granted_so task member e l on judged =
-        moved_alike world names name (Chdir path) it task e (record task { directory = l }) (record {
+        moved_alike it task e (record task { directory = l }) (record {
           named = refl;
           root = root_theirs world names it.is task member;
           directory = on;
           places = λ k m. ⊎_elim (λ root. inl (inl root)) (λ rest. ⊎_elim
               (λ here. inr (subst (λ (q : Location ℕ). IsTheirs world names it.is.mounts q.mount) (sym here) on))
               (λ open_file. inl (inr (inr open_file))) rest) m;
-        }) fresh other refl (spaces_kept world names name (Chdir path) it task e
-        (record task { directory = l }) refl refl)
-        (ap (run_by world names name (Chdir path) it fresh other world fresh task) judged)
-        (ap (run_by world names name (Chdir path) it fresh other part other task)
-        (sym (same_judgement world names name (Chdir path) it fresh other task e) ∙ judged))
+        }) fresh other refl (spaces_kept it task e
+        (record task { directory = l }) refl refl) (ap (run_by it world fresh task) judged)
+        (ran_there it fresh other task e judged)
 
     judged_by : (task : Task ℕ) (member : Among task (members world names)) → task_called world name ≡ Some task
         → (j : Judgement ℕ) → judge_in nat_eq fresh world task (Chdir path) ≡ j
@@ -144,12 +142,12 @@ chdirs_end_alike world names name path it fresh other = by (task_called world na
         → EndsAlike world names name (Chdir path) fresh other
     judged_by task member e (Ok permit) judged its =
         granted_so task member e its.0 (theirs_from world names it.is.mounts its.0.mount its.2) (judged ∙ ap Ok its.1)
-    judged_by task member e (Err deny) judged its = denial_ends_alike world names name (Chdir path) it fresh other
+    judged_by task member e (Err deny) judged its = denial_ends_alike it fresh other
         (ap (λ o. is_ok (ran name (Chdir path) world fresh o).answer) e
-        ∙ ap (λ j. is_ok (run_by world names name (Chdir path) it fresh other world fresh task j).answer) judged)
+        ∙ ap (λ j. is_ok (run_by it world fresh task j).answer) judged)
 
     by : (o : Option (Task ℕ)) → task_called world name ≡ o → EndsAlike world names name (Chdir path) fresh other
-    by None e = unnamed_ends_alike world names name (Chdir path) it fresh other e
+    by None e = unnamed_ends_alike it fresh other e
     by (Some task) e =
         let member = member_called world names it.is it.sealed_off name it.theirs task e in
         judged_by task member e (judge_in nat_eq fresh world task (Chdir path)) refl
@@ -166,17 +164,15 @@ chroots_end_alike world names name path it fresh other = by (task_called world n
         → judge_in nat_eq fresh world task (Chroot path) ≡ Ok (ToSetRoot l)
         → EndsAlike world names name (Chroot path) fresh other
     granted_so task member e l on judged =
-        moved_alike world names name (Chroot path) it task e (record task { root = l }) (record {
+        moved_alike it task e (record task { root = l }) (record {
           named = refl;
           root = on;
           directory = directory_theirs world names it.is task member;
           places = λ k m. ⊎_elim
               (λ here. inr (subst (λ (q : Location ℕ). IsTheirs world names it.is.mounts q.mount) (sym here) on))
               (λ rest. inl (inr rest)) m;
-        }) fresh other refl (spaces_kept world names name (Chroot path) it task e (record task { root = l }) refl refl)
-        (ap (run_by world names name (Chroot path) it fresh other world fresh task) judged)
-        (ap (run_by world names name (Chroot path) it fresh other part other task)
-        (sym (same_judgement world names name (Chroot path) it fresh other task e) ∙ judged))
+        }) fresh other refl (spaces_kept it task e (record task { root = l }) refl refl)
+        (ap (run_by it world fresh task) judged) (ran_there it fresh other task e judged)
 
     judged_by : (task : Task ℕ) (member : Among task (members world names)) → task_called world name ≡ Some task
         → (j : Judgement ℕ) → judge_in nat_eq fresh world task (Chroot path) ≡ j
@@ -184,12 +180,12 @@ chroots_end_alike world names name path it fresh other = by (task_called world n
         → EndsAlike world names name (Chroot path) fresh other
     judged_by task member e (Ok permit) judged its =
         granted_so task member e its.0 (theirs_from world names it.is.mounts its.0.mount its.2) (judged ∙ ap Ok its.1)
-    judged_by task member e (Err deny) judged its = denial_ends_alike world names name (Chroot path) it fresh other
+    judged_by task member e (Err deny) judged its = denial_ends_alike it fresh other
         (ap (λ o. is_ok (ran name (Chroot path) world fresh o).answer) e
-        ∙ ap (λ j. is_ok (run_by world names name (Chroot path) it fresh other world fresh task j).answer) judged)
+        ∙ ap (λ j. is_ok (run_by it world fresh task j).answer) judged)
 
     by : (o : Option (Task ℕ)) → task_called world name ≡ o → EndsAlike world names name (Chroot path) fresh other
-    by None e = unnamed_ends_alike world names name (Chroot path) it fresh other e
+    by None e = unnamed_ends_alike it fresh other e
     by (Some task) e =
         let member = member_called world names it.is it.sealed_off name it.theirs task e in
         judged_by task member e (judge_in nat_eq fresh world task (Chroot path)) refl

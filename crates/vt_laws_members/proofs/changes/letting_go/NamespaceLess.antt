@@ -1,6 +1,6 @@
 -- Where mounts of theirs are detached, and tasks and namespaces end, the tasks that are left see less.
 use Rattle.std.proofs.Common.{arith, ◌≡◌, refl, sym, ap, subst, ◌∙◌, ◌⊎◌, inl, inr, ⊎_elim, ℕ, nat_eq, Bool, true, false, cond, true≢false, List, [], ◌∷◌, Option, Some, None, filter, is_some, map, not, ◌||◌, ◌&&◌, eq-eqb, eqb-true, option_map, filter_map}
-use Rattle.vt_spec.proofs.Common.{Among, IsWorld, Location, Mount, Namespace, Task, TaskName, World, after_going, among-append, among-append_left, among-append_right, among-filter, among-flat_map, among-from_filter, among-from_flat_map, among-from_map, among-map, among_from_list_all, and_parts, any_among, any_from_among, common_steps, detached, holds_of, is_at, is_going, is_member_of, is_member_task, is_nowhere_or_attached, is_own_mount, is_private, list_any, locations, locations_of, members, mount_at, mount_numbered, mount_point_left, or_cases, or_left, or_right, own_mounts, pair-map, part_of, roots_and_directories, sealed, seen_by_descriptor, then_some, used_directly, when}
+use Rattle.vt_spec.proofs.Common.{Among, IsWorld, Location, Mount, MountInvariants, Namespace, Task, TaskName, World, after_going, among-append, among-append_left, among-append_right, among-filter, among-flat_map, among-from_filter, among-from_flat_map, among-from_map, among-map, among_from_list_all, and_parts, any_among, any_from_among, common_steps, detached, holds_of, is_at, is_going, is_member_of, is_member_task, is_nowhere_or_attached, is_own_mount, is_private, list_any, locations, locations_of, members, mount_at, mount_numbered, mount_point_left, or_cases, or_left, or_right, outsiders, own_mounts, pair-map, part_of, roots_and_directories, seen_by_descriptor, then_some, used_directly, when}
 use Rattle.vt_laws_mounts.proofs.GroupsUp.{source_from_group}
 use Rattle.vt_laws_sealed.proofs.part.part.MountsOver.{numbered}
 use Rattle.vt_laws_mounts.specs.Mounts.Invariants.{OneNumberEach}
@@ -15,7 +15,7 @@ use Rattle.vt_laws_members.proofs.changes.letting_go.Changed.{mount_under}
 use Rattle.vt_laws_members.proofs.changes.letting_go.Heard.{heard_by_own}
 use Rattle.vt_laws_members.proofs.changes.letting_go.Leaving.{filter_mid}
 use Rattle.vt_laws_members.proofs.changes.letting_go.LessSeen.{AreLess, filter_map_then}
-use Rattle.vt_laws_members.proofs.changes.letting_go.Regrouped.{left, left_part, master_after, master_alike, mount_alike, regrouped_mount}
+use Rattle.vt_laws_members.proofs.changes.letting_go.Regrouped.{TheirsGo, left_by, master_after, master_alike, mount_alike, regrouped_mount}
 
 -- what a mount keeps
 pub record KeepsShape (m y : Mount ℕ) : Type 0 where
@@ -122,12 +122,20 @@ module _ (world : World ℕ) (names : List TaskName) (is : IsWorld nat_eq world)
       → (is_own world names old_ones m || is_at nat_eq (roots_and_directories old_ones) m) ≡ true
   ground_whole m ground = grind (arith, common_steps, or_left, is_own, or_right)
 
-module _ (world : World ℕ) (names : List TaskName) (is : IsWorld nat_eq world)
-    (sealed_off : sealed nat_eq world names ≡ true) (set : List TaskName) (gone : List ℕ)
-    (own_go : (m : Mount ℕ) → Among m world.mounts → is_going nat_eq gone m.number ≡ true
-    → is_own world names (members world names) m ≡ true) (lasts : ℕ → Bool) (tasks tasks_too : List (Task ℕ))
-    (change change_too : ℕ) (same : filter (is_member_task set) tasks_too ≡ filter (is_member_task set) tasks)
-    (fewer : SetIsLess world names is set tasks) (b : Bool) where
+-- Mounts of theirs go, and these tasks and namespaces are left, in the world and in the part.
+pub record Detaches (world : World ℕ) (names set : List TaskName) (gone : List ℕ) : Type 0 where
+  pub go : TheirsGo world names gone
+  pub open go use *
+  pub lasts : ℕ → Bool
+  pub tasks : List (Task ℕ)
+  pub tasks_too : List (Task ℕ)
+  pub change : ℕ
+  pub change_too : ℕ
+  pub same : filter (is_member_task set) tasks_too ≡ filter (is_member_task set) tasks
+  pub fewer : SetIsLess world names is set tasks
+  pub regroups : Bool
+
+module _ {world : World ℕ} {names set : List TaskName} {gone : List ℕ} (it : Detaches world names set gone) where
   abbrev part : World ℕ
   part = part_of nat_eq world names
 
@@ -135,39 +143,39 @@ module _ (world : World ℕ) (names : List TaskName) (is : IsWorld nat_eq world)
   old = members world names
 
   abbrev new : List (Task ℕ)
-  new = filter (is_member_task set) tasks
+  new = filter (is_member_task set) it.tasks
 
   abbrev t_world : World ℕ
-  t_world = left world names is sealed_off gone own_go
+  t_world = left_by world gone
 
   abbrev t_part : World ℕ
-  t_part = left_part world names is sealed_off gone own_go
+  t_part = left_by part gone
 
   abbrev after : Mount ℕ → Mount ℕ
-  after = ended_mount b t_world world gone
+  after = ended_mount it.regroups t_world world gone
 
   abbrev after_part : Mount ℕ → Mount ℕ
-  after_part = ended_mount b t_part part gone
+  after_part = ended_mount it.regroups t_part part gone
 
   abbrev stays : Namespace ℕ → Bool
-  stays n = lasts n.number
+  stays n = it.lasts n.number
 
   abbrev pub ended : World ℕ
   ended = record world {
     mounts = map after world.mounts;
-    master = master_after b t_world;
+    master = master_after it.regroups t_world;
     namespaces = filter stays world.namespaces;
-    tasks = tasks;
-    change = change;
+    tasks = it.tasks;
+    change = it.change;
   }
 
   abbrev pub ended_part : World ℕ
   ended_part = record part {
     mounts = map after_part part.mounts;
-    master = master_after b t_part;
+    master = master_after it.regroups t_part;
     namespaces = filter stays part.namespaces;
-    tasks = tasks_too;
-    change = change_too;
+    tasks = it.tasks_too;
+    change = it.change_too;
   }
 
   abbrev owns : List (Task ℕ) → Mount ℕ → Bool
@@ -182,7 +190,7 @@ module _ (world : World ℕ) (names : List TaskName) (is : IsWorld nat_eq world)
   -- less than before
   pub entered_was : (n : ℕ) → list_any (λ (t : Task ℕ). nat_eq n t.namespace) new ≡ true
       → list_any (λ (t : Task ℕ). nat_eq n t.namespace) old ≡ true
-  entered_was = fewer.entered
+  entered_was = it.fewer.entered
 
   own_was : (m : Mount ℕ) → owns new m ≡ true → owns old m ≡ true
   own_was m = by m.namespace
@@ -197,29 +205,29 @@ module _ (world : World ℕ) (names : List TaskName) (is : IsWorld nat_eq world)
   own_before m h = grind (arith, common_steps, true≢false, own_was, placed_so)
 
   pub root_ground : (l : Location ℕ) → Among l (roots_and_directories new) → (m : Mount ℕ) → Among m world.mounts
-      → l.mount ≡ m.number → IsGround world names is.mounts m
-  root_ground l at m n e = ground_at world names is l (fewer.roots l at) m n e
+      → l.mount ≡ m.number → IsGround world names it.is.mounts m
+  root_ground l at m n e = ground_at world names it.is l (it.fewer.roots l at) m n e
 
   stands_was : (m : Mount ℕ) → Among m world.mounts → stands new m ≡ true → (owns old m || stands old m) ≡ true
   stands_was m n h =
       let l = any_among (λ (l : Location ℕ). nat_eq l.mount m.number) (roots_and_directories new) h in
-      ground_whole world names is m (root_ground l.0 l.1 m n (eqb-true l.0.mount m.number l.2))
+      ground_whole world names it.is m (root_ground l.0 l.1 m n (eqb-true l.0.mount m.number l.2))
 
   at_was : (m : Mount ℕ) → Among m world.mounts → at new m ≡ true
       → ((owns old m || stands old m) ≡ true) ⊎ (at old m ≡ true)
   at_was m n h =
       let l = any_among (λ (l : Location ℕ). nat_eq l.mount m.number) (locations new) h in
-      ⊎_elim (λ before. inr (any_from_among (λ (l : Location ℕ). nat_eq l.mount m.number)
-      (locations old) l.0 before l.2)) (λ on. inl (ground_whole world names is m
-      (ground_at world names is l.0 on m n (eqb-true l.0.mount m.number l.2)))) (fewer.places l.0 l.1)
+      ⊎_elim (λ before. inr (any_from_among (λ (l : Location ℕ). nat_eq l.mount m.number) (locations old) l.0 before
+      l.2)) (λ on. inl (ground_whole world names it.is m
+      (ground_at world names it.is l.0 on m n (eqb-true l.0.mount m.number l.2)))) (it.fewer.places l.0 l.1)
 
   -- a mount that is whole in the part is after alike
   whole_alike : (m : Mount ℕ) → Among m world.mounts → (o : Option ℕ) → m.namespace ≡ o
       → (owns old m || stands old m) ≡ true → (owns old m ≡ true)
       ⊎ ((is_private m.propagation ≡ true) × (m.mount_point ≡ None)) → after_part m ≡ after m
-  whole_alike m n o e whole (inl own) = mount_alike world names is sealed_off gone own_go b m
+  whole_alike m n o e whole (inl own) = mount_alike it.go it.regroups m
       (among-filter (is_own_mount nat_eq world names) world.mounts m n own)
-  whole_alike m n o e whole (inr alone) = private_alike b t_part t_world part world gone m alone.0 alone.1
+  whole_alike m n o e whole (inr alone) = private_alike it.regroups t_part t_world part world gone m alone.0 alone.1
 
   -- what is kept of a mount that is no more than shown to a descriptor
   abbrev kept_as : Bool → Bool → Mount ℕ → Option (Mount ℕ)
@@ -232,20 +240,21 @@ module _ (world : World ℕ) (names : List TaskName) (is : IsWorld nat_eq world)
       by : (p : Bool) → owns new (after m) ≡ p → (q : Bool) → stands new (after m) ≡ q
           → (owns new (after m) || stands new (after m)) ≡ false
       by true f q g = absurd (true≢false (sym (or_left (owns old m) (stands old m) (own_before m f).1) ∙ e))
-      by false f true g = absurd (true≢false (sym
-          (stands_was m n (ap (λ i. list_any (λ (l : Location ℕ). nat_eq l.mount i) (roots_and_directories new))
-          (sym (shape_kept b t_world world gone m).number) ∙ g)) ∙ e))
+      by false f true g = absurd (true≢false (sym (stands_was m n
+          (ap (λ i. list_any (λ (l : Location ℕ). nat_eq l.mount i) (roots_and_directories new))
+          (sym (shape_kept it.regroups t_world world gone m).number) ∙ g)) ∙ e))
       by false f false g = ap (λ c. c || stands new (after m)) f ∙ g
 
   stub_kept : (m : Mount ℕ) → Among m world.mounts → (owns old m || stands old m) ≡ false
       → keep world names new (after m) ≡ when (at new m) (seen_by_descriptor m)
   stub_kept m n e = ap (λ c. kept_as c (at new (after m)) (after m)) (less_whole m n e)
       ∙ ap (λ i. when (list_any (λ (l : Location ℕ). nat_eq l.mount i) (locations new)) (seen_by_descriptor (after m)))
-      (shape_kept b t_world world gone m).number ∙ ap (when (at new m)) (shape_kept b t_world world gone m).stub
+      (shape_kept it.regroups t_world world gone m).number
+      ∙ ap (when (at new m)) (shape_kept it.regroups t_world world gone m).stub
 
   stub_whole : (m : Mount ℕ) → Among m world.mounts → (owns old m || stands old m) ≡ false
       → keep world names new (after_part (seen_by_descriptor m)) ≡ when (at new m) (seen_by_descriptor m)
-  stub_whole m n e = ap (keep world names new) (stub_stays b t_part part gone m) ∙ by (stands new m) refl
+  stub_whole m n e = ap (keep world names new) (stub_stays it.regroups t_part part gone m) ∙ by (stands new m) refl
     where
       by : (q : Bool) → stands new m ≡ q
           → cond (stands new m) (Some (seen_by_descriptor m)) (when (at new m) (seen_by_descriptor m))
@@ -265,8 +274,8 @@ module _ (world : World ℕ) (names : List TaskName) (is : IsWorld nat_eq world)
       by stood = ⊎_elim inl (λ none.
           let parts = and_parts (not (is_some m.mount_point)) (is_private m.propagation)
           (sym (ap (λ o. is_some o || (not (is_some m.mount_point) && is_private m.propagation)) none)
-          ∙ among_from_list_all is_nowhere_or_attached world.mounts is.mounts.nowhere m n) in
-          inr (parts.1, no_point m.mount_point parts.0)) (stands_on world names is m n stood)
+          ∙ among_from_list_all is_nowhere_or_attached world.mounts it.is.mounts.nowhere m n) in
+          inr (parts.1, no_point m.mount_point parts.0)) (stands_on world names it.is m n stood)
 
   kept_then : (m : Mount ℕ) → Among m world.mounts
       → then_some (keep world names old m) (λ y. keep world names new (after_part y)) ≡ keep world names new (after m)
@@ -303,15 +312,15 @@ module _ (world : World ℕ) (names : List TaskName) (is : IsWorld nat_eq world)
       → (mount_at nat_eq ended l).filesystem ≡ (mount_at nat_eq world l).filesystem
   filesystem_after m n l e = cc (
     shown_after m n l e,
-    (shape_kept b t_world world gone m).filesystem,
-    found_itself world.mounts is.mounts.one_number m n,
+    (shape_kept it.regroups t_world world gone m).filesystem,
+    found_itself world.mounts it.is.mounts.one_number m n,
   )
 
   pub placed_old : (l : Location ℕ) → Among l (locations old) → (m : Mount ℕ) × Among m world.mounts
       × (l.mount ≡ m.number)
   placed_old l m =
       let t = among-from_flat_map locations_of old l m in
-      mount_under world names is sealed_off l (among-flat_map locations_of world.tasks t.0 l
+      mount_under world names it.is it.sealed_off l (among-flat_map locations_of world.tasks t.0 l
       (among-from_filter (is_member_task names) world.tasks t.0 t.1).0 t.2)
 
   -- a location of the set that is left is on a mount of the part
@@ -326,8 +335,8 @@ module _ (world : World ℕ) (names : List TaskName) (is : IsWorld nat_eq world)
         on.1,
         sym on.2,
         on.0,
-        kept_whole world names old on.0 (ground_whole world names is on.0 on.3),
-      )) (fewer.places l m)
+        kept_whole world names old on.0 (ground_whole world names it.is on.0 on.3),
+      )) (it.fewer.places l m)
 
   abbrev mounted : List ℕ
   mounted = map (λ (m : Mount ℕ). m.filesystem) (own_mounts nat_eq world names)
@@ -342,29 +351,29 @@ module _ (world : World ℕ) (names : List TaskName) (is : IsWorld nat_eq world)
       let from = among-from_map after world.mounts y.0 own.0 in
       let was = own_before from.0 (ap (owns new) (sym from.2) ∙ own.1) in
       among-append_left mounted (map shows (locations old)) n (subst (λ i. Among i mounted)
-      (sym (y.2 ∙ ap (λ (x : Mount ℕ). x.filesystem) from.2 ∙ (shape_kept b t_world world gone from.0).filesystem))
-      (among-map (λ (m : Mount ℕ). m.filesystem) (own_mounts nat_eq world names) from.0
+      (sym (y.2 ∙ ap (λ (x : Mount ℕ). x.filesystem) from.2 ∙ (shape_kept it.regroups t_world world gone
+      from.0).filesystem)) (among-map (λ (m : Mount ℕ). m.filesystem) (own_mounts nat_eq world names) from.0
       (among-filter (is_own_mount nat_eq world names) world.mounts from.0 from.1 was.1))))
-      (λ placed. let l = among-from_map (λ (l : Location ℕ). (mount_at nat_eq ended l).filesystem)
-      (locations new) n placed in
+      (λ placed. let l = among-from_map (λ (l : Location ℕ). (mount_at nat_eq ended l).filesystem) (locations new) n
+      placed in
       let on = place_shown l.0 l.1 in
-      subst (λ i. Among i (used_directly nat_eq world names)) (sym (l.2 ∙ filesystem_after on.0 on.1 l.0 on.2)) (⊎_elim
-      (λ before. among-append_right mounted (map shows (locations old)) (shows l.0)
-      (among-map shows (locations old) l.0 before))
-      (λ theirs. theirs_directly world names is l.0 theirs) (fewer.places l.0 l.1)))
-      (among-append (map (λ (m : Mount ℕ). m.filesystem) (own_mounts nat_eq ended set))
+      subst (λ i. Among i (used_directly nat_eq world names)) (sym (l.2 ∙ filesystem_after on.0 on.1 l.0 on.2))
+      (⊎_elim (λ before. among-append_right mounted (map shows (locations old)) (shows l.0)
+      (among-map shows (locations old) l.0 before)) (λ theirs. theirs_directly world names it.is l.0 theirs)
+      (it.fewer.places l.0 l.1))) (among-append (map (λ (m : Mount ℕ). m.filesystem) (own_mounts nat_eq ended set))
       (map (λ (l : Location ℕ). (mount_at nat_eq ended l).filesystem) (locations new)) n m)
 
   -- groups of mounts that are left are heard
   masters_less : (group : ℕ) → list_any (is_member_of nat_eq group) (own_mounts nat_eq ended set) ≡ true
-      → master_after b t_part group ≡ master_after b t_world group
+      → master_after it.regroups t_part group ≡ master_after it.regroups t_world group
   masters_less group h =
       let y = any_among (is_member_of nat_eq group) (own_mounts nat_eq ended set) h in
       let own = among-from_filter (owns new) (map after world.mounts) y.0 y.1 in
       let from = among-from_map after world.mounts y.0 own.0 in
       let was = own_before from.0 (ap (owns new) (sym from.2) ∙ own.1) in
-      let is_in = member_was b t_world world gone group from.0 (ap (is_member_of nat_eq group) (sym from.2) ∙ y.2) in
-      master_alike world names is sealed_off gone own_go b group (heard_by_own world names is sealed_off from.0
+      let is_in = member_was it.regroups t_world world gone group from.0
+      (ap (is_member_of nat_eq group) (sym from.2) ∙ y.2) in
+      master_alike it.go it.regroups group (heard_by_own world names it.is it.sealed_off from.0
       (among-filter (is_own_mount nat_eq world names) world.mounts from.0 from.1 was.1) group
       (source_from_group from.0.propagation group (member_group group from.0 is_in)))
 
@@ -373,10 +382,20 @@ module _ (world : World ℕ) (names : List TaskName) (is : IsWorld nat_eq world)
 
   pub ended_less : AreLess world names set ended ended_part
   ended_less = record {
-    tasks = same;
-    mounts = ap (λ ts. filter_map (keep world names ts) (map after_part part.mounts)) same ∙ mounts_less;
+    tasks = it.same;
+    mounts = ap (λ ts. filter_map (keep world names ts) (map after_part part.mounts)) it.same ∙ mounts_less;
     masters = masters_less;
-    namespaces = ap (λ ts. filter (spaces ts) (filter stays part.namespaces)) same
+    namespaces = ap (λ ts. filter (spaces ts) (filter stays part.namespaces)) it.same
         ∙ filter_mid (spaces new) stays (spaces old) world.namespaces (λ n h. entered_was n.number h);
     direct = direct_was;
   }
+
+  -- Worlds are left in which no other task is new, and what stays is theirs still.
+  pub record LeavesWorlds : Type 0 where
+    pub others : (l : Location ℕ) → Among l (locations (filter (λ t. not (is_member_task set t)) it.tasks))
+        → Among l (locations (outsiders world names))
+    pub all : (t : Task ℕ) → Among t it.tasks_too → is_member_task set t ≡ true
+    pub still : (m : Mount ℕ) → Among m world.mounts → is_going nat_eq gone m.number ≡ false → owns old m ≡ true
+        → owns new m ≡ true
+    pub kept : MountInvariants nat_eq ended
+    pub kept_there : MountInvariants nat_eq ended_part

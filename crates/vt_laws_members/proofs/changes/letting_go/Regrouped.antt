@@ -42,10 +42,18 @@ one_side p (Some n) h g = true≢false (sym g ∙ ap not h)
 unlost_none : (t : World ℕ) (m : Mount ℕ) → source_of m.propagation ≡ None → lost_a_group nat_eq t m ≡ false
 unlost_none t m e = ap (λ o. is_lost_group nat_eq t o || is_lost_group nat_eq t (then_some o t.master)) e
 
-module _ (world : World ℕ) (names : List TaskName) (is : IsWorld nat_eq world)
-    (sealed_off : sealed nat_eq world names ≡ true) (gone : List ℕ)
-    (own_go : (m : Mount ℕ) → Among m world.mounts → is_going nat_eq gone m.number ≡ true
-    → is_own world names (members world names) m ≡ true) where
+-- mounts of theirs that go from a world where they are sealed
+pub record TheirsGo (world : World ℕ) (names : List TaskName) (gone : List ℕ) : Type 0 where
+  pub is : IsWorld nat_eq world
+  pub sealed_off : sealed nat_eq world names ≡ true
+  pub own_go : (m : Mount ℕ) → Among m world.mounts → is_going nat_eq gone m.number ≡ true
+      → is_own world names (members world names) m ≡ true
+
+-- a world after they went
+abbrev pub left_by : World ℕ → List ℕ → World ℕ
+left_by w gone = record w { mounts = map (after_going nat_eq w gone) w.mounts }
+
+module _ {world : World ℕ} {names : List TaskName} {gone : List ℕ} (go : TheirsGo world names gone) where
   abbrev part : World ℕ
   part = part_of nat_eq world names
 
@@ -62,17 +70,17 @@ module _ (world : World ℕ) (names : List TaskName) (is : IsWorld nat_eq world)
   abbrev cut_there : Mount ℕ → Mount ℕ
   cut_there = after_going nat_eq part gone
 
-  abbrev pub left : World ℕ
-  left = record world { mounts = map cut world.mounts }
+  abbrev left : World ℕ
+  left = left_by world gone
 
-  abbrev pub left_part : World ℕ
-  left_part = record part { mounts = map cut_there part.mounts }
+  abbrev left_part : World ℕ
+  left_part = left_by part gone
 
   abbrev Heard : ℕ → Type 0
-  Heard g = IsHeard world names is sealed_off g
+  Heard g = IsHeard world names go.is go.sealed_off g
 
   abbrev events : shares_no_events nat_eq world names ≡ true
-  events = (apart world names is sealed_off).events
+  events = (apart world names go.is go.sealed_off).events
 
   -- members that stay
   cut_member : (w : World ℕ) (g : ℕ) (m : Mount ℕ) → is_member_of nat_eq g (after_going nat_eq w gone m) ≡ true
@@ -89,14 +97,14 @@ module _ (world : World ℕ) (names : List TaskName) (is : IsWorld nat_eq world)
       let from = among-from_map cut world.mounts at.0 at.1 in
       let its = cut_member world g from.0 (ap (is_member_of nat_eq g) (sym from.2) ∙ at.2) in
       ⊎_elim (λ own. any_from_among (is_member_of nat_eq g) left_part.mounts (cut_there from.0)
-      (among-map cut_there part.mounts from.0 (own_in_part world names is sealed_off from.0 own))
-      (stays_member part g from.0 its.1 its.0))
-      (λ other. absurd (none_hears world names is.mounts events g from.0 heard.0 other its.0))
-      (sides world names is.mounts events from.0 g from.1 (member_group g from.0 its.0)))
+      (among-map cut_there part.mounts from.0 (own_in_part world names go.is go.sealed_off from.0 own))
+      (stays_member part g from.0 its.1 its.0)) (λ other.
+      absurd (none_hears world names go.is.mounts events g from.0 heard.0 other its.0))
+      (sides world names go.is.mounts events from.0 g from.1 (member_group g from.0 its.0)))
       (λ h. let at = any_among (is_member_of nat_eq g) left_part.mounts h in
       let from = among-from_map cut_there part.mounts at.0 at.1 in
       let its = cut_member part g from.0 (ap (is_member_of nat_eq g) (sym from.2) ∙ at.2) in
-      let own = part_source world names is sealed_off from.0 from.1 g
+      let own = part_source world names go.is go.sealed_off from.0 from.1 g
       (source_from_group from.0.propagation g (member_group g from.0 its.0)) in
       any_from_among (is_member_of nat_eq g) left.mounts (cut from.0) (among-map cut world.mounts from.0
       (among-from_filter (is_own_mount nat_eq world names) world.mounts from.0 own).0)
@@ -107,8 +115,8 @@ module _ (world : World ℕ) (names : List TaskName) (is : IsWorld nat_eq world)
   heir_same (Some g) heard = cc (
     length-map world.mounts cut,
     find_alike (has_members nat_eq left.mounts) (has_members nat_eq left_part.mounts) (groups_up world g) (λ x m.
-        has_same x (up_heard world names is sealed_off g x (heard g refl) m)),
-    same_up world names is.mounts events g (heard g refl).0 (heard g refl).1,
+        has_same x (up_heard world names go.is go.sealed_off g x (heard g refl) m)),
+    same_up world names go.is.mounts events g (heard g refl).0 (heard g refl).1,
     length-map part.mounts cut_there,
   )
 
@@ -119,7 +127,7 @@ module _ (world : World ℕ) (names : List TaskName) (is : IsWorld nat_eq world)
       by : (kind : Propagation ℕ) → m.propagation ≡ kind → inherited nat_eq left kind ≡ inherited nat_eq left_part kind
       by (Shared g) e = refl
       by (Slave g) e =
-          cc (heir_same (Some g) (λ h f. heard_by_own world names is sealed_off m n h (ap source_of e ∙ f)))
+          cc (heir_same (Some g) (λ h f. heard_by_own world names go.is go.sealed_off m n h (ap source_of e ∙ f)))
       by Private e = refl
       by Unbindable e = refl
 
@@ -130,15 +138,15 @@ module _ (world : World ℕ) (names : List TaskName) (is : IsWorld nat_eq world)
       up : (g : ℕ) → Heard g → (o : Option ℕ) → world.master g ≡ o
           → is_lost_group nat_eq left o ≡ is_lost_group nat_eq left_part o
       up g heard None e = refl
-      up g heard (Some above) e = ap not (has_same above (above_heard world names is sealed_off above g e heard))
+      up g heard (Some above) e = ap not (has_same above (above_heard world names go.is go.sealed_off above g e heard))
 
       by : (o : Option ℕ) → source_of m.propagation ≡ o
           → (is_lost_group nat_eq left o || is_lost_group nat_eq left (then_some o world.master))
           ≡ (is_lost_group nat_eq left_part o || is_lost_group nat_eq left_part (then_some o part.master))
       by None e = refl
       by (Some g) e =
-          let heard = heard_by_own world names is sealed_off m n g e in
-          cc (has_same g heard, up g heard (world.master g) refl, master_same world names is sealed_off g heard)
+          let heard = heard_by_own world names go.is go.sealed_off m n g e in
+          cc (has_same g heard, up g heard (world.master g) refl, master_same world names go.is go.sealed_off g heard)
 
   -- a mount of others loses none
   other_stays : (m : Mount ℕ) → Among m (other_mounts nat_eq world names) → Among m world.mounts
@@ -149,28 +157,28 @@ module _ (world : World ℕ) (names : List TaskName) (is : IsWorld nat_eq world)
       outside m o = false_from_ne_true (goes m) (λ h.
           let from = among-from_filter
           (λ (x : Mount ℕ). holds_of (λ i. not (is_own_namespace nat_eq world names i)) x.namespace) world.mounts m o in
-          one_side (is_own_namespace nat_eq world names) m.namespace (own_go m from.0 h) from.1)
+          one_side (is_own_namespace nat_eq world names) m.namespace (go.own_go m from.0 h) from.1)
 
-      still : (g : ℕ) → OtherLives world names is.mounts events g → has_members nat_eq left.mounts g ≡ true
+      still : (g : ℕ) → OtherLives world names go.is.mounts events g → has_members nat_eq left.mounts g ≡ true
       still g (heard, lives) =
-          let at = any_among (is_member_of nat_eq g) world.mounts (members_of world names is.mounts events g lives) in
-          ⊎_elim (λ own. absurd (none_other world names is.mounts events g at.0 heard own at.2))
+          let at = any_among (is_member_of nat_eq g) world.mounts (members_of world names go.is.mounts events g lives)
+          in ⊎_elim (λ own. absurd (none_other world names go.is.mounts events g at.0 heard own at.2))
           (λ out. any_from_among (is_member_of nat_eq g) left.mounts (cut at.0) (among-map cut world.mounts at.0 at.1)
           (stays_member world g at.0 (outside at.0 out) at.2))
-          (sides world names is.mounts events at.0 g at.1 (member_group g at.0 at.2))
+          (sides world names go.is.mounts events at.0 g at.1 (member_group g at.0 at.2))
 
-      up : (g : ℕ) → OtherLives world names is.mounts events g → (o : Option ℕ) → world.master g ≡ o
+      up : (g : ℕ) → OtherLives world names go.is.mounts events g → (o : Option ℕ) → world.master g ≡ o
           → is_lost_group nat_eq left o ≡ false
       up g lives None e = refl
-      up g lives (Some above) e = cc (still above (other_above world names is.mounts events above g e lives))
+      up g lives (Some above) e = cc (still above (other_above world names go.is.mounts events above g e lives))
 
       by : (o : Option ℕ) → source_of m.propagation ≡ o
           → (is_lost_group nat_eq left o || is_lost_group nat_eq left (then_some o world.master)) ≡ false
       by None e = refl
       by (Some g) e =
-          let lives : OtherLives world names is.mounts events g = (
+          let lives : OtherLives world names go.is.mounts events g = (
             (m, other, start_hears world g m.propagation e),
-            among_from_all (HasLivingGroups nat_eq world) world.mounts is.mounts.groups m n g e,
+            among_from_all (HasLivingGroups nat_eq world) world.mounts go.is.mounts.groups m n g e,
           ) in
           cc (still g lives, up g lives (world.master g) refl)
 
@@ -200,7 +208,7 @@ module _ (world : World ℕ) (names : List TaskName) (is : IsWorld nat_eq world)
       forward m n same lost None e = absurd (true≢false (sym lost ∙ unlost_none left m (private_source m.propagation
           (and_parts (not (is_some m.mount_point)) (is_private m.propagation)
           (sym (ap (λ o. is_some o || (not (is_some m.mount_point) && is_private m.propagation)) e)
-          ∙ among_from_list_all is_nowhere_or_attached world.mounts is.mounts.nowhere m n)).1)))
+          ∙ among_from_list_all is_nowhere_or_attached world.mounts go.is.mounts.nowhere m n)).1)))
       forward m n same lost (Some j) e = which (is_own_namespace nat_eq world names j) refl
         where
           which : (b : Bool) → is_own_namespace nat_eq world names j ≡ b
@@ -209,7 +217,7 @@ module _ (world : World ℕ) (names : List TaskName) (is : IsWorld nat_eq world)
               let mine = among-filter (is_own_mount nat_eq world names) world.mounts m n
               (ap (holds_of (is_own_namespace nat_eq world names)) e ∙ own) in
               any_from_among (lost_a_group nat_eq left_part) left_part.mounts (cut_there m)
-              (among-map cut_there part.mounts m (own_in_part world names is sealed_off m mine))
+              (among-map cut_there part.mounts m (own_in_part world names go.is go.sealed_off m mine))
               (stays_lost left_part part m same (sym (lost_same m mine) ∙ lost))
           which false other = absurd (true≢false (sym lost ∙ other_stays m
               (among-filter (λ (x : Mount ℕ). holds_of (λ i. not (is_own_namespace nat_eq world names i)) x.namespace)
@@ -219,7 +227,7 @@ module _ (world : World ℕ) (names : List TaskName) (is : IsWorld nat_eq world)
           → (o : Option ℕ) → source_of y.propagation ≡ o → list_any (lost_a_group nat_eq left) left.mounts ≡ true
       back y n same lost None e = absurd (true≢false (sym lost ∙ unlost_none left_part y e))
       back y n same lost (Some g) e =
-          let mine = part_source world names is sealed_off y n g e in
+          let mine = part_source world names go.is go.sealed_off y n g e in
           any_from_among (lost_a_group nat_eq left) left.mounts (cut y)
           (among-map cut world.mounts y (among-from_filter (is_own_mount nat_eq world names) world.mounts y mine).0)
           (stays_lost left world y same (lost_same y mine ∙ lost))
@@ -227,24 +235,24 @@ module _ (world : World ℕ) (names : List TaskName) (is : IsWorld nat_eq world)
   -- Masters after
   pub master_alike : (b : Bool) (g : ℕ) → Heard g → master_after b left_part g ≡ master_after b left g
   master_alike b g heard = cc (
-    master_same world names is sealed_off g heard,
-    heir_same (world.master g) (λ above e. above_heard world names is sealed_off above g e heard),
+    master_same world names go.is go.sealed_off g heard,
+    heir_same (world.master g) (λ above e. above_heard world names go.is go.sealed_off above g e heard),
   )
 
   -- where a mount of theirs stands after
-  left_alike : (l : Location ℕ) → IsTheirs world names is.mounts l.mount
+  left_alike : (l : Location ℕ) → IsTheirs world names go.is.mounts l.mount
       → mount_point_left nat_eq part gone l ≡ mount_point_left nat_eq world gone l
   left_alike l theirs =
-      cc (up_alike world names is.mounts (mount_point_of_parent nat_eq world gone) (mount_point_of_parent nat_eq part
-      gone) above alike l theirs)
+      cc (up_alike world names go.is.mounts (mount_point_of_parent nat_eq world gone)
+      (mount_point_of_parent nat_eq part gone) above alike l theirs)
     where
       above : (a b : Location ℕ) → mount_point_of_parent nat_eq world gone a ≡ Some b
           → (mount_numbered nat_eq world a.mount).mount_point ≡ Some b
       above a b = grind (arith, common_steps, none_is_some)
 
-      alike : (a : Location ℕ) → IsTheirs world names is.mounts a.mount
+      alike : (a : Location ℕ) → IsTheirs world names go.is.mounts a.mount
           → mount_point_of_parent nat_eq part gone a ≡ mount_point_of_parent nat_eq world gone a
-      alike a own = cc (same_mount world names is.mounts a.mount own)
+      alike a own = cc (same_mount world names go.is.mounts a.mount own)
 
   cut_alike : (m : Mount ℕ) → Among m owns → cut_there m ≡ cut m
   cut_alike m n = by m.mount_point refl
@@ -258,8 +266,8 @@ module _ (world : World ℕ) (names : List TaskName) (is : IsWorld nat_eq world)
       by None e = cc
       by (Some l) e =
           let own = among-from_filter (is_own_mount nat_eq world names) world.mounts m n in
-          let under = parent_theirs world names is.mounts m.number l (own_theirs world names is m own.0 own.1)
-          (ap (λ (x : Mount ℕ). x.mount_point) (numbered world names is.mounts m own.0) ∙ e) in
+          let under = parent_theirs world names go.is.mounts m.number l (own_theirs world names go.is m own.0 own.1)
+          (ap (λ (x : Mount ℕ). x.mount_point) (numbered world names go.is.mounts m own.0) ∙ e) in
           cc (left_alike l under)
 
   -- a mount of theirs after

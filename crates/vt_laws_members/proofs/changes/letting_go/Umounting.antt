@@ -1,6 +1,6 @@
 -- Each umount(2) ends in the part as in the world.
 use Rattle.std.proofs.Common.{arith, ◌≡◌, refl, sym, ap, subst, ◌∙◌, ⊎_elim, ℕ, nat_eq, Bool, true, false, true≢false, List, [], ◌∷◌, Option, Some, None, Ok, Err, is_some, not, IfOk, is_ok}
-use Rattle.vt_spec.proofs.Common.{Among, Call, Done, Fresh, IsWorld, Judgement, Location, Mount, MountInvariants, Outcome, Permit, Rules, Task, TaskName, ToUnmount, Umount, World, admin_rules, among-from_filter_map, among_numbers, common_steps, directory_walk, going, granted, has_child, is_going, judge_in, members, mount_at, mount_numbered, none_among, none_from_among, numbers_raised, or_parts, part_of, policy, sealed, settled, stands_on, taken_away, task_called, umount_permit, umount_rules, unless, unmounted, ⊤}
+use Rattle.vt_spec.proofs.Common.{Among, Call, Done, Fresh, IsWorld, Judgement, Location, Mount, MountInvariants, Outcome, Permit, Rules, Task, TaskName, ToUnmount, Umount, World, admin_rules, among-from_filter_map, among_numbers, common_steps, directory_walk, going, granted, has_child, judge_in, members, mount_at, mount_numbered, none_among, none_from_among, numbers_raised, or_parts, part_of, policy, sealed, settled, stands_on, taken_away, task_called, umount_permit, umount_rules, unless, unmounted, ⊤}
 use Rattle.vt_laws_members.proofs.detached.lazily.GoingAlike.{going_alike, going_own}
 use Rattle.vt_laws_sealed.proofs.part.part.MountsOver.{nowhere_stands, numbered}
 use Rattle.vt_laws_mounts.proofs.ends.Ending.{unmount_keeps_mounts}
@@ -12,10 +12,11 @@ use Rattle.vt_laws_members.specs.Changes.Changes.{EndAlike, EndsAlike, IsCallOfT
 use Rattle.vt_laws_members.specs.Changes.LettingGo.{UmountsEndAlike}
 use Rattle.vt_laws_members.proofs.changes.looks.Granted.{of_rules, of_walk}
 use Rattle.vt_laws_members.proofs.changes.looks.Told.{member_called, ran, same_caller}
-use Rattle.vt_laws_members.proofs.changes.tasks.Denied.{denial_ends_alike, run_by, same_judgement, unnamed_ends_alike}
+use Rattle.vt_laws_members.proofs.changes.tasks.Denied.{denial_ends_alike, ran_there, run_by, unnamed_ends_alike}
 use Rattle.vt_laws_members.proofs.changes.letting_go.Moving.{StandsHere, at_directory, one}
 use Rattle.vt_laws_members.proofs.changes.letting_go.PartMounts.{part_mounts}
 use Rattle.vt_laws_members.proofs.changes.letting_go.Taken.{taken_parts}
+use Rattle.vt_laws_members.proofs.changes.letting_go.Regrouped.{TheirsGo}
 
 -- What is granted has passed all rules.
 abbrev pub Passed : Rules → Type 0
@@ -61,20 +62,22 @@ module _ (world : World ℕ) (names : List TaskName) (is : IsWorld nat_eq world)
       ))))
 
 -- what goes with a mount of theirs is theirs
-module _ (world : World ℕ) (names : List TaskName) (is : IsWorld nat_eq world)
-    (sealed_off : sealed nat_eq world names ≡ true) (mount : Mount ℕ) (there : Among mount world.mounts)
-    (own : is_own world names (members world names) mount ≡ true) where
-  own_go : (m : Mount ℕ) → Among m world.mounts → is_going nat_eq (going nat_eq world mount) m.number ≡ true
-      → is_own world names (members world names) m ≡ true
-  own_go m n h =
+theirs_go : (world : World ℕ) (names : List TaskName) (is : IsWorld nat_eq world)
+    (sealed_off : sealed nat_eq world names ≡ true) (mount : Mount ℕ) → Among mount world.mounts
+    → is_own world names (members world names) mount ≡ true → TheirsGo world names (going nat_eq world mount)
+theirs_go world names is sealed_off mount there own = record {
+  is = is;
+  sealed_off = sealed_off;
+  own_go = λ m n h.
       let its = going_own world names is.mounts (no_events world names is sealed_off) mount m.number there own
       (among_numbers (going nat_eq world mount) m.number h) in
       let same : its.0 ≡ m = sym (numbered world names is.mounts its.0 its.1) ∙ ap (mount_numbered nat_eq world) its.3
       ∙ numbered world names is.mounts m n in
-      ap (is_own world names (members world names)) (sym same) ∙ its.2
+      ap (is_own world names (members world names)) (sym same) ∙ its.2;
+}
 
 -- A call that detaches a mount of theirs without children
-module _ (world : World ℕ) (names : List TaskName) (name : TaskName) (call : Call)
+module _ {world : World ℕ} {names : List TaskName} {name : TaskName} {call : Call}
     (it : IsCallOfTheirs world names name call) (task : Task ℕ) (called : task_called world name ≡ Some task)
     (number : ℕ) (on : is_theirs world names number ≡ true)
     (has_point : is_some (mount_numbered nat_eq world number).mount_point ≡ true)
@@ -104,7 +107,16 @@ module _ (world : World ℕ) (names : List TaskName) (name : TaskName) (call : C
           (ap (λ (m : Mount ℕ). m.namespace) is_it ∙ none) e
 
   same_going : going nat_eq there (mount_numbered nat_eq there number) ≡ going nat_eq world mount_of
-  same_going = grind (arith, common_steps, same_mount, theirs, going_alike world names it.is.mounts (no_events world names it.is it.sealed_off), mount_there, mount_own)
+  same_going = grind (
+    arith,
+    common_steps,
+    same_mount,
+    theirs,
+    going_alike world names it.is.mounts
+        (no_events world names it.is it.sealed_off),
+    mount_there,
+    mount_own,
+  )
 
   pub alone_there : has_child nat_eq there number ≡ false
   alone_there = none_from_among (stands_on nat_eq number) there.mounts (λ y m.
@@ -142,8 +154,8 @@ module _ (world : World ℕ) (names : List TaskName) (name : TaskName) (call : C
       (subst (λ s. EndAlike s (detaches world) (granted Done (numbers_raised nat_eq there name []
       (settled nat_eq (taken_away nat_eq there (going nat_eq world mount_of)))))) (sym stays) (record {
         answer = refl;
-        part = taken_parts world names it.is it.sealed_off (going nat_eq world mount_of)
-            (own_go world names it.is it.sealed_off mount_of mount_there mount_own) name kept_world kept_part;
+        part = taken_parts (theirs_go world names it.is it.sealed_off mount_of mount_there mount_own) kept_world
+            kept_part name;
       })))
 
 pub umounts_end_alike : UmountsEndAlike
@@ -154,16 +166,15 @@ umounts_end_alike world names name path it fresh other = by (task_called world n
         → IfOk j (Unmounts world names it.is it.sealed_off task member)
         → EndsAlike world names name (Umount path) fresh other
     judged_by task member e (Ok permit) judged its =
-        detached_alike world names name (Umount path) it task e its.0.mount its.2 its.3 its.4 fresh other refl
-        (ap (run_by world names name (Umount path) it fresh other world fresh task) (judged ∙ ap Ok its.1))
-        (ap (run_by world names name (Umount path) it fresh other (part_of nat_eq world names) other task)
-        (sym (same_judgement world names name (Umount path) it fresh other task e) ∙ judged ∙ ap Ok its.1))
-    judged_by task member e (Err deny) judged its = denial_ends_alike world names name (Umount path) it fresh other
+        detached_alike it task e its.0.mount its.2 its.3 its.4 fresh other refl
+        (ap (run_by it world fresh task) (judged ∙ ap Ok its.1))
+        (ran_there it fresh other task e (judged ∙ ap Ok its.1))
+    judged_by task member e (Err deny) judged its = denial_ends_alike it fresh other
         (ap (λ o. is_ok (ran name (Umount path) world fresh o).answer) e
-        ∙ ap (λ j. is_ok (run_by world names name (Umount path) it fresh other world fresh task j).answer) judged)
+        ∙ ap (λ j. is_ok (run_by it world fresh task j).answer) judged)
 
     by : (o : Option (Task ℕ)) → task_called world name ≡ o → EndsAlike world names name (Umount path) fresh other
-    by None e = unnamed_ends_alike world names name (Umount path) it fresh other e
+    by None e = unnamed_ends_alike it fresh other e
     by (Some task) e =
         let member = member_called world names it.is it.sealed_off name it.theirs task e in
         judged_by task member e (judge_in nat_eq fresh world task (Umount path)) refl

@@ -11,7 +11,7 @@ use Rattle.vt_laws_members.specs.Changes.Changes.{EndAlike, EndsAlike, IsCallOfT
 use Rattle.vt_laws_members.specs.Changes.MountChanges.{RemountsEndAlike}
 use Rattle.vt_laws_members.proofs.changes.looks.Granted.{of_rules, of_walk}
 use Rattle.vt_laws_members.proofs.changes.looks.Told.{member_called, ran, same_caller}
-use Rattle.vt_laws_members.proofs.changes.tasks.Denied.{denial_ends_alike, run_by, same_judgement, unnamed_ends_alike}
+use Rattle.vt_laws_members.proofs.changes.tasks.Denied.{denial_ends_alike, ran_there, run_by, unnamed_ends_alike}
 use Rattle.vt_laws_members.proofs.changes.letting_go.Moving.{StandsHere, at_directory, one}
 use Rattle.vt_laws_members.proofs.changes.letting_go.PartMounts.{part_mounts}
 use Rattle.vt_laws_members.proofs.changes.letting_go.Umounting.{of_passed}
@@ -52,7 +52,7 @@ module _ (world : World ℕ) (names : List TaskName) (is : IsWorld nat_eq world)
       ))))
 
 -- A granted remount
-module _ (world : World ℕ) (names : List TaskName) (name : TaskName) (path : List ℕ) (flags : MountFlags)
+module _ {world : World ℕ} {names : List TaskName} {name : TaskName} {path : List ℕ} {flags : MountFlags}
     (it : IsCallOfTheirs world names name (Remount path flags)) (task : Task ℕ)
     (called : task_called world name ≡ Some task) (fresh other : Fresh ℕ) (here : Location ℕ)
     (on : is_theirs world names here.mount ≡ true)
@@ -77,8 +77,7 @@ module _ (world : World ℕ) (names : List TaskName) (name : TaskName) (path : L
   now_there = later_part world names it.is it.sealed_off mount_of mount_there own flags
 
   first : policy nat_eq fresh world name (Remount path flags) ≡ granted Done (numbers_raised nat_eq world name [] now)
-  first = ap (ran name (Remount path flags) world fresh) called
-      ∙ ap (run_by world names name (Remount path flags) it fresh other world fresh task) judged
+  first = ap (ran name (Remount path flags) world fresh) called ∙ ap (run_by it world fresh task) judged
       ∙ ap (λ w. granted Done (numbers_raised nat_eq world name [] w))
       (set_flags_keep_all fresh world task here.mount flags it.is.mounts.one_number (all_in_use world it.is))
 
@@ -86,8 +85,7 @@ module _ (world : World ℕ) (names : List TaskName) (name : TaskName) (path : L
       ≡ granted Done (numbers_raised nat_eq there name [] now_there)
   second = ap (ran name (Remount path flags) there other)
       (same_caller world names it.is it.sealed_off name it.theirs ∙ called)
-      ∙ ap (run_by world names name (Remount path flags) it fresh other there other task)
-      (sym (same_judgement world names name (Remount path flags) it fresh other task called) ∙ judged)
+      ∙ ran_there it fresh other task called judged
       ∙ ap (λ w. granted Done (numbers_raised nat_eq there name [] w))
       (set_flags_keep_all other there task here.mount flags (part_mounts world names it.is it.sealed_off).one_number
       (part_in_use world names it.is it.sealed_off)
@@ -112,15 +110,14 @@ remounts_end_alike world names name path flags it fresh other = by (task_called 
         → IfOk j (SetsFlags world names it.is it.sealed_off task member flags)
         → EndsAlike world names name (Remount path flags) fresh other
     judged_by task member e (Ok permit) judged its =
-        remount_alike world names name path flags it task e fresh other its.0 its.2 its.3 (judged ∙ ap Ok its.1)
+        remount_alike it task e fresh other its.0 its.2 its.3 (judged ∙ ap Ok its.1)
     judged_by task member e (Err deny) judged its =
-        denial_ends_alike world names name (Remount path flags) it fresh other
-        (ap (λ o. is_ok (ran name (Remount path flags) world fresh o).answer) e ∙ ap (λ j. is_ok
-        (run_by world names name (Remount path flags) it fresh other world fresh task j).answer) judged)
+        denial_ends_alike it fresh other (ap (λ o. is_ok (ran name (Remount path flags) world fresh o).answer) e
+        ∙ ap (λ j. is_ok (run_by it world fresh task j).answer) judged)
 
     by : (o : Option (Task ℕ)) → task_called world name ≡ o
         → EndsAlike world names name (Remount path flags) fresh other
-    by None e = unnamed_ends_alike world names name (Remount path flags) it fresh other e
+    by None e = unnamed_ends_alike it fresh other e
     by (Some task) e =
         let member = member_called world names it.is it.sealed_off name it.theirs task e in
         judged_by task member e (judge_in nat_eq fresh world task (Remount path flags)) refl

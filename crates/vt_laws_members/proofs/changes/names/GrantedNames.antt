@@ -1,6 +1,6 @@
 -- Where a granted call of theirs makes, gives or takes a name: in a directory on a mount of theirs.
 use Rattle.std.proofs.Common.{◌≡◌, subst, ℕ, nat_eq, Bool, true, false, ◌∷◌, [], List, Option, Some, Ok, Result, IfOk}
-use Rattle.vt_spec.proofs.Common.{AddName, Among, Call, Change, CopyUp, Fresh, IsWorld, Location, Looks, Make, Move, Permit, Place, Remove, SetAttr, SetBytes, SetMark, Stop, Task, TaskName, World, is_among, is_copied_up, judge_in, looks_of, members, none_is_some, overfills, part_of, same_Some, sealed, used_filesystems, when, ⊤}
+use Rattle.vt_spec.proofs.Common.{AddName, Among, Call, Change, CopyUp, Fresh, IsWorld, Location, Looks, Make, Move, Permit, Place, Remove, SetAttr, SetBytes, SetMark, Stop, Task, TaskName, World, is_among, is_copied_up, judge_in, looks_of, members, none_is_some, overfills, part_of, same_Some, sealed, used_filesystems, when, ⊤, Serves, task_called}
 use Rattle.vt_laws_rules.specs.Granted.{IsGranted}
 use Rattle.vt_laws_rules.specs.Granted.IsGranted.{changes_mark, changes_mode, changes_owner, creates, creates_exclusively, makes_directory, makes_hard_link, makes_symlink, makes_whiteout, opens, opens_existing, overwrites_file, removes_directory, renames, unlinks, writes_new_file, writes_part}
 use Rattle.vt_laws_rules.proofs.given.Inversion.{calls_are_granted}
@@ -10,6 +10,9 @@ use Rattle.vt_laws_members.specs.Judging.{is_theirs}
 use Rattle.vt_laws_members.proofs.judging.AllJudged.{judges}
 use Rattle.vt_laws_members.proofs.judging.Judged.{JudgesAlike}
 use Rattle.vt_laws_members.proofs.judging.WalksLead.{PlaceAt, file_agrees, new_agrees, new_leaf_agrees, old_agrees, old_leaf_agrees}
+use Rattle.vt_laws_members.proofs.judging.Grounds.{IsTheirs, theirs_from}
+use Rattle.vt_laws_members.proofs.changes.looks.Told.{member_called}
+use Rattle.vt_laws_members.specs.Changes.Changes.{IsCallOfTheirs}
 
 -- a change by which a name comes or goes
 abbrev pub Names : Change ℕ → Type 0
@@ -21,6 +24,21 @@ Names (SetBytes file bytes) = ⊥
 Names (SetAttr object attr) = ⊥
 Names (SetMark directory opaque) = ⊥
 Names (CopyUp object) = ⊥
+
+-- a granted call of theirs by which a name comes or goes, and numbers that serve
+pub record NamingCall (world : World ℕ) (names : List TaskName) (name : TaskName) (call : Call) : Type 0 where
+  pub it : IsCallOfTheirs world names name call
+  pub open it use {is, sealed_off, theirs}
+  pub task : Task ℕ
+  pub found : task_called world name ≡ Some task
+  pub fresh : Fresh ℕ
+  pub serves : Serves nat_eq world fresh
+  pub permit : Permit ℕ
+  pub judged : judge_in nat_eq fresh world task call ≡ Ok permit
+  pub location : Location ℕ
+  pub change : Change ℕ
+  pub asks : change_asked fresh world permit ≡ Some (location, change)
+  pub comes : Names change
 
 module _ (world : World ℕ) (names : List TaskName) (is : IsWorld nat_eq world)
     (sealed_off : sealed nat_eq world names ≡ true) (task : Task ℕ) (member : Among task (members world names))
@@ -103,5 +121,34 @@ module _ (world : World ℕ) (names : List TaskName) (is : IsWorld nat_eq world)
       → (location : Location ℕ) (change : Change ℕ) → change_asked fresh world permit ≡ Some (location, change)
       → Names change → On location.mount
   granted_theirs call permit judged location change asks comes = names_theirs call permit
-      (calls_are_granted nat_eq one (overfills nat_eq fresh world task) task call permit judged)
-      (location, change) asks comes
+      (calls_are_granted nat_eq one (overfills nat_eq fresh world task) task call permit judged) (location, change) asks
+      comes
+
+abbrev pub naming_of : {world : World ℕ} {names : List TaskName} {name : TaskName} {call : Call}
+    (it : IsCallOfTheirs world names name call) (task : Task ℕ) → task_called world name ≡ Some task
+    → (fresh : Fresh ℕ) → Serves nat_eq world fresh
+    → (permit : Permit ℕ) → judge_in nat_eq fresh world task call ≡ Ok permit → (location : Location ℕ)
+    (change : Change ℕ) → change_asked fresh world permit ≡ Some (location, change) → Names change
+    → NamingCall world names name call
+naming_of it task found fresh serves permit judged location change asks comes = record {
+  it = it;
+  task = task;
+  found = found;
+  fresh = fresh;
+  serves = serves;
+  permit = permit;
+  judged = judged;
+  location = location;
+  change = change;
+  asks = asks;
+  comes = comes;
+}
+
+-- so it comes or goes on a mount of theirs
+pub naming_theirs : {world : World ℕ} {names : List TaskName} {name : TaskName} {call : Call}
+    (naming : NamingCall world names name call) → IsTheirs world names naming.is.mounts naming.location.mount
+naming_theirs {world} {names} {name} {call} naming =
+    theirs_from world names naming.is.mounts naming.location.mount
+    (granted_theirs world names naming.is naming.sealed_off naming.task
+    (member_called world names naming.is naming.sealed_off name naming.theirs naming.task naming.found) naming.fresh
+    call naming.permit naming.judged naming.location naming.change naming.asks naming.comes)

@@ -5,7 +5,7 @@ use Rattle.vt_laws_mounts.specs.LettingGo.InUse.{AllInUse}
 use Rattle.vt_laws_mounts.specs.LettingGo.TreeChanges.{ChangesTree}
 use Rattle.vt_laws_mounts.proofs.letting_go.sweeps.OfWorlds.{all_in_use}
 use Rattle.vt_laws_sealed.proofs.part.part.PartOfPart.{same_used}
-use Rattle.vt_laws_members.proofs.judging.Grounds.{IsTheirs, theirs_from}
+use Rattle.vt_laws_members.proofs.judging.Grounds.{IsTheirs}
 use Rattle.vt_laws_members.proofs.judging.SeenInPart.{filesystem_alike, theirs_used}
 use Rattle.vt_laws_members.specs.Changes.NameChanges.{NewOpensEndAlike}
 use Rattle.vt_laws_members.proofs.changes.files.FilesChanged.{part_with_files}
@@ -13,12 +13,11 @@ use Rattle.vt_laws_members.proofs.changes.files.FilesEnding.{no_overlay}
 use Rattle.vt_laws_members.proofs.changes.files.FilesInUse.{in_use_changed}
 use Rattle.vt_laws_members.proofs.changes.files.FilesRaised.{both, both_kept, both_numbered, both_overlaid, swap}
 use Rattle.vt_laws_members.proofs.changes.files.OneFilesystem.{old_used, one_in_part, one_in_world}
-use Rattle.vt_laws_members.proofs.changes.looks.Told.{member_called}
 use Rattle.vt_laws_members.proofs.changes.names.AskedNames.{changes_so, proper, tree_changes}
-use Rattle.vt_laws_members.proofs.changes.names.GrantedNames.{granted_theirs}
+use Rattle.vt_laws_members.proofs.changes.names.GrantedNames.{NamingCall, naming_of, naming_theirs}
 use Rattle.vt_laws_members.proofs.changes.names.Swept.{swap_changes}
 use Rattle.vt_laws_members.proofs.changes.part.SettledPart.{part_in_use}
-use Rattle.vt_laws_members.proofs.changes.tasks.Denied.{run_by, same_judgement}
+use Rattle.vt_laws_members.proofs.changes.tasks.Denied.{ran_there, run_by}
 use Rattle.vt_laws_members.proofs.changes.tasks.OpenedFiles.{MovesIn, opened_ends, opened_with}
 
 -- so ends a granted open that gives a plain filesystem another tree
@@ -38,17 +37,14 @@ new_run w name path access how supply location change old task file wanted e pla
 
 pub new_opens_end_alike : NewOpensEndAlike
 new_opens_end_alike world names name path access how it task found fresh serves directory entry node wanted judged
-    plain = opened_ends world names name path access how it fresh task found file ground wanted (swap old files)
+    plain = opened_ends it fresh task found file ground wanted (swap old files)
     (old.number ∷ []) (moves world (all_in_use world it.is) (one_in_world world names it.is number used)
-    (old_used world names it.is number used))
-    (moves part (part_in_use world names it.is it.sealed_off) (one_in_part world names it.is number used)
-    (ap (is_among nat_eq old.number) (same_used world names) ∙ old_used world names it.is number used))
-    (ap (run_by world names name call it fresh fresh world fresh task) judged
+    (old_used world names it.is number used)) (moves part (part_in_use world names it.is it.sealed_off)
+    (one_in_part world names it.is number used) (ap (is_among nat_eq old.number) (same_used world names)
+    ∙ old_used world names it.is number used)) (ap (run_by it world fresh task) judged
     ∙ new_run world name path access how (odds fresh) directory change old task file wanted refl plain)
-    (ap (run_by world names name call it fresh fresh part fresh task)
-    (sym (same_judgement world names name call it fresh fresh task found) ∙ judged)
-    ∙ new_run part name path access how (odds fresh) directory change old task file wanted
-    (sym (filesystem_alike world names it.is directory ground)) plain)
+    (ran_there it fresh fresh task found judged ∙ new_run part name path access how (odds fresh) directory change old
+    task file wanted (sym (filesystem_alike world names it.is directory ground)) plain)
   where
     call : Call
     call = OpenFile path access how
@@ -71,25 +67,24 @@ new_opens_end_alike world names name path access how it task found fresh serves 
     file : Location ℕ
     file = record { mount = directory.mount; node = evens fresh 0 }
 
+    naming : NamingCall world names name call
+    naming = naming_of it task found fresh serves (ToOpenNew directory entry node wanted) judged directory change refl
+        tt
+
     ground : IsTheirs world names it.is.mounts directory.mount
-    ground = theirs_from world names it.is.mounts directory.mount (granted_theirs world names it.is it.sealed_off task
-        (member_called world names it.is it.sealed_off name it.theirs task found) fresh call
-        (ToOpenNew directory entry node wanted) judged directory change refl tt)
+    ground = naming_theirs naming
 
     used : is_among nat_eq number (used_filesystems nat_eq world names) ≡ true
     used = theirs_used world names it.is directory ground
 
     none_lost : ChangesTree old.files files []
-    none_lost = subst (ChangesTree old.files files) (ap option_to_list
-        (proper world names name call it.is it.sealed_off task found fresh serves
-        (ToOpenNew directory entry node wanted) judged directory change refl tt).name_is_free.free)
-        (changes_so world names name call it.is it.sealed_off task found fresh serves
-        (ToOpenNew directory entry node wanted) judged directory change refl tt)
+    none_lost = subst (ChangesTree old.files files) (ap option_to_list (proper naming).name_is_free.free)
+        (changes_so naming)
 
     moves : (w : World ℕ) → AllInUse w
         → ((x : Filesystem ℕ) → Among x w.filesystems → nat_eq old.number x.number ≡ true → x ≡ old)
         → is_among nat_eq old.number (used_filesystems nat_eq w names) ≡ true
-        → MovesIn world names name path access how it fresh task found file ground wanted (swap old files)
+        → MovesIn it fresh task found file ground wanted (swap old files)
         (old.number ∷ []) w
     moves w in_use one used_there = record {
       in_use = in_use_changed w in_use (swap old files)

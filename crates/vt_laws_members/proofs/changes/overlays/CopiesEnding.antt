@@ -1,43 +1,39 @@
 -- A call of theirs that edits a file through an overlay with an upper layer ends in the part as in the world.
 use Rattle.std.proofs.Common.{arith, ◌≡◌, refl, sym, ap, subst, ◌∙◌, ℕ, nat_eq, false, List, [], ◌∷◌, Some, Ok, filter, map}
-use Rattle.vt_spec.proofs.Common.{Among, Call, Change, Done, Filesystem, Fresh, Layer, Location, Overlay, Task, TaskName, World, changed_at, common_steps, filesystem_at, finished, granted, is_among, is_member_task, locations_of, map_twice, mount_at, numbers_raised, only_looks, part_of, policy, raised, raised_if_changed, raised_task, same_name, task_called, used_directly, used_filesystems, with_change}
+use Rattle.vt_spec.proofs.Common.{Among, Call, Done, Filesystem, Task, TaskName, World, changed_at, common_steps, finished, granted, is_among, is_member_task, locations_of, map_twice, numbers_raised, only_looks, part_of, policy, raised, raised_if_changed, raised_task, same_name, task_called, used_filesystems, with_change}
 use Rattle.vt_laws_mounts.specs.LettingGo.InUse.{AllInUse}
 use Rattle.vt_laws_mounts.specs.LettingGo.TreesOverlays.{ChangesFilesystem, with_filesystems}
 use Rattle.vt_laws_mounts.proofs.letting_go.Lists.{filter-map}
 use Rattle.vt_laws_mounts.proofs.letting_go.sweeps.InUse.{nothing_goes}
 use Rattle.vt_laws_mounts.proofs.letting_go.sweeps.OfWorlds.{all_in_use}
-use Rattle.vt_laws_worlds.specs.OverlaysLetGo.OverlayChanges.{CanChange}
 use Rattle.vt_laws_sealed.proofs.part.part.PartOfPart.{same_members, same_used}
 use Rattle.vt_laws_members.specs.Changes.Changes.{EndAlike, EndsAlike, IsCallOfTheirs, grown}
 use Rattle.vt_laws_members.proofs.changes.files.FilesRaised.{raised_is}
 use Rattle.vt_laws_members.proofs.changes.files.StepsInUse.{in_use_stepped}
 use Rattle.vt_laws_members.proofs.changes.looks.Told.{ran, same_caller}
-use Rattle.vt_laws_members.proofs.changes.overlays.Copying.{AreOnes, Copies, both_numbers, changes_in_part, changes_in_world, kept_on, moved_on, numbers_in_part, numbers_in_world, ones_in_part, ones_in_world, part_moved, step, stepped_in_part, stepped_in_world}
+use Rattle.vt_laws_members.proofs.changes.overlays.Copying.{AreOnes, Copies, OverlayChange, both_numbers, changes_in_part, changes_in_world, kept_on, moved_on, numbers_in_part, numbers_in_world, ones_in_part, ones_in_world, part_moved, step, stepped_in_part, stepped_in_world}
 use Rattle.vt_laws_members.proofs.changes.part.PartAgain.{part_again}
 use Rattle.vt_laws_members.proofs.changes.part.SettledPart.{part_in_use}
 use Rattle.vt_laws_members.proofs.changes.tasks.RaisedTasks.{tasks_raised}
 use Rattle.vt_laws_members.proofs.changes.tasks.Retasked.{retasked}
 use Rattle.vt_laws_members.proofs.changes.tasks.Rights.{sees_alike}
 
-module _ (world : World ℕ) (names : List TaskName) (name : TaskName) (call : Call)
-    (it : IsCallOfTheirs world names name call)
-    (fresh : Fresh ℕ) (task : Task ℕ) (found : task_called world name ≡ Some task) (looks : only_looks call ≡ false)
-    (stays : grown names name call (Ok Done) ≡ names) (location : Location ℕ) (change : Change ℕ) (overlay : Overlay ℕ)
-    (upper : Layer ℕ) (can : CanChange fresh world location change overlay upper) (copies : Copies change)
-    (direct : Among (mount_at nat_eq world location).filesystem (used_directly nat_eq world names))
-    (alike : filesystem_at nat_eq world location ≡ filesystem_at nat_eq (part_of nat_eq world names) location) where
+module _ {world : World ℕ} {names : List TaskName} {name : TaskName} {call : Call}
+    (it : IsCallOfTheirs world names name call) (task : Task ℕ) (found : task_called world name ≡ Some task)
+    (looks : only_looks call ≡ false) (stays : grown names name call (Ok Done) ≡ names)
+    (through : OverlayChange world names) (copies : Copies through.change) where
   abbrev part : World ℕ
   part = part_of nat_eq world names
 
   abbrev moved : Filesystem ℕ → Filesystem ℕ
-  moved = step fresh world names location change overlay upper it.is can direct alike
+  moved = step through
 
   abbrev numbers : List ℕ
-  numbers = both_numbers fresh world names location change overlay upper it.is can direct alike
+  numbers = both_numbers through
 
   -- with their change numbers raised
   abbrev both : Filesystem ℕ → Filesystem ℕ
-  both = moved_on fresh world names location change overlay upper it.is can direct alike
+  both = moved_on through
 
   abbrev left : World ℕ → World ℕ
   left w = record w {
@@ -58,12 +54,12 @@ module _ (world : World ℕ) (names : List TaskName) (name : TaskName) (call : C
 
   ends_so : (w : World ℕ) → AllInUse w
       → ((x : Filesystem ℕ) → Among x w.filesystems → ChangesFilesystem (with_filesystems w moved) [] x (moved x))
-      → with_change nat_eq fresh w location change ≡ with_filesystems w moved → changed_at nat_eq w location ≡ numbers
-      → finished nat_eq w name call (changed_at nat_eq w location)
-      (granted Done (with_change nat_eq fresh w location change)) ≡ granted Done (left w)
+      → with_change nat_eq through.supply w through.location through.change ≡ with_filesystems w moved → changed_at
+      nat_eq w through.location ≡ numbers → finished nat_eq w name call (changed_at nat_eq w through.location)
+      (granted Done (with_change nat_eq through.supply w through.location through.change)) ≡ granted Done (left w)
   ends_so w in_use changes made listed = grind (arith, common_steps, nothing_goes, in_use_stepped, numbers_so)
 
-  part_of_left : (w : World ℕ) → AreOnes fresh world names location change overlay upper it.is can direct alike w
+  part_of_left : (w : World ℕ) → AreOnes through w
       → ((x : Filesystem ℕ) → is_among nat_eq x.number (used_filesystems nat_eq w names) ≡ false → both x ≡ x)
       → part_of nat_eq (left w) names ≡ record (with_filesystems (part_of nat_eq w names) both) {
         tasks = filter (is_member_task names) (map (raised_task name) w.tasks);
@@ -73,7 +69,7 @@ module _ (world : World ℕ) (names : List TaskName) (name : TaskName) (call : C
         (raised_task name) (raised_is name (λ (t : Task ℕ). t.name) (λ t. refl)) (λ t m. raised_is name (λ (t :
         Task ℕ). t.namespace) (λ t. refl) t) (λ t m. raised_is name (λ (t : Task ℕ). t.root ∷ t.directory ∷ []) (λ
         t. refl) t) (raised w.change) (λ t m. raised_is name locations_of (λ t. refl) t)),
-    part_moved fresh world names location change overlay upper it.is can direct alike w ones unused,
+    part_moved through w ones unused,
   )
     where
       later : World ℕ
@@ -92,32 +88,28 @@ module _ (world : World ℕ) (names : List TaskName) (name : TaskName) (call : C
 
   parts_alike : part_of nat_eq (left world) names ≡ part_of nat_eq (left part) names
   parts_alike =
-      part_of_left world (ones_in_world fresh world names location change overlay upper it.is can direct alike)
-      (kept_on fresh world names location change overlay upper it.is can direct alike)
+      part_of_left world (ones_in_world through) (kept_on through)
       ∙ (λ i. record (with_filesystems (sym (part_again world names it.is) i) both) { tasks = tasks_alike i })
-      ∙ sym (part_of_left part (ones_in_part fresh world names location change overlay upper it.is can direct alike)
-      (λ x e. kept_on fresh world names location change overlay upper it.is can direct alike x
-      (sym (ap (is_among nat_eq x.number) (same_used world names)) ∙ e)))
+      ∙ sym (part_of_left part (ones_in_part through)
+      (λ x e. kept_on through x (sym (ap (is_among nat_eq x.number) (same_used world names)) ∙ e)))
 
-  pub copy_ends : ran name call world fresh (Some task)
-      ≡ finished nat_eq world name call (changed_at nat_eq world location)
-      (granted Done (with_change nat_eq fresh world location change)) → ran name call part fresh (Some task)
-      ≡ finished nat_eq part name call (changed_at nat_eq part location)
-      (granted Done (with_change nat_eq fresh part location change)) → EndsAlike world names name call fresh fresh
+  pub copy_ends : ran name call world through.supply (Some task)
+      ≡ finished nat_eq world name call (changed_at nat_eq world through.location)
+      (granted Done (with_change nat_eq through.supply world through.location through.change)) → ran name call part
+      through.supply (Some task) ≡ finished nat_eq part name call (changed_at nat_eq part through.location)
+      (granted Done (with_change nat_eq through.supply part through.location through.change)) → EndsAlike world names
+      name call through.supply through.supply
   copy_ends runs runs_there =
-      let first : policy nat_eq fresh world name call ≡ granted Done (left world) =
-      ap (ran name call world fresh) found ∙ runs ∙ ends_so world (all_in_use world it.is)
-      (changes_in_world fresh world names location change overlay upper it.is can direct alike copies)
-      (stepped_in_world fresh world names location change overlay upper it.is can direct alike)
-      (numbers_in_world fresh world names location change overlay upper it.is can direct alike) in
-      let second : policy nat_eq fresh part name call ≡ granted Done (left part) =
-      ap (ran name call part fresh) (same_caller world names it.is it.sealed_off name it.theirs ∙ found) ∙ runs_there
-      ∙ ends_so part (part_in_use world names it.is it.sealed_off)
-      (changes_in_part fresh world names location change overlay upper it.is can direct alike copies)
-      (stepped_in_part fresh world names location change overlay upper it.is can direct alike copies)
-      (numbers_in_part fresh world names location change overlay upper it.is can direct alike) in
-      subst (λ p. EndAlike (grown names name call (policy nat_eq fresh world name call).answer)
-      (policy nat_eq fresh world name call) p) (sym second)
+      let first : policy nat_eq through.supply world name call ≡ granted Done (left world) =
+      ap (ran name call world through.supply) found
+      ∙ runs ∙ ends_so world (all_in_use world it.is) (changes_in_world through copies) (stepped_in_world through)
+      (numbers_in_world through) in
+      let second : policy nat_eq through.supply part name call ≡ granted Done (left part) =
+      ap (ran name call part through.supply) (same_caller world names it.is it.sealed_off name it.theirs ∙ found)
+      ∙ runs_there ∙ ends_so part (part_in_use world names it.is it.sealed_off) (changes_in_part through copies)
+      (stepped_in_part through copies) (numbers_in_part through) in
+      subst (λ p. EndAlike (grown names name call (policy nat_eq through.supply world name call).answer)
+      (policy nat_eq through.supply world name call) p) (sym second)
       (subst (λ o. EndAlike (grown names name call o.answer) o (granted Done (left part))) (sym first)
       (subst (λ s. EndAlike s (granted Done (left world)) (granted Done (left part))) (sym stays)
       (record { answer = refl; part = parts_alike })))

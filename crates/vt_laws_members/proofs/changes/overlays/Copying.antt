@@ -79,38 +79,46 @@ upper_in_use w names number overlay upper overlaid has direct =
     (among-append_left (option_to_list overlay.upper) (option_to_list overlay.work) upper
     (subst (λ o. Among upper (option_to_list o)) (sym has) (inl refl))))))))
 
-module _ (fresh : Fresh ℕ) (world : World ℕ) (names : List TaskName) (location : Location ℕ) (change : Change ℕ)
-    (overlay : Overlay ℕ) (upper : Layer ℕ) (is : IsWorld nat_eq world)
-    (can : CanChange fresh world location change overlay upper)
-    (direct : Among (mount_at nat_eq world location).filesystem (used_directly nat_eq world names))
-    (alike : filesystem_at nat_eq world location ≡ filesystem_at nat_eq (part_of nat_eq world names) location) where
+-- A change through an overlay of theirs that has an upper layer: by these numbers it can be made.
+pub record OverlayChange (world : World ℕ) (names : List TaskName) : Type 0 where
+  pub is : IsWorld nat_eq world
+  pub supply : Fresh ℕ
+  pub location : Location ℕ
+  pub change : Change ℕ
+  pub overlay : Overlay ℕ
+  pub upper : Layer ℕ
+  pub can : CanChange supply world location change overlay upper
+  pub direct : Among (mount_at nat_eq world location).filesystem (used_directly nat_eq world names)
+  pub alike : filesystem_at nat_eq world location ≡ filesystem_at nat_eq (part_of nat_eq world names) location
+
+module _ {world : World ℕ} {names : List TaskName} (it : OverlayChange world names) where
   abbrev part : World ℕ
   part = part_of nat_eq world names
 
   abbrev pub merged : Filesystem ℕ
-  merged = filesystem_at nat_eq world location
+  merged = filesystem_at nat_eq world it.location
 
   abbrev pub layer : Filesystem ℕ
-  layer = filesystem_numbered nat_eq world upper.filesystem
+  layer = filesystem_numbered nat_eq world it.upper.filesystem
 
   abbrev number : ℕ
-  number = (mount_at nat_eq world location).filesystem
+  number = (mount_at nat_eq world it.location).filesystem
 
   abbrev pub step : Filesystem ℕ → Filesystem ℕ
-  step = swap_both fresh world location change overlay upper is can
+  step = swap_both it.supply world it.location it.change it.overlay it.upper it.is it.can
 
   -- the overlay after the change
   abbrev merged_later : Filesystem ℕ
-  merged_later = new_merged fresh world location change overlay upper is can
+  merged_later = new_merged it.supply world it.location it.change it.overlay it.upper it.is it.can
 
   abbrev layer_later : Filesystem ℕ
-  layer_later = with_files layer (merge_after fresh world location overlay upper change).upper
+  layer_later = with_files layer (merge_after it.supply world it.location it.overlay it.upper it.change).upper
 
   pub merged_used : is_among nat_eq number (used_filesystems nat_eq world names) ≡ true
-  merged_used = used_directly_used world names number direct
+  merged_used = used_directly_used world names number it.direct
 
-  pub layer_used : is_among nat_eq upper.filesystem (used_filesystems nat_eq world names) ≡ true
-  layer_used = upper_in_use world names number overlay upper can.overlay_there can.upper_there direct
+  pub layer_used : is_among nat_eq it.upper.filesystem (used_filesystems nat_eq world names) ≡ true
+  layer_used = upper_in_use world names number it.overlay it.upper it.can.overlay_there it.can.upper_there it.direct
 
   -- each keeps its number
   renumbered : (new x : Filesystem ℕ) → (replaced_if_numbered nat_eq new x).number ≡ x.number
@@ -136,12 +144,12 @@ module _ (fresh : Fresh ℕ) (world : World ℕ) (names : List TaskName) (locati
 
   -- what an overlay is but for its real objects stays
   pub overlays_stay : {A : Type 0} (w : World ℕ) → AreOnes w → (default : A) (what : Overlay ℕ → A)
-      → ((merge : Merge ℕ) → what (record overlay { real = merge.real }) ≡ what overlay) → (x : Filesystem ℕ)
+      → ((merge : Merge ℕ) → what (record (it.overlay) { real = merge.real }) ≡ what it.overlay) → (x : Filesystem ℕ)
       → Among x w.filesystems → of_overlay default what (step x) ≡ of_overlay default what x
   overlays_stay {A} w ones default what same x m = by (nat_eq merged.number x.number) refl
     where
-      its : merged.overlay ≡ Some overlay
-      its = can.overlay_there
+      its : merged.overlay ≡ Some it.overlay
+      its = it.can.overlay_there
 
       other : (b : Bool) → nat_eq layer.number x.number ≡ b
           → of_overlay default what (cond b layer_later x) ≡ of_overlay default what x
@@ -150,9 +158,9 @@ module _ (fresh : Fresh ℕ) (world : World ℕ) (names : List TaskName) (locati
 
       by : (b : Bool) → nat_eq merged.number x.number ≡ b → of_overlay default what (step x) ≡ of_overlay default what x
       by true e = ap (λ f. of_overlay default what (step f)) (ones.one_merged x m e)
-          ∙ ap (of_overlay default what) (becomes fresh world location change overlay upper is can)
-          ∙ same (merge_after fresh world location overlay upper change) ∙ sym (ap (overlay_or default what) its)
-          ∙ ap (of_overlay default what) (sym (ones.one_merged x m e))
+          ∙ ap (of_overlay default what) (becomes it.supply world it.location it.change it.overlay it.upper it.is
+          it.can) ∙ same (merge_after it.supply world it.location it.overlay it.upper it.change)
+          ∙ sym (ap (overlay_or default what) its) ∙ ap (of_overlay default what) (sym (ones.one_merged x m e))
       by false e = ap (λ b. of_overlay default what (replaced_if_numbered nat_eq layer_later (cond b merged_later x))) e
           ∙ other (nat_eq layer.number x.number) refl
 
@@ -170,7 +178,7 @@ module _ (fresh : Fresh ℕ) (world : World ℕ) (names : List TaskName) (locati
     where
       by : (b : Bool) → nat_eq (filesystem_numbered nat_eq world k).number x.number ≡ b
           → nat_eq (filesystem_numbered nat_eq world k).number x.number ≡ false
-      by true e = absurd (true≢false (sym (old_used world names is k used)
+      by true e = absurd (true≢false (sym (old_used world names it.is k used)
           ∙ ap (λ n. is_among nat_eq n (used_filesystems nat_eq world names))
           (eqb-true (filesystem_numbered nat_eq world k).number x.number e) ∙ unused))
       by false e = e
@@ -178,86 +186,89 @@ module _ (fresh : Fresh ℕ) (world : World ℕ) (names : List TaskName) (locati
   pub unused_kept : (x : Filesystem ℕ) → is_among nat_eq x.number (used_filesystems nat_eq world names) ≡ false
       → step x ≡ x
   unused_kept x unused =
-      step_kept x (unused_apart number merged_used x unused) (unused_apart upper.filesystem layer_used x unused)
+      step_kept x (unused_apart number merged_used x unused) (unused_apart it.upper.filesystem layer_used x unused)
 
   -- the overlay is there afterwards
   is_later : (w : World ℕ) → Among merged w.filesystems → Among merged_later (with_filesystems w step).filesystems
   is_later w m = subst (λ f. Among f (with_filesystems w step).filesystems)
-      (becomes fresh world location change overlay upper is can) (among-map step w.filesystems merged m)
+      (becomes it.supply world it.location it.change it.overlay it.upper it.is it.can)
+      (among-map step w.filesystems merged m)
 
-  changes_then : Copies change → (last : World ℕ) → Among merged_later last.filesystems → (x : Filesystem ℕ)
+  changes_then : Copies it.change → (last : World ℕ) → Among merged_later last.filesystems → (x : Filesystem ℕ)
       → Among x world.filesystems → ChangesFilesystem last [] x (step x)
   changes_then copies last m = among_from_all (λ x. ChangesFilesystem last [] x (step x)) world.filesystems
       (subst (λ l. All (λ x. ChangesFilesystem last l x (step x)) world.filesystems)
-      (none_lost fresh world location change overlay upper is can copies)
-      (all_changed fresh world location change overlay upper is can last m))
+      (none_lost it.supply world it.location it.change it.overlay it.upper it.is it.can copies)
+      (all_changed it.supply world it.location it.change it.overlay it.upper it.is it.can last m))
 
   there : Among merged world.filesystems
-  there = merged_there fresh world location change overlay upper is can
+  there = merged_there it.supply world it.location it.change it.overlay it.upper it.is it.can
 
-  pub changes_in_world : Copies change → (x : Filesystem ℕ) → Among x world.filesystems
+  pub changes_in_world : Copies it.change → (x : Filesystem ℕ) → Among x world.filesystems
       → ChangesFilesystem (with_filesystems world step) [] x (step x)
   changes_in_world copies = changes_then copies (with_filesystems world step) (is_later world there)
 
-  pub changes_in_part : Copies change → (x : Filesystem ℕ) → Among x part.filesystems
+  pub changes_in_part : Copies it.change → (x : Filesystem ℕ) → Among x part.filesystems
       → ChangesFilesystem (with_filesystems part step) [] x (step x)
   changes_in_part copies x m =
       let from = among-from_filter_map (part_of_filesystem nat_eq world names) world.filesystems x m in
       ⊎_elim (λ same. changes_then copies (with_filesystems part step)
-      (is_later part (there_in_part world names is number merged_used there)) x
+      (is_later part (there_in_part world names it.is number merged_used there)) x
       (subst (λ f. Among f world.filesystems) same.0 from.1))
       (λ low. subst (ChangesFilesystem (with_filesystems part step) [] x)
       (sym (unused_kept x (ap (λ (f : Filesystem ℕ). is_among nat_eq f.number (used_filesystems nat_eq world names))
       (sym low.0) ∙ low.1))) (unchanged (with_filesystems part step) [] x)) (shown_how world names from.0 x from.2)
 
   -- the change is made
-  pub stepped_in_world : with_change nat_eq fresh world location change ≡ with_filesystems world step
-  stepped_in_world = is_swap fresh world location change overlay upper is can world refl refl
+  pub stepped_in_world : with_change nat_eq it.supply world it.location it.change ≡ with_filesystems world step
+  stepped_in_world = is_swap it.supply world it.location it.change it.overlay it.upper it.is it.can world refl refl
 
   abbrev pub made_of : Stack ℕ → Filesystem ℕ → Merge ℕ
   made_of stack f =
-      merge_changed nat_eq fresh stack (record { files = merged.files; real = overlay.real; upper = f.files }) change
+      merge_changed nat_eq it.supply stack (record { files = merged.files; real = it.overlay.real; upper = f.files })
+      it.change
 
   abbrev made_by : World ℕ → Filesystem ℕ → Merge ℕ → List (Filesystem ℕ)
   made_by w f merge = map (replaced_if_numbered nat_eq (with_files f merge.upper))
       (map (replaced_if_numbered nat_eq (record merged {
         files = merge.files;
-        overlay = Some (record overlay { real = merge.real });
+        overlay = Some (record (it.overlay) { real = merge.real });
       })) w.filesystems)
 
-  pub layer_found : filesystem_numbered nat_eq part upper.filesystem ≡ layer
-  layer_found = found world names upper.filesystem layer_used
+  pub layer_found : filesystem_numbered nat_eq part it.upper.filesystem ≡ layer
+  layer_found = found world names it.upper.filesystem layer_used
 
   abbrev pub both_numbers : List ℕ
   both_numbers = merged.number ∷ layer.number ∷ []
 
   -- so it is in each world that shows the two, if it makes the same there
-  module _ (w : World ℕ) (shows : filesystem_at nat_eq w location ≡ merged)
-      (has : filesystem_numbered nat_eq w upper.filesystem ≡ layer) where
-    pub stepped_if_made : made_of (stack_of nat_eq w overlay upper) layer
-        ≡ made_of (stack_of nat_eq world overlay upper) layer
-        → with_change nat_eq fresh w location change ≡ with_filesystems w step
-    stepped_if_made same = ap (λ f. filesystem_changed nat_eq fresh w f f.overlay change) shows
-        ∙ ap (λ o. filesystem_changed nat_eq fresh w merged o change) can.overlay_there
-        ∙ ap (λ u. overlay_changed nat_eq fresh w merged overlay u change) can.upper_there
-        ∙ ap (λ f. record w { filesystems = made_by w f (made_of (stack_of nat_eq w overlay upper) f) }) has
+  module _ (w : World ℕ) (shows : filesystem_at nat_eq w it.location ≡ merged)
+      (has : filesystem_numbered nat_eq w it.upper.filesystem ≡ layer) where
+    pub stepped_if_made : made_of (stack_of nat_eq w it.overlay it.upper) layer
+        ≡ made_of (stack_of nat_eq world it.overlay it.upper) layer
+        → with_change nat_eq it.supply w it.location it.change ≡ with_filesystems w step
+    stepped_if_made same = ap (λ f. filesystem_changed nat_eq it.supply w f f.overlay it.change) shows
+        ∙ ap (λ o. filesystem_changed nat_eq it.supply w merged o it.change) it.can.overlay_there
+        ∙ ap (λ u. overlay_changed nat_eq it.supply w merged it.overlay u it.change) it.can.upper_there
+        ∙ ap (λ f. record w { filesystems = made_by w f (made_of (stack_of nat_eq w it.overlay it.upper) f) }) has
         ∙ ap (λ merge. record w { filesystems = made_by w layer merge }) same
         ∙ ap (λ list. record w { filesystems = list })
         (map_twice (replaced_if_numbered nat_eq layer_later) (replaced_if_numbered nat_eq merged_later) w.filesystems)
 
-    pub numbers_if_seen : changed_at nat_eq w location ≡ both_numbers
-    numbers_if_seen = cc (shows, can.overlay_there, can.upper_there, has)
+    pub numbers_if_seen : changed_at nat_eq w it.location ≡ both_numbers
+    numbers_if_seen = cc (shows, it.can.overlay_there, it.can.upper_there, has)
 
-  pub stepped_in_part : Copies change → with_change nat_eq fresh part location change ≡ with_filesystems part step
-  stepped_in_part copies = stepped_if_made part (sym alike) layer_found
-      (by_no_layer fresh (stack_of nat_eq part overlay upper) (stack_of nat_eq world overlay upper)
-      (record { files = merged.files; real = overlay.real; upper = layer.files }) change copies)
+  pub stepped_in_part : Copies it.change → with_change nat_eq it.supply part it.location it.change ≡ with_filesystems
+      part step
+  stepped_in_part copies = stepped_if_made part (sym it.alike) layer_found
+      (by_no_layer it.supply (stack_of nat_eq part it.overlay it.upper) (stack_of nat_eq world it.overlay it.upper)
+      (record { files = merged.files; real = it.overlay.real; upper = layer.files }) it.change copies)
 
-  pub numbers_in_world : changed_at nat_eq world location ≡ both_numbers
+  pub numbers_in_world : changed_at nat_eq world it.location ≡ both_numbers
   numbers_in_world = numbers_if_seen world refl refl
 
-  pub numbers_in_part : changed_at nat_eq part location ≡ both_numbers
-  numbers_in_part = numbers_if_seen part (sym alike) layer_found
+  pub numbers_in_part : changed_at nat_eq part it.location ≡ both_numbers
+  numbers_in_part = numbers_if_seen part (sym it.alike) layer_found
 
   -- with their change numbers raised
   abbrev pub moved_on : Filesystem ℕ → Filesystem ℕ

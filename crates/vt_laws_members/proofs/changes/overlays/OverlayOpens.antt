@@ -18,9 +18,9 @@ use Rattle.vt_laws_members.specs.Changes.Changes.{EndsAlike, IsCallOfTheirs}
 use Rattle.vt_laws_members.specs.Changes.OverlayEdits.{OverlayOpensEndAlike}
 use Rattle.vt_laws_members.proofs.changes.files.StepsInUse.{in_use_stepped}
 use Rattle.vt_laws_members.proofs.changes.looks.Told.{member_called}
-use Rattle.vt_laws_members.proofs.changes.overlays.Copying.{both_numbers, changes_in_part, changes_in_world, kept_on, numbers_in_part, numbers_in_world, ones_in_part, ones_in_world, part_moved, step, stepped_in_part, stepped_in_world}
+use Rattle.vt_laws_members.proofs.changes.overlays.Copying.{OverlayChange, both_numbers, changes_in_part, changes_in_world, kept_on, numbers_in_part, numbers_in_world, ones_in_part, ones_in_world, part_moved, step, stepped_in_part, stepped_in_world}
 use Rattle.vt_laws_members.proofs.changes.part.SettledPart.{part_in_use}
-use Rattle.vt_laws_members.proofs.changes.tasks.Denied.{run_by, same_judgement}
+use Rattle.vt_laws_members.proofs.changes.tasks.Denied.{ran_there, run_by}
 use Rattle.vt_laws_members.proofs.changes.tasks.OpenedFiles.{opened_ends, opened_with}
 use Rattle.vt_laws_members.proofs.changes.tasks.Opening.{OpensOn, opens_theirs}
 
@@ -40,11 +40,10 @@ writes_above world fresh task asked permit
     (λ i. opens_for_writing (sym kind i) && has_no_upper (looks_of nat_eq world) (sym same i)) ∙ passed.1.1.1.0
 writes_above world fresh task asked permit other_way file wanted e = absurd cc
 
-module _ (world : World ℕ) (names : List TaskName) (name : TaskName) (path : List ℕ) (access : Access) (how : Creation)
-    (it : IsCallOfTheirs world names name (OpenFile path access how))
-    (task : Task ℕ) (called : task_called world name ≡ Some task) (fresh : Fresh ℕ) (file : Location ℕ)
-    (wanted : Access) (ground : IsTheirs world names it.is.mounts file.mount)
-    (copied : is_copied_up nat_eq world file wanted ≡ true)
+module _ {world : World ℕ} {names : List TaskName} {name : TaskName} {path : List ℕ} {access : Access} {how : Creation}
+    (it : IsCallOfTheirs world names name (OpenFile path access how)) (task : Task ℕ)
+    (called : task_called world name ≡ Some task) (fresh : Fresh ℕ) (file : Location ℕ) (wanted : Access)
+    (ground : IsTheirs world names it.is.mounts file.mount) (copied : is_copied_up nat_eq world file wanted ≡ true)
     (given : judge_in nat_eq fresh world task (OpenFile path access how) ≡ Ok (ToOpen file wanted))
     (overlay : Overlay ℕ) (upper : Layer ℕ) (can : CanChange fresh world file (CopyUp file.node) overlay upper) where
   abbrev part : World ℕ
@@ -59,17 +58,30 @@ module _ (world : World ℕ) (names : List TaskName) (name : TaskName) (path : L
   alike : filesystem_at nat_eq world file ≡ filesystem_at nat_eq part file
   alike = filesystem_alike world names it.is file ground
 
+  abbrev through : OverlayChange world names
+  through = record {
+    is = it.is;
+    supply = fresh;
+    location = file;
+    change = CopyUp file.node;
+    overlay = overlay;
+    upper = upper;
+    can = can;
+    direct = direct;
+    alike = alike;
+  }
+
   abbrev moved : Filesystem ℕ → Filesystem ℕ
-  moved = step fresh world names file (CopyUp file.node) overlay upper it.is can direct alike
+  moved = step through
 
   abbrev numbers : List ℕ
-  numbers = both_numbers fresh world names file (CopyUp file.node) overlay upper it.is can direct alike
+  numbers = both_numbers through
 
   -- the copy is made, and the file opened
   run_opened : (w : World ℕ) → is_copied_up nat_eq w file wanted ≡ true
       → with_change nat_eq fresh w file (CopyUp file.node) ≡ with_filesystems w moved
       → changed_at nat_eq w file ≡ numbers
-      → run_by world names name call it fresh fresh w fresh task (Ok (ToOpen file wanted))
+      → run_by it w fresh task (Ok (ToOpen file wanted))
       ≡ opened_with w name moved numbers task file wanted
   run_opened w copies made listed = ap by copies
       ∙ ap (λ l. granted (Opened (free_number task)) (numbers_raised nat_eq w name l (settled nat_eq
@@ -86,27 +98,21 @@ module _ (world : World ℕ) (names : List TaskName) (name : TaskName) (path : L
       && overlay_or false (λ overlay. lies_only_in_lowers overlay file.node) f.overlay) alike) ∙ copied
 
   pub open_through_ends : EndsAlike world names name call fresh fresh
-  open_through_ends = opened_ends world names name path access how it fresh task called file ground wanted moved numbers
+  open_through_ends = opened_ends it fresh task called file ground wanted moved numbers
       (record {
         in_use = in_use_stepped world (all_in_use world it.is) moved
-            (changes_in_world fresh world names file (CopyUp file.node) overlay upper it.is can direct alike tt);
-        part_moved = part_moved fresh world names file (CopyUp file.node) overlay upper it.is can direct alike world
-            (ones_in_world fresh world names file (CopyUp file.node) overlay upper it.is can direct alike)
-            (kept_on fresh world names file (CopyUp file.node) overlay upper it.is can direct alike);
+            (changes_in_world through tt);
+        part_moved = part_moved through world (ones_in_world through)
+            (kept_on through);
       }) (record {
         in_use = in_use_stepped part (part_in_use world names it.is it.sealed_off) moved
-            (changes_in_part fresh world names file (CopyUp file.node) overlay upper it.is can direct alike tt);
-        part_moved = part_moved fresh world names file (CopyUp file.node) overlay upper it.is can direct alike part
-            (ones_in_part fresh world names file (CopyUp file.node) overlay upper it.is can direct alike)
-            (λ x e. kept_on fresh world names file (CopyUp file.node) overlay upper it.is can direct alike x
+            (changes_in_part through tt);
+        part_moved = part_moved through part (ones_in_part through) (λ x e. kept_on through x
             (sym (ap (is_among nat_eq x.number) (same_used world names)) ∙ e));
-      }) (ap (run_by world names name call it fresh fresh world fresh task) given ∙ run_opened world copied
-      (stepped_in_world fresh world names file (CopyUp file.node) overlay upper it.is can direct alike)
-      (numbers_in_world fresh world names file (CopyUp file.node) overlay upper it.is can direct alike))
-      (ap (run_by world names name call it fresh fresh part fresh task)
-      (sym (same_judgement world names name call it fresh fresh task called) ∙ given) ∙ run_opened part copied_in_part
-      (stepped_in_part fresh world names file (CopyUp file.node) overlay upper it.is can direct alike tt)
-      (numbers_in_part fresh world names file (CopyUp file.node) overlay upper it.is can direct alike))
+      }) (ap (run_by it world fresh task) given ∙ run_opened world copied
+      (stepped_in_world through) (numbers_in_world through))
+      (ran_there it fresh fresh task called given ∙ run_opened part copied_in_part (stepped_in_part through tt)
+      (numbers_in_part through))
 
 pub overlay_opens_end_alike : OverlayOpensEndAlike
 overlay_opens_end_alike world names name path access how it task called fresh serves file wanted given copied =
@@ -142,9 +148,9 @@ overlay_opens_end_alike world names name path access how it task called fresh se
         (sym ((λ i. parts.0 i && overlay_or false (λ (v : Overlay ℕ). not (is_some v.upper)) (overlaid i))
         ∙ ap (λ o. not (is_some o)) none) ∙ above))
     layered overlay overlaid (Some upper) has =
-        open_through_ends world names name path access how it task called fresh file wanted ground copied given overlay
-        upper (permits_can_change world fresh task call (ToOpen file wanted) file
-        (CopyUp file.node) overlay upper it.is serves itself given asks overlaid has)
+        open_through_ends it task called fresh file wanted ground copied given overlay upper
+        (permits_can_change world fresh task call (ToOpen file wanted) file (CopyUp file.node) overlay upper it.is
+        serves itself given asks overlaid has)
 
     by : (o : Option (Overlay ℕ)) → (filesystem_at nat_eq world file).overlay ≡ o
         → EndsAlike world names name call fresh fresh

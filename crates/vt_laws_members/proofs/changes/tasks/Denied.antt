@@ -12,7 +12,14 @@ applied_ok : (fresh : Fresh ℕ) (world : World ℕ) (task : Task ℕ) (permit :
     → is_ok (apply nat_eq fresh world task permit).answer ≡ true
 applied_ok fresh world task permit = grind (arith, common_steps)
 
-module _ (world : World ℕ) (names : List TaskName) (name : TaskName) (call : Call)
+-- a call by its judgement
+module _ {world : World ℕ} {names : List TaskName} {name : TaskName} {call : Call}
+    (it : IsCallOfTheirs world names name call) where
+  abbrev pub run_by : World ℕ → Fresh ℕ → Task ℕ → Judgement ℕ → Outcome ℕ
+  run_by w supply task j =
+      finished nat_eq w name call (filesystems_changed_by nat_eq w j) (after w j (apply nat_eq supply w task))
+
+module _ {world : World ℕ} {names : List TaskName} {name : TaskName} {call : Call}
     (it : IsCallOfTheirs world names name call) (fresh other : Fresh ℕ) where
   abbrev part : World ℕ
   part = part_of nat_eq world names
@@ -41,18 +48,17 @@ module _ (world : World ℕ) (names : List TaskName) (name : TaskName) (call : C
     among_them = it.among_them;
   }) fresh other
 
-  -- a call by its judgement
-  abbrev pub run_by : World ℕ → Fresh ℕ → Task ℕ → Judgement ℕ → Outcome ℕ
-  run_by w supply task j =
-      finished nat_eq w name call (filesystems_changed_by nat_eq w j) (after w j (apply nat_eq supply w task))
+  pub ran_there : (task : Task ℕ) → task_called world name ≡ Some task → {j : Judgement ℕ}
+      → judge_in nat_eq fresh world task call ≡ j → ran name call part other (Some task) ≡ run_by it part other task j
+  ran_there task e judged = ap (run_by it part other task) (sym (same_judgement task e) ∙ judged)
 
   -- a refusal is the end
   refused_by : (w : World ℕ) (supply : Fresh ℕ) (task : Task ℕ) (deny : Deny)
-      → run_by w supply task (Err deny) ≡ denied w deny
+      → run_by it w supply task (Err deny) ≡ denied w deny
   refused_by w supply task deny = grind (arith, common_steps)
 
   answer_kept : (w : World ℕ) (supply : Fresh ℕ) (task : Task ℕ) (j : Judgement ℕ)
-      → (run_by w supply task j).answer ≡ (after w j (apply nat_eq supply w task)).answer
+      → (run_by it w supply task j).answer ≡ (after w j (apply nat_eq supply w task)).answer
   answer_kept w supply task j = by (only_looks call || not (is_ok (after w j (apply nat_eq supply w task)).answer))
     where
       by : (b : Bool) → (finished_by nat_eq b w name (filesystems_changed_by nat_eq w j)
@@ -68,14 +74,14 @@ module _ (world : World ℕ) (names : List TaskName) (name : TaskName) (call : C
           → judge_in nat_eq fresh world task call ≡ j → EndsAlike world names name call fresh other
       judged task e (Ok permit) same = absurd (true≢false (sym (applied_ok fresh world task permit)
           ∙ sym (ap is_ok (answer_kept world fresh task (Ok permit)))
-          ∙ sym (ap (λ j. is_ok (run_by world fresh task j).answer) same)
+          ∙ sym (ap (λ j. is_ok (run_by it world fresh task j).answer) same)
           ∙ sym (ap (λ o. is_ok (ran name call world fresh o).answer) e) ∙ refused))
       judged task e (Err deny) same = by_runs (Some task) e
           (subst (λ p. EndAlike (grown names name call (ran name call world fresh (Some task)).answer)
-          (ran name call world fresh (Some task)) p)
-          (sym (ap (run_by part other task) (sym (same_judgement task e) ∙ same) ∙ refused_by part other task deny))
+          (ran name call world fresh (Some task)) p) (sym (ap (run_by it part other task)
+          (sym (same_judgement task e) ∙ same) ∙ refused_by part other task deny))
           (subst (λ o. EndAlike (grown names name call o.answer) o (denied part deny))
-          (sym (ap (run_by world fresh task) same ∙ refused_by world fresh task deny))
+          (sym (ap (run_by it world fresh task) same ∙ refused_by world fresh task deny))
           (record { answer = refl; part = sym (part_again world names it.is) })))
 
       by : (o : Option (Task ℕ)) → task_called world name ≡ o → EndsAlike world names name call fresh other
@@ -84,4 +90,4 @@ module _ (world : World ℕ) (names : List TaskName) (name : TaskName) (call : C
 
 pub denials_end_alike : DenialsEndAlike
 denials_end_alike world names name call it fresh other refused =
-    denial_ends_alike world names name call it fresh other refused
+    denial_ends_alike it fresh other refused

@@ -4,7 +4,7 @@ use Rattle.vt_spec.proofs.Common.{Among, Child, Credentials, Fork, IsWorld, Loca
 use Rattle.vt_laws_sealed.proofs.part.part.PartOfPart.{is_own, keep, same_members}
 use Rattle.vt_laws_members.specs.Changes.Changes.{ForksEndAlike}
 use Rattle.vt_laws_members.proofs.changes.looks.Told.{member_called}
-use Rattle.vt_laws_members.proofs.changes.tasks.Denied.{run_by, same_judgement}
+use Rattle.vt_laws_members.proofs.changes.tasks.Denied.{ran_there, run_by}
 use Rattle.vt_laws_members.proofs.changes.tasks.Ending.{LeavesTasks, tasks_end_alike}
 use Rattle.vt_laws_members.proofs.changes.tasks.Retasked.{SeeAlike, any_both, any_of_each}
 use Rattle.vt_laws_members.proofs.changes.tasks.Rights.{any_mapped, only_task}
@@ -191,15 +191,14 @@ module _ (world : World ℕ) (names : List TaskName) (name : TaskName) (is : IsW
 pub forks_end_alike : ForksEndAlike
 forks_end_alike world names name words it task called fresh other credentials granted_so =
     tasks_end_alike world names (child_name task ∷ names) name (Fork words) it task called fresh other
-    (Child (child_name task)) refl (made world.tasks) (made part.tasks)
-    (ap (run_by world names name (Fork words) it fresh other world fresh task) granted_so)
-    (ap (run_by world names name (Fork words) it fresh other part other task)
-    (sym (same_judgement world names name (Fork words) it fresh other task called) ∙ granted_so))
+    (Child (child_name task)) refl (made world.tasks) (made part.tasks) (ap (run_by it world fresh task) granted_so)
+    (ran_there it fresh other task called granted_so)
     (leaves world names name it.is task called credentials world (λ t m. m) member)
     (leaves world names name it.is task called credentials part in_world
-    (subst (Among task) (sym (same_members world names)) member)) (alike world.tasks (λ t m. m)
-    ∙ sym (alike part.tasks in_world ∙ ap (λ l. map (both world names name it.is task called credentials) l
-    ++ kid world names name it.is task called credentials ∷ []) (same_members world names)))
+    (subst (Among task) (sym (same_members world names)) member))
+    (alike world.tasks (λ t m. m) ∙ sym (alike part.tasks in_world
+    ∙ ap (λ l. map (both world names name it.is task called credentials) l ++ kid world names name it.is task called
+    credentials ∷ []) (same_members world names)))
   where
     part : World ℕ
     part = part_of nat_eq world names

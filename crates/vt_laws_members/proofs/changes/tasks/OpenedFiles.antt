@@ -25,7 +25,7 @@ opened_with w name moved numbers task file access =
     granted (Opened (free_number task)) (numbers_raised nat_eq w name numbers
     (settled nat_eq (with_task (with_filesystems w moved) (with_descriptor task file access))))
 
-module _ (world : World ℕ) (names : List TaskName) (name : TaskName) (path : List ℕ) (access : Access) (how : Creation)
+module _ {world : World ℕ} {names : List TaskName} {name : TaskName} {path : List ℕ} {access : Access} {how : Creation}
     (it : IsCallOfTheirs world names name (OpenFile path access how)) (fresh : Fresh ℕ) (task : Task ℕ)
     (found : task_called world name ≡ Some task) (file : Location ℕ)
     (ground : IsTheirs world names it.is.mounts file.mount)

@@ -12,7 +12,7 @@ use Rattle.vt_laws_members.proofs.judging.WalksLead.{FoundAt, HereAt, PlaceAt, f
 use Rattle.vt_laws_members.specs.Changes.Changes.{OpensEndAlike}
 use Rattle.vt_laws_members.proofs.changes.looks.Granted.{of_rules, of_walk}
 use Rattle.vt_laws_members.proofs.changes.looks.Told.{member_called}
-use Rattle.vt_laws_members.proofs.changes.tasks.Denied.{run_by, same_judgement}
+use Rattle.vt_laws_members.proofs.changes.tasks.Denied.{ran_there, run_by}
 use Rattle.vt_laws_members.proofs.changes.tasks.Ending.{LeavesTasks, tasks_end_alike}
 use Rattle.vt_laws_members.proofs.changes.tasks.Retasked.{SeeAlike}
 use Rattle.vt_laws_members.proofs.changes.tasks.WholeMounts.{used_in_part, whole_in_part, whole_in_world}
@@ -311,17 +311,14 @@ pub opens_end_alike : OpensEndAlike
 opens_end_alike world names name path access how it task called fresh other file wanted granted_so not_copied =
     tasks_end_alike world names names name (OpenFile path access how) it task called fresh other
     (Opened (free_number task)) refl (map changed world.tasks) (map changed part.tasks)
-    (ap (run_by world names name (OpenFile path access how) it fresh other world fresh task) granted_so
-    ∙ ap (opened_by world fresh) not_copied)
-    (ap (run_by world names name (OpenFile path access how) it fresh other part other task)
-    (sym (same_judgement world names name (OpenFile path access how) it fresh other task called) ∙ granted_so)
-    ∙ ap (opened_by part other) copied_alike) (leaves world names name it.is task called file wanted world (λ t m. m)
+    (ap (run_by it world fresh task) granted_so ∙ ap (opened_by world fresh) not_copied)
+    (ran_there it fresh other task called granted_so ∙ ap (opened_by part other) copied_alike)
+    (leaves world names name it.is task called file wanted world (λ t m. m)
     (whole_in_world world names it.is file ground) used_in_world)
-    (leaves world names name it.is task called file wanted part in_world
-    (whole_in_part world names it.is file ground) (used_in_part world names it.is file ground))
-    (replaced_members world.tasks
-    ∙ sym (replaced_members part.tasks ∙ ap (map (both world names name it.is task called file wanted))
-    (same_members world names)))
+    (leaves world names name it.is task called file wanted part in_world (whole_in_part world names it.is file ground)
+    (used_in_part world names it.is file ground))
+    (replaced_members world.tasks ∙ sym (replaced_members part.tasks
+    ∙ ap (map (both world names name it.is task called file wanted)) (same_members world names)))
   where
     part : World ℕ
     part = part_of nat_eq world names

@@ -6,7 +6,7 @@ use Rattle.vt_laws_mounts.proofs.letting_go.Lists.{filter-map, flat_map-step}
 use Rattle.vt_laws_sealed.proofs.part.part.PartOfPart.{same_members}
 use Rattle.vt_laws_members.specs.Changes.Changes.{DropsEndAlike, EmptyWritesEndAlike, EndsAlike, IsCallOfTheirs, RenamesOfOneEndAlike, UmasksEndAlike, grown}
 use Rattle.vt_laws_members.proofs.changes.looks.Told.{ran}
-use Rattle.vt_laws_members.proofs.changes.tasks.Denied.{run_by, same_judgement, unnamed_ends_alike}
+use Rattle.vt_laws_members.proofs.changes.tasks.Denied.{ran_there, run_by, unnamed_ends_alike}
 use Rattle.vt_laws_members.proofs.changes.tasks.Ending.{LeavesTasks, tasks_end_alike, with_tasks}
 use Rattle.vt_laws_members.proofs.changes.tasks.Retasked.{SeeAlike}
 
@@ -80,10 +80,9 @@ only_task (first ∷ rest) one a b m n e =
         ∙ none_among (λ (x : Task ℕ). same_name first.name x.name) rest none t m)
 
 -- A task with other rights
-module _ (world : World ℕ) (names : List TaskName) (name : TaskName) (call : Call)
-    (it : IsCallOfTheirs world names name call)
-    (task : Task ℕ) (found : task_called world name ≡ Some task) (new : Task ℕ) (named : new.name ≡ task.name)
-    (spaced : new.namespace ≡ task.namespace)
+module _ {world : World ℕ} {names : List TaskName} {name : TaskName} {call : Call}
+    (it : IsCallOfTheirs world names name call) (task : Task ℕ) (found : task_called world name ≡ Some task)
+    (new : Task ℕ) (named : new.name ≡ task.name) (spaced : new.namespace ≡ task.namespace)
     (rooted : (new.root ∷ new.directory ∷ []) ≡ (task.root ∷ task.directory ∷ []))
     (placed : locations_of new ≡ locations_of task) where
   abbrev part : World ℕ
@@ -157,18 +156,18 @@ pub umasks_end_alike : UmasksEndAlike
 umasks_end_alike world names name mode it fresh other = by (task_called world name) refl
   where
     by : (o : Option (Task ℕ)) → task_called world name ≡ o → EndsAlike world names name (Umask mode) fresh other
-    by None e = unnamed_ends_alike world names name (Umask mode) it fresh other e
-    by (Some task) e = rights_end world names name (Umask mode) it task e
-        (record task { umask = permission_bits mode }) refl refl refl refl Done fresh other refl refl refl
+    by None e = unnamed_ends_alike it fresh other e
+    by (Some task) e = rights_end it task e (record task { umask = permission_bits mode }) refl refl refl refl Done
+        fresh other refl refl refl
 
 pub drops_end_alike : DropsEndAlike
 drops_end_alike world names name which it fresh other = by (task_called world name) refl
   where
     by : (o : Option (Task ℕ)) → task_called world name ≡ o → EndsAlike world names name (Drop which) fresh other
-    by None e = unnamed_ends_alike world names name (Drop which) it fresh other e
-    by (Some task) e = rights_end world names name (Drop which) it task e
-        (record task { credentials = with_dropped task.credentials (capabilities_of which task.credentials) })
-        refl refl refl refl Done fresh other refl refl refl
+    by None e = unnamed_ends_alike it fresh other e
+    by (Some task) e = rights_end it task e (record task
+        { credentials = with_dropped task.credentials (capabilities_of which task.credentials) }) refl refl refl refl
+        Done fresh other refl refl refl
 
 -- Calls that are granted and change nothing
 itself_again : (task : Task ℕ) (tasks : List (Task ℕ)) → ((t : Task ℕ) → Among t tasks → t.name ≡ task.name → t ≡ task)
@@ -187,7 +186,7 @@ pub idle_end_alike : (world : World ℕ) (names : List TaskName) (name : TaskNam
     ≡ with_tasks (part_of nat_eq world names) name answer (part_of nat_eq world names).tasks
     → EndsAlike world names name call fresh other
 idle_end_alike world names name call it task found fresh other answer stays one two =
-    rights_end world names name call it task found task refl refl refl refl answer fresh other stays
+    rights_end it task found task refl refl refl refl answer fresh other stays
     (one ∙ ap (with_tasks world name answer) (sym (itself_again task world.tasks (λ t m e. alone t m e))))
     (two ∙ ap (with_tasks (part_of nat_eq world names) name answer)
     (sym (itself_again task (part_of nat_eq world names).tasks
@@ -201,13 +200,9 @@ idle_end_alike world names name call it task found fresh other answer stays one 
 pub renames_of_one_end_alike : RenamesOfOneEndAlike
 renames_of_one_end_alike world names name old new it task found fresh other granted_so =
     idle_end_alike world names name (Rename old new) it task found fresh other Done refl
-    (ap (run_by world names name (Rename old new) it fresh other world fresh task) granted_so)
-    (ap (run_by world names name (Rename old new) it fresh other (part_of nat_eq world names) other task)
-    (sym (same_judgement world names name (Rename old new) it fresh other task found) ∙ granted_so))
+    (ap (run_by it world fresh task) granted_so) (ran_there it fresh other task found granted_so)
 
 pub empty_writes_end_alike : EmptyWritesEndAlike
 empty_writes_end_alike world names name descriptor offset it task found fresh other file at granted_so =
     idle_end_alike world names name (Pwrite descriptor offset []) it task found fresh other Done refl
-    (ap (run_by world names name (Pwrite descriptor offset []) it fresh other world fresh task) granted_so)
-    (ap (run_by world names name (Pwrite descriptor offset []) it fresh other (part_of nat_eq world names) other task)
-    (sym (same_judgement world names name (Pwrite descriptor offset []) it fresh other task found) ∙ granted_so))
+    (ap (run_by it world fresh task) granted_so) (ran_there it fresh other task found granted_so)

@@ -1,22 +1,20 @@
 -- Where mounts of a sealed set are detached, its mounts share no events with others, neither in the world nor in
 -- the part.
 use Rattle.std.proofs.Common.{arith, ◌≡◌, refl, sym, ap, ◌∙◌, ⊎_elim, ℕ, nat_eq, eq-eqb, Bool, true, false, cond, true≢false, List, Option, Some, None, length, not}
-use Rattle.vt_spec.proofs.Common.{Among, HasLivingGroups, IsWorld, Mount, Private, Propagation, Shared, Slave, Task, TaskName, Unbindable, World, among-filter, among-from_filter, among-from_filter_map, among-from_map, among_from_all, common_steps, false_from_ne_true, filter_none, found_among, group_of, groups_up, has_members, heir, holds_of, inherited, is_among_numbers, is_going, is_member_of, is_own_mount, is_own_namespace, list_all, list_all_from_among, list_any, master_of, members, none_from_among, none_is_some, or_from, other_mounts, own_mounts, part_of, receives_events_of, sealed, share_events, shares_no_events, slave_of_heir, source_of}
+use Rattle.vt_spec.proofs.Common.{Among, HasLivingGroups, Mount, Private, Propagation, Shared, Slave, Task, TaskName, Unbindable, World, among-filter, among-from_filter, among-from_filter_map, among-from_map, among_from_all, common_steps, false_from_ne_true, filter_none, found_among, group_of, groups_up, has_members, heir, holds_of, inherited, is_among_numbers, is_going, is_member_of, is_own_mount, is_own_namespace, list_all, list_all_from_among, list_any, master_of, members, none_from_among, none_is_some, or_from, other_mounts, own_mounts, part_of, receives_events_of, share_events, shares_no_events, slave_of_heir, source_of}
 use Rattle.vt_laws_mounts.proofs.GroupsUp.{source_from_group}
 use Rattle.vt_laws_mounts.proofs.mounts.Receivers.{along_chain}
 use Rattle.vt_laws_sealed.proofs.part.groups.EventsApart.{none_hears}
 use Rattle.vt_laws_sealed.proofs.part.groups.ReceiversAlike.{OtherLives, member_group, none_other, other_above, start_hears}
-use Rattle.vt_laws_sealed.proofs.part.part.PartOfPart.{is_own, keep, same_members}
+use Rattle.vt_laws_sealed.proofs.part.part.PartOfPart.{keep, same_members}
 use Rattle.vt_laws_members.proofs.judging.MountPoints.{part_mount}
 use Rattle.vt_laws_members.proofs.changes.letting_go.Heard.{IsHeard, above_heard, apart, heard_by_own}
 use Rattle.vt_laws_members.proofs.changes.letting_go.NamespaceLess.{ended, ended_by, ended_mount, ended_part, member_was, placed_so}
-use Rattle.vt_laws_members.proofs.changes.letting_go.Regrouped.{left, left_part, master_after}
-use Rattle.vt_laws_members.proofs.changes.letting_go.Taken.{all_last, set_stays}
+use Rattle.vt_laws_members.proofs.changes.letting_go.Regrouped.{TheirsGo, left_by, master_after}
+use Rattle.vt_laws_members.proofs.changes.letting_go.Taken.{all_stay}
 
-module _ (world : World ℕ) (names : List TaskName) (is : IsWorld nat_eq world)
-    (sealed_off : sealed nat_eq world names ≡ true) (gone : List ℕ)
-    (own_go : (m : Mount ℕ) → Among m world.mounts → is_going nat_eq gone m.number ≡ true
-    → is_own world names (members world names) m ≡ true) (b : Bool) where
+module _ {world : World ℕ} {names : List TaskName} {gone : List ℕ} (go : TheirsGo world names gone)
+    (b : Bool) where
   abbrev theirs : List (Task ℕ)
   theirs = members world names
 
@@ -24,25 +22,22 @@ module _ (world : World ℕ) (names : List TaskName) (is : IsWorld nat_eq world)
   part = part_of nat_eq world names
 
   abbrev t : World ℕ
-  t = left world names is sealed_off gone own_go
+  t = left_by world gone
 
   abbrev here : World ℕ
-  here = ended world names is sealed_off names gone own_go (all_last world names is sealed_off gone own_go) world.tasks
-      part.tasks world.change part.change (same_members world names) (set_stays world names is sealed_off gone own_go) b
+  here = ended (all_stay go b)
 
   abbrev there : World ℕ
-  there = ended_part world names is sealed_off names gone own_go
-      (all_last world names is sealed_off gone own_go) world.tasks
-      part.tasks world.change part.change (same_members world names) (set_stays world names is sealed_off gone own_go) b
+  there = ended_part (all_stay go b)
 
   abbrev after : Mount ℕ → Mount ℕ
   after = ended_mount b t world gone
 
   abbrev after_part : Mount ℕ → Mount ℕ
-  after_part = ended_mount b (left_part world names is sealed_off gone own_go) part gone
+  after_part = ended_mount b (left_by part gone) part gone
 
   abbrev events : shares_no_events nat_eq world names ≡ true
-  events = (apart world names is sealed_off).events
+  events = (apart world names go.is go.sealed_off).events
 
   -- Masters after
 
@@ -134,26 +129,26 @@ module _ (world : World ℕ) (names : List TaskName) (is : IsWorld nat_eq world)
       let other : Among u.0 (other_mounts nat_eq world names) =
       among-filter (λ (q : Mount ℕ). holds_of IsOther q.namespace) world.mounts u.0 u.1 u.4 in
       or_from (receives_events_of nat_eq here y z) (receives_events_of nat_eq here z y)
-      (hears_not (IsHeard world names is sealed_off) y z (λ g e. heard_by_own world names is sealed_off x.0 mine g
-      (source_from_group x.0.propagation g (group_was x.0 g (ap (λ (q : Mount ℕ). group_of q.propagation) (sym x.2) ∙ e))))
-      (λ g e. master_reached (IsHeard world names is sealed_off) (above_heard world names is sealed_off) x.0 x.3
-      (heard_by_own world names is sealed_off x.0 mine) g
+      (hears_not (IsHeard world names go.is go.sealed_off) y z (λ g e. heard_by_own world names go.is go.sealed_off x.0
+      mine g (source_from_group x.0.propagation g (group_was x.0 g (ap (λ (q : Mount ℕ). group_of q.propagation)
+      (sym x.2) ∙ e)))) (λ g e. master_reached (IsHeard world names go.is go.sealed_off)
+      (above_heard world names go.is go.sealed_off) x.0 x.3 (heard_by_own world names go.is go.sealed_off x.0 mine) g
       (ap (λ (q : Mount ℕ). master_of here q.propagation) (sym x.2) ∙ e))
-      (λ g heard h. none_hears world names is.mounts events g u.0 heard.0 other
+      (λ g heard h. none_hears world names go.is.mounts events g u.0 heard.0 other
       (member_was b t world gone g u.0 (ap (is_member_of nat_eq g) (sym u.2) ∙ h))))
-      (hears_not (OtherLives world names is.mounts events) z y (λ g e. start u.0 u.1 other g
-      (source_from_group u.0.propagation g (group_was u.0 g (ap (λ (q : Mount ℕ). group_of q.propagation) (sym u.2) ∙ e))))
-      (λ g e. master_reached (OtherLives world names is.mounts events)
-      (other_above world names is.mounts events) u.0 u.3
+      (hears_not (OtherLives world names go.is.mounts events) z y (λ g e. start u.0 u.1 other g
+      (source_from_group u.0.propagation g (group_was u.0 g (ap (λ (q : Mount ℕ). group_of q.propagation) (sym u.2)
+      ∙ e)))) (λ g e. master_reached (OtherLives world names go.is.mounts events)
+      (other_above world names go.is.mounts events) u.0 u.3
       (start u.0 u.1 other) g (ap (λ (q : Mount ℕ). master_of here q.propagation) (sym u.2) ∙ e))
-      (λ g lives h. none_other world names is.mounts events g x.0 lives.0 mine
+      (λ g lives h. none_other world names go.is.mounts events g x.0 lives.0 mine
       (member_was b t world gone g x.0 (ap (is_member_of nat_eq g) (sym x.2) ∙ h))))
     where
       start : (q : Mount ℕ) → Among q world.mounts → Among q (other_mounts nat_eq world names) → (s : ℕ)
-          → source_of q.propagation ≡ Some s → OtherLives world names is.mounts events s
+          → source_of q.propagation ≡ Some s → OtherLives world names go.is.mounts events s
       start q there_is other s e = (
         (q, other, start_hears world s q.propagation e),
-        among_from_all (HasLivingGroups nat_eq world) world.mounts is.mounts.groups q there_is s e,
+        among_from_all (HasLivingGroups nat_eq world) world.mounts go.is.mounts.groups q there_is s e,
       )
 
   pub apart_here : shares_no_events nat_eq here names ≡ true
@@ -171,9 +166,9 @@ module _ (world : World ℕ) (names : List TaskName) (is : IsWorld nat_eq world)
       let from = among-from_map after_part part.mounts y m in
       ap (λ (q : Mount ℕ). holds_of (λ n. not (is_own_namespace nat_eq there names n)) q.namespace) from.2
       ∙ ap (λ ts. holds_of (λ n. not (list_any (λ (q : Task ℕ). nat_eq n q.namespace) ts))
-      (after_part from.0).namespace) (same_members world names) ∙ ⊎_elim (λ out. ap (holds_of IsOther) out.0)
-      (λ stays. ap (holds_of IsOther) stays.0 ∙ of_part from.0 from.1)
-      (placed_so b (left_part world names is sealed_off gone own_go) part gone from.0)
+      (after_part from.0).namespace) (same_members world names)
+      ∙ ⊎_elim (λ out. ap (holds_of IsOther) out.0) (λ stays. ap (holds_of IsOther) stays.0 ∙ of_part from.0 from.1)
+      (placed_so b (left_by part gone) part gone from.0)
     where
       by : (o : Option ℕ) → holds_of (is_own_namespace nat_eq world names) o ≡ true → holds_of IsOther o ≡ false
       by None h = refl
@@ -183,7 +178,7 @@ module _ (world : World ℕ) (names : List TaskName) (is : IsWorld nat_eq world)
       of_part z n =
           let from = among-from_filter_map (keep world names theirs) world.mounts z n in
           ⊎_elim (by z.namespace) (λ none. ap (holds_of IsOther) none)
-          (part_mount world names is from.0 z from.1 from.2)
+          (part_mount world names go.is from.0 z from.1 from.2)
 
   pub apart_there : shares_no_events nat_eq there names ≡ true
   apart_there = ap (λ list. list_all (λ own. list_all (λ other. not (share_events nat_eq there own other)) list)

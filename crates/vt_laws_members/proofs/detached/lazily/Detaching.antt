@@ -1,6 +1,6 @@
 -- Each umount(2) with MNT_DETACH ends in the part as in the world.
 use Rattle.std.proofs.Common.{◌≡◌, refl, sym, ap, subst, ◌∙◌, ⊎_elim, ℕ, nat_eq, eq-eqb, true, true≢false, List, [], Option, Some, None, Ok, Err, is_ok}
-use Rattle.vt_spec.proofs.Common.{Among, Call, Done, Fresh, IsWorld, Judgement, Lazy, Mount, MountInvariants, Outcome, Permit, Task, TaskName, ToUnmountLazily, World, folded, found_or_none, granted, holds_of, is_going, judge_in, lazily_unmounted, looks_of, members, mount_numbered, none_is_some, numbers_raised, overfills, part_of, policy, sealed, settled, taken_away, task_called, unmounted_if_there}
+use Rattle.vt_spec.proofs.Common.{Among, Call, Done, Fresh, IsWorld, Judgement, Lazy, Mount, MountInvariants, Outcome, Permit, Task, TaskName, ToUnmountLazily, World, folded, found_or_none, granted, holds_of, judge_in, lazily_unmounted, looks_of, members, mount_numbered, none_is_some, numbers_raised, overfills, part_of, policy, sealed, settled, taken_away, task_called, unmounted_if_there}
 use Rattle.vt_laws_rules.specs.Granted.{IsGranted}
 use Rattle.vt_laws_rules.specs.Granted.IsGranted.{unmounts_lazily}
 use Rattle.vt_laws_rules.proofs.given.Inversion.{calls_are_granted}
@@ -16,10 +16,11 @@ use Rattle.vt_laws_members.proofs.changes.letting_go.PartMounts.{part_mounts}
 use Rattle.vt_laws_members.proofs.changes.letting_go.Taken.{taken_parts}
 use Rattle.vt_laws_members.proofs.changes.looks.Told.{member_called, ran, same_caller}
 use Rattle.vt_laws_members.proofs.changes.names.NamesEnding.{unused_numbers, unused_serve}
-use Rattle.vt_laws_members.proofs.changes.tasks.Denied.{denial_ends_alike, run_by, same_judgement, unnamed_ends_alike}
+use Rattle.vt_laws_members.proofs.changes.tasks.Denied.{denial_ends_alike, ran_there, run_by, unnamed_ends_alike}
 use Rattle.vt_laws_members.specs.Detached.Lazily.{LazyUmountsDetachAlike}
 use Rattle.vt_laws_members.proofs.detached.lazily.Order.{same_turns, turns_own}
 use Rattle.vt_laws_members.proofs.detached.lazily.Turns.{SameButGroups, TookAway, events_alike, kept_but_groups, took, took_none}
+use Rattle.vt_laws_members.proofs.changes.letting_go.Regrouped.{TheirsGo}
 
 -- worlds that differ in dead groups are swept to one
 settled_but_groups : (one other : World ℕ) → SameButGroups one other → settled nat_eq one ≡ settled nat_eq other
@@ -46,13 +47,12 @@ module _ (world : World ℕ) (names : List TaskName) (is : IsWorld nat_eq world)
   left_there = folded (unmounted_if_there nat_eq) part turns
 
   -- all that goes, in both
-  all_gone : (gone : List ℕ) × ((m : Mount ℕ) → Among m world.mounts → is_going nat_eq gone m.number ≡ true
-      → is_own world names (members world names) m ≡ true)
+  all_gone : (gone : List ℕ) × TheirsGo world names gone
       × TookAway world (lazily_unmounted nat_eq world number) gone × TookAway part left_there gone
   all_gone = events_alike world names is sealed_off number turns world part [] (begun world is.mounts number)
       (subst (IsUnderWay part in_part number part) same (begun part in_part number))
-      (λ m n none. absurd (true≢false (sym none))) (took_none world is.mounts) (took_none part in_part)
-      (turns_own world names is sealed_off number there own)
+      (record { is = is; sealed_off = sealed_off; own_go = λ m n none. absurd (true≢false (sym none)) })
+      (took_none world is.mounts) (took_none part in_part) (turns_own world names is sealed_off number there own)
 
   abbrev gone : List ℕ
   gone = all_gone.0
@@ -68,10 +68,9 @@ module _ (world : World ℕ) (names : List TaskName) (is : IsWorld nat_eq world)
       ≡ part_of nat_eq (numbers_raised nat_eq part name [] (settled nat_eq (lazily_unmounted nat_eq part number))) names
   lazy_parts = ap (λ w. part_of nat_eq (numbers_raised nat_eq world name [] w) names)
       (settled_but_groups (lazily_unmounted nat_eq world number) (taken_away nat_eq world gone) same_here)
-      ∙ taken_parts world names is sealed_off gone all_gone.1 name
-      (kept_but_groups (lazily_unmounted nat_eq world number) (taken_away nat_eq world gone) same_here all_gone.2.kept)
-      (kept_but_groups left_there (taken_away nat_eq part gone) same_there all_gone.3.kept)
-      ∙ sym (ap (λ w. part_of nat_eq (numbers_raised nat_eq part name [] w) names)
+      ∙ taken_parts all_gone.1 (kept_but_groups (lazily_unmounted nat_eq world number) (taken_away nat_eq world gone)
+      same_here all_gone.2.kept) (kept_but_groups left_there (taken_away nat_eq part gone) same_there all_gone.3.kept)
+      name ∙ sym (ap (λ w. part_of nat_eq (numbers_raised nat_eq part name [] w) names)
       (ap (λ list. settled nat_eq (folded (unmounted_if_there nat_eq) part list)) same
       ∙ settled_but_groups left_there (taken_away nat_eq part gone) same_there))
 
@@ -83,7 +82,7 @@ detaches world fresh task path asked permit (unmounts_lazily own_path here admin
     (here.location.mount, refl)
 detaches world fresh task path asked permit other_way e = absurd cc
 
-module _ (world : World ℕ) (names : List TaskName) (name : TaskName) (path : List ℕ)
+module _ {world : World ℕ} {names : List TaskName} {name : TaskName} {path : List ℕ}
     (it : IsCallOfTheirs world names name (Lazy path)) (fresh other : Fresh ℕ) (task : Task ℕ)
     (found : task_called world name ≡ Some task) (number : ℕ)
     (judged : judge_in nat_eq fresh world task (Lazy path) ≡ Ok (ToUnmountLazily number)) where
@@ -112,12 +111,10 @@ module _ (world : World ℕ) (names : List TaskName) (name : TaskName) (path : L
   granted_ends : EndsAlike world names name (Lazy path) fresh other
   granted_ends =
       let first : policy nat_eq fresh world name (Lazy path) ≡ outcome world =
-      ap (ran name (Lazy path) world fresh) found
-      ∙ ap (run_by world names name (Lazy path) it fresh other world fresh task) judged in
+      ap (ran name (Lazy path) world fresh) found ∙ ap (run_by it world fresh task) judged in
       let second : policy nat_eq other its_part name (Lazy path) ≡ outcome its_part =
       ap (ran name (Lazy path) its_part other) (same_caller world names it.is it.sealed_off name it.theirs ∙ found)
-      ∙ ap (run_by world names name (Lazy path) it fresh other its_part other task)
-      (sym (same_judgement world names name (Lazy path) it fresh other task found) ∙ judged) in
+      ∙ ran_there it fresh other task found judged in
       subst (λ p. EndAlike (grown names name (Lazy path) (policy nat_eq fresh world name (Lazy path)).answer)
       (policy nat_eq fresh world name (Lazy path)) p) (sym second)
       (subst (λ o. EndAlike (grown names name (Lazy path) o.answer) o (outcome its_part)) (sym first) (record {
@@ -132,13 +129,13 @@ lazy_umounts_detach_alike world names name path it fresh other = by (task_called
         → judge_in nat_eq fresh world task (Lazy path) ≡ j → EndsAlike world names name (Lazy path) fresh other
     judged_by task e (Ok permit) judged =
         let its = detaches world fresh task path (Lazy path) permit
-        (calls_are_granted nat_eq (looks_of nat_eq world) (overfills nat_eq fresh world task) task
-        (Lazy path) permit judged) refl in
-        granted_ends world names name path it fresh other task e its.0 (judged ∙ ap Ok its.1)
-    judged_by task e (Err deny) judged = denial_ends_alike world names name (Lazy path) it fresh other
+        (calls_are_granted nat_eq (looks_of nat_eq world) (overfills nat_eq fresh world task) task (Lazy path) permit
+        judged) refl in
+        granted_ends it fresh other task e its.0 (judged ∙ ap Ok its.1)
+    judged_by task e (Err deny) judged = denial_ends_alike it fresh other
         (ap (λ o. is_ok (ran name (Lazy path) world fresh o).answer) e
-        ∙ ap (λ j. is_ok (run_by world names name (Lazy path) it fresh other world fresh task j).answer) judged)
+        ∙ ap (λ j. is_ok (run_by it world fresh task j).answer) judged)
 
     by : (o : Option (Task ℕ)) → task_called world name ≡ o → EndsAlike world names name (Lazy path) fresh other
-    by None e = unnamed_ends_alike world names name (Lazy path) it fresh other e
+    by None e = unnamed_ends_alike it fresh other e
     by (Some task) e = judged_by task e (judge_in nat_eq fresh world task (Lazy path)) refl

@@ -10,8 +10,8 @@ use Rattle.vt_laws_members.proofs.changes.letting_go.Heard.{own_in_part}
 use Rattle.vt_laws_members.proofs.changes.letting_go.LessSeen.{one_part}
 use Rattle.vt_laws_members.proofs.changes.letting_go.NamespaceLess.{ended_less, ended_mount, own_before, placed_so, shape_kept}
 use Rattle.vt_laws_members.proofs.changes.letting_go.PartMounts.{part_mounts}
-use Rattle.vt_laws_members.proofs.changes.letting_go.Regrouped.{left, left_part, mount_alike}
-use Rattle.vt_laws_members.proofs.changes.letting_go.Taken.{all_last, group_lost, part_after, part_taken, set_stays, world_after, world_taken}
+use Rattle.vt_laws_members.proofs.changes.letting_go.Regrouped.{TheirsGo, left_by, mount_alike}
+use Rattle.vt_laws_members.proofs.changes.letting_go.Taken.{all_stay, group_lost, part_after, part_taken, world_after, world_taken}
 use Rattle.vt_laws_members.proofs.detached.lazily.Apart.{apart_here, apart_there}
 use Rattle.vt_laws_members.proofs.detached.lazily.Cleared.{cleared_keeps, going_same, keeps_before}
 use Rattle.vt_laws_members.proofs.detached.lazily.GoingAlike.{going_alike, going_own}
@@ -63,34 +63,30 @@ module _ (world : World ℕ) (names : List TaskName) (is : IsWorld nat_eq world)
   abbrev part : World ℕ
   part = part_of nat_eq world names
 
-  abbrev OwnGo : List ℕ → Type 0
-  OwnGo gone =
-      (m : Mount ℕ) → Among m world.mounts → is_going nat_eq gone m.number ≡ true → is_own world names theirs m ≡ true
-
   -- One event, after these mounts went
-  module _ (now now_part : World ℕ) (gone : List ℕ) (own_go : OwnGo gone) (it : TookAway world now gone)
+  module _ (now now_part : World ℕ) (gone : List ℕ) (go : TheirsGo world names gone) (it : TookAway world now gone)
       (it_there : TookAway part now_part gone) (mount : Mount ℕ) (at : Among mount world.mounts)
       (own : is_own world names theirs mount ≡ true) where
     abbrev b : Bool
-    b = group_lost world names is sealed_off gone own_go
+    b = group_lost world gone
 
     abbrev here : World ℕ
-    here = world_after world names is sealed_off gone own_go
+    here = world_after go
 
     abbrev there : World ℕ
-    there = part_after world names is sealed_off gone own_go
+    there = part_after go
 
     abbrev after : Mount ℕ → Mount ℕ
-    after = ended_mount b (left world names is sealed_off gone own_go) world gone
+    after = ended_mount b (left_by world gone) world gone
 
     abbrev after_part : Mount ℕ → Mount ℕ
-    after_part = ended_mount b (left_part world names is sealed_off gone own_go) part gone
+    after_part = ended_mount b (left_by part gone) part gone
 
     same_here : SameButGroups now here
-    same_here = cc (took world now gone it, world_taken world names is sealed_off gone own_go)
+    same_here = cc (took world now gone it, world_taken go)
 
     same_there : SameButGroups now_part there
-    same_there = cc (took part now_part gone it_there, part_taken world names is sealed_off gone own_go)
+    same_there = cc (took part now_part gone it_there, part_taken go)
 
     kept_here : MountInvariants nat_eq here
     kept_here = kept_but_groups now here same_here it.kept
@@ -103,11 +99,11 @@ module _ (world : World ℕ) (names : List TaskName) (is : IsWorld nat_eq world)
 
     -- the mount is in both what it is after
     in_there : Among (after mount) there.mounts
-    in_there = subst (λ m. Among m there.mounts) (mount_alike world names is sealed_off gone own_go b mount mine)
+    in_there = subst (λ m. Among m there.mounts) (mount_alike go b mount mine)
         (among-map after_part part.mounts mount (own_in_part world names is sealed_off mount mine))
 
     number_after : (after mount).number ≡ mount.number
-    number_after = (shape_kept b (left world names is sealed_off gone own_go) world gone mount).number
+    number_after = (shape_kept b (left_by world gone) world gone mount).number
 
     found_in : (w : World ℕ) → MountInvariants nat_eq w → Among (after mount) w.mounts
         → mount_numbered nat_eq w mount.number ≡ after mount
@@ -126,7 +122,7 @@ module _ (world : World ℕ) (names : List TaskName) (is : IsWorld nat_eq world)
     own_after : is_some (after mount).namespace ≡ true → is_own world names theirs (after mount) ≡ true
     own_after h = ⊎_elim (λ out. absurd (true≢false (sym h ∙ ap is_some out.0)))
         (λ stays. ap (holds_of (λ n. list_any (λ (t : Task ℕ). nat_eq n t.namespace) theirs)) stays.0 ∙ own)
-        (placed_so b (left world names is sealed_off gone own_go) world gone mount)
+        (placed_so b (left_by world gone) world gone mount)
 
     abbrev list : List ℕ
     list = going nat_eq here (after mount)
@@ -138,34 +134,31 @@ module _ (world : World ℕ) (names : List TaskName) (is : IsWorld nat_eq world)
         → going nat_eq now_part (mount_numbered nat_eq now_part mount.number) ≡ list
     list_there h = ap (going nat_eq now_part) is_now_there
         ∙ going_but_groups now_part there same_there it_there.kept (after mount)
-        ∙ sym (going_alike there names kept_there (apart_there world names is sealed_off gone own_go b) (after mount)
-        in_there (ap (λ ts. is_own world names ts (after mount)) (same_members world names) ∙ own_after h))
-        ∙ ap (λ w. going nat_eq w (after mount)) (one_part world names is names here there
-        (ended_less world names is sealed_off names gone own_go
-        (all_last world names is sealed_off gone own_go) world.tasks
-        part.tasks world.change part.change (same_members world names)
-        (set_stays world names is sealed_off gone own_go) b))
-        ∙ going_alike here names kept_here (apart_here world names is sealed_off gone own_go b) (after mount)
-        (among-map after world.mounts mount at) (own_after h)
+        ∙ sym (going_alike there names kept_there (apart_there go b) (after mount) in_there
+        (ap (λ ts. is_own world names ts (after mount)) (same_members world names) ∙ own_after h))
+        ∙ ap (λ w. going nat_eq w (after mount)) (one_part world names is names here there (ended_less (all_stay go b)))
+        ∙ going_alike here names kept_here (apart_here go b) (after mount) (among-map after world.mounts mount at)
+        (own_after h)
 
-    own_list : is_some (after mount).namespace ≡ true → OwnGo (gone ++ list)
-    own_list h m n goes = ⊎_elim (own_go m n) (λ later.
-        let its = going_own here names kept_here (apart_here world names is sealed_off gone own_go b) (after mount)
-        m.number (among-map after world.mounts mount at) (own_after h) (among_numbers list m.number later) in
-        let from = among-from_map after world.mounts its.0 its.1 in
-        let was = own_before world names is sealed_off names gone own_go
-        (all_last world names is sealed_off gone own_go)
-        world.tasks part.tasks world.change part.change (same_members world names)
-        (set_stays world names is sealed_off gone own_go) b from.0
-        (ap (is_own world names theirs) (sym from.2) ∙ its.2) in
-        let number : from.0.number ≡ m.number = sym (ap (λ (q : Mount ℕ). q.number) from.2
-        ∙ (shape_kept b (left world names is sealed_off gone own_go) world gone from.0).number) ∙ its.3 in
-        let same : from.0 ≡ m =
-        sym (numbered world names is.mounts from.0 from.1) ∙ ap (mount_numbered nat_eq world) number
-        ∙ numbered world names is.mounts m n in
-        ap (is_own world names theirs) (sym same) ∙ was.1)
-        (or_cases (is_going nat_eq gone m.number) (is_going nat_eq list m.number)
-        (sym (list_any-append (nat_eq m.number) gone list) ∙ goes))
+    own_list : is_some (after mount).namespace ≡ true → TheirsGo world names (gone ++ list)
+    own_list h = record {
+      is = is;
+      sealed_off = sealed_off;
+      own_go = λ m n goes. ⊎_elim (go.own_go m n) (λ later.
+          let its = going_own here names kept_here (apart_here go b) (after mount)
+          m.number (among-map after world.mounts mount at) (own_after h) (among_numbers list m.number later) in
+          let from = among-from_map after world.mounts its.0 its.1 in
+          let was = own_before (all_stay go b) from.0
+          (ap (is_own world names theirs) (sym from.2) ∙ its.2) in
+          let number : from.0.number ≡ m.number = sym (ap (λ (q : Mount ℕ). q.number) from.2
+          ∙ (shape_kept b (left_by world gone) world gone from.0).number) ∙ its.3 in
+          let same : from.0 ≡ m =
+          sym (numbered world names is.mounts from.0 from.1) ∙ ap (mount_numbered nat_eq world) number
+          ∙ numbered world names is.mounts m n in
+          ap (is_own world names theirs) (sym same) ∙ was.1)
+          (or_cases (is_going nat_eq gone m.number) (is_going nat_eq list m.number)
+          (sym (list_any-append (nat_eq m.number) gone list) ∙ goes));
+    }
 
     abbrev unmounted_by : World ℕ → Bool → World ℕ
     unmounted_by w c = cond c (taken_away nat_eq w (going nat_eq w (mount_numbered nat_eq w mount.number))) w
@@ -173,7 +166,7 @@ module _ (world : World ℕ) (names : List TaskName) (is : IsWorld nat_eq world)
     -- so both go on alike
     pub event_alike : MountInvariants nat_eq (unmounted_if_there nat_eq now mount)
         → MountInvariants nat_eq (unmounted_if_there nat_eq now_part mount)
-        → (all : List ℕ) × OwnGo all × TookAway world (unmounted_if_there nat_eq now mount) all
+        → (all : List ℕ) × TheirsGo world names all × TookAway world (unmounted_if_there nat_eq now mount) all
         × TookAway part (unmounted_if_there nat_eq now_part mount) all
     event_alike kept kept_too = by (is_some (after mount).namespace) refl
         (ap (λ (m : Mount ℕ). is_some m.namespace) is_now) (ap (λ (m : Mount ℕ). is_some m.namespace) is_now_there)
@@ -185,10 +178,10 @@ module _ (world : World ℕ) (names : List TaskName) (is : IsWorld nat_eq world)
             → MountInvariants nat_eq (unmounted_by now (is_some (mount_numbered nat_eq now mount.number).namespace))
             → MountInvariants nat_eq
             (unmounted_by now_part (is_some (mount_numbered nat_eq now_part mount.number).namespace))
-            → (all : List ℕ) × OwnGo all
+            → (all : List ℕ) × TheirsGo world names all
             × TookAway world (unmounted_by now (is_some (mount_numbered nat_eq now mount.number).namespace)) all
-            × TookAway part
-            (unmounted_by now_part (is_some (mount_numbered nat_eq now_part mount.number).namespace)) all
+            × TookAway part (unmounted_by now_part (is_some (mount_numbered nat_eq now_part mount.number).namespace))
+            all
         by true e f g k l =
             let taken : unmounted_by now (is_some (mount_numbered nat_eq now mount.number).namespace)
             ≡ taken_away nat_eq now list = ap (unmounted_by now) (f ∙ e) ∙ ap (taken_away nat_eq now) list_here in
@@ -204,7 +197,7 @@ module _ (world : World ℕ) (names : List TaskName) (is : IsWorld nat_eq world)
             )
         by false e f g k l = (
           gone,
-          own_go,
+          go,
           subst (λ w. TookAway world w gone) (sym (ap (unmounted_by now) (f ∙ e))) it,
           subst (λ w. TookAway part w gone) (sym (ap (unmounted_by now_part) (g ∙ e))) it_there,
         )
@@ -213,15 +206,15 @@ module _ (world : World ℕ) (names : List TaskName) (is : IsWorld nat_eq world)
   pub events_alike : (number : ℕ) (events : List (Mount ℕ)) (now now_part : World ℕ) (gone : List ℕ)
       → IsUnderWay world is.mounts number now events
       → IsUnderWay part (part_mounts world names is sealed_off) number now_part events
-      → OwnGo gone → TookAway world now gone → TookAway part now_part gone
+      → TheirsGo world names gone → TookAway world now gone → TookAway part now_part gone
       → ((m : Mount ℕ) → Among m events → Among m world.mounts × (is_own world names theirs m ≡ true))
-      → (all : List ℕ) × OwnGo all × TookAway world (folded (unmounted_if_there nat_eq) now events) all
+      → (all : List ℕ) × TheirsGo world names all × TookAway world (folded (unmounted_if_there nat_eq) now events) all
       × TookAway part (folded (unmounted_if_there nat_eq) now_part events) all
-  events_alike number [] now now_part gone way way_too own_go it it_there owned = (gone, own_go, it, it_there)
-  events_alike number (mount ∷ rest) now now_part gone way way_too own_go it it_there owned =
+  events_alike number [] now now_part gone way way_too go it it_there owned = (gone, go, it, it_there)
+  events_alike number (mount ∷ rest) now now_part gone way way_too go it it_there owned =
       let next_way = next world is.mounts number now mount rest way in
       let next_too = next part (part_mounts world names is sealed_off) number now_part mount rest way_too in
       let its = owned mount (inl refl) in
-      let both = event_alike now now_part gone own_go it it_there mount its.0 its.1 next_way.kept next_too.kept in
+      let both = event_alike now now_part gone go it it_there mount its.0 its.1 next_way.kept next_too.kept in
       events_alike number rest (unmounted_if_there nat_eq now mount) (unmounted_if_there nat_eq now_part mount) both.0
       next_way next_too both.1 both.2 both.3 (λ m n. owned m (inr n))

@@ -1,35 +1,29 @@
 -- A call of theirs that removes or replaces a directory, with the mounts on it, ends in the part as in the world.
 use Rattle.std.proofs.Common.{◌≡◌, refl, sym, ap, subst, ◌∙◌, ℕ, nat_eq, eqb-true, true, false, true≢false, List, [], ◌∷◌, Option, Some, None, Ok, ◌||◌, option_to_list}
-use Rattle.vt_spec.proofs.Common.{Among, Call, Change, Done, FileTree, Filesystem, Fresh, Location, Mount, MountInvariants, Move, Outcome, Permit, Remove, Rename, Rmdir, Task, TaskName, ToRemoveDirectory, ToRename, World, and_parts, changed_at, filesystem_at, filesystem_changed, filesystem_numbered, finished, finished_by, granted, holds_of, is_going, is_locked_at, is_mount_point_in, is_overlay, is_own_namespace, judge_in, list_all, looks_of, members, mount_at, mount_numbered, mounts_on, numbers_of_change, numbers_raised, only_looks, overfills, part_of, policy, settled, taken_away, task_called, used_alone, with_change, without_mounts_on}
+use Rattle.vt_spec.proofs.Common.{Among, Call, Change, Done, FileTree, Filesystem, Fresh, Location, Mount, MountInvariants, Outcome, Rename, TaskName, ToRename, World, and_parts, changed_at, filesystem_at, filesystem_changed, filesystem_numbered, finished, finished_by, granted, holds_of, is_going, is_overlay, is_own_namespace, judge_in, list_all, members, mount_at, mount_numbered, mounts_on, numbers_of_change, numbers_raised, only_looks, part_of, policy, settled, taken_away, used_alone, with_change, without_mounts_on}
 use Rattle.vt_spec.specs.Language.Changes
-use Rattle.vt_laws_rules.proofs.given.Inversion.{calls_are_granted}
-use Rattle.vt_laws_trees.specs.Trees.Calls.{mounts_overlay}
 use Rattle.vt_laws_mounts.specs.LettingGo.TreesOverlays.{with_filesystems}
 use Rattle.vt_laws_mounts.proofs.ends.Ending.{points_keep_mounts}
-use Rattle.vt_laws_worlds.specs.Worlds.Permits.{IsReached, NamesWhatIsThere}
-use Rattle.vt_laws_worlds.proofs.worlds.CallsKept.{name_found}
-use Rattle.vt_laws_worlds.proofs.worlds.FitPermitsNamed.{all_permits_fit}
-use Rattle.vt_laws_worlds.specs.OverlayPermits.Asked.{change_asked}
 use Rattle.vt_laws_sealed.proofs.part.part.PartOfPart.{is_own}
 use Rattle.vt_laws_members.specs.Judging.{is_theirs}
 use Rattle.vt_laws_members.proofs.judging.Grounds.{IsTheirs, its_mount, theirs_from}
 use Rattle.vt_laws_members.proofs.judging.SeenInPart.{theirs_used}
-use Rattle.vt_laws_members.specs.Changes.Changes.{EndAlike, EndsAlike, IsCallOfTheirs, grown}
+use Rattle.vt_laws_members.specs.Changes.Changes.{EndAlike, EndsAlike, grown}
 use Rattle.vt_laws_members.proofs.changes.files.FilesEnding.{no_overlay}
 use Rattle.vt_laws_members.proofs.changes.files.FilesRaised.{swap}
 use Rattle.vt_laws_members.proofs.changes.files.OneFilesystem.{found_numbered}
 use Rattle.vt_laws_members.proofs.changes.letting_go.PartMounts.{part_mounts}
 use Rattle.vt_laws_members.proofs.changes.letting_go.Taken.{part_after, part_taken, world_after, world_taken}
-use Rattle.vt_laws_members.proofs.changes.looks.Told.{member_called, ran, same_caller}
+use Rattle.vt_laws_members.proofs.changes.looks.Told.{ran, same_caller}
 use Rattle.vt_laws_members.proofs.changes.names.Elsewhere.{own_here, plain_points}
-use Rattle.vt_laws_members.proofs.changes.names.GrantedNames.{Names}
 use Rattle.vt_laws_members.proofs.changes.names.NamesEnding.{alike, naming_alone, unused_numbers, unused_serve}
-use Rattle.vt_laws_members.proofs.changes.names.RemovalsEnding.{removed_free, renames_end_alike, replaced_free}
-use Rattle.vt_laws_members.proofs.changes.tasks.Denied.{run_by, same_judgement}
+use Rattle.vt_laws_members.proofs.changes.names.RemovalsEnding.{RemovingCall, removing_directory, renames_end_alike, replacing}
+use Rattle.vt_laws_members.proofs.changes.tasks.Denied.{ran_there, run_by}
 use Rattle.vt_laws_members.specs.Detached.Removals.{RemovalsEndAlike, ReplacementsEndAlike}
 use Rattle.vt_laws_members.proofs.detached.removals.Going.{caller_stays, going_with, own_go, same_going}
 use Rattle.vt_laws_members.proofs.detached.removals.StillUsed.{seen_here, seen_there, still_used}
 use Rattle.vt_laws_members.proofs.detached.removals.TreeParts.{changed_parts}
+use Rattle.vt_laws_members.proofs.changes.letting_go.Regrouped.{TheirsGo}
 
 -- the outcome of a call that changes a plain tree, where something else changed before
 abbrev left_with : World ℕ → World ℕ → TaskName → Filesystem ℕ → FileTree ℕ → Outcome ℕ
@@ -49,69 +43,64 @@ changes_tree before now name call supply location change old looks e plain =
     ∙ ap (λ o. granted Done (numbers_raised nat_eq before name (numbers_of_change nat_eq now old o)
     (settled nat_eq (filesystem_changed nat_eq supply now old o change)))) (no_overlay old.overlay plain)
 
-module _ (world : World ℕ) (names : List TaskName) (name : TaskName) (call : Call)
-    (it : IsCallOfTheirs world names name call)
-    (fresh other : Fresh ℕ) (task : Task ℕ) (found : task_called world name ≡ Some task)
-    (stays : grown names name call (Ok Done) ≡ names) (looks : only_looks call ≡ false) (gone : Location ℕ)
-    (permit : Permit ℕ) (judged : judge_in nat_eq fresh world task call ≡ Ok permit)
-    (judged_too : judge_in nat_eq (unused_numbers world) world task call ≡ Ok permit) (location : Location ℕ)
-    (change : Change ℕ) (asks : change_asked (unused_numbers world) world permit ≡ Some (location, change))
-    (names_it : Names change) (plain : is_overlay (filesystem_at nat_eq world location) ≡ false)
-    (reached : IsReached world task location)
-    (free : (is_theirs world names gone.mount ≡ true) × (is_locked_at nat_eq world gone ≡ false)
-    × (is_mount_point_in nat_eq (looks_of nat_eq world) task.namespace gone ≡ false) × (gone.mount ≡ location.mount))
-    (runs : (w : World ℕ) (supply : Fresh ℕ) → run_by world names name call it fresh other w supply task (Ok permit)
-    ≡ finished nat_eq w name call (changed_at nat_eq (without_mounts_on nat_eq w gone) location)
-    (granted Done (with_change nat_eq supply (without_mounts_on nat_eq w gone) location change))) where
+module _ {world : World ℕ} {names : List TaskName} {name : TaskName} {call : Call}
+    (it : RemovingCall world names name call) (plain : is_overlay (filesystem_at nat_eq world it.location) ≡ false)
+    (fresh other : Fresh ℕ) (judged : judge_in nat_eq fresh world it.task call ≡ Ok it.permit)
+    (runs : (w : World ℕ) (supply : Fresh ℕ) → run_by it.it w supply it.task (Ok it.permit) ≡ finished nat_eq w name
+    call (changed_at nat_eq (without_mounts_on nat_eq w it.gone) it.location)
+    (granted Done (with_change nat_eq supply (without_mounts_on nat_eq w it.gone) it.location it.change))) where
   abbrev part : World ℕ
   part = part_of nat_eq world names
 
   abbrev old : Filesystem ℕ
-  old = filesystem_at nat_eq world location
+  old = filesystem_at nat_eq world it.location
 
   abbrev files : FileTree ℕ
-  files = Changes.changed nat_eq old.files change
+  files = Changes.changed nat_eq old.files it.change
 
-  one_filesystem : filesystem_at nat_eq world gone ≡ old
-  one_filesystem = ap (λ m. filesystem_numbered nat_eq world (mount_numbered nat_eq world m).filesystem) free.3
+  one_filesystem : filesystem_at nat_eq world it.gone ≡ old
+  one_filesystem = ap (λ m. filesystem_numbered nat_eq world (mount_numbered nat_eq world m).filesystem) it.free.beside
 
-  on_gone : IsTheirs world names it.is.mounts gone.mount
-  on_gone = theirs_from world names it.is.mounts gone.mount free.0
+  on_gone : IsTheirs world names it.is.mounts it.gone.mount
+  on_gone = theirs_from world names it.is.mounts it.gone.mount it.free.on
 
-  on : IsTheirs world names it.is.mounts location.mount
-  on = theirs_from world names it.is.mounts location.mount (ap (is_theirs world names) (sym free.3) ∙ free.0)
+  on : IsTheirs world names it.is.mounts it.location.mount
+  on = theirs_from world names it.is.mounts it.location.mount
+      (ap (is_theirs world names) (sym it.free.beside) ∙ it.free.on)
 
-  alone : used_alone nat_eq world names (mount_at nat_eq world location).filesystem ≡ true
-  alone = naming_alone world names name call it fresh other (unused_numbers world)
-      (unused_serve world) task found stays permit judged_too location change asks names_it plain
+  alone : used_alone nat_eq world names (mount_at nat_eq world it.location).filesystem ≡ true
+  alone = naming_alone it.naming
 
-  only_own : (mount : Mount ℕ) → Among mount (mounts_on nat_eq world gone) → (n : ℕ) → mount.namespace ≡ Some n
+  only_own : (mount : Mount ℕ) → Among mount (mounts_on nat_eq world it.gone) → (n : ℕ) → mount.namespace ≡ Some n
       → is_own_namespace nat_eq world names n ≡ true
-  only_own = own_here world names it.is gone (plain_points world names it.is gone
-      (ap (λ (f : Filesystem ℕ). f.overlay) one_filesystem ∙ no_overlay old.overlay plain)
-      (ap (λ (f : Filesystem ℕ). used_alone nat_eq world names f.number) one_filesystem
-      ∙ ap (used_alone nat_eq world names)
-      (found_numbered (mount_at nat_eq world location).filesystem world.filesystems) ∙ alone))
+  only_own = own_here world names it.is it.gone
+      (plain_points world names it.is it.gone (ap (λ (f : Filesystem ℕ). f.overlay) one_filesystem
+      ∙ no_overlay old.overlay plain) (ap (λ (f : Filesystem ℕ). used_alone nat_eq world names f.number) one_filesystem
+      ∙ ap (used_alone nat_eq world names) (found_numbered (mount_at nat_eq world it.location).filesystem
+      world.filesystems) ∙ alone))
 
   abbrev list : List ℕ
-  list = going_with world names it.is gone on_gone only_own
+  list = going_with world names it.is it.gone on_gone only_own
 
-  abbrev own : (m : Mount ℕ) → Among m world.mounts → is_going nat_eq list m.number ≡ true
-      → is_own world names (members world names) m ≡ true
-  own = own_go world names it.is gone on_gone only_own
+  abbrev go : TheirsGo world names list
+  go = record {
+    is = it.is;
+    sealed_off = it.sealed_off;
+    own_go = own_go world names it.is it.gone on_gone only_own;
+  }
 
   abbrev here : World ℕ
-  here = world_after world names it.is it.sealed_off list own
+  here = world_after go
 
   abbrev there : World ℕ
-  there = part_after world names it.is it.sealed_off list own
+  there = part_after go
 
-  same_list : taken_away nat_eq part list ≡ without_mounts_on nat_eq part gone
-  same_list = ap (taken_away nat_eq part) (sym (same_going world names it.is gone on_gone only_own))
+  same_list : taken_away nat_eq part list ≡ without_mounts_on nat_eq part it.gone
+  same_list = ap (taken_away nat_eq part) (sym (same_going world names it.is it.gone on_gone only_own))
 
   kept_part : MountInvariants nat_eq (taken_away nat_eq part list)
   kept_part = subst (MountInvariants nat_eq) (sym same_list)
-      (points_keep_mounts part gone (part_mounts world names it.is it.sealed_off))
+      (points_keep_mounts part it.gone (part_mounts world names it.is it.sealed_off))
 
   -- the mount of the directory is in the caller's namespace, and stays
   directory_stays : is_own world names (members world names) on.0 ≡ true → is_going nat_eq list on.0.number ≡ false
@@ -120,89 +109,57 @@ module _ (world : World ℕ) (names : List TaskName) (name : TaskName) (call : C
       by : (o : Option ℕ) → on.0.namespace ≡ o → is_going nat_eq list on.0.number ≡ false
       by None e = absurd (true≢false (sym its ∙ ap (holds_of (is_own_namespace nat_eq world names)) e))
       by (Some n) e =
-          let seen : list_all (nat_eq task.namespace) (option_to_list (Some n)) ≡ true =
-          ap (λ o. list_all (nat_eq task.namespace) (option_to_list o))
-          (sym (ap (λ (m : Mount ℕ). m.namespace) (its_mount world names it.is.mounts location.mount on) ∙ e))
-          ∙ reached.seen in
-          caller_stays world names it.is gone on_gone only_own task free.2 on.0 on.1
-          (e ∙ ap Some (sym (eqb-true task.namespace n (and_parts (nat_eq task.namespace n) true seen).0)))
+          let seen : list_all (nat_eq it.task.namespace) (option_to_list (Some n)) ≡ true =
+          ap (λ o. list_all (nat_eq it.task.namespace) (option_to_list o))
+          (sym (ap (λ (m : Mount ℕ). m.namespace) (its_mount world names it.is.mounts it.location.mount on) ∙ e))
+          ∙ it.reached.seen in
+          caller_stays world names it.is it.gone on_gone only_own it.task it.free.bare on.0 on.1
+          (e ∙ ap Some (sym (eqb-true it.task.namespace n (and_parts (nat_eq it.task.namespace n) true seen).0)))
 
-  run_here : run_by world names name call it fresh other world fresh task (Ok permit)
+  run_here : run_by it.it world fresh it.task (Ok it.permit)
       ≡ left_with world here name old files
-  run_here = runs world fresh ∙ ap (λ w. finished nat_eq world name call (changed_at nat_eq w location)
-      (granted Done (with_change nat_eq fresh w location change)))
-      (world_taken world names it.is it.sealed_off list own)
-      ∙ changes_tree world here name call fresh location change old looks
-      (seen_here world names it.is it.sealed_off list own location) plain
+  run_here = runs world fresh ∙ ap (λ w. finished nat_eq world name call (changed_at nat_eq w it.location)
+      (granted Done (with_change nat_eq fresh w it.location it.change))) (world_taken go)
+      ∙ changes_tree world here name call fresh it.location it.change old it.looks (seen_here go it.location) plain
 
-  run_there : run_by world names name call it fresh other part other task (Ok permit)
+  run_there : run_by it.it part other it.task (Ok it.permit)
       ≡ left_with part there name old files
-  run_there = runs part other ∙ ap (λ w. finished nat_eq part name call (changed_at nat_eq w location)
-      (granted Done (with_change nat_eq other w location change)))
-      (sym same_list ∙ part_taken world names it.is it.sealed_off list own)
-      ∙ changes_tree part there name call other location change old looks
-      (seen_there world names it.is it.sealed_off list own location
-      ∙ alike world names name call it fresh other (unused_numbers world) (unused_serve world) task found stays permit
-      judged_too location change asks names_it plain) plain
+  run_there = runs part other ∙ ap (λ w. finished nat_eq part name call (changed_at nat_eq w it.location)
+      (granted Done (with_change nat_eq other w it.location it.change))) (sym same_list ∙ part_taken go)
+      ∙ changes_tree part there name call other it.location it.change old it.looks
+      (seen_there go it.location ∙ alike it.naming) plain
 
   pub removal_ends : EndsAlike world names name call fresh other
   removal_ends =
       let first : policy nat_eq fresh world name call ≡ left_with world here name old files =
-      ap (ran name call world fresh) found
-      ∙ ap (run_by world names name call it fresh other world fresh task) judged ∙ run_here in
+      ap (ran name call world fresh) it.found ∙ ap (run_by it.it world fresh it.task) judged ∙ run_here in
       let second : policy nat_eq other part name call ≡ left_with part there name old files =
-      ap (ran name call part other) (same_caller world names it.is it.sealed_off name it.theirs ∙ found)
-      ∙ ap (run_by world names name call it fresh other part other task)
-      (sym (same_judgement world names name call it fresh other task found) ∙ judged) ∙ run_there in
+      ap (ran name call part other) (same_caller world names it.is it.sealed_off name it.theirs ∙ it.found)
+      ∙ ran_there it.it fresh other it.task it.found judged ∙ run_there in
       subst (λ p. EndAlike (grown names name call (policy nat_eq fresh world name call).answer)
       (policy nat_eq fresh world name call) p) (sym second)
       (subst (λ o. EndAlike (grown names name call o.answer) o (left_with part there name old files)) (sym first)
-      (subst (λ s. EndAlike s (left_with world here name old files) (left_with part there name old files)) (sym stays)
-      (record {
+      (subst (λ s. EndAlike s (left_with world here name old files) (left_with part there name old files))
+      (sym it.stays) (record {
         answer = refl;
-        part = changed_parts world names it.is it.sealed_off list own
-            (points_keep_mounts world gone it.is.mounts) kept_part
-            location (theirs_used world names it.is location on) alone
-            (still_used world names it.is it.sealed_off list own location on directory_stays) files name;
+        part = changed_parts go (points_keep_mounts world it.gone it.is.mounts) kept_part it.location
+            (theirs_used world names it.is it.location on) alone
+            (still_used go it.location on directory_stays) files name;
       })))
-
--- what a permit names is there
-pub names_there : (world : World ℕ) (names : List TaskName) (name : TaskName) (call : Call)
-    → IsCallOfTheirs world names name call → (task : Task ℕ) → task_called world name ≡ Some task → (permit : Permit ℕ)
-    → mounts_overlay call ≡ false
-    → judge_in nat_eq (unused_numbers world) world task call ≡ Ok permit → NamesWhatIsThere world task permit
-names_there world names name call it task found permit files judged =
-    (all_permits_fit world (unused_numbers world) task call permit it.is (unused_serve world)
-    (ap (task_called world) (sym (name_found world name task found)) ∙ found) files judged).names
 
 pub removals_end_alike : RemovalsEndAlike
 removals_end_alike world names name path it task found fresh other parent entry directory judged plain =
-    removal_ends world names name (Rmdir path) it fresh other task found refl refl directory
-    (ToRemoveDirectory parent entry directory) judged judged parent
-    (Remove parent.node entry directory.node) refl tt plain
-    (names_there world names name (Rmdir path) it task found (ToRemoveDirectory parent entry directory) refl
-    judged).0.reached (removed_free world names it.is it.sealed_off task
-    (member_called world names it.is it.sealed_off name it.theirs task found) fresh (Rmdir path)
-    (ToRemoveDirectory parent entry directory)
-    (calls_are_granted nat_eq (looks_of nat_eq world) (overfills nat_eq fresh world task) task (Rmdir path)
-    (ToRemoveDirectory parent entry directory) judged) parent entry directory refl) (λ w supply. refl)
+    removal_ends (removing_directory task found (unused_numbers world) (unused_serve world) it parent entry directory
+    judged) plain fresh other judged (λ w supply. refl)
 
 pub replacements_end_alike : ReplacementsEndAlike
 replacements_end_alike world names name one two it task found fresh other from old to new object over judged plain =
     by over judged
   where
-    change : Change ℕ
-    change = Move from.node old to.node new object.node
-
     by : (o : Option (Location ℕ))
         → judge_in nat_eq fresh world task (Rename one two) ≡ Ok (ToRename from old to new object o)
         → EndsAlike world names name (Rename one two) fresh other
     by None so = renames_end_alike world names name one two it task found fresh other from old to new object so plain
-    by (Some gone) so = removal_ends world names name (Rename one two) it fresh other task found refl refl gone
-        (ToRename from old to new object (Some gone)) so so from change refl tt plain
-        (names_there world names name (Rename one two) it task found (ToRename from old to new object (Some gone))
-        refl so).0.reached (replaced_free world names it.is it.sealed_off task
-        (member_called world names it.is it.sealed_off name it.theirs task found) fresh (Rename one two)
-        (ToRename from old to new object (Some gone))
-        (calls_are_granted nat_eq (looks_of nat_eq world) (overfills nat_eq fresh world task) task (Rename one two)
-        (ToRename from old to new object (Some gone)) so) from old to new object gone refl) (λ w supply. refl)
+    by (Some gone) so =
+        removal_ends (replacing task found (unused_numbers world) (unused_serve world) it from old to new object gone
+        so) plain fresh other so (λ w supply. refl)

@@ -1,11 +1,11 @@
 -- Where mounts of theirs go, but not the one of a location, its filesystem is used still, and it is seen as it was.
 use Rattle.std.proofs.Common.{arith, ◌≡◌, refl, sym, ap, subst, ◌∙◌, inl, inr, ⊎_elim, ℕ, nat_eq, eqb-true, Bool, true, false, true≢false, List, [], ◌∷◌, find, map, unwrap_or}
-use Rattle.vt_spec.proofs.Common.{Among, IsWorld, Location, Mount, Task, TaskName, World, among-append_left, among-append_right, among-filter, among-flat_map, among-from_flat_map, among-map, any_among, common_steps, filesystem_at, filesystem_numbered, holds_of, is_among, is_going, is_own_mount, list_any, locations, locations_of, members, mount_at, mount_numbered, no_mount, own_mounts, part_of, roots_and_directories, sealed, used_directly, used_filesystems}
-use Rattle.vt_laws_sealed.proofs.part.part.PartOfPart.{is_own, same_members, used_directly_used}
+use Rattle.vt_spec.proofs.Common.{Among, Location, Mount, Task, TaskName, World, among-append_left, among-append_right, among-filter, among-flat_map, among-from_flat_map, among-map, any_among, common_steps, filesystem_at, filesystem_numbered, holds_of, is_among, is_going, is_own_mount, list_any, locations, locations_of, members, mount_at, mount_numbered, no_mount, own_mounts, part_of, roots_and_directories, used_directly, used_filesystems}
+use Rattle.vt_laws_sealed.proofs.part.part.PartOfPart.{is_own, used_directly_used}
 use Rattle.vt_laws_members.proofs.judging.Grounds.{IsTheirs, its_mount}
 use Rattle.vt_laws_members.proofs.changes.letting_go.NamespaceLess.{ended_mount, filesystem_after, placed_so, shape_kept}
-use Rattle.vt_laws_members.proofs.changes.letting_go.Regrouped.{left, left_part}
-use Rattle.vt_laws_members.proofs.changes.letting_go.Taken.{all_last, group_lost, part_after, set_stays, world_after}
+use Rattle.vt_laws_members.proofs.changes.letting_go.Regrouped.{TheirsGo, left_by}
+use Rattle.vt_laws_members.proofs.changes.letting_go.Taken.{all_stay, group_lost, part_after, world_after}
 
 -- mounts that keep their numbers and filesystems, by their numbers
 mapped_filesystem : (f : Mount ℕ → Mount ℕ) → ((m : Mount ℕ) → (f m).number ≡ m.number)
@@ -16,10 +16,8 @@ mapped_filesystem f number filesystem n [] = refl
 mapped_filesystem f number filesystem n (x ∷ rest) =
     grind (arith, common_steps, mapped_filesystem f number filesystem n rest)
 
-module _ (world : World ℕ) (names : List TaskName) (is : IsWorld nat_eq world)
-    (sealed_off : sealed nat_eq world names ≡ true) (gone : List ℕ)
-    (own_go : (m : Mount ℕ) → Among m world.mounts → is_going nat_eq gone m.number ≡ true
-    → is_own world names (members world names) m ≡ true) (location : Location ℕ) where
+module _ {world : World ℕ} {names : List TaskName} {gone : List ℕ} (go : TheirsGo world names gone)
+    (location : Location ℕ) where
   abbrev theirs : List (Task ℕ)
   theirs = members world names
 
@@ -27,33 +25,31 @@ module _ (world : World ℕ) (names : List TaskName) (is : IsWorld nat_eq world)
   part = part_of nat_eq world names
 
   abbrev here : World ℕ
-  here = world_after world names is sealed_off gone own_go
+  here = world_after go
 
   abbrev there : World ℕ
-  there = part_after world names is sealed_off gone own_go
+  there = part_after go
 
   abbrev is_flagged : Bool
-  is_flagged = group_lost world names is sealed_off gone own_go
+  is_flagged = group_lost world gone
 
   abbrev after : Mount ℕ → Mount ℕ
-  after = ended_mount is_flagged (left world names is sealed_off gone own_go) world gone
+  after = ended_mount is_flagged (left_by world gone) world gone
 
   -- the filesystem of the location
   pub seen_here : filesystem_at nat_eq here location ≡ filesystem_at nat_eq world location
-  seen_here = ap (filesystem_numbered nat_eq world) (mapped_filesystem after
-      (λ m. (shape_kept is_flagged (left world names is sealed_off gone own_go) world gone m).number)
-      (λ m. (shape_kept is_flagged (left world names is sealed_off gone own_go) world gone m).filesystem)
-      location.mount world.mounts)
+  seen_here = ap (filesystem_numbered nat_eq world)
+      (mapped_filesystem after (λ m. (shape_kept is_flagged (left_by world gone) world gone m).number)
+      (λ m. (shape_kept is_flagged (left_by world gone) world gone m).filesystem) location.mount world.mounts)
 
   pub seen_there : filesystem_at nat_eq there location ≡ filesystem_at nat_eq part location
   seen_there = ap (filesystem_numbered nat_eq part)
-      (mapped_filesystem (ended_mount is_flagged (left_part world names is sealed_off gone own_go) part gone)
-      (λ m. (shape_kept is_flagged (left_part world names is sealed_off gone own_go) part gone m).number)
-      (λ m. (shape_kept is_flagged (left_part world names is sealed_off gone own_go) part gone m).filesystem)
-      location.mount part.mounts)
+      (mapped_filesystem (ended_mount is_flagged (left_by part gone) part gone)
+      (λ m. (shape_kept is_flagged (left_by part gone) part gone m).number)
+      (λ m. (shape_kept is_flagged (left_by part gone) part gone m).filesystem) location.mount part.mounts)
 
   -- it is used, if it is on a mount of theirs that stays
-  module _ (on : IsTheirs world names is.mounts location.mount)
+  module _ (on : IsTheirs world names go.is.mounts location.mount)
       (stays : is_own world names theirs on.0 ≡ true → is_going nat_eq gone on.0.number ≡ false) where
     abbrev number : ℕ
     number = (mount_at nat_eq world location).filesystem
@@ -65,28 +61,26 @@ module _ (world : World ℕ) (names : List TaskName) (is : IsWorld nat_eq world)
     placed = map (λ (l : Location ℕ). (mount_at nat_eq here l).filesystem) (locations theirs)
 
     of_mount : on.0.filesystem ≡ number
-    of_mount = ap (λ (m : Mount ℕ). m.filesystem) (sym (its_mount world names is.mounts location.mount on))
+    of_mount = ap (λ (m : Mount ℕ). m.filesystem) (sym (its_mount world names go.is.mounts location.mount on))
 
     by_mount : is_own world names theirs on.0 ≡ true → Among number (used_directly nat_eq here names)
     by_mount own =
         let own_after : is_own world names theirs (after on.0) ≡ true = ⊎_elim
         (λ out. absurd (true≢false (sym out.2 ∙ stays own)))
         (λ its. ap (holds_of (λ n. list_any (λ (t : Task ℕ). nat_eq n t.namespace) theirs)) its.0 ∙ own)
-        (placed_so is_flagged (left world names is sealed_off gone own_go) world gone on.0) in
+        (placed_so is_flagged (left_by world gone) world gone on.0) in
         among-append_left shown placed number (subst (λ n. Among n shown)
-        ((shape_kept is_flagged (left world names is sealed_off gone own_go) world gone on.0).filesystem ∙ of_mount)
+        ((shape_kept is_flagged (left_by world gone) world gone on.0).filesystem ∙ of_mount)
         (among-map (λ (m : Mount ℕ). m.filesystem) (own_mounts nat_eq here names) (after on.0)
-        (among-filter (is_own_mount nat_eq here names) here.mounts (after on.0)
-        (among-map after world.mounts on.0 on.1) own_after)))
+        (among-filter (is_own_mount nat_eq here names) here.mounts (after on.0) (among-map after world.mounts on.0 on.1)
+        own_after)))
 
     by_task : (l : Location ℕ) → Among l (roots_and_directories theirs) → l.mount ≡ on.0.number
         → Among number (used_directly nat_eq here names)
     by_task l m e =
         let task = among-from_flat_map (λ (t : Task ℕ). t.root ∷ t.directory ∷ []) theirs l m in
         among-append_right shown placed number (subst (λ n. Among n placed)
-        (filesystem_after world names is sealed_off names gone own_go
-        (all_last world names is sealed_off gone own_go) world.tasks part.tasks world.change part.change
-        (same_members world names) (set_stays world names is sealed_off gone own_go) is_flagged on.0 on.1 l e
+        (filesystem_after (all_stay go is_flagged) on.0 on.1 l e
         ∙ ap (λ k. (mount_numbered nat_eq world k).filesystem) (e ∙ on.2))
         (among-map (λ (k : Location ℕ). (mount_at nat_eq here k).filesystem) (locations theirs) l
         (among-flat_map locations_of theirs task.0 l task.1 (⊎_elim (λ root. inl root)

@@ -1,25 +1,22 @@
 -- Where mounts of theirs go, and one plain tree that they use alone is another one, the part is what is left of the
 -- part.
 use Rattle.std.proofs.Common.{◌≡◌, ap, ◌∙◌, ⊎_elim, ℕ, nat_eq, true, List, [], ◌∷◌}
-use Rattle.vt_spec.proofs.Common.{Among, FileTree, Filesystem, IsWorld, Location, Mount, MountInvariants, TaskName, World, filesystem_at, is_among, is_going, members, mount_at, numbers_raised, part_of, sealed, settled, taken_away, used_alone, used_filesystems}
+use Rattle.vt_spec.proofs.Common.{FileTree, Filesystem, Location, MountInvariants, TaskName, World, filesystem_at, is_among, mount_at, numbers_raised, part_of, settled, taken_away, used_alone, used_filesystems}
 use Rattle.vt_laws_mounts.specs.LettingGo.TreesOverlays.{with_filesystems}
-use Rattle.vt_laws_sealed.proofs.part.part.PartOfPart.{is_own}
 use Rattle.vt_laws_members.proofs.changes.files.FilesRaised.{swap}
 use Rattle.vt_laws_members.proofs.changes.files.OneFilesystem.{old_number, one_in_part, one_in_world}
 use Rattle.vt_laws_members.proofs.changes.letting_go.Taken.{part_after, world_after}
 use Rattle.vt_laws_members.proofs.detached.removals.WithTree.{changes_theirs}
 use Rattle.vt_laws_members.proofs.overlay_names.names.Detaching.{alone_here, alone_there, detached_and_changed, living, living_part}
+use Rattle.vt_laws_members.proofs.changes.letting_go.Regrouped.{TheirsGo}
 
-module _ (world : World ℕ) (names : List TaskName) (is : IsWorld nat_eq world)
-    (sealed_off : sealed nat_eq world names ≡ true) (gone : List ℕ)
-    (own_go : (m : Mount ℕ) → Among m world.mounts → is_going nat_eq gone m.number ≡ true
-    → is_own world names (members world names) m ≡ true)
+module _ {world : World ℕ} {names : List TaskName} {gone : List ℕ} (go : TheirsGo world names gone)
     (kept_world : MountInvariants nat_eq (taken_away nat_eq world gone))
     (kept_part : MountInvariants nat_eq (taken_away nat_eq (part_of nat_eq world names) gone)) (location : Location ℕ)
     (used : is_among nat_eq (mount_at nat_eq world location).filesystem (used_filesystems nat_eq world names) ≡ true)
     (alone : used_alone nat_eq world names (mount_at nat_eq world location).filesystem ≡ true)
     (still : is_among nat_eq (mount_at nat_eq world location).filesystem
-    (used_filesystems nat_eq (world_after world names is sealed_off gone own_go) names) ≡ true)
+    (used_filesystems nat_eq (world_after go) names) ≡ true)
     (files : FileTree ℕ) where
   abbrev part : World ℕ
   part = part_of nat_eq world names
@@ -31,16 +28,16 @@ module _ (world : World ℕ) (names : List TaskName) (is : IsWorld nat_eq world)
   old = filesystem_at nat_eq world location
 
   abbrev here : World ℕ
-  here = world_after world names is sealed_off gone own_go
+  here = world_after go
 
   abbrev there : World ℕ
-  there = part_after world names is sealed_off gone own_go
+  there = part_after go
 
   abbrev used_now : List ℕ
   used_now = used_filesystems nat_eq here names
 
   is_old : old.number ≡ number
-  is_old = old_number world names is number used
+  is_old = old_number world names go.is number used
 
   old_still : is_among nat_eq old.number used_now ≡ true
   old_still = ap (λ n. is_among nat_eq n used_now) is_old ∙ still
@@ -49,13 +46,11 @@ module _ (world : World ℕ) (names : List TaskName) (is : IsWorld nat_eq world)
       (settled nat_eq (with_filesystems here (swap old files)))) names ≡ part_of nat_eq (numbers_raised nat_eq part name
       (old.number ∷ []) (settled nat_eq (with_filesystems there (swap old files)))) names
   changed_parts name =
-      detached_and_changed world names is sealed_off gone own_go kept_world kept_part (swap old files)
-      (changes_theirs (living world names is sealed_off gone own_go kept_world kept_part) names used_now old files
-      (one_in_world world names is number used)
-      (alone_here world names is sealed_off gone own_go kept_world kept_part old.number
+      detached_and_changed go kept_world kept_part (swap old files)
+      (changes_theirs (living go kept_world kept_part) names used_now old files
+      (one_in_world world names go.is number used) (alone_here go kept_world kept_part old.number
       (ap (used_alone nat_eq world names) is_old ∙ alone)) old_still)
-      (changes_theirs (living_part world names is sealed_off gone own_go kept_world kept_part) names used_now old files
-      (one_in_part world names is number used)
-      (alone_there world names is sealed_off gone own_go kept_world kept_part old.number) old_still)
-      name (old.number ∷ []) (λ n m.
-      ⊎_elim (λ e. ap (λ k. is_among nat_eq k used_now) e ∙ old_still) (λ none. absurd none) m)
+      (changes_theirs (living_part go kept_world kept_part) names used_now old files
+      (one_in_part world names go.is number used) (alone_there go kept_world kept_part old.number) old_still) name
+      (old.number ∷ []) (λ n m. ⊎_elim (λ e. ap (λ k. is_among nat_eq k used_now) e ∙ old_still) (λ none. absurd none)
+      m)

@@ -66,13 +66,13 @@ pub either : {P : Type 0} (b : Bool) → ((b ≡ false) → P) → ((b ≡ true)
 either true plain merged = merged refl
 either false plain merged = plain refl
 
-module _ (world : World ℕ) (names : List TaskName) (name : TaskName) (call : Call)
+module _ {world : World ℕ} {names : List TaskName} {name : TaskName} {call : Call}
     (it : IsCallOfTheirs world names name call) (fresh : Fresh ℕ) where
   -- by its permit
   fit_ends : only_looks call ≡ false → ((task : Task ℕ) → task_called world name ≡ Some task → (permit : Permit ℕ)
       → judge_in nat_eq fresh world task call ≡ Ok permit → Fits call permit
       → EndsAlike world names name call fresh fresh) → EndsAlike world names name call fresh fresh
-  fit_ends looks ends = by_permit world names name call it fresh fresh looks (λ task called permit judged.
+  fit_ends looks ends = by_permit it fresh fresh looks (λ task called permit judged.
       ends task called permit judged (permits_fit world fresh task call permit
       (calls_are_granted nat_eq (looks_of nat_eq world) (overfills nat_eq fresh world task) task call permit judged)))
 
@@ -97,60 +97,52 @@ module _ (world : World ℕ) (names : List TaskName) (name : TaskName) (call : C
 
 pub each_mkdir_ends_alike : EachMkdirEndsAlike
 each_mkdir_ends_alike world names name path mode it fresh serves =
-    fit_ends world names name (Mkdir path mode) it fresh refl (λ task called.
-    making_ends world names name (Mkdir path mode) it fresh serves task called
+    fit_ends it fresh refl (λ task called. making_ends it fresh serves task called
     (mkdirs_end_alike world names name path mode) (overlay_mkdirs_end_alike world names name path mode))
 
 pub each_symlink_ends_alike : EachSymlinkEndsAlike
 each_symlink_ends_alike world names name text path it fresh serves =
-    fit_ends world names name (SymlinkAt text path) it fresh refl (λ task called.
-    making_ends world names name (SymlinkAt text path) it fresh serves task called
+    fit_ends it fresh refl (λ task called. making_ends it fresh serves task called
     (symlinks_end_alike world names name text path) (overlay_symlinks_end_alike world names name text path))
 
 pub each_link_ends_alike : EachLinkEndsAlike
 each_link_ends_alike world names name old new it fresh serves =
-    fit_ends world names name (LinkTo old new) it fresh refl (λ task called.
-    change_ends world names name (LinkTo old new) it fresh serves task called (links_end_alike world names name old new)
-    (overlay_links_end_alike world names name old new))
+    fit_ends it fresh refl (λ task called. change_ends it fresh serves task called
+    (links_end_alike world names name old new) (overlay_links_end_alike world names name old new))
 
 pub each_unlink_ends_alike : EachUnlinkEndsAlike
 each_unlink_ends_alike world names name path it fresh serves =
-    fit_ends world names name (Unlink path) it fresh refl (λ task called.
-    change_ends world names name (Unlink path) it fresh serves task called (unlinks_end_alike world names name path)
-    (overlay_unlinks_end_alike world names name path))
+    fit_ends it fresh refl (λ task called. change_ends it fresh serves task called
+    (unlinks_end_alike world names name path) (overlay_unlinks_end_alike world names name path))
 
 pub each_chmod_ends_alike : EachChmodEndsAlike
 each_chmod_ends_alike world names name path mode it fresh serves =
-    fit_ends world names name (Chmod path mode) it fresh refl (λ task called.
-    change_ends world names name (Chmod path mode) it fresh serves task called
+    fit_ends it fresh refl (λ task called. change_ends it fresh serves task called
     (chmods_end_alike world names name path mode) (overlay_chmods_end_alike world names name path mode))
 
 pub each_chown_ends_alike : EachChownEndsAlike
 each_chown_ends_alike world names name path uid gid it fresh serves =
-    fit_ends world names name (Chown path uid gid) it fresh refl (λ task called.
-    change_ends world names name (Chown path uid gid) it fresh serves task called
+    fit_ends it fresh refl (λ task called. change_ends it fresh serves task called
     (chowns_end_alike world names name path uid gid) (overlay_chowns_end_alike world names name path uid gid))
 
 pub each_write_ends_alike : EachWriteEndsAlike
 each_write_ends_alike world names name path bytes it fresh serves =
-    fit_ends world names name (Write path bytes) it fresh refl of
+    fit_ends it fresh refl of
   where
     of : (task : Task ℕ) → task_called world name ≡ Some task → (permit : Permit ℕ)
         → judge_in nat_eq fresh world task (Write path bytes) ≡ Ok permit → Writes permit
         → EndsAlike world names name (Write path bytes) fresh fresh
     of task called (ToMake directory entry node) judged any =
-        making_ends world names name (Write path bytes) it fresh serves task called
-        (new_files_end_alike world names name path bytes) (overlay_new_files_end_alike world names name path bytes)
-        (ToMake directory entry node) judged tt
+        making_ends it fresh serves task called (new_files_end_alike world names name path bytes)
+        (overlay_new_files_end_alike world names name path bytes) (ToMake directory entry node) judged tt
     of task called (ToChange location change) judged any =
-        change_ends world names name (Write path bytes) it fresh serves task called
-        (writes_end_alike world names name path bytes) (overlay_writes_end_alike world names name path bytes)
-        (ToChange location change) judged tt
+        change_ends it fresh serves task called (writes_end_alike world names name path bytes)
+        (overlay_writes_end_alike world names name path bytes) (ToChange location change) judged tt
     of task called permit judged none = absurd none
 
 pub each_open_ends_alike : EachOpenEndsAlike
 each_open_ends_alike world names name path access how it fresh serves =
-    fit_ends world names name (OpenFile path access how) it fresh refl of
+    fit_ends it fresh refl of
   where
     of : (task : Task ℕ) → task_called world name ≡ Some task → (permit : Permit ℕ)
         → judge_in nat_eq fresh world task (OpenFile path access how) ≡ Ok permit → Opens permit
@@ -168,7 +160,7 @@ each_open_ends_alike world names name path access how it fresh serves =
 
 pub each_part_write_ends_alike : EachPartWriteEndsAlike
 each_part_write_ends_alike world names name descriptor offset [] it fresh serves =
-    fit_ends world names name (Pwrite descriptor offset []) it fresh refl of
+    fit_ends it fresh refl of
   where
     of : (task : Task ℕ) → task_called world name ≡ Some task → (permit : Permit ℕ)
         → judge_in nat_eq fresh world task (Pwrite descriptor offset []) ≡ Ok permit → WritesPart [] permit
@@ -178,7 +170,7 @@ each_part_write_ends_alike world names name descriptor offset [] it fresh serves
         (judged ∙ ap (λ w. Ok (ToWritePart file at w)) same)
     of task called permit judged none = absurd none
 each_part_write_ends_alike world names name descriptor offset (byte ∷ bytes) it fresh serves =
-    fit_ends world names name (Pwrite descriptor offset (byte ∷ bytes)) it fresh refl of
+    fit_ends it fresh refl of
   where
     of : (task : Task ℕ) → task_called world name ≡ Some task → (permit : Permit ℕ)
         → judge_in nat_eq fresh world task (Pwrite descriptor offset (byte ∷ bytes)) ≡ Ok permit

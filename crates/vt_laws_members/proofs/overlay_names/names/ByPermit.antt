@@ -5,7 +5,7 @@ use Rattle.vt_laws_members.specs.Changes.Changes.{EndsAlike, IsCallOfTheirs}
 use Rattle.vt_laws_members.proofs.changes.looks.Told.{ran}
 use Rattle.vt_laws_members.proofs.changes.tasks.Denied.{denial_ends_alike, run_by, unnamed_ends_alike}
 
-module _ (world : World ℕ) (names : List TaskName) (name : TaskName) (call : Call)
+module _ {world : World ℕ} {names : List TaskName} {name : TaskName} {call : Call}
     (it : IsCallOfTheirs world names name call) (fresh other : Fresh ℕ) (looks : only_looks call ≡ false) where
   pub by_permit : ((task : Task ℕ) → task_called world name ≡ Some task → (permit : Permit ℕ)
       → judge_in nat_eq fresh world task call ≡ Ok permit → EndsAlike world names name call fresh other)
@@ -15,11 +15,11 @@ module _ (world : World ℕ) (names : List TaskName) (name : TaskName) (call : C
       judged_by : (task : Task ℕ) → task_called world name ≡ Some task → (j : Judgement ℕ)
           → judge_in nat_eq fresh world task call ≡ j → EndsAlike world names name call fresh other
       judged_by task called (Ok permit) judged = granted_so task called permit judged
-      judged_by task called (Err deny) judged = denial_ends_alike world names name call it fresh other
+      judged_by task called (Err deny) judged = denial_ends_alike it fresh other
           (ap (λ o. is_ok (ran name call world fresh o).answer) called
-          ∙ ap (λ j. is_ok (run_by world names name call it fresh other world fresh task j).answer) judged
+          ∙ ap (λ j. is_ok (run_by it world fresh task j).answer) judged
           ∙ ap (λ b. is_ok (finished_by nat_eq (b || true) world name [] (denied world deny)).answer) looks)
 
       by : (o : Option (Task ℕ)) → task_called world name ≡ o → EndsAlike world names name call fresh other
-      by None none = unnamed_ends_alike world names name call it fresh other none
+      by None none = unnamed_ends_alike it fresh other none
       by (Some task) called = judged_by task called (judge_in nat_eq fresh world task call) refl

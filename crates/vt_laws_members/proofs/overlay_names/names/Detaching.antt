@@ -1,8 +1,8 @@
 -- Where mounts of theirs go, and filesystems change that a sealed set uses alone, the part is what is left of the part.
-use Rattle.std.proofs.Common.{◌≡◌, sym, ap, subst, ◌∙◌, ℕ, nat_eq, Bool, true, List, filter, map}
-use Rattle.vt_spec.proofs.Common.{Among, Filesystem, IsWorld, Layer, Mount, MountInvariants, Namespace, Task, TaskName, World, among-from_filter, is_among, is_going, is_member_task, list_any, members, numbers_raised, own_lowers, part_of, raised_if_changed, raised_namespace, raised_task, sealed, settled, taken_away, used_alone, used_filesystems, without_dead_mounts}
+use Rattle.std.proofs.Common.{◌≡◌, sym, ap, ◌∙◌, ℕ, nat_eq, Bool, true, List, filter, map}
+use Rattle.vt_spec.proofs.Common.{Among, Filesystem, Layer, MountInvariants, Namespace, Task, TaskName, World, is_among, list_any, numbers_raised, own_lowers, part_of, raised_if_changed, raised_namespace, raised_task, settled, taken_away, used_alone, used_filesystems, without_dead_mounts}
 use Rattle.vt_laws_mounts.specs.LettingGo.TreesOverlays.{with_filesystems}
-use Rattle.vt_laws_sealed.proofs.part.part.PartOfPart.{is_own, same_members}
+use Rattle.vt_laws_sealed.proofs.part.part.PartOfPart.{same_members}
 use Rattle.vt_laws_members.proofs.changes.files.FilesChanged.{part_with_layers}
 use Rattle.vt_laws_members.proofs.changes.letting_go.EndedPartReady as InPart
 use Rattle.vt_laws_members.proofs.changes.letting_go.EndedPartReady.{ended_part_ready}
@@ -11,27 +11,25 @@ use Rattle.vt_laws_members.proofs.changes.letting_go.EndedReady as InWorld
 use Rattle.vt_laws_members.proofs.changes.letting_go.EndedReady.{ended_ready}
 use Rattle.vt_laws_members.proofs.changes.letting_go.Ends.{raised_members}
 use Rattle.vt_laws_members.proofs.changes.letting_go.LessSeen.{AreLess, less_used, one_part}
-use Rattle.vt_laws_members.proofs.changes.letting_go.NamespaceLess.{ended_less}
+use Rattle.vt_laws_members.proofs.changes.letting_go.NamespaceLess.{Detaches, LeavesWorlds, ended_less}
 use Rattle.vt_laws_members.proofs.changes.letting_go.Ready.{Alone, NoOthers, Ready}
 use Rattle.vt_laws_members.proofs.changes.letting_go.Sweep.{part_of_settled, swept_of}
-use Rattle.vt_laws_members.proofs.changes.letting_go.Taken.{all_last, group_lost, part_after, part_taken, set_stays, world_after, world_taken}
+use Rattle.vt_laws_members.proofs.changes.letting_go.Taken.{all_stay, group_lost, part_after, world_after, worlds_left}
 use Rattle.vt_laws_members.proofs.overlay_names.names.Raising.{raised_part}
 use Rattle.vt_laws_members.proofs.overlay_names.names.SteppedReady.{ChangesTheirs, stepped_ready}
+use Rattle.vt_laws_members.proofs.changes.letting_go.Regrouped.{TheirsGo}
 
-module _ (world : World ℕ) (names : List TaskName) (is : IsWorld nat_eq world)
-    (sealed_off : sealed nat_eq world names ≡ true) (gone : List ℕ)
-    (own_go : (m : Mount ℕ) → Among m world.mounts → is_going nat_eq gone m.number ≡ true
-    → is_own world names (members world names) m ≡ true)
+module _ {world : World ℕ} {names : List TaskName} {gone : List ℕ} (go : TheirsGo world names gone)
     (kept_world : MountInvariants nat_eq (taken_away nat_eq world gone))
     (kept_part : MountInvariants nat_eq (taken_away nat_eq (part_of nat_eq world names) gone)) where
   abbrev part : World ℕ
   part = part_of nat_eq world names
 
   abbrev pub here : World ℕ
-  here = world_after world names is sealed_off gone own_go
+  here = world_after go
 
   abbrev pub there : World ℕ
-  there = part_after world names is sealed_off gone own_go
+  there = part_after go
 
   abbrev pub living : World ℕ
   living = without_dead_mounts nat_eq here
@@ -45,28 +43,19 @@ module _ (world : World ℕ) (names : List TaskName) (is : IsWorld nat_eq world)
   abbrev lowers_now : List (Layer ℕ)
   lowers_now = own_lowers nat_eq here names
 
-  abbrev kept_here : MountInvariants nat_eq here
-  kept_here = subst (MountInvariants nat_eq) (world_taken world names is sealed_off gone own_go) kept_world
+  abbrev stay : Detaches world names names gone
+  stay = all_stay go (group_lost world gone)
 
-  abbrev kept_there : MountInvariants nat_eq there
-  kept_there = subst (MountInvariants nat_eq) (part_taken world names is sealed_off gone own_go) kept_part
-
-  all_members : (t : Task ℕ) → Among t part.tasks → is_member_task names t ≡ true
-  all_members t m = (among-from_filter (is_member_task names) world.tasks t m).1
+  abbrev leaves : LeavesWorlds stay
+  leaves = worlds_left go kept_world kept_part
 
   -- what they use alone they use alone then
   pub alone_here : (n : ℕ) → used_alone nat_eq world names n ≡ true → Alone living names n
   alone_here =
-      InWorld.alone world names is sealed_off names gone own_go (all_last world names is sealed_off gone own_go)
-      world.tasks part.tasks world.change part.change (same_members world names)
-      (set_stays world names is sealed_off gone own_go) (λ l m. m) (λ m n out its. its)
-      (group_lost world names is sealed_off gone own_go) kept_here
+      InWorld.alone stay leaves
 
   none_other : (n : ℕ) → NoOthers living_part names n
-  none_other = InPart.alone world names is sealed_off names gone own_go (all_last world names is sealed_off gone own_go)
-      world.tasks part.tasks world.change part.change (same_members world names)
-      (set_stays world names is sealed_off gone own_go) all_members (λ m n out its. its)
-      (group_lost world names is sealed_off gone own_go) kept_there
+  none_other = InPart.alone stay leaves
 
   pub alone_there : (n : ℕ) → Alone living_part names n
   alone_there n = record { itself = none_other n; overlays = λ merged m has. none_other merged.number }
@@ -75,32 +64,22 @@ module _ (world : World ℕ) (names : List TaskName) (is : IsWorld nat_eq world)
       (theirs_there : ChangesTheirs living_part names used_now step) where
     -- both worlds are ready to be swept
     ready_here : Ready (without_dead_mounts nat_eq (with_filesystems here step)) names used_now lowers_now
-    ready_here = stepped_ready living names used_now lowers_now
-        (ended_ready world names is sealed_off names gone own_go (all_last world names is sealed_off gone own_go)
-        world.tasks part.tasks world.change part.change (same_members world names)
-        (set_stays world names is sealed_off gone own_go) (λ l m. m) (λ m n out its. its)
-        (group_lost world names is sealed_off gone own_go) kept_here) step theirs
+    ready_here = stepped_ready living names used_now lowers_now (ended_ready stay leaves) step theirs
 
     ready_there : Ready (without_dead_mounts nat_eq (with_filesystems there step)) names used_now lowers_now
-    ready_there = stepped_ready living_part names used_now lowers_now
-        (ended_part_ready world names is sealed_off names gone own_go (all_last world names is sealed_off gone own_go)
-        world.tasks part.tasks world.change part.change (same_members world names)
-        (set_stays world names is sealed_off gone own_go) all_members (λ m n out its. its)
-        (group_lost world names is sealed_off gone own_go) kept_there) step theirs_there
+    ready_there = stepped_ready living_part names used_now lowers_now (ended_part_ready stay leaves) step theirs_there
 
     -- their parts before the sweep
     abbrev is_less : AreLess world names names here there
-    is_less = ended_less world names is sealed_off names gone own_go (all_last world names is sealed_off gone own_go)
-        world.tasks part.tasks world.change part.change (same_members world names)
-        (set_stays world names is sealed_off gone own_go) (group_lost world names is sealed_off gone own_go)
+    is_less = ended_less stay
 
     parts_before : part_of nat_eq (with_filesystems here step) names
         ≡ part_of nat_eq (with_filesystems there step) names
     parts_before = part_with_layers here names step theirs.numbered theirs.changing theirs.lowering theirs.kept
-        ∙ ap (λ w. with_filesystems w step) (sym (one_part world names is names here there is_less))
+        ∙ ap (λ w. with_filesystems w step) (sym (one_part world names go.is names here there is_less))
         ∙ sym (part_with_layers there names step theirs_there.numbered theirs_there.changing theirs_there.lowering
         (λ x unused. theirs_there.kept x
-        (ap (is_among nat_eq x.number) (sym (less_used world names is names here there is_less)) ∙ unused)))
+        (ap (is_among nat_eq x.number) (sym (less_used world names go.is names here there is_less)) ∙ unused)))
 
     swept_alike : part_of nat_eq (settled nat_eq (with_filesystems here step)) names
         ≡ part_of nat_eq (settled nat_eq (with_filesystems there step)) names
@@ -118,10 +97,7 @@ module _ (world : World ℕ) (names : List TaskName) (is : IsWorld nat_eq world)
     detached_and_changed name numbers used =
         raised_part (with_filesystems here step) names used_now lowers_now ready_here numbers used world name
         ∙ (λ i. record (with_filesystems (swept_alike i) (raised_if_changed nat_eq numbers)) {
-          namespaces = (sym (raised_alike world names is sealed_off names gone own_go
-              (all_last world names is sealed_off gone own_go) world.tasks part.tasks world.change part.change
-              (same_members world names) (set_stays world names is sealed_off gone own_go)
-              (group_lost world names is sealed_off gone own_go)) ∙ ap (λ ts. filter (spaces ts)
+          namespaces = (sym (raised_alike stay) ∙ ap (λ ts. filter (spaces ts)
               (map (raised_namespace nat_eq part (settled nat_eq there)) there.namespaces))
               (sym (same_members world names))) i;
           tasks = (raised_members names name world.tasks ∙ ap (map (raised_task name)) (sym (same_members world names))

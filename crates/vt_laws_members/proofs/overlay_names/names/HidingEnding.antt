@@ -33,10 +33,9 @@ plain_mark world location change none asked = absurd none
 
 pub all_opaques_end_alike : AllOpaquesEndAlike
 all_opaques_end_alike world names name path mark it fresh other =
-    by_permit world names name call it fresh other refl (λ task called permit judged.
-    granted_so task called permit (opaques_mark world fresh task call permit
-    (calls_are_granted nat_eq (looks_of nat_eq world) (overfills nat_eq fresh world task) task call permit judged) path
-    mark refl) judged judged)
+    by_permit it fresh other refl (λ task called permit judged. granted_so task called permit
+    (opaques_mark world fresh task call permit (calls_are_granted nat_eq (looks_of nat_eq world)
+    (overfills nat_eq fresh world task) task call permit judged) path mark refl) judged judged)
   where
     call : Call
     call = Opaque path mark
@@ -65,10 +64,9 @@ whiteouts_made world fresh task asked permit granted path e = absurd cc
 
 pub all_whiteouts_end_alike : AllWhiteoutsEndAlike
 all_whiteouts_end_alike world names name path it fresh serves =
-    by_permit world names name call it fresh fresh refl (λ task called permit judged.
-    granted_so task called permit (whiteouts_made world fresh task call permit
-    (calls_are_granted nat_eq (looks_of nat_eq world) (overfills nat_eq fresh world task) task call permit judged) path
-    refl) judged)
+    by_permit it fresh fresh refl (λ task called permit judged. granted_so task called permit
+    (whiteouts_made world fresh task call permit (calls_are_granted nat_eq (looks_of nat_eq world)
+    (overfills nat_eq fresh world task) task call permit judged) path refl) judged)
   where
     call : Call
     call = MakeWhiteout path

@@ -6,22 +6,21 @@ use Rattle.vt_laws_rules.specs.Granted.IsGranted.{makes_hard_link, unlinks}
 use Rattle.vt_laws_rules.proofs.given.Inversion.{calls_are_granted}
 use Rattle.vt_laws_mounts.specs.LettingGo.TreesOverlays.{with_filesystems}
 use Rattle.vt_laws_worlds.proofs.worlds.CallsKept.{name_found}
-use Rattle.vt_laws_worlds.specs.OverlaysLetGo.OverlayChanges.{CanChange}
-use Rattle.vt_laws_worlds.specs.OverlayPermits.Asked.{change_asked}
 use Rattle.vt_laws_worlds.specs.OverlayPermits.Changed.{numbers_left}
 use Rattle.vt_laws_worlds.proofs.overlay_permits.changed.ChangedOverlays.{permits_can_change}
 use Rattle.vt_laws_sealed.proofs.part.part.PartOfPart.{same_members}
-use Rattle.vt_laws_members.proofs.judging.Grounds.{IsTheirs, theirs_from}
+use Rattle.vt_laws_members.proofs.judging.Grounds.{IsTheirs}
 use Rattle.vt_laws_members.proofs.judging.SeenInPart.{directory_theirs, filesystem_alike, root_theirs, theirs_directly}
 use Rattle.vt_laws_members.specs.Changes.Changes.{EndsAlike, IsCallOfTheirs, grown}
 use Rattle.vt_laws_members.proofs.changes.letting_go.Changed.{LetsGo}
-use Rattle.vt_laws_members.proofs.changes.looks.Told.{member_called, ran}
-use Rattle.vt_laws_members.proofs.changes.names.GrantedNames.{Names, granted_theirs}
+use Rattle.vt_laws_members.proofs.changes.looks.Told.{ran}
+use Rattle.vt_laws_members.proofs.changes.names.GrantedNames.{Names, NamingCall, naming_of, naming_theirs}
 use Rattle.vt_laws_members.proofs.changes.overlays.OverlayEdits.{unwritten_run}
-use Rattle.vt_laws_members.proofs.changes.tasks.Denied.{run_by, same_judgement}
+use Rattle.vt_laws_members.proofs.changes.tasks.Denied.{ran_there, run_by}
 use Rattle.vt_laws_members.proofs.changes.tasks.Rights.{idle_end_alike}
 use Rattle.vt_laws_members.specs.OverlayNames.OverlayNames.{OverlayLinksEndAlike, OverlayMakingEndsAlike, OverlayMkdirsEndAlike, OverlayNewFilesEndAlike, OverlaySymlinksEndAlike, OverlayUnlinksEndAlike}
 use Rattle.vt_laws_members.proofs.overlay_names.names.OverlayNaming.{changed_ends, changed_in_part, changed_in_world, listed_in_part, listed_in_world}
+use Rattle.vt_laws_members.proofs.changes.overlays.Copying.{OverlayChange}
 
 -- tasks that stay let nothing go
 pub tasks_stay : (world : World ℕ) (names : List TaskName) (is : IsWorld nat_eq world)
@@ -52,64 +51,76 @@ stepped_run before w name call supply location change step numbers looks made li
     ∙ ap (λ v. granted Done (numbers_raised nat_eq before name numbers (settled nat_eq v))) made
 
 -- A granted call by which a name comes or goes through an overlay
-module _ (world : World ℕ) (names : List TaskName) (name : TaskName) (call : Call)
-    (it : IsCallOfTheirs world names name call)
-    (fresh : Fresh ℕ) (serves : Serves nat_eq world fresh) (task : Task ℕ) (found : task_called world name ≡ Some task)
-    (looks : only_looks call ≡ false) (stays : grown names name call (Ok Done) ≡ names) (permit : Permit ℕ)
-    (judged : judge_in nat_eq fresh world task call ≡ Ok permit) (location : Location ℕ) (change : Change ℕ)
-    (asks : change_asked fresh world permit ≡ Some (location, change)) (names_it : Names change)
-    (is : is_overlay (filesystem_at nat_eq world location) ≡ true) where
+module _ {world : World ℕ} {names : List TaskName} {name : TaskName} {call : Call}
+    (naming : NamingCall world names name call) where
   abbrev part : World ℕ
   part = part_of nat_eq world names
 
   abbrev merged : Filesystem ℕ
-  merged = filesystem_at nat_eq world location
+  merged = filesystem_at nat_eq world naming.location
 
   abbrev supply : Fresh ℕ
-  supply = numbers_left fresh permit
+  supply = numbers_left naming.fresh naming.permit
 
-  on : IsTheirs world names it.is.mounts location.mount
-  on = theirs_from world names it.is.mounts location.mount (granted_theirs world names it.is it.sealed_off task
-      (member_called world names it.is it.sealed_off name it.theirs task found) fresh call permit judged location change
-      asks names_it)
+  direct : Among (mount_at nat_eq world naming.location).filesystem (used_directly nat_eq world names)
+  direct = theirs_directly world names naming.is naming.location (naming_theirs naming)
 
-  direct : Among (mount_at nat_eq world location).filesystem (used_directly nat_eq world names)
-  direct = theirs_directly world names it.is location on
+  alike : filesystem_at nat_eq world naming.location ≡ filesystem_at nat_eq part naming.location
+  alike = filesystem_alike world names naming.is naming.location (naming_theirs naming)
 
-  alike : filesystem_at nat_eq world location ≡ filesystem_at nat_eq part location
-  alike = filesystem_alike world names it.is location on
+  abbrev through : (overlay : Overlay ℕ) (upper : Layer ℕ) → merged.overlay ≡ Some overlay
+      → overlay.upper ≡ Some upper → OverlayChange world names
+  through overlay upper overlaid has = record {
+    is = naming.is;
+    supply = supply;
+    location = naming.location;
+    change = naming.change;
+    overlay = overlay;
+    upper = upper;
+    can = permits_can_change world naming.fresh naming.task call naming.permit naming.location naming.change overlay
+        upper naming.is naming.serves (ap (task_called world) (sym (name_found world name naming.task naming.found))
+        ∙ naming.found) naming.judged
+        naming.asks overlaid has;
+    direct = direct;
+    alike = alike;
+  }
 
-  can : (overlay : Overlay ℕ) (upper : Layer ℕ) → merged.overlay ≡ Some overlay → overlay.upper ≡ Some upper
-      → CanChange supply world location change overlay upper
-  can overlay upper overlaid has =
-      permits_can_change world fresh task call permit location change overlay upper it.is serves
-      (ap (task_called world) (sym (name_found world name task found)) ∙ found) judged asks overlaid has
+  -- so it runs, if its permit is for that change
+  abbrev Runs : World ℕ → Type 0
+  Runs w = run_by naming.it w naming.fresh naming.task (Ok naming.permit) ≡ finished nat_eq w name call
+      (changed_at nat_eq w naming.location) (granted Done (with_change nat_eq supply w naming.location naming.change))
 
-  pub naming_through_ends : ran name call world fresh (Some task)
-      ≡ finished nat_eq world name call (changed_at nat_eq world location)
-      (granted Done (with_change nat_eq supply world location change)) → ran name call part fresh (Some task)
-      ≡ finished nat_eq part name call (changed_at nat_eq part location)
-      (granted Done (with_change nat_eq supply part location change)) → EndsAlike world names name call fresh fresh
-  naming_through_ends one two = by merged.overlay refl
+  pub naming_through_ends : only_looks call ≡ false → grown names name call (Ok Done) ≡ names
+      → is_overlay merged ≡ true → Runs world → Runs part → EndsAlike world names name call naming.fresh naming.fresh
+  naming_through_ends looks stays is runs runs_too = by merged.overlay refl
     where
-      layered : (overlay : Overlay ℕ) → merged.overlay ≡ Some overlay → (o : Option (Layer ℕ)) → overlay.upper ≡ o
-          → EndsAlike world names name call fresh fresh
-      layered overlay overlaid None none = idle_end_alike world names name call it task found fresh fresh Done stays
-          (one ∙ unwritten_run world name call supply location change merged overlay looks refl overlaid none)
-          (two ∙ unwritten_run part name call supply location change merged overlay looks (sym alike) overlaid none)
-      layered overlay overlaid (Some upper) has =
-          let may = can overlay upper overlaid has in
-          changed_ends world names name call it supply location change overlay upper may direct alike world.tasks
-          part.tasks (tasks_stay world names it.is it.sealed_off) (same_members world names)
-          (λ t m. (among-from_filter (is_member_task names) world.tasks t m).1) direct task found fresh Done stays
-          (one ∙ stepped_run world world name call supply location change _ _ looks
-          (changed_in_world world names name call it supply location change overlay upper may direct alike)
-          (listed_in_world world names name call it supply location change overlay upper may direct alike))
-          (two ∙ stepped_run part part name call supply location change _ _ looks
-          (changed_in_part world names name call it supply location change overlay upper may direct alike)
-          (listed_in_part world names name call it supply location change overlay upper may direct alike))
+      one : ran name call world naming.fresh (Some naming.task)
+          ≡ finished nat_eq world name call (changed_at nat_eq world naming.location)
+          (granted Done (with_change nat_eq supply world naming.location naming.change))
+      one = ap (run_by naming.it world naming.fresh naming.task) naming.judged ∙ runs
 
-      by : (o : Option (Overlay ℕ)) → merged.overlay ≡ o → EndsAlike world names name call fresh fresh
+      two : ran name call part naming.fresh (Some naming.task)
+          ≡ finished nat_eq part name call (changed_at nat_eq part naming.location)
+          (granted Done (with_change nat_eq supply part naming.location naming.change))
+      two = ran_there naming.it naming.fresh naming.fresh naming.task naming.found naming.judged ∙ runs_too
+
+      layered : (overlay : Overlay ℕ) → merged.overlay ≡ Some overlay → (o : Option (Layer ℕ)) → overlay.upper ≡ o
+          → EndsAlike world names name call naming.fresh naming.fresh
+      layered overlay overlaid None none = idle_end_alike world names name call naming.it naming.task naming.found
+          naming.fresh naming.fresh Done stays (one ∙ unwritten_run world name call supply naming.location naming.change
+          merged overlay looks refl overlaid none) (two ∙ unwritten_run part name call supply naming.location
+          naming.change merged overlay looks (sym alike) overlaid none)
+      layered overlay overlaid (Some upper) has =
+          let copied = through overlay upper overlaid has in
+          changed_ends naming.it copied world.tasks part.tasks (tasks_stay world names naming.is naming.sealed_off)
+          (same_members world names) (λ t m. (among-from_filter (is_member_task names) world.tasks t m).1) direct
+          naming.task naming.found naming.fresh Done stays
+          (one ∙ stepped_run world world name call supply naming.location naming.change _ _ looks
+          (changed_in_world naming.it copied) (listed_in_world naming.it copied))
+          (two ∙ stepped_run part part name call supply naming.location naming.change _ _ looks
+          (changed_in_part naming.it copied) (listed_in_part naming.it copied))
+
+      by : (o : Option (Overlay ℕ)) → merged.overlay ≡ o → EndsAlike world names name call naming.fresh naming.fresh
       by None none = absurd (true≢false (sym is ∙ ap is_some none))
       by (Some overlay) overlaid = layered overlay overlaid overlay.upper refl
 
@@ -117,11 +128,8 @@ module _ (world : World ℕ) (names : List TaskName) (name : TaskName) (call : C
 pub overlay_makings_end : (world : World ℕ) (names : List TaskName) (name : TaskName) (call : Call)
     → only_looks call ≡ false → grown names name call (Ok Done) ≡ names → OverlayMakingEndsAlike world names name call
 overlay_makings_end world names name call looks stays it task found fresh serves directory entry node judged is =
-    naming_through_ends world names name call it fresh serves task found looks stays (ToMake directory entry node)
-    judged directory (Make directory.node entry (evens fresh 0) node) refl tt is
-    (ap (run_by world names name call it fresh fresh world fresh task) judged)
-    (ap (run_by world names name call it fresh fresh (part_of nat_eq world names) fresh task)
-    (sym (same_judgement world names name call it fresh fresh task found) ∙ judged))
+    naming_through_ends (naming_of it task found fresh serves (ToMake directory entry node) judged directory
+    (Make directory.node entry (evens fresh 0) node) refl tt) looks stays is refl refl
 
 pub overlay_mkdirs_end_alike : OverlayMkdirsEndAlike
 overlay_mkdirs_end_alike world names name path mode = overlay_makings_end world names name (Mkdir path mode) refl refl
@@ -142,10 +150,8 @@ pub overlay_changes_end : (world : World ℕ) (names : List TaskName) (name : Ta
     → judge_in nat_eq fresh world task call ≡ Ok (ToChange location change) → Names change
     → is_overlay (filesystem_at nat_eq world location) ≡ true → EndsAlike world names name call fresh fresh
 overlay_changes_end world names name call it task found fresh serves looks stays location change judged names_it is =
-    naming_through_ends world names name call it fresh serves task found looks stays (ToChange location change) judged
-    location change refl names_it is (ap (run_by world names name call it fresh fresh world fresh task) judged)
-    (ap (run_by world names name call it fresh fresh (part_of nat_eq world names) fresh task)
-    (sym (same_judgement world names name call it fresh fresh task found) ∙ judged))
+    naming_through_ends (naming_of it task found fresh serves (ToChange location change) judged location change refl
+    names_it) looks stays is refl refl
 
 links_name : (world : World ℕ) (fresh : Fresh ℕ) (task : Task ℕ) (asked : Call) (permit : Permit ℕ)
     → IsGranted nat_eq (looks_of nat_eq world) (overfills nat_eq fresh world task) task asked permit

@@ -1,8 +1,7 @@
 -- A granted call of theirs by which a name comes or goes through an overlay ends in the part as in the world.
 use Rattle.std.proofs.Common.{arith, ◌≡◌, refl, sym, ap, subst, ◌∙◌, ◌⊎◌, inl, inr, ⊎_elim, ℕ, nat_eq, eqb-true, Bool, true, false, true≢false, List, [], ◌∷◌, ◌++◌, Option, Some, Ok, is_some, map, filter, option_to_list}
-use Rattle.vt_spec.proofs.Common.{Among, Answer, Call, Change, Filesystem, Fresh, IsWorld, Layer, Location, Overlay, Real, Task, TaskName, World, among-append_left, among-append_right, among-flat_map, among-from_filter, among_numbers, changed_at, common_steps, filesystem_at, filesystem_numbered, granted, is_among, is_member_task, is_overlay, layers_of, mount_at, numbers_raised, of_overlay, open_layer, or_cases, overlay_or, part_of, sealed, settled, stack_of, task_called, used_alone, used_directly, used_filesystems, wholly_locked, with_change}
+use Rattle.vt_spec.proofs.Common.{Among, Answer, Call, Filesystem, Fresh, IsWorld, Layer, Overlay, Real, Task, TaskName, World, among-append_left, among-append_right, among-flat_map, among-from_filter, among_numbers, changed_at, common_steps, filesystem_numbered, granted, is_among, is_member_task, is_overlay, layers_of, mount_at, numbers_raised, of_overlay, open_layer, or_cases, overlay_or, part_of, sealed, settled, stack_of, task_called, used_alone, used_directly, used_filesystems, wholly_locked, with_change}
 use Rattle.vt_laws_mounts.specs.LettingGo.TreesOverlays.{with_filesystems}
-use Rattle.vt_laws_worlds.specs.OverlaysLetGo.OverlayChanges.{CanChange}
 use Rattle.vt_laws_sealed.proofs.part.part.PartOfPart.{used_directly_used}
 use Rattle.vt_laws_sealed.proofs.part.seals.ByPart.{layer_directory, layer_plain, used_are_free}
 use Rattle.vt_laws_members.proofs.judging.Anywhere.{not_whole}
@@ -16,7 +15,7 @@ use Rattle.vt_laws_members.proofs.changes.letting_go.PartReady.{no_others_there}
 use Rattle.vt_laws_members.proofs.changes.letting_go.Ready.{Alone}
 use Rattle.vt_laws_members.proofs.changes.letting_go.WorldReady.{alone}
 use Rattle.vt_laws_members.proofs.changes.looks.Told.{ran}
-use Rattle.vt_laws_members.proofs.changes.overlays.Copying.{both_numbers, layer_found, made_of, numbers_in_part, numbers_in_world, overlays_stay, step, step_kept, step_numbered, stepped_if_made, stepped_in_world, upper_in_use}
+use Rattle.vt_laws_members.proofs.changes.overlays.Copying.{OverlayChange, both_numbers, layer_found, made_of, numbers_in_part, numbers_in_world, overlays_stay, step, step_kept, step_numbered, stepped_if_made, stepped_in_world, upper_in_use}
 use Rattle.vt_laws_members.proofs.overlay_names.names.LayersAlike.{AllAlike, ViewsAlike, made_same}
 use Rattle.vt_laws_members.proofs.overlay_names.names.SteppedAlike.{living, living_part, stepped_ends}
 use Rattle.vt_laws_members.proofs.overlay_names.names.SteppedReady.{ChangesTheirs}
@@ -64,46 +63,43 @@ module _ (world : World ℕ) (names : List TaskName) (is : IsWorld nat_eq world)
       (subst (λ o. Among upper (option_to_list o)) (sym has) (inl refl))))
 
 -- An overlay with an upper layer, in whose tree a name comes or goes
-module _ (world : World ℕ) (names : List TaskName) (name : TaskName) (call : Call)
-    (it : IsCallOfTheirs world names name call)
-    (supply : Fresh ℕ) (location : Location ℕ) (change : Change ℕ) (overlay : Overlay ℕ) (upper : Layer ℕ)
-    (can : CanChange supply world location change overlay upper)
-    (direct : Among (mount_at nat_eq world location).filesystem (used_directly nat_eq world names))
-    (alike : filesystem_at nat_eq world location ≡ filesystem_at nat_eq (part_of nat_eq world names) location) where
+module _ {world : World ℕ} {names : List TaskName} {name : TaskName} {call : Call}
+    (it : IsCallOfTheirs world names name call) (through : OverlayChange world names) where
   abbrev part : World ℕ
   part = part_of nat_eq world names
 
   abbrev number : ℕ
-  number = (mount_at nat_eq world location).filesystem
+  number = (mount_at nat_eq world through.location).filesystem
 
   abbrev pub moved : Filesystem ℕ → Filesystem ℕ
-  moved = step supply world names location change overlay upper it.is can direct alike
+  moved = step through
 
   abbrev pub numbers : List ℕ
-  numbers = both_numbers supply world names location change overlay upper it.is can direct alike
+  numbers = both_numbers through
 
   abbrev one : Filesystem ℕ
   one = filesystem_numbered nat_eq world number
 
   abbrev two : Filesystem ℕ
-  two = filesystem_numbered nat_eq world upper.filesystem
+  two = filesystem_numbered nat_eq world through.upper.filesystem
 
   there : Among one world.filesystems
-  there = overlay_there world names it.is number overlay can.overlay_there
+  there = overlay_there world names it.is number through.overlay through.can.overlay_there
 
   one_number : one.number ≡ number
   one_number = found_numbered number world.filesystems
 
-  two_number : two.number ≡ upper.filesystem
-  two_number = found_numbered upper.filesystem world.filesystems
+  two_number : two.number ≡ through.upper.filesystem
+  two_number = found_numbered through.upper.filesystem world.filesystems
 
   pub one_alone : used_alone nat_eq world names one.number ≡ true
   one_alone = ap (used_alone nat_eq world names) one_number
-      ∙ merged_alone world names it.is it.sealed_off number overlay can.overlay_there direct
+      ∙ merged_alone world names it.is it.sealed_off number through.overlay through.can.overlay_there through.direct
 
   pub two_alone : used_alone nat_eq world names two.number ≡ true
   two_alone = ap (used_alone nat_eq world names) two_number
-      ∙ upper_alone world names it.is it.sealed_off number overlay can.overlay_there direct upper can.upper_there
+      ∙ upper_alone world names it.is it.sealed_off number through.overlay through.can.overlay_there through.direct
+      through.upper through.can.upper_there
 
   -- The change is one of filesystems that they use alone.
   module _ (w : World ℕ) (used : List ℕ) (one_used : is_among nat_eq one.number used ≡ true)
@@ -112,14 +108,13 @@ module _ (world : World ℕ) (names : List TaskName) (name : TaskName) (call : C
       (twos : (x : Filesystem ℕ) → Among x w.filesystems → nat_eq two.number x.number ≡ true → x ≡ two)
       (alone_one : Alone w names one.number) (alone_two : Alone w names two.number) where
     stays : {A : Type 0} (default : A) (what : Overlay ℕ → A)
-        → ((real : ℕ → Option (Real ℕ)) → what (record overlay { real = real }) ≡ what overlay)
+        → ((real : ℕ → Option (Real ℕ)) → what (record (through.overlay) { real = real }) ≡ what through.overlay)
         → (x : Filesystem ℕ) → Among x w.filesystems → of_overlay default what (moved x) ≡ of_overlay default what x
-    stays default what same = overlays_stay supply world names location change overlay upper it.is can direct alike w
-        (record { one_merged = ones; one_layer = twos }) default what (λ merge. same merge.real)
+    stays default what same = overlays_stay through w (record { one_merged = ones; one_layer = twos }) default what
+        (λ merge. same merge.real)
 
     kept : (x : Filesystem ℕ) → is_among nat_eq x.number used ≡ false → moved x ≡ x
-    kept x unused = step_kept supply world names location change overlay upper it.is can direct alike x
-        (apart one.number one_used (nat_eq one.number x.number) refl)
+    kept x unused = step_kept through x (apart one.number one_used (nat_eq one.number x.number) refl)
         (apart two.number two_used (nat_eq two.number x.number) refl)
       where
         apart : (n : ℕ) → is_among nat_eq n used ≡ true → (b : Bool) → nat_eq n x.number ≡ b → nat_eq n x.number ≡ false
@@ -132,11 +127,11 @@ module _ (world : World ℕ) (names : List TaskName) (name : TaskName) (call : C
     changes x true e b f = inr (subst (Alone w names) (eqb-true one.number x.number e) alone_one)
     changes x false e true f = inr (subst (Alone w names) (eqb-true two.number x.number f) alone_two)
     changes x false e false f =
-        inl (step_kept supply world names location change overlay upper it.is can direct alike x e f)
+        inl (step_kept through x e f)
 
     pub theirs : ChangesTheirs w names used moved
     theirs = record {
-      numbered = step_numbered supply world names location change overlay upper it.is can direct alike;
+      numbered = step_numbered through;
       layers = stays [] layers_of (λ real. refl);
       changing = stays [] (λ (o : Overlay ℕ). map (λ (l : Layer ℕ). l.filesystem)
           (option_to_list o.upper ++ option_to_list o.work)) (λ real. refl);
@@ -147,36 +142,42 @@ module _ (world : World ℕ) (names : List TaskName) (name : TaskName) (call : C
     }
 
   -- lower layers show the same in the part
-  lowers_same : AllAlike (map (open_layer nat_eq part) overlay.lowers) (map (open_layer nat_eq world) overlay.lowers)
-  lowers_same = all_alike part world overlay.lowers (λ l m.
-      lower_view world names it.is l
-      (among-flat_map (λ n. lowers_in (filesystem_numbered nat_eq world n)) (used_directly nat_eq world names) number l
-      direct (subst (λ o. Among l (overlay_or [] (λ (v : Overlay ℕ). v.lowers) o)) (sym can.overlay_there) m))
+  lowers_same : AllAlike (map (open_layer nat_eq part) through.overlay.lowers)
+      (map (open_layer nat_eq world) through.overlay.lowers)
+  lowers_same = all_alike part world through.overlay.lowers
+      (λ l m. lower_view world names it.is l (among-flat_map (λ n. lowers_in (filesystem_numbered nat_eq world n))
+      (used_directly nat_eq world names) number l through.direct
+      (subst (λ o. Among l (overlay_or [] (λ (v : Overlay ℕ). v.lowers) o)) (sym through.can.overlay_there) m))
       (layer_directory world names it.is one there l
-      (subst (λ o. Among l (overlay_or [] layers_of o)) (sym can.overlay_there)
-      (among-append_right (option_to_list overlay.upper ++ option_to_list overlay.work) overlay.lowers l m))))
+      (subst (λ o. Among l (overlay_or [] layers_of o)) (sym through.can.overlay_there)
+      (among-append_right (option_to_list through.overlay.upper ++ option_to_list through.overlay.work)
+      through.overlay.lowers l m))))
 
-  pub changed_in_world : with_change nat_eq supply world location change ≡ with_filesystems world moved
-  changed_in_world = stepped_in_world supply world names location change overlay upper it.is can direct alike
+  pub changed_in_world : with_change nat_eq through.supply world through.location through.change ≡ with_filesystems
+      world moved
+  changed_in_world = stepped_in_world through
 
-  pub made_in_part : made_of supply world names location change overlay upper it.is can direct alike
-      (stack_of nat_eq part overlay upper) two
-      ≡ made_of supply world names location change overlay upper it.is can direct alike
-      (stack_of nat_eq world overlay upper) two
+  pub made_in_part : made_of through
+      (stack_of nat_eq part through.overlay through.upper) two ≡ made_of through
+      (stack_of nat_eq world through.overlay through.upper) two
   made_in_part =
-      made_same (stack_of nat_eq part overlay upper) (stack_of nat_eq world overlay upper) refl refl lowers_same supply
-      (record { files = one.files; real = overlay.real; upper = two.files }) change
+      made_same (stack_of nat_eq part through.overlay through.upper) (stack_of nat_eq world through.overlay
+      through.upper) refl refl lowers_same through.supply (record {
+        files = one.files;
+        real = through.overlay.real;
+        upper = two.files;
+      }) through.change
 
-  pub changed_in_part : with_change nat_eq supply part location change ≡ with_filesystems part moved
+  pub changed_in_part : with_change nat_eq through.supply part through.location through.change ≡ with_filesystems part
+      moved
   changed_in_part =
-      stepped_if_made supply world names location change overlay upper it.is can direct alike part (sym alike)
-      (layer_found supply world names location change overlay upper it.is can direct alike) made_in_part
+      stepped_if_made through part (sym through.alike) (layer_found through) made_in_part
 
-  pub listed_in_world : changed_at nat_eq world location ≡ numbers
-  listed_in_world = numbers_in_world supply world names location change overlay upper it.is can direct alike
+  pub listed_in_world : changed_at nat_eq world through.location ≡ numbers
+  listed_in_world = numbers_in_world through
 
-  pub listed_in_part : changed_at nat_eq part location ≡ numbers
-  listed_in_part = numbers_in_part supply world names location change overlay upper it.is can direct alike
+  pub listed_in_part : changed_at nat_eq part through.location ≡ numbers
+  listed_in_part = numbers_in_part through
 
   -- With the tasks that a call leaves
   module _ (tasks tasks_too : List (Task ℕ)) (lets : LetsGo world names it.is it.sealed_off names tasks)
@@ -192,7 +193,8 @@ module _ (world : World ℕ) (names : List TaskName) (name : TaskName) (call : C
 
     two_used_now : is_among nat_eq two.number (used_filesystems nat_eq later names) ≡ true
     two_used_now = ap (λ n. is_among nat_eq n (used_filesystems nat_eq later names)) two_number
-        ∙ upper_in_use later names number overlay upper can.overlay_there can.upper_there direct_now
+        ∙ upper_in_use later names number through.overlay through.upper through.can.overlay_there
+        through.can.upper_there direct_now
 
     alone_there : (n : ℕ) → Alone
         (living_part world names names name call it tasks tasks_too lets same all moved) names n
@@ -219,14 +221,15 @@ module _ (world : World ℕ) (names : List TaskName) (name : TaskName) (call : C
         stepped_ends world names names name call it tasks tasks_too lets same all moved
         (theirs (living world names names name call it tasks tasks_too lets same all moved)
         (used_filesystems nat_eq later names) one_used_now two_used_now
-        (one_in_world world names it.is number (used_directly_used world names number direct))
-        (one_in_world world names it.is upper.filesystem
-        (upper_in_use world names number overlay upper can.overlay_there can.upper_there direct))
-        (alone world names it.is it.sealed_off names tasks world.change lets one.number one_alone)
+        (one_in_world world names it.is number (used_directly_used world names number through.direct))
+        (one_in_world world names it.is through.upper.filesystem
+        (upper_in_use world names number through.overlay through.upper through.can.overlay_there through.can.upper_there
+        through.direct)) (alone world names it.is it.sealed_off names tasks world.change lets one.number one_alone)
         (alone world names it.is it.sealed_off names tasks world.change lets two.number two_alone))
         (theirs (living_part world names names name call it tasks tasks_too lets same all moved)
         (used_filesystems nat_eq later names) one_used_now two_used_now
-        (one_in_part world names it.is number (used_directly_used world names number direct))
-        (one_in_part world names it.is upper.filesystem
-        (upper_in_use world names number overlay upper can.overlay_there can.upper_there direct))
-        (alone_there one.number) (alone_there two.number)) numbers numbers_used task called fresh fresh answer same_set
+        (one_in_part world names it.is number (used_directly_used world names number through.direct))
+        (one_in_part world names it.is through.upper.filesystem
+        (upper_in_use world names number through.overlay through.upper through.can.overlay_there through.can.upper_there
+        through.direct)) (alone_there one.number) (alone_there two.number)) numbers numbers_used task called fresh fresh
+        answer same_set

@@ -7,16 +7,17 @@ use Rattle.vt_laws_worlds.proofs.worlds.Placed.{among-inserted}
 use Rattle.vt_laws_worlds.specs.OverlayPermits.Unlocked.{SparesLocked}
 use Rattle.vt_laws_worlds.proofs.overlay_permits.asked.Unlocked.{permits_spare_what_is_locked}
 use Rattle.vt_laws_worlds.proofs.overlay_permits.changed.ChangedOverlays.{permits_can_change}
-use Rattle.vt_laws_members.proofs.judging.Grounds.{IsTheirs, theirs_from}
+use Rattle.vt_laws_members.proofs.judging.Grounds.{IsTheirs}
 use Rattle.vt_laws_members.proofs.judging.SeenInPart.{directory_theirs, filesystem_alike, root_theirs, theirs_directly}
 use Rattle.vt_laws_members.specs.Changes.Changes.{EndsAlike, IsCallOfTheirs}
 use Rattle.vt_laws_members.proofs.changes.letting_go.Callers.{StandsOnTheirs, all_in_set, of_set, others_left, places_left, roots_left, same_set, spaces_kept}
 use Rattle.vt_laws_members.proofs.changes.letting_go.Changed.{LetsGo}
 use Rattle.vt_laws_members.proofs.changes.looks.Told.{member_called}
-use Rattle.vt_laws_members.proofs.changes.names.GrantedNames.{granted_theirs}
-use Rattle.vt_laws_members.proofs.changes.tasks.Denied.{run_by, same_judgement}
+use Rattle.vt_laws_members.proofs.changes.names.GrantedNames.{naming_of, naming_theirs}
+use Rattle.vt_laws_members.proofs.changes.tasks.Denied.{ran_there, run_by}
 use Rattle.vt_laws_members.specs.OverlayNames.OverlayNames.{OverlayNewOpensEndAlike}
 use Rattle.vt_laws_members.proofs.overlay_names.names.OverlayNaming.{changed_ends, changed_in_part, changed_in_world, listed_in_part, listed_in_world}
+use Rattle.vt_laws_members.proofs.changes.overlays.Copying.{OverlayChange}
 
 -- a new descriptor is one of the task's
 new_inserted : (new : Descriptor ℕ) (list : List (Descriptor ℕ)) → Among new (inserted new list)
@@ -24,9 +25,9 @@ new_inserted new [] = inl refl
 new_inserted new (first ∷ rest) = grind (arith, common_steps, new_inserted new rest)
 
 -- The caller opens a file where members get.
-module _ (world : World ℕ) (names : List TaskName) (name : TaskName) (call : Call)
-    (it : IsCallOfTheirs world names name call)
-    (task : Task ℕ) (found : task_called world name ≡ Some task) (file : Location ℕ) (wanted : Access)
+module _ {world : World ℕ} {names : List TaskName} {name : TaskName} {call : Call}
+    (it : IsCallOfTheirs world names name call) (task : Task ℕ) (found : task_called world name ≡ Some task)
+    (file : Location ℕ) (wanted : Access)
     (ground : IsTheirs world names it.is.mounts file.mount) where
   abbrev pub mine : Task ℕ
   mine = with_descriptor task file wanted
@@ -58,23 +59,21 @@ module _ (world : World ℕ) (names : List TaskName) (name : TaskName) (call : C
 
   pub lets : LetsGo world names it.is it.sealed_off names (map replaced world.tasks)
   lets = record {
-    own = λ n. ap (list_any (λ (t : Task ℕ). nat_eq n t.namespace))
-        (of_set world names name call it task found mine stands world.tasks)
-        ∙ spaces_kept world names name call it task found mine refl refl n;
-    roots = roots_left world names name call it task found mine stands;
-    places = places_left world names name call it task found mine stands;
-    others = others_left world names name call it task found mine stands;
+    own = λ n. ap (list_any (λ (t : Task ℕ). nat_eq n t.namespace)) (of_set it task found mine stands world.tasks)
+        ∙ spaces_kept it task found mine refl refl n;
+    roots = roots_left it task found mine stands;
+    places = places_left it task found mine stands;
+    others = others_left it task found mine stands;
   }
 
   -- so the set uses its filesystem
   file_used : Among (mount_at nat_eq world file).filesystem
       (used_directly nat_eq (record world { tasks = map replaced world.tasks }) names)
-  file_used = among-append_right
-      (map (λ mount. mount.filesystem) (own_mounts nat_eq (record world { tasks = map replaced world.tasks }) names))
+  file_used = among-append_right (map (λ mount. mount.filesystem)
+      (own_mounts nat_eq (record world { tasks = map replaced world.tasks }) names))
       (map shows (locations (members (record world { tasks = map replaced world.tasks }) names))) (shows file)
       (among-map shows (locations (members (record world { tasks = map replaced world.tasks }) names)) file
-      (subst (λ ts. Among file (locations ts))
-      (sym (of_set world names name call it task found mine stands world.tasks))
+      (subst (λ ts. Among file (locations ts)) (sym (of_set it task found mine stands world.tasks))
       (among-flat_map locations_of (map replaced theirs) (replaced task) file (among-map replaced theirs task member)
       (subst (λ (t : Task ℕ). Among file (locations_of t)) (sym mine_there)
       (inr (inr (among-map at_file mine.descriptors _ (new_inserted _ task.descriptors))))))))
@@ -123,9 +122,8 @@ overlay_new_opens_end_alike world names name path access how it task found fresh
     itself = ap (task_called world) (sym (name_found world name task found)) ∙ found
 
     ground : IsTheirs world names it.is.mounts directory.mount
-    ground = theirs_from world names it.is.mounts directory.mount (granted_theirs world names it.is it.sealed_off task
-        (member_called world names it.is it.sealed_off name it.theirs task found) fresh call
-        (ToOpenNew directory entry node wanted) judged directory change refl tt)
+    ground = naming_theirs (naming_of it task found fresh serves (ToOpenNew directory entry node wanted) judged
+        directory change refl tt)
 
     direct : Among (mount_at nat_eq world directory).filesystem (used_directly nat_eq world names)
     direct = theirs_directly world names it.is directory ground
@@ -143,27 +141,27 @@ overlay_new_opens_end_alike world names name path access how it task found fresh
     layered overlay overlaid None none = absurd (true≢false (sym (ap (λ o. not (is_some o)) none)
         ∙ sym (ap (overlay_or false (λ (v : Overlay ℕ). not (is_some v.upper))) overlaid) ∙ spared.layer))
     layered overlay overlaid (Some upper) has =
-        let may =
-        permits_can_change world fresh task call (ToOpenNew directory entry node wanted) directory change overlay
-        upper it.is serves itself judged refl overlaid has in
-        changed_ends world names name call it (odds fresh) directory change overlay upper may direct alike
-        (map (replaced_if_called (with_descriptor task file wanted)) world.tasks)
-        (map (replaced_if_called (with_descriptor task file wanted)) part.tasks)
-        (lets world names name call it task found file wanted ground)
-        (same_set world names name call it task found (with_descriptor task file wanted)
-        (stands world names name call it task found file wanted ground))
-        (all_in_set world names name call it task found (with_descriptor task file wanted)
-        (stands world names name call it task found file wanted ground))
-        (file_used world names name call it task found file wanted ground) task found fresh
-        (Opened (free_number task)) refl (ap (run_by world names name call it fresh fresh world fresh task) judged
-        ∙ opened_run world name path access how (odds fresh) directory change task file wanted _ _
-        (changed_in_world world names name call it (odds fresh) directory change overlay upper may direct alike)
-        (listed_in_world world names name call it (odds fresh) directory change overlay upper may direct alike))
-        (ap (run_by world names name call it fresh fresh part fresh task)
-        (sym (same_judgement world names name call it fresh fresh task found) ∙ judged)
-        ∙ opened_run part name path access how (odds fresh) directory change task file wanted _ _
-        (changed_in_part world names name call it (odds fresh) directory change overlay upper may direct alike)
-        (listed_in_part world names name call it (odds fresh) directory change overlay upper may direct alike))
+        let copied : OverlayChange world names = record {
+          is = it.is;
+          supply = odds fresh;
+          location = directory;
+          change = change;
+          overlay = overlay;
+          upper = upper;
+          can = permits_can_change world fresh task call (ToOpenNew directory entry node wanted) directory change
+              overlay upper it.is serves itself judged refl overlaid has;
+          direct = direct;
+          alike = alike;
+        } in
+        changed_ends it copied (map (replaced_if_called (with_descriptor task file wanted)) world.tasks)
+        (map (replaced_if_called (with_descriptor task file wanted)) part.tasks) (lets it task found file wanted ground)
+        (same_set it task found (with_descriptor task file wanted) (stands it task found file wanted ground))
+        (all_in_set it task found (with_descriptor task file wanted) (stands it task found file wanted ground))
+        (file_used it task found file wanted ground) task found fresh (Opened (free_number task)) refl
+        (ap (run_by it world fresh task) judged ∙ opened_run world name path access how (odds fresh) directory change
+        task file wanted _ _ (changed_in_world it copied) (listed_in_world it copied))
+        (ran_there it fresh fresh task found judged ∙ opened_run part name path access how (odds fresh) directory change
+        task file wanted _ _ (changed_in_part it copied) (listed_in_part it copied))
 
     by : (o : Option (Overlay ℕ)) → merged.overlay ≡ o → EndsAlike world names name call fresh fresh
     by None none = absurd (true≢false (sym is ∙ ap is_some none))

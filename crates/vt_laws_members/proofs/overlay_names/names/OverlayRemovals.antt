@@ -1,36 +1,33 @@
 -- A call of theirs that removes a directory, or that renames, through an overlay ends in the part as in the world, with
 -- the mounts on what goes.
 use Rattle.std.proofs.Common.{arith, ◌≡◌, refl, sym, ap, subst, ◌∙◌, ⊎_elim, ℕ, nat_eq, eqb-true, true, false, true≢false, List, [], Option, Some, None, Ok, is_some, option_map, option_to_list}
-use Rattle.vt_spec.proofs.Common.{Among, Call, Change, Done, Filesystem, Fresh, IsWorld, Layer, Location, Mount, MountInvariants, Move, Overlay, Permit, Remove, Rename, Rmdir, Serves, Task, TaskName, ToRemoveDirectory, ToRename, World, and_parts, changed_at, common_steps, filesystem_at, filesystem_numbered, finished, granted, holds_of, is_among, is_going, is_locked_at, is_mount_point_in, is_overlay, is_own_namespace, judge_in, list_all, looks_of, members, mount_at, mount_numbered, mounts_on, numbers_raised, only_looks, overfills, overlay_or, part_of, points_of, sealed, settled, taken_away, task_called, then_some, upper_object, upper_points, used_alone, used_directly, used_filesystems, with_change, without_mounts_on}
-use Rattle.vt_laws_rules.proofs.given.Inversion.{calls_are_granted}
+use Rattle.vt_spec.proofs.Common.{Among, Call, Change, Done, Filesystem, Fresh, IsWorld, Layer, Location, Mount, MountInvariants, Move, Overlay, Rename, TaskName, ToRename, World, and_parts, changed_at, common_steps, filesystem_at, filesystem_numbered, finished, granted, holds_of, is_among, is_going, is_overlay, is_own_namespace, judge_in, list_all, members, mount_at, mount_numbered, mounts_on, numbers_raised, only_looks, overlay_or, part_of, points_of, sealed, settled, taken_away, task_called, then_some, upper_object, upper_points, used_alone, used_directly, used_filesystems, with_change, without_mounts_on}
 use Rattle.vt_laws_mounts.proofs.ends.Ending.{points_keep_mounts}
 use Rattle.vt_laws_mounts.specs.LettingGo.TreesOverlays.{with_filesystems}
-use Rattle.vt_laws_worlds.specs.Worlds.Permits.{IsReached}
 use Rattle.vt_laws_worlds.proofs.worlds.CallsKept.{name_found}
-use Rattle.vt_laws_worlds.specs.OverlaysLetGo.OverlayChanges.{CanChange}
-use Rattle.vt_laws_worlds.specs.OverlayPermits.Asked.{change_asked}
 use Rattle.vt_laws_worlds.specs.OverlayPermits.Changed.{numbers_left}
 use Rattle.vt_laws_worlds.proofs.overlay_permits.changed.ChangedOverlays.{permits_can_change}
 use Rattle.vt_laws_sealed.proofs.part.part.PartOfPart.{is_own, used_directly_used}
 use Rattle.vt_laws_members.specs.Judging.{is_theirs}
 use Rattle.vt_laws_members.proofs.judging.Grounds.{IsTheirs, its_mount, theirs_from}
 use Rattle.vt_laws_members.proofs.judging.SeenInPart.{filesystem_alike, theirs_directly}
-use Rattle.vt_laws_members.specs.Changes.Changes.{EndAlike, EndsAlike, IsCallOfTheirs, grown}
+use Rattle.vt_laws_members.specs.Changes.Changes.{EndAlike, EndsAlike, grown}
 use Rattle.vt_laws_members.proofs.changes.files.OneFilesystem.{found_numbered, one_in_part, one_in_world}
 use Rattle.vt_laws_members.proofs.changes.letting_go.PartMounts.{part_mounts}
 use Rattle.vt_laws_members.proofs.changes.letting_go.Taken.{part_after, part_taken, taken_parts, world_after, world_taken}
-use Rattle.vt_laws_members.proofs.changes.looks.Told.{member_called, ran}
+use Rattle.vt_laws_members.proofs.changes.looks.Told.{ran}
 use Rattle.vt_laws_members.proofs.changes.names.Elsewhere.{own_here}
-use Rattle.vt_laws_members.proofs.changes.names.RemovalsEnding.{removed_free, replaced_free}
-use Rattle.vt_laws_members.proofs.changes.overlays.Copying.{layer_found, numbers_if_seen, stepped_if_made, upper_in_use}
-use Rattle.vt_laws_members.proofs.changes.tasks.Denied.{by_runs, run_by, same_judgement}
+use Rattle.vt_laws_members.proofs.changes.names.RemovalsEnding.{RemovingCall, removing_directory, replacing}
+use Rattle.vt_laws_members.proofs.changes.overlays.Copying.{OverlayChange, layer_found, numbers_if_seen, stepped_if_made, upper_in_use}
+use Rattle.vt_laws_members.proofs.changes.tasks.Denied.{by_runs, ran_there, run_by}
 use Rattle.vt_laws_members.proofs.detached.removals.Going.{caller_stays, going_with, own_go, same_going}
-use Rattle.vt_laws_members.proofs.detached.removals.Removing.{names_there}
 use Rattle.vt_laws_members.proofs.detached.removals.StillUsed.{seen_here, seen_there, still_direct}
 use Rattle.vt_laws_members.specs.OverlayNames.OverlayNames.{OverlayRenamesEndAlike, OverlayRmdirsEndAlike}
 use Rattle.vt_laws_members.proofs.overlay_names.names.Detaching.{alone_here, alone_there, detached_and_changed, living, living_part}
 use Rattle.vt_laws_members.proofs.overlay_names.names.OverlayEnding.{naming_through_ends, stepped_run}
 use Rattle.vt_laws_members.proofs.overlay_names.names.OverlayNaming.{made_in_part, merged_alone, moved, numbers, one_alone, theirs, two_alone, upper_alone}
+use Rattle.vt_laws_members.proofs.changes.letting_go.Regrouped.{TheirsGo}
+use Rattle.vt_laws_members.proofs.changes.names.GrantedNames.{naming_of}
 
 -- without an upper layer nothing is changed, after mounts may have gone
 unwritten_after : (before w : World ℕ) (name : TaskName) (call : Call) (supply : Fresh ℕ) (location : Location ℕ)
@@ -74,237 +71,211 @@ module _ (world : World ℕ) (names : List TaskName) (is : IsWorld nat_eq world)
       above (Some layer) e n = of_object layer e (upper_object (overlay.real gone.node)) n
 
 -- The change is made after the mounts on what goes are taken away.
-module _ (world : World ℕ) (names : List TaskName) (name : TaskName) (call : Call)
-    (it : IsCallOfTheirs world names name call)
-    (fresh : Fresh ℕ) (serves : Serves nat_eq world fresh) (task : Task ℕ) (found : task_called world name ≡ Some task)
-    (looks : only_looks call ≡ false) (stays : grown names name call (Ok Done) ≡ names) (gone : Location ℕ)
-    (permit : Permit ℕ) (judged : judge_in nat_eq fresh world task call ≡ Ok permit) (location : Location ℕ)
-    (change : Change ℕ) (asks : change_asked fresh world permit ≡ Some (location, change))
-    (is : is_overlay (filesystem_at nat_eq world location) ≡ true) (reached : IsReached world task location)
-    (free : (is_theirs world names gone.mount ≡ true) × (is_locked_at nat_eq world gone ≡ false)
-    × (is_mount_point_in nat_eq (looks_of nat_eq world) task.namespace gone ≡ false) × (gone.mount ≡ location.mount))
-    (runs : (w : World ℕ) → run_by world names name call it fresh fresh w fresh task (Ok permit)
-    ≡ finished nat_eq w name call (changed_at nat_eq (without_mounts_on nat_eq w gone) location)
-    (granted Done (with_change nat_eq (numbers_left fresh permit) (without_mounts_on nat_eq w gone) location change)))
-  where
-    abbrev part : World ℕ
-    part = part_of nat_eq world names
+module _ {world : World ℕ} {names : List TaskName} {name : TaskName} {call : Call}
+    (it : RemovingCall world names name call) (is : is_overlay (filesystem_at nat_eq world it.location) ≡ true)
+    (runs : (w : World ℕ) → run_by it.it w it.fresh it.task (Ok it.permit) ≡ finished nat_eq w name call
+    (changed_at nat_eq (without_mounts_on nat_eq w it.gone) it.location)
+    (granted Done (with_change nat_eq (numbers_left it.fresh it.permit) (without_mounts_on nat_eq w it.gone)
+    it.location it.change))) where
+  abbrev part : World ℕ
+  part = part_of nat_eq world names
 
-    abbrev merged : Filesystem ℕ
-    merged = filesystem_at nat_eq world location
+  abbrev merged : Filesystem ℕ
+  merged = filesystem_at nat_eq world it.location
 
-    abbrev supply : Fresh ℕ
-    supply = numbers_left fresh permit
+  abbrev supply : Fresh ℕ
+  supply = numbers_left it.fresh it.permit
 
-    one_filesystem : filesystem_at nat_eq world gone ≡ merged
-    one_filesystem = ap (λ m. filesystem_numbered nat_eq world (mount_numbered nat_eq world m).filesystem) free.3
+  one_filesystem : filesystem_at nat_eq world it.gone ≡ merged
+  one_filesystem = ap (λ m. filesystem_numbered nat_eq world (mount_numbered nat_eq world m).filesystem) it.free.beside
 
-    on_gone : IsTheirs world names it.is.mounts gone.mount
-    on_gone = theirs_from world names it.is.mounts gone.mount free.0
+  on_gone : IsTheirs world names it.is.mounts it.gone.mount
+  on_gone = theirs_from world names it.is.mounts it.gone.mount it.free.on
 
-    on : IsTheirs world names it.is.mounts location.mount
-    on = theirs_from world names it.is.mounts location.mount (ap (is_theirs world names) (sym free.3) ∙ free.0)
+  on : IsTheirs world names it.is.mounts it.location.mount
+  on = theirs_from world names it.is.mounts it.location.mount
+      (ap (is_theirs world names) (sym it.free.beside) ∙ it.free.on)
 
-    direct : Among (mount_at nat_eq world location).filesystem (used_directly nat_eq world names)
-    direct = theirs_directly world names it.is location on
+  direct : Among (mount_at nat_eq world it.location).filesystem (used_directly nat_eq world names)
+  direct = theirs_directly world names it.is it.location on
 
-    alike : filesystem_at nat_eq world location ≡ filesystem_at nat_eq part location
-    alike = filesystem_alike world names it.is location on
+  alike : filesystem_at nat_eq world it.location ≡ filesystem_at nat_eq part it.location
+  alike = filesystem_alike world names it.is it.location on
 
-    module _ (overlay : Overlay ℕ) (overlaid : merged.overlay ≡ Some overlay) where
-      abbrev only_own : (mount : Mount ℕ) → Among mount (mounts_on nat_eq world gone) → (n : ℕ)
-          → mount.namespace ≡ Some n → is_own_namespace nat_eq world names n ≡ true
-      only_own = own_here world names it.is gone (points_alone world names it.is it.sealed_off gone overlay
-          (ap (λ (f : Filesystem ℕ). f.overlay) one_filesystem ∙ overlaid)
-          (theirs_directly world names it.is gone on_gone))
+  module _ (overlay : Overlay ℕ) (overlaid : merged.overlay ≡ Some overlay) where
+    abbrev only_own : (mount : Mount ℕ) → Among mount (mounts_on nat_eq world it.gone) → (n : ℕ)
+        → mount.namespace ≡ Some n → is_own_namespace nat_eq world names n ≡ true
+    only_own = own_here world names it.is it.gone (points_alone world names it.is it.sealed_off it.gone overlay
+        (ap (λ (f : Filesystem ℕ). f.overlay) one_filesystem ∙ overlaid)
+        (theirs_directly world names it.is it.gone on_gone))
 
-      abbrev list : List ℕ
-      list = going_with world names it.is gone on_gone only_own
+    abbrev list : List ℕ
+    list = going_with world names it.is it.gone on_gone only_own
 
-      abbrev own : (m : Mount ℕ) → Among m world.mounts → is_going nat_eq list m.number ≡ true
-          → is_own world names (members world names) m ≡ true
-      own = own_go world names it.is gone on_gone only_own
+    abbrev go : TheirsGo world names list
+    go = record {
+      is = it.is;
+      sealed_off = it.sealed_off;
+      own_go = own_go world names it.is it.gone on_gone only_own;
+    }
 
-      same_list : taken_away nat_eq part list ≡ without_mounts_on nat_eq part gone
-      same_list = ap (taken_away nat_eq part) (sym (same_going world names it.is gone on_gone only_own))
+    same_list : taken_away nat_eq part list ≡ without_mounts_on nat_eq part it.gone
+    same_list = ap (taken_away nat_eq part) (sym (same_going world names it.is it.gone on_gone only_own))
 
-      kept_world : MountInvariants nat_eq (taken_away nat_eq world list)
-      kept_world = points_keep_mounts world gone it.is.mounts
+    kept_world : MountInvariants nat_eq (taken_away nat_eq world list)
+    kept_world = points_keep_mounts world it.gone it.is.mounts
 
-      kept_part : MountInvariants nat_eq (taken_away nat_eq part list)
-      kept_part = subst (MountInvariants nat_eq) (sym same_list)
-          (points_keep_mounts part gone (part_mounts world names it.is it.sealed_off))
+    kept_part : MountInvariants nat_eq (taken_away nat_eq part list)
+    kept_part = subst (MountInvariants nat_eq) (sym same_list)
+        (points_keep_mounts part it.gone (part_mounts world names it.is it.sealed_off))
 
-      abbrev here : World ℕ
-      here = world_after world names it.is it.sealed_off list own
+    abbrev here : World ℕ
+    here = world_after go
 
-      abbrev there : World ℕ
-      there = part_after world names it.is it.sealed_off list own
+    abbrev there : World ℕ
+    there = part_after go
 
-      -- the mount of the directory is in the caller's namespace, and stays
-      directory_stays : is_own world names (members world names) on.0 ≡ true → is_going nat_eq list on.0.number ≡ false
-      directory_stays its = by on.0.namespace refl
-        where
-          by : (o : Option ℕ) → on.0.namespace ≡ o → is_going nat_eq list on.0.number ≡ false
-          by None e = absurd (true≢false (sym its ∙ ap (holds_of (is_own_namespace nat_eq world names)) e))
-          by (Some n) e =
-              let seen : list_all (nat_eq task.namespace) (option_to_list (Some n)) ≡ true =
-              ap (λ o. list_all (nat_eq task.namespace) (option_to_list o))
-              (sym (ap (λ (m : Mount ℕ). m.namespace) (its_mount world names it.is.mounts location.mount on) ∙ e))
-              ∙ reached.seen in
-              caller_stays world names it.is gone on_gone only_own task free.2 on.0 on.1
-              (e ∙ ap Some (sym (eqb-true task.namespace n (and_parts (nat_eq task.namespace n) true seen).0)))
-
-      -- so both runs go on with what is left
-      run_here : run_by world names name call it fresh fresh world fresh task (Ok permit)
-          ≡ finished nat_eq world name call (changed_at nat_eq here location)
-          (granted Done (with_change nat_eq supply here location change))
-      run_here = runs world ∙ ap (λ w. finished nat_eq world name call (changed_at nat_eq w location)
-          (granted Done (with_change nat_eq supply w location change)))
-          (world_taken world names it.is it.sealed_off list own)
-
-      run_there : run_by world names name call it fresh fresh part fresh task (Ok permit)
-          ≡ finished nat_eq part name call (changed_at nat_eq there location)
-          (granted Done (with_change nat_eq supply there location change))
-      run_there = runs part ∙ ap (λ w. finished nat_eq part name call (changed_at nat_eq w location)
-          (granted Done (with_change nat_eq supply w location change)))
-          (sym same_list ∙ part_taken world names it.is it.sealed_off list own)
-
-      seen : filesystem_at nat_eq here location ≡ merged
-      seen = seen_here world names it.is it.sealed_off list own location
-
-      seen_too : filesystem_at nat_eq there location ≡ merged
-      seen_too = seen_there world names it.is it.sealed_off list own location ∙ sym alike
-
-      ends : (one other : World ℕ)
-          → run_by world names name call it fresh fresh world fresh task (Ok permit) ≡ granted Done one
-          → run_by world names name call it fresh fresh part fresh task (Ok permit) ≡ granted Done other
-          → part_of nat_eq one names ≡ part_of nat_eq other names → EndsAlike world names name call fresh fresh
-      ends one other runs_so runs_too same = by_runs world names name call it fresh fresh (Some task) found
-          (subst (λ p. EndAlike (grown names name call (ran name call world fresh (Some task)).answer)
-          (ran name call world fresh (Some task)) p)
-          (sym (ap (run_by world names name call it fresh fresh part fresh task)
-          (sym (same_judgement world names name call it fresh fresh task found) ∙ judged) ∙ runs_too))
-          (subst (λ o. EndAlike (grown names name call o.answer) o (granted Done other))
-          (sym (ap (run_by world names name call it fresh fresh world fresh task) judged ∙ runs_so))
-          (subst (λ s. EndAlike s (granted Done one) (granted Done other)) (sym stays)
-          (record { answer = refl; part = same }))))
-
-      layered : (o : Option (Layer ℕ)) → overlay.upper ≡ o → EndsAlike world names name call fresh fresh
-      layered None none = ends (numbers_raised nat_eq world name [] (settled nat_eq here))
-          (numbers_raised nat_eq part name [] (settled nat_eq there))
-          (run_here ∙ unwritten_after world here name call supply location change merged overlay looks seen overlaid
-          none) (run_there ∙ unwritten_after part there name call supply location change merged overlay looks seen_too
-          overlaid none) (sym (ap (λ w. part_of nat_eq (numbers_raised nat_eq world name [] (settled nat_eq w)) names)
-          (world_taken world names it.is it.sealed_off list own))
-          ∙ taken_parts world names it.is it.sealed_off list own name kept_world kept_part
-          ∙ ap (λ w. part_of nat_eq (numbers_raised nat_eq part name [] (settled nat_eq w)) names)
-          (part_taken world names it.is it.sealed_off list own))
-      layered (Some upper) has =
-          ends (numbers_raised nat_eq world name both (settled nat_eq (with_filesystems here step)))
-          (numbers_raised nat_eq part name both (settled nat_eq (with_filesystems there step)))
-          (run_here ∙ stepped_run world here name call supply location change step both looks
-          (stepped_if_made supply world names location change overlay upper it.is can direct alike here seen refl refl)
-          (numbers_if_seen supply world names location change overlay upper it.is can direct alike here seen refl))
-          (run_there ∙ stepped_run part there name call supply location change step both looks
-          (stepped_if_made supply world names location change overlay upper it.is can direct alike there seen_too
-          (layer_found supply world names location change overlay upper it.is can direct alike)
-          (made_in_part world names name call it supply location change overlay upper can direct alike))
-          (numbers_if_seen supply world names location change overlay upper it.is can direct alike there seen_too
-          (layer_found supply world names location change overlay upper it.is can direct alike)))
-          (detached_and_changed world names it.is it.sealed_off list own kept_world kept_part step
-          (theirs world names name call it supply location change overlay upper can direct alike
-          (living world names it.is it.sealed_off list own kept_world kept_part) used_then one_used two_used
-          (one_in_world world names it.is number (used_directly_used world names number direct))
-          (one_in_world world names it.is upper.filesystem
-          (upper_in_use world names number overlay upper overlaid has direct))
-          (alone_here world names it.is it.sealed_off list own kept_world kept_part merged.number
-          (one_alone world names name call it supply location change overlay upper can direct alike))
-          (alone_here world names it.is it.sealed_off list own kept_world kept_part two.number
-          (two_alone world names name call it supply location change overlay upper can direct alike)))
-          (theirs world names name call it supply location change overlay upper can direct alike
-          (living_part world names it.is it.sealed_off list own kept_world kept_part) used_then one_used two_used
-          (one_in_part world names it.is number (used_directly_used world names number direct))
-          (one_in_part world names it.is upper.filesystem
-          (upper_in_use world names number overlay upper overlaid has direct))
-          (alone_there world names it.is it.sealed_off list own kept_world kept_part merged.number)
-          (alone_there world names it.is it.sealed_off list own kept_world kept_part two.number)) name both both_used)
-        where
-          number : ℕ
-          number = (mount_at nat_eq world location).filesystem
-
-          two : Filesystem ℕ
-          two = filesystem_numbered nat_eq world upper.filesystem
-
-          can : CanChange supply world location change overlay upper
-          can = permits_can_change world fresh task call permit location change overlay upper it.is serves
-              (ap (task_called world) (sym (name_found world name task found)) ∙ found) judged asks overlaid has
-
-          step : Filesystem ℕ → Filesystem ℕ
-          step = moved world names name call it supply location change overlay upper can direct alike
-
-          both : List ℕ
-          both = numbers world names name call it supply location change overlay upper can direct alike
-
-          used_then : List ℕ
-          used_then = used_filesystems nat_eq here names
-
-          direct_then : Among number (used_directly nat_eq here names)
-          direct_then = still_direct world names it.is it.sealed_off list own location on directory_stays
-
-          one_used : is_among nat_eq merged.number used_then ≡ true
-          one_used = ap (λ n. is_among nat_eq n used_then) (found_numbered number world.filesystems)
-              ∙ used_directly_used here names number direct_then
-
-          two_used : is_among nat_eq two.number used_then ≡ true
-          two_used = ap (λ n. is_among nat_eq n used_then) (found_numbered upper.filesystem world.filesystems)
-              ∙ upper_in_use here names number overlay upper overlaid has direct_then
-
-          both_used : (n : ℕ) → Among n both → is_among nat_eq n used_then ≡ true
-          both_used n m = ⊎_elim (λ e. ap (λ k. is_among nat_eq k used_then) e ∙ one_used)
-              (λ rest. ⊎_elim (λ e. ap (λ k. is_among nat_eq k used_then) e ∙ two_used) (λ none. absurd none) rest) m
-
-    pub removal_through_ends : EndsAlike world names name call fresh fresh
-    removal_through_ends = by merged.overlay refl
+    -- the mount of the directory is in the caller's namespace, and stays
+    directory_stays : is_own world names (members world names) on.0 ≡ true → is_going nat_eq list on.0.number ≡ false
+    directory_stays its = by on.0.namespace refl
       where
-        by : (o : Option (Overlay ℕ)) → merged.overlay ≡ o → EndsAlike world names name call fresh fresh
-        by None none = absurd (true≢false (sym is ∙ ap is_some none))
-        by (Some overlay) overlaid = layered overlay overlaid overlay.upper refl
+        by : (o : Option ℕ) → on.0.namespace ≡ o → is_going nat_eq list on.0.number ≡ false
+        by None e = absurd (true≢false (sym its ∙ ap (holds_of (is_own_namespace nat_eq world names)) e))
+        by (Some n) e =
+            let seen : list_all (nat_eq it.task.namespace) (option_to_list (Some n)) ≡ true =
+            ap (λ o. list_all (nat_eq it.task.namespace) (option_to_list o))
+            (sym (ap (λ (m : Mount ℕ). m.namespace) (its_mount world names it.is.mounts it.location.mount on) ∙ e))
+            ∙ it.reached.seen in
+            caller_stays world names it.is it.gone on_gone only_own it.task it.free.bare on.0 on.1
+            (e ∙ ap Some (sym (eqb-true it.task.namespace n (and_parts (nat_eq it.task.namespace n) true seen).0)))
+
+    -- so both runs go on with what is left
+    run_here : run_by it.it world it.fresh it.task (Ok it.permit)
+        ≡ finished nat_eq world name call (changed_at nat_eq here it.location)
+        (granted Done (with_change nat_eq supply here it.location it.change))
+    run_here = runs world ∙ ap (λ w. finished nat_eq world name call (changed_at nat_eq w it.location)
+        (granted Done (with_change nat_eq supply w it.location it.change))) (world_taken go)
+
+    run_there : run_by it.it part it.fresh it.task (Ok it.permit)
+        ≡ finished nat_eq part name call (changed_at nat_eq there it.location)
+        (granted Done (with_change nat_eq supply there it.location it.change))
+    run_there = runs part ∙ ap (λ w. finished nat_eq part name call (changed_at nat_eq w it.location)
+        (granted Done (with_change nat_eq supply w it.location it.change))) (sym same_list ∙ part_taken go)
+
+    seen : filesystem_at nat_eq here it.location ≡ merged
+    seen = seen_here go it.location
+
+    seen_too : filesystem_at nat_eq there it.location ≡ merged
+    seen_too = seen_there go it.location ∙ sym alike
+
+    ends : (one other : World ℕ)
+        → run_by it.it world it.fresh it.task (Ok it.permit) ≡ granted Done one
+        → run_by it.it part it.fresh it.task (Ok it.permit) ≡ granted Done other
+        → part_of nat_eq one names ≡ part_of nat_eq other names → EndsAlike world names name call it.fresh it.fresh
+    ends one other runs_so runs_too same = by_runs it.it it.fresh it.fresh (Some it.task) it.found
+        (subst (λ p. EndAlike (grown names name call (ran name call world it.fresh (Some it.task)).answer)
+        (ran name call world it.fresh (Some it.task)) p)
+        (sym (ran_there it.it it.fresh it.fresh it.task it.found it.judged ∙ runs_too))
+        (subst (λ o. EndAlike (grown names name call o.answer) o (granted Done other))
+        (sym (ap (run_by it.it world it.fresh it.task) it.judged ∙ runs_so))
+        (subst (λ s. EndAlike s (granted Done one) (granted Done other)) (sym it.stays)
+        (record { answer = refl; part = same }))))
+
+    layered : (o : Option (Layer ℕ)) → overlay.upper ≡ o → EndsAlike world names name call it.fresh it.fresh
+    layered None none = ends (numbers_raised nat_eq world name [] (settled nat_eq here))
+        (numbers_raised nat_eq part name [] (settled nat_eq there))
+        (run_here ∙ unwritten_after world here name call supply it.location it.change merged overlay it.looks seen
+        overlaid none) (run_there ∙ unwritten_after part there name call supply it.location it.change merged overlay
+        it.looks seen_too overlaid none) (sym (ap (λ w. part_of nat_eq
+        (numbers_raised nat_eq world name [] (settled nat_eq w)) names) (world_taken go))
+        ∙ taken_parts go kept_world kept_part name ∙ ap (λ w. part_of nat_eq
+        (numbers_raised nat_eq part name [] (settled nat_eq w)) names) (part_taken go))
+    layered (Some upper) has =
+        ends (numbers_raised nat_eq world name both (settled nat_eq (with_filesystems here step)))
+        (numbers_raised nat_eq part name both (settled nat_eq (with_filesystems there step)))
+        (run_here ∙ stepped_run world here name call supply it.location it.change step both it.looks
+        (stepped_if_made through here seen refl refl) (numbers_if_seen through here seen refl))
+        (run_there ∙ stepped_run part there name call supply it.location it.change step both it.looks
+        (stepped_if_made through there seen_too (layer_found through) (made_in_part it.it through))
+        (numbers_if_seen through there seen_too (layer_found through)))
+        (detached_and_changed go kept_world kept_part step
+        (theirs it.it through (living go kept_world kept_part) used_then one_used two_used
+        (one_in_world world names it.is number (used_directly_used world names number direct))
+        (one_in_world world names it.is upper.filesystem
+        (upper_in_use world names number overlay upper overlaid has direct))
+        (alone_here go kept_world kept_part merged.number (one_alone it.it through))
+        (alone_here go kept_world kept_part two.number (two_alone it.it through)))
+        (theirs it.it through (living_part go kept_world kept_part) used_then one_used two_used
+        (one_in_part world names it.is number (used_directly_used world names number direct))
+        (one_in_part world names it.is upper.filesystem
+        (upper_in_use world names number overlay upper overlaid has direct))
+        (alone_there go kept_world kept_part merged.number) (alone_there go kept_world kept_part two.number)) name both
+        both_used)
+      where
+        number : ℕ
+        number = (mount_at nat_eq world it.location).filesystem
+
+        two : Filesystem ℕ
+        two = filesystem_numbered nat_eq world upper.filesystem
+
+        through : OverlayChange world names
+        through = record {
+          is = it.is;
+          supply = supply;
+          location = it.location;
+          change = it.change;
+          overlay = overlay;
+          upper = upper;
+          can = permits_can_change world it.fresh it.task call it.permit it.location it.change overlay upper it.is
+              it.serves (ap (task_called world) (sym (name_found world name it.task it.found)) ∙ it.found) it.judged
+              it.asks overlaid has;
+          direct = direct;
+          alike = alike;
+        }
+
+        step : Filesystem ℕ → Filesystem ℕ
+        step = moved it.it through
+
+        both : List ℕ
+        both = numbers it.it through
+
+        used_then : List ℕ
+        used_then = used_filesystems nat_eq here names
+
+        direct_then : Among number (used_directly nat_eq here names)
+        direct_then = still_direct go it.location on directory_stays
+
+        one_used : is_among nat_eq merged.number used_then ≡ true
+        one_used = ap (λ n. is_among nat_eq n used_then) (found_numbered number world.filesystems)
+            ∙ used_directly_used here names number direct_then
+
+        two_used : is_among nat_eq two.number used_then ≡ true
+        two_used = ap (λ n. is_among nat_eq n used_then) (found_numbered upper.filesystem world.filesystems)
+            ∙ upper_in_use here names number overlay upper overlaid has direct_then
+
+        both_used : (n : ℕ) → Among n both → is_among nat_eq n used_then ≡ true
+        both_used n m = ⊎_elim (λ e. ap (λ k. is_among nat_eq k used_then) e ∙ one_used)
+            (λ rest. ⊎_elim (λ e. ap (λ k. is_among nat_eq k used_then) e ∙ two_used) (λ none. absurd none) rest) m
+
+  pub removal_through_ends : EndsAlike world names name call it.fresh it.fresh
+  removal_through_ends = by merged.overlay refl
+    where
+      by : (o : Option (Overlay ℕ)) → merged.overlay ≡ o → EndsAlike world names name call it.fresh it.fresh
+      by None none = absurd (true≢false (sym is ∙ ap is_some none))
+      by (Some overlay) overlaid = layered overlay overlaid overlay.upper refl
 
 pub overlay_rmdirs_end_alike : OverlayRmdirsEndAlike
 overlay_rmdirs_end_alike world names name path it task found fresh serves parent entry directory judged is =
-    removal_through_ends world names name (Rmdir path) it fresh serves task found refl refl directory
-    (ToRemoveDirectory parent entry directory) judged parent (Remove parent.node entry directory.node) refl is
-    (names_there world names name (Rmdir path) it task found (ToRemoveDirectory parent entry directory) refl
-    judged).0.reached (removed_free world names it.is it.sealed_off task
-    (member_called world names it.is it.sealed_off name it.theirs task found) fresh (Rmdir path)
-    (ToRemoveDirectory parent entry directory)
-    (calls_are_granted nat_eq (looks_of nat_eq world) (overfills nat_eq fresh world task) task (Rmdir path)
-    (ToRemoveDirectory parent entry directory) judged) parent entry directory refl) (λ w. refl)
+    removal_through_ends (removing_directory task found fresh serves it parent entry directory judged) is (λ w. refl)
 
 pub overlay_renames_end_alike : OverlayRenamesEndAlike
 overlay_renames_end_alike world names name first second it task found fresh serves from old to new object replaced
     judged is = by replaced judged
   where
-    change : Change ℕ
-    change = Move from.node old to.node new object.node
-
     by : (o : Option (Location ℕ))
         → judge_in nat_eq fresh world task (Rename first second) ≡ Ok (ToRename from old to new object o)
         → EndsAlike world names name (Rename first second) fresh fresh
-    by None so = naming_through_ends world names name (Rename first second) it fresh serves task found refl refl
-        (ToRename from old to new object None) so from change refl tt is
-        (ap (run_by world names name (Rename first second) it fresh fresh world fresh task) so)
-        (ap (run_by world names name (Rename first second) it fresh fresh (part_of nat_eq world names) fresh task)
-        (sym (same_judgement world names name (Rename first second) it fresh fresh task found) ∙ so))
+    by None so = naming_through_ends (naming_of it task found fresh serves (ToRename from old to new object None) so
+        from (Move from.node old to.node new object.node) refl tt) refl refl is refl refl
     by (Some gone) so =
-        removal_through_ends world names name (Rename first second) it fresh serves task found refl refl gone
-        (ToRename from old to new object (Some gone)) so from change refl is
-        (names_there world names name (Rename first second) it task found
-        (ToRename from old to new object (Some gone)) refl so).0.reached
-        (replaced_free world names it.is it.sealed_off task
-        (member_called world names it.is it.sealed_off name it.theirs task found) fresh (Rename first second)
-        (ToRename from old to new object (Some gone))
-        (calls_are_granted nat_eq (looks_of nat_eq world) (overfills nat_eq fresh world task) task
-        (Rename first second) (ToRename from old to new object (Some gone)) so) from old to new object gone refl)
-        (λ w. refl)
+        removal_through_ends (replacing task found fresh serves it from old to new object gone so) is (λ w. refl)
