@@ -10,7 +10,7 @@ use Rattle.vt_laws_members.proofs.judging.SeenInPart.{theirs_directly}
 use Rattle.vt_laws_members.proofs.changes.looks.Told.{member_called, ran}
 use Rattle.vt_laws_members.proofs.changes.tasks.Denied.{run_by}
 use Rattle.vt_laws_members.proofs.attached.Binding.{Binds, all_copied, binds_there}
-use Rattle.vt_laws_members.proofs.attached.CopiesAlike.{no_new_ones, parts}
+use Rattle.vt_laws_members.proofs.attached.CopiesAlike.{AttachesTheirs, no_new_ones, parts}
 use Rattle.vt_laws_members.proofs.attached.Destination.{there}
 use Rattle.vt_laws_members.proofs.attached.MovedGrows.{none_new}
 use Rattle.vt_laws_members.proofs.attached.PushedUp.{ShowTheirs}
@@ -37,10 +37,21 @@ module _ (world : World ℕ) (names : List TaskName) (is : IsWorld nat_eq world)
   abbrev origins : List (Mount ℕ)
   origins = bind_tree nat_eq world from recursive
 
-  abbrev new : Copies ℕ
-  new = copies_from nat_eq fresh (parts world names is sealed_off [] (none_new world names) here here_there own) origins
+  abbrev attaching : AttachesTheirs world names
+  attaching = record {
+    is = is;
+    sealed_off = sealed_off;
+    new_ones = [];
+    unused = none_new world names;
+    place = here;
+    there = here_there;
+    own = own;
+  }
 
-  shows : ShowTheirs world names is sealed_off [] (none_new world names) here here_there own new false origins
+  abbrev new : Copies ℕ
+  new = copies_from nat_eq fresh (parts attaching) origins
+
+  shows : ShowTheirs attaching new false origins
   shows = record {
     shown = λ o m. let x = all_copied world names is from recursive (from_there, from_own) o m in
         inl (subst (λ n. Among n (used_directly nat_eq world names))
@@ -62,8 +73,7 @@ module _ (world : World ℕ) (names : List TaskName) (is : IsWorld nat_eq world)
   pub bound_as_before : OthersAsBefore world (bound_at nat_eq fresh world from here recursive) names names
   bound_as_before = subst (λ w. OthersAsBefore world w names names)
       (sym (ap (λ w. attach nat_eq w fresh here false origins) (no_new_ones world)))
-      (copies_as_before world names is sealed_off fresh serves [] (none_new world names) here here_there own new
-      origins (λ a b. (_, refl)) sources shows)
+      (copies_as_before attaching fresh serves new origins (λ a b. (_, refl)) sources shows)
 
 pub binds_give_no_foothold : BindsGiveNoFoothold
 binds_give_no_foothold world names name source path recursive it fresh serves = by (task_called world name) refl

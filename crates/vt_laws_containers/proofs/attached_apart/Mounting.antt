@@ -1,5 +1,5 @@
 -- No mount(2) of a new plain filesystem by a task of a sealed set gives others a foothold.
-use Rattle.std.proofs.Common.{◌≡◌, refl, sym, ap, ◌∙◌, ⊎_elim, ℕ, nat_eq, true, List, [], ◌∷◌, Option, Some, None, Ok, Err, ◌&&◌, eq-eqb, IfOk, is_ok}
+use Rattle.std.proofs.Common.{◌≡◌, refl, sym, ap, ◌∙◌, ⊎_elim, ℕ, nat_eq, true, List, [], Option, Some, None, Ok, Err, ◌&&◌, eq-eqb, IfOk, is_ok}
 use Rattle.vt_spec.proofs.Common.{Among, Filesystem, Fresh, IsWorld, Judgement, Layer, Location, Mount, MountFlags, MountPlain, Serves, Task, TaskName, ToMountPlain, World, evens, is_among, judge_in, layers_of, members, mount_at, mounted, named_in, none_is_some, odds, of_overlay, or_left, plain_filesystem, sealed, source_of, task_called, used_directly}
 use Rattle.vt_laws_mounts.specs.LettingGo.Keeping.{has_only_named}
 use Rattle.vt_laws_sealed.proofs.part.part.PartOfPart.{is_own}
@@ -7,7 +7,7 @@ use Rattle.vt_laws_members.specs.Judging.{is_theirs}
 use Rattle.vt_laws_members.proofs.changes.looks.Told.{member_called, ran}
 use Rattle.vt_laws_members.proofs.changes.tasks.Denied.{run_by}
 use Rattle.vt_laws_members.proofs.attached.PlainMounting.{Mounts, mounts_there}
-use Rattle.vt_laws_members.proofs.new_overlays.NewFilesystem.{here_there, new, origins, shows, unused}
+use Rattle.vt_laws_members.proofs.new_overlays.NewFilesystem.{attaching, new, origins, shows}
 use Rattle.vt_laws_containers.specs.Footholds.{GivesNoFoothold}
 use Rattle.vt_laws_containers.proofs.footholds.AsBefore.{OthersAsBefore}
 use Rattle.vt_laws_containers.proofs.footholds.Granting.{refused_out}
@@ -34,11 +34,9 @@ module _ (world : World ℕ) (names : List TaskName) (is : IsWorld nat_eq world)
       (λ none. absurd none) m
 
   pub mounted_as_before : OthersAsBefore world (mounted nat_eq (odds fresh) world here new_one flags) names names
-  mounted_as_before = copies_as_before world names is sealed_off fresh serves (new_one ∷ [])
-      (unused world names is sealed_off fresh serves here on own new_one number layers named flags) here
-      (here_there world names is sealed_off fresh serves here on own new_one number layers named flags) own
-      (new world names is sealed_off fresh serves here on own new_one number layers named flags) its_origins
-      (λ a b. (_, refl)) sources
+  mounted_as_before = copies_as_before (attaching world names is sealed_off fresh serves here on own new_one number
+      layers named flags) fresh serves (new world names is sealed_off fresh serves here on own new_one number layers
+      named flags) its_origins (λ a b. (_, refl)) sources
       (shows world names is sealed_off fresh serves here on own new_one number layers named flags)
 
 -- A plain one

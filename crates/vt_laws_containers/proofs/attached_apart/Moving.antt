@@ -4,10 +4,10 @@ use Rattle.vt_spec.proofs.Common.{Among, Copies, Fresh, IsWorld, Judgement, Loca
 use Rattle.vt_laws_members.proofs.judging.Grounds.{theirs_from}
 use Rattle.vt_laws_members.proofs.changes.looks.Told.{member_called, ran}
 use Rattle.vt_laws_members.proofs.changes.tasks.Denied.{run_by}
-use Rattle.vt_laws_members.proofs.attached.CopiesAlike.{base, made, no_new_ones, parts}
+use Rattle.vt_laws_members.proofs.attached.CopiesAlike.{AttachesTheirs, base, made, no_new_ones, parts}
 use Rattle.vt_laws_members.proofs.attached.Destination.{there}
 use Rattle.vt_laws_members.proofs.attached.GrownPart.{Grows, grown_world, own_how}
-use Rattle.vt_laws_members.proofs.attached.MovedGrows.{at_receiver, at_receivers, moved, moved_as, moved_grows, none_new, origin_mine, went, went_how}
+use Rattle.vt_laws_members.proofs.attached.MovedGrows.{MovesTheirs, at_receiver, at_receivers, moved, moved_as, moved_grows, none_new, origin_mine, went, went_how}
 use Rattle.vt_laws_members.proofs.attached.Moving.{Moves, MovesTo, moves_there}
 use Rattle.vt_laws_members.proofs.attached.PushedUp.{push_keeps}
 use Rattle.vt_laws_containers.specs.Footholds.{GivesNoFoothold}
@@ -32,38 +32,61 @@ module _ (world : World ℕ) (names : List TaskName) (is : IsWorld nat_eq world)
   abbrev origins : List (Mount ℕ)
   origins = moved_tree nat_eq world from.mount
 
+  abbrev attaching : AttachesTheirs world names
+  attaching = record {
+    is = is;
+    sealed_off = sealed_off;
+    new_ones = [];
+    unused = none_new world names;
+    place = here;
+    there = here_there;
+    own = to.own;
+  }
+
   abbrev new : Copies ℕ
-  new = copies_from nat_eq fresh (parts world names is sealed_off [] (none_new world names) here here_there to.own)
-      origins
+  new = copies_from nat_eq fresh (parts attaching) origins
+
+  abbrev moving : MovesTheirs world names
+  moving = record {
+    is = is;
+    sealed_off = sealed_off;
+    place = here;
+    there = here_there;
+    own = to.own;
+    new = new;
+    number = from.mount;
+    top_there = from_there;
+    top_own = to.from_own;
+  }
 
   abbrev IsOurs : ℕ → Type 0
   IsOurs = Ours world names is sealed_off fresh serves
 
   abbrev base_here : World ℕ
-  base_here = base world names is sealed_off [] (none_new world names) here here_there to.own
+  base_here = base attaching
 
   abbrev change : Mount ℕ → Mount ℕ
-  change = moved world names is sealed_off here here_there to.own new from.mount from_there to.from_own
+  change = moved moving
 
   -- before it is pushed up
   abbrev before : Mount ℕ → Mount ℕ
-  before = went world names is sealed_off here here_there to.own new from.mount from_there to.from_own
+  before = went moving
 
   abbrev added : List (Mount ℕ)
-  added = at_receivers world names is sealed_off here here_there to.own new from.mount from_there to.from_own
+  added = at_receivers moving
 
   abbrev formed : List (ℕ × Option ℕ)
-  formed = made world names is sealed_off [] (none_new world names) here here_there to.own new true origins
+  formed = made attaching new true origins
 
   abbrev masters : ℕ → Option ℕ
   masters = folded (masters_with nat_eq) world.master formed
 
   grows : Grows world names change added [] masters
-  grows = moved_grows world names is sealed_off here here_there to.own new from.mount from_there to.from_own masters
+  grows = moved_grows moving masters
 
   sources : (o : Mount ℕ) → Among o origins → (g : ℕ) → source_of o.propagation ≡ Some g → IsOurs g
   sources o m g e =
-      let its = origin_mine world names is sealed_off here here_there to.own new from.mount from_there to.from_own o m
+      let its = origin_mine moving o m
       in source_ours world names is sealed_off fresh serves o
       (among-filter (is_own_mount nat_eq world names) world.mounts o its.0 its.1) g e
 
@@ -77,27 +100,25 @@ module _ (world : World ℕ) (names : List TaskName) (is : IsWorld nat_eq world)
       (among-filter (is_own_mount nat_eq world names) world.mounts x n mine) g
       (ap (λ (z : Mount ℕ). source_of z.propagation) (sym same) ∙ pushed))
       (λ moves. copy_ours base_here new here true origins IsOurs new_groups sources (mount_at nat_eq world here) x
-      moves.0 g (ap (λ (z : Mount ℕ). source_of z.propagation) (sym moves.1) ∙ pushed))
-      (went_how world names is sealed_off here here_there to.own new from.mount from_there to.from_own x x n refl)
+      moves.0 g (ap (λ (z : Mount ℕ). source_of z.propagation) (sym moves.1) ∙ pushed)) (went_how moving x x n refl)
     where
       pushed : source_of (before x).propagation ≡ Some g
       pushed =
-          sym (push_keeps world names is sealed_off [] (none_new world names) here here_there to.own new true origins
-          (λ (z : Mount ℕ). source_of z.propagation) (λ z at. refl) (before x)) ∙ e
+          sym (push_keeps attaching new true origins (λ (z : Mount ℕ). source_of z.propagation) (λ z at. refl)
+          (before x)) ∙ e
 
   sourced : (y : Mount ℕ) → Among y (map change world.mounts ++ added) → is_own_mount nat_eq world names y ≡ true
       → (g : ℕ) → source_of y.propagation ≡ Some g → IsOurs g
-  sourced y m mine g e = ⊎_elim
-      (λ old. old_sourced old.0 old.1 old.2 g (ap (λ (x : Mount ℕ). source_of x.propagation) (sym old.3) ∙ e)) (λ more.
-      let of = at_receiver world names is sealed_off here here_there to.own new from.mount from_there to.from_own y
+  sourced y m mine g e = ⊎_elim (λ old. old_sourced old.0 old.1 old.2 g
+      (ap (λ (x : Mount ℕ). source_of x.propagation) (sym old.3) ∙ e)) (λ more.
+      let of = at_receiver moving y
       more in
       copy_ours base_here new here true origins IsOurs new_groups sources of.0 of.2 of.3 g
       (ap (λ (x : Mount ℕ). source_of x.propagation) (sym of.4) ∙ e))
       (own_how world names change added [] masters grows y m mine)
 
   as_grown : moved_to nat_eq fresh world from.mount here ≡ grown_world world names change added [] masters
-  as_grown = ap (λ w. attach nat_eq w fresh here true origins) (no_new_ones world)
-      ∙ moved_as world names is sealed_off here here_there to.own new from.mount from_there to.from_own world
+  as_grown = ap (λ w. attach nat_eq w fresh here true origins) (no_new_ones world) ∙ moved_as moving world
 
   pub moved_as_before : OthersAsBefore world (moved_to nat_eq fresh world from.mount here) names names
   moved_as_before = subst (λ w. OthersAsBefore world w names names) (sym as_grown)

@@ -1,12 +1,12 @@
 -- Where copies come at a mount of theirs and at its receivers, the worlds that are left have one part.
 use Rattle.std.proofs.Common.{arith, ◌≡◌, refl, sym, ap, ◌∙◌, ⊎_elim, ℕ, nat_eq, Bool, true, false, cond, List, [], ◌++◌, Option, Some, None, append_assoc, filter, map}
-use Rattle.vt_spec.proofs.Common.{Among, Copies, Filesystem, IsWorld, Location, Mount, Task, TaskName, World, among-filter, among-from_filter, any_among, attached_by, common_steps, folded, is_among, is_member_of, is_own_mount, list_any, master_above, masters_with, members, mount_at, numbers_raised, own_mounts, part_of, part_of_master, sealed, source_of, used_filesystems}
+use Rattle.vt_spec.proofs.Common.{Among, Copies, Filesystem, IsWorld, Mount, Task, TaskName, World, among-filter, among-from_filter, any_among, attached_by, common_steps, folded, is_member_of, is_own_mount, list_any, master_above, masters_with, members, numbers_raised, own_mounts, part_of, part_of_master, sealed, source_of}
 use Rattle.vt_laws_mounts.proofs.GroupsUp.{source_from_group}
 use Rattle.vt_laws_sealed.proofs.part.groups.ReceiversAlike.{member_group}
 use Rattle.vt_laws_sealed.proofs.part.part.PartOfPart.{is_own, same_members, same_own}
 use Rattle.vt_laws_members.proofs.changes.letting_go.Heard.{heard_by_own, master_same}
 use Rattle.vt_laws_members.proofs.changes.part.PartAgain.{part_again}
-use Rattle.vt_laws_members.proofs.attached.CopiesAlike.{attached_as, attached_there, base, base_part, copies, made, masters_agree, parts, push}
+use Rattle.vt_laws_members.proofs.attached.CopiesAlike.{AttachesTheirs, attached_as, attached_there, base, base_part, copies, made, masters_agree, parts, push}
 use Rattle.vt_laws_members.proofs.attached.GrownPart.{Grows, grown_world, own_how, part_grown}
 use Rattle.vt_laws_members.proofs.attached.KnownMasters.{copy_known}
 use Rattle.vt_laws_members.proofs.attached.PartGrows.{part_grows}
@@ -82,59 +82,48 @@ module _ (world : World ℕ) (names : List TaskName) (is : IsWorld nat_eq world)
       one_part above_alike name
 
 -- So it is where copies come.
-module _ (world : World ℕ) (names : List TaskName) (is : IsWorld nat_eq world)
-    (sealed_off : sealed nat_eq world names ≡ true) (new_ones : List (Filesystem ℕ))
-    (unused : (n : ℕ) → is_among nat_eq n (used_filesystems nat_eq world names) ≡ true
-    → list_any (λ (f : Filesystem ℕ). nat_eq n f.number) new_ones ≡ false)
-    (place : Location ℕ) (there : Among (mount_at nat_eq world place) world.mounts)
-    (own : is_own world names (members world names) (mount_at nat_eq world place) ≡ true)
+module _ {world : World ℕ} {names : List TaskName} (attaching : AttachesTheirs world names)
     (new : Copies ℕ) (origins : List (Mount ℕ)) (new_groups : (a b : ℕ) → world.master (new.image a b) ≡ None)
     (sources : (o : Mount ℕ) → Among o origins → (g : ℕ) → source_of o.propagation ≡ Some g
-    → (part_of nat_eq world names).master g ≡ world.master g)
-    (shows : ShowTheirs world names is sealed_off new_ones unused place there own new false origins) where
+    → (part_of nat_eq world names).master g ≡ world.master g) (shows : ShowTheirs attaching new false origins) where
   abbrev up : Mount ℕ → Mount ℕ
-  up = push world names is sealed_off new_ones unused place there own new false origins
+  up = push attaching new false origins
 
   abbrev added : List (Mount ℕ)
-  added = all_copies world names is sealed_off new_ones unused place there own new false origins
+  added = all_copies attaching new false origins
 
   abbrev with_made : (ℕ → Option ℕ) → ℕ → Option ℕ
   with_made above =
-      folded (masters_with nat_eq) above (made world names is sealed_off new_ones unused place there own new false
-      origins)
+      folded (masters_with nat_eq) above (made attaching new false origins)
 
-  pub grows : Grows world names up added new_ones (with_made world.master)
-  grows = copies_grow world names is sealed_off new_ones unused place there own new false origins shows
-      (with_made world.master)
+  pub grows : Grows world names up added attaching.new_ones (with_made world.master)
+  grows = copies_grow attaching new false origins shows (with_made world.master)
 
   known : (y : Mount ℕ) → Among y (map up world.mounts ++ added)
       → is_own world names (members world names) y ≡ true → (g : ℕ) → source_of y.propagation ≡ Some g
       → with_made (part_of nat_eq world names).master g ≡ with_made world.master g
-  known y m mine g e = masters_agree (made world names is sealed_off new_ones unused place there own new false origins)
-      (part_of nat_eq world names).master world.master g (⊎_elim
-      (λ old. master_same world names is sealed_off g (heard_by_own world names is sealed_off old.0
+  known y m mine g e = masters_agree (made attaching new false origins) (part_of nat_eq world names).master world.master
+      g (⊎_elim (λ old. master_same world names attaching.is attaching.sealed_off g
+      (heard_by_own world names attaching.is attaching.sealed_off old.0
       (among-filter (is_own_mount nat_eq world names) world.mounts old.0 old.1 old.2) g
       (sym (ap (λ (x : Mount ℕ). source_of x.propagation) old.3
-      ∙ push_keeps world names is sealed_off new_ones unused place there own new false origins
-      (λ (x : Mount ℕ). source_of x.propagation) (λ x at. refl) old.0) ∙ e)))
-      (λ more. let of = of_copies world names is sealed_off new_ones unused place there own new false origins y more in
-      copy_known world names is sealed_off new_ones unused place there own new false origins new_groups sources of.0
-      of.2 of.3 g (ap (λ (x : Mount ℕ). source_of x.propagation) (sym of.4) ∙ e))
-      (own_how world names up added new_ones (with_made world.master) grows y m mine))
+      ∙ push_keeps attaching new false origins (λ (x : Mount ℕ). source_of x.propagation) (λ x at. refl) old.0) ∙ e)))
+      (λ more. let of = of_copies attaching new false origins y more in
+      copy_known attaching new false origins new_groups sources of.0 of.2 of.3 g
+      (ap (λ (x : Mount ℕ). source_of x.propagation) (sym of.4) ∙ e))
+      (own_how world names up added attaching.new_ones (with_made world.master) grows y m mine))
 
   -- the worlds that are left
-  as_grown : (w : World ℕ) → attached_as world names is sealed_off new_ones unused place there own new false origins w
-      ≡ grown_world w names up added new_ones (with_made w.master)
+  as_grown : (w : World ℕ) → attached_as attaching new false origins w
+      ≡ grown_world w names up added attaching.new_ones (with_made w.master)
   as_grown w = grind (arith, common_steps, append_assoc, copies, parts)
 
   pub copies_alike : (name : TaskName) → part_of nat_eq (numbers_raised nat_eq world name []
-      (attached_by nat_eq (base world names is sealed_off new_ones unused place there own) new place false origins))
-      names ≡ part_of nat_eq (numbers_raised nat_eq (part_of nat_eq world names) name []
-      (attached_by nat_eq (base_part world names is sealed_off new_ones unused place there own) new place false
-      origins)) names
+      (attached_by nat_eq (base attaching) new attaching.place false origins)) names ≡ part_of nat_eq
+      (numbers_raised nat_eq (part_of nat_eq world names) name []
+      (attached_by nat_eq (base_part attaching) new attaching.place false origins)) names
   copies_alike name = ap (λ w. part_of nat_eq (numbers_raised nat_eq world name [] w) names) (as_grown world)
-      ∙ grown_alike world names is sealed_off up added new_ones (with_made world.master)
+      ∙ grown_alike world names attaching.is attaching.sealed_off up added attaching.new_ones (with_made world.master)
       (with_made (part_of nat_eq world names).master) grows known name
       ∙ sym (ap (λ w. part_of nat_eq (numbers_raised nat_eq (part_of nat_eq world names) name [] w) names)
-      (attached_there world names is sealed_off new_ones unused place there own new false origins
-      ∙ as_grown (part_of nat_eq world names)))
+      (attached_there attaching new false origins ∙ as_grown (part_of nat_eq world names)))

@@ -20,7 +20,7 @@ use Rattle.vt_laws_members.proofs.changes.part.SettledPart.{part_in_use}
 use Rattle.vt_laws_members.proofs.changes.tasks.Denied.{denial_ends_alike, ran_there, run_by, unnamed_ends_alike}
 use Rattle.vt_laws_members.specs.Attached.Attaching.{BindsEndAlike}
 use Rattle.vt_laws_members.proofs.attached.AttachedAlike.{copies_alike}
-use Rattle.vt_laws_members.proofs.attached.CopiesAlike.{base, base_part, no_new_ones, parts, parts_alike}
+use Rattle.vt_laws_members.proofs.attached.CopiesAlike.{AttachesTheirs, base, base_part, no_new_ones, parts, parts_alike}
 use Rattle.vt_laws_members.proofs.attached.Destination.{at_destination, at_source, locations_stand_there, mounts_stand_there, placed, placed_there, there}
 use Rattle.vt_laws_members.proofs.attached.PushedUp.{ShowTheirs}
 use Rattle.vt_laws_members.proofs.attached.Unused.{group_new}
@@ -147,8 +147,19 @@ module _ {world : World ℕ} {names : List TaskName} {name : TaskName} {source p
       → list_any (λ (f : Filesystem ℕ). nat_eq n f.number) [] ≡ false
   unused n used = refl
 
+  abbrev attaching : AttachesTheirs world names
+  attaching = record {
+    is = it.is;
+    sealed_off = it.sealed_off;
+    new_ones = [];
+    unused = unused;
+    place = here;
+    there = here_there;
+    own = own;
+  }
+
   abbrev new : Copies ℕ
-  new = copies_from nat_eq fresh (parts world names it.is it.sealed_off [] unused here here_there own) origins
+  new = copies_from nat_eq fresh (parts attaching) origins
 
   shown : (o : Mount ℕ) → Among o origins → Among o.filesystem (used_directly nat_eq world names)
   shown o m =
@@ -158,7 +169,7 @@ module _ {world : World ℕ} {names : List TaskName} {name : TaskName} {source p
       (theirs_directly world names it.is (record { mount = x.0.number; node = x.0.root })
       (own_theirs world names it.is x.0 x.1.0 x.1.1))
 
-  shows : ShowTheirs world names it.is it.sealed_off [] unused here here_there own new false origins
+  shows : ShowTheirs attaching new false origins
   shows = grind (arith, common_steps, shown)
 
   sources : (o : Mount ℕ) → Among o origins → (g : ℕ) → source_of o.propagation ≡ Some g
@@ -197,23 +208,21 @@ module _ {world : World ℕ} {names : List TaskName} {name : TaskName} {source p
   abbrev attached_to : List (Mount ℕ) → World ℕ → World ℕ
   attached_to mounts w = attach nat_eq w fresh here false mounts
 
-  now_so : now ≡ attached_by nat_eq (base world names it.is
-      it.sealed_off [] unused here here_there own) new here false origins
+  now_so : now ≡ attached_by nat_eq (base attaching) new here false origins
   now_so = ap (attached_to origins) (no_new_ones world)
 
   there_so : now_there ≡ attached_by nat_eq
-      (base_part world names it.is it.sealed_off [] unused here here_there own) new here false origins
+      (base_part attaching) new here false origins
   there_so = ap (λ l. attached_to l part) (bind_alike world names it.is from recursive from_theirs)
       ∙ ap (attached_to origins) (no_new_ones part)
-      ∙ ap (λ l. attached_by nat_eq (base_part world names it.is it.sealed_off [] unused here here_there own)
-      (copies_from nat_eq fresh l origins) here false origins)
-      (parts_alike world names it.is it.sealed_off [] unused here here_there own)
+      ∙ ap (λ l. attached_by nat_eq (base_part attaching) (copies_from nat_eq fresh l origins) here false origins)
+      (parts_alike attaching)
 
   parts_same : part_of nat_eq (numbers_raised nat_eq world name [] now) names
       ≡ part_of nat_eq (numbers_raised nat_eq part name [] now_there) names
   parts_same = ap (λ w. part_of nat_eq (numbers_raised nat_eq world name [] w) names) now_so
-      ∙ copies_alike world names it.is it.sealed_off [] unused here here_there own new origins new_groups sources shows
-      name ∙ sym (ap (λ w. part_of nat_eq (numbers_raised nat_eq part name [] w) names) there_so)
+      ∙ copies_alike attaching new origins new_groups sources shows name
+      ∙ sym (ap (λ w. part_of nat_eq (numbers_raised nat_eq part name [] w) names) there_so)
 
   bind_ends : EndsAlike world names name (Bind source path recursive) fresh fresh
   bind_ends = grind (arith, common_steps, second, first, parts_same)

@@ -26,12 +26,18 @@ masters_agree [] m n g e = e
 masters_agree (one ∷ made) m n g e = masters_agree made (masters_with nat_eq m one) (masters_with nat_eq n one) g
     (ap (cond (nat_eq g one.0) one.1) e)
 
-module _ (world : World ℕ) (names : List TaskName) (is : IsWorld nat_eq world)
-    (sealed_off : sealed nat_eq world names ≡ true) (new_ones : List (Filesystem ℕ))
-    (unused : (n : ℕ) → is_among nat_eq n (used_filesystems nat_eq world names) ≡ true
-    → list_any (λ (f : Filesystem ℕ). nat_eq n f.number) new_ones ≡ false)
-    (place : Location ℕ) (there : Among (mount_at nat_eq world place) world.mounts)
-    (own : is_own world names (members world names) (mount_at nat_eq world place) ≡ true) where
+-- a mount of theirs where copies come, and new filesystems, whose numbers they do not use
+pub record AttachesTheirs (world : World ℕ) (names : List TaskName) : Type 0 where
+  pub is : IsWorld nat_eq world
+  pub sealed_off : sealed nat_eq world names ≡ true
+  pub new_ones : List (Filesystem ℕ)
+  pub unused : (n : ℕ) → is_among nat_eq n (used_filesystems nat_eq world names) ≡ true
+      → list_any (λ (f : Filesystem ℕ). nat_eq n f.number) new_ones ≡ false
+  pub place : Location ℕ
+  pub there : Among (mount_at nat_eq world place) world.mounts
+  pub own : is_own world names (members world names) (mount_at nat_eq world place) ≡ true
+
+module _ {world : World ℕ} {names : List TaskName} (attaching : AttachesTheirs world names) where
   abbrev part : World ℕ
   part = part_of nat_eq world names
 
@@ -43,23 +49,23 @@ module _ (world : World ℕ) (names : List TaskName) (is : IsWorld nat_eq world)
 
   -- the worlds with new filesystems
   abbrev pub base : World ℕ
-  base = record world { filesystems = world.filesystems ++ new_ones }
+  base = record world { filesystems = world.filesystems ++ attaching.new_ones }
 
   abbrev pub base_part : World ℕ
-  base_part = record part { filesystems = part.filesystems ++ new_ones }
+  base_part = record part { filesystems = part.filesystems ++ attaching.new_ones }
 
   abbrev destination : Mount ℕ
-  destination = mount_at nat_eq world place
+  destination = mount_at nat_eq world attaching.place
 
   abbrev Heard : ℕ → Type 0
-  Heard g = IsHeard world names is sealed_off g
+  Heard g = IsHeard world names attaching.is attaching.sealed_off g
 
-  on : IsTheirs world names is.mounts place.mount
-  on = subst (IsTheirs world names is.mounts) (number-mount_in world.mounts place.mount)
-      (own_theirs world names is destination there own)
+  on : IsTheirs world names attaching.is.mounts attaching.place.mount
+  on = subst (IsTheirs world names attaching.is.mounts) (number-mount_in world.mounts attaching.place.mount)
+      (own_theirs world names attaching.is destination attaching.there attaching.own)
 
-  same_destination : mount_at nat_eq part place ≡ destination
-  same_destination = same_mount world names is.mounts place.mount on
+  same_destination : mount_at nat_eq part attaching.place ≡ destination
+  same_destination = same_mount world names attaching.is.mounts attaching.place.mount on
 
   -- Parts
   files_alike : (m : Mount ℕ) → Among m world.mounts → owns m ≡ true
@@ -67,38 +73,46 @@ module _ (world : World ℕ) (names : List TaskName) (is : IsWorld nat_eq world)
   files_alike m n its =
       let used : is_among nat_eq m.filesystem (used_filesystems nat_eq world names) ≡ true =
       ap (λ (x : Mount ℕ). is_among nat_eq x.filesystem (used_filesystems nat_eq world names))
-      (sym (numbered world names is.mounts m n))
-      ∙ theirs_used world names is (record { mount = m.number; node = m.root }) (own_theirs world names is m n its) in
-      found_before part new_ones m.filesystem (unused m.filesystem used) ∙ found world names m.filesystem used
-      ∙ sym (found_before world new_ones m.filesystem (unused m.filesystem used))
+      (sym (numbered world names attaching.is.mounts m n))
+      ∙ theirs_used world names attaching.is (record { mount = m.number; node = m.root })
+      (own_theirs world names attaching.is m n its) in
+      found_before part attaching.new_ones m.filesystem (attaching.unused m.filesystem used) ∙ found world names
+      m.filesystem used ∙ sym (found_before world attaching.new_ones m.filesystem (attaching.unused m.filesystem used))
 
   abbrev takes : World ℕ → Mount ℕ → Mount ℕ → Bool
-  takes w to m = not (nat_eq place.mount m.number) && is_some m.namespace && nat_eq to.filesystem m.filesystem
-      && is_directory_under nat_eq (filesystem_numbered nat_eq w m.filesystem).files m.root place.node
+  takes w to m = not (nat_eq attaching.place.mount m.number) && is_some m.namespace && nat_eq to.filesystem m.filesystem
+      && is_directory_under nat_eq (filesystem_numbered nat_eq w m.filesystem).files m.root attaching.place.node
 
   abbrev pub parts : List (Mount ℕ)
-  parts = parts_of nat_eq base place
+  parts = parts_of nat_eq base attaching.place
 
-  pub parts_alike : parts_of nat_eq base_part place ≡ parts
+  pub parts_alike : parts_of nat_eq base_part attaching.place ≡ parts
   parts_alike = ap (λ to. to ∷ filter (takes base_part to) (receivers_of nat_eq part to)) same_destination
       ∙ ap (λ l. destination ∷ filter (takes base_part destination) l)
-      (receivers_alike world names is.mounts (no_events world names is sealed_off) destination there own) ∙ ap (λ l. destination ∷ l)
+      (receivers_alike world names attaching.is.mounts (no_events world names attaching.is attaching.sealed_off)
+      destination attaching.there attaching.own) ∙ ap (λ l. destination ∷ l)
       (filter_alike (takes base_part destination) (takes base destination) (receivers_of nat_eq world destination)
       (λ m n.
-      let its = receivers_own world names is.mounts (no_events world names is sealed_off) destination m there own n in
-      ap (λ (f : Filesystem ℕ). not (nat_eq place.mount m.number) && is_some m.namespace
-      && nat_eq destination.filesystem m.filesystem && is_directory_under nat_eq f.files m.root place.node)
+      let its = receivers_own world names attaching.is.mounts (no_events world names attaching.is attaching.sealed_off)
+      destination m attaching.there attaching.own n in
+      ap (λ (f : Filesystem ℕ). not (nat_eq attaching.place.mount m.number) && is_some m.namespace && nat_eq
+      destination.filesystem m.filesystem && is_directory_under nat_eq f.files m.root attaching.place.node)
       (files_alike m its.0 its.1)))
 
   pub parts_own : (m : Mount ℕ) → Among m parts → Among m world.mounts × (owns m ≡ true)
-  parts_own m n = ⊎_elim (λ same. (subst (λ x. Among x world.mounts) (sym same) there, ap owns same ∙ own))
-      (λ receiver. receivers_own world names is.mounts (no_events world names is sealed_off) destination m there own
-      (among-from_filter (takes_part nat_eq base place) (receivers_of nat_eq world destination) m receiver).0) n
+  parts_own m n = ⊎_elim (λ same. (
+    subst (λ x. Among x world.mounts) (sym same) attaching.there,
+    ap owns same
+        ∙ attaching.own,
+  )) (λ receiver. receivers_own world names attaching.is.mounts
+      (no_events world names attaching.is attaching.sealed_off) destination m attaching.there attaching.own
+      (among-from_filter (takes_part nat_eq base attaching.place) (receivers_of nat_eq world destination) m receiver).0)
+      n
 
   -- What is attached, by these new numbers
   module _ (new : Copies ℕ) (moves : Bool) (origins : List (Mount ℕ)) where
     abbrev pub tree : Graft ℕ
-    tree = graft_of nat_eq base new place moves origins
+    tree = graft_of nat_eq base new attaching.place moves origins
 
     abbrev pub copies : Mount ℕ → List (Mount ℕ)
     copies = copies_at nat_eq base new tree parts
@@ -112,7 +126,7 @@ module _ (world : World ℕ) (names : List TaskName) (is : IsWorld nat_eq world)
     heard_part : (p : Mount ℕ) → Among p parts → (g : ℕ) → source_of p.propagation ≡ Some g → Heard g
     heard_part p n g e =
         let its = parts_own p n in
-        heard_by_own world names is sealed_off p
+        heard_by_own world names attaching.is attaching.sealed_off p
         (among-filter (is_own_mount nat_eq world names) world.mounts p its.0 its.1) g e
 
     -- images up the masters
@@ -121,7 +135,8 @@ module _ (world : World ℕ) (names : List TaskName) (is : IsWorld nat_eq world)
         ≡ nearest_image nat_eq base new parts destination twig (Some g)
     nearest_alike twig g heard =
         ap (λ l. option_map (image nat_eq new destination twig) (find (has_members nat_eq parts) l))
-        (same_up world names is.mounts (apart world names is sealed_off).events g heard.0 heard.1)
+        (same_up world names attaching.is.mounts (apart world names attaching.is attaching.sealed_off).events g heard.0
+        heard.1)
 
     type_alike : (p : Mount ℕ) → Among p parts → (twig : Twig ℕ)
         → copy_type nat_eq base_part new parts destination twig p.propagation
@@ -177,7 +192,8 @@ module _ (world : World ℕ) (names : List TaskName) (is : IsWorld nat_eq world)
             → nearest_image nat_eq base_part new parts destination twig o
             ≡ nearest_image nat_eq base new parts destination twig o
         above g heard None e = refl
-        above g heard (Some up) e = nearest_alike twig up (above_heard world names is sealed_off up g e heard)
+        above g heard (Some up) e = nearest_alike twig up
+            (above_heard world names attaching.is attaching.sealed_off up g e heard)
 
         by : (o : Option ℕ) → group_of p.propagation ≡ o
             → then_some o (made_by base_part part.master) ≡ then_some o (made_by base world.master)
@@ -186,7 +202,7 @@ module _ (world : World ℕ) (names : List TaskName) (is : IsWorld nat_eq world)
             let heard = heard_part p n g (source_from_group p.propagation g e) in
             ap (λ k. when (not (is_member_of nat_eq g destination)) (image nat_eq new destination twig g, k))
             (ap (nearest_image nat_eq base_part new parts destination twig)
-            (master_same world names is sealed_off g heard) ∙ above g heard (world.master g) refl)
+            (master_same world names attaching.is attaching.sealed_off g heard) ∙ above g heard (world.master g) refl)
 
     pub all_made_alike : all_groups_made nat_eq base_part new tree parts ≡ made
     all_made_alike = flat_map_alike (λ p. filter_map (group_made nat_eq base_part new tree parts p) tree.twigs)
@@ -200,20 +216,20 @@ module _ (world : World ℕ) (names : List TaskName) (is : IsWorld nat_eq world)
       mounts = map push (with_moved_mounts nat_eq moves w.mounts (copies destination))
           ++ added_mounts moves (copies destination) ++ flat_map copies (rest_of parts);
       master = folded (masters_with nat_eq) w.master made;
-      filesystems = w.filesystems ++ new_ones;
+      filesystems = w.filesystems ++ attaching.new_ones;
     }
 
     abbrev mounts_by : (Mount ℕ → Mount ℕ) → List (Mount ℕ) → List (Mount ℕ) → List (Mount ℕ)
     mounts_by up first rest =
         map up (with_moved_mounts nat_eq moves part.mounts first) ++ added_mounts moves first ++ rest
 
-    pub attached_there : attached_by nat_eq base_part new place moves origins ≡ attached_as part
+    pub attached_there : attached_by nat_eq base_part new attaching.place moves origins ≡ attached_as part
     attached_there = ap (λ (m : Mount ℕ). attached_at nat_eq base_part new (record {
-      destination = place;
+      destination = attaching.place;
       twigs = map (twig_of new (group_of m.propagation)) origins;
       moves = moves;
-    }) (parts_of nat_eq base_part place)) same_destination ∙ ap (attached_at nat_eq base_part new tree) parts_alike
-        ∙ ap (λ (d : Mount ℕ). record base_part {
+    }) (parts_of nat_eq base_part attaching.place)) same_destination
+        ∙ ap (attached_at nat_eq base_part new tree) parts_alike ∙ ap (λ (d : Mount ℕ). record base_part {
           mounts = mounts_by (pushed_up nat_eq base_part new tree parts) (copies_at nat_eq base_part new tree parts d)
               (flat_map (copies_at nat_eq base_part new tree parts) (rest_of parts));
           master = folded (masters_with nat_eq) part.master (all_groups_made nat_eq base_part new tree parts);

@@ -1,10 +1,9 @@
 -- The groups and masters of what is attached to mounts of theirs are heard, or new: their masters are the same in the
 -- part.
-use Rattle.std.proofs.Common.{arith, ◌≡◌, ℕ, nat_eq, Bool, true, false, List, Some, None}
-use Rattle.vt_spec.proofs.Common.{Among, Copies, Filesystem, IsWorld, Location, Mount, Propagation, TaskName, Twig, World, common_steps, copy_type, group_of, image, is_among, list_any, members, mount_at, none_is_some, part_of, same_Some, sealed, source_of, type_at, used_filesystems}
+use Rattle.std.proofs.Common.{arith, ◌≡◌, ℕ, nat_eq, Bool, List, Some, None}
+use Rattle.vt_spec.proofs.Common.{Among, Copies, Mount, Propagation, TaskName, Twig, World, common_steps, copy_type, group_of, image, mount_at, none_is_some, part_of, same_Some, source_of, type_at}
 use Rattle.vt_laws_mounts.proofs.GroupsUp.{source_from_group}
-use Rattle.vt_laws_sealed.proofs.part.part.PartOfPart.{is_own}
-use Rattle.vt_laws_members.proofs.attached.CopiesAlike.{base, parts, tree}
+use Rattle.vt_laws_members.proofs.attached.CopiesAlike.{AttachesTheirs, base, parts, tree}
 use Rattle.vt_laws_members.proofs.attached.PushedUp.{copy, twig}
 
 -- a group without master has none in the part
@@ -12,12 +11,7 @@ pub none_known : (world : World ℕ) (names : List TaskName) (g : ℕ) → world
     → (part_of nat_eq world names).master g ≡ world.master g
 none_known world names g e = grind (arith, common_steps)
 
-module _ (world : World ℕ) (names : List TaskName) (is : IsWorld nat_eq world)
-    (sealed_off : sealed nat_eq world names ≡ true) (new_ones : List (Filesystem ℕ))
-    (unused : (n : ℕ) → is_among nat_eq n (used_filesystems nat_eq world names) ≡ true
-    → list_any (λ (f : Filesystem ℕ). nat_eq n f.number) new_ones ≡ false)
-    (place : Location ℕ) (there : Among (mount_at nat_eq world place) world.mounts)
-    (own : is_own world names (members world names) (mount_at nat_eq world place) ≡ true)
+module _ {world : World ℕ} {names : List TaskName} (attaching : AttachesTheirs world names)
     (new : Copies ℕ) (moves : Bool) (origins : List (Mount ℕ))
     (new_groups : (a b : ℕ) → world.master (new.image a b) ≡ None)
     (sources : (o : Mount ℕ) → Among o origins → (g : ℕ) → source_of o.propagation ≡ Some g
@@ -29,13 +23,13 @@ module _ (world : World ℕ) (names : List TaskName) (is : IsWorld nat_eq world)
   Known g = part.master g ≡ world.master g
 
   abbrev destination : Mount ℕ
-  destination = mount_at nat_eq world place
+  destination = mount_at nat_eq world attaching.place
 
   abbrev at_base : World ℕ
-  at_base = base world names is sealed_off new_ones unused place there own
+  at_base = base attaching
 
   abbrev at_parts : List (Mount ℕ)
-  at_parts = parts world names is sealed_off new_ones unused place there own
+  at_parts = parts attaching
 
   new_known : (a b : ℕ) → Known (new.image a b)
   new_known a b = none_known world names (new.image a b) (new_groups a b)
@@ -46,7 +40,7 @@ module _ (world : World ℕ) (names : List TaskName) (is : IsWorld nat_eq world)
   twig_known o m g = grind (arith, common_steps, same_Some, new_known)
 
   abbrev its_twig : Mount ℕ → Twig ℕ
-  its_twig = twig world names is sealed_off new_ones unused place there own new moves origins
+  its_twig = twig attaching new moves origins
 
   image_known : (o : Mount ℕ) → Among o origins → (group : ℕ) → Known (image nat_eq new destination (its_twig o) group)
   image_known o m group = grind (arith, common_steps, new_known, twig_known, source_from_group)
@@ -57,6 +51,6 @@ module _ (world : World ℕ) (names : List TaskName) (is : IsWorld nat_eq world)
   type_known o m kind g h = grind (arith, common_steps, same_Some, image_known, none_is_some)
 
   pub copy_known : (p o : Mount ℕ) → Among o origins → (g : ℕ)
-      → source_of (copy world names is sealed_off new_ones unused place there own new moves origins p o).propagation
+      → source_of (copy attaching new moves origins p o).propagation
       ≡ Some g → Known g
   copy_known p o m g = grind (arith, common_steps, tree, twig_known, type_known)

@@ -1,14 +1,11 @@
 -- Where a tree of theirs moves, the worlds that are left have one part after the sweep.
-use Rattle.std.proofs.Common.{◌≡◌, refl, sym, ap, subst, ◌∙◌, inl, ⊎_elim, ℕ, nat_eq, true, cond, List, [], ◌∷◌, ◌++◌, Option, Some, None, filter, map, All}
-use Rattle.vt_spec.proofs.Common.{Among, HasLivingGroups, IsWorld, Location, Mount, Task, TaskName, World, all_locations, among-filter, among-from_filter, among-from_flat_map, among_from_all, among_from_list_all, filter_all, has_members, is_among, is_member_task, is_nowhere_or_attached, is_own_mount, list_all, master_above, members, mount_lives, numbers_raised, own_lowers, part_of, sealed, settled, source_of, then_some, used_filesystems, with_mounts}
+use Rattle.std.proofs.Common.{◌≡◌, refl, sym, ap, subst, ◌∙◌, ℕ, nat_eq, true, cond, List, [], ◌++◌, Option, Some, None, filter, map, All}
+use Rattle.vt_spec.proofs.Common.{Among, HasLivingGroups, IsWorld, Location, Mount, TaskName, World, all_locations, among-filter, among-from_filter, among_from_all, among_from_list_all, filter_all, has_members, is_among, is_nowhere_or_attached, is_own_mount, list_all, master_above, members, mount_lives, numbers_raised, own_lowers, part_of, sealed, settled, source_of, then_some, used_filesystems, with_mounts}
 use Rattle.vt_laws_members.proofs.namespaces.RemadeRaised.{lives_members}
 use Rattle.vt_laws_mounts.proofs.letting_go.sweeps.OfWorlds.{all_in_use, locations_of_worlds_stand}
 use Rattle.vt_laws_mounts.specs.Mounts.Invariants.{OneNumberEach}
 use Rattle.vt_laws_mounts.specs.Mounts.Standing.{AllStand}
-use Rattle.vt_laws_sealed.proofs.part.part.PartOfPart.{is_own, same_members}
-use Rattle.vt_laws_members.proofs.judging.Grounds.{IsTheirs}
-use Rattle.vt_laws_members.proofs.judging.SeenInPart.{directory_theirs, root_theirs}
-use Rattle.vt_laws_members.proofs.changes.letting_go.Changed.{LetsGo}
+use Rattle.vt_laws_sealed.proofs.part.part.PartOfPart.{is_own}
 use Rattle.vt_laws_members.proofs.changes.letting_go.PartReady.{part_ready}
 use Rattle.vt_laws_members.proofs.changes.letting_go.Ready.{Ready}
 use Rattle.vt_laws_members.proofs.changes.letting_go.Sweep.{swept_of}
@@ -20,38 +17,24 @@ use Rattle.vt_laws_members.proofs.attached.GrownPart.{Grows}
 use Rattle.vt_laws_members.proofs.attached.GrownReady.{all_live, grown, grown_settled, without_new}
 use Rattle.vt_laws_members.proofs.attached.PartGrows.{part_grows}
 use Rattle.vt_laws_members.proofs.attached.RaisedAlike.{parts_left}
+use Rattle.vt_laws_members.proofs.changes.letting_go.TasksStay.{tasks_stay}
 
 module _ (world : World ℕ) (names : List TaskName) (is : IsWorld nat_eq world)
     (sealed_off : sealed nat_eq world names ≡ true) where
   abbrev part : World ℕ
   part = part_of nat_eq world names
 
-  -- tasks that stay let nothing go
-  lets : LetsGo world names is sealed_off names world.tasks
-  lets = record {
-    own = λ n. refl;
-    roots = λ l m.
-        let t = among-from_flat_map (λ (t : Task ℕ). t.root ∷ t.directory ∷ []) (members world names) l m in
-        ⊎_elim (λ e. subst (λ (k : Location ℕ). IsTheirs world names is.mounts k.mount) (sym e)
-        (root_theirs world names is t.0 t.1)) (λ rest. ⊎_elim
-        (λ e. subst (λ (k : Location ℕ). IsTheirs world names is.mounts k.mount) (sym e)
-        (directory_theirs world names is t.0 t.1)) (λ none. absurd none) rest) t.2;
-    places = λ l m. inl m;
-    others = λ l m. m;
-  }
-
   pub ready_here : Ready world names (used_filesystems nat_eq world names) (own_lowers nat_eq world names)
   ready_here = subst (λ l. Ready (with_mounts world l) names (used_filesystems nat_eq world names)
       (own_lowers nat_eq world names)) (filter_all (mount_lives nat_eq world) world.mounts
       (among_from_list_all (mount_lives nat_eq world) world.mounts (all_in_use world is).mounts))
-      (world_ready world names is sealed_off names world.tasks world.change lets)
+      (world_ready world names is sealed_off names world.tasks world.change (tasks_stay world names is sealed_off).lets)
 
   pub ready_there : Ready part names (used_filesystems nat_eq world names) (own_lowers nat_eq world names)
   ready_there = subst (λ l. Ready (with_mounts part l) names (used_filesystems nat_eq world names)
       (own_lowers nat_eq world names)) (filter_all (mount_lives nat_eq part) part.mounts
       (among_from_list_all (mount_lives nat_eq part) part.mounts (part_in_use world names is sealed_off).mounts))
-      (part_ready world names is sealed_off names world.tasks part.tasks world.change part.change lets
-      (same_members world names) (λ t m. (among-from_filter (is_member_task names) world.tasks t m).1))
+      (part_ready (tasks_stay world names is sealed_off) world.change part.change)
 
 -- Where such a change leaves mounts that stand, and groups that live
 pub record Stays (w : World ℕ) : Type 0 where

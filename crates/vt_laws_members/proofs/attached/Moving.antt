@@ -23,12 +23,12 @@ use Rattle.vt_laws_members.proofs.changes.looks.Granted.{of_rules, of_walk}
 use Rattle.vt_laws_members.proofs.changes.looks.Told.{member_called, ran, same_caller}
 use Rattle.vt_laws_members.proofs.changes.tasks.Denied.{denial_ends_alike, ran_there, run_by, unnamed_ends_alike}
 use Rattle.vt_laws_members.specs.Attached.Attaching.{MovesEndAlike}
-use Rattle.vt_laws_members.proofs.attached.CopiesAlike.{attached_there, base_part, no_new_ones, parts, parts_alike}
+use Rattle.vt_laws_members.proofs.attached.CopiesAlike.{AttachesTheirs, attached_there, base_part, no_new_ones, parts, parts_alike}
 use Rattle.vt_laws_members.proofs.attached.Destination.{at_destination, at_source, placed, placed_there, there}
 use Rattle.vt_laws_members.proofs.attached.GrownPart.{Grows}
 use Rattle.vt_laws_members.proofs.attached.GrownReady.{without_new}
 use Rattle.vt_laws_members.proofs.attached.MovedAlike.{Stays, grows_there, left_here, left_there, moved_alike, ready_here, ready_there}
-use Rattle.vt_laws_members.proofs.attached.MovedGrows.{at_receivers, moved, moved_as, moved_grows, moved_known, moved_master, none_new}
+use Rattle.vt_laws_members.proofs.attached.MovedGrows.{MovesTheirs, at_receivers, moved, moved_as, moved_grows, moved_known, moved_master, none_new}
 use Rattle.vt_laws_members.proofs.attached.PartServes.{serves_there}
 use Rattle.vt_laws_members.proofs.attached.Unused.{group_new}
 
@@ -130,22 +130,44 @@ module _ {world : World ℕ} {names : List TaskName} {name : TaskName} {source p
   abbrev origins : List (Mount ℕ)
   origins = moved_tree nat_eq world from.mount
 
+  abbrev attaching : AttachesTheirs world names
+  attaching = record {
+    is = it.is;
+    sealed_off = it.sealed_off;
+    new_ones = [];
+    unused = none_new world names;
+    place = here;
+    there = here_there;
+    own = to.own;
+  }
+
   abbrev new : Copies ℕ
-  new = copies_from nat_eq fresh
-      (parts world names it.is it.sealed_off [] (none_new world names) here here_there to.own) origins
+  new = copies_from nat_eq fresh (parts attaching) origins
+
+  abbrev moving : MovesTheirs world names
+  moving = record {
+    is = it.is;
+    sealed_off = it.sealed_off;
+    place = here;
+    there = here_there;
+    own = to.own;
+    new = new;
+    number = from.mount;
+    top_there = from_there;
+    top_own = to.from_own;
+  }
 
   abbrev change : Mount ℕ → Mount ℕ
-  change = moved world names it.is it.sealed_off here here_there to.own new from.mount from_there to.from_own
+  change = moved moving
 
   abbrev added : List (Mount ℕ)
-  added = at_receivers world names it.is it.sealed_off here here_there to.own new from.mount from_there to.from_own
+  added = at_receivers moving
 
   abbrev with_made : (ℕ → Option ℕ) → ℕ → Option ℕ
-  with_made = moved_master world names it.is it.sealed_off here here_there to.own new from.mount from_there to.from_own
+  with_made = moved_master moving
 
   grows : Grows world names change added [] (with_made world.master)
-  grows = moved_grows world names it.is it.sealed_off here here_there to.own new from.mount from_there to.from_own
-      (with_made world.master)
+  grows = moved_grows moving (with_made world.master)
 
   abbrev now : World ℕ
   now = moved_to nat_eq fresh world from.mount here
@@ -155,21 +177,18 @@ module _ {world : World ℕ} {names : List TaskName} {name : TaskName} {source p
 
   abbrev left : World ℕ
   left = left_here world names it.is it.sealed_off change added (with_made world.master) (with_made part.master) grows
-      (moved_known world names it.is it.sealed_off here here_there to.own new from.mount from_there to.from_own
-      (λ a b. group_new world names it.is fresh serves _))
+      (moved_known moving (λ a b. group_new world names it.is fresh serves _))
 
   abbrev left_too : World ℕ
   left_too =
       left_there world names it.is it.sealed_off change added (with_made world.master) (with_made part.master) grows
-      (moved_known world names it.is it.sealed_off here here_there to.own new from.mount from_there to.from_own
-      (λ a b. group_new world names it.is fresh serves _))
+      (moved_known moving (λ a b. group_new world names it.is fresh serves _))
 
   abbrev attached_to : List (Mount ℕ) → World ℕ → World ℕ
   attached_to mounts w = attach nat_eq w fresh here true mounts
 
   now_so : now ≡ left
-  now_so = ap (attached_to origins) (no_new_ones world)
-      ∙ moved_as world names it.is it.sealed_off here here_there to.own new from.mount from_there to.from_own world
+  now_so = ap (attached_to origins) (no_new_ones world) ∙ moved_as moving world
       ∙ without_new world names change added (with_made world.master) (used_filesystems nat_eq world names)
       (own_lowers nat_eq world names) (ready_here world names it.is it.sealed_off) grows
 
@@ -180,17 +199,12 @@ module _ {world : World ℕ} {names : List TaskName} {name : TaskName} {source p
 
   there_so : now_there ≡ left_too
   there_so = ap (λ l. attached_to l part) same_tree ∙ ap (attached_to origins) (no_new_ones part)
-      ∙ ap (λ l. attached_by nat_eq
-      (base_part world names it.is it.sealed_off [] (none_new world names) here here_there to.own)
-      (copies_from nat_eq fresh l origins) here true origins)
-      (parts_alike world names it.is it.sealed_off [] (none_new world names) here here_there to.own)
-      ∙ attached_there world names it.is it.sealed_off [] (none_new world names) here here_there to.own new true origins
-      ∙ moved_as world names it.is it.sealed_off here here_there to.own new from.mount from_there to.from_own part
+      ∙ ap (λ l. attached_by nat_eq (base_part attaching) (copies_from nat_eq fresh l origins) here true origins)
+      (parts_alike attaching) ∙ attached_there attaching new true origins ∙ moved_as moving part
       ∙ without_new part names change added (with_made part.master) (used_filesystems nat_eq world names)
       (own_lowers nat_eq world names) (ready_there world names it.is it.sealed_off)
       (grows_there world names it.is it.sealed_off change added (with_made world.master) (with_made part.master) grows
-      (moved_known world names it.is it.sealed_off here here_there to.own new from.mount from_there to.from_own
-      (λ a b. group_new world names it.is fresh serves _)))
+      (moved_known moving (λ a b. group_new world names it.is fresh serves _)))
 
   -- what moves exists, in both
   is_there : is_mount world from.mount ≡ true
@@ -222,8 +236,7 @@ module _ {world : World ℕ} {names : List TaskName} {name : TaskName} {source p
       ≡ part_of nat_eq (numbers_raised nat_eq part name [] (settled nat_eq now_there)) names
   parts_same = ap (λ w. part_of nat_eq (numbers_raised nat_eq world name [] (settled nat_eq w)) names) now_so
       ∙ moved_alike world names it.is it.sealed_off change added (with_made world.master) (with_made part.master) grows
-      (moved_known world names it.is it.sealed_off here here_there to.own new from.mount from_there to.from_own
-      (λ a b. group_new world names it.is fresh serves _)) stays stays_too name
+      (moved_known moving (λ a b. group_new world names it.is fresh serves _)) stays stays_too name
       ∙ sym (ap (λ w. part_of nat_eq (numbers_raised nat_eq part name [] (settled nat_eq w)) names) there_so)
 
   first : policy nat_eq fresh world name (MoveMount source path)

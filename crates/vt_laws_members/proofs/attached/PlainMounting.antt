@@ -16,7 +16,7 @@ use Rattle.vt_laws_members.proofs.changes.part.SettledPart.{part_in_use}
 use Rattle.vt_laws_members.proofs.changes.tasks.Denied.{denial_ends_alike, ran_there, run_by, unnamed_ends_alike}
 use Rattle.vt_laws_members.specs.Attached.Attaching.{PlainMountsEndAlike}
 use Rattle.vt_laws_members.proofs.attached.AttachedAlike.{copies_alike}
-use Rattle.vt_laws_members.proofs.attached.CopiesAlike.{base_part, parts, parts_alike}
+use Rattle.vt_laws_members.proofs.attached.CopiesAlike.{AttachesTheirs, base_part, parts, parts_alike}
 use Rattle.vt_laws_members.proofs.attached.Destination.{at_destination, locations_stand_there, mounts_stand_there, placed, placed_there, there}
 use Rattle.vt_laws_members.proofs.attached.PushedUp.{ShowTheirs}
 use Rattle.vt_laws_members.proofs.attached.Unused.{filesystem_unlike, group_new, used_unlike}
@@ -69,11 +69,21 @@ module _ {world : World ℕ} {names : List TaskName} {name : TaskName} {path : L
       → list_any (λ (f : Filesystem ℕ). nat_eq n f.number) (new_one ∷ []) ≡ false
   unused n used = ap (λ b. b || false) (used_unlike world names it.is fresh serves n used 0)
 
-  abbrev new : Copies ℕ
-  new = copies_from nat_eq (odds fresh) (parts world names it.is it.sealed_off
-      (new_one ∷ []) unused here here_there own) origins
+  abbrev attaching : AttachesTheirs world names
+  attaching = record {
+    is = it.is;
+    sealed_off = it.sealed_off;
+    new_ones = new_one ∷ [];
+    unused = unused;
+    place = here;
+    there = here_there;
+    own = own;
+  }
 
-  shows : ShowTheirs world names it.is it.sealed_off (new_one ∷ []) unused here here_there own new false origins
+  abbrev new : Copies ℕ
+  new = copies_from nat_eq (odds fresh) (parts attaching) origins
+
+  shows : ShowTheirs attaching new false origins
   shows = record {
     shown = λ o m. inr (⊎_elim (λ same. ap (λ (x : Mount ℕ). nat_eq x.filesystem new_one.number || false) same
         ∙ ap (λ b. b || false) (eq-eqb new_one.number new_one.number refl)) (λ none. absurd none) m);
@@ -121,16 +131,13 @@ module _ {world : World ℕ} {names : List TaskName} {name : TaskName} {path : L
 
   -- the numbers are handed out to the same parts
   same_numbers : now_there ≡ attached_by nat_eq
-      (base_part world names it.is it.sealed_off (new_one ∷ []) unused here here_there own) new here false origins
-  same_numbers = ap (λ l. attached_by nat_eq
-      (base_part world names it.is it.sealed_off (new_one ∷ []) unused here here_there own)
-      (copies_from nat_eq (odds fresh) l origins) here false origins)
-      (parts_alike world names it.is it.sealed_off (new_one ∷ []) unused here here_there own)
+      (base_part attaching) new here false origins
+  same_numbers = ap (λ l. attached_by nat_eq (base_part attaching) (copies_from nat_eq (odds fresh) l origins) here
+      false origins) (parts_alike attaching)
 
   parts_same : part_of nat_eq (numbers_raised nat_eq world name [] now) names
       ≡ part_of nat_eq (numbers_raised nat_eq part name [] now_there) names
-  parts_same = copies_alike world names it.is it.sealed_off
-      (new_one ∷ []) unused here here_there own new origins new_groups sources shows name
+  parts_same = copies_alike attaching new origins new_groups sources shows name
       ∙ sym (ap (λ w. part_of nat_eq (numbers_raised nat_eq part name [] w) names) same_numbers)
 
   mount_alike : EndsAlike world names name (MountPlain path flags) fresh fresh

@@ -1,21 +1,16 @@
 -- What copies push up at receivers is theirs, and copies grow the world.
 use Rattle.std.proofs.Common.{arith, ◌≡◌, refl, sym, ap, subst, ◌∙◌, ◌⊎◌, inl, inr, ℕ, nat_eq, Bool, true, false, true≢false, List, [], Option, flat_map, map}
-use Rattle.vt_spec.proofs.Common.{Among, Copies, Filesystem, IsWorld, Layer, Location, Mount, Task, TaskName, Twig, World, among-flat_map, among-from_flat_map, among-from_map, among-map, common_steps, copy_at, group_of, is_among, layers_of, list_any, members, mount_at, of_overlay, pushed_onto, rest_of, sealed, seen_by_descriptor, stands_at, twig_of, used_directly, used_filesystems}
+use Rattle.vt_spec.proofs.Common.{Among, Copies, Filesystem, Layer, Location, Mount, Task, TaskName, Twig, World, among-flat_map, among-from_flat_map, among-from_map, among-map, common_steps, copy_at, group_of, is_among, layers_of, list_any, members, mount_at, of_overlay, pushed_onto, rest_of, seen_by_descriptor, stands_at, twig_of, used_directly, used_filesystems}
 use Rattle.vt_laws_mounts.proofs.mounts.MountsPlaces.{stands_there}
 use Rattle.vt_laws_mounts.proofs.letting_go.Lists.{find_none}
 use Rattle.vt_laws_sealed.proofs.part.part.PartOfPart.{is_own}
 use Rattle.vt_laws_members.proofs.judging.Grounds.{child_theirs}
 use Rattle.vt_laws_members.proofs.judging.MountTrees.{own_theirs}
-use Rattle.vt_laws_members.proofs.attached.CopiesAlike.{base, copies, parts, parts_own, push, tree}
+use Rattle.vt_laws_members.proofs.attached.CopiesAlike.{AttachesTheirs, base, copies, parts, parts_own, push, tree}
 use Rattle.vt_laws_members.proofs.attached.Destination.{located_well}
 use Rattle.vt_laws_members.proofs.attached.GrownPart.{Grows}
 
-module _ (world : World ℕ) (names : List TaskName) (is : IsWorld nat_eq world)
-    (sealed_off : sealed nat_eq world names ≡ true) (new_ones : List (Filesystem ℕ))
-    (unused : (n : ℕ) → is_among nat_eq n (used_filesystems nat_eq world names) ≡ true
-    → list_any (λ (f : Filesystem ℕ). nat_eq n f.number) new_ones ≡ false)
-    (place : Location ℕ) (there : Among (mount_at nat_eq world place) world.mounts)
-    (own : is_own world names (members world names) (mount_at nat_eq world place) ≡ true)
+module _ {world : World ℕ} {names : List TaskName} (attaching : AttachesTheirs world names)
     (new : Copies ℕ) (moves : Bool) (origins : List (Mount ℕ)) where
   abbrev theirs : List (Task ℕ)
   theirs = members world names
@@ -24,23 +19,22 @@ module _ (world : World ℕ) (names : List TaskName) (is : IsWorld nat_eq world)
   owns = is_own world names theirs
 
   abbrev destination : Mount ℕ
-  destination = mount_at nat_eq world place
+  destination = mount_at nat_eq world attaching.place
 
   abbrev up : Mount ℕ → Mount ℕ
-  up = push world names is sealed_off new_ones unused place there own new moves origins
+  up = push attaching new moves origins
 
   abbrev at_parts : List (Mount ℕ)
-  at_parts = parts world names is sealed_off new_ones unused place there own
+  at_parts = parts attaching
 
   abbrev made_at : Mount ℕ → List (Mount ℕ)
-  made_at = copies world names is sealed_off new_ones unused place there own new moves origins
+  made_at = copies attaching new moves origins
 
   abbrev pub twig : Mount ℕ → Twig ℕ
   twig = twig_of new (group_of destination.propagation)
 
   abbrev pub copy : Mount ℕ → Mount ℕ → Mount ℕ
-  copy p origin = copy_at nat_eq (base world names is sealed_off new_ones unused place there own) new
-      (tree world names is sealed_off new_ones unused place there own new moves origins) at_parts p (twig origin)
+  copy p origin = copy_at nat_eq (base attaching) new (tree attaching new moves origins) at_parts p (twig origin)
 
   -- what is pushed up keeps all but its mount point
   pub push_keeps : {A : Type 0} (what : Mount ℕ → A)
@@ -50,23 +44,22 @@ module _ (world : World ℕ) (names : List TaskName) (is : IsWorld nat_eq world)
 
   -- what stands elsewhere stays there
   stays_put : (m : Mount ℕ) → ((p : Mount ℕ) → Among p (rest_of at_parts)
-      → stands_at nat_eq (record { mount = p.number; node = place.node }) m ≡ false) → up m ≡ m
-  stays_put m none = ap (pushed_onto nat_eq (base world names is sealed_off new_ones unused place there own) new
-      (tree world names is sealed_off new_ones unused place there own new moves origins) at_parts m)
-      (find_none (λ (p : Mount ℕ). stands_at nat_eq (record { mount = p.number; node = place.node }) m)
+      → stands_at nat_eq (record { mount = p.number; node = attaching.place.node }) m ≡ false) → up m ≡ m
+  stays_put m none = ap (pushed_onto nat_eq (base attaching) new (tree attaching new moves origins) at_parts m)
+      (find_none (λ (p : Mount ℕ). stands_at nat_eq (record { mount = p.number; node = attaching.place.node }) m)
       (rest_of at_parts) none)
 
   pub other_stays : (x : Mount ℕ) → Among x world.mounts → owns x ≡ false → up x ≡ x
   other_stays x m other =
-      stays_put x (λ p n. by p n (stands_at nat_eq (record { mount = p.number; node = place.node }) x) refl)
+      stays_put x (λ p n. by p n (stands_at nat_eq (record { mount = p.number; node = attaching.place.node }) x) refl)
     where
       by : (p : Mount ℕ) → Among p (rest_of at_parts) → (b : Bool)
-          → stands_at nat_eq (record { mount = p.number; node = place.node }) x ≡ b → b ≡ false
+          → stands_at nat_eq (record { mount = p.number; node = attaching.place.node }) x ≡ b → b ≡ false
       by p n true e =
-          let its = parts_own world names is sealed_off new_ones unused place there own p (inr n) in
-          absurd (true≢false (sym (child_theirs world names is.mounts (record { mount = p.number; node = place.node }) x
-          (own_theirs world names is p its.0 its.1) m
-          (stands_there (record { mount = p.number; node = place.node }) x e)) ∙ other))
+          let its = parts_own attaching p (inr n) in
+          absurd (true≢false (sym (child_theirs world names attaching.is.mounts
+          (record { mount = p.number; node = attaching.place.node }) x (own_theirs world names attaching.is p its.0
+          its.1) m (stands_there (record { mount = p.number; node = attaching.place.node }) x e)) ∙ other))
       by p n false e = refl
 
   pub stub_stays : (x : Mount ℕ) → up (seen_by_descriptor x) ≡ seen_by_descriptor x
@@ -75,23 +68,21 @@ module _ (world : World ℕ) (names : List TaskName) (is : IsWorld nat_eq world)
   -- each copy is of a mount of the tree
   pub copy_of : (p x : Mount ℕ) → Among x (made_at p) → (o : Mount ℕ) × Among o origins × (x ≡ copy p o)
   copy_of p x m =
-      let t = among-from_map (copy_at nat_eq (base world names is sealed_off new_ones unused place there own) new
-      (tree world names is sealed_off new_ones unused place there own new moves origins) at_parts p)
-      (map twig origins) x m in
+      let t = among-from_map (copy_at nat_eq (base attaching) new
+      (tree attaching new moves origins) at_parts p) (map twig origins) x m in
       let o = among-from_map twig origins t.0 t.1 in (
         o.0,
         o.1,
-        t.2 ∙ ap (copy_at nat_eq (base world names is sealed_off new_ones unused place there own) new
-            (tree world names is sealed_off new_ones unused place there own new moves origins) at_parts p) o.2,
+        t.2 ∙ ap (copy_at nat_eq (base attaching) new
+            (tree attaching new moves origins) at_parts p) o.2,
       )
 
   pub copy_there : (p o : Mount ℕ) → Among o origins → Among (copy p o) (made_at p)
-  copy_there p o m = among-map (copy_at nat_eq (base world names is sealed_off new_ones unused place there own) new
-      (tree world names is sealed_off new_ones unused place there own new moves origins) at_parts p)
+  copy_there p o m = among-map (copy_at nat_eq (base attaching) new (tree attaching new moves origins) at_parts p)
       (map twig origins) (twig o) (among-map twig origins o m)
 
   copy_own : (p : Mount ℕ) → Among p at_parts → (o : Mount ℕ) → owns (copy p o) ≡ true
-  copy_own p n o = (parts_own world names is sealed_off new_ones unused place there own p n).1
+  copy_own p n o = (parts_own attaching p n).1
 
   -- what is new where nothing moves
   abbrev pub all_copies : List (Mount ℕ)
@@ -104,21 +95,22 @@ module _ (world : World ℕ) (names : List TaskName) (is : IsWorld nat_eq world)
       let o = copy_of p.0 x p.2 in (p.0, p.1, o.0, o.1, o.2)
 
   abbrev is_fresh : ℕ → Bool
-  is_fresh n = list_any (λ (f : Filesystem ℕ). nat_eq n f.number) new_ones
+  is_fresh n = list_any (λ (f : Filesystem ℕ). nat_eq n f.number) attaching.new_ones
 
   -- the mounts that are copied show filesystems of theirs, or new ones, each of which one shows
   pub record ShowTheirs : Type 0 where
     pub shown : (o : Mount ℕ) → Among o origins
         → Among o.filesystem (used_directly nat_eq world names) ⊎ (is_fresh o.filesystem ≡ true)
     pub unlisted : (f : Filesystem ℕ) → Among f world.filesystems → is_fresh f.number ≡ false
-    pub layers : (f : Filesystem ℕ) → Among f new_ones → (layer : Layer ℕ) → Among layer (of_overlay [] layers_of f)
-        → Among layer.filesystem (used_directly nat_eq world names)
-    pub mounted : (f : Filesystem ℕ) → Among f new_ones → (o : Mount ℕ) × Among o origins × (o.filesystem ≡ f.number)
+    pub layers : (f : Filesystem ℕ) → Among f attaching.new_ones → (layer : Layer ℕ) → Among layer
+        (of_overlay [] layers_of f) → Among layer.filesystem (used_directly nat_eq world names)
+    pub mounted : (f : Filesystem ℕ) → Among f attaching.new_ones → (o : Mount ℕ) × Among o origins
+        × (o.filesystem ≡ f.number)
 
   fresh_unused : (n : ℕ) → is_fresh n ≡ true → is_among nat_eq n (used_filesystems nat_eq world names) ≡ false
   fresh_unused n is_new = grind (arith, common_steps, true≢false)
 
-  pub copies_grow : ShowTheirs → (master : ℕ → Option ℕ) → Grows world names up all_copies new_ones master
+  pub copies_grow : ShowTheirs → (master : ℕ → Option ℕ) → Grows world names up all_copies attaching.new_ones master
   copies_grow it master = record {
     kept = λ x m mine. (
       push_keeps owns (λ y at. refl) x ∙ mine,
@@ -130,7 +122,7 @@ module _ (world : World ℕ) (names : List TaskName) (is : IsWorld nat_eq world)
     shown = λ x m. let its = of_copies x m in
         subst (λ n. Among n (used_directly nat_eq world names) ⊎ (is_fresh n ≡ true))
         (ap (λ (y : Mount ℕ). y.filesystem) (sym its.4)) (it.shown its.2 its.3);
-    located = λ l m. located_well world names is l m;
+    located = λ l m. located_well world names attaching.is l m;
     unused = fresh_unused;
     unlisted = it.unlisted;
     layers = it.layers;

@@ -8,8 +8,8 @@ pub mod EndedPartReady
 pub mod EndedRaised
 pub mod EndedReady
 pub mod Ends
-pub mod Entering
 pub mod EnterLast
+pub mod Entering
 pub mod ExitLast
 pub mod Exiting
 pub mod Gone
@@ -30,6 +30,7 @@ pub mod Sweeping
 pub mod SweptAlike
 pub mod SweptPart
 pub mod Taken
+pub mod TasksStay
 pub mod Umounting
 pub mod UsedAlike
 pub mod WorldReady

@@ -9,7 +9,7 @@ use Rattle.vt_laws_members.specs.Judging.{is_theirs}
 use Rattle.vt_laws_members.proofs.judging.Grounds.{IsTheirs, theirs_from}
 use Rattle.vt_laws_members.proofs.changes.part.SettledPart.{part_in_use}
 use Rattle.vt_laws_members.proofs.attached.AttachedAlike.{copies_alike}
-use Rattle.vt_laws_members.proofs.attached.CopiesAlike.{base_part, parts, parts_alike}
+use Rattle.vt_laws_members.proofs.attached.CopiesAlike.{AttachesTheirs, base_part, parts, parts_alike}
 use Rattle.vt_laws_members.proofs.attached.Destination.{locations_stand_there, mounts_stand_there, placed, placed_there, there}
 use Rattle.vt_laws_members.proofs.attached.PushedUp.{ShowTheirs}
 use Rattle.vt_laws_members.proofs.attached.Unused.{filesystem_unlike, group_new, used_unlike}
@@ -44,11 +44,21 @@ module _ (world : World ℕ) (names : List TaskName) (is : IsWorld nat_eq world)
       → list_any (λ (f : Filesystem ℕ). nat_eq n f.number) (new_one ∷ []) ≡ false
   unused n used = unlike n (used_unlike world names is fresh serves n used 0)
 
-  abbrev pub new : Copies ℕ
-  new = copies_from nat_eq (odds fresh)
-      (parts world names is sealed_off (new_one ∷ []) unused here here_there own) origins
+  abbrev pub attaching : AttachesTheirs world names
+  attaching = record {
+    is = is;
+    sealed_off = sealed_off;
+    new_ones = new_one ∷ [];
+    unused = unused;
+    place = here;
+    there = here_there;
+    own = own;
+  }
 
-  pub shows : ShowTheirs world names is sealed_off (new_one ∷ []) unused here here_there own new false origins
+  abbrev pub new : Copies ℕ
+  new = copies_from nat_eq (odds fresh) (parts attaching) origins
+
+  pub shows : ShowTheirs attaching new false origins
   shows = record {
     shown = λ o m. inr (⊎_elim (λ same. ap (λ (x : Mount ℕ). nat_eq x.filesystem new_one.number || false) same
         ∙ ap (λ b. b || false) (eq-eqb new_one.number new_one.number refl)) (λ none. absurd none) m);
@@ -89,14 +99,12 @@ module _ (world : World ℕ) (names : List TaskName) (is : IsWorld nat_eq world)
 
   -- the numbers are handed out to the same parts
   same_numbers : now_there ≡ attached_by nat_eq
-      (base_part world names is sealed_off (new_one ∷ []) unused here here_there own) new here false origins
-  same_numbers = ap (λ l. attached_by nat_eq
-      (base_part world names is sealed_off (new_one ∷ []) unused here here_there own)
-      (copies_from nat_eq (odds fresh) l origins) here false origins)
-      (parts_alike world names is sealed_off (new_one ∷ []) unused here here_there own)
+      (base_part attaching) new here false origins
+  same_numbers = ap (λ l. attached_by nat_eq (base_part attaching) (copies_from nat_eq (odds fresh) l origins) here
+      false origins) (parts_alike attaching)
 
   pub mounted_alike : (name : TaskName) → part_of nat_eq (numbers_raised nat_eq world name [] now) names
       ≡ part_of nat_eq (numbers_raised nat_eq part name [] now_there) names
   mounted_alike name =
-      copies_alike world names is sealed_off (new_one ∷ []) unused here here_there own new origins new_groups sources
-      shows name ∙ sym (ap (λ w. part_of nat_eq (numbers_raised nat_eq part name [] w) names) same_numbers)
+      copies_alike attaching new origins new_groups sources shows name
+      ∙ sym (ap (λ w. part_of nat_eq (numbers_raised nat_eq part name [] w) names) same_numbers)

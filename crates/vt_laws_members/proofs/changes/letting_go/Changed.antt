@@ -163,7 +163,17 @@ module _ (world : World ℕ) (names : List TaskName) (is : IsWorld nat_eq world)
     -- the locations of the set are on mounts that are there
     pub placed_on : (l : Location ℕ) → Among l (locations new)
         → (m : Mount ℕ) × Among m world.mounts × (l.mount ≡ m.number)
-    placed_on l m = ⊎_elim (λ was. let t = among-from_flat_map locations_of old l was in
-        mount_under world names is sealed_off l (among-flat_map locations_of world.tasks t.0 l
+    placed_on l m = ⊎_elim (λ was. let t = among-from_flat_map locations_of old l was in mount_under world names is
+        sealed_off l (among-flat_map locations_of world.tasks t.0 l
         (among-from_filter (is_member_task names) world.tasks t.0 t.1).0 t.2))
         (λ theirs. (theirs.0, theirs.1, sym theirs.2)) (it.places l m)
+
+-- These tasks are left to a set in the world, and in the part.
+pub record Retasks (world : World ℕ) (names set : List TaskName) : Type 0 where
+  pub is : IsWorld nat_eq world
+  pub sealed_off : sealed nat_eq world names ≡ true
+  pub tasks : List (Task ℕ)
+  pub tasks_too : List (Task ℕ)
+  pub lets : LetsGo world names is sealed_off set tasks
+  pub same : filter (is_member_task set) tasks_too ≡ filter (is_member_task set) tasks
+  pub all : (t : Task ℕ) → Among t tasks_too → is_member_task set t ≡ true

@@ -12,7 +12,7 @@ use Rattle.vt_laws_members.proofs.changes.part.SettledPart.{part_in_use}
 use Rattle.vt_laws_members.proofs.changes.tasks.Ending.{with_tasks}
 use Rattle.vt_laws_members.proofs.changes.tasks.Retasked.{SeeAlike, retasked}
 use Rattle.vt_laws_members.proofs.changes.tasks.Rights.{sees_alike}
-use Rattle.vt_laws_members.proofs.changes.letting_go.Changed.{LetsGo}
+use Rattle.vt_laws_members.proofs.changes.letting_go.Changed.{LetsGo, Retasks}
 use Rattle.vt_laws_members.proofs.changes.letting_go.Raised.{DetachedArePrivate, swept_raised}
 use Rattle.vt_laws_members.proofs.changes.letting_go.SweptAlike.{swept_alike}
 
@@ -102,9 +102,20 @@ let_go_alike world names set name call it task called fresh other answer stays t
     second = ap (ran name call part other) (same_caller world names it.is it.sealed_off name it.theirs ∙ called) ∙ two
         ∙ ends_so part in_part (private_in_part world names it.is) name set tasks_too answer
 
+    retasks : Retasks world names set
+    retasks = record {
+      is = it.is;
+      sealed_off = it.sealed_off;
+      tasks = tasks;
+      tasks_too = tasks_too;
+      lets = lets;
+      same = same;
+      all = all;
+    }
+
     parts : part_of nat_eq left set ≡ part_of nat_eq left_too set
     parts = part_of_ended world in_world (private_in_world world it.is) name set tasks answer
-        ∙ (λ i. record (swept_alike world names set it.is it.sealed_off tasks tasks_too lets same all i) {
+        ∙ (λ i. record (swept_alike retasks i) {
           tasks = (raised_members set name tasks ∙ ap (map (raised_task name)) (sym same)
               ∙ sym (raised_members set name tasks_too)) i;
         }) ∙ sym (part_of_ended part in_part (private_in_part world names it.is) name set tasks_too answer)

@@ -1,6 +1,6 @@
 -- So is the part, where the tasks let go in it what they let go in the world.
 use Rattle.std.proofs.Common.{arith, ◌≡◌, refl, sym, ap, subst, ◌∙◌, ◌⊎◌, inl, inr, ⊎_elim, ℕ, nat_eq, true, List, Option, Some, None, filter, is_some, eq-eqb}
-use Rattle.vt_spec.proofs.Common.{Among, IsWorld, Location, Mount, Task, TaskName, World, all_locations, among-filter, among-filter_map, among-flat_map, among-from_filter, among-from_filter_map, among-from_flat_map, any_from_among, common_steps, holds_of, is_at, is_located, is_member_task, list_any, locations, locations_of, members, mount_lives, none_is_some, or_left, or_right, own_lowers, pair-filter, part_of, roots_and_directories, sealed, used_filesystems, without_dead_mounts}
+use Rattle.vt_spec.proofs.Common.{Among, Location, Mount, Task, TaskName, World, all_locations, among-filter, among-filter_map, among-flat_map, among-from_filter, among-from_filter_map, among-from_flat_map, any_from_among, common_steps, holds_of, is_at, is_located, is_member_task, list_any, locations, locations_of, members, mount_lives, none_is_some, or_left, or_right, own_lowers, pair-filter, part_of, roots_and_directories, used_filesystems, without_dead_mounts}
 use Rattle.vt_laws_sealed.proofs.part.part.MountsOver.{nowhere_stands}
 use Rattle.vt_laws_mounts.specs.Mounts.Invariants.{OneNumberEach}
 use Rattle.vt_laws_sealed.proofs.part.part.Observed.{lowers_same, used_same}
@@ -9,26 +9,23 @@ use Rattle.vt_laws_sealed.proofs.outsiders.SeenLater.{shown_at}
 use Rattle.vt_laws_members.proofs.judging.Grounds.{IsTheirs}
 use Rattle.vt_laws_members.proofs.judging.MountPoints.{part_mount}
 use Rattle.vt_laws_members.proofs.judging.MountTrees.{part_one_number}
-use Rattle.vt_laws_members.proofs.changes.letting_go.Changed.{LetsGo, ground_is, ground_whole, owned_same, mount_parent, placed_on, sees_less}
+use Rattle.vt_laws_members.proofs.changes.letting_go.Changed.{Retasks, ground_is, ground_whole, mount_parent, owned_same, placed_on, sees_less}
 use Rattle.vt_laws_members.proofs.changes.letting_go.Ready.{NoOthers, Ready}
 use Rattle.vt_laws_members.proofs.changes.letting_go.LessSeen.{AreLess, less_lowers, less_used}
 use Rattle.vt_laws_members.proofs.changes.letting_go.PartFiles.{cut_in_part, numbers_in_part, plain_in_part}
 use Rattle.vt_laws_members.proofs.changes.letting_go.SeeLess.{SeeLess, now_less}
 use Rattle.vt_laws_members.proofs.changes.letting_go.WorldReady.{sees_living}
 
-module _ (world : World ℕ) (names : List TaskName) (is : IsWorld nat_eq world)
-    (sealed_off : sealed nat_eq world names ≡ true) (set : List TaskName) (tasks tasks_too : List (Task ℕ))
-    (change change_too : ℕ) (it : LetsGo world names is sealed_off set tasks)
-    (same : filter (is_member_task set) tasks_too ≡ filter (is_member_task set) tasks)
-    (all : (t : Task ℕ) → Among t tasks_too → is_member_task set t ≡ true) where
+module _ {world : World ℕ} {names set : List TaskName} (left : Retasks world names set)
+    (change change_too : ℕ) where
   abbrev part : World ℕ
   part = part_of nat_eq world names
 
   abbrev later : World ℕ
-  later = record world { tasks = tasks; change = change }
+  later = record world { tasks = left.tasks; change = change }
 
   abbrev later_part : World ℕ
-  later_part = record part { tasks = tasks_too; change = change_too }
+  later_part = record part { tasks = left.tasks_too; change = change_too }
 
   abbrev living : World ℕ
   living = without_dead_mounts nat_eq later_part
@@ -42,8 +39,8 @@ module _ (world : World ℕ) (names : List TaskName) (is : IsWorld nat_eq world)
   abbrev kept : Mount ℕ → Option (Mount ℕ)
   kept = keep world names old
 
-  less : SeeLess world names set tasks change
-  less = sees_less world names is sealed_off set tasks change it
+  less : SeeLess world names set left.tasks change
+  less = sees_less world names left.is left.sealed_off set left.tasks change left.lets
 
   there : (y : Mount ℕ) → Among y living.mounts → Among y part.mounts
   there y n = (among-from_filter (mount_lives nat_eq later_part) part.mounts y n).0
@@ -65,30 +62,30 @@ module _ (world : World ℕ) (names : List TaskName) (is : IsWorld nat_eq world)
   located_lives y l at n e = grind (arith, common_steps, among-filter, or_right, any_from_among, eq-eqb)
 
   -- a location of the set is on a mount of the part
-  located_so : (l : Location ℕ) → Among l (locations (filter (is_member_task set) tasks_too))
+  located_so : (l : Location ℕ) → Among l (locations (filter (is_member_task set) left.tasks_too))
       → (y : Mount ℕ) × Among y living.mounts × (l.mount ≡ y.number)
   located_so l m =
-      let theirs : Among l (locations new) = subst (λ ts. Among l (locations ts)) same m in
-      let on = placed_on world names is sealed_off set tasks change it l theirs in
-      let shows = by on.0 on.1 (it.places l theirs) on.2 in
+      let theirs : Among l (locations new) = subst (λ ts. Among l (locations ts)) left.same m in
+      let on = placed_on world names left.is left.sealed_off set left.tasks change left.lets l theirs in
+      let shows = by on.0 on.1 (left.lets.places l theirs) on.2 in
       let there_too = among-filter_map kept world.mounts on.0 shows.0 on.1 shows.1 in
-      let t = among-from_flat_map locations_of (filter (is_member_task set) tasks_too) l m in
+      let t = among-from_flat_map locations_of (filter (is_member_task set) left.tasks_too) l m in
       let number : l.mount ≡ shows.0.number = on.2 ∙ sym (number_kept on.0 shows.0 shows.1) in (
         shows.0,
-        located_lives shows.0 l there_too (among-flat_map locations_of tasks_too t.0 l
-            (among-from_filter (is_member_task set) tasks_too t.0 t.1).0 t.2) number,
+        located_lives shows.0 l there_too (among-flat_map locations_of left.tasks_too t.0 l
+            (among-from_filter (is_member_task set) left.tasks_too t.0 t.1).0 t.2) number,
         number,
       )
     where
-      by : (m : Mount ℕ) → Among m world.mounts → Among l (locations old) ⊎ IsTheirs world names is.mounts l.mount
+      by : (m : Mount ℕ) → Among m world.mounts → Among l (locations old) ⊎ IsTheirs world names left.is.mounts l.mount
           → l.mount ≡ m.number → (y : Mount ℕ) × (kept m ≡ Some y)
       by m n (inl before) e =
           shown_at world names m (any_from_among (λ (k : Location ℕ). nat_eq k.mount m.number) (locations old) l before
           (eq-eqb l.mount m.number e))
       by m n (inr theirs) e = (
         m,
-        kept_whole world names old m (ground_whole world names is sealed_off set tasks change it m
-            (ground_is world names is sealed_off set tasks change it m n l.mount e theirs)),
+        kept_whole world names old m (ground_whole world names left.is left.sealed_off set left.tasks change left.lets m
+            (ground_is world names left.is left.sealed_off set left.tasks change left.lets m n l.mount e theirs)),
       )
 
   -- a mount of the part with a mount point is theirs, and whole
@@ -96,8 +93,8 @@ module _ (world : World ℕ) (names : List TaskName) (is : IsWorld nat_eq world)
       → (m ≡ y) × (is_own world names old y ≡ true)
   whole_point m y l n e point = ⊎_elim (λ its. (
     its,
-    ⊎_elim (λ own. own) (λ none. absurd (nowhere_stands world names is.mounts y l
-        (subst (λ k. Among k world.mounts) its n) none point)) (part_mount world names is m y n e),
+    ⊎_elim (λ own. own) (λ none. absurd (nowhere_stands world names left.is.mounts y l
+        (subst (λ k. Among k world.mounts) its n) none point)) (part_mount world names left.is m y n e),
   )) (λ stub. none_is_some l (ap (λ (k : Mount ℕ). k.mount_point) stub.0 ∙ point)) (kept_how world names old m y e)
 
   own_whole : (k : Mount ℕ) → Among k world.mounts → is_own world names old k ≡ true → Among k part.mounts
@@ -110,23 +107,23 @@ module _ (world : World ℕ) (names : List TaskName) (is : IsWorld nat_eq world)
   parents_so y l n point =
       let from = was y n in
       let whole = whole_point from.0 y l from.1 from.2 point in
-      let up = mount_parent world is.mounts y l (subst (λ k. Among k world.mounts) whole.0 from.1) point in
+      let up = mount_parent world left.is.mounts y l (subst (λ k. Among k world.mounts) whole.0 from.1) point in
       let own : is_own world names old up.2 ≡ true =
       ap (holds_of (λ i. list_any (λ (t : Task ℕ). nat_eq i t.namespace) old)) (up.5 ∙ sym up.1) ∙ whole.1 in
       (up.0, up.1, up.2, attached_lives up.2 up.0 (own_whole up.2 up.3 own) up.5, up.4, up.5)
 
   -- owned by the set of before, so by that of now
   owned_now : (y : Mount ℕ) → is_own world names old y ≡ true
-      → is_own world names (filter (is_member_task set) tasks_too) y ≡ true
-  owned_now y own = cc (same, owned_same world names is sealed_off set tasks change it y)
+      → is_own world names (filter (is_member_task set) left.tasks_too) y ≡ true
+  owned_now y own = cc (left.same, owned_same world names left.is left.sealed_off set left.tasks change left.lets y)
 
   stood_there : (y : Mount ℕ) → Among y living.mounts
-      → is_at nat_eq (roots_and_directories (filter (is_member_task set) tasks_too)) y ≡ true
-      → (is_own world names (filter (is_member_task set) tasks_too) y ≡ true) ⊎ (y.mount_point ≡ None)
+      → is_at nat_eq (roots_and_directories (filter (is_member_task set) left.tasks_too)) y ≡ true
+      → (is_own world names (filter (is_member_task set) left.tasks_too) y ≡ true) ⊎ (y.mount_point ≡ None)
   stood_there y n h = by y.mount_point refl
     where
       by : (o : Option (Location ℕ)) → y.mount_point ≡ o
-          → (is_own world names (filter (is_member_task set) tasks_too) y ≡ true) ⊎ (y.mount_point ≡ None)
+          → (is_own world names (filter (is_member_task set) left.tasks_too) y ≡ true) ⊎ (y.mount_point ≡ None)
       by None e = inr e
       by (Some l) e =
           let from = was y n in inl (owned_now y (whole_point from.0 y l from.1 from.2 e).1)
@@ -135,35 +132,35 @@ module _ (world : World ℕ) (names : List TaskName) (is : IsWorld nat_eq world)
   pub no_others_there : (number : ℕ) → NoOthers living set number
   no_others_there number = record {
     mounts = λ y n e. let from = was y n in
-        ⊎_elim (λ own. inl (owned_now y own)) inr (part_mount world names is from.0 y from.1 from.2);
-    locations = λ l m e. let t = among-from_flat_map locations_of tasks_too l m in
-        among-flat_map locations_of (filter (is_member_task set) tasks_too) t.0 l
-        (among-filter (is_member_task set) tasks_too t.0 t.1 (all t.0 t.1)) t.2;
+        ⊎_elim (λ own. inl (owned_now y own)) inr (part_mount world names left.is from.0 y from.1 from.2);
+    locations = λ l m e. let t = among-from_flat_map locations_of left.tasks_too l m in among-flat_map locations_of
+        (filter (is_member_task set) left.tasks_too) t.0 l
+        (among-filter (is_member_task set) left.tasks_too t.0 t.1 (left.all t.0 t.1)) t.2;
   }
 
   sees : AreLess world names set later later_part
-  sees = now_less world names is set tasks tasks_too change change_too less same
+  sees = now_less world names left.is set left.tasks left.tasks_too change change_too less left.same
 
   one_number : OneNumberEach living
   one_number = pair-filter (λ (p q : Mount ℕ). nat_eq p.number q.number) (mount_lives nat_eq later_part) part.mounts
-      (part_one_number world names is)
+      (part_one_number world names left.is)
 
   pub part_ready : Ready living set (used_filesystems nat_eq later set) (own_lowers nat_eq later set)
   part_ready = record {
     used_are = used_same later_part living set (sees_living later_part set)
-        ∙ less_used world names is set later later_part sees;
+        ∙ less_used world names left.is set later later_part sees;
     lowers_are = lowers_same later_part living set (sees_living later_part set)
-        ∙ less_lowers world names is set later later_part sees;
+        ∙ less_lowers world names left.is set later later_part sees;
     one = one_number;
     lives = λ y n. (among-from_filter (mount_lives nat_eq later_part) part.mounts y n).1;
     located = located_so;
     parents = parents_so;
     stood = stood_there;
-    one_filesystem = numbers_in_part world names is;
-    plain = plain_in_part world names is;
+    one_filesystem = numbers_in_part world names left.is;
+    plain = plain_in_part world names left.is;
     free = λ y m u. inl (record {
       itself = no_others_there y.number;
       overlays = λ merged n has. no_others_there merged.number;
     });
-    cut = cut_in_part world names is set later later_part sees;
+    cut = cut_in_part world names left.is set later later_part sees;
   }

@@ -5,7 +5,7 @@ use Rattle.vt_laws_sealed.proofs.part.Kept.{filter_again}
 use Rattle.vt_laws_members.proofs.judging.Grounds.{IsTheirs}
 use Rattle.vt_laws_members.proofs.judging.SeenInPart.{directory_theirs, root_theirs}
 use Rattle.vt_laws_members.specs.Changes.LettingGo.{LessIsSeenAlike, SweepsAlike, UsesNoMore}
-use Rattle.vt_laws_members.proofs.changes.letting_go.Changed.{LetsGo, sees_less}
+use Rattle.vt_laws_members.proofs.changes.letting_go.Changed.{LetsGo, Retasks, sees_less}
 use Rattle.vt_laws_members.proofs.changes.letting_go.SeeLess.{part_of_less}
 use Rattle.vt_laws_members.proofs.changes.letting_go.SweptAlike.{swept_alike}
 
@@ -47,6 +47,13 @@ less_is_seen_alike world names set is sealed_off tasks uses =
 
 pub sweeps_alike : SweepsAlike
 sweeps_alike world names set is sealed_off tasks uses =
-    swept_alike world names set is sealed_off tasks (filter (is_member_task set) tasks)
-    (lets_go world names set is sealed_off tasks uses) (filter_again (is_member_task set) tasks)
-    (λ t m. (among-from_filter (is_member_task set) tasks t m).1)
+    let retasks : Retasks world names set = record {
+      is = is;
+      sealed_off = sealed_off;
+      tasks = tasks;
+      tasks_too = filter (is_member_task set) tasks;
+      lets = lets_go world names set is sealed_off tasks uses;
+      same = filter_again (is_member_task set) tasks;
+      all = λ t m. (among-from_filter (is_member_task set) tasks t m).1;
+    } in
+    swept_alike retasks

@@ -1,21 +1,20 @@
 -- A call of theirs that changes one plain tree, which they use alone, ends in the part as in the world.
 use Rattle.std.proofs.Common.{◌≡◌, ap, ◌∙◌, ⊎_elim, ℕ, nat_eq, false, true, List, [], ◌∷◌, Some, Ok, ◌||◌}
-use Rattle.vt_spec.proofs.Common.{Among, Call, Change, Done, FileTree, Filesystem, Fresh, Location, Outcome, Task, TaskName, World, among-from_filter, changed_at, filesystem_at, filesystem_changed, finished, finished_by, granted, is_among, is_member_task, is_overlay, mount_at, numbers_of_change, numbers_raised, only_looks, part_of, settled, task_called, used_alone, used_filesystems, with_change}
+use Rattle.vt_spec.proofs.Common.{Call, Change, Done, FileTree, Filesystem, Fresh, Location, Outcome, Task, TaskName, World, changed_at, filesystem_at, filesystem_changed, finished, finished_by, granted, is_among, is_overlay, mount_at, numbers_of_change, numbers_raised, only_looks, part_of, settled, task_called, used_alone, used_filesystems, with_change}
 use Rattle.vt_spec.specs.Language.Changes
 use Rattle.vt_laws_mounts.specs.LettingGo.TreesOverlays.{with_filesystems}
-use Rattle.vt_laws_sealed.proofs.part.part.PartOfPart.{same_members}
 use Rattle.vt_laws_members.specs.Changes.Changes.{EndsAlike, IsCallOfTheirs, grown}
 use Rattle.vt_laws_members.proofs.changes.files.FilesEnding.{no_overlay}
 use Rattle.vt_laws_members.proofs.changes.files.FilesRaised.{swap}
 use Rattle.vt_laws_members.proofs.changes.files.OneFilesystem.{old_number, old_used, one_in_part, one_in_world}
-use Rattle.vt_laws_members.proofs.changes.letting_go.Changed.{LetsGo}
+use Rattle.vt_laws_members.proofs.changes.letting_go.Changed.{Retasks}
 use Rattle.vt_laws_members.proofs.changes.letting_go.PartReady.{no_others_there}
 use Rattle.vt_laws_members.proofs.changes.letting_go.Ready.{Alone}
 use Rattle.vt_laws_members.proofs.changes.letting_go.WorldReady.{alone}
 use Rattle.vt_laws_members.proofs.changes.looks.Told.{ran}
 use Rattle.vt_laws_members.proofs.detached.removals.WithTree.{changes_theirs}
-use Rattle.vt_laws_members.proofs.overlay_names.names.OverlayEnding.{tasks_stay}
 use Rattle.vt_laws_members.proofs.overlay_names.names.SteppedAlike.{living, living_part, stepped_ends}
+use Rattle.vt_laws_members.proofs.changes.letting_go.TasksStay.{tasks_stay}
 
 -- the outcome of a call that gives a plain filesystem this tree
 abbrev pub with_tree : World ℕ → TaskName → Filesystem ℕ → FileTree ℕ → Outcome ℕ
@@ -58,38 +57,27 @@ module _ {world : World ℕ} {names : List TaskName} {name : TaskName} {call : C
   is_used : is_among nat_eq old.number all_used ≡ true
   is_used = old_used world names it.is number used
 
-  lets : LetsGo world names it.is it.sealed_off names world.tasks
-  lets = tasks_stay world names it.is it.sealed_off
-
-  all_theirs : (t : Task ℕ) → Among t part.tasks → is_member_task names t ≡ true
-  all_theirs t m = (among-from_filter (is_member_task names) world.tasks t m).1
+  abbrev left : Retasks world names names
+  left = tasks_stay world names it.is it.sealed_off
 
   -- others have no foothold on it, in the world and in the part
-  alone_here : Alone (living world names names name call it world.tasks part.tasks lets (same_members world names)
-      all_theirs (swap old files)) names old.number
-  alone_here = alone world names it.is it.sealed_off names world.tasks world.change lets old.number
+  alone_here : Alone (living it left (swap old files)) names old.number
+  alone_here = alone world names it.is it.sealed_off names world.tasks world.change left.lets old.number
       (ap (used_alone nat_eq world names) (old_number world names it.is number used) ∙ alone_before)
 
-  alone_there : Alone (living_part world names names name call it world.tasks part.tasks lets (same_members world names)
-      all_theirs (swap old files)) names old.number
+  alone_there : Alone (living_part it left (swap old files)) names old.number
   alone_there = record {
-    itself = no_others_there world names it.is it.sealed_off names world.tasks part.tasks world.change part.change lets
-        (same_members world names) all_theirs old.number;
-    overlays = λ merged m has. no_others_there world names it.is it.sealed_off names world.tasks part.tasks world.change
-        part.change lets (same_members world names) all_theirs merged.number;
+    itself = no_others_there left world.change part.change old.number;
+    overlays = λ merged m has. no_others_there left world.change part.change merged.number;
   }
 
   pub tree_ends : ran name call world fresh (Some task) ≡ with_tree world name old files
       → ran name call part other (Some task) ≡ with_tree part name old files
       → EndsAlike world names name call fresh other
-  tree_ends = stepped_ends world names names name call it world.tasks part.tasks lets (same_members world names)
-      all_theirs (swap old files)
-      (changes_theirs (living world names names name call it world.tasks part.tasks lets (same_members world names)
-      all_theirs (swap old files)) names all_used old files (one_in_world world names it.is number used) alone_here
-      is_used)
-      (changes_theirs (living_part world names names name call it world.tasks part.tasks lets (same_members world names)
-      all_theirs (swap old files)) names all_used old files (one_in_part world names it.is number used) alone_there
-      is_used)
-      (old.number ∷ [])
-      (λ n m. ⊎_elim (λ e. ap (λ k. is_among nat_eq k all_used) e ∙ is_used) (λ none. absurd none) m)
-      task found fresh other Done stays
+  tree_ends = stepped_ends it left (swap old files)
+      (changes_theirs (living it left (swap old files)) names all_used old files
+      (one_in_world world names it.is number used) alone_here is_used)
+      (changes_theirs (living_part it left (swap old files)) names all_used old files
+      (one_in_part world names it.is number used) alone_there is_used) (old.number ∷ [])
+      (λ n m. ⊎_elim (λ e. ap (λ k. is_among nat_eq k all_used) e ∙ is_used) (λ none. absurd none) m) task found fresh
+      other Done stays

@@ -78,8 +78,8 @@ module _ {world : World ℕ} {names : List TaskName} {gone : List ℕ} (go : The
     parts_before = part_with_layers here names step theirs.numbered theirs.changing theirs.lowering theirs.kept
         ∙ ap (λ w. with_filesystems w step) (sym (one_part world names go.is names here there is_less))
         ∙ sym (part_with_layers there names step theirs_there.numbered theirs_there.changing theirs_there.lowering
-        (λ x unused. theirs_there.kept x
-        (ap (is_among nat_eq x.number) (sym (less_used world names go.is names here there is_less)) ∙ unused)))
+        (λ x unused. theirs_there.kept x (ap (is_among nat_eq x.number)
+        (sym (less_used world names go.is names here there is_less)) ∙ unused)))
 
     swept_alike : part_of nat_eq (settled nat_eq (with_filesystems here step)) names
         ≡ part_of nat_eq (settled nat_eq (with_filesystems there step)) names

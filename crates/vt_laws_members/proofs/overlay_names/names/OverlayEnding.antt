@@ -1,6 +1,6 @@
 -- Calls of theirs that make, give and take names through overlays end in the part as in the world.
-use Rattle.std.proofs.Common.{◌≡◌, refl, sym, ap, subst, ◌∙◌, inl, ⊎_elim, ℕ, nat_eq, true, false, true≢false, List, [], ◌∷◌, Option, Some, None, Ok, is_some, ◌||◌}
-use Rattle.vt_spec.proofs.Common.{Among, Call, Change, Done, Filesystem, Fresh, IsWorld, Layer, LinkTo, Location, Make, Mkdir, Overlay, Permit, Serves, SymlinkAt, Task, TaskName, ToChange, ToMake, Unlink, World, Write, among-from_filter, among-from_flat_map, changed_at, evens, filesystem_at, finished, finished_by, granted, is_member_task, is_overlay, judge_in, linking, looks_of, members, mount_at, numbers_raised, object_there, only_looks, overfills, part_of, removing, sealed, settled, task_called, used_directly, with_change}
+use Rattle.std.proofs.Common.{◌≡◌, refl, sym, ap, subst, ◌∙◌, ℕ, nat_eq, true, false, true≢false, List, Option, Some, None, Ok, is_some, ◌||◌}
+use Rattle.vt_spec.proofs.Common.{Among, Call, Change, Done, Filesystem, Fresh, Layer, LinkTo, Location, Make, Mkdir, Overlay, Permit, Serves, SymlinkAt, Task, TaskName, ToChange, ToMake, Unlink, World, Write, changed_at, evens, filesystem_at, finished, finished_by, granted, is_overlay, judge_in, linking, looks_of, mount_at, numbers_raised, object_there, only_looks, overfills, part_of, removing, settled, task_called, used_directly, with_change}
 use Rattle.vt_laws_rules.specs.Granted.{IsGranted}
 use Rattle.vt_laws_rules.specs.Granted.IsGranted.{makes_hard_link, unlinks}
 use Rattle.vt_laws_rules.proofs.given.Inversion.{calls_are_granted}
@@ -8,11 +8,8 @@ use Rattle.vt_laws_mounts.specs.LettingGo.TreesOverlays.{with_filesystems}
 use Rattle.vt_laws_worlds.proofs.worlds.CallsKept.{name_found}
 use Rattle.vt_laws_worlds.specs.OverlayPermits.Changed.{numbers_left}
 use Rattle.vt_laws_worlds.proofs.overlay_permits.changed.ChangedOverlays.{permits_can_change}
-use Rattle.vt_laws_sealed.proofs.part.part.PartOfPart.{same_members}
-use Rattle.vt_laws_members.proofs.judging.Grounds.{IsTheirs}
-use Rattle.vt_laws_members.proofs.judging.SeenInPart.{directory_theirs, filesystem_alike, root_theirs, theirs_directly}
+use Rattle.vt_laws_members.proofs.judging.SeenInPart.{filesystem_alike, theirs_directly}
 use Rattle.vt_laws_members.specs.Changes.Changes.{EndsAlike, IsCallOfTheirs, grown}
-use Rattle.vt_laws_members.proofs.changes.letting_go.Changed.{LetsGo}
 use Rattle.vt_laws_members.proofs.changes.looks.Told.{ran}
 use Rattle.vt_laws_members.proofs.changes.names.GrantedNames.{Names, NamingCall, naming_of, naming_theirs}
 use Rattle.vt_laws_members.proofs.changes.overlays.OverlayEdits.{unwritten_run}
@@ -21,20 +18,7 @@ use Rattle.vt_laws_members.proofs.changes.tasks.Rights.{idle_end_alike}
 use Rattle.vt_laws_members.specs.OverlayNames.OverlayNames.{OverlayLinksEndAlike, OverlayMakingEndsAlike, OverlayMkdirsEndAlike, OverlayNewFilesEndAlike, OverlaySymlinksEndAlike, OverlayUnlinksEndAlike}
 use Rattle.vt_laws_members.proofs.overlay_names.names.OverlayNaming.{changed_ends, changed_in_part, changed_in_world, listed_in_part, listed_in_world}
 use Rattle.vt_laws_members.proofs.changes.overlays.Copying.{OverlayChange}
-
--- tasks that stay let nothing go
-pub tasks_stay : (world : World ℕ) (names : List TaskName) (is : IsWorld nat_eq world)
-    (sealed_off : sealed nat_eq world names ≡ true) → LetsGo world names is sealed_off names world.tasks
-tasks_stay world names is sealed_off = record {
-  own = λ n. refl;
-  roots = λ l m. let from = among-from_flat_map (λ (t : Task ℕ). t.root ∷ t.directory ∷ []) (members world names) l m in
-      ⊎_elim (λ e. subst (λ (k : Location ℕ). IsTheirs world names is.mounts k.mount) (sym e)
-      (root_theirs world names is from.0 from.1)) (λ rest. ⊎_elim
-      (λ e. subst (λ (k : Location ℕ). IsTheirs world names is.mounts k.mount) (sym e)
-      (directory_theirs world names is from.0 from.1)) (λ none. absurd none) rest) from.2;
-  places = λ l m. inl m;
-  others = λ l m. m;
-}
+use Rattle.vt_laws_members.proofs.changes.letting_go.TasksStay.{tasks_stay}
 
 -- so ends a granted change of filesystems, before which mounts may go
 pub stepped_run : (before w : World ℕ) (name : TaskName) (call : Call) (supply : Fresh ℕ) (location : Location ℕ)
@@ -112,11 +96,9 @@ module _ {world : World ℕ} {names : List TaskName} {name : TaskName} {call : C
           naming.change merged overlay looks (sym alike) overlaid none)
       layered overlay overlaid (Some upper) has =
           let copied = through overlay upper overlaid has in
-          changed_ends naming.it copied world.tasks part.tasks (tasks_stay world names naming.is naming.sealed_off)
-          (same_members world names) (λ t m. (among-from_filter (is_member_task names) world.tasks t m).1) direct
-          naming.task naming.found naming.fresh Done stays
-          (one ∙ stepped_run world world name call supply naming.location naming.change _ _ looks
-          (changed_in_world naming.it copied) (listed_in_world naming.it copied))
+          changed_ends naming.it copied (tasks_stay world names naming.is naming.sealed_off) direct naming.task
+          naming.found naming.fresh Done stays (one ∙ stepped_run world world name call supply naming.location
+          naming.change _ _ looks (changed_in_world naming.it copied) (listed_in_world naming.it copied))
           (two ∙ stepped_run part part name call supply naming.location naming.change _ _ looks
           (changed_in_part naming.it copied) (listed_in_part naming.it copied))
 

@@ -1,6 +1,6 @@
 -- A granted call of theirs by which a name comes or goes through an overlay ends in the part as in the world.
-use Rattle.std.proofs.Common.{arith, ◌≡◌, refl, sym, ap, subst, ◌∙◌, ◌⊎◌, inl, inr, ⊎_elim, ℕ, nat_eq, eqb-true, Bool, true, false, true≢false, List, [], ◌∷◌, ◌++◌, Option, Some, Ok, is_some, map, filter, option_to_list}
-use Rattle.vt_spec.proofs.Common.{Among, Answer, Call, Filesystem, Fresh, IsWorld, Layer, Overlay, Real, Task, TaskName, World, among-append_left, among-append_right, among-flat_map, among-from_filter, among_numbers, changed_at, common_steps, filesystem_numbered, granted, is_among, is_member_task, is_overlay, layers_of, mount_at, numbers_raised, of_overlay, open_layer, or_cases, overlay_or, part_of, sealed, settled, stack_of, task_called, used_alone, used_directly, used_filesystems, wholly_locked, with_change}
+use Rattle.std.proofs.Common.{arith, ◌≡◌, refl, sym, ap, subst, ◌∙◌, ◌⊎◌, inl, inr, ⊎_elim, ℕ, nat_eq, eqb-true, Bool, true, false, true≢false, List, [], ◌∷◌, ◌++◌, Option, Some, Ok, is_some, map, option_to_list}
+use Rattle.vt_spec.proofs.Common.{Among, Answer, Call, Filesystem, Fresh, IsWorld, Layer, Overlay, Real, Task, TaskName, World, among-append_left, among-append_right, among-flat_map, among-from_filter, among_numbers, changed_at, common_steps, filesystem_numbered, granted, is_among, is_overlay, layers_of, mount_at, numbers_raised, of_overlay, open_layer, or_cases, overlay_or, part_of, sealed, settled, stack_of, task_called, used_alone, used_directly, used_filesystems, wholly_locked, with_change}
 use Rattle.vt_laws_mounts.specs.LettingGo.TreesOverlays.{with_filesystems}
 use Rattle.vt_laws_sealed.proofs.part.part.PartOfPart.{used_directly_used}
 use Rattle.vt_laws_sealed.proofs.part.seals.ByPart.{layer_directory, layer_plain, used_are_free}
@@ -10,7 +10,7 @@ use Rattle.vt_laws_members.proofs.judging.LowersSeen.{lower_view, overlay_there}
 use Rattle.vt_laws_members.specs.Changes.Changes.{EndsAlike, IsCallOfTheirs, grown}
 use Rattle.vt_laws_members.proofs.changes.files.FilesChanged.{lowers_in}
 use Rattle.vt_laws_members.proofs.changes.files.OneFilesystem.{found_numbered, one_in_part, one_in_world}
-use Rattle.vt_laws_members.proofs.changes.letting_go.Changed.{LetsGo}
+use Rattle.vt_laws_members.proofs.changes.letting_go.Changed.{Retasks}
 use Rattle.vt_laws_members.proofs.changes.letting_go.PartReady.{no_others_there}
 use Rattle.vt_laws_members.proofs.changes.letting_go.Ready.{Alone}
 use Rattle.vt_laws_members.proofs.changes.letting_go.WorldReady.{alone}
@@ -180,12 +180,10 @@ module _ {world : World ℕ} {names : List TaskName} {name : TaskName} {call : C
   listed_in_part = numbers_in_part through
 
   -- With the tasks that a call leaves
-  module _ (tasks tasks_too : List (Task ℕ)) (lets : LetsGo world names it.is it.sealed_off names tasks)
-      (same : filter (is_member_task names) tasks_too ≡ filter (is_member_task names) tasks)
-      (all : (t : Task ℕ) → Among t tasks_too → is_member_task names t ≡ true)
-      (direct_now : Among number (used_directly nat_eq (record world { tasks = tasks }) names)) where
+  module _ (left : Retasks world names names)
+      (direct_now : Among number (used_directly nat_eq (record world { tasks = left.tasks }) names)) where
     abbrev later : World ℕ
-    later = record world { tasks = tasks }
+    later = record world { tasks = left.tasks }
 
     one_used_now : is_among nat_eq one.number (used_filesystems nat_eq later names) ≡ true
     one_used_now = ap (λ n. is_among nat_eq n (used_filesystems nat_eq later names)) one_number
@@ -197,12 +195,10 @@ module _ {world : World ℕ} {names : List TaskName} {name : TaskName} {call : C
         through.can.upper_there direct_now
 
     alone_there : (n : ℕ) → Alone
-        (living_part world names names name call it tasks tasks_too lets same all moved) names n
+        (living_part it left moved) names n
     alone_there n = record {
-      itself = no_others_there world names it.is it.sealed_off names tasks tasks_too world.change part.change lets same
-          all n;
-      overlays = λ merged m has. no_others_there world names it.is it.sealed_off names tasks tasks_too world.change
-          part.change lets same all merged.number;
+      itself = no_others_there left world.change part.change n;
+      overlays = λ merged m has. no_others_there left world.change part.change merged.number;
     }
 
     numbers_used : (n : ℕ) → Among n numbers → is_among nat_eq n (used_filesystems nat_eq later names) ≡ true
@@ -213,21 +209,18 @@ module _ {world : World ℕ} {names : List TaskName} {name : TaskName} {call : C
     pub changed_ends : (task : Task ℕ) → task_called world name ≡ Some task → (fresh : Fresh ℕ)
         (answer : Answer) → grown names name call (Ok answer) ≡ names → ran name call world fresh (Some task)
         ≡ granted answer (numbers_raised nat_eq world name numbers
-        (settled nat_eq (with_filesystems (record world { tasks = tasks }) moved)))
+        (settled nat_eq (with_filesystems (record world { tasks = left.tasks }) moved)))
         → ran name call part fresh (Some task) ≡ granted answer (numbers_raised nat_eq part name numbers
-        (settled nat_eq (with_filesystems (record part { tasks = tasks_too }) moved)))
+        (settled nat_eq (with_filesystems (record part { tasks = left.tasks_too }) moved)))
         → EndsAlike world names name call fresh fresh
     changed_ends task called fresh answer same_set =
-        stepped_ends world names names name call it tasks tasks_too lets same all moved
-        (theirs (living world names names name call it tasks tasks_too lets same all moved)
-        (used_filesystems nat_eq later names) one_used_now two_used_now
-        (one_in_world world names it.is number (used_directly_used world names number through.direct))
+        stepped_ends it left moved (theirs (living it left moved) (used_filesystems nat_eq later names) one_used_now
+        two_used_now (one_in_world world names it.is number (used_directly_used world names number through.direct))
         (one_in_world world names it.is through.upper.filesystem
         (upper_in_use world names number through.overlay through.upper through.can.overlay_there through.can.upper_there
-        through.direct)) (alone world names it.is it.sealed_off names tasks world.change lets one.number one_alone)
-        (alone world names it.is it.sealed_off names tasks world.change lets two.number two_alone))
-        (theirs (living_part world names names name call it tasks tasks_too lets same all moved)
-        (used_filesystems nat_eq later names) one_used_now two_used_now
+        through.direct)) (alone world names left.is left.sealed_off names left.tasks world.change left.lets one.number
+        one_alone) (alone world names left.is left.sealed_off names left.tasks world.change left.lets two.number
+        two_alone)) (theirs (living_part it left moved) (used_filesystems nat_eq later names) one_used_now two_used_now
         (one_in_part world names it.is number (used_directly_used world names number through.direct))
         (one_in_part world names it.is through.upper.filesystem
         (upper_in_use world names number through.overlay through.upper through.can.overlay_there through.can.upper_there

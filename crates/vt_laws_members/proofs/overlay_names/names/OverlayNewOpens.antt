@@ -11,7 +11,7 @@ use Rattle.vt_laws_members.proofs.judging.Grounds.{IsTheirs}
 use Rattle.vt_laws_members.proofs.judging.SeenInPart.{directory_theirs, filesystem_alike, root_theirs, theirs_directly}
 use Rattle.vt_laws_members.specs.Changes.Changes.{EndsAlike, IsCallOfTheirs}
 use Rattle.vt_laws_members.proofs.changes.letting_go.Callers.{StandsOnTheirs, all_in_set, of_set, others_left, places_left, roots_left, same_set, spaces_kept}
-use Rattle.vt_laws_members.proofs.changes.letting_go.Changed.{LetsGo}
+use Rattle.vt_laws_members.proofs.changes.letting_go.Changed.{LetsGo, Retasks}
 use Rattle.vt_laws_members.proofs.changes.looks.Told.{member_called}
 use Rattle.vt_laws_members.proofs.changes.names.GrantedNames.{naming_of, naming_theirs}
 use Rattle.vt_laws_members.proofs.changes.tasks.Denied.{ran_there, run_by}
@@ -153,13 +153,19 @@ overlay_new_opens_end_alike world names name path access how it task found fresh
           direct = direct;
           alike = alike;
         } in
-        changed_ends it copied (map (replaced_if_called (with_descriptor task file wanted)) world.tasks)
-        (map (replaced_if_called (with_descriptor task file wanted)) part.tasks) (lets it task found file wanted ground)
-        (same_set it task found (with_descriptor task file wanted) (stands it task found file wanted ground))
-        (all_in_set it task found (with_descriptor task file wanted) (stands it task found file wanted ground))
-        (file_used it task found file wanted ground) task found fresh (Opened (free_number task)) refl
-        (ap (run_by it world fresh task) judged ∙ opened_run world name path access how (odds fresh) directory change
-        task file wanted _ _ (changed_in_world it copied) (listed_in_world it copied))
+        let retasks : Retasks world names names = record {
+          is = it.is;
+          sealed_off = it.sealed_off;
+          tasks = map (replaced_if_called (with_descriptor task file wanted)) world.tasks;
+          tasks_too = map (replaced_if_called (with_descriptor task file wanted)) part.tasks;
+          lets = lets it task found file wanted ground;
+          same = same_set it task found (with_descriptor task file wanted) (stands it task found file wanted ground);
+          all = all_in_set it task found (with_descriptor task file wanted) (stands it task found file wanted ground);
+        } in
+        changed_ends it copied retasks (file_used it task found file wanted ground) task found fresh
+        (Opened (free_number task)) refl (ap (run_by it world fresh task) judged
+        ∙ opened_run world name path access how (odds fresh) directory change task file wanted _ _
+        (changed_in_world it copied) (listed_in_world it copied))
         (ran_there it fresh fresh task found judged ∙ opened_run part name path access how (odds fresh) directory change
         task file wanted _ _ (changed_in_part it copied) (listed_in_part it copied))
 

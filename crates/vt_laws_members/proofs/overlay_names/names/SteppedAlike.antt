@@ -6,7 +6,7 @@ use Rattle.vt_laws_mounts.specs.LettingGo.TreesOverlays.{with_filesystems}
 use Rattle.vt_laws_mounts.proofs.letting_go.sweeps.OfWorlds.{all_in_use}
 use Rattle.vt_laws_members.specs.Changes.Changes.{EndsAlike, IsCallOfTheirs, grown}
 use Rattle.vt_laws_members.proofs.changes.files.FilesChanged.{part_with_layers}
-use Rattle.vt_laws_members.proofs.changes.letting_go.Changed.{LetsGo, sees_less}
+use Rattle.vt_laws_members.proofs.changes.letting_go.Changed.{Retasks, sees_less}
 use Rattle.vt_laws_members.proofs.changes.letting_go.Ends.{private_in_part, private_in_world, raised_members}
 use Rattle.vt_laws_members.proofs.changes.letting_go.LessSeen.{less_used}
 use Rattle.vt_laws_members.proofs.changes.letting_go.PartReady.{part_ready}
@@ -42,86 +42,83 @@ module _ (before : World ℕ) (in_use : AllInUse before) (private_ones : Detache
       })
 
 -- The world and the part
-module _ (world : World ℕ) (names set : List TaskName) (name : TaskName) (call : Call)
-    (it : IsCallOfTheirs world names name call) (tasks tasks_too : List (Task ℕ))
-    (lets : LetsGo world names it.is it.sealed_off set tasks)
-    (same : filter (is_member_task set) tasks_too ≡ filter (is_member_task set) tasks)
-    (all : (t : Task ℕ) → Among t tasks_too → is_member_task set t ≡ true) (step : Filesystem ℕ → Filesystem ℕ) where
-  abbrev part : World ℕ
-  part = part_of nat_eq world names
+module _ {world : World ℕ} {names set : List TaskName} {name : TaskName} {call : Call}
+    (it : IsCallOfTheirs world names name call) (left : Retasks world names set) (step : Filesystem ℕ → Filesystem ℕ)
+  where
+    abbrev part : World ℕ
+    part = part_of nat_eq world names
 
-  abbrev pub now : World ℕ
-  now = record world { tasks = tasks }
+    abbrev pub now : World ℕ
+    now = record world { tasks = left.tasks }
 
-  abbrev pub now_part : World ℕ
-  now_part = record part { tasks = tasks_too }
+    abbrev pub now_part : World ℕ
+    now_part = record part { tasks = left.tasks_too }
 
-  abbrev pub used_now : List ℕ
-  used_now = used_filesystems nat_eq now set
+    abbrev pub used_now : List ℕ
+    used_now = used_filesystems nat_eq now set
 
-  abbrev lowers_now : List (Layer ℕ)
-  lowers_now = own_lowers nat_eq now set
+    abbrev lowers_now : List (Layer ℕ)
+    lowers_now = own_lowers nat_eq now set
 
-  abbrev pub living : World ℕ
-  living = without_dead_mounts nat_eq now
+    abbrev pub living : World ℕ
+    living = without_dead_mounts nat_eq now
 
-  abbrev pub living_part : World ℕ
-  living_part = without_dead_mounts nat_eq now_part
+    abbrev pub living_part : World ℕ
+    living_part = without_dead_mounts nat_eq now_part
 
-  module _ (theirs : ChangesTheirs living set used_now step)
-      (theirs_there : ChangesTheirs living_part set used_now step)
-    where
-      ready : Ready (without_dead_mounts nat_eq (with_filesystems now step)) set used_now lowers_now
-      ready = stepped_ready living set used_now lowers_now
-          (world_ready world names it.is it.sealed_off set tasks world.change lets) step theirs
+    module _ (theirs : ChangesTheirs living set used_now step)
+        (theirs_there : ChangesTheirs living_part set used_now step)
+      where
+        ready : Ready (without_dead_mounts nat_eq (with_filesystems now step)) set used_now lowers_now
+        ready = stepped_ready living set used_now lowers_now
+            (world_ready world names left.is left.sealed_off set left.tasks world.change left.lets) step theirs
 
-      ready_there : Ready (without_dead_mounts nat_eq (with_filesystems now_part step)) set used_now lowers_now
-      ready_there = stepped_ready living_part set used_now lowers_now
-          (part_ready world names it.is it.sealed_off set tasks tasks_too world.change part.change lets same all) step
-          theirs_there
+        ready_there : Ready (without_dead_mounts nat_eq (with_filesystems now_part step)) set used_now lowers_now
+        ready_there = stepped_ready living_part set used_now lowers_now (part_ready left world.change part.change) step
+            theirs_there
 
-      used_there : used_filesystems nat_eq now_part set ≡ used_now
-      used_there = less_used world names it.is set now now_part
-          (now_less world names it.is set tasks tasks_too world.change part.change
-          (sees_less world names it.is it.sealed_off set tasks world.change lets) same)
+        used_there : used_filesystems nat_eq now_part set ≡ used_now
+        used_there = less_used world names left.is set now now_part
+            (now_less world names left.is set left.tasks left.tasks_too world.change part.change
+            (sees_less world names left.is left.sealed_off set left.tasks world.change left.lets) left.same)
 
-      parts_stepped : part_of nat_eq (with_filesystems now step) set
-          ≡ part_of nat_eq (with_filesystems now_part step) set
-      parts_stepped = part_with_layers now set step theirs.numbered theirs.changing theirs.lowering theirs.kept
-          ∙ ap (λ w. with_filesystems w step)
-          (sym (part_of_less world names it.is set tasks tasks_too world.change part.change
-          (sees_less world names it.is it.sealed_off set tasks world.change lets) same))
-          ∙ sym (part_with_layers now_part set step theirs_there.numbered theirs_there.changing theirs_there.lowering
-          (λ x e. theirs_there.kept x (ap (is_among nat_eq x.number) (sym used_there) ∙ e)))
+        parts_stepped : part_of nat_eq (with_filesystems now step) set
+            ≡ part_of nat_eq (with_filesystems now_part step) set
+        parts_stepped = part_with_layers now set step theirs.numbered theirs.changing theirs.lowering theirs.kept
+            ∙ ap (λ w. with_filesystems w step) (sym (part_of_less world names left.is set left.tasks left.tasks_too
+            world.change part.change (sees_less world names left.is left.sealed_off set left.tasks world.change
+            left.lets) left.same)) ∙ sym (part_with_layers now_part set step theirs_there.numbered theirs_there.changing
+            theirs_there.lowering (λ x e. theirs_there.kept x (ap (is_among nat_eq x.number) (sym used_there) ∙ e)))
 
-      swept_parts : part_of nat_eq (settled nat_eq (with_filesystems now step)) set
-          ≡ part_of nat_eq (settled nat_eq (with_filesystems now_part step)) set
-      swept_parts = part_of_settled (with_filesystems now step) set used_now lowers_now ready
-          ∙ ap (swept_of set) parts_stepped
-          ∙ sym (part_of_settled (with_filesystems now_part step) set used_now lowers_now ready_there)
+        swept_parts : part_of nat_eq (settled nat_eq (with_filesystems now step)) set
+            ≡ part_of nat_eq (settled nat_eq (with_filesystems now_part step)) set
+        swept_parts = part_of_settled (with_filesystems now step) set used_now lowers_now ready
+            ∙ ap (swept_of set) parts_stepped ∙ sym (part_of_settled (with_filesystems now_part step) set used_now
+            lowers_now ready_there)
 
-      -- So a call by which they change ends alike.
-      module _ (numbers : List ℕ) (used : (n : ℕ) → Among n numbers → is_among nat_eq n used_now ≡ true) where
-        abbrev ends_here : World ℕ
-        ends_here = numbers_raised nat_eq world name numbers (settled nat_eq (with_filesystems now step))
+        -- So a call by which they change ends alike.
+        module _ (numbers : List ℕ) (used : (n : ℕ) → Among n numbers → is_among nat_eq n used_now ≡ true) where
+          abbrev ends_here : World ℕ
+          ends_here = numbers_raised nat_eq world name numbers (settled nat_eq (with_filesystems now step))
 
-        abbrev ends_there : World ℕ
-        ends_there = numbers_raised nat_eq part name numbers (settled nat_eq (with_filesystems now_part step))
+          abbrev ends_there : World ℕ
+          ends_there = numbers_raised nat_eq part name numbers (settled nat_eq (with_filesystems now_part step))
 
-        parts_left : part_of nat_eq ends_here set ≡ part_of nat_eq ends_there set
-        parts_left =
-            part_of_raised world (all_in_use world it.is) (private_in_world world it.is) set tasks step name numbers
-            used_now lowers_now ready used
-            ∙ (λ i. record (with_filesystems (swept_parts i) (raised_if_changed nat_eq numbers)) {
-              tasks = (raised_members set name tasks ∙ ap (map (raised_task name)) (sym same)
-                  ∙ sym (raised_members set name tasks_too)) i;
-            }) ∙ sym (part_of_raised part (part_in_use world names it.is it.sealed_off)
-            (private_in_part world names it.is) set tasks_too step name numbers used_now lowers_now ready_there used)
+          parts_left : part_of nat_eq ends_here set ≡ part_of nat_eq ends_there set
+          parts_left =
+              part_of_raised world (all_in_use world left.is) (private_in_world world left.is) set left.tasks step name
+              numbers used_now lowers_now ready used
+              ∙ (λ i. record (with_filesystems (swept_parts i) (raised_if_changed nat_eq numbers)) {
+                tasks = (raised_members set name left.tasks ∙ ap (map (raised_task name)) (sym left.same)
+                    ∙ sym (raised_members set name left.tasks_too)) i;
+              }) ∙ sym (part_of_raised part (part_in_use world names left.is left.sealed_off)
+              (private_in_part world names left.is) set left.tasks_too step name numbers used_now lowers_now ready_there
+              used)
 
-        pub stepped_ends : (task : Task ℕ) → task_called world name ≡ Some task → (fresh other : Fresh ℕ)
-            (answer : Answer)
-            → grown names name call (Ok answer) ≡ set → ran name call world fresh (Some task) ≡ granted answer ends_here
-            → ran name call part other (Some task) ≡ granted answer ends_there
-            → EndsAlike world names name call fresh other
-        stepped_ends task called fresh other answer stays one two =
-            grind (arith, common_steps, ran, same_caller, parts_left)
+          pub stepped_ends : (task : Task ℕ) → task_called world name ≡ Some task → (fresh other : Fresh ℕ)
+              (answer : Answer)
+              → grown names name call (Ok answer) ≡ set → ran name call world fresh (Some task) ≡ granted answer
+              ends_here → ran name call part other (Some task) ≡ granted answer ends_there
+              → EndsAlike world names name call fresh other
+          stepped_ends task called fresh other answer stays one two =
+              grind (arith, common_steps, ran, same_caller, parts_left)
