@@ -29,30 +29,42 @@ pub(crate) struct Indexes {
 }
 
 impl Indexes {
-    /// The indexes of a graft.
-    pub(crate) fn new(alloc: Global, graft: &Graft) -> Result<Self, AllocError>
-        ensures { IfOk result (λ indexes. IsIndexed indexes graft.now) }
+    /// No indexes. It does not allocate.
+    pub(crate) fn empty(alloc: Global) -> Self {
+        Indexes {
+            parts: HashMap::new(alloc),
+            tree: HashMap::new(alloc),
+            groups: HashMap::new(alloc),
+        }
+    }
+
+    /// Notes the indexes of a graft.
+    pub(crate) fn note(&mut self, alloc: Global, graft: &Graft) -> Result<(), AllocError>
+        ensures { OnOk result (IsIndexed self.new graft.now) }
     {
-        Ok(Indexes {
-            parts: places(alloc, graft.parts)?,
-            tree: places(alloc, graft.tree)?,
-            groups: group_places(alloc, graft.parts)?,
-        })
+        note_places(&mut self.parts, alloc, graft.parts)?;
+        note_places(&mut self.tree, alloc, graft.tree)?;
+        note_group_places(&mut self.groups, alloc, graft.parts)
     }
 }
 
-// The index of each of these mounts, if there are more than a few; of those with one number, the first.
-fn places(alloc: Global, mounts: &[Mount]) -> Result<HashMap<MountId, usize>, AllocError>
-    ensures { IfOk result (λ places. FEW < length mounts.now → (id : MountId)
-        → get same_id places id ≡ place_of (map mount_of mounts.now) (mount_number id)) }
+// Notes the index of each of these mounts, if there are more than a few; of those with one number, the first.
+fn note_places(
+    places: &mut HashMap<MountId, usize>,
+    alloc: Global,
+    mounts: &[Mount],
+) -> Result<(), AllocError>
+    ensures { OnOk result (FEW < length mounts.now → (id : MountId)
+        → get same_id places.new id ≡ place_of (map mount_of mounts.now) (mount_number id)) }
 {
     if mounts.len() <= FEW {
-        return Ok(HashMap::new(alloc));
+        return Ok(());
     }
-    all_places(alloc, mounts)
+    *places = all_places(alloc, mounts)?;
+    Ok(())
 }
 
-// The same with all indexes.
+// The index of each of these mounts; of those with one number, the first.
 fn all_places(alloc: Global, mounts: &[Mount]) -> Result<HashMap<MountId, usize>, AllocError>
     ensures { IfOk result (λ places. (id : MountId)
         → get same_id places id ≡ place_of (map mount_of mounts.now) (mount_number id)) }
@@ -64,18 +76,23 @@ fn all_places(alloc: Global, mounts: &[Mount]) -> Result<HashMap<MountId, usize>
     Ok(places)
 }
 
-// The index of the first of these mounts in each group, if there are more than a few.
-fn group_places(alloc: Global, parts: &[Mount]) -> Result<HashMap<GroupId, usize>, AllocError>
-    ensures { IfOk result (λ places. FEW < length parts.now → (group : GroupId)
-        → get same_group places group ≡ place_of_group (map mount_of parts.now) (group_number group)) }
+// Notes the index of the first of these mounts in each group, if there are more than a few.
+fn note_group_places(
+    places: &mut HashMap<GroupId, usize>,
+    alloc: Global,
+    parts: &[Mount],
+) -> Result<(), AllocError>
+    ensures { OnOk result (FEW < length parts.now → (group : GroupId)
+        → get same_group places.new group ≡ place_of_group (map mount_of parts.now) (group_number group)) }
 {
     if parts.len() <= FEW {
-        return Ok(HashMap::new(alloc));
+        return Ok(());
     }
-    all_group_places(alloc, parts)
+    *places = all_group_places(alloc, parts)?;
+    Ok(())
 }
 
-// The same with all indexes.
+// The index of the first of these mounts in each group.
 fn all_group_places(alloc: Global, parts: &[Mount]) -> Result<HashMap<GroupId, usize>, AllocError>
     ensures { IfOk result (λ places. (group : GroupId)
         → get same_group places group ≡ place_of_group (map mount_of parts.now) (group_number group)) }
