@@ -1,5 +1,5 @@
 -- Where the mounts and the groups of an attachment stand.
-use Rattle.std.specs.Prelude.{List, Option, length, map, nat_eq, ℕ, ◌<◌, ◌≡◌}
+use Rattle.std.specs.Prelude.{IfSome, List, Option, map, nat_eq, ℕ, ◌≡◌}
 use Rattle.std.specs.HashMap.{get}
 use Rattle.vt_spec.specs.Lists.{index_from}
 use Rattle.vt_spec.specs.Machine.Mounts.{Mount}
@@ -11,7 +11,6 @@ use Rattle.vt_location.specs.Numbers.{counted}
 use Rattle.vt_mount.specs.Listed.{same_id}
 use Rattle.vt_propagate.specs.declared.copying.Graft.{Graft}
 use Rattle.vt_propagate.specs.declared.indexes.Indexes.{Indexes}
-use Rattle.vt_propagate.specs.declared.indexes.TheConstants.{FEW}
 use Rattle.vt_group.specs.Sets.{same_group}
 
 -- where the first mount with a number stands, and the first in a group
@@ -21,11 +20,11 @@ place_of mounts number = index_from (λ mount. nat_eq number mount.number) 0 mou
 abbrev pub place_of_group : List (Mount ℕ) → ℕ → Option ℕ
 place_of_group mounts group = index_from (is_member_of nat_eq group) 0 mounts
 
--- these are the indexes of a graft, where it has more than a few
+-- these are the indexes of a graft, where any are noted
 pub record IsIndexed (indexes : Indexes) (graft : Graft) : Type 0 where
-  pub parts : FEW < length graft.parts.now → (id : MountId)
-      → get same_id indexes.parts id ≡ place_of (map mount_of graft.parts.now) (counted id.count)
-  pub tree : FEW < length graft.tree.now → (id : MountId)
-      → get same_id indexes.tree id ≡ place_of (map mount_of graft.tree.now) (counted id.count)
-  pub groups : FEW < length graft.parts.now → (group : GroupId)
-      → get same_group indexes.groups group ≡ place_of_group (map mount_of graft.parts.now) (counted group.count)
+  pub parts : IfSome indexes.parts (λ places. (id : MountId)
+      → get same_id places id ≡ place_of (map mount_of graft.parts.now) (counted id.count))
+  pub tree : IfSome indexes.tree (λ places. (id : MountId)
+      → get same_id places id ≡ place_of (map mount_of graft.tree.now) (counted id.count))
+  pub groups : IfSome indexes.groups (λ places. (group : GroupId)
+      → get same_group places group ≡ place_of_group (map mount_of graft.parts.now) (counted group.count))

@@ -50,7 +50,7 @@ pub fn attachment(
     ensures once { IfOk result (λ plan. OneNumberAMount (map mount_of graft.now.parts.now)
         → MovesOnce (mounts_in mounts.now) (map point_of plan.points.items)) }
 {
-    let mut indexes = Indexes::empty(alloc);
+    let mut indexes = Indexes::empty();
     indexes.note(alloc, graft)?;
     let copies = copies(alloc, mounts, groups, graft, counts, &indexes)?;
     let new = new_groups(alloc, mounts, groups, graft, counts, &indexes)?;

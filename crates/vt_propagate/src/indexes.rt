@@ -1,5 +1,5 @@
 //! Where the mounts and the groups of an attachment stand.
-ghost use Rattle.std.specs.Prelude.{◌≡◌, ◌<◌, IfOk, None, OnOk, Some, if◌then◌else◌, length, map, option_map};
+ghost use Rattle.std.specs.Prelude.{◌≡◌, IfOk, IfSome, None, OnOk, Some, if◌then◌else◌, map, option_map};
 ghost use Rattle.std.specs.HashMap.{get};
 ghost use Rattle.vt_spec.specs.Lists.{or_else};
 ghost use Rattle.vt_spec.specs.Machine.Mounts.{group_of};
@@ -7,6 +7,7 @@ ghost use Rattle.vt_location.specs.declared.numbers.GroupId.{GroupId};
 ghost use Rattle.vt_location.specs.declared.numbers.MountId.{MountId};
 ghost use Rattle.vt_location.specs.MountValue.{mount_of, propagation_of};
 ghost use Rattle.vt_location.specs.Numbers.{mount_number, group_number};
+ghost use Rattle.vt_propagate.specs.declared.copying.Graft.{Graft};
 ghost use Rattle.vt_mount.specs.Listed.{same_id};
 ghost use Rattle.vt_propagate.specs.Indexes.{IsIndexed, place_of, place_of_group};
 ghost use Rattle.vt_group.specs.Sets.{same_group};
@@ -16,30 +17,33 @@ use std::alloc::{AllocError, Global};
 use std::collections::HashMap;
 use vt_location::{GroupId, Mount, MountId, Propagation};
 
-/// So many mounts are searched from their front, and get no map.
-pub(crate) const FEW: usize = 8;
+// So many mounts are searched from their front, and get no map.
+const FEW: usize = 8;
 
 /// The index of each part and of each mount of a tree by their numbers, and that of the first part in each group, where
 /// there are more than a few.
 #[derive(Debug, Drop)]
 pub(crate) struct Indexes {
-    pub(crate) parts: HashMap<MountId, usize>,
-    pub(crate) tree: HashMap<MountId, usize>,
-    pub(crate) groups: HashMap<GroupId, usize>,
+    pub(crate) parts: Option<HashMap<MountId, usize>>,
+    pub(crate) tree: Option<HashMap<MountId, usize>>,
+    pub(crate) groups: Option<HashMap<GroupId, usize>>,
 }
 
 impl Indexes {
-    /// No indexes. It does not allocate.
-    pub(crate) fn empty(alloc: Global) -> Self {
+    /// No indexes.
+    pub(crate) fn empty() -> Self
+        ensures { (graft : Graft) → IsIndexed result graft }
+    {
         Indexes {
-            parts: HashMap::new(alloc),
-            tree: HashMap::new(alloc),
-            groups: HashMap::new(alloc),
+            parts: None,
+            tree: None,
+            groups: None,
         }
     }
 
     /// Notes the indexes of a graft.
     pub(crate) fn note(&mut self, alloc: Global, graft: &Graft) -> Result<(), AllocError>
+        requires { IsIndexed self.old graft.now }
         ensures { OnOk result (IsIndexed self.new graft.now) }
     {
         note_places(&mut self.parts, alloc, graft.parts)?;
@@ -49,18 +53,22 @@ impl Indexes {
 }
 
 // Notes the index of each of these mounts, if there are more than a few; of those with one number, the first.
+#[inline]
 fn note_places(
-    places: &mut HashMap<MountId, usize>,
+    places: &mut Option<HashMap<MountId, usize>>,
     alloc: Global,
     mounts: &[Mount],
 ) -> Result<(), AllocError>
-    ensures { OnOk result (FEW < length mounts.now → (id : MountId)
-        → get same_id places.new id ≡ place_of (map mount_of mounts.now) (mount_number id)) }
+    requires { IfSome places.old (λ places. (id : MountId)
+        → get same_id places id ≡ place_of (map mount_of mounts.now) (mount_number id)) }
+    ensures { OnOk result (IfSome places.new (λ places. (id : MountId)
+        → get same_id places id ≡ place_of (map mount_of mounts.now) (mount_number id))) }
 {
     if mounts.len() <= FEW {
         return Ok(());
     }
-    *places = all_places(alloc, mounts)?;
+    let all = all_places(alloc, mounts)?;
+    *places = Some(all);
     Ok(())
 }
 
@@ -77,18 +85,22 @@ fn all_places(alloc: Global, mounts: &[Mount]) -> Result<HashMap<MountId, usize>
 }
 
 // Notes the index of the first of these mounts in each group, if there are more than a few.
+#[inline]
 fn note_group_places(
-    places: &mut HashMap<GroupId, usize>,
+    places: &mut Option<HashMap<GroupId, usize>>,
     alloc: Global,
     parts: &[Mount],
 ) -> Result<(), AllocError>
-    ensures { OnOk result (FEW < length parts.now → (group : GroupId)
-        → get same_group places.new group ≡ place_of_group (map mount_of parts.now) (group_number group)) }
+    requires { IfSome places.old (λ places. (group : GroupId)
+        → get same_group places group ≡ place_of_group (map mount_of parts.now) (group_number group)) }
+    ensures { OnOk result (IfSome places.new (λ places. (group : GroupId)
+        → get same_group places group ≡ place_of_group (map mount_of parts.now) (group_number group))) }
 {
     if parts.len() <= FEW {
         return Ok(());
     }
-    *places = all_group_places(alloc, parts)?;
+    let all = all_group_places(alloc, parts)?;
+    *places = Some(all);
     Ok(())
 }
 

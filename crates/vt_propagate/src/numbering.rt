@@ -1,18 +1,20 @@
 //! Numbers of copies and of new groups.
-ghost use Rattle.std.specs.Prelude.{◌≡◌, ◌<◌, ◌+◌, ◌*◌, length, map, nat_eq};
+ghost use Rattle.std.specs.Prelude.{◌≡◌, ◌<◌, ◌+◌, ◌*◌, IfSome, length, map, nat_eq};
 ghost use Rattle.std.specs.HashMap.{get};
 ghost use Rattle.vt_spec.specs.Machine.Attach.{copy_number as copy_number_of, index_of_group as index_of_group_in};
 ghost use Rattle.vt_spec.specs.Lists.{holds_of};
 ghost use Rattle.vt_spec.specs.Machine.Mounts.{group_of, index_of as index_of_in};
+ghost use Rattle.vt_location.specs.declared.numbers.GroupId.{GroupId};
 ghost use Rattle.vt_location.specs.declared.numbers.MountId.{MountId};
 ghost use Rattle.vt_location.specs.MountValue.{mount_of, propagation_of};
 ghost use Rattle.vt_location.specs.Numbers.{group_number, mount_number};
+ghost use Rattle.vt_group.specs.Sets.{same_group};
 ghost use Rattle.vt_mount.specs.Listed.{same_id};
 ghost use Rattle.vt_propagate.specs.Indexes.{place_of, place_of_group};
 ghost use Rattle.vt_propagate.specs.Copying.{IsReady, graft_seen, parts_seen, supply, tree_seen};
 
 use crate::copying::{Counts, Graft};
-use crate::indexes::{FEW, Indexes};
+use crate::indexes::Indexes;
 use std::collections::HashMap;
 use vt_location::{GroupId, Mount, MountId, Propagation};
 
@@ -97,23 +99,41 @@ impl<'a> Copying<'a> {
         requires { IsReady self.now }
         ensures { result ≡ place_of_group (parts_seen self.now) (group_number group) }
     {
-        if self.graft.parts.len() <= FEW {
-            return first_in(self.graft.parts, group);
-        }
-        self.indexes.groups.get(&group).copied()
+        group_place_in(self.graft.parts, &self.indexes.groups, group)
     }
 }
 
-// The index of the first of these mounts with this number. If there are more than a few, these are their places.
-fn place_in(mounts: &[Mount], places: &HashMap<MountId, usize>, id: MountId) -> Option<usize>
-    requires { FEW < length mounts.now → (one : MountId)
-        → get same_id places.now one ≡ place_of (map mount_of mounts.now) (mount_number one) }
+// The index of the first of these mounts with this number. These are their places, if they were noted.
+fn place_in(
+    mounts: &[Mount],
+    places: &Option<HashMap<MountId, usize>>,
+    id: MountId,
+) -> Option<usize>
+    requires { IfSome places.now (λ places. (one : MountId)
+        → get same_id places one ≡ place_of (map mount_of mounts.now) (mount_number one)) }
     ensures { result ≡ place_of (map mount_of mounts.now) (mount_number id) }
 {
-    if mounts.len() <= FEW {
-        return mounts.iter().position(|mount| mount.number == id);
+    match places {
+        Some(places) => places.get(&id).copied(),
+        None => mounts.iter().position(|mount| mount.number == id),
     }
-    places.get(&id).copied()
+}
+
+// The index of the first of these mounts that is a member of this group. These are the places of groups, if they were
+// noted.
+fn group_place_in(
+    parts: &[Mount],
+    places: &Option<HashMap<GroupId, usize>>,
+    group: GroupId,
+) -> Option<usize>
+    requires { IfSome places.now (λ places. (one : GroupId)
+        → get same_group places one ≡ place_of_group (map mount_of parts.now) (group_number one)) }
+    ensures { result ≡ place_of_group (map mount_of parts.now) (group_number group) }
+{
+    match places {
+        Some(places) => places.get(&group).copied(),
+        None => first_in(parts, group),
+    }
 }
 
 // The index of the first of these mounts that is a member of this group.

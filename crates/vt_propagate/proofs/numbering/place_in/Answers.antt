@@ -8,8 +8,8 @@ use Rattle.vt_propagate.proofs.Indexing.{turned_count}
 use Rattle.vt_propagate.proofs.Places.{place_at}
 use Rattle.vt_propagate.proofs.numbering.place_in.Goals as goal
 
-pub returns-then-mounts-le-FEW : goal.returns-then-mounts-le-FEW
-returns-then-mounts-le-FEW c =
+pub returns-in-None : goal.returns-in-None
+returns-in-None c =
     position_from_yields_List (λ (mount : Mount). nat_eq mount.number.count c.args.id.count) _ _ _ c.position.ensures.ran
     (YieldsList-from_slice c.args.mounts.now cc) (λ x b q k. search rules)
     ∙ position_from-zero (λ (mount : Mount). nat_eq mount.number.count c.args.id.count) c.args.mounts.now
