@@ -81,6 +81,7 @@ pub fn place_walk<'a, L: Look>(
 }
 
 // Whether a name is missing in a removed directory, which takes no new name.
+#[inline(always)]
 fn takes_no_name<L: Look>(world: &L, place: &Place) -> bool
     ensures { result ≡ (not (is_some (place_of place.now).object)
         && (L.looks world.now).is_removed (place_of place.now).parent) }

@@ -3,6 +3,7 @@ ghost use Rattle.std.specs.Prelude.{◌≡◌, ℕ, nat_eq, false, true, option_
 ghost use Rattle.vt_spec.specs.Errors.{and_then, unless};
 ghost use Rattle.vt_spec.specs.FileTree.{symlink_text};
 ghost use Rattle.vt_spec.specs.Machine.Looks.{is_directory_at, mount_at};
+ghost use Rattle.vt_spec.specs.Machine.Walking.LastWord.{DotDot};
 ghost use Rattle.vt_spec.specs.Machine.Walking.{follow_rules, is_lost, object_named, search_rules, slash_rules, stepped};
 ghost use Rattle.vt_spec.specs.PathText.{words};
 ghost use Rattle.vt_spec.specs.Tree.{entries_in, entry_named};
@@ -87,6 +88,23 @@ fn entry_there<'a, L: Look>(
     Some((location, entry.object))
 }
 
+// As `step_up`. It is inlined, so that room for what that returns is made only where a walk goes up.
+#[inline(always)]
+fn stepped_up<'a, L: Look>(
+    world: &L,
+    who: &Task,
+    start: Location,
+    is_found: bool,
+) -> Result<Step<'a>, Deny>
+    requires { is_found ≡ true → is_lost nat_eq (L.looks world.now) (location_of start) ≡ false }
+    ensures value { step_result result
+        ≡ stepped nat_eq (L.looks world.now) (task_of who.now) (location_of start) DotDot }
+    ensures found { IfOk result (λ step. IsFound (L.looks world.now) step.location step.is_found) }
+    ensures lent { IfOk result (λ step. IsLent (L.real world.now) step.location (option_copied step.lent)) }
+{
+    step_up(world, who, start, is_found)
+}
+
 // Where a word leads from a directory: a name through the mounts over the entry. W6: a missing name. W8: `..` of a lost
 // directory.
 #[inline(always)]
@@ -109,7 +127,7 @@ fn stepped<'a, L: Look>(
 {
     match word {
         LastWord::NoWord | LastWord::Dot => Ok(from),
-        LastWord::DotDot => step_up(world, who, from.location, from.is_found),
+        LastWord::DotDot => stepped_up(world, who, from.location, from.is_found),
         LastWord::Named(name) => match entry_there(world, from.location, directory, name) {
             Some((entry, object)) => {
                 if ground.is_bare {
@@ -140,7 +158,7 @@ pub(crate) fn object_named<L: Look>(
 {
     match last {
         LastWord::NoWord | LastWord::Dot => Ok(Some(here)),
-        LastWord::DotDot => Ok(Some(step_up(world, who, here, false)?.location)),
+        LastWord::DotDot => Ok(Some(stepped_up(world, who, here, false)?.location)),
         LastWord::Named(name) => match entry_there(world, here, directory, name) {
             Some((entry, _object)) => Ok(Some(entry)),
             None => Ok(None),
