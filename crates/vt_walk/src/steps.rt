@@ -145,6 +145,7 @@ fn stepped<'a, L: Look>(
 }
 
 // What a last word names in a directory, with no mount entered. W8: `..` of a lost directory.
+#[inline(always)]
 pub(crate) fn object_named<L: Look>(
     world: &L,
     who: &Task,
