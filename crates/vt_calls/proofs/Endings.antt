@@ -7,7 +7,6 @@ use Rattle.vt_permits.specs.Allocating.{TakesMemory}
 use Rattle.vt_permits.specs.Memory.{JudgesAlike, JudgesByReceivers}
 use Rattle.vt_permits.specs.GrantValue.{permit_of}
 use Rattle.vt_permits.specs.declared.grant.Grant.{Grant}
-use Rattle.vt_permits.specs.declared.grant.Grant.TheVariants as granting
 use Rattle.vt_request.specs.Answers.{answer_of}
 use Rattle.vt_request.specs.declared.answer.Answer.{Answer}
 use Rattle.vt_request.specs.declared.answer.Answer.TheVariants.{Done}
@@ -16,11 +15,13 @@ use Rattle.vt_laws_trees.specs.Runs.Handed.{counts_from}
 use Rattle.vt_mounting.specs.Detach.Events.{Becomes, Permits, left_by, supply_of}
 use Rattle.vt_world.specs.Held.{IsHeld}
 use Rattle.vt_world.specs.WorldValue.{WorldValue, world_of}
-use Rattle.vt_ns.specs.OverlayMounts.{PermitsOverlay}
+use Rattle.vt_ns.specs.Grants.{Grants}
+use Rattle.vt_ns.proofs.Granting.{counts}
 use Rattle.vt_calls.proofs.Finishing.{answers, grants, leaves, refuses}
 use Rattle.vt_calls.proofs.Forms.{frees, is_free}
 use Rattle.vt_calls.proofs.NumbersLeft.{numbers_left}
-use Rattle.vt_calls.proofs.Supplies.{AreVacant, allotted, counts, given_any, judged_with, permits}
+use Rattle.vt_calls.proofs.OverlayGrants.{mounts_layers}
+use Rattle.vt_calls.proofs.Supplies.{AreVacant, allotted, grants_permit, judged_with, permits}
 use Rattle.vt_calls.specs.Answered.{answered}
 use Rattle.vt_answers.specs.Ends.{MayBeRefusedMemory}
 use Rattle.vt_calls.specs.Meets.{Ends, Meets}
@@ -145,21 +146,6 @@ module _ (old : WorldValue) (name : TaskName) (call : Call) (grant : Grant)
       (frees (looks_of nat_eq (world_of old))
       (overfills nat_eq fresh (world_of old) given.task) given.task call granted given.judged taken))
 
--- what is permitted with a grant: to mount an overlay, or by a call that mounts none
-abbrev pub PermittedFor : Grant → WorldValue → TaskName → Permit ℕ → Type 0
-PermittedFor (granting.Overlay new) old name meant = PermitsOverlay old name new
-PermittedFor grant old name meant = Permits old name meant
-
-permits_for : (old : WorldValue) (name : TaskName) (call : Call) (grant : Grant)
-    (given : IsGivenFor old name call grant) → AreVacant old (permit_of given.task grant)
-    → PermittedFor grant old name (permit_of given.task grant)
-permits_for old name call (granting.Overlay new) given vacant = record {
-  task = given.task;
-  called = given.called;
-  given = given_any old name call (granting.Overlay new) given vacant;
-}
-permits_for old name call grant given vacant = permits old name call grant given refl vacant
-
 -- The grant, and the permit that the definitions see in it
 
 module _ (old : WorldValue) (name : TaskName) (grant : Grant) (meant : Permit ℕ)
@@ -167,11 +153,17 @@ module _ (old : WorldValue) (name : TaskName) (grant : Grant) (meant : Permit �
   granted_is : (call : Call) (given : IsGivenFor old name call grant) → permit_of given.task grant ≡ meant
   granted_is call given = seen given.task given.called
 
-  pub permitted : AreVacant old meant → IsGiven old name grant → PermittedFor grant old name meant
-  permitted vacant given =
+  -- it is granted where it mounts no overlay,
+  pub grants_meant : mounts_layers grant ≡ false → IsGiven old name grant → Grants old name meant
+  grants_meant plain given = subst (Grants old name) (granted_is given.0 given.1)
+      (grants_permit old name given.0 grant given.1 plain)
+
+  -- and permitted
+  pub permitted : mounts_layers grant ≡ false → AreVacant old meant → IsGiven old name grant → Permits old name meant
+  permitted plain vacant given =
       let same = granted_is given.0 given.1 in
-      subst (PermittedFor grant old name) same
-      (permits_for old name given.0 grant given.1 (subst (AreVacant old) (sym same) vacant))
+      subst (Permits old name) same
+      (permits old name given.0 grant given.1 plain (subst (AreVacant old) (sym same) vacant))
 
   pub made : (new : WorldValue) (answer : Answer) → AreVacant old meant
       → ((task : Task ℕ) → task_called (world_of old) name ≡ Some task
@@ -198,16 +190,25 @@ module _ (old : WorldValue) (name : TaskName) (grant : Grant) (meant : Permit �
       (sym (ap (settled nat_eq) (kept task) ∙ given.held.in_world.nothing_unused))
       (sameness_is_an_equivalence.itself (world_of old))) call given
 
-  -- it is a change that answers `ok`
+  -- it is a change that answers `ok`, and makes what nothing has the number of,
+  pub changed_new : (new : WorldValue) (change : Result ⊤ AllocError) (result : Result Answer Deny) → result ≡ answered change
+      → OnOk change (AreVacant old meant) → ((task : Task ℕ) → task_called (world_of old) name ≡ Some task
+      → (apply nat_eq (supply_of old meant) (world_of old) task meant).answer ≡ Ok (answer_of Done))
+      → is_free meant ≡ false → OnOk change (Becomes old name meant new)
+      → OnErr change (new ≡ old) → EndsGiven old name grant result new
+  changed_new new (Ok done) result e vacant told taken becomes same =
+      subst (λ r. EndsGiven old name grant r new) (sym e) (made new Done vacant told becomes)
+  changed_new new (Err refused) result e vacant told taken becomes same =
+      subst (λ r. EndsGiven old name grant r new) (sym e) (short new (denial S5) refl same taken)
+
+  -- or makes nothing of a number
   pub changed : (new : WorldValue) (change : Result ⊤ AllocError) (result : Result Answer Deny) → result ≡ answered change
       → AreVacant old meant → ((task : Task ℕ) → task_called (world_of old) name ≡ Some task
       → (apply nat_eq (supply_of old meant) (world_of old) task meant).answer ≡ Ok (answer_of Done))
       → is_free meant ≡ false → OnOk change (Becomes old name meant new)
       → OnErr change (new ≡ old) → EndsGiven old name grant result new
-  changed new (Ok done) result e vacant told taken becomes same =
-      subst (λ r. EndsGiven old name grant r new) (sym e) (made new Done vacant told becomes)
-  changed new (Err refused) result e vacant told taken becomes same =
-      subst (λ r. EndsGiven old name grant r new) (sym e) (short new (denial S5) refl same taken)
+  changed new (Ok done) result e vacant = changed_new new (Ok done) result e vacant
+  changed new (Err refused) result e vacant = changed_new new (Err refused) result e tt
 
   -- or one that allocates in some cases alone
   pub changed_if : (new : WorldValue) (change : Result ⊤ AllocError) (result : Result Answer Deny) → result ≡ answered change

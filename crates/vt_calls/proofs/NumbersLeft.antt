@@ -11,7 +11,8 @@ use Rattle.vt_world.specs.Held.{IsHeld}
 use Rattle.vt_world.specs.WorldValue.{WorldValue, world_of}
 use Rattle.vt_answers.specs.Ends.{HasNumbers}
 use Rattle.vt_answers.proofs.SpareNumbers.{numbers_kept}
-use Rattle.vt_calls.proofs.Supplies.{AreVacant, counts}
+use Rattle.vt_ns.proofs.Granting.{counts}
+use Rattle.vt_calls.proofs.Supplies.{AreVacant}
 
 -- counts may be given, and even numbers
 pub counts_given : (next : ℕ) → IsSuppliedFrom may_be_given (counts_from next)

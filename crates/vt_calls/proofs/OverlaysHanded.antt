@@ -1,15 +1,19 @@
 -- What the mount of an overlay is handed serves, and may be given: counts, and even numbers for its inodes.
-use Rattle.std.proofs.Common.{◌≡◌, ap, ℕ, ◌==◌, ◌%◌, ◌≤◌, Bool, true, false, cond, not, List, [], ◌∷◌, length, arith, eqb-true, ne_eqb}
-use Rattle.vt_spec.proofs.Common.{Location, MountFlags, Overlay, ToMountOverlay, and_parts, inode_count, list_all}
+use Rattle.std.proofs.Common.{◌≡◌, ap, ℕ, ◌==◌, ◌%◌, Bool, true, false, cond, not, List, [], ◌∷◌, arith, eqb-true, ne_eqb}
+use Rattle.vt_spec.proofs.Common.{TaskName, and_parts, inode_count, list_all}
 use Rattle.vt_laws_worlds.specs.Given.NumbersHanded.{Placed, handed_at}
-use Rattle.vt_world.specs.OverlaysMade.Made.{IsNew, placed_inodes}
-use Rattle.vt_world.proofs.overlays_made.Serves.{births_apart, supplies_for_overlays_serve}
+use Rattle.vt_world.specs.OverlaysMade.Made.{placed_inodes}
+use Rattle.vt_world.proofs.overlays_made.Serves.{births_apart}
 use Rattle.vt_laws_rules.specs.Numbers.{IsSuppliedFrom}
 use Rattle.vt_laws_trees.specs.Runs.Handed.{may_be_given}
-use Rattle.vt_overlay.specs.MergedTree.{AreLayers}
+use Rattle.vt_permits.specs.GrantValue.{overlay_of, overlay_permit}
+use Rattle.vt_permits.specs.declared.grant.ToMountOverlay.{ToMountOverlay}
 use Rattle.vt_mounting.specs.Detach.Events.{overlay_kept}
 use Rattle.vt_world.specs.Held.{IsHeld}
 use Rattle.vt_world.specs.WorldValue.{WorldValue, world_of}
+use Rattle.vt_ns.specs.Grants.{GrantsOverlay}
+use Rattle.vt_ns.specs.Vacancy.{NextFilesystemIsNew}
+use Rattle.vt_ns.proofs.Granting.{layers_granted, overlay_allotted}
 use Rattle.vt_calls.proofs.NumbersLeft.{counts_given}
 use Rattle.vt_calls.proofs.Supplies.{AreVacant}
 
@@ -29,15 +33,15 @@ placed_given next (placed ∷ rest) even k = by (k == placed.0) (placed_given ne
         ap not (ne_eqb (placed.1 % 4) 3 (λ e. absurd (omega (arith, half, e))))
     by false later = later
 
--- The supply of a permit to mount an overlay of layers that are kept serves, where nothing has the numbers of its inodes.
-pub overlay_is_vacant : (value : WorldValue) → IsHeld value → (place : Location ℕ) (overlay : Overlay ℕ)
-    (flags : MountFlags) → AreLayers value.filesystems (overlay_kept value.next overlay).lowers
-    → length (overlay_kept value.next overlay).lowers ≤ 128 → IsNew (world_of value) (record { count = value.next })
-    → AreVacant value (ToMountOverlay place overlay flags)
-overlay_is_vacant value held place overlay flags are few new =
+-- The supply of a permit to mount an overlay serves, where nothing has the numbers of its inodes.
+pub overlay_is_vacant : (value : WorldValue) → IsHeld value → (name : TaskName) (new : ToMountOverlay)
+    (granted : GrantsOverlay value name new) → NextFilesystemIsNew value
+    → AreVacant value (overlay_permit granted.task new)
+overlay_is_vacant value held name new granted is_new =
     let most = inode_count (world_of value) in
-    let kept = overlay_kept value.next overlay in (
-      supplies_for_overlays_serve most value.filesystems kept (world_of value) held.in_world are few new,
+    let kept = overlay_kept value.next (overlay_of granted.task new) in
+    let layers = layers_granted value held name new granted in (
+      overlay_allotted value held name new granted is_new,
       placed_given value.next (placed_inodes most value.filesystems kept)
-          (births_apart most value.filesystems kept are few).0,
+          (births_apart most value.filesystems kept layers.0 layers.1).0,
     )

@@ -22,10 +22,7 @@ pub(crate) fn change_descriptors(
         DescriptorGrant::Open { file, access } => {
             Ok(Answer::Opened(world.open(name, file, access)?))
         }
-        DescriptorGrant::OpenNew(new) => {
-            world.next_inode_is_vacant(new.directory);
-            Ok(Answer::Opened(world.open_new(name, new)?))
-        }
+        DescriptorGrant::OpenNew(new) => Ok(Answer::Opened(world.open_new(name, new)?)),
         DescriptorGrant::Close { descriptor } => {
             world.close(name, descriptor);
             Ok(Answer::Done)

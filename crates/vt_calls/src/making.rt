@@ -15,10 +15,7 @@ pub(crate) fn make(world: &mut World, name: &TaskName, grant: MakeGrant) -> Resu
     ensures { EndsGiven world.old name.now (Make grant) result world.new }
 {
     match grant {
-        MakeGrant::Node(new) => {
-            world.next_inode_is_vacant(new.directory);
-            done(world.make(name, new))
-        }
+        MakeGrant::Node(new) => done(world.make(name, new)),
         MakeGrant::Link(new) => done(world.link(name, new)),
     }
 }

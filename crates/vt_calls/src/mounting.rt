@@ -40,7 +40,6 @@ fn attach(world: &mut World, name: &TaskName, attachment: Attachment) -> Result<
 {
     match attachment {
         Attachment::Plain { destination, flags } => {
-            world.next_root_is_vacant();
             done(world.mount_plain(name, destination, flags))
         }
         Attachment::Bind(bind) => done(world.bind(name, bind)),
@@ -58,6 +57,5 @@ pub(crate) fn mount_overlay(
     requires { IsGiven world.old name.now (Overlay new) }
     ensures { EndsGiven world.old name.now (Overlay new) result world.new }
 {
-    world.next_filesystem_is_new();
     done(world.mount_overlay(name, new))
 }

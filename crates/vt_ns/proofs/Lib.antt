@@ -1,4 +1,5 @@
 mod Common
+pub mod Granting
 pub mod LayersInUse
 pub mod MountLooks
 pub mod Overfilling

@@ -15,6 +15,7 @@ pub mod ForkedTasks
 pub mod ListedWorlds
 pub mod MountsOn
 pub mod MovedEvents
+pub mod OpeningGranted
 pub mod OpeningNew
 pub mod OverlayEvents
 pub mod OverlaysMounted
@@ -26,6 +27,7 @@ pub mod PointsMoved
 pub mod ReadableFiles
 pub mod RemainingTasks
 pub mod RenamedOver
+pub mod SlotsFilled
 pub mod StoresKept
 pub mod TypesDone
 pub mod UnmountedEverywhere

@@ -4,6 +4,7 @@ pub mod Mounters
 pub mod Told
 pub mod Entering
 pub mod Opening
+pub mod Grants
 pub mod OverlayMounts
 pub mod Vacancy
 pub mod LyingUnder

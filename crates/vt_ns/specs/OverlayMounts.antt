@@ -3,20 +3,13 @@ use Rattle.std.specs.Prelude.{Some, true, ℕ, ◌≡◌}
 use Rattle.vt_spec.specs.Language.Calls.{TaskName}
 use Rattle.vt_spec.specs.Machine.SameWorlds.{SameWorlds}
 use Rattle.vt_spec.specs.Machine.World.{Task, task_called}
-use Rattle.vt_laws_worlds.specs.Given.LeftWorlds.{IsGivenToTask}
 use Rattle.vt_location.specs.Locations.{number_of}
 use Rattle.vt_location.specs.Numbers.{is_own_number}
 use Rattle.vt_permits.specs.GrantValue.{overlay_permit}
 use Rattle.vt_permits.specs.declared.grant.LowerLayer.{LowerLayer}
 use Rattle.vt_permits.specs.declared.grant.ToMountOverlay.{ToMountOverlay}
-use Rattle.vt_mounting.specs.Detach.Events.{left_by, supply_of}
+use Rattle.vt_mounting.specs.Detach.Events.{left_by}
 use Rattle.vt_world.specs.WorldValue.{WorldValue, world_of}
-
--- the task of this name is given the permit of a call that mounts this overlay
-pub record PermitsOverlay (value : WorldValue) (name : TaskName) (new : ToMountOverlay) : Type 0 where
-  pub task : Task ℕ
-  pub called : task_called (world_of value) name ≡ Some task
-  pub given : IsGivenToTask (supply_of value (overlay_permit task new)) (world_of value) task (overlay_permit task new)
 
 -- the world becomes the one that the permit leaves
 abbrev pub MountsOverlay : WorldValue → TaskName → ToMountOverlay → WorldValue → Type 0

@@ -8,6 +8,8 @@ ghost use Rattle.vt_location.specs.Locations.{location_of, number_of};
 ghost use Rattle.vt_spec.specs.Language.Changes.Change.{SetAttr, SetBytes, SetMark};
 ghost use Rattle.vt_spec.specs.Machine.Permits.Permit.{ToChange};
 ghost use Rattle.vt_mounting.specs.Detach.Events.{Becomes, Permits};
+ghost use Rattle.vt_ns.specs.Grants.{Grants};
+ghost use Rattle.vt_ns.specs.Vacancy.{NextInodeIsVacant};
 
 use crate::world::World;
 use std::alloc::AllocError;
@@ -93,11 +95,12 @@ impl World {
     /// Makes an inode under a name of a directory: mkdir(2), symlink(2), mknod(2).
     #[inline(always)]
     pub fn make(&mut self, name: &TaskName, new: ToMake) -> Result<(), AllocError>
-        requires { Permits self.old name.now (make_permit (Node new)) }
+        requires { Grants self.old name.now (make_permit (Node new)) }
+        ensures vacant { OnOk result (NextInodeIsVacant self.old (location_of new.directory)) }
         ensures ok { OnOk result (Becomes self.old name.now (make_permit (Node new)) self.new) }
         ensures err { OnErr result (self.new ≡ self.old) }
     {
-        let node = new.node.into_node(self.alloc);
+        let node = new.node.into_node(self.mounts.alloc());
         self.store
             .plain_mut()
             .create(new.directory.node, new.name, node)?;

@@ -26,7 +26,6 @@ mod tasks;
 mod trees;
 mod unmounting;
 mod unsharing;
-mod vacancy;
 mod world;
 
 pub use world::World;

@@ -11,10 +11,12 @@ ghost use Rattle.vt_spec.specs.Machine.Attach.{parts_of};
 ghost use Rattle.vt_spec.specs.Machine.Permits.Permit.{ToMountPlain};
 ghost use Rattle.vt_spec.specs.Machine.NewMounts.{new_mount};
 ghost use Rattle.vt_spec.specs.Machine.World as meant;
-ghost use Rattle.vt_mounting.specs.Detach.Events.{Becomes, Permits};
+ghost use Rattle.vt_mounting.specs.Detach.Events.{Becomes};
 ghost use Rattle.vt_mounting.specs.Detach.Stored.{OverlaysStay, kept};
 ghost use Rattle.vt_world.specs.WorldValue.{world_of};
 ghost use Rattle.vt_mounting.specs.Attach.Grafted.{IsGrafted, MayGraft};
+ghost use Rattle.vt_ns.specs.Grants.{Grants};
+ghost use Rattle.vt_ns.specs.Vacancy.{NextRootIsVacant};
 
 use crate::grafting::numbers_taken;
 use crate::world::World;
@@ -43,7 +45,8 @@ impl World {
         place: Location,
         flags: MountFlags,
     ) -> Result<(), AllocError>
-        requires { Permits self.old name.now (ToMountPlain (location_of place) (flags_of flags)) }
+        requires { Grants self.old name.now (ToMountPlain (location_of place) (flags_of flags)) }
+        ensures vacant { OnOk result (NextRootIsVacant self.old) }
         ensures ok { OnOk result (Becomes self.old name.now
             (ToMountPlain (location_of place) (flags_of flags)) self.new) }
         ensures counts { OnOk result (self.new.next

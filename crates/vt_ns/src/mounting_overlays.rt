@@ -9,7 +9,9 @@ ghost use Rattle.vt_permits.specs.GrantValue.{layer_of};
 ghost use Rattle.vt_spec.specs.Machine.Attach.{parts_of};
 ghost use Rattle.vt_spec.specs.Machine.NewMounts.{new_mount};
 ghost use Rattle.vt_world.specs.WorldValue.{world_of};
-ghost use Rattle.vt_ns.specs.OverlayMounts.{IsPlainLayer, MountsOverlay, PermitsOverlay};
+ghost use Rattle.vt_ns.specs.Grants.{GrantsOverlay};
+ghost use Rattle.vt_ns.specs.OverlayMounts.{IsPlainLayer, MountsOverlay};
+ghost use Rattle.vt_ns.specs.Vacancy.{NextFilesystemIsNew};
 
 use crate::grafting::numbers_taken;
 use crate::world::World;
@@ -29,7 +31,8 @@ impl World {
     /// It fails too where no number is left, or an inode or a filesystem would have more than 2^64 - 1 uses. Each mount
     /// that it makes takes as many numbers as a tree of two mounts: those of the filesystem and its root lie between.
     pub fn mount_overlay(&mut self, name: &TaskName, new: ToMountOverlay) -> Result<(), AllocError>
-        requires { PermitsOverlay self.old name.now new }
+        requires { GrantsOverlay self.old name.now new }
+        ensures vacant { OnOk result (NextFilesystemIsNew self.old) }
         ensures ok { OnOk result (MountsOverlay self.old name.now new self.new) }
         ensures counts { OnOk result (self.new.next
             ≡ self.old.next + 4 * length (parts_of nat_eq (world_of self.old) (location_of new.destination))) }

@@ -1,7 +1,7 @@
 //! The event that makes a file and opens it: open(2) with O_CREAT.
 ghost use Rattle.std.specs.Prelude.{◌<◌, ◌≡◌, IfOk, None, OnErr, OnOk, Some, option_map, true};
 ghost use Rattle.vt_fs.specs.FilesystemsValue.{files_at};
-ghost use Rattle.vt_location.specs.Locations.{number_of};
+ghost use Rattle.vt_location.specs.Locations.{location_of, number_of};
 ghost use Rattle.vt_location.specs.Numbers.{counted, mount_number};
 ghost use Rattle.vt_mount.specs.MountsValue.{uses_of, writers_of};
 ghost use Rattle.vt_permits.specs.GrantValue.{descriptor_permit};
@@ -11,9 +11,11 @@ ghost use Rattle.vt_spec.specs.Machine.Descriptors.{free_number};
 ghost use Rattle.vt_spec.specs.Machine.World.{task_called};
 ghost use Rattle.vt_spec.specs.TreeInvariant.{IsDirectory, entry_at as number_at};
 ghost use Rattle.vt_tasks.specs.TasksValue.{MayOpenMore, called, changed_called, with_open};
-ghost use Rattle.vt_mounting.specs.Detach.Events.{Becomes, Permits};
+ghost use Rattle.vt_mounting.specs.Detach.Events.{Becomes};
 ghost use Rattle.vt_world.specs.WorldValue.{world_of};
+ghost use Rattle.vt_ns.specs.Grants.{Grants};
 ghost use Rattle.vt_ns.specs.Opening.{MakesNext};
+ghost use Rattle.vt_ns.specs.Vacancy.{NextInodeIsVacant};
 
 use crate::world::World;
 use std::alloc::AllocError;
@@ -31,7 +33,8 @@ impl World {
     ///
     /// It fails too where the mount has 2^64 - 1 uses.
     pub fn open_new(&mut self, name: &TaskName, new: ToOpenNew) -> Result<u8, AllocError>
-        requires { Permits self.old name.now (descriptor_permit (OpenNew new)) }
+        requires { Grants self.old name.now (descriptor_permit (OpenNew new)) }
+        ensures vacant { OnOk result (NextInodeIsVacant self.old (location_of new.directory)) }
         ensures number { IfOk result (λ number.
             Some number ≡ option_map free_number (task_called (world_of self.old) name.now)) }
         ensures ok { OnOk result (Becomes self.old name.now (descriptor_permit (OpenNew new)) self.new) }
@@ -43,7 +46,7 @@ impl World {
             return Err(AllocError);
         }
         let access = new.access;
-        let made = new.node.into_node(self.alloc);
+        let made = new.node.into_node(self.mounts.alloc());
         let opened = OpenFile {
             location: Location { mount, node: file },
             access,

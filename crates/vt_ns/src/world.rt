@@ -50,3 +50,11 @@ impl Model for World {
       next = w.next;
     }) };
 }
+
+impl World {
+    /// The allocator of all that it has.
+    #[inline(always)]
+    pub fn alloc(&self) -> Global {
+        self.alloc
+    }
+}

@@ -1,9 +1,9 @@
 -- The event that makes an inode: mkdir(2), symlink(2), mknod(2).
-use Rattle.std.proofs.Common.{◌≡◌, refl, sym, ap, subst, ◌∙◌, ⊎_elim, inl, inr, true≢false, ℕ, ◌<◌, ◌/◌, ◌&&◌, Bool, true, false, nat_eq, List, [], ◌∷◌, map, Some, option_map, unwrap_or, arith}
-use Rattle.vt_spec.proofs.Common.{Change, Content, Directory, Entries, Fits, Inodes, IsNewIn, Make, Node, Permit, Regular, Symlink, TaskName, ToMake, Whiteout, is_directory, kind_of, mount_at, odds, renamed_entry, renamed_node, tree_of, with_change}
+use Rattle.std.proofs.Common.{◌≡◌, refl, sym, ap, subst, ◌∙◌, ⊎_elim, inl, inr, true≢false, ℕ, ◌<◌, ◌%◌, ◌/◌, ◌==◌, ◌&&◌, Bool, true, false, nat_eq, List, [], ◌∷◌, map, None, Some, option_map, unwrap_or, arith}
+use Rattle.vt_spec.proofs.Common.{Change, Content, Directory, Entries, Fits, Inodes, IsNewIn, Make, Node, Permit, Regular, Symlink, TaskName, ToMake, Whiteout, is_directory, kind_of, list_all, mount_at, odds, renamed_entry, renamed_node, tree_of, with_change}
 use Rattle.vt_spec.specs.Machine.Mounts as meant
 use Rattle.vt_spec.specs.Inodes.{changed}
-use Rattle.vt_ns.proofs.Common.{ChangesInodes, FilesystemEntry, Filesystems, IsFilesEvent, IsHeld, IsLocated, IsPlainAt, IsSmall, Permits, WorldValue, changed_is_plain, counted, entry_of, files_are_changed, given_changes_fit, given_permits_are_seen_to, here_number, inode_number, inodes_at, inodes_seen, is_counted_before, is_own_number, located, located_filesystem, located_inodes, location_of, next_inode, next_seen, no_entry, node_seen, nodes_named, number_of, permit_fits, supply_of, with_filesystems, world_of}
+use Rattle.vt_ns.proofs.Common.{ChangesInodes, FilesystemEntry, Filesystems, IsFilesEvent, IsHeld, IsLocated, IsPlainAt, IsSmall, Permits, WorldValue, counted, counts_from, entry_of, files_are_changed, given_changes_fit, given_permits_are_seen_to, here_number, inode_number, inodes_at, inodes_seen, is_counted_before, is_own_number, is_small_node, located, located_filesystem, located_inodes, location_of, mounts_in, next_inode, next_seen, no_entry, node_seen, nodes_named, number_of, supply_of, with_filesystems, world_of}
 use Rattle.vt_fs.specs.FilesystemsValue.{entry_at}
 use Rattle.vt_laws_rules.specs.Numbers.{content_named}
 use Rattle.vt_location.specs.declared.births.Birth.TheVariants.{Here}
@@ -12,7 +12,17 @@ use Rattle.vt_location.specs.declared.locations.NodeRef.{NodeRef}
 use Rattle.vt_location.specs.Numbers.{exchanged}
 use Rattle.vt_location.proofs.NumberLemmas.{exchanged_same, exchanged_slot}
 use Rattle.vt_permits.specs.GrantValue.{node_in, number_beside}
+use Rattle.vt_laws_worlds.proofs.overlays_read.Changes.{plain_ones_are_changed}
+use Rattle.vt_laws_worlds.proofs.worlds.FitPermitsNamed.{all_permits_fit}
+use Rattle.vt_laws_worlds.specs.Permits.Left.{IsGiven}
 use Rattle.vt_laws_worlds.specs.Permits.Sees.{MayBeMade}
+use Rattle.vt_laws_worlds.specs.Worlds.Permits.{IsFitPermit}
+use Rattle.vt_mount.specs.Sources.{has_counted_source}
+use Rattle.vt_ns.specs.Grants.{Grants}
+use Rattle.vt_ns.specs.Vacancy.{IsVacant, NextInodeIsVacant}
+use Rattle.vt_ns.proofs.Granting.{counts, given_with, handed, permitted}
+use Rattle.vt_ns.proofs.world.SlotsFilled.{made_was_nowhere}
+use Rattle.vt_ns.proofs.world.VacantNumbers.{is_vacant}
 
 -- what is made in a directory of a tree has its slots
 pub made_in_tree : (directory : Location) → directory.node.birth ≡ Here → (node : Node ℕ)
@@ -71,95 +81,120 @@ next_of_entry value at entry count shows found is =
 
 module _ (value : WorldValue) (held : IsHeld value) (name : TaskName) (directory : Location) (entry : List ℕ)
     (node : Node ℕ) (small : IsSmall directory)
-    (asked : Permits value name (ToMake (location_of directory) entry (node_in directory node))) where
+    (granted : Grants value name (ToMake (location_of directory) entry (node_in directory node))) where
+  abbrev count : ℕ
+  count = directory.node.filesystem.count
+
+  abbrev asked : Permit ℕ
+  asked = ToMake (location_of directory) entry (node_in directory node)
+
+  abbrev permit : Permit ℕ
+  permit = ToMake (location_of directory) entry (node_seen count node)
+
+  -- What is granted does not go by the numbers that are handed in, so counts serve here.
+  given_asked : IsGiven (counts_from value.next) (world_of value) granted.task asked
+  given_asked = given_with value name asked granted (counts_from value.next) (counts value held)
+
   -- what is made is made in no overlay
   directory_plain : IsPlainAt value directory
   directory_plain =
-      changed_is_plain value held name (ToMake (location_of directory) entry (node_in directory node)) asked
-      (location_of directory) _ refl
+      plain_ones_are_changed (world_of value) (counts_from value.next) granted.task asked (location_of directory) _
+      held.overlays.read_only held.overlays.writers given_asked refl
 
-  here : directory.node.birth ≡ Here
-  here =
-      let fits = permit_fits value held name (ToMake (location_of directory) entry (node_in directory node)) asked in
-      (located value held directory small directory_plain fits.names.reached.there).born_here
-
-  permits : Permits value name (ToMake (location_of directory) entry (node_seen directory.node.filesystem.count node))
-  permits = subst (λ n. Permits value name (ToMake (location_of directory) entry n))
-      (made_in_tree directory here node) asked
-
-  abbrev permit : Permit ℕ
-  permit = ToMake (location_of directory) entry (node_seen directory.node.filesystem.count node)
+  asked_fits : IsFitPermit (counts_from value.next) (world_of value) granted.task asked
+  asked_fits = all_permits_fit (world_of value) (counts_from value.next) granted.task given_asked.call asked
+      held.in_world given_asked.serves given_asked.called given_asked.no_overlay given_asked.judged
 
   -- the directory stands where the world has it
   directory_seen : IsLocated value directory
-  directory_seen =
-      located value held directory small directory_plain (permit_fits value held name permit permits).names.reached.there
+  directory_seen = located value held directory small directory_plain asked_fits.names.reached.there
 
-  sees : MayBeMade (world_of value) (location_of directory) entry (node_seen directory.node.filesystem.count node)
-  sees = given_permits_are_seen_to (world_of value) (supply_of value permit) permits.task permit held.in_world
-      permits.given
+  given : IsGiven (counts_from value.next) (world_of value) granted.task permit
+  given = subst (λ n. IsGiven (counts_from value.next) (world_of value) granted.task
+      (ToMake (location_of directory) entry n)) (made_in_tree directory directory_seen.born_here node) given_asked
+
+  sees : MayBeMade (world_of value) (location_of directory) entry (node_seen count node)
+  sees = given_permits_are_seen_to (world_of value) (counts_from value.next) granted.task permit held.in_world given
 
   -- it is new in its directory
   pub new_in_directory : IsNewIn directory.node.slot node
-  new_in_directory = new_in_slot directory.node.filesystem.count directory.node.slot small node
-      (subst (λ number. IsNewIn number (node_seen directory.node.filesystem.count node))
-      (here_number directory.node here) sees.fits)
+  new_in_directory = new_in_slot count directory.node.slot small node
+      (subst (λ number. IsNewIn number (node_seen count node)) (here_number directory.node directory_seen.born_here)
+      sees.fits)
 
   abbrev change : ℕ → Change ℕ
-  change number = Make (number_of directory.node) entry number (node_seen directory.node.filesystem.count node)
+  change number = Make (number_of directory.node) entry number (node_seen count node)
 
-  fits_next : (inodes : Inodes ℕ) → inodes ≡ inodes_seen directory_seen.entry
-      → Fits inodes (change (next_inode value (location_of directory)))
-  fits_next inodes same =
-      given_changes_fit (world_of value) (supply_of value permit) permits.task permit (location_of directory)
-      (change (next_inode value (location_of directory))) inodes held.in_world permits.given refl
+  fits_in : (inodes : Inodes ℕ) → inodes ≡ inodes_seen directory_seen.entry
+      → Fits inodes (change (counts_from value.next 0))
+  fits_in inodes same =
+      given_changes_fit (world_of value) (counts_from value.next) granted.task permit (location_of directory)
+      (change (counts_from value.next 0)) inodes held.in_world given refl
       (ap tree_of same ∙ ap (λ filesystem. filesystem.files.tree)
       (sym (located_filesystem value held directory directory_seen)))
 
   -- the parent is a directory, and the name is free
-  pub make_fits : Fits (inodes_at value.filesystems directory.node.filesystem.count)
-      (change (next_inode value (location_of directory)))
-  make_fits = fits_next (inodes_at value.filesystems directory.node.filesystem.count)
-      (located_inodes value directory directory_seen)
+  pub make_fits : Fits (inodes_at value.filesystems count) (change (counts_from value.next 0))
+  make_fits = fits_in (inodes_at value.filesystems count) (located_inodes value directory directory_seen)
 
   -- an inode is made under its name
-  pub make_is_done : (filesystems : Filesystems) (made : NodeRef)
-      → is_own_number made.filesystem.count (number_of made) ≡ true → made.filesystem ≡ directory.node.filesystem
-      → number_of made ≡ next_seen (entry_at value.filesystems directory.node.filesystem.count)
-      → ChangesInodes directory.node.filesystem.count
-      (λ inodes. changed nat_eq inodes (change (number_of made))) value.filesystems filesystems
-      → IsFilesEvent value name (ToMake (location_of directory) entry (node_in directory node))
-      (with_filesystems value filesystems)
-  make_is_done filesystems made own_made inside number changes =
-      subst (λ n. IsFilesEvent value name (ToMake (location_of directory) entry n)
-      (with_filesystems value filesystems)) (sym (made_in_tree directory here node))
-      (files_are_changed value name permit (location_of directory) (change (number_of made)) filesystems held permits
-      (record {
-        named = λ i. directory_seen.named i && new_is_named (is_counted_before value.next) (number_of directory.node)
-            (node_seen directory.node.filesystem.count node) (nodes_named value.next directory.node) sees.fits i;
-        rest = odds (supply_of value permit);
-        applied = ap (λ n. with_change nat_eq (odds (supply_of value permit)) (world_of value) (location_of directory)
-            (change n)) next_is;
-        named_supply = λ k. number_of made;
-        are_named = λ k. nodes_named value.next made;
-        named_rest = λ k. number_of made;
-        applied_named = refl;
-      }) (record {
-        entry = directory_seen.entry;
-        among = directory_seen.among;
-        found = directory_seen.found;
-        shows = directory_seen.shows;
-        fits = subst (λ n. Fits (inodes_seen directory_seen.entry) (change n)) next_is
-            (fits_next (inodes_seen directory_seen.entry) refl);
-        links = tt;
-        changes = subst (λ count. ChangesInodes count
-            (λ inodes. changed nat_eq inodes (change (number_of made))) value.filesystems filesystems)
-            (sym directory_seen.count_is) changes;
-        own = λ n other same. true≢false (sym (ap (λ count. is_own_number count (number_of made))
-            (directory_seen.count_is ∙ ap (λ filesystem. filesystem.count) (sym inside)) ∙ own_made)
-            ∙ ap (is_own_number directory_seen.entry.count) (sym same) ∙ other);
-      }))
-    where
-      next_is : next_inode value (location_of directory) ≡ number_of made
-      next_is = next_of_entry value (location_of directory) directory_seen.entry directory.node.filesystem.count
-          directory_seen.shows directory_seen.found directory_seen.count_is ∙ sym number
+  module _ (odd : list_all (λ mount. mount.number % 4 == 1) (mounts_in value.mounts) ≡ true)
+      (sources : list_all has_counted_source (mounts_in value.mounts) ≡ true)
+      (filesystems : Filesystems) (made : NodeRef) (small_made : is_small_node made ≡ true)
+      (own_made : is_own_number made.filesystem.count (number_of made) ≡ true)
+      (here : made.birth ≡ Here) (inside : made.filesystem ≡ directory.node.filesystem)
+      (number : number_of made ≡ next_seen (entry_at value.filesystems count)) (changes : ChangesInodes count
+      (λ inodes. changed nat_eq inodes (change (number_of made))) value.filesystems filesystems) where
+    next_is : next_inode value (location_of directory) ≡ number_of made
+    next_is = next_of_entry value (location_of directory) directory_seen.entry count directory_seen.shows
+        directory_seen.found directory_seen.count_is ∙ sym number
+
+    -- which nothing had
+    was_nowhere : (inodes_seen directory_seen.entry).inode (number_of made) ≡ None
+    was_nowhere = made_was_nowhere value.filesystems filesystems count (number_of directory.node) entry (number_of made)
+        (node_seen count node) changes directory_seen.entry
+        (ap (entry_of value.filesystems) (sym directory_seen.count_is) ∙ directory_seen.found)
+
+    pub make_vacant : NextInodeIsVacant value (location_of directory)
+    make_vacant = subst (IsVacant value) (sym next_is)
+        (is_vacant value held odd sources directory_seen.entry directory_seen.among made small_made here
+        (ap (λ filesystem. filesystem.count) inside ∙ sym directory_seen.count_is) was_nowhere)
+
+    -- so it is permitted, and done
+    pub make_permitted : Permits value name asked
+    make_permitted = permitted value name asked granted
+        (handed value held 0 (next_inode value (location_of directory)) make_vacant)
+
+    permits : Permits value name permit
+    permits = subst (λ n. Permits value name (ToMake (location_of directory) entry n))
+        (made_in_tree directory directory_seen.born_here node) make_permitted
+
+    pub make_is_done : IsFilesEvent value name asked (with_filesystems value filesystems)
+    make_is_done = subst (λ n. IsFilesEvent value name (ToMake (location_of directory) entry n)
+        (with_filesystems value filesystems)) (sym (made_in_tree directory directory_seen.born_here node))
+        (files_are_changed value name permit (location_of directory) (change (number_of made)) filesystems held permits
+        (record {
+          named = λ i. directory_seen.named i
+              && new_is_named (is_counted_before value.next) (number_of directory.node) (node_seen count node)
+              (nodes_named value.next directory.node) sees.fits i;
+          rest = odds (supply_of value permit);
+          applied = ap (λ n. with_change nat_eq (odds (supply_of value permit)) (world_of value) (location_of directory)
+              (change n)) next_is;
+          named_supply = λ k. number_of made;
+          are_named = λ k. nodes_named value.next made;
+          named_rest = λ k. number_of made;
+          applied_named = refl;
+        }) (record {
+          entry = directory_seen.entry;
+          among = directory_seen.among;
+          found = directory_seen.found;
+          shows = directory_seen.shows;
+          fits = let fit = fits_in (inodes_seen directory_seen.entry) refl in (fit.0, fit.1, was_nowhere, fit.3);
+          links = tt;
+          changes = subst (λ n. ChangesInodes n (λ inodes.
+              changed nat_eq inodes (change (number_of made))) value.filesystems filesystems)
+              (sym directory_seen.count_is) changes;
+          own = λ n other same. true≢false (sym (ap (λ k. is_own_number k (number_of made))
+              (directory_seen.count_is ∙ ap (λ filesystem. filesystem.count) (sym inside)) ∙ own_made)
+              ∙ ap (is_own_number directory_seen.entry.count) (sym same) ∙ other);
+        }))

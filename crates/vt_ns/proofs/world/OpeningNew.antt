@@ -1,11 +1,11 @@
 -- A new file is made in a directory, and opened: open(2) with O_CREAT.
-use Rattle.std.proofs.Common.{◌≡◌, refl, sym, ap, subst, ◌∙◌, inl, inr, true≢false, ℕ, ◌&&◌, true, cond, nat_eq, eq-eqb, List, [], ◌∷◌, map, Option, Some, is_some, option_map, unwrap_or, leb-false}
-use Rattle.vt_spec.proofs.Common.{Change, Descriptor, Fits, Fresh, Inodes, IsNewIn, IsWorld, Make, Node, OverlayInvariants, Permit, SameWorlds, Task, TaskName, ToMake, ToOpenNew, World, all_locations, among_from_list_all, apply, free_number, is_located_well, is_within_limits, list_all, locations_of, node_with_entry, odds, opens_for_reading, opens_for_writing, replaced_if_called, same_Some, settled, tree_of, uses_in, with_change, with_changed, with_descriptor, with_task, without_dead_mounts}
+use Rattle.std.proofs.Common.{◌≡◌, refl, sym, ap, subst, ◌∙◌, inl, inr, true≢false, ℕ, ◌&&◌, true, cond, nat_eq, eq-eqb, List, [], ◌∷◌, map, Some, unwrap_or, leb-false}
+use Rattle.vt_spec.proofs.Common.{Change, Descriptor, Fits, Fresh, Inodes, IsNewIn, IsWorld, Make, Node, OverlayInvariants, Permit, SameWorlds, Task, TaskName, ToMake, ToOpenNew, World, all_locations, among_from_list_all, apply, free_number, is_located_well, is_within_limits, list_all, locations_of, node_with_entry, odds, opens_for_reading, opens_for_writing, replaced_if_called, settled, tree_of, uses_in, with_change, with_changed, with_descriptor, with_task, without_dead_mounts}
 use Rattle.vt_spec.specs.Language.Calls as spoken
 use Rattle.vt_spec.specs.Inodes.{changed}
 use Rattle.vt_laws_mounts.proofs.counts.changing.Changes.{only_files_change_beside_overlays}
 use Rattle.vt_laws_mounts.proofs.counts.changing.KeptAll.{names_keep_all_beside_overlays}
-use Rattle.vt_ns.proofs.Common.{Among, ChangesFiles, ChangesInodes, Filesystems, Has, IsDone, IsHeld, IsLocated, IsPlainAt, IsSmall, IsSwept, IsUnderWay, Merged, MountEntry, Moves, Permits, Tasks, WorldValue, after, among-append_right, among-map, called, changed_called, changed_is_plain, counted, entry_of, given_changes_fit, given_permits_are_seen_to, given_permits_are_under_way_without_upper, here_number, inode_at, inodes_at, inodes_seen, is_counted_before, is_own_number, is_small_node, is_some_mapped, kept_of, kept_with, located, located_filesystem, located_inodes, location_of, next_inode, next_seen, no_entry, node_seen, nodes_named, number_of, permit_fits, permit_named, remade, replaced, replaced_split, sameness_is_an_equivalence, seen_where_located, supply_of, with_filesystems, with_location, with_use, world_of}
+use Rattle.vt_ns.proofs.Common.{Among, ChangesFiles, ChangesInodes, Filesystems, Has, IsDone, IsHeld, IsLocated, IsPlainAt, IsSmall, IsSwept, IsUnderWay, Merged, MountEntry, Moves, Permits, Tasks, WorldValue, after, among-append_right, among-map, called, changed_called, changed_is_plain, counted, entry_of, given_changes_fit, given_permits_are_seen_to, given_permits_are_under_way_without_upper, here_number, inode_at, inodes_at, inodes_seen, is_counted_before, is_own_number, is_small_node, kept_of, kept_with, located, located_filesystem, located_inodes, location_of, next_inode, next_seen, no_entry, node_seen, nodes_named, number_of, permit_fits, permit_named, remade, replaced, replaced_split, sameness_is_an_equivalence, seen_where_located, supply_of, with_filesystems, with_location, with_use, world_of}
 use Rattle.vt_fs.specs.FilesystemsValue.{entry_at}
 use Rattle.vt_laws_mounts.proofs.letting_go.Lists.{among-flat_map}
 use Rattle.vt_location.specs.declared.births.Birth.TheVariants.{Here}
@@ -116,26 +116,6 @@ module _ (value : WorldValue) (held : IsHeld value) (name : TaskName) (directory
   -- the parent is a directory, and the name is free
   pub make_fits : Fits (inodes_at value.filesystems count) (change next_number)
   make_fits = fits_next (inodes_at value.filesystems count) (located_inodes value directory directory_seen)
-
-  -- the filesystem is there, and has a number for one more inode
-  has_filesystem : entry_of value.filesystems count ≡ Some directory_seen.entry
-  has_filesystem = ap (entry_of value.filesystems) (sym directory_seen.count_is) ∙ directory_seen.found
-
-  -- a slot is free for it
-  pub has_next : (next : Option NodeRef)
-      → option_map number_of next ≡ option_map next_seen (entry_of value.filesystems count) → is_some next ≡ true
-  has_next next is = sym (is_some_mapped number_of next) ∙ ap is_some is
-      ∙ ap (λ o. is_some (option_map next_seen o)) has_filesystem
-
-  -- and it gets the number of that slot
-  pub next_is_numbered : (next : Option NodeRef) (file : NodeRef)
-      → option_map number_of next ≡ option_map next_seen (entry_of value.filesystems count)
-      → next ≡ Some file → number_of file ≡ next_seen (entry_at value.filesystems count)
-  next_is_numbered next file is some =
-      let same : Some (number_of file) ≡ Some (next_seen directory_seen.entry) =
-      ap (option_map number_of) (sym some) ∙ is ∙ ap (option_map next_seen) has_filesystem in
-      same_Some (number_of file) (next_seen directory_seen.entry) same
-      ∙ ap (λ o. next_seen (unwrap_or o (no_entry count))) (sym has_filesystem)
 
   named : permit_named (is_counted_before value.next) making ≡ true
   named = λ i. directory_seen.named i

@@ -1,8 +1,9 @@
 -- The event that mounts an overlay: what its permit names, and what is kept of it.
-use Rattle.std.proofs.Common.{◌≡◌, ◌<◌, ◌∙◌, refl, sym, ap, subst, true, true≢false, not, nat_lt, lt-ltb, ◌&&◌, ◌/◌, List, [], ◌∷◌, length, map, Some, arith, All, nat_le, slice_get}
-use Rattle.vt_spec.proofs.Common.{Credentials, TaskName, and_parts, is_empty_list, length-map, list_all, map_twice, most_lowers}
+use Rattle.std.proofs.Common.{◌≡◌, ◌<◌, ◌∙◌, refl, sym, ap, subst, ℕ, true, true≢false, not, nat_lt, lt-ltb, ◌&&◌, ◌/◌, List, [], ◌∷◌, length, map, Some, arith, All, nat_le, slice_get}
+use Rattle.vt_spec.proofs.Common.{Credentials, Task, TaskName, and_parts, is_empty_list, length-map, list_all, map_twice, most_lowers, task_called}
 use Rattle.vt_ns.proofs.Common.{Among, IsHeld, OverlayValue, StoreValue, WorldValue, all_from_among, among-map, counted, flags_of, here_number, inode_number, is_own_number, layer_kept, layer_of, location_of, number_of, overlay_of_store, overlay_seen, overlays_of_store, supply_of, with_store, world_of}
 use Rattle.vt_laws_mounts.proofs.letting_go.Lists.{list_all_from_among}
+use Rattle.vt_laws_worlds.specs.Given.LeftWorlds.{IsGivenToTask}
 use Rattle.vt_laws_worlds.specs.OverlaysGranted.Granted.{MayBeMounted}
 use Rattle.vt_laws_worlds.proofs.overlays_granted.Mounts.{given_overlays_may_be_mounted}
 use Rattle.vt_location.specs.Numbers.{exchanged}
@@ -21,8 +22,14 @@ use Rattle.vt_mounting.proofs.detach.FilesSeen.{IsSeenIn}
 use Rattle.vt_mounting.proofs.detach.OverlayGranted.{kept_layers, layer_in}
 use Rattle.vt_mounting.proofs.detach.PlainFound.{overlay_among}
 use Rattle.vt_mounting.proofs.attach.NewFilesystems.{number_below}
-use Rattle.vt_ns.specs.OverlayMounts.{IsPlainLayer, PermitsOverlay}
+use Rattle.vt_ns.specs.OverlayMounts.{IsPlainLayer}
 use Rattle.vt_ns.proofs.world.BoundEvents.{place_mounted}
+
+-- the task of this name is given the permit of a call that mounts this overlay
+pub record PermitsOverlay (value : WorldValue) (name : TaskName) (new : ToMountOverlay) : Type 0 where
+  pub task : Task ℕ
+  pub called : task_called (world_of value) name ≡ Some task
+  pub given : IsGivenToTask (supply_of value (overlay_permit task new)) (world_of value) task (overlay_permit task new)
 
 -- a layer of a plain filesystem is kept by its slot
 abbrev pub kept_by_slot : LowerLayer → LayerRef

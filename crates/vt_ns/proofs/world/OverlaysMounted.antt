@@ -19,8 +19,8 @@ use Rattle.vt_mounting.specs.Attach.Grafted.{MayGraft}
 use Rattle.vt_mounting.specs.Attach.Overlaid.{IsWithOverlay}
 use Rattle.vt_mounting.proofs.attach.NewOverlayDone.{may_graft}
 use Rattle.vt_mounting.proofs.attach.OverlayMounted.{overlay_is_mounted}
-use Rattle.vt_ns.specs.OverlayMounts.{MountsOverlay, PermitsOverlay}
-use Rattle.vt_ns.proofs.world.OverlayEvents.{kept_is_overlay, layers_are_kept, root_is_top}
+use Rattle.vt_ns.specs.OverlayMounts.{MountsOverlay}
+use Rattle.vt_ns.proofs.world.OverlayEvents.{PermitsOverlay, kept_is_overlay, layers_are_kept, root_is_top}
 
 -- the overlay that is kept, and a graft of the one mount of it
 module _ (base : WorldValue) (store : StoreValue) (whole : IsHeld (with_store store base)) (name : TaskName)

@@ -1,9 +1,7 @@
 -- The number of an inode that its filesystem does not have is not in use.
-use Rattle.std.proofs.Common.{◌≡◌, refl, sym, ap, subst, ◌∙◌, inl, inr, ℕ, ◌+◌, ◌*◌, ◌<◌, ◌≤◌, ◌%◌, ◌/◌, ◌==◌, nat_eq, ne_eqb, eqb-true, lt-ltb, Bool, true, false, ◌&&◌, ◌||◌, List, [], ◌∷◌, ◌++◌, map, flat_map, Option, Some, None, is_some, option_map, unwrap_or, option_to_list, arith}
-use Rattle.vt_spec.proofs.Common.{Filesystem, IsTree, ListsNumbers, Namespace, Node, Private, Propagation, Shared, Slave, Unbindable, and_parts, filesystem_numbered, is_among, list_all, list_any-append, mount_at, node_in, source_of, used_by_filesystem, used_by_mount}
-use Rattle.vt_spec.specs.Machine.Mounts as meant
-use Rattle.vt_ns.proofs.Common.{Among, FilesystemEntry, IsHeld, MountEntry, NamespaceEntry, WorldValue, among_from_all, counted, directory_is_there, entry_of, found_plain_one, inode_number, inodes_at, inodes_seen, is_counted_before, is_small_node, mounts_in, namespace_of, next_inode, next_seen, no_entry, number_of, small_parts, world_of}
-use Rattle.vt_laws_mounts.proofs.letting_go.Lists.{found_in}
+use Rattle.std.proofs.Common.{◌≡◌, refl, sym, ap, ◌∙◌, inl, inr, ℕ, ◌<◌, ◌≤◌, ◌%◌, ◌==◌, nat_eq, ne_eqb, eqb-true, lt-ltb, Bool, true, false, ◌&&◌, ◌||◌, List, [], ◌∷◌, ◌++◌, map, flat_map, Option, Some, None, is_some, option_to_list, arith}
+use Rattle.vt_spec.proofs.Common.{Filesystem, IsTree, ListsNumbers, Namespace, Node, Private, Propagation, Shared, Slave, Unbindable, and_parts, filesystem_numbered, is_among, list_all, list_any-append, node_in, source_of, used_by_filesystem, used_by_mount}
+use Rattle.vt_ns.proofs.Common.{Among, FilesystemEntry, IsHeld, MountEntry, NamespaceEntry, WorldValue, among_from_all, counted, directory_is_there, found_plain_one, here_number, inode_number, inodes_seen, is_counted_before, is_small_node, mounts_in, namespace_of, number_of, small_parts, world_of}
 use Rattle.vt_laws_mounts.proofs.letting_go.sweeps.OfWorlds.{found_filesystem}
 use Rattle.vt_location.specs.declared.births.Birth.{Birth}
 use Rattle.vt_location.specs.declared.births.Birth.TheVariants.{Below, Here}
@@ -11,15 +9,13 @@ use Rattle.vt_location.specs.declared.locations.NodeRef.{NodeRef}
 use Rattle.vt_location.specs.Births.{IsSmallBirth, born_in, is_small_birth}
 use Rattle.vt_location.specs.NodeNumbers.{IsSmall}
 use Rattle.vt_mount.specs.Sources.{has_counted_source}
-use Rattle.vt_world.specs.OverlaysMade.Made.{IsNew}
 use Rattle.vt_laws_worlds.proofs.permits.in_use.InUseServes.{leaves_two}
 use Rattle.vt_laws_worlds.specs.Permits.InUse.{is_in_use}
 use Rattle.vt_laws_rules.proofs.numbers.Supports.{used_numbers_are_named}
-use Rattle.vt_mounting.specs.Detach.Events.{filesystem_count}
 use Rattle.vt_world.specs.Held.{HasOwnNodes}
-use Rattle.vt_ns.specs.Vacancy.{IsVacant}
+use Rattle.vt_ns.specs.Vacancy.{IsVacant, NextFilesystemIsNew, NextRootIsVacant}
 use Rattle.vt_mounting.proofs.detach.NodesFound.{in_no_other, own_nodes}
-use Rattle.vt_mounting.proofs.attach.NewFilesystems.{filesystem_counted, found_below}
+use Rattle.vt_mounting.proofs.attach.NewFilesystems.{found_below}
 
 module _ (count slot : ℕ) (small : slot < 18446744073709551616) where
   abbrev number : ℕ
@@ -147,77 +143,44 @@ small_again node small = λ i. lt-ltb node.filesystem.count 18446744073709551616
     by (Below layer directory rank) is =
         λ i. lt-ltb directory 18446744073709551616 is.0 i && lt-ltb layer 18446744073709551616 is.1 i
 
-module _ (value : WorldValue) (whole : IsHeld value) (small_next : value.next < 18446744073709551616)
+module _ (value : WorldValue) (whole : IsHeld value)
     (odd : list_all (λ mount. mount.number % 4 == 1) (mounts_in value.mounts) ≡ true)
     (sources : list_all has_counted_source (mounts_in value.mounts) ≡ true) where
-  -- the root of the next filesystem
-  pub root_is_vacant : IsVacant value (inode_number value.next 0)
-  root_is_vacant = record {
-    even = is_even value.next 0 (omega arith);
-    unused = is_unused value whole odd sources root small_root (none_there value whole root (omega arith));
-  }
-    where
-      root : NodeRef
-      root = record { filesystem = record { count = value.next }; slot = 0; birth = Here }
-
-      small_root : is_small_node root ≡ true
-      small_root = λ i. lt-ltb value.next 18446744073709551616 small_next i
-          && (lt-ltb 0 18446744073709551616 (omega arith) i && true)
-
-  -- so no number of a node of the next filesystem is in use
-  pub next_is_new : IsNew (world_of value) (record { count = value.next })
-  next_is_new = record {
-    small = small_next;
-    counted_before = λ other used.
-        used_numbers_are_named (is_counted_before value.next) (world_of value) whole.given (leaves_two value.next) other
-        used;
-    nodes = λ node small same. is_unused value whole odd sources node (small_again node small)
-        (none_there value whole node (let count = ap (λ id. id.count) same in omega (arith, count)));
+  -- the number of an inode that its filesystem does not have
+  pub is_vacant : (entry : FilesystemEntry) → Among entry value.filesystems → (next : NodeRef)
+      → is_small_node next ≡ true → next.birth ≡ Here → next.filesystem.count ≡ entry.count
+      → (inodes_seen entry).inode (number_of next) ≡ None → IsVacant value (number_of next)
+  is_vacant entry among next small here count none = record {
+    even = ap (λ n. n % 2) (here_number next here)
+        ∙ is_even next.filesystem.count next.slot (small_parts next small).slot;
+    unused = is_unused value whole odd sources next small
+        (ap (λ n. (filesystem_numbered nat_eq (world_of value) (counted n)).files.tree.node (number_of next)) count
+        ∙ ap (λ (f : Filesystem ℕ). f.files.tree.node (number_of next)) (found_plain_one value whole entry among)
+        ∙ ap node_in none);
   }
 
-  module _ (location : meant.Location ℕ) (count : ℕ)
-      (shows : counted count ≡ (mount_at nat_eq (world_of value) location).filesystem) where
-    at_count : filesystem_count value location ≡ count
-    at_count = ap (λ n. n / 4) (sym shows) ∙ (let quarter : (4 * count + 1) / 4 ≡ count = omega arith in quarter)
-
-    next_at : next_inode value location
-        ≡ unwrap_or (option_map next_seen (entry_of value.filesystems count)) (inode_number value.next 0)
-    next_at =
-        ap (λ n. unwrap_or (option_map next_seen (entry_of value.filesystems n)) (inode_number value.next 0)) at_count
-
-    -- the next inode of a filesystem
-    pub next_is_vacant : (slot : ℕ) → slot < 18446744073709551616
-        → Some (inode_number count slot) ≡ option_map next_seen (entry_of value.filesystems count)
-        → (inodes_at value.filesystems count).inode (inode_number count slot) ≡ None
-        → IsVacant value (next_inode value location)
-    next_is_vacant slot small next none = subst (IsVacant value)
-        (sym (next_at ∙ ap (λ o. unwrap_or o (inode_number value.next 0)) (sym next)))
-        (by (entry_of value.filesystems count) refl next)
+  module _ (small_next : value.next < 18446744073709551616) where
+    -- the root of the next filesystem
+    pub root_is_vacant : NextRootIsVacant value
+    root_is_vacant = record {
+      even = is_even value.next 0 (omega arith);
+      unused = is_unused value whole odd sources root small_root (none_there value whole root (omega arith));
+    }
       where
-        by : (o : Option FilesystemEntry) → entry_of value.filesystems count ≡ o
-            → Some (inode_number count slot) ≡ option_map next_seen o → IsVacant value (inode_number count slot)
-        by None e is = absurd cc
-        by (Some entry) e is =
-            let there = found_in (λ (one : FilesystemEntry). nat_eq count one.count) value.filesystems entry e in
-            let low = filesystem_counted value whole entry there.0 in
-            let same = eqb-true count entry.count there.1 in
-            record {
-              even = is_even count slot small;
-              unused = is_unused value whole odd sources
-                  (record { filesystem = record { count = count }; slot = slot; birth = Here })
-                  (λ i. lt-ltb count 18446744073709551616 (omega (arith, low, same, small_next)) i
-                  && (lt-ltb slot 18446744073709551616 small i && true))
-                  (ap (λ n. (filesystem_numbered nat_eq (world_of value) (counted n)).files.tree.node
-                  (inode_number count slot)) same
-                  ∙ ap (λ (f : Filesystem ℕ). f.files.tree.node (inode_number count slot))
-                  (found_plain_one value whole entry there.0)
-                  ∙ ap (λ o. node_in ((inodes_seen (unwrap_or o (no_entry count))).inode (inode_number count slot)))
-                  (sym e) ∙ ap node_in none);
-            }
+        root : NodeRef
+        root = record { filesystem = record { count = value.next }; slot = 0; birth = Here }
 
-    -- in a filesystem that is no plain one
-    pub none_is_vacant : None ≡ option_map next_seen (entry_of value.filesystems count)
-        → IsVacant value (next_inode value location)
-    none_is_vacant next =
-        subst (IsVacant value) (sym (next_at ∙ ap (λ o. unwrap_or o (inode_number value.next 0)) (sym next)))
-        root_is_vacant
+        small_root : is_small_node root ≡ true
+        small_root = λ i. lt-ltb value.next 18446744073709551616 small_next i
+            && (lt-ltb 0 18446744073709551616 (omega arith) i && true)
+
+    -- so no number of a node of the next filesystem is in use
+    pub next_is_new : NextFilesystemIsNew value
+    next_is_new = record {
+      small = small_next;
+      counted_before = λ other used.
+          used_numbers_are_named (is_counted_before value.next) (world_of value) whole.given (leaves_two value.next)
+          other used;
+      nodes = λ node small same. is_unused value whole odd sources node (small_again node small)
+          (none_there value whole node (let count = ap (λ id. id.count) same in omega (arith, count)));
+    }

@@ -3,24 +3,24 @@ use Rattle.vt_spec.proofs.Common.{err_from_is_err_and}
 use Rattle.vt_permits.specs.GrantValue.{descriptor_permit}
 use Rattle.vt_permits.specs.declared.grant.Grant.TheVariants.{Descriptor}
 use Rattle.vt_permits.specs.declared.grant.DescriptorGrant.TheVariants as granted
-use Rattle.vt_calls.proofs.Endings.{made, permitted, short}
+use Rattle.vt_calls.proofs.Endings.{grants_meant, made, permitted, short}
 use Rattle.vt_calls.proofs.Told.{number_told}
 use Rattle.vt_calls.proofs.descriptors.change_descriptors.Goals as goal
 
 pub open-requires : goal.open-requires
 open-requires c =
     permitted c.args.world.now c.args.name.now (Descriptor c.args.grant) (descriptor_permit (granted.Open c.in-Open.file c.in-Open.access))
-    (λ task called. ap descriptor_permit c.in-Open.is) tt c.requires
+    (λ task called. ap descriptor_permit c.in-Open.is) refl tt c.requires
 
 pub open_new-requires : goal.open_new-requires
 open_new-requires c =
-    permitted c.args.world.now c.args.name.now (Descriptor c.args.grant) (descriptor_permit (granted.OpenNew c.in-OpenNew.new))
-    (λ task called. ap descriptor_permit c.in-OpenNew.is) c.next_inode_is_vacant.ensures c.requires
+    grants_meant c.args.world.now c.args.name.now (Descriptor c.args.grant) (descriptor_permit (granted.OpenNew c.in-OpenNew.new))
+    (λ task called. ap descriptor_permit c.in-OpenNew.is) refl c.requires
 
 pub close-requires : goal.close-requires
 close-requires c =
     permitted c.args.world.now c.args.name.now (Descriptor c.args.grant) (descriptor_permit (granted.Close c.in-Close.descriptor))
-    (λ task called. ap descriptor_permit c.in-Close.is) tt c.requires
+    (λ task called. ap descriptor_permit c.in-Close.is) refl tt c.requires
 
 pub returns-in_err-open-in-Open : goal.returns-in_err-open-in-Open
 returns-in_err-open-in-Open c =
@@ -43,7 +43,7 @@ returns-in_err-open_new-in-OpenNew c =
 pub returns-in_ok-open_new-in-OpenNew : goal.returns-in_ok-open_new-in-OpenNew
 returns-in_ok-open_new-in-OpenNew c =
     made c.args.world.now c.args.name.now (Descriptor c.args.grant) (descriptor_permit (granted.OpenNew c.in-OpenNew.new))
-    (λ task called. ap descriptor_permit c.in-OpenNew.is) _ _ c.next_inode_is_vacant.ensures
+    (λ task called. ap descriptor_permit c.in-OpenNew.is) _ _ c.in_ok-open_new-in-OpenNew.ensures.vacant
     (λ task called. number_told _ task _ called c.in_ok-open_new-in-OpenNew.ensures.number)
     c.in_ok-open_new-in-OpenNew.ensures.ok
 

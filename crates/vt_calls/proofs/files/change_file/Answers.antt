@@ -8,22 +8,22 @@ use Rattle.vt_calls.proofs.files.change_file.Goals as goal
 pub write-requires : goal.write-requires
 write-requires c =
     permitted c.args.world.now c.args.name.now (Write c.args.grant) (write_permit (granted.Content c.in-Content.file c.in-Content.bytes))
-    (λ task called. ap write_permit c.in-Content.is) tt c.requires
+    (λ task called. ap write_permit c.in-Content.is) refl tt c.requires
 
 pub write_part-requires : goal.write_part-requires
 write_part-requires c =
     permitted c.args.world.now c.args.name.now (Write c.args.grant) (write_permit (granted.Part c.in-Part.part))
-    (λ task called. ap write_permit c.in-Part.is) tt c.requires
+    (λ task called. ap write_permit c.in-Part.is) refl tt c.requires
 
 pub set_attr-requires : goal.set_attr-requires
 set_attr-requires c =
     permitted c.args.world.now c.args.name.now (Write c.args.grant) (write_permit (granted.Attr c.in-Attr.object c.in-Attr.attr))
-    (λ task called. ap write_permit c.in-Attr.is) tt c.requires
+    (λ task called. ap write_permit c.in-Attr.is) refl tt c.requires
 
 pub set_opaque-requires : goal.set_opaque-requires
 set_opaque-requires c = permitted c.args.world.now c.args.name.now (Write c.args.grant)
     (write_permit (granted.Mark c.in-Mark.directory c.in-Mark.opaque))
-    (λ task called. ap write_permit c.in-Mark.is) tt c.requires
+    (λ task called. ap write_permit c.in-Mark.is) refl tt c.requires
 
 pub returns-in-Content : goal.returns-in-Content
 returns-in-Content c =

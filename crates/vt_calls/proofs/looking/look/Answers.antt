@@ -9,26 +9,26 @@ use Rattle.vt_calls.proofs.looking.look.Goals as goal
 pub list-requires : goal.list-requires
 list-requires c =
     permitted c.args.world.now c.args.name.now (Look c.args.grant) (look_permit (granted.List c.in-List.directory))
-    (λ task called. ap look_permit c.in-List.is) tt c.requires
+    (λ task called. ap look_permit c.in-List.is) refl tt c.requires
 
 pub stat-requires : goal.stat-requires
 stat-requires c =
     permitted c.args.world.now c.args.name.now (Look c.args.grant) (look_permit (granted.Stat c.in-Stat.object))
-    (λ task called. ap look_permit c.in-Stat.is) tt c.requires
+    (λ task called. ap look_permit c.in-Stat.is) refl tt c.requires
 
 pub read-requires : goal.read-requires
 read-requires c =
     permitted c.args.world.now c.args.name.now (Look c.args.grant) (look_permit (granted.Read c.in-Read.file))
-    (λ task called. ap look_permit c.in-Read.is) tt c.requires
+    (λ task called. ap look_permit c.in-Read.is) refl tt c.requires
 
 pub read_part-requires : goal.read_part-requires
 read_part-requires c =
     permitted c.args.world.now c.args.name.now (Look c.args.grant) (look_permit (granted.ReadPart c.in-ReadPart.part))
-    (λ task called. ap look_permit c.in-ReadPart.is) tt c.requires
+    (λ task called. ap look_permit c.in-ReadPart.is) refl tt c.requires
 
 pub mounts-requires : goal.mounts-requires
 mounts-requires c = permitted c.args.world.now c.args.name.now (Look c.args.grant) (look_permit granted.ListMounts)
-    (λ task called. ap look_permit c.in-ListMounts.is) tt c.requires
+    (λ task called. ap look_permit c.in-ListMounts.is) refl tt c.requires
 
 pub returns-in_err-list-in-List : goal.returns-in_err-list-in-List
 returns-in_err-list-in-List c =

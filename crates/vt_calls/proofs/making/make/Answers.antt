@@ -2,23 +2,23 @@ use Rattle.std.proofs.Common.{ap, refl}
 use Rattle.vt_permits.specs.GrantValue.{make_permit}
 use Rattle.vt_permits.specs.declared.grant.Grant.TheVariants.{Make}
 use Rattle.vt_permits.specs.declared.grant.MakeGrant.TheVariants as granted
-use Rattle.vt_calls.proofs.Endings.{changed, permitted}
+use Rattle.vt_calls.proofs.Endings.{changed, changed_new, grants_meant, permitted}
 use Rattle.vt_calls.proofs.making.make.Goals as goal
 
 pub make-requires : goal.make-requires
 make-requires c =
-    permitted c.args.world.now c.args.name.now (Make c.args.grant) (make_permit (granted.Node c.in-Node.new))
-    (λ task called. ap make_permit c.in-Node.is) c.next_inode_is_vacant.ensures c.requires
+    grants_meant c.args.world.now c.args.name.now (Make c.args.grant) (make_permit (granted.Node c.in-Node.new))
+    (λ task called. ap make_permit c.in-Node.is) refl c.requires
 
 pub link-requires : goal.link-requires
 link-requires c =
     permitted c.args.world.now c.args.name.now (Make c.args.grant) (make_permit (granted.Link c.in-Link.new))
-    (λ task called. ap make_permit c.in-Link.is) tt c.requires
+    (λ task called. ap make_permit c.in-Link.is) refl tt c.requires
 
 pub returns-in-Node : goal.returns-in-Node
 returns-in-Node c =
-    changed c.args.world.now c.args.name.now (Make c.args.grant) (make_permit (granted.Node c.in-Node.new))
-    (λ task called. ap make_permit c.in-Node.is) _ c.make.result c.done.result c.done.ensures c.next_inode_is_vacant.ensures
+    changed_new c.args.world.now c.args.name.now (Make c.args.grant) (make_permit (granted.Node c.in-Node.new))
+    (λ task called. ap make_permit c.in-Node.is) _ c.make.result c.done.result c.done.ensures c.make.ensures.vacant
     (λ task called. refl) refl c.make.ensures.ok c.make.ensures.err
 
 pub returns-in-Link : goal.returns-in-Link

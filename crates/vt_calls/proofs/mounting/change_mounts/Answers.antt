@@ -9,27 +9,27 @@ use Rattle.vt_calls.proofs.mounting.change_mounts.Goals as goal
 pub unmount-requires : goal.unmount-requires
 unmount-requires c =
     permitted c.args.world.now c.args.name.now (Mount c.args.grant) (mount_permit (granted.Unmount c.in-Unmount.mount))
-    (λ task called. ap mount_permit c.in-Unmount.is) tt c.requires
+    (λ task called. ap mount_permit c.in-Unmount.is) refl tt c.requires
 
 pub unmount_lazily-requires : goal.unmount_lazily-requires
 unmount_lazily-requires c =
     permitted c.args.world.now c.args.name.now (Mount c.args.grant) (mount_permit (granted.UnmountLazily c.in-UnmountLazily.mount))
-    (λ task called. ap mount_permit c.in-UnmountLazily.is) tt c.requires
+    (λ task called. ap mount_permit c.in-UnmountLazily.is) refl tt c.requires
 
 pub set_flags-requires : goal.set_flags-requires
 set_flags-requires c =
     permitted c.args.world.now c.args.name.now (Mount c.args.grant) (mount_permit (granted.SetFlags c.in-SetFlags.mount c.in-SetFlags.flags))
-    (λ task called. ap mount_permit c.in-SetFlags.is) tt c.requires
+    (λ task called. ap mount_permit c.in-SetFlags.is) refl tt c.requires
 
 pub set_type-requires : goal.set_type-requires
 set_type-requires c =
     permitted c.args.world.now c.args.name.now (Mount c.args.grant) (mount_permit (granted.SetType c.in-SetType.change))
-    (λ task called. ap mount_permit c.in-SetType.is) tt c.requires
+    (λ task called. ap mount_permit c.in-SetType.is) refl tt c.requires
 
 pub pivot_root-requires : goal.pivot_root-requires
 pivot_root-requires c =
     permitted c.args.world.now c.args.name.now (Mount c.args.grant) (mount_permit (granted.Pivot c.in-Pivot.new c.in-Pivot.put))
-    (λ task called. ap mount_permit c.in-Pivot.is) tt c.requires
+    (λ task called. ap mount_permit c.in-Pivot.is) refl tt c.requires
 
 pub returns-in-Unmount : goal.returns-in-Unmount
 returns-in-Unmount c =

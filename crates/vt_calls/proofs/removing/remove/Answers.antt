@@ -9,17 +9,17 @@ use Rattle.vt_calls.proofs.removing.remove.Goals as goal
 pub unlink-requires : goal.unlink-requires
 unlink-requires c =
     permitted c.args.world.now c.args.name.now (Remove c.args.grant) (remove_permit (granted.Unlink c.in-Unlink.gone))
-    (λ task called. ap remove_permit c.in-Unlink.is) tt c.requires
+    (λ task called. ap remove_permit c.in-Unlink.is) refl tt c.requires
 
 pub remove_directory-requires : goal.remove_directory-requires
 remove_directory-requires c =
     permitted c.args.world.now c.args.name.now (Remove c.args.grant) (remove_permit (granted.Directory c.in-Directory.removed))
-    (λ task called. ap remove_permit c.in-Directory.is) tt c.requires
+    (λ task called. ap remove_permit c.in-Directory.is) refl tt c.requires
 
 pub rename-requires : goal.rename-requires
 rename-requires c =
     rw c.into_inner.ensures (permitted c.args.world.now c.args.name.now (Remove c.args.grant) (remove_permit (granted.Rename c.in-Rename.renamed))
-    (λ task called. ap remove_permit c.in-Rename.is) tt c.requires)
+    (λ task called. ap remove_permit c.in-Rename.is) refl tt c.requires)
 
 pub returns-in-Unlink : goal.returns-in-Unlink
 returns-in-Unlink c =

@@ -14,40 +14,40 @@ use Rattle.vt_calls.proofs.tasks.change_tasks.Goals as goal
 pub set_directory-requires : goal.set_directory-requires
 set_directory-requires c =
     permitted c.args.world.now c.args.name.now (Task c.args.grant) (ToSetDirectory (location_of c.in-SetDirectory.directory))
-    (λ task called. ap (task_permit task) c.in-SetDirectory.is) tt c.requires
+    (λ task called. ap (task_permit task) c.in-SetDirectory.is) refl tt c.requires
 
 pub set_root-requires : goal.set_root-requires
 set_root-requires c =
     permitted c.args.world.now c.args.name.now (Task c.args.grant) (ToSetRoot (location_of c.in-SetRoot.root))
-    (λ task called. ap (task_permit task) c.in-SetRoot.is) tt c.requires
+    (λ task called. ap (task_permit task) c.in-SetRoot.is) refl tt c.requires
 
 pub set_umask-requires : goal.set_umask-requires
 set_umask-requires c = permitted c.args.world.now c.args.name.now (Task c.args.grant) (ToSetUmask c.in-SetUmask.umask)
-    (λ task called. ap (task_permit task) c.in-SetUmask.is) tt c.requires
+    (λ task called. ap (task_permit task) c.in-SetUmask.is) refl tt c.requires
 
 pub fork-requires : goal.fork-requires
 fork-requires c = permitted c.args.world.now c.args.name.now (Task c.args.grant) (ToFork c.in-Fork.cred)
-    (λ task called. ap (task_permit task) c.in-Fork.is) tt c.requires
+    (λ task called. ap (task_permit task) c.in-Fork.is) refl tt c.requires
 
 pub exit-requires : goal.exit-requires
 exit-requires c = permitted c.args.world.now c.args.name.now (Task c.args.grant) ToExit
-    (λ task called. ap (task_permit task) c.in-Exit.is) tt c.requires
+    (λ task called. ap (task_permit task) c.in-Exit.is) refl tt c.requires
 
 pub unshare-requires : goal.unshare-requires
 unshare-requires c = permitted c.args.world.now c.args.name.now (Task c.args.grant) ToUnshare
-    (λ task called. ap (task_permit task) c.in-Unshare.is) tt c.requires
+    (λ task called. ap (task_permit task) c.in-Unshare.is) refl tt c.requires
 
 pub enter_namespace-requires : goal.enter_namespace-requires
 enter_namespace-requires c =
     permitted c.args.world.now c.args.name.now (Task c.args.grant) (ToEnterNamespace (counted c.in-EnterNamespace.namespace.count))
-    (λ task called. ap (task_permit task) c.in-EnterNamespace.is) tt c.requires
+    (λ task called. ap (task_permit task) c.in-EnterNamespace.is) refl tt c.requires
 
 pub drop_caps-requires : goal.drop_caps-requires
 drop_caps-requires c = permitted c.args.world.now c.args.name.now (Task c.args.grant) (ToSetCredentials
     (with_dropped (credentials_called c.args.world.now c.args.name.now) (capability_bits c.in-DropCaps.caps)))
     (λ task called. ap (task_permit task) c.in-DropCaps.is
     ∙ ap (λ found. ToSetCredentials (with_dropped (unwrap_or (option_map (λ t. t.credentials) found) first_credentials)
-    (capability_bits c.in-DropCaps.caps))) (sym called)) tt c.requires
+    (capability_bits c.in-DropCaps.caps))) (sym called)) refl tt c.requires
 
 pub returns-in-SetDirectory : goal.returns-in-SetDirectory
 returns-in-SetDirectory c =

@@ -3,25 +3,35 @@ use Rattle.vt_spec.proofs.Common.{Task, parts_of, same_Some}
 use Rattle.vt_ns.proofs.Common.{IsHeld, WorldValue, layer_kept, layer_of, location_of, mount_of, task_of, with_store, world_of}
 use Rattle.vt_propagate.specs.declared.copying.Counts.{Counts}
 use Rattle.vt_propagate.specs.declared.copying.Graft.{Graft}
-use Rattle.vt_ns.specs.OverlayMounts.{IsPlainLayer, MountsOverlay, PermitsOverlay}
+use Rattle.vt_ns.specs.OverlayMounts.{IsPlainLayer, MountsOverlay}
 use Rattle.vt_ns.specs.contracts.world.World.{the_view}
+use Rattle.vt_ns.specs.Grants.{GrantsOverlay}
+use Rattle.vt_ns.specs.Vacancy.{NextFilesystemIsNew}
+use Rattle.vt_ns.proofs.Granting.{overlay_permitted}
 use Rattle.vt_ns.proofs.world.BoundEvents.{parts_found}
 use Rattle.vt_ns.proofs.world.Counted.{as_many_mounts}
-use Rattle.vt_ns.proofs.world.OverlayEvents.{destination_mounted, layers_are_plain, overlays_below, some_kept}
+use Rattle.vt_ns.proofs.world.OverlayEvents.{PermitsOverlay, destination_mounted, layers_are_plain, overlays_below, some_kept}
 use Rattle.vt_ns.proofs.world.OverlaysMounted.{may_mount_overlay, overlay_mounted}
+use Rattle.vt_ns.proofs.world.VacantNumbers.{next_is_new}
 use Rattle.vt_ns.proofs.world.World.mount_overlay.Goals as goal
 
 pub layers_kept-requires : goal.layers_kept-requires
 layers_kept-requires c =
     let permits : PermitsOverlay (the_view c.self.inside) c.args.name.now c.args.new =
-    subst (λ value. PermitsOverlay value c.args.name.now c.args.new) (sym c.self.view_is) c.requires in
+    overlay_permitted (the_view c.self.inside) c.self.invariant c.args.name.now c.args.new
+    (subst (λ value. GrantsOverlay value c.args.name.now c.args.new) (sym c.self.view_is) c.requires)
+    (next_is_new (the_view c.self.inside) c.self.invariant c.alloc-alloc.ensures.counted c.alloc-alloc.ensures.sources
+    (omega arith)) in
     subst (All IsPlainLayer) (sym c.as_slice.ensures.value)
     (layers_are_plain (the_view c.self.inside) c.self.invariant c.args.name.now c.args.new permits)
 
 pub unwrap-requires : goal.unwrap-requires
 unwrap-requires c =
     let permits : PermitsOverlay (the_view c.self.inside) c.args.name.now c.args.new =
-    subst (λ value. PermitsOverlay value c.args.name.now c.args.new) (sym c.self.view_is) c.requires in
+    overlay_permitted (the_view c.self.inside) c.self.invariant c.args.name.now c.args.new
+    (subst (λ value. GrantsOverlay value c.args.name.now c.args.new) (sym c.self.view_is) c.requires)
+    (next_is_new (the_view c.self.inside) c.self.invariant c.alloc-alloc.ensures.counted c.alloc-alloc.ensures.sources
+    (omega arith)) in
     let lowers_are = c.in_ok-lowers.ensures.ok
     ∙ ap (map (λ lower. layer_kept (layer_of lower))) c.as_slice.ensures.value in
     c.first.ensures.item.2 (subst (λ items. 0 < length items) (sym c.as_slice-2.ensures.value)
@@ -31,13 +41,19 @@ unwrap-requires c =
 pub parts-requires : goal.parts-requires
 parts-requires c =
     let permits : PermitsOverlay (the_view c.self.inside) c.args.name.now c.args.new =
-    subst (λ value. PermitsOverlay value c.args.name.now c.args.new) (sym c.self.view_is) c.requires in
+    overlay_permitted (the_view c.self.inside) c.self.invariant c.args.name.now c.args.new
+    (subst (λ value. GrantsOverlay value c.args.name.now c.args.new) (sym c.self.view_is) c.requires)
+    (next_is_new (the_view c.self.inside) c.self.invariant c.alloc-alloc.ensures.counted c.alloc-alloc.ensures.sources
+    (omega arith)) in
     destination_mounted (the_view c.self.inside) c.self.invariant c.args.name.now c.args.new permits
 
 pub attach_overlay-requires-clause-may : goal.attach_overlay-requires-clause-may
 attach_overlay-requires-clause-may c =
     let permits : PermitsOverlay (the_view c.self.inside) c.args.name.now c.args.new =
-    subst (λ value. PermitsOverlay value c.args.name.now c.args.new) (sym c.self.view_is) c.requires in
+    overlay_permitted (the_view c.self.inside) c.self.invariant c.args.name.now c.args.new
+    (subst (λ value. GrantsOverlay value c.args.name.now c.args.new) (sym c.self.view_is) c.requires)
+    (next_is_new (the_view c.self.inside) c.self.invariant c.alloc-alloc.ensures.counted c.alloc-alloc.ensures.sources
+    (omega arith)) in
     let lowers_are = c.in_ok-lowers.ensures.ok
     ∙ ap (map (λ lower. layer_kept (layer_of lower))) c.as_slice.ensures.value in
     let value = the_view c.self.inside in
@@ -79,7 +95,10 @@ done : (c : goal.After-drop-new-2) → IsHeld (after c)
     × MountsOverlay (the_view c.self.inside) c.args.name.now c.args.new (after c)
 done c =
     let permits : PermitsOverlay (the_view c.self.inside) c.args.name.now c.args.new =
-    subst (λ value. PermitsOverlay value c.args.name.now c.args.new) (sym c.self.view_is) c.requires in
+    overlay_permitted (the_view c.self.inside) c.self.invariant c.args.name.now c.args.new
+    (subst (λ value. GrantsOverlay value c.args.name.now c.args.new) (sym c.self.view_is) c.requires)
+    (next_is_new (the_view c.self.inside) c.self.invariant c.alloc-alloc.ensures.counted c.alloc-alloc.ensures.sources
+    (omega arith)) in
     let lowers_are = c.in_ok-lowers.ensures.ok
     ∙ ap (map (λ lower. layer_kept (layer_of lower))) c.as_slice.ensures.value in
     let value = the_view c.self.inside in
@@ -115,6 +134,11 @@ done c =
 
 pub invariant_of-self-2 : goal.invariant_of-self-2
 invariant_of-self-2 c = (done c).0
+
+pub returns-clause-vacant : goal.returns-clause-vacant
+returns-clause-vacant c = subst NextFilesystemIsNew c.self.view_is
+    (next_is_new (the_view c.self.inside) c.self.invariant c.alloc-alloc.ensures.counted c.alloc-alloc.ensures.sources
+    (omega arith))
 
 pub returns-clause-ok : goal.returns-clause-ok
 returns-clause-ok c =

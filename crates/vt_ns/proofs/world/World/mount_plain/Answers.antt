@@ -5,20 +5,27 @@ use Rattle.vt_propagate.specs.declared.copying.Counts.{Counts}
 use Rattle.vt_propagate.specs.declared.copying.Graft.{Graft}
 use Rattle.vt_spec.specs.Machine.Mounts as meant
 use Rattle.vt_ns.specs.contracts.world.World.{the_view}
+use Rattle.vt_ns.specs.Grants.{Grants}
+use Rattle.vt_ns.specs.Vacancy.{NextRootIsVacant}
+use Rattle.vt_ns.proofs.Granting.{mount_permitted}
 use Rattle.vt_mounting.proofs.attach.NewBase.{destination_there}
 use Rattle.vt_mounting.proofs.attach.NewFilesystems.{next_is_above}
 use Rattle.vt_mounting.proofs.attach.NewMounts.{may_mount, new_mount_is_done}
 use Rattle.vt_ns.proofs.world.Counted.{as_many_mounts}
 use Rattle.vt_ns.proofs.world.BoundEvents.{parts_found, place_mounted}
 use Rattle.vt_ns.proofs.world.StoresKept.{kept_is}
+use Rattle.vt_ns.proofs.world.VacantNumbers.{root_is_vacant}
 use Rattle.vt_ns.proofs.world.World.mount_plain.Goals as goal
 
 pub parts-requires : goal.parts-requires
 parts-requires c =
     let permits : Permits (the_view c.self.inside) c.args.name.now
     (ToMountPlain (location_of c.args.place) (flags_of c.args.flags)) =
-    subst (λ value. Permits value c.args.name.now (ToMountPlain (location_of c.args.place) (flags_of c.args.flags)))
-    (sym c.self.view_is) c.requires in
+    mount_permitted (the_view c.self.inside) c.self.invariant c.args.name.now (location_of c.args.place)
+    (flags_of c.args.flags) (subst (λ value. Grants value c.args.name.now
+    (ToMountPlain (location_of c.args.place) (flags_of c.args.flags))) (sym c.self.view_is) c.requires)
+    (root_is_vacant (the_view c.self.inside) c.self.invariant c.alloc-alloc.ensures.counted
+    c.alloc-alloc.ensures.sources (omega arith)) in
     place_mounted (the_view c.self.inside) c.args.place
     (destination_there (the_view c.self.inside) c.self.invariant c.args.name.now (location_of c.args.place)
     (flags_of c.args.flags) permits)
@@ -30,8 +37,11 @@ pub mount_new-requires-clause-may : goal.mount_new-requires-clause-may
 mount_new-requires-clause-may c =
     let permits : Permits (the_view c.self.inside) c.args.name.now
     (ToMountPlain (location_of c.args.place) (flags_of c.args.flags)) =
-    subst (λ value. Permits value c.args.name.now (ToMountPlain (location_of c.args.place) (flags_of c.args.flags)))
-    (sym c.self.view_is) c.requires in
+    mount_permitted (the_view c.self.inside) c.self.invariant c.args.name.now (location_of c.args.place)
+    (flags_of c.args.flags) (subst (λ value. Grants value c.args.name.now
+    (ToMountPlain (location_of c.args.place) (flags_of c.args.flags))) (sym c.self.view_is) c.requires)
+    (root_is_vacant (the_view c.self.inside) c.self.invariant c.alloc-alloc.ensures.counted
+    c.alloc-alloc.ensures.sources (omega arith)) in
     let value = the_view c.self.inside in
     let graft : Graft = record {
       parts = c.deref.result;
@@ -62,8 +72,11 @@ done : (c : goal.After-drop-parts-2) → IsDone (the_view c.self.inside) c.args.
 done c =
     let permits : Permits (the_view c.self.inside) c.args.name.now
     (ToMountPlain (location_of c.args.place) (flags_of c.args.flags)) =
-    subst (λ value. Permits value c.args.name.now (ToMountPlain (location_of c.args.place) (flags_of c.args.flags)))
-    (sym c.self.view_is) c.requires in
+    mount_permitted (the_view c.self.inside) c.self.invariant c.args.name.now (location_of c.args.place)
+    (flags_of c.args.flags) (subst (λ value. Grants value c.args.name.now
+    (ToMountPlain (location_of c.args.place) (flags_of c.args.flags))) (sym c.self.view_is) c.requires)
+    (root_is_vacant (the_view c.self.inside) c.self.invariant c.alloc-alloc.ensures.counted
+    c.alloc-alloc.ensures.sources (omega arith)) in
     let value = the_view c.self.inside in
     let graft : Graft = record {
       parts = c.deref.result;
@@ -104,6 +117,11 @@ done c =
 
 pub invariant_of-self-2 : goal.invariant_of-self-2
 invariant_of-self-2 c = (done c).held
+
+pub returns-clause-vacant : goal.returns-clause-vacant
+returns-clause-vacant c = subst NextRootIsVacant c.self.view_is
+    (root_is_vacant (the_view c.self.inside) c.self.invariant c.alloc-alloc.ensures.counted
+    c.alloc-alloc.ensures.sources (omega arith))
 
 pub returns-clause-ok : goal.returns-clause-ok
 returns-clause-ok c = subst (λ (v : WorldValue). Becomes v c.args.name.now
