@@ -1,5 +1,5 @@
 -- A file that may be read is there, and so is its real object.
-use Rattle.std.proofs.Common.{None, Option, Some, is_some, nat_eq, refl, sym, true, true≢false, ℕ, ◌∙◌, ◌≡◌}
+use Rattle.std.proofs.Common.{None, Option, Some, is_some, nat_eq, refl, sym, true, true≢false, ℕ, ◌≡◌}
 use Rattle.vt_spec.proofs.Common.{Call, Credentials, Fresh, Node, Permit, Task, TaskName, ToRead, World, is_kind_in, looks_of, may, node_allows, node_at, overfills, read_right}
 use Rattle.vt_spec.specs.declared.attributes.Kind.{Kind}
 use Rattle.vt_spec.specs.declared.attributes.Kind.TheVariants.{Symlink}

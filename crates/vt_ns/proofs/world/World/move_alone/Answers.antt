@@ -1,4 +1,4 @@
-use Rattle.std.proofs.Common.{Ok, Err, OnOk, Result, ap, arith, false, nat_eq, refl, rules, subst, sym, true, ℕ, ◌≡◌, ◌∙◌, IsErr, ◌↔◌}
+use Rattle.std.proofs.Common.{Ok, Err, OnOk, Result, ap, arith, nat_eq, refl, rules, subst, sym, true, ℕ, ◌≡◌, ◌∙◌, IsErr, ◌↔◌}
 use Rattle.vt_spec.proofs.Common.{ToMove, is_shared, mount_at, mount_numbered}
 use Rattle.vt_ns.proofs.Common.{Becomes, IsDone, Permits, WorldValue, counted, inode_of, is_small_node, location_of, number_of, pinned_in, pins, shown, unpinned_in, unpins, with_store, world_of}
 use Rattle.vt_location.specs.declared.locations.Location.{Location}
