@@ -69,7 +69,8 @@ module _ (value : WorldValue) (name : TaskName) (permit : Permit ℕ) (granted :
 
 -- The mount of a new filesystem: nothing has the number of its root
 pub mount_permitted : (value : WorldValue) → IsHeld value → (name : TaskName) (place : Location ℕ) (flags : MountFlags)
-    → Grants value name (ToMountPlain place flags) → NextRootIsVacant value → Permits value name (ToMountPlain place flags)
+    → Grants value name (ToMountPlain place flags) → NextRootIsVacant value
+    → Permits value name (ToMountPlain place flags)
 mount_permitted value held name place flags granted vacant = permitted value name (ToMountPlain place flags) granted
     (handed value held 2 (inode_number value.next 0) vacant)
 
@@ -90,7 +91,8 @@ module _ (value : WorldValue) (held : IsHeld value) (name : TaskName) (new : ToM
   )
 
   -- so the numbers of a new filesystem serve
-  pub overlay_allotted : NextFilesystemIsNew value → IsAllotted value (supply_of value (overlay_permit granted.task new))
+  pub overlay_allotted : NextFilesystemIsNew value
+      → IsAllotted value (supply_of value (overlay_permit granted.task new))
   overlay_allotted is_new = supplies_for_overlays_serve (inode_count (world_of value)) value.filesystems
       (overlay_kept value.next (overlay_of granted.task new)) (world_of value) held.in_world layers_granted.0
       layers_granted.1 is_new

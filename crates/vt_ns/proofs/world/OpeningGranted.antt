@@ -74,21 +74,22 @@ module _ (value : WorldValue) (held : IsHeld value) (name : TaskName) (directory
       (inodes_at value.filesystems count).inode (number_of one) ≡ None))
       (file : NodeRef) (is_next : next ≡ Some file) (small_file : is_small_node file ≡ true) where
     file_inside : file.filesystem ≡ directory.node.filesystem
-    file_inside = subst (λ one. IfSome one (λ (one : NodeRef). one.filesystem ≡ directory.node.filesystem)) is_next inside
+    file_inside = subst (λ found. IfSome found (λ (one : NodeRef). one.filesystem ≡ directory.node.filesystem)) is_next
+        inside
 
     -- which nothing has
     file_nowhere : (inodes_seen directory_seen.entry).inode (number_of file) ≡ None
     file_nowhere = ap (λ (inodes : Inodes ℕ). inodes.inode (number_of file))
         (sym (located_inodes value directory directory_seen))
-        ∙ subst (λ one. IfSome one (λ (one : NodeRef). (inodes_at value.filesystems count).inode (number_of one) ≡ None))
-        is_next nowhere
+        ∙ subst (λ found. IfSome found (λ (one : NodeRef).
+        (inodes_at value.filesystems count).inode (number_of one) ≡ None)) is_next nowhere
 
     pub open_vacant : NextInodeIsVacant value (location_of directory)
     open_vacant = subst (IsVacant value) (sym (next_of_entry value (location_of directory) directory_seen.entry count
         directory_seen.shows directory_seen.found directory_seen.count_is
         ∙ sym (next_is_numbered next file number is_next)))
         (is_vacant value held odd sources directory_seen.entry directory_seen.among file small_file
-        (subst (λ one. IfSome one (λ (one : NodeRef). one.birth ≡ Here)) is_next here)
+        (subst (λ found. IfSome found (λ (one : NodeRef). one.birth ≡ Here)) is_next here)
         (ap (λ filesystem. filesystem.count) file_inside ∙ sym directory_seen.count_is) file_nowhere)
 
     -- so it is permitted

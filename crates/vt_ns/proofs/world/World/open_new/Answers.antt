@@ -29,7 +29,8 @@ unwrap-file-requires c =
     let granted = subst (λ value. Grants value c.args.name.now (descriptor_permit (OpenNew c.args.new)))
     (sym c.self.view_is) c.requires in
     has_next (the_view c.self.inside) c.self.invariant c.args.name.now c.args.new.directory c.args.new.name.items c.args.new.node
-    (access_of c.args.new.access) (omega arith) granted c.next_number.result (rw c.plain.ensures at c.next_number.ensures.number)
+    (access_of c.args.new.access) (omega arith) granted c.next_number.result
+    (rw c.plain.ensures at c.next_number.ensures.number)
 
 pub open_next-requires-clause-may : goal.open_next-requires-clause-may
 open_next-requires-clause-may c =
@@ -50,7 +51,8 @@ open_next-requires-clause-directory c =
     c.requires) c.alloc.ensures.counted c.alloc.ensures.sources c.next_number.result
     (rw c.plain.ensures at c.next_number.ensures.number) c.next_number.ensures.filesystem c.next_number.ensures.birth
     (rw c.plain.ensures at c.next_number.ensures.vacant) c.unwrap-file.result c.unwrap-file.ensures (search rules) in
-    rw c.plain_mut-filesystems.ensures.value ((make_fits (the_view c.self.inside) c.self.invariant c.args.name.now c.args.new.directory c.args.new.name.items c.args.new.node
+    rw c.plain_mut-filesystems.ensures.value ((make_fits (the_view c.self.inside) c.self.invariant c.args.name.now
+    c.args.new.directory c.args.new.name.items c.args.new.node
     (access_of c.args.new.access) (omega arith) permits).0)
 
 pub open_next-requires-clause-free : goal.open_next-requires-clause-free
@@ -61,7 +63,8 @@ open_next-requires-clause-free c =
     c.requires) c.alloc.ensures.counted c.alloc.ensures.sources c.next_number.result
     (rw c.plain.ensures at c.next_number.ensures.number) c.next_number.ensures.filesystem c.next_number.ensures.birth
     (rw c.plain.ensures at c.next_number.ensures.vacant) c.unwrap-file.result c.unwrap-file.ensures (search rules) in
-    rw c.plain_mut-filesystems.ensures.value ((make_fits (the_view c.self.inside) c.self.invariant c.args.name.now c.args.new.directory c.args.new.name.items c.args.new.node
+    rw c.plain_mut-filesystems.ensures.value ((make_fits (the_view c.self.inside) c.self.invariant c.args.name.now
+    c.args.new.directory c.args.new.name.items c.args.new.node
     (access_of c.args.new.access) (omega arith) permits).1)
 
 pub open_next-requires-clause-node : goal.open_next-requires-clause-node
@@ -72,7 +75,8 @@ open_next-requires-clause-node c =
     c.requires) c.alloc.ensures.counted c.alloc.ensures.sources c.next_number.result
     (rw c.plain.ensures at c.next_number.ensures.number) c.next_number.ensures.filesystem c.next_number.ensures.birth
     (rw c.plain.ensures at c.next_number.ensures.vacant) c.unwrap-file.result c.unwrap-file.ensures (search rules) in
-    rw c.into_node-made.ensures (new_in_directory (the_view c.self.inside) c.self.invariant c.args.name.now c.args.new.directory c.args.new.name.items c.args.new.node
+    rw c.into_node-made.ensures (new_in_directory (the_view c.self.inside) c.self.invariant c.args.name.now
+    c.args.new.directory c.args.new.name.items c.args.new.node
     (access_of c.args.new.access) (omega arith) permits)
 
 pub invariant_of-self-2 : goal.invariant_of-self-2
@@ -86,7 +90,8 @@ invariant_of-self-2 c =
     (rw c.plain.ensures at c.next_number.ensures.vacant) c.unwrap-file.result c.unwrap-file.ensures (search rules) in
     let number = next_is_numbered (the_view c.self.inside) c.self.invariant c.args.name.now c.args.new.directory
     c.args.new.name.items c.args.new.node (access_of c.args.new.access) (omega arith)
-    granted c.next_number.result c.unwrap-file.result (rw c.plain.ensures at c.next_number.ensures.number) c.unwrap-file.ensures in
+    granted c.next_number.result c.unwrap-file.result (rw c.plain.ensures at c.next_number.ensures.number)
+    c.unwrap-file.ensures in
     let inside = subst (λ next. IfSome next (λ (node : NodeRef). node.filesystem
     ≡ c.args.new.directory.node.filesystem)) c.unwrap-file.ensures c.next_number.ensures.filesystem in
     let own = here_is_own c.unwrap-file.result (omega arith) (omega arith)
@@ -131,7 +136,8 @@ returns-clause-ok c =
     (rw c.plain.ensures at c.next_number.ensures.vacant) c.unwrap-file.result c.unwrap-file.ensures (search rules) in
     let number = next_is_numbered (the_view c.self.inside) c.self.invariant c.args.name.now c.args.new.directory
     c.args.new.name.items c.args.new.node (access_of c.args.new.access) (omega arith)
-    granted c.next_number.result c.unwrap-file.result (rw c.plain.ensures at c.next_number.ensures.number) c.unwrap-file.ensures in
+    granted c.next_number.result c.unwrap-file.result (rw c.plain.ensures at c.next_number.ensures.number)
+    c.unwrap-file.ensures in
     let inside = subst (λ next. IfSome next (λ (node : NodeRef). node.filesystem
     ≡ c.args.new.directory.node.filesystem)) c.unwrap-file.ensures c.next_number.ensures.filesystem in
     let own = here_is_own c.unwrap-file.result (omega arith) (omega arith)
