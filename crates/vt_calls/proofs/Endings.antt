@@ -191,8 +191,9 @@ module _ (old : WorldValue) (name : TaskName) (grant : Grant) (meant : Permit �
       (sameness_is_an_equivalence.itself (world_of old))) call given
 
   -- it is a change that answers `ok`, and makes what nothing has the number of,
-  pub changed_new : (new : WorldValue) (change : Result ⊤ AllocError) (result : Result Answer Deny) → result ≡ answered change
-      → OnOk change (AreVacant old meant) → ((task : Task ℕ) → task_called (world_of old) name ≡ Some task
+  pub changed_new : (new : WorldValue) (change : Result ⊤ AllocError) (result : Result Answer Deny)
+      → result ≡ answered change → OnOk change (AreVacant old meant)
+      → ((task : Task ℕ) → task_called (world_of old) name ≡ Some task
       → (apply nat_eq (supply_of old meant) (world_of old) task meant).answer ≡ Ok (answer_of Done))
       → is_free meant ≡ false → OnOk change (Becomes old name meant new)
       → OnErr change (new ≡ old) → EndsGiven old name grant result new

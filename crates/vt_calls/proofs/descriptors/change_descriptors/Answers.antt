@@ -14,8 +14,9 @@ open-requires c =
 
 pub open_new-requires : goal.open_new-requires
 open_new-requires c =
-    grants_meant c.args.world.now c.args.name.now (Descriptor c.args.grant) (descriptor_permit (granted.OpenNew c.in-OpenNew.new))
-    (λ task called. ap descriptor_permit c.in-OpenNew.is) refl c.requires
+    grants_meant c.args.world.now c.args.name.now (Descriptor c.args.grant)
+    (descriptor_permit (granted.OpenNew c.in-OpenNew.new)) (λ task called. ap descriptor_permit c.in-OpenNew.is) refl
+    c.requires
 
 pub close-requires : goal.close-requires
 close-requires c =

@@ -8,7 +8,8 @@ use Rattle.vt_calls.proofs.mounting.attach.Goals as goal
 
 pub mount_plain-requires : goal.mount_plain-requires
 mount_plain-requires c =
-    grants_meant c.args.world.now c.args.name.now (Mount (Attach c.args.attachment)) (attachment_permit (granted.Plain c.in-Plain.destination c.in-Plain.flags))
+    grants_meant c.args.world.now c.args.name.now (Mount (Attach c.args.attachment))
+    (attachment_permit (granted.Plain c.in-Plain.destination c.in-Plain.flags))
     (λ task called. ap attachment_permit c.in-Plain.is) refl c.requires
 
 pub bind-requires : goal.bind-requires
@@ -23,8 +24,10 @@ move_mount-requires c =
 
 pub returns-in-Plain : goal.returns-in-Plain
 returns-in-Plain c =
-    changed_new c.args.world.now c.args.name.now (Mount (Attach c.args.attachment)) (attachment_permit (granted.Plain c.in-Plain.destination c.in-Plain.flags))
-    (λ task called. ap attachment_permit c.in-Plain.is) _ c.mount_plain.result c.done.result c.done.ensures c.mount_plain.ensures.vacant
+    changed_new c.args.world.now c.args.name.now (Mount (Attach c.args.attachment))
+    (attachment_permit (granted.Plain c.in-Plain.destination c.in-Plain.flags))
+    (λ task called. ap attachment_permit c.in-Plain.is) _ c.mount_plain.result c.done.result c.done.ensures
+    c.mount_plain.ensures.vacant
     (λ task called. refl) refl c.mount_plain.ensures.ok c.mount_plain.ensures.err
 
 pub returns-in-Bind : goal.returns-in-Bind
