@@ -1,5 +1,5 @@
--- A grant as it was judged, whatever numbers the call is handed: an event that hands out a new one proves by itself
--- that nothing has it.
+-- A grant as it was judged, whatever numbers the call is handed: an event that makes an inode or a filesystem proves by
+-- itself that nothing has its number.
 use Rattle.std.specs.Prelude.{Ok, Some, false, nat_eq, true, ℕ, ◌≡◌}
 use Rattle.vt_spec.specs.Language.Calls.{Call, TaskName}
 use Rattle.vt_spec.specs.Lists.{Fresh}

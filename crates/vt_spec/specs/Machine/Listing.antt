@@ -1,6 +1,6 @@
 -- The lists of mounts and of peer groups: mountinfo of proc(5), in the profile's form. Filesystems and groups are
 -- numbered by where they first stand in the list, from left to right.
-use Rattle.std.specs.Prelude.{Bool, List, None, Option, Some, [], filter, flat_map, map, not, option_map, option_to_list, unwrap_or, ℕ, ◌&&◌, ◌∷◌}
+use Rattle.std.specs.Prelude.{Bool, List, None, Option, Some, [], filter, find, flat_map, map, not, option_and_then, option_map, option_to_list, unwrap_or, ℕ, ◌&&◌, ◌∷◌}
 use Rattle.vt_spec.specs.FileTree.{path_down}
 use Rattle.vt_spec.specs.Lists.{counted_from, each_once, holds_of, index_from}
 use Rattle.vt_spec.specs.Machine.Mounts.{Location, Mount, Propagation, is_shared, source_of}
@@ -9,7 +9,7 @@ use Rattle.vt_spec.specs.Language.Answers.{MountLine, PeerLine, Spot, TypeLine}
 use Rattle.vt_spec.specs.Language.Answers.Spot.{Gone, Reached}
 use Rattle.vt_spec.specs.Language.Answers.TypeLine.{PrivateLine, SharedLine, SlaveLine, UnbindableLine}
 use Rattle.vt_spec.specs.Machine.Receives.{is_member_of}
-use Rattle.vt_spec.specs.Machine.World.{Namespace, World, files_at, filesystem_numbered, is_overlay, mount_at, mounts_of}
+use Rattle.vt_spec.specs.Machine.World.{Namespace, World, filesystem_numbered, is_overlay, mounts_of}
 
 -- the path from one directory of a filesystem to another, or that there is none any more
 abbrev pub spot_of : Option (List (List ℕ)) → Spot
@@ -49,10 +49,11 @@ module _ {N : Type 0} (eq : N → N → Bool) where
   type_line world seen Private = PrivateLine
   type_line world seen Unbindable = UnbindableLine
 
-  -- the path from the root of the parent to the mount point
+  -- the path from the root of the parent to the mount point; there is none where the parent is not there
   abbrev pub mount_point_spot : World N → Location N → Spot
-  mount_point_spot world point =
-      spot_of (path_down eq (files_at eq world point) (mount_at eq world point).root point.node)
+  mount_point_spot world point = spot_of (option_and_then
+      (λ mount. path_down eq (filesystem_numbered eq world mount.filesystem).files mount.root point.node)
+      (find (λ mount. eq point.mount mount.number) world.mounts))
 
   -- the path of a mount's root in its filesystem
   abbrev pub root_spot : World N → Mount N → Spot

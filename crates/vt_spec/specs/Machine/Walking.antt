@@ -185,7 +185,7 @@ module _ {N : Type 0} (eq : N → N → Bool) where
   abbrev pub parent_location : Looks N → Location N → Location N
   parent_location looks here = record { mount = here.mount; node = parent_in here.node (looks.node here) }
 
-  -- at the task's root, and at the root of a mount without a mount point, `..` stays
+  -- at the task's root, a covered one too (profile), and at the root of a mount without a mount point, `..` stays
   abbrev pub is_top : Looks N → Task N → Location N → Bool
   is_top looks task here = same_location eq here task.root || eq here.node (mount_at looks here).root
 

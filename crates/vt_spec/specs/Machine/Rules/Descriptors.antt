@@ -54,7 +54,7 @@ module _ {N : Type 0} where
   copy_rules true looks file = looks.mounter_rules file (CopyUp file.node)
   copy_rules false looks file = []
 
-  -- open(2) of a file that is there: EISDIR, ENXIO, EROFS, EACCES
+  -- open(2) of a file that is there: EISDIR, for reading too (profile), ENXIO, EROFS, EACCES
   abbrev pub open_rules : Looks N → Task N → Location N → Access → Rules
   open_rules looks task file access =
       (is_directory_at looks file, E2)

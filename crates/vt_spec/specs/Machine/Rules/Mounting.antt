@@ -85,7 +85,7 @@ module _ {N : Type 0} (eq : N → N → Bool) where
       then_walk (directory_walk eq looks task path) (λ here.
       walk_unless here.steps ((looks.is_removed here.location, W8) ∷ []) here)
 
-  -- a destination: a directory that is not removed, then the root of the topmost mount over it: mount(2)
+  -- a destination: a directory that is not removed (profile), then the root of the topmost mount over it: mount(2)
   abbrev pub destination_walk : Looks N → Task N → List ℕ → Result (Here N) (Stop N)
   destination_walk looks task path =
       then_walk (source_walk looks task path) (λ here.
