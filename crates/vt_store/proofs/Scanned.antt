@@ -29,6 +29,10 @@ none_beyond least slots none slot beyond = all_none (drop slot slots)
     all_none (None ∷ slots) each = counted None slots ∙ omega arith ∙ all_none slots (λ k. each (suc k))
     all_none (Some inode ∷ slots) each = absurd (true≢false (ap is_some (each 0)))
 
+none_left : (k : ℕ) → drop k ([] {A = Option (Inode ℕ)}) ≡ []
+none_left zero = refl
+none_left (suc k) = refl
+
 -- the slots that are left, one by one
 module _ (test : ℕ → Bool) (number : ℕ → ℕ) where
   abbrev found_in : ℕ → Slots → Bool
@@ -38,7 +42,8 @@ module _ (test : ℕ → Bool) (number : ℕ → ℕ) where
       → found_in (first + 1) (drop (slot + 1) slots) ≡ found_in first (drop slot slots)
   vacant_found first zero [] e = refl
   vacant_found first zero (o ∷ slots) e = sym (ap (λ o. found_in first (o ∷ slots)) e)
-  vacant_found first (suc slot) [] e = refl
+  vacant_found first (suc slot) [] e =
+      ap (found_in (first + 1)) (none_left (suc slot + 1)) ∙ sym (ap (found_in first) (none_left (suc slot)))
   vacant_found first (suc slot) (o ∷ slots) e = ap (λ k. found_in (first + 1) (drop k (o ∷ slots)))
       (let one : suc slot + 1 ≡ suc (slot + 1) = omega arith in one) ∙ vacant_found first slot slots e
 

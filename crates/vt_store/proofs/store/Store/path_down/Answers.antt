@@ -8,8 +8,8 @@ use Rattle.vt_store.proofs.Looked.{over_few, over_files, over_layers, plain_file
 use Rattle.vt_store.proofs.NumbersOwned.{no_path}
 use Rattle.vt_store.proofs.store.Store.path_down.Goals as goal
 
-pub path_down-requires-in_default : goal.path_down-requires-in_default
-path_down-requires-in_default c = record {
+pub path_down-requires : goal.path_down-requires
+path_down-requires c = record {
   once = subst (λ (files : FileTree ℕ). NamesDirectoriesOnce files.tree)
       (sym (plain_files c.args.self.now c.self.inside.plain (ap (λ (store : StoreValue). store.plain) c.self.view_is)
       c.args.top.filesystem.count (sym c.overlay.ensures.value ∙ ap option_copied c.in_default.is))) c.requires.once;
@@ -17,12 +17,12 @@ path_down-requires-in_default c = record {
 
 pub returns-in_default : goal.returns-in_default
 returns-in_default c = record {
-  ok = subst (λ (files : FileTree ℕ). IfOk c.path_down-in_default.result
+  ok = subst (λ (files : FileTree ℕ). IfOk c.path_down.result
       (λ path. option_map (λ names. map (λ name. name.items) names.items) path
       ≡ path_down nat_eq files (number_of c.args.top) (number_of c.args.directory)))
       (plain_files c.args.self.now c.self.inside.plain (ap (λ (store : StoreValue). store.plain) c.self.view_is)
       c.args.top.filesystem.count (sym c.overlay.ensures.value ∙ ap option_copied c.in_default.is))
-      c.path_down-in_default.ensures.ok;
+      c.path_down.ensures.ok;
 }
 
 pub returns-then-ne : goal.returns-then-ne
@@ -33,24 +33,24 @@ returns-then-ne c = record {
       (search rules) (search rules) refl (search rules));
 }
 
-pub path_down-requires-clause-layers : goal.path_down-requires-clause-layers
-path_down-requires-clause-layers c =
+pub path_down-requires-2-clause-layers : goal.path_down-requires-2-clause-layers
+path_down-requires-2-clause-layers c =
     over_layers c.args.self.now c.self.inside.plain (ap (λ (store : StoreValue). store.plain) c.self.view_is)
     c.args.top.filesystem.count c.in-Some.overlay.now (sym c.overlay.ensures.value ∙ ap option_copied c.in-Some.is)
     c.requires.standing
 
-pub path_down-requires-clause-few : goal.path_down-requires-clause-few
-path_down-requires-clause-few c =
+pub path_down-requires-2-clause-few : goal.path_down-requires-2-clause-few
+path_down-requires-2-clause-few c =
     over_few c.args.self.now c.self.inside.plain (ap (λ (store : StoreValue). store.plain) c.self.view_is)
     c.args.top.filesystem.count c.in-Some.overlay.now (sym c.overlay.ensures.value ∙ ap option_copied c.in-Some.is)
     c.requires.standing
 
 pub returns : goal.returns
 returns c = record {
-  ok = subst (λ (files : FileTree ℕ). IfOk c.path_down.result
+  ok = subst (λ (files : FileTree ℕ). IfOk c.path_down-2.result
       (λ path. option_map (λ names. map (λ name. name.items) names.items) path
       ≡ path_down nat_eq files (number_of c.args.top) (number_of c.args.directory)))
       (over_files c.args.self.now c.self.inside.plain (ap (λ (store : StoreValue). store.plain) c.self.view_is)
       c.args.top.filesystem.count c.in-Some.overlay.now (sym c.overlay.ensures.value ∙ ap option_copied c.in-Some.is))
-      c.path_down.ensures;
+      c.path_down-2.ensures;
 }
