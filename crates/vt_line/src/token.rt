@@ -7,11 +7,15 @@ ghost use Rattle.vt_line.specs.Tokens.{reading_of};
 
 use crate::hex::HexDigit;
 use arrayvec::ArrayVec;
+use memchr::memchr;
 use std::marker::Model;
 use vt_io::line::LONGEST_LINE;
 
 /// The most texts that a line of the grammar has: those of `fork` with a child's credentials.
 pub const MOST_TEXTS: usize = 6;
+
+/// How many bytes of a word are looked at one by one.
+const NEAR: usize = 64;
 
 /// Whether a line has no answer: it is spaces alone, or a comment.
 pub fn is_silent(line: &[u8]) -> bool
@@ -91,15 +95,27 @@ pub fn is_unescaped(line: &[u8]) -> bool
     unescaped
 }
 
-/// The index of the first space, or the line's length.
+/// As `first_space`, of a line whose first word is long.
+#[inline(never)]
+fn far_space(line: &[u8]) -> usize
+    ensures within { result ≤ length line.now }
+    ensures before { (k : ℕ) → k < result → slice_index line.now k ≢ 32 }
+    ensures space { result < length line.now → slice_index line.now result ≡ 32 }
+{
+    memchr(b' ', line).unwrap_or(line.len())
+}
+
+/// The index of the first space, or the line's length. Most words are short, and end before `memchr` would have begun.
 fn first_space(line: &[u8]) -> usize
     ensures within { result ≤ length line.now }
     ensures before { (k : ℕ) → k < result → slice_index line.now k ≢ 32 }
     ensures space { result < length line.now → slice_index line.now result ≡ 32 }
 {
-    line.iter()
-        .position(|byte| *byte == b' ')
-        .unwrap_or(line.len())
+    let (near, far) = line.split_at(line.len().min(NEAR));
+    match near.iter().position(|byte| *byte == b' ') {
+        Some(space) => space,
+        None => near.len() + far_space(far),
+    }
 }
 
 /// The first token of a line, and what follows it.

@@ -1,5 +1,5 @@
 //! The words of a line: its task, its call and what the call is given.
-ghost use Rattle.std.specs.Prelude.{◌≡◌, ◌<◌, option_map, length, is_some, true, Some, IfOk, IfSome, OnErr};
+ghost use Rattle.std.specs.Prelude.{◌≡◌, ◌≤◌, ◌<◌, ◌∷◌, [], option_map, length, is_some, true, Some, IfOk, IfSome, OnErr};
 ghost use Rattle.vt_spec.specs.Language.Script.{task_word, path_word, capability_named, capabilities_word, access_word, first_flags, flags_word, second_flags, kept_or_identity, groups_word, type_word, yes_or_no_word};
 ghost use Rattle.vt_request.specs.declared.task.TheConstants.{INLINE_NUMBERS};
 ghost use Rattle.vt_cred.specs.Caps.{capability_bits};
@@ -20,12 +20,27 @@ use vt_request::{Access, CapsWord, TaskName, TypeWord};
 /// The groups of a child, of which none takes memory.
 pub type Groups = ArrayVec<u32, MAX_GROUPS>;
 
+/// The number of the child of the first task that a word names, if it has one digit.
+#[inline(always)]
+fn one_digit_child(text: &[u8]) -> Option<u8>
+    ensures value { IfSome result (λ k. task_word text.now ≡ Some (k ∷ [])) }
+    ensures range { IfSome result (λ k. (1 ≤ k) × (k ≤ 64)) }
+{
+    match text {
+        [b't', b'.', digit @ b'1'..=b'9'] => Some(*digit - b'0'),
+        _ => None,
+    }
+}
+
 /// Whether a word names a task: `t` and any number of `.k`.
 #[inline(always)]
 pub fn is_task(text: &[u8]) -> bool
     ensures { result ≡ is_some (task_word text.now) }
 {
     if text == b"t".as_slice() {
+        return true;
+    }
+    if one_digit_child(text).is_some() {
         return true;
     }
     is_task_of_parts(text)
@@ -60,6 +75,9 @@ pub fn task_name(alloc: Global, text: &[u8]) -> Result<TaskName, AllocError>
 {
     if text == b"t".as_slice() {
         return Ok(TaskName::new(alloc));
+    }
+    if let Some(number) = one_digit_child(text) {
+        return TaskName::new(alloc).into_child(number);
     }
     task_name_of_parts(alloc, text)
 }
