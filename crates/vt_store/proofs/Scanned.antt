@@ -29,7 +29,7 @@ none_beyond least slots none slot beyond = all_none (drop slot slots)
     all_none (None ∷ slots) each = counted None slots ∙ omega arith ∙ all_none slots (λ k. each (suc k))
     all_none (Some inode ∷ slots) each = absurd (true≢false (ap is_some (each 0)))
 
-none_left : (k : ℕ) → drop k ([] {A = Option (Inode ℕ)}) ≡ []
+none_left : (k : ℕ) → drop {A = Option (Inode ℕ)} k [] ≡ []
 none_left zero = refl
 none_left (suc k) = refl
 
