@@ -1,4 +1,4 @@
-use Rattle.std.proofs.Common.{drop, map, ◌≡◌}
+use Rattle.std.proofs.Common.{drop, map, ◌-◌, ◌≡◌}
 use Rattle.vt_spec.proofs.Common.{list_any}
 use Rattle.vt_fs.specs.FilesystemsValue.{files_at, filled_from}
 use Rattle.vt_location.specs.Locations.{inode_of}
@@ -12,3 +12,6 @@ invariant-loop-slot l = list_any (names_in_layer l.plain l.overlays l.file.files
     (map (exchanged l.file.filesystem.count) (filled_from l.slot (drop l.slot l.tree.slots)))
     ≡ list_any (names_in_layer l.plain l.overlays l.file.filesystem.count (inode_of l.file))
     (files_at l.plain l.file.filesystem.count).numbers
+
+abbrev pub decreases-loop-slot : goal.decreases-loop-slot
+decreases-loop-slot l = l.end - l.slot
