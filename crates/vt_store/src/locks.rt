@@ -54,7 +54,9 @@ fn has_name_in_layer(plain: &Filesystems, overlays: &Overlays, file: InodeRef) -
     };
     match tree.directory_of(file.node()) {
         Some(directory) => {
-            overlays.have_layer_over(plain, InodeRef::new(file.filesystem, directory))
+            let filesystem = file.filesystem;
+            let slot = directory.index();
+            overlays.have_layer_over(plain, InodeRef { filesystem, slot })
         }
         None => finds_name_in_layer(plain, overlays, file),
     }

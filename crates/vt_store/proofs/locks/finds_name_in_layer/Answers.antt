@@ -23,7 +23,7 @@ returns-then-names_in_layer c =
     let slots = c.in-Some.tree.now.slots in
     let slot = c.loop-slot.slot in
     let test = names_in_layer c.args.plain.now c.args.overlays.now count (inode_of c.args.file) in
-    let small : slot < 18446744073709551616 = omega (arith, c.loop-slot-test.true, c.end.type_inv) in
+    let small : slot < 18446744073709551616 = omega (arith, c.loop-slot-test.true, c.end-end.type_inv) in
     let there : is_some (option_copied c.node.result) ≡ true = search rules in
     let filled = filled_slot slots slot (option_copied c.node.result)
     (c.node.ensures ∙ ap (tree_of c.in-Some.tree.now).node c.new-directory.ensures) there in
@@ -40,7 +40,7 @@ loop-slot-preserved c =
     let slots = c.in-Some.tree.now.slots in
     let slot = c.loop-slot.slot in
     let test = names_in_layer c.args.plain.now c.args.overlays.now count (inode_of c.args.file) in
-    let small : slot < 18446744073709551616 = omega (arith, c.loop-slot-test.true, c.end.type_inv) in
+    let small : slot < 18446744073709551616 = omega (arith, c.loop-slot-test.true, c.end-end.type_inv) in
     let seen = c.node.ensures ∙ ap (tree_of c.in-Some.tree.now).node c.new-directory.ensures in
     elim c.if-is_some.branch [
       | then-is_some+else-names_in_layer w ↦
@@ -64,7 +64,7 @@ returns c =
     let count = c.args.file.filesystem.count in
     let slots = c.in-Some.tree.now.slots in
     let slot = c.loop-slot.slot in
-    let beyond : c.end.result ≤ slot = omega (arith, c.loop-slot-test.false) in
+    let beyond : c.end-end.result ≤ slot = omega (arith, c.loop-slot-test.false) in
     sym (none_found (names_in_layer c.args.plain.now c.args.overlays.now count (inode_of c.args.file))
-    (exchanged count) slot (drop slot slots) (none_beyond c.end.result slots c.end.ensures slot beyond))
+    (exchanged count) slot (drop slot slots) (none_beyond c.end-end.result slots c.end-end.ensures slot beyond))
     ∙ c.loop-slot.invariant
