@@ -1,7 +1,7 @@
 //! Modes and owners, as chmod(1), chgrp(1) and chown(1) have them.
 use super::Row;
 
-static ROWS: [Row; 10] = [
+static ROWS: [Row; 11] = [
     ("chmod * *", "chmod $2 $1", ""),
     (
         "chmod -R ...",
@@ -20,6 +20,7 @@ static ROWS: [Row; 10] = [
     ("chown root:root *", "chown $2 0 0", ""),
     ("chown * root:root", "chown $1 0 0", ""),
     ("chown * *", "chown $1 $2 -", "`-` leaves what is there"),
+    ("chown * - -", "", "one of UID and GID is a number"),
 ];
 
 /// The rows, in the order in which they are tried.
