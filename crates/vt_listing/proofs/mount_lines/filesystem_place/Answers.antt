@@ -1,9 +1,13 @@
-use Rattle.std.proofs.Common.{Some, None, arith, sym, ◌∙◌, ◌+◌, ◌≡◌}
+use Rattle.std.proofs.Common.{Some, None, arith, length, rules, sym, ◌∙◌, ◌+◌, ◌<◌, ◌≡◌}
+use Rattle.std.proofs.lemmas.List.{length-take-le}
 use Rattle.vt_listing.proofs.MountLines.{numbered_index}
 use Rattle.vt_listing.proofs.mount_lines.filesystem_place.Goals as goal
 
 pub returns-in-Some : goal.returns-in-Some
-returns-in-Some c = (let same : c.in-Some.index + 1 ≡ 1 + c.in-Some.index = omega arith in same)
+returns-in-Some c =
+    let within : c.in-Some.index < length c.as_slice.result.now = search rules in
+    length-take-le (c.in-Some.index + 1) c.as_slice.result.now (omega (arith, within))
+    ∙ (let same : c.in-Some.index + 1 ≡ 1 + c.in-Some.index = omega arith in same)
     ∙ sym (numbered_index c.args.id c.args.filesystems.now.keys (Some c.in-Some.index)
     (sym c.get_index_of.ensures.index ∙ c.in-Some.is))
 
