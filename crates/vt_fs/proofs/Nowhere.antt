@@ -1,71 +1,32 @@
 -- A node that the tree of a filesystem does not have.
-use Rattle.std.proofs.Common.{◌≡◌, refl, sym, ap, subst, ◌∙◌, true≢false, ℕ, zero, suc, ◌<◌, ◌≤◌, ◌+◌, ◌*◌, ◌/◌, ◌&&◌, ◌||◌, arith, Bool, true, false, cond, nat_eq, nat_lt, List, [], ◌∷◌, map, reverse, Option, Some, None, option_map, is_some, not, ne_eqb, le-ltb, IfSome, IsSome, if◌then◌else◌, take_while, eqb-true}
-use Rattle.vt_spec.proofs.Common.{FileTree, Inode, Inodes, IsDirectory, Node, SetAttr, SetBytes, SetMark, ancestors, any_pair, before_first, chain, count_after, entries_in, entry_at, entry_named, inode_with_node, is_directory_node, is_directory_under, is_removed, node_in, node_with_attr, node_with_bytes, node_with_mark, own_name, path_down, pinned, renamed_inode, same_Some, take_while-cons, unpinned, used_once_less, used_once_more, when, with_changed}
+use Rattle.std.proofs.Common.{◌≡◌, refl, sym, ap, ◌∙◌, true≢false, ℕ, zero, suc, ◌||◌, Bool, true, false, cond, nat_eq, List, [], ◌∷◌, map, reverse, Option, Some, None, option_map, is_some, not, IfSome, IsSome, if◌then◌else◌, take_while, eqb-true}
+use Rattle.vt_spec.proofs.Common.{FileTree, Inode, Inodes, IsDirectory, Node, SetAttr, SetBytes, SetMark, ancestors, before_first, chain, count_after, entries_in, entry_at, entry_named, inode_with_node, is_directory_node, is_directory_under, is_removed, node_in, node_with_attr, node_with_bytes, node_with_mark, own_name, path_down, pinned, renamed_inode, same_Some, take_while-cons, unpinned, used_once_less, used_once_more, when, with_changed}
 use Rattle.vt_spec.specs.declared.attributes.Attr.{Attr}
 use Rattle.vt_spec.specs.Inodes.{changed, with_inode}
-use Rattle.vt_location.specs.declared.births.Birth.{Birth}
-use Rattle.vt_location.specs.declared.births.Birth.TheVariants.{Below, Here}
-use Rattle.vt_location.specs.declared.locations.NodeRef.{NodeRef}
-use Rattle.vt_location.specs.Births.{born_in}
-use Rattle.vt_location.specs.Locations.{number_of, plain_at, plain_of}
-use Rattle.vt_location.specs.Numbers.{counted, exchanged, inode_number, is_inode_of}
-use Rattle.vt_location.proofs.NumberLemmas.{counted_inode, exchanged_back, no_slot}
+use Rattle.vt_location.specs.Numbers.{exchanged}
 use Rattle.vt_fs.specs.Trees.TreeValue.{TreeValue, inodes_of}
-use Rattle.vt_fs.specs.FilesystemsValue.{ChangesInodes, FilesystemEntry, Filesystems, IsNowhere, entry_of, files_at, inodes_at, inodes_seen, no_entry, seen_in}
+use Rattle.vt_fs.specs.FilesystemsValue.{ChangesInodes, FilesystemEntry, Filesystems, entry_of, files_at, inodes_at, inodes_seen, seen_in, with_tree}
 use Rattle.vt_fs.specs.Laws.{LieUnderRoot, is_lost_under}
-use Rattle.vt_fs.proofs.Standing.{Standing, at_look, changes_seen, entry_nowhere, kept, nothing_changes}
+use Rattle.vt_fs.proofs.Standing.{Standing, at_look, changes_seen, entry_nowhere}
 use Rattle.vt_fs.proofs.TreesLookedAt.{nowhere_removed, nowhere_under, under_nowhere}
 
--- The number of what was born below a layer is that of no inode of its filesystem
+-- What has no slot in the tree of its filesystem has no inode there
 
-born_above : (filesystem slot : ℕ) (birth : Birth) (node : NodeRef) → plain_at node birth ≡ None
-    → inode_number (filesystem + 1) 0 ≤ inode_number (born_in filesystem birth) slot
-born_above filesystem slot Here node none = absurd cc
-born_above filesystem slot (Below layer directory rank) node none = omega arith
+module _ (fs : Filesystems) (f : ℕ) (tree : TreeValue)
+    (found : option_map (λ (entry : FilesystemEntry). entry.tree) (entry_of fs f) ≡ Some tree) (number : ℕ)
+    (none : (inodes_of tree).inode (exchanged f number) ≡ None) where
+  pub no_inode_there : (inodes_at fs f).inode number ≡ None
+  no_inode_there = ap (λ (all : Inodes _). all.inode number) (at_look fs f tree found seen_in)
+      ∙ ap (option_map (renamed_inode (exchanged f) (exchanged f))) none
 
-pub no_inode : (node : NodeRef) → plain_of node ≡ None → is_inode_of node.filesystem.count (number_of node) ≡ false
-no_inode node none = not_below (not (nat_lt (number_of node) (inode_number node.filesystem.count 0))) _ _
-    (le-ltb (number_of node) (inode_number (node.filesystem.count + 1) 0)
-    (born_above node.filesystem.count node.slot node.birth node none))
-  where
-    not_below : (a b c : Bool) → b ≡ false → (a && b && c) ≡ false
-    not_below true true c e = absurd (true≢false e)
-    not_below true false c e = refl
-    not_below false b c e = refl
+  pub no_node_there : (files_at fs f).tree.node number ≡ None
+  no_node_there = ap node_in no_inode_there
 
--- so it is nowhere in that
-pub nowhere_there : (fs : Filesystems) (node : NodeRef) (tree : TreeValue)
-    → any_pair (λ (a b : FilesystemEntry). nat_eq a.count b.count) fs ≡ false
-    → option_map (λ (entry : FilesystemEntry). entry.tree) (entry_of fs node.filesystem.count) ≡ Some tree
-    → plain_of node ≡ None → ((slot : ℕ) → 18446744073709551616 ≤ slot → (inodes_of tree).inode slot ≡ None)
-    → tree.root < 18446744073709551616 → IsNowhere fs node.filesystem.count (number_of node)
-nowhere_there fs node tree apart found none fit small =
-    let f = node.filesystem.count in
-    let large = no_slot f (number_of node) (no_inode node none) in
-    record {
-      inode = ap (λ (all : Inodes _). all.inode (number_of node)) (at_look fs f tree found seen_in)
-          ∙ ap (option_map (renamed_inode (exchanged f) (exchanged f))) (fit (exchanged f (number_of node)) large);
-      root = ap (λ (all : Inodes _). nat_eq (number_of node) all.root) (at_look fs f tree found seen_in)
-          ∙ ne_eqb (number_of node) (exchanged f tree.root) (λ same.
-          let back : exchanged f (number_of node) ≡ tree.root = ap (exchanged f) same ∙ exchanged_back f tree.root in
-          omega (arith, large, small, back));
-      apart = apart;
-    }
-
--- and where there is no such filesystem
-pub nowhere_else : (fs : Filesystems) (node : NodeRef)
-    → any_pair (λ (a b : FilesystemEntry). nat_eq a.count b.count) fs ≡ false
-    → option_map (λ (entry : FilesystemEntry). entry.tree) (entry_of fs node.filesystem.count) ≡ None
-    → IsNowhere fs node.filesystem.count (number_of node)
-nowhere_else fs node apart absent =
-    let f = node.filesystem.count in
-    record {
-      inode = ap (λ entry. (inodes_seen entry).inode (number_of node)) (entry_nowhere fs f absent);
-      root = ap (λ entry. nat_eq (number_of node) (inodes_seen entry).root) (entry_nowhere fs f absent)
-          ∙ ne_eqb (number_of node) (inodes_seen (no_entry f)).root
-          (λ same. counted_inode f (born_in f node.birth) node.slot (sym (exchanged_back f (counted f)) ∙ sym same));
-      apart = apart;
-    }
+-- nor has anything where there is no such filesystem
+pub no_inode_else : (fs : Filesystems) (f number : ℕ)
+    → option_map (λ (entry : FilesystemEntry). entry.tree) (entry_of fs f) ≡ None
+    → (inodes_at fs f).inode number ≡ None
+no_inode_else fs f number absent = ap (λ entry. (inodes_seen entry).inode number) (entry_nowhere fs f absent)
 
 -- A change of what is nowhere changes nothing
 
@@ -101,19 +62,11 @@ module _ (inodes : Inodes ℕ) (number : ℕ) (none : inodes.inode number ≡ No
   pub mark_none : (opaque : Bool) → changed nat_eq inodes (SetMark number opaque) ≡ inodes
   mark_none opaque = changed_none (node_with_mark opaque) refl
 
-pub unchanged : (fs : Filesystems) (f : ℕ) (change : Inodes ℕ → Inodes ℕ)
-    → any_pair (λ (a b : FilesystemEntry). nat_eq a.count b.count) fs ≡ false
-    → change (inodes_at fs f) ≡ inodes_at fs f → ChangesInodes f change fs fs
-unchanged fs f change apart same = by (option_map (λ (entry : FilesystemEntry). entry.tree) (entry_of fs f)) refl
-  where
-    by : (o : Option TreeValue) → option_map (λ (entry : FilesystemEntry). entry.tree) (entry_of fs f) ≡ o
-        → ChangesInodes f change fs fs
-    by None absent = nothing_changes f change fs fs refl absent
-    by (Some tree) found =
-        let standing : Standing fs f tree = record { apart = apart; found = found } in
-        let seen = at_look fs f tree found seen_in in
-        subst (λ new. ChangesInodes f change fs new) (kept fs f tree tree standing refl)
-        (changes_seen f change fs tree tree standing (sym seen ∙ sym same ∙ ap change seen))
+pub unchanged : (fs : Filesystems) (f : ℕ) (tree : TreeValue) → Standing fs f tree → (change : Inodes ℕ → Inodes ℕ)
+    → change (inodes_at fs f) ≡ inodes_at fs f → ChangesInodes f change fs (with_tree f tree fs)
+unchanged fs f tree standing change same =
+    let seen = at_look fs f tree standing.found seen_in in
+    changes_seen f change fs tree tree standing (sym seen ∙ sym same ∙ ap change seen)
 
 -- The slot of what is somewhere
 
@@ -122,12 +75,12 @@ pub slot_there : (f number : ℕ) (o : Option ℕ) (slot : ℕ) → IfSome o (λ
 slot_there f number None slot is e = absurd cc
 slot_there f number (Some other) slot is e = ap (exchanged f) (sym (same_Some other slot e)) ∙ is
 
-module _ (fs : Filesystems) (f number : ℕ) (o : Option ℕ) (nowhere : o ≡ None → IsNowhere fs f number) where
+module _ (fs : Filesystems) (f number : ℕ) (o : Option ℕ) (nowhere : o ≡ None → (inodes_at fs f).inode number ≡ None) where
   has_slot : ((files_at fs f).tree.node number ≡ None → ⊥) → IsSome o
   has_slot there = by o nowhere
     where
-      by : (o : Option ℕ) → (o ≡ None → IsNowhere fs f number) → IsSome o
-      by None nowhere = absurd (there (ap node_in (nowhere refl).inode))
+      by : (o : Option ℕ) → (o ≡ None → (inodes_at fs f).inode number ≡ None) → IsSome o
+      by None nowhere = absurd (there (ap node_in (nowhere refl)))
       by (Some slot) nowhere = refl
 
   pub inode_has_slot : is_some ((files_at fs f).tree.node number) ≡ true → IsSome o
@@ -143,12 +96,13 @@ module _ (fs : Filesystems) (f number : ℕ) (o : Option ℕ) (nowhere : o ≡ N
 
 -- What lies under what
 
-module _ (fs : Filesystems) (f number : ℕ) (nowhere : IsNowhere fs f number) where
+module _ (fs : Filesystems) (f number : ℕ) (none : (inodes_at fs f).inode number ≡ None) where
   none_there : (files_at fs f).tree.node number ≡ None
-  none_there = ap node_in nowhere.inode
+  none_there = ap node_in none
 
-  pub removed_there : is_removed nat_eq (files_at fs f).tree number ≡ true
-  removed_there = nowhere_removed (files_at fs f).tree number none_there nowhere.root
+  pub removed_there : nat_eq number (files_at fs f).tree.root ≡ false
+      → is_removed nat_eq (files_at fs f).tree number ≡ true
+  removed_there apart = nowhere_removed (files_at fs f).tree number none_there apart
 
   pub over_none : (directory : ℕ) → is_directory_under nat_eq (files_at fs f) number directory ≡ nat_eq number directory
   over_none directory = under_nowhere (files_at fs f) number directory none_there

@@ -1,8 +1,7 @@
 -- What contracts see of the plain filesystems, and what the definitions see of them.
-use Rattle.std.specs.Prelude.{List, None, Option, Some, [], false, filter, find, if◌then◌else◌, map, nat_eq, not, unwrap_or, ℕ, ◌+◌, ◌≡◌, ◌∷◌}
+use Rattle.std.specs.Prelude.{List, None, Option, Some, [], filter, find, if◌then◌else◌, map, nat_eq, not, unwrap_or, ℕ, ◌+◌, ◌≡◌, ◌∷◌}
 use Rattle.vt_spec.specs.declared.attributes.Attr.{Attr}
 use Rattle.vt_spec.specs.FileTree.{FileTree}
-use Rattle.vt_spec.specs.Lists.{any_pair}
 use Rattle.vt_spec.specs.Machine.Renaming.{renamed_node}
 use Rattle.vt_spec.specs.Machine.World.{Filesystem}
 use Rattle.vt_spec.specs.Inodes.{Inode, Inodes, one_directory, renamed_inodes, tree_of}
@@ -131,12 +130,6 @@ shown_with count change all = map (shown_if count change) all
 pub record ChangesInodes (count : ℕ) (change : Inodes ℕ → Inodes ℕ) (old new : Filesystems) : Type 0 where
   pub changed : shown new ≡ shown_with count change (shown old)
   pub others : without count new ≡ without count old
-
--- the tree of a filesystem has nothing of this number
-pub record IsNowhere (filesystems : Filesystems) (count number : ℕ) : Type 0 where
-  pub inode : (inodes_at filesystems count).inode number ≡ None
-  pub root : nat_eq number (inodes_at filesystems count).root ≡ false
-  pub apart : any_pair (λ a b. nat_eq a.count b.count) filesystems ≡ false
 
 -- a new filesystem as the definitions see it: one empty directory, in the first slot
 abbrev pub new_filesystem : ℕ → Attr → Filesystem ℕ

@@ -16,9 +16,10 @@ ghost use Rattle.vt_spec.specs.Machine.Descriptors.{overwritten};
 ghost use Rattle.vt_spec.specs.Tree.{bytes_in, entries_in, is_directory_node, names_in};
 ghost use Rattle.vt_spec.specs.TreeInvariant.{IsDirectory, entry_at as number_at};
 ghost use Rattle.vt_fs.specs.Trees.Slots.{most_uses};
-ghost use Rattle.vt_location.specs.Locations.{number_of, plain_of};
+ghost use Rattle.vt_fs.specs.Trees.TreeValue.{inodes_of};
+ghost use Rattle.vt_location.specs.Locations.{number_of};
 ghost use Rattle.vt_location.specs.declared.births.Birth.TheVariants.{Here};
-ghost use Rattle.vt_location.specs.Numbers.{exchanged, is_inode_of};
+ghost use Rattle.vt_location.specs.Numbers.{exchanged};
 
 use crate::tree::Tree;
 use indexmap::IndexMap;
@@ -85,7 +86,7 @@ impl Model for Filesystems {
 }
 
 impl Filesystems {
-    ghost use Rattle.vt_fs.specs.FilesystemsValue.{FilesystemEntry, ChangesInodes, IsNew, IsNowhere, entry_at, entry_of, files_at, inodes_at, inodes_seen, next_seen, node_seen, with_changed, without};
+    ghost use Rattle.vt_fs.specs.FilesystemsValue.{FilesystemEntry, ChangesInodes, IsNew, entry_at, entry_of, files_at, inodes_at, inodes_seen, next_seen, node_seen, with_changed, without};
     ghost use Rattle.vt_fs.specs.Laws.{LieUnderRoot, ParentsAreNamed, is_lost_under};
     ghost use Rattle.vt_fs.specs.Lends.{lends_tree};
 
@@ -103,16 +104,6 @@ impl Filesystems {
         ensures { result ≡ length self.now }
     {
         self.by_number.len()
-    }
-
-    /// A theorem: each inode of a filesystem has one of the numbers of that filesystem's slots.
-    pub fn has_own_numbers(&self, filesystem: FilesystemId)
-        ensures { (number : ℕ) → is_inode_of filesystem.count number ≡ false
-            → (inodes_at self.now filesystem.count).inode number ≡ None }
-    {
-        if let Some(tree) = self.get(filesystem) {
-            tree.numbers_fit();
-        }
     }
 
     /// The tree of a filesystem, with its inodes in their slots.
@@ -137,30 +128,15 @@ impl Filesystems {
         }
     }
 
-    // The slot of a node in the tree of its filesystem. What was born below a layer is in no tree.
-    #[inline(always)]
-    pub(crate) fn slot_of(&self, node: NodeRef) -> Option<NodeId>
+    // The slot of a node in the tree of its filesystem.
+    fn slot_of(&self, node: NodeRef) -> Option<NodeId>
         ensures value { IfSome result (λ slot. slot ≡ node.slot) }
         ensures number { IfSome result (λ slot. exchanged node.filesystem.count slot ≡ number_of node) }
-        ensures nowhere { result ≡ None → IsNowhere self.now node.filesystem.count (number_of node) }
+        ensures nowhere { result ≡ None
+            → (inodes_at self.now node.filesystem.count).inode (number_of node) ≡ None }
     {
-        match node.birth {
-            Birth::Here => Some(NodeId::new(node.slot)),
-            Birth::Below { .. } => {
-                self.has_no_births(node);
-                None
-            }
-        }
-    }
-
-    // No tree has a node that was born below a layer.
-    fn has_no_births(&self, node: NodeRef)
-        requires { plain_of node ≡ None }
-        ensures { IsNowhere self.now node.filesystem.count (number_of node) }
-    {
-        if let Some(found) = found_under(&self.by_number, node.filesystem) {
-            found.tree.numbers_fit();
-        }
+        let tree = self.get(node.filesystem)?;
+        slot_in(tree, node.filesystem, node)
     }
 
     /// The node of an inode, its entries and its parent by slots.
@@ -169,8 +145,9 @@ impl Filesystems {
         ensures { option_map (node_seen inode.filesystem.count) (option_copied result)
             ≡ (files_at self.now inode.filesystem.count).tree.node (number_of inode) }
     {
-        let slot = self.slot_of(inode)?;
-        self.get(inode.filesystem)?.node(slot)
+        let tree = self.get(inode.filesystem)?;
+        let slot = slot_in(tree, inode.filesystem, inode)?;
+        tree.node(slot)
     }
 
     /// The root directory of a filesystem.
@@ -188,11 +165,11 @@ impl Filesystems {
     pub fn uses(&self, inode: NodeRef) -> u64
         ensures { result ≡ uses_in ((inodes_at self.now inode.filesystem.count).inode (number_of inode)) }
     {
-        let Some(slot) = self.slot_of(inode) else {
+        let Some(tree) = self.get(inode.filesystem) else {
             return 0;
         };
-        match self.get(inode.filesystem) {
-            Some(tree) => tree.uses(slot),
+        match slot_in(tree, inode.filesystem, inode) {
+            Some(slot) => tree.uses(slot),
             None => 0,
         }
     }
@@ -224,13 +201,16 @@ impl Filesystems {
         requires named { ParentsAreNamed (files_at self.now directory.filesystem.count).tree }
         ensures { result ≡ is_removed nat_eq (files_at self.now directory.filesystem.count).tree (number_of directory) }
     {
-        let Some(slot) = self.slot_of(directory) else {
-            return true;
-        };
         let Some(tree) = self.get(directory.filesystem) else {
             return true;
         };
-        slot != tree.root() && slot == tree.parent(slot)
+        if directory.is_same(in_slot(directory.filesystem, tree.root())) {
+            return false;
+        }
+        match slot_in(tree, directory.filesystem, directory) {
+            Some(slot) => slot == tree.parent(slot),
+            None => true,
+        }
     }
 
     /// Whether `..` of a directory leads nowhere on a mount with this root: the directory is removed, or does not lie
@@ -491,10 +471,10 @@ impl Filesystems {
         ensures { ChangesInodes file.filesystem.count
             (λ inodes. changed nat_eq inodes (SetBytes (number_of file) bytes.items)) self.old self.new }
     {
-        let Some(slot) = self.slot_of(file) else {
+        let Some(tree) = self.get_mut(file.filesystem) else {
             return;
         };
-        if let Some(tree) = self.get_mut(file.filesystem) {
+        if let Some(slot) = slot_in(tree, file.filesystem, file) {
             tree.write(slot, bytes);
         }
     }
@@ -517,11 +497,11 @@ impl Filesystems {
             < offset + length bytes.now) }
         ensures err { OnErr result (self.new ≡ self.old) }
     {
-        let Some(slot) = self.slot_of(file) else {
+        let Some(tree) = self.get_mut(file.filesystem) else {
             return Ok(());
         };
-        match self.get_mut(file.filesystem) {
-            Some(tree) => tree.write_at(slot, offset, bytes),
+        match slot_in(tree, file.filesystem, file) {
+            Some(slot) => tree.write_at(slot, offset, bytes),
             None => Ok(()),
         }
     }
@@ -531,10 +511,10 @@ impl Filesystems {
         ensures { ChangesInodes object.filesystem.count
             (λ inodes. changed nat_eq inodes (SetAttr (number_of object) attr)) self.old self.new }
     {
-        let Some(slot) = self.slot_of(object) else {
+        let Some(tree) = self.get_mut(object.filesystem) else {
             return;
         };
-        if let Some(tree) = self.get_mut(object.filesystem) {
+        if let Some(slot) = slot_in(tree, object.filesystem, object) {
             tree.set_attr(slot, attr);
         }
     }
@@ -545,10 +525,10 @@ impl Filesystems {
         ensures { ChangesInodes directory.filesystem.count
             (λ inodes. changed nat_eq inodes (SetMark (number_of directory) opaque)) self.old self.new }
     {
-        let Some(slot) = self.slot_of(directory) else {
+        let Some(tree) = self.get_mut(directory.filesystem) else {
             return;
         };
-        if let Some(tree) = self.get_mut(directory.filesystem) {
+        if let Some(slot) = slot_in(tree, directory.filesystem, directory) {
             tree.set_opaque(slot, opaque);
         }
     }
@@ -565,11 +545,11 @@ impl Filesystems {
             ↔ (uses_in ((inodes_at self.old object.filesystem.count).inode (number_of object)) ≡ most_uses) }
         ensures err { OnErr result (self.new ≡ self.old) }
     {
-        let Some(slot) = self.slot_of(object) else {
+        let Some(tree) = self.get_mut(object.filesystem) else {
             return Ok(());
         };
-        match self.get_mut(object.filesystem) {
-            Some(tree) => tree.pin(slot),
+        match slot_in(tree, object.filesystem, object) {
+            Some(slot) => tree.pin(slot),
             None => Ok(()),
         }
     }
@@ -580,12 +560,30 @@ impl Filesystems {
         ensures { ChangesInodes object.filesystem.count
             (λ inodes. unpinned nat_eq inodes (number_of object)) self.old self.new }
     {
-        let Some(slot) = self.slot_of(object) else {
+        let Some(tree) = self.get_mut(object.filesystem) else {
             return;
         };
-        if let Some(tree) = self.get_mut(object.filesystem) {
+        if let Some(slot) = slot_in(tree, object.filesystem, object) {
             tree.unpin(slot);
         }
+    }
+}
+
+// The slot of a node in the tree of this filesystem. A node of another one has none there, nor has what was born below
+// a layer.
+#[inline(always)]
+pub(crate) fn slot_in(tree: &Tree, filesystem: FilesystemId, node: NodeRef) -> Option<NodeId>
+    ensures value { IfSome result (λ slot. slot ≡ node.slot) }
+    ensures number { IfSome result (λ slot. exchanged filesystem.count slot ≡ number_of node) }
+    ensures nowhere { result ≡ None
+        → (inodes_of tree.now).inode (exchanged filesystem.count (number_of node)) ≡ None }
+{
+    let end = tree.end();
+    match node.birth {
+        Birth::Here if node.filesystem == filesystem && node.slot < end => {
+            Some(NodeId::new(node.slot))
+        }
+        _ => None,
     }
 }
 

@@ -6,12 +6,12 @@ ghost use Rattle.vt_location.specs.Locations.{number_of};
 ghost use Rattle.vt_fs.specs.Trees.Paths.{NamesDirectoriesOnce};
 ghost use Rattle.vt_fs.specs.FilesystemsValue.{files_at};
 
-use crate::filesystems::Filesystems;
+use crate::filesystems::{Filesystems, slot_in};
 use std::alloc::{AllocError, Global};
 use vt_location::NodeRef;
 
 impl Filesystems {
-    /// The names that lead from a directory down to another of its filesystem, if that one lies under it.
+    /// The names that lead from a directory down to another, if that one lies under it in its filesystem.
     ///
     /// A directory must have one name at most, as in every tree of a world.
     pub fn path_down(
@@ -21,18 +21,17 @@ impl Filesystems {
         directory: NodeRef,
     ) -> Result<Option<Vec<Vec<u8>>>, AllocError>
         requires once { NamesDirectoriesOnce (files_at self.now top.filesystem.count).tree }
-        requires one_filesystem { directory.filesystem ≡ top.filesystem }
         ensures ok { IfOk result (λ path. option_map (λ names. map (λ name. name.items) names.items) path
             ≡ path_down nat_eq (files_at self.now top.filesystem.count) (number_of top) (number_of directory)) }
     {
-        let Some(upper) = self.slot_of(top) else {
+        let Some(tree) = self.get(top.filesystem) else {
             return Ok(path_to_itself(alloc, top, directory));
         };
-        let Some(lower) = self.slot_of(directory) else {
+        let Some(upper) = slot_in(tree, top.filesystem, top) else {
             return Ok(path_to_itself(alloc, top, directory));
         };
-        match self.get(top.filesystem) {
-            Some(tree) => tree.path_down(alloc, upper, lower),
+        match slot_in(tree, top.filesystem, directory) {
+            Some(lower) => tree.path_down(alloc, upper, lower),
             None => Ok(path_to_itself(alloc, top, directory)),
         }
     }

@@ -115,24 +115,24 @@ impl Groups {
 
     /// The mounts that receive the events of a group, in order of attachment: its members and slaves, and those of
     /// every group below it.
-    pub fn receivers(&self, alloc: Global, group: GroupId) -> Result<Vec<MountId>, AllocError>
+    pub fn receivers(&self, group: GroupId) -> Result<Vec<MountId>, AllocError>
         ensures ok { IfOk result (λ mounts. (world : World ℕ) → Has world self.now → AllGroupsLive world
             → map mount_number mounts.items
             ≡ numbers_of (receivers nat_eq world (group_number group))) }
     {
-        self.receiving(alloc, group)
+        self.receiving(group)
     }
 
     // The mounts that receive the events of a group: those of the group and of the groups below it.
-    fn receiving(&self, alloc: Global, group: GroupId) -> Result<Vec<MountId>, AllocError>
+    fn receiving(&self, group: GroupId) -> Result<Vec<MountId>, AllocError>
         ensures { IfOk result (λ mounts. (found : ℕ → Bool)
             × FindsBelow self.now (group_number group) found
             × (map mount_number mounts.items ≡ receivers_from found self.now.peers)) }
     {
         if self.is_lowest(group) {
-            return self.receiving_alone(alloc, group);
+            return self.receiving_alone(group);
         }
-        self.receiving_below(alloc, group)
+        self.receiving_below(group)
     }
 
     // Whether there is surely no group below this one.
@@ -143,26 +143,25 @@ impl Groups {
     }
 
     // The mounts that receive the events of a group with no group below it.
-    fn receiving_alone(&self, alloc: Global, group: GroupId) -> Result<Vec<MountId>, AllocError>
+    fn receiving_alone(&self, group: GroupId) -> Result<Vec<MountId>, AllocError>
         requires { (one : ℕ) → master_in self.now one ≢ Some (group_number group) }
         ensures { IfOk result (λ mounts. (found : ℕ → Bool)
             × FindsBelow self.now (group_number group) found
             × (map mount_number mounts.items ≡ receivers_from found self.now.peers)) }
     {
-        let _ = &self.mounts;
-        let mut mounts = Vec::with_capacity(alloc, SOME)?;
+        let mut mounts = Vec::with_capacity(self.index.allocator(), SOME)?;
         self.add_relatives(&mut mounts, group)?;
         put_in_order(&mut mounts);
         Ok(mounts)
     }
 
     // The mounts that receive the events of a group. The groups below it are looked for level by level.
-    fn receiving_below(&self, alloc: Global, group: GroupId) -> Result<Vec<MountId>, AllocError>
+    fn receiving_below(&self, group: GroupId) -> Result<Vec<MountId>, AllocError>
         ensures { IfOk result (λ mounts. (found : ℕ → Bool)
             × FindsBelow self.now (group_number group) found
             × (map mount_number mounts.items ≡ receivers_from found self.now.peers)) }
     {
-        let _ = &self.mounts;
+        let alloc = self.index.allocator();
         let mut mounts = Vec::with_capacity(alloc, SOME)?;
         let mut found = IndexSet::new(alloc);
         found.insert(group)?;

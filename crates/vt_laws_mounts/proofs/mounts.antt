@@ -1,4 +1,5 @@
 -- What the proofs of src/mounts.rt use.
+pub mod MountPointSpots
 pub mod MountsApart
 pub mod MountsAttached
 pub mod MountsCounted

@@ -14,7 +14,7 @@ use vt_io::line::LONGEST_LINE;
 /// The most texts that a line of the grammar has: those of `fork` with a child's credentials.
 pub const MOST_TEXTS: usize = 6;
 
-/// How many bytes of a word are looked at one by one.
+/// How many bytes of a long line are looked at one by one.
 const NEAR: usize = 64;
 
 /// Whether a line has no answer: it is spaces alone, or a comment.
@@ -95,18 +95,23 @@ pub fn is_unescaped(line: &[u8]) -> bool
     unescaped
 }
 
-/// As `first_space`, of a line whose first word is long.
-#[inline(never)]
-fn far_space(line: &[u8]) -> usize
+/// The index of the first space, or the line's length.
+fn first_space(line: &[u8]) -> usize
     ensures within { result ≤ length line.now }
     ensures before { (k : ℕ) → k < result → slice_index line.now k ≢ 32 }
     ensures space { result < length line.now → slice_index line.now result ≡ 32 }
 {
-    memchr(b' ', line).unwrap_or(line.len())
+    if line.len() > NEAR {
+        return first_space_of_long(line);
+    }
+    line.iter()
+        .position(|byte| *byte == b' ')
+        .unwrap_or(line.len())
 }
 
-/// The index of the first space, or the line's length. Most words are short, and end before `memchr` would have begun.
-fn first_space(line: &[u8]) -> usize
+// As `first_space`. Most words are short, and end before `memchr` would have begun.
+#[inline(never)]
+fn first_space_of_long(line: &[u8]) -> usize
     ensures within { result ≤ length line.now }
     ensures before { (k : ℕ) → k < result → slice_index line.now k ≢ 32 }
     ensures space { result < length line.now → slice_index line.now result ≡ 32 }
@@ -114,7 +119,7 @@ fn first_space(line: &[u8]) -> usize
     let (near, far) = line.split_at(line.len().min(NEAR));
     match near.iter().position(|byte| *byte == b' ') {
         Some(space) => space,
-        None => near.len() + far_space(far),
+        None => near.len() + memchr(b' ', far).unwrap_or(far.len()),
     }
 }
 

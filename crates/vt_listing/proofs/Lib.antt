@@ -2,4 +2,3 @@ pub mod ShownWorlds
 pub mod MountLines
 pub mod ListedPeers
 pub mod MountPaths
-pub mod NumbersOwned

@@ -1,3 +1,2 @@
 pub mod Shown
 pub mod GroupsListed
-pub mod OwnNodes

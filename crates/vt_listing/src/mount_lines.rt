@@ -194,10 +194,9 @@ fn filesystem_place(id: FilesystemId, filesystems: &IndexSet<FilesystemId>) -> u
     ensures { result ≡ listing.number_among nat_eq (map filesystem_number filesystems.now.keys)
         (filesystem_number id) }
 {
-    // The index is less than the length, which fits.
-    let _ = filesystems.len();
     match filesystems.get_index_of(&id) {
-        Some(index) => index + 1,
+        // It and those before it.
+        Some(index) => filesystems.as_slice()[..=index].len(),
         None => 0,
     }
 }
@@ -207,10 +206,9 @@ pub(crate) fn group_place(id: GroupId, groups: &IndexSet<GroupId>) -> usize
     ensures { result ≡ listing.number_among nat_eq (map group_number groups.now.keys)
         (group_number id) }
 {
-    // The index is less than the length, which fits.
-    let _ = groups.len();
     match groups.get_index_of(&id) {
-        Some(index) => index + 1,
+        // It and those before it.
+        Some(index) => groups.as_slice()[..=index].len(),
         None => 0,
     }
 }

@@ -7,28 +7,25 @@ ghost use Rattle.vt_spec.specs.FileTree.{path_down};
 ghost use Rattle.vt_spec.specs.Machine.Listing as listing;
 ghost use Rattle.vt_spec.specs.Machine.World.{World};
 ghost use Rattle.vt_store.specs.StoreValue.{StandOnLayers, files_in};
-ghost use Rattle.vt_listing.specs.OwnNodes.{HasOwnNodes};
 ghost use Rattle.vt_listing.specs.Shown.{IsShown, NameDirectoriesOnce};
 
 use crate::table::MountTable;
 use std::alloc::AllocError;
-use vt_location::{FilesystemId, Location, Mount, NodeRef};
+use vt_location::{Location, Mount, NodeRef};
 use vt_request::Spot;
 
 impl MountTable<'_> {
-    /// Where a mount point is: its path from the root of the mount that it is on.
+    /// Where a mount point is: its path from the root of the mount that it is on. It is gone if that mount is.
     pub fn mount_point_spot(&self, place: Location) -> Result<Spot, AllocError>
         requires standing { StandOnLayers self.now.store.now }
         requires once { NameDirectoriesOnce self.now.store.now }
         ensures ok { IfOk result (λ spot. (world : World ℕ) → IsShown world self.now
             → spot_of spot ≡ listing.mount_point_spot nat_eq world (location_of place)) }
     {
-        if let Some(mount) = self.mounts.get(place.mount) {
-            return self.spot_under(mount.root, place.node);
+        match self.mounts.get(place.mount) {
+            Some(mount) => self.spot_under(mount.root, place.node),
+            None => Ok(Spot::Gone),
         }
-        // The number of a mount is that of no inode.
-        self.has_own_nodes(FilesystemId::new(place.mount.count));
-        Ok(Spot::Gone)
     }
 
     /// Where the tree begins that a mount shows: the path of its root from the root of its filesystem.
@@ -49,23 +46,7 @@ impl MountTable<'_> {
             ≡ listing.spot_of (path_down nat_eq (files_in self.now.store.now top.filesystem.count)
             (number_of top) (number_of directory))) }
     {
-        if top.filesystem == directory.filesystem {
-            return Ok(reached(self.store.path_down(self.alloc, top, directory)?));
-        }
-        // An inode of another filesystem is not in this one.
-        self.has_own_nodes(top.filesystem);
-        Ok(Spot::Gone)
-    }
-
-    // A theorem: each inode of a filesystem has the number of a node of it.
-    fn has_own_nodes(&self, filesystem: FilesystemId)
-        requires { StandOnLayers self.now.store.now }
-        ensures { HasOwnNodes self.now.store.now filesystem.count }
-    {
-        match self.store.overlay(filesystem) {
-            Some(_) => {}
-            None => self.store.plain().has_own_numbers(filesystem),
-        }
+        Ok(reached(self.store.path_down(self.alloc, top, directory)?))
     }
 }
 

@@ -1,5 +1,5 @@
 -- Mounts in the order of their numbers: what a binary search finds among them, and what an edit there does.
-use Rattle.std.proofs.Common.{◌≡◌, ◌<◌, ◌≤◌, ◌-◌, ℕ, zero, suc, Bool, true, false, cond, ◌&&◌, List, [], ◌∷◌, ◌++◌, Option, Some, filter, get_or, leb, length, nat_eq, nat_lt, not, refl, sym, ap, eq-eqb, subst, ◌∙◌, arith, insert, remove, slice_get, ltb-true, ltb-false}
+use Rattle.std.proofs.Common.{◌≡◌, ◌<◌, ◌≤◌, ◌-◌, ℕ, zero, suc, Bool, true, false, cond, ◌&&◌, List, [], ◌∷◌, ◌++◌, Option, Some, filter, get_or, leb, length, nat_eq, nat_lt, not, refl, sym, ap, eq-eqb, subst, take, ◌+◌, ◌∙◌, arith, insert, remove, slice_get, ltb-true, ltb-false}
 use Rattle.vt_spec.proofs.Common.{and_true_left, and_true_right, get_or_from_slice_get, holds_of, nat_tests, not-true}
 use Rattle.std.specs.List.{AllWithin}
 use Rattle.std.specs.List.Sorted.{IsNonDecreasingBy, IsPartitionPoint, IsPartitionedBy}
@@ -236,6 +236,51 @@ others-above id x list above below = others-all id list (λ k d within. apart _ 
   where
     apart : (n : ℕ) → x.count ≤ n → nat_eq n id.count ≡ false
     apart n le = grind (arith, nat_tests, above)
+
+-- the last one is taken out
+
+remove-last : (list : List MountId) (n : ℕ) → length list ≡ n + 1 → remove list n ≡ take n list
+remove-last [] n is = absurd (omega (arith, is))
+remove-last (x ∷ list) zero is = nothing list (omega (arith, is))
+  where
+    nothing : (list : List MountId) → length list ≡ 0 → list ≡ []
+    nothing [] none = refl
+    nothing (y ∷ list) none = absurd (omega (arith, none))
+remove-last (x ∷ list) (suc n) is = ap (λ rest. x ∷ rest) (remove-last list n (omega (arith, is)))
+
+pub others-popped : (id : MountId) (slice list : List MountId) (len : ℕ) → slice ≡ list → length list ≡ len
+    → 0 < length slice → ((d : MountId) → same_id (get_or slice (length slice - 1) d) id ≡ true)
+    → others id (take (len - 1) list) ≡ others id list
+others-popped id slice list len is counted inside last =
+    subst (λ len. others id (take (len - 1) list) ≡ others id list) counted
+    (subst (λ list. others id (take (length list - 1) list) ≡ others id list) is
+    (ap (others id) (sym (remove-last slice (length slice - 1) (omega (arith, inside))))
+    ∙ others-remove id slice (length slice - 1) (omega (arith, inside)) last))
+
+none_below-take : (id : MountId) (list : List MountId) (n : ℕ) → none_below id list ≡ true
+    → none_below id (take n list) ≡ true
+none_below-take id list zero below = refl
+none_below-take id [] (suc n) below = refl
+none_below-take id (x ∷ list) (suc n) below =
+    both _ _ (and_true_left _ _ below) (none_below-take id list n (and_true_right _ _ below))
+
+pub rises-take : (list : List MountId) (n : ℕ) → rises list ≡ true → rises (take n list) ≡ true
+rises-take list zero rising = refl
+rises-take [] (suc n) rising = refl
+rises-take (x ∷ list) (suc n) rising = both _ _ (none_below-take x list n (and_true_left _ _ rising))
+    (rises-take list n (and_true_right _ _ rising))
+
+-- where the last mount has a smaller number, all have
+pub others-below : (id last : MountId) (list : List MountId) → rises list ≡ true
+    → slice_get list (length list - 1) ≡ Some last → leb id.count last.count ≡ false → others id list ≡ list
+others-below id last list rising is less = others-all id list (λ k d within.
+    let le = counts_rise list rising k (length list - 1) d (omega (arith, within)) (omega (arith, within)) in
+    let at : (get_or list (length list - 1) d).count ≡ last.count =
+    ap (λ one. one.count) (get_or_from_slice_get list (length list - 1) last d is) in
+    apart _ _ le at)
+  where
+    apart : (m n : ℕ) → m ≤ n → n ≡ last.count → nat_eq m id.count ≡ false
+    apart m n le at = grind (arith, nat_tests, less)
 
 -- a mount that is not at the place is not in the list
 pub others-parted : (id : MountId) (list : List MountId) (place : ℕ) → rises list ≡ true → parted id place list ≡ true

@@ -1,11 +1,14 @@
 //! Mounts in the order of their numbers.
 #![tactic(auto, unfolding(crate::specs::Rising::held))]
 
-ghost use Rattle.std.specs.Prelude.{None, Some, ◌≡◌, ◌==◌, ◌+◌, ◌++◌, ◌∷◌, ◌<◌, ◌≤◌, [], IfOk, IsTrue, OnErr, OnOk, filter, length, not, option_to_list, true, vec_capacity, vec_len};
+ghost use Rattle.std.specs.Prelude.{None, Some, ◌≡◌, ◌==◌, ◌+◌, ◌-◌, ◌++◌, ◌∷◌, ◌<◌, ◌≤◌, [], IfOk, IsTrue, OnErr, OnOk, false, filter, length, not, option_to_list, slice_index_or, true, vec_capacity, vec_len};
 ghost use Rattle.vt_mount.specs.Rising.{HasRoom, held, inserted, rises, same_id};
 
 use std::alloc::{AllocError, Global};
 use vt_location::MountId;
+
+// For how many mounts a list has room when it is made.
+const FIRST_ROOM: usize = 8;
 
 /// Mounts in the ascending order of their numbers, so that one is found by a binary search. A single one needs no
 /// allocation.
@@ -62,6 +65,7 @@ impl Ascending {
     }
 
     /// Reserves room for one more mount, beside the room that is reserved already.
+    #[inline(always)]
     pub(crate) fn reserve_one(&mut self, alloc: Global) -> Result<(), AllocError>
         ensures same { held self.new.one self.new.many ≡ held self.old.one self.old.many }
         ensures ok { OnOk result (self.new.reserved ≡ self.old.reserved + 1) }
@@ -109,6 +113,7 @@ impl Ascending {
     }
 
     /// Inserts a mount, for which room is reserved. It does not allocate.
+    #[inline(always)]
     pub(crate) fn insert(&mut self, mount: MountId)
         requires { 0 < self.old.reserved }
         ensures items { held self.new.one self.new.many ≡ inserted mount (held self.old.one self.old.many) }
@@ -144,16 +149,16 @@ impl Ascending {
     }
 }
 
-// A list of a mount, if any, with room for so many more.
+// A list of a mount, if any, with room for so many more. It gets room for eight at once.
 fn list_of(alloc: Global, one: Option<MountId>, more: usize) -> Result<Vec<MountId>, AllocError>
     requires { more < 3 }
     ensures items { IfOk result (λ ids. ids.items ≡ option_to_list one) }
     ensures room { IfOk result (λ ids. vec_len ids + more ≤ vec_capacity ids) }
 {
+    let mut ids = Vec::with_capacity(alloc, FIRST_ROOM)?;
     let Some(mount) = one else {
-        return Vec::with_capacity(alloc, more);
+        return Ok(ids);
     };
-    let mut ids = Vec::with_capacity(alloc, more + 1)?;
     ids.push(mount)?;
     Ok(ids)
 }
@@ -186,8 +191,58 @@ fn goes_last(ids: &[MountId], mount: MountId) -> bool
     }
 }
 
-// Removes a mount from a list.
+// Removes a mount from a list. Mostly it is the last one.
 fn remove_from(ids: &mut Vec<MountId>, mount: MountId)
+    requires { rises ids.old.items ≡ true }
+    ensures items { ids.new.items ≡ filter (λ other. not (same_id other mount)) ids.old.items }
+    ensures rising { rises ids.new.items ≡ true }
+    ensures len { vec_len ids.new ≤ vec_len ids.old }
+    ensures capacity { vec_capacity ids.old ≤ vec_capacity ids.new }
+{
+    pop_if_last(ids, mount);
+    if reaches(ids, mount) {
+        remove_within(ids, mount);
+    }
+}
+
+// Removes the last mount of a list, if it is this one.
+fn pop_if_last(ids: &mut Vec<MountId>, mount: MountId)
+    requires { rises ids.old.items ≡ true }
+    ensures others { filter (λ other. not (same_id other mount)) ids.new.items ≡ filter (λ other. not (same_id other mount)) ids.old.items }
+    ensures rising { rises ids.new.items ≡ true }
+    ensures len { vec_len ids.new ≤ vec_len ids.old }
+    ensures capacity { vec_capacity ids.old ≤ vec_capacity ids.new }
+{
+    if ends_with(ids, mount) {
+        ids.pop();
+    }
+}
+
+// Whether a mount is the last one of a list.
+fn ends_with(ids: &[MountId], mount: MountId) -> bool
+    ensures inside { result ≡ true → 0 < length ids.now }
+    ensures last { result ≡ true
+        → (d : MountId) → same_id (slice_index_or ids.now (length ids.now - 1) d) mount ≡ true }
+{
+    match ids.last() {
+        Some(last) => *last == mount,
+        None => false,
+    }
+}
+
+// Whether a mount of a list has this number or a greater one.
+fn reaches(ids: &[MountId], mount: MountId) -> bool
+    requires { rises ids.now ≡ true }
+    ensures { result ≡ false → filter (λ other. not (same_id other mount)) ids.now ≡ ids.now }
+{
+    match ids.last() {
+        Some(last) => mount.count <= last.count,
+        None => false,
+    }
+}
+
+// Removes a mount from a list, wherever it is.
+fn remove_within(ids: &mut Vec<MountId>, mount: MountId)
     requires { rises ids.old.items ≡ true }
     ensures items { ids.new.items ≡ filter (λ other. not (same_id other mount)) ids.old.items }
     ensures rising { rises ids.new.items ≡ true }

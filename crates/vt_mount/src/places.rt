@@ -13,6 +13,7 @@ use vt_location::{Location, MountId, NamespaceId, NodeRef};
 
 impl Mounts {
     /// The mount at a location; of several, the one with the least number.
+    #[inline(always)]
     pub fn child_at(&self, place: Location) -> Option<MountId>
         ensures child { option_map mount_number result
             ≡ option_map (λ child. child.number) (child_at nat_eq (mounts_in self.now) (location_of place)) }

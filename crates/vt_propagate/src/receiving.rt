@@ -48,7 +48,7 @@ pub(crate) fn receivers_of(
         → map mount_number ids.items ≡ numbers_of (receivers_of nat_eq world mount)) }
 {
     match propagation {
-        Propagation::Shared(group) => groups.receivers(alloc, group),
+        Propagation::Shared(group) => groups.receivers(group),
         Propagation::Slave(_) | Propagation::Private | Propagation::Unbindable => {
             Ok(Vec::new(alloc))
         }

@@ -38,7 +38,7 @@ pub(crate) fn going_then(
     let Some((point, group)) = shared_point_then(mounts, gone, id) else {
         return alone(alloc, id);
     };
-    let receivers = groups.receivers(alloc, group)?;
+    let receivers = groups.receivers(group)?;
     free_on_then(alloc, mounts, gone, point.node, &receivers)
 }
 

@@ -58,7 +58,7 @@ pub fn going(
     let Some((point, group)) = shared_point(mounts, id) else {
         return alone(alloc, id);
     };
-    let receivers = groups.receivers(alloc, group)?;
+    let receivers = groups.receivers(group)?;
     free_on(alloc, mounts, point.node, &receivers)
 }
 

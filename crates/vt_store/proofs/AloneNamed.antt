@@ -117,10 +117,3 @@ module _ (plain : Filesystems) (overlays : List OverlayEntry) (count : ℕ) (tre
       ≡ list_any test (files_at plain count).numbers
   alone_decides = sym (any_one test (exchanged count directory) only (files_at plain count).numbers listed
       ∙ ap (λ b. b && list_any (directory_lies_in_overlay plain count (exchanged count directory)) overlays) named)
-
-  -- its slot is one of the tree
-  pub alone_small : ((id : ℕ) → 18446744073709551616 ≤ id → (tree_of tree).node id ≡ None)
-      → directory < 18446744073709551616
-  alone_small fits = ⊎_elim (λ less. less)
-      (λ large. absurd (true≢false (sym (has_node slot ((tree_of tree).node directory) alone.0)
-      ∙ ap is_some (fits directory large)))) (cases_lt directory 18446744073709551616)

@@ -18,3 +18,4 @@ pub mod LayersKept
 pub mod LayersOver
 pub mod AnyNamed
 pub mod AloneNamed
+pub mod NumbersOwned

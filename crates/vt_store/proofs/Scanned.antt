@@ -1,6 +1,6 @@
 -- The slots of a tree, looked through from the first one on.
 use Rattle.std.proofs.Common.{Bool, List, None, Option, Some, [], ap, arith, cond, drop, false, is_some, ltb-false, ltb-true, map, nat_lt, refl, suc, sym, true, true≢false, zero, ℕ, ◌+◌, ◌<◌, ◌||◌, ◌∙◌, ◌∷◌, ◌≡◌, ◌≤◌, count_by, slice_index_or}
-use Rattle.vt_spec.proofs.Common.{Inode, list_any, sum_by-cons}
+use Rattle.vt_spec.proofs.Common.{Inode, list_any, none_is_some, sum_by-cons}
 use Rattle.vt_fs.specs.FilesystemsValue.{filled_from}
 
 abbrev pub Slots : Type 0
@@ -10,18 +10,8 @@ counted : (o : Option (Inode ℕ)) (slots : Slots)
     → count_by is_some (o ∷ slots) ≡ cond (is_some o) 1 0 + count_by is_some slots
 counted o slots = sum_by-cons (λ (o : Option (Inode ℕ)). cond (is_some o) 1 0) o slots
 
--- where some are left, there is a next one
-pub next_slot : (slot : ℕ) (slots : Slots) → 0 < count_by is_some (drop slot slots)
-    → drop slot slots ≡ slice_index_or slots slot None ∷ drop (slot + 1) slots
-next_slot zero [] some = absurd (let no : ⊥ = omega (arith, some) in no)
-next_slot zero (first ∷ slots) some = refl
-next_slot (suc slot) [] some = absurd (let no : ⊥ = omega (arith, some) in no)
-next_slot (suc slot) (first ∷ slots) some = next_slot slot slots some
-    ∙ ap (λ k. slice_index_or slots slot None ∷ drop k (first ∷ slots)) (let one : suc (slot + 1) ≡ suc slot + 1 =
-    omega arith in one)
-
 -- a slot after the last one has nothing
-none_beyond : (least : ℕ) (slots : Slots)
+pub none_beyond : (least : ℕ) (slots : Slots)
     → ((id : ℕ) → least ≤ id → slice_index_or slots id None ≡ None) → (slot : ℕ) → least ≤ slot
     → count_by is_some (drop slot slots) ≡ 0
 none_beyond least slots none slot beyond = all_none (drop slot slots)
@@ -39,41 +29,32 @@ none_beyond least slots none slot beyond = all_none (drop slot slots)
     all_none (None ∷ slots) each = counted None slots ∙ omega arith ∙ all_none slots (λ k. each (suc k))
     all_none (Some inode ∷ slots) each = absurd (true≢false (ap is_some (each 0)))
 
--- so where some are left, the next one is before it
-pub left_within : (least : ℕ) (slots : Slots)
-    → ((id : ℕ) → least ≤ id → slice_index_or slots id None ≡ None) → (slot : ℕ)
-    → 0 < count_by is_some (drop slot slots) → slot < least
-left_within least slots none slot some = by (nat_lt slot least) refl
-  where
-    by : (b : Bool) → nat_lt slot least ≡ b → slot < least
-    by true e = ltb-true slot least e
-    by false e =
-        let all = none_beyond least slots none slot (ltb-false slot least e) in
-        absurd (let no : ⊥ = omega (arith, all, some) in no)
+none_left : (k : ℕ) → drop {A = Option (Inode ℕ)} k [] ≡ []
+none_left zero = refl
+none_left (suc k) = refl
 
 -- the slots that are left, one by one
-module _ (test : ℕ → Bool) (number : ℕ → ℕ) (slot : ℕ) (slots : Slots)
-    (some : 0 < count_by is_some (drop slot slots)) where
-  abbrev rest : Slots
-  rest = drop (slot + 1) slots
-
+module _ (test : ℕ → Bool) (number : ℕ → ℕ) where
   abbrev found_in : ℕ → Slots → Bool
-  found_in slot list = list_any test (map number (filled_from slot list))
+  found_in slot slots = list_any test (map number (filled_from slot slots))
 
-  pub vacant_found : slice_index_or slots slot None ≡ None → found_in (slot + 1) rest ≡ found_in slot (drop slot slots)
-  vacant_found e = sym (ap (found_in slot) (next_slot slot slots some ∙ ap (λ o. o ∷ rest) e))
+  pub vacant_found : (first slot : ℕ) (slots : Slots) → slice_index_or slots slot None ≡ None
+      → found_in (first + 1) (drop (slot + 1) slots) ≡ found_in first (drop slot slots)
+  vacant_found first zero [] e = refl
+  vacant_found first zero (o ∷ slots) e = sym (ap (λ o. found_in first (o ∷ slots)) e)
+  vacant_found first (suc slot) [] e =
+      ap (found_in (first + 1)) (none_left (suc slot + 1)) ∙ sym (ap (found_in first) (none_left (suc slot)))
+  vacant_found first (suc slot) (o ∷ slots) e = ap (λ k. found_in (first + 1) (drop k (o ∷ slots)))
+      (let one : suc slot + 1 ≡ suc (slot + 1) = omega arith in one) ∙ vacant_found first slot slots e
 
-  pub vacant_left : slice_index_or slots slot None ≡ None → count_by is_some (drop slot slots) ≡ count_by is_some rest
-  vacant_left e =
-      ap (count_by is_some) (next_slot slot slots some ∙ ap (λ o. o ∷ rest) e) ∙ counted None rest ∙ omega arith
-
-  module _ (inode : Inode ℕ) (filled : slice_index_or slots slot None ≡ Some inode) where
-    pub filled_found : found_in slot (drop slot slots) ≡ (test (number slot) || found_in (slot + 1) rest)
-    filled_found = ap (found_in slot) (next_slot slot slots some ∙ ap (λ o. o ∷ rest) filled)
-
-    pub filled_left : count_by is_some (drop slot slots) ≡ count_by is_some rest + 1
-    filled_left = ap (count_by is_some) (next_slot slot slots some ∙ ap (λ o. o ∷ rest) filled)
-        ∙ counted (Some inode) rest ∙ omega arith
+  pub filled_found : (inode : Inode ℕ) (first slot : ℕ) (slots : Slots) → slice_index_or slots slot None ≡ Some inode
+      → found_in first (drop slot slots) ≡ (test (number first) || found_in (first + 1) (drop (slot + 1) slots))
+  filled_found inode first zero [] e = none_is_some inode e
+  filled_found inode first zero (o ∷ slots) e = ap (λ o. found_in first (o ∷ slots)) e
+  filled_found inode first (suc slot) [] e = none_is_some inode e
+  filled_found inode first (suc slot) (o ∷ slots) e = filled_found inode first slot slots e
+      ∙ ap (λ k. test (number first) || found_in (first + 1) (drop k (o ∷ slots)))
+      (let one : suc (slot + 1) ≡ suc slot + 1 = omega arith in one)
 
 -- nothing is found where none is left
 pub none_found : (test : ℕ → Bool) (number : ℕ → ℕ) (slot : ℕ) (slots : Slots) → count_by is_some slots ≡ 0

@@ -52,10 +52,11 @@ fn has_name_in_layer(plain: &Filesystems, overlays: &Overlays, file: InodeRef) -
     let Some(tree) = plain.get(file.filesystem) else {
         return false;
     };
-    tree.numbers_fit();
     match tree.directory_of(file.node()) {
         Some(directory) => {
-            overlays.have_layer_over(plain, InodeRef::new(file.filesystem, directory))
+            let filesystem = file.filesystem;
+            let slot = directory.index();
+            overlays.have_layer_over(plain, InodeRef { filesystem, slot })
         }
         None => finds_name_in_layer(plain, overlays, file),
     }
@@ -71,23 +72,14 @@ fn finds_name_in_layer(plain: &Filesystems, overlays: &Overlays, file: InodeRef)
     let Some(tree) = plain.get(file.filesystem) else {
         return false;
     };
-    tree.numbers_fit();
-    let mut left = tree.len();
+    let end = tree.end();
     let mut slot = 0;
-    while left > 0 {
+    while slot < end {
         let directory = NodeId::new(slot);
         if tree.node(directory).is_some() {
-            if names_in_layer(
-                plain,
-                overlays,
-                file,
-                InodeRef::new(file.filesystem, directory),
-            ) {
+            let inode = InodeRef::new(file.filesystem, directory);
+            if names_in_layer(plain, overlays, file, inode) {
                 return true;
-            }
-            left -= 1;
-            if left == 0 {
-                return false;
             }
         }
         slot += 1;

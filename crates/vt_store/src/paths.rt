@@ -10,7 +10,7 @@ use std::alloc::{AllocError, Global};
 use vt_location::NodeRef;
 
 impl Store {
-    /// The names that lead from a directory down to another of its filesystem, if that one lies under it.
+    /// The names that lead from a directory down to another, if that one lies under it in its filesystem.
     ///
     /// A directory must have one name at most, as in every tree of a world. It fails only if an allocation does.
     pub fn path_down(
@@ -21,14 +21,16 @@ impl Store {
     ) -> Result<Option<Vec<Vec<u8>>>, AllocError>
         requires standing { StandOnLayers self.now }
         requires once { NamesDirectoriesOnce (files_in self.now top.filesystem.count).tree }
-        requires one_filesystem { directory.filesystem ≡ top.filesystem }
         ensures ok { IfOk result (λ path. option_map (λ names. map (λ name. name.items) names.items) path
             ≡ path_down nat_eq (files_in self.now top.filesystem.count) (number_of top) (number_of directory)) }
     {
-        match self.overlay(top.filesystem) {
-            Some(overlay) => overlay.path_down(alloc, &self.plain, top, directory),
-            None => self.plain.path_down(alloc, top, directory),
+        let Some(overlay) = self.overlay(top.filesystem) else {
+            return self.plain.path_down(alloc, top, directory);
+        };
+        if top.filesystem != directory.filesystem {
+            return Ok(None);
         }
+        overlay.path_down(alloc, &self.plain, top, directory)
     }
 
     /// The names that lead to a directory from the root of its filesystem, if it lies under that; as `path_down`.

@@ -38,12 +38,12 @@ fn events_go_to_members_slaves_and_groups_below(rt: HostRuntime) -> Result<(), F
 
 fn see_receivers(rt: &impl Abort, alloc: Global, groups: &mut Groups) -> Result<(), Fail> {
     make_family(groups)?;
-    let all = groups.receivers(alloc, group(10))?;
+    let all = groups.receivers(group(10))?;
     assert_eq!(rt;
         all.as_slice(),
         [mount(1), mount(2), mount(3), mount(4), mount(5)].as_slice()
     );
-    let below = groups.receivers(alloc, group(11))?;
+    let below = groups.receivers(group(11))?;
     assert_eq!(rt; below.as_slice(), [mount(4), mount(5)].as_slice());
     Ok(())
 }
@@ -64,7 +64,7 @@ fn see_heir(rt: &impl Abort, alloc: Global, groups: &mut Groups) -> Result<(), F
         Some(Propagation::Slave(group(10)))
     );
     assert_eq!(rt; groups.master_of(group(11)), None);
-    let all = groups.receivers(alloc, group(10))?;
+    let all = groups.receivers(group(10))?;
     assert_eq!(rt;
         all.as_slice(),
         [mount(1), mount(2), mount(3), mount(5)].as_slice()
@@ -160,7 +160,7 @@ fn see_added(rt: &impl Abort, alloc: Global, groups: &mut Groups) -> Result<(), 
         },
     ];
     groups.add(mounts.as_slice(), new.as_slice())?;
-    let below = groups.receivers(alloc, group(13))?;
+    let below = groups.receivers(group(13))?;
     assert_eq!(rt; below.as_slice(), [mount(6), mount(7)].as_slice());
     groups.leave(mount(7));
     assert_eq!(rt; groups.master_of(group(12)), Some(group(10)));

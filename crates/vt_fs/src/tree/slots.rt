@@ -120,11 +120,11 @@ impl Slots {
         self.slab.len()
     }
 
-    /// No node has a number of 2^64 or more.
-    pub fn numbers_fit(&self)
-        ensures { (id : ℕ) → 2 ^ 64 ≤ id → slot_at self.now id ≡ None }
+    /// A number above those of all nodes.
+    pub fn end(&self) -> usize
+        ensures { (id : ℕ) → result ≤ id → slot_at self.now id ≡ None }
     {
-        let _capacity = self.slab.capacity();
+        self.slab.capacity()
     }
 
     /// The number that the next insert gives out.
@@ -142,8 +142,9 @@ impl Slots {
         ensures room { self.old.room ≤ self.new.room }
         ensures rest_kept { self.new ≡ record self.old { room = self.new.room } }
     {
-        // Its clause says that the nodes fit, on which `succeeds` rests.
-        let _capacity = self.slab.capacity();
+        if additional <= self.slab.capacity() - self.slab.len() {
+            return Ok(());
+        }
         self.slab.reserve(additional)
     }
 

@@ -79,13 +79,11 @@ impl Tree {
         self.slots.len()
     }
 
-    /// No object has a number of 2^64 or more, nor has the root.
-    pub fn numbers_fit(&self)
-        ensures numbers { (id : ℕ) → 2 ^ 64 ≤ id → (inodes_of self.now).inode id ≡ None }
-        ensures root { (tree_of self.now).root < 2 ^ 64 }
+    /// A number above those of all objects.
+    pub fn end(&self) -> usize
+        ensures { (id : ℕ) → result ≤ id → (inodes_of self.now).inode id ≡ None }
     {
-        let _root = self.root.index();
-        self.slots.numbers_fit();
+        self.slots.end()
     }
 
     /// The number that the next new object gets, which no node has.

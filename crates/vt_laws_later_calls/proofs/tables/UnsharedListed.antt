@@ -1,5 +1,5 @@
 -- What the list of mounts tells after an unshare.
-use Rattle.std.proofs.Common.{arith, ◌≡◌, refl, sym, ap, subst, ◌∙◌, inr, ⊎_elim, ℕ, nat_eq, eq-eqb, eqb-true, Bool, true, false, cond, List, [], ◌∷◌, ◌++◌, Option, Some, None, Ok, Err, Result, filter, find, flat_map, is_some, map, option_map, option_to_list, true≢false, unwrap_or}
+use Rattle.std.proofs.Common.{arith, ◌≡◌, refl, sym, ap, subst, ◌∙◌, inr, ⊎_elim, ℕ, nat_eq, eq-eqb, eqb-true, Bool, true, false, cond, List, [], ◌∷◌, ◌++◌, Option, Some, None, Ok, Err, Result, filter, find, flat_map, is_some, map, option_and_then, option_map, option_to_list, true≢false, unwrap_or}
 use Rattle.vt_spec.proofs.Common.{Answer, Done, Filesystem, Fresh, IsWorld, ListMounts, Location, Looks, Mount, MountInvariants, MountList, Namespace, Permit, Private, Propagation, Serves, Shared, Slave, Spot, Task, TaskName, ToUnshare, Unbindable, Unshare, World, apply, bytes_decides, cases_Bool, common_steps, denial, each_once, evens, false_from_ne_true, filesystems_changed, filesystems_seen, groups_in_type, groups_seen, groups_shown, is_among_numbers, is_going, is_listed, is_member_of, is_overlay, map_alike, map_same, mount_line, mount_lines, mount_lives, mount_numbered, mount_point_left, mount_point_spot, mounts_of, no_filesystem, number_among, numbers_in_use, numbers_raised, path_down, policy, raised, raised_if_changed, raised_task, replaced_if_called, same_Some, same_name, same_task_name, settled, spot_of, task_called, type_line, used_by_filesystem, used_by_mount, without_dead_groups}
 use Rattle.vt_spec.specs.declared.errors.Deny.{Deny}
 use Rattle.vt_spec.specs.declared.errors.Rule.TheVariants.{S2}
@@ -8,6 +8,9 @@ use Rattle.vt_laws_mounts.proofs.letting_go.Lists.{Among, among-append_left, amo
 use Rattle.vt_laws_mounts.proofs.letting_go.mounting.MountingTaken
 use Rattle.vt_laws_mounts.specs.Mounts.Propagation.{UnshareListsOthersTheSame, UnshareListsTheSame}
 use Rattle.vt_laws_mounts.proofs.GroupsKept.{shared_member}
+use Rattle.vt_laws_mounts.specs.Mounts.Attaching.{is_mount}
+use Rattle.vt_laws_mounts.proofs.mounts.MountPointSpots.{numbered_found}
+use Rattle.vt_laws_mounts.proofs.mounts.MountsNumbered.{is_one_of}
 use Rattle.vt_laws_mounts.proofs.mounts.MountsReplaced.{found_itself}
 use Rattle.vt_laws_mounts.proofs.namespaces.Unsharing.{Parent, parent_of}
 use Rattle.vt_laws_mounts.proofs.namespaces.UnsharingNamespaces.{new_namespace_is_empty}
@@ -38,12 +41,15 @@ filter_left p q f (y ∷ ys) same out =
         → filter p (filter q (f y ∷ map f ys)) ≡ filter p (y ∷ ys)
     by b e rest = grind (arith, common_steps, filter_here, skipped, filter_skip)
 
+-- the mount that a mount point is on
+abbrev parent_in : World ℕ → Location ℕ → Option (Mount ℕ)
+parent_in world place = find (λ (mount : Mount ℕ). nat_eq place.mount mount.number) world.mounts
+
 -- A list of mounts reads the same where its mounts, what they stand on, filesystems and masters are the same.
 module _ (before later : World ℕ) (namespace : ℕ) (filesystems : later.filesystems ≡ before.filesystems)
     (mounts : mounts_of nat_eq later namespace ≡ mounts_of nat_eq before namespace)
     (found : (mount : Mount ℕ) → Among mount (mounts_of nat_eq before namespace) → (place : Location ℕ)
-    → mount.mount_point ≡ Some place
-    → mount_numbered nat_eq later place.mount ≡ mount_numbered nat_eq before place.mount)
+    → mount.mount_point ≡ Some place → parent_in later place ≡ parent_in before place)
     (masters : (mount : Mount ℕ) → Among mount (mounts_of nat_eq before namespace) → (group : ℕ)
     → mount.propagation ≡ Shared group → later.master group ≡ before.master group) where
   abbrev list : List (Mount ℕ)
@@ -81,8 +87,9 @@ module _ (before later : World ℕ) (namespace : ℕ) (filesystems : later.files
       by Private e = refl
       by Unbindable e = refl
 
-  abbrev spot_in : List (Filesystem ℕ) → Mount ℕ → ℕ → Spot
-  spot_in those mount node = spot_of (path_down nat_eq (listed those mount.filesystem).files mount.root node)
+  abbrev spot_in : List (Filesystem ℕ) → Option (Mount ℕ) → ℕ → Spot
+  spot_in those parent node = spot_of (option_and_then
+      (λ (mount : Mount ℕ). path_down nat_eq (listed those mount.filesystem).files mount.root node) parent)
 
   abbrev cell : World ℕ → Location ℕ → ℕ × Spot
   cell world place =
@@ -96,8 +103,8 @@ module _ (before later : World ℕ) (namespace : ℕ) (filesystems : later.files
       by None e = refl
       by (Some place) e =
           ap (λ s. Some (number_among nat_eq (map (λ (other : Mount ℕ). other.number) list) place.mount, s))
-          (ap (λ (x : Mount ℕ). spot_in later.filesystems x place.node) (found mount m place e)
-          ∙ ap (λ those. spot_in those (mount_numbered nat_eq before place.mount) place.node) filesystems)
+          (ap (λ parent. spot_in later.filesystems parent place.node) (found mount m place e)
+          ∙ ap (λ those. spot_in those (parent_in before place) place.node) filesystems)
 
   line_alike : (mount : Mount ℕ) → Among mount list
       → mount_line nat_eq later list mount ≡ mount_line nat_eq before list mount
@@ -224,17 +231,27 @@ module _ (world : World ℕ) (fresh : Fresh ℕ) (task : Task ℕ) (is : IsWorld
         by mount e false isnt = ap (is_in namespace.number) (MountingTaken.stays_there base ended lasting mount isnt)
             ∙ e
 
-    found_same : (mount : Mount ℕ) → Among mount (mounts_of nat_eq base namespace.number) → (place : Location ℕ)
-        → mount.mount_point ≡ Some place
+    found_parent : {mount : Mount ℕ} (place : Location ℕ) (on : Parent base mount place) → IsInside on.parent
         → mount_numbered nat_eq last place.mount ≡ mount_numbered nat_eq base place.mount
+    found_parent place on too = ap (mount_numbered nat_eq mounted) (sym on.number)
+        ∙ UnsharedLeft.shown world fresh task is serves called on.parent on.there (lives on.parent on.there too)
+        ∙ unchanged on.parent on.there too ∙ sym (found_itself base.mounts base_is.one_number on.parent on.there)
+        ∙ ap (mount_numbered nat_eq base) on.number
+
+    found_same : (mount : Mount ℕ) → Among mount (mounts_of nat_eq base namespace.number) → (place : Location ℕ)
+        → mount.mount_point ≡ Some place → parent_in last place ≡ parent_in base place
     found_same mount m place e =
         let from = among-from_filter (is_in namespace.number) base.mounts mount m in
         let on = below mount from.0 place e in
         let too : IsInside on.parent = sym on.namespace ∙ inside mount from.1 in
-        ap (mount_numbered nat_eq mounted) (sym on.number)
-        ∙ UnsharedLeft.shown world fresh task is serves called on.parent on.there (lives on.parent on.there too)
-        ∙ unchanged on.parent on.there too ∙ sym (found_itself base.mounts base_is.one_number on.parent on.there)
-        ∙ ap (mount_numbered nat_eq base) on.number
+        let left : Among on.parent mounted.mounts = subst (λ x. Among x mounted.mounts)
+        (unchanged on.parent on.there too)
+        (UnsharedLeft.alive_there world fresh task is serves called on.parent on.there (lives on.parent on.there too)) in
+        numbered_found last.mounts place.mount
+        (subst (λ n. is_mount last n ≡ true) on.number (is_one_of last.mounts on.parent left))
+        ∙ ap Some (found_parent place on too)
+        ∙ sym (numbered_found base.mounts place.mount
+        (subst (λ n. is_mount base n ≡ true) on.number (is_one_of base.mounts on.parent on.there)))
 
     masters_same : (mount : Mount ℕ) → Among mount (mounts_of nat_eq base namespace.number) → (group : ℕ)
         → mount.propagation ≡ Shared group → last.master group ≡ base.master group

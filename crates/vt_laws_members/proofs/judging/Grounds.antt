@@ -86,8 +86,12 @@ module _ (world : World ℕ) (names : List TaskName) (is : MountInvariants nat_e
         by true e later = cc (it e, e)
         by false e later = skip (kept x) refl e ∙ later
 
+    pub same_found : find (λ (m : Mount ℕ). nat_eq number m.number) part.mounts
+        ≡ find (λ (m : Mount ℕ). nat_eq number m.number) world.mounts
+    same_found = search world.mounts (λ x m. m)
+
     pub same_mount : mount_numbered nat_eq part number ≡ mount_numbered nat_eq world number
-    same_mount = ap (λ o. unwrap_or o (no_mount number)) (search world.mounts (λ x m. m))
+    same_mount = ap (λ o. unwrap_or o (no_mount number)) same_found
 
     pub its_mount : mount_numbered nat_eq world number ≡ own.0
     its_mount = ap (mount_numbered nat_eq world) (sym own.2) ∙ numbered world names is own.0 own.1

@@ -1,11 +1,14 @@
 -- The list of mounts of a namespace of theirs is the same in the part.
-use Rattle.std.proofs.Common.{arith, ◌≡◌, refl, sym, ap, ◌∙◌, ⊎_elim, ℕ, nat_eq, Bool, true, List, ◌∷◌, Option, Some, None, map, eq-eqb, option_map, option_to_list}
-use Rattle.vt_spec.proofs.Common.{Among, IsWorld, Location, Mount, Private, Propagation, Shared, Slave, Spot, Task, TaskName, Unbindable, World, among-filter, among-from_filter, any_from_among, common_steps, each_once, filesystem_numbered, filesystems_seen, groups_in_type, groups_seen, groups_shown, holds_of, is_among, is_overlay, map_alike, members, mount_line, mount_lines, mount_point_spot, mounts_of, number_among, part_of, path_down, spot_of, type_line, used_filesystems}
+use Rattle.std.proofs.Common.{arith, ◌≡◌, refl, sym, ap, subst, ◌∙◌, ⊎_elim, ℕ, nat_eq, Bool, true, List, ◌∷◌, Option, Some, None, map, eq-eqb, option_and_then, option_map, option_to_list}
+use Rattle.vt_spec.proofs.Common.{Among, IsWorld, Location, Mount, Private, Propagation, Shared, Slave, Spot, Task, TaskName, Unbindable, World, among-filter, among-from_filter, any_from_among, common_steps, each_once, files_at, filesystem_numbered, filesystems_seen, groups_in_type, groups_seen, groups_shown, holds_of, is_among, is_overlay, map_alike, members, mount_at, mount_line, mount_lines, mount_point_spot, mounts_of, number_among, part_of, path_down, spot_of, type_line, used_filesystems}
 use Rattle.vt_laws_sealed.proofs.part.part.MountsOver.{numbered}
+use Rattle.vt_laws_mounts.specs.Mounts.Attaching.{is_mount}
 use Rattle.vt_laws_mounts.proofs.letting_go.Lists.{flat_map_alike}
+use Rattle.vt_laws_mounts.proofs.mounts.MountPointSpots.{numbered_found, spot_on}
+use Rattle.vt_laws_mounts.proofs.mounts.MountsNumbered.{is_one_of}
 use Rattle.vt_laws_sealed.proofs.part.Kept.{filter_kept}
 use Rattle.vt_laws_sealed.proofs.part.part.PartOfPart.{found, is_own, keep, kept_how}
-use Rattle.vt_laws_members.proofs.judging.Grounds.{IsTheirs, parent_theirs}
+use Rattle.vt_laws_members.proofs.judging.Grounds.{IsTheirs, parent_theirs, same_found}
 use Rattle.vt_laws_members.proofs.judging.MountPoints.{in_own}
 use Rattle.vt_laws_members.proofs.judging.MountTrees.{own_theirs, own_whole}
 use Rattle.vt_laws_members.proofs.judging.SeenInPart.{filesystem_alike, mount_alike, theirs_used}
@@ -83,7 +86,17 @@ module _ (world : World ℕ) (names : List TaskName) (is : IsWorld nat_eq world)
 
   spot_alike : (point : Location ℕ) → IsTheirs world names is.mounts point.mount
       → mount_point_spot nat_eq part point ≡ mount_point_spot nat_eq world point
-  spot_alike point own = cc (filesystem_alike world names is point own, mount_alike world names is point own)
+  spot_alike point own =
+      let there : is_mount world point.mount ≡ true =
+      subst (λ n. is_mount world n ≡ true) own.2 (is_one_of world.mounts own.0 own.1) in
+      let same_path : path_down nat_eq (filesystem_numbered nat_eq part (mount_at nat_eq world point).filesystem).files
+      (mount_at nat_eq world point).root point.node
+      ≡ path_down nat_eq (files_at nat_eq world point) (mount_at nat_eq world point).root point.node =
+      cc (filesystem_alike world names is point own, mount_alike world names is point own) in
+      ap (λ o. spot_of (option_and_then (λ (mount : Mount ℕ).
+      path_down nat_eq (filesystem_numbered nat_eq part mount.filesystem).files mount.root point.node) o))
+      (same_found world names is.mounts point.mount own ∙ numbered_found world.mounts point.mount there)
+      ∙ ap spot_of same_path ∙ sym (spot_on world point there)
 
   abbrev pair : ℕ → Spot → ℕ × Spot
   pair index spot = (index, spot)

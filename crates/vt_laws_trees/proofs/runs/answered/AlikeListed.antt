@@ -1,8 +1,8 @@
 -- Mounts are listed alike in two worlds that are alike.
-use Rattle.std.proofs.Common.{◌≡◌, ℕ, nat_eq, List, map, is_some, option_map}
-use Rattle.vt_spec.proofs.Common.{Location, Mount, World, filesystems_seen, groups_seen, mount_at, mount_line, mount_lines, mounts_of, number_among, spot_of, type_line}
+use Rattle.std.proofs.Common.{◌≡◌, ℕ, nat_eq, List, find, map, is_some, option_and_then, option_map}
+use Rattle.vt_spec.proofs.Common.{Location, Mount, World, filesystems_seen, groups_seen, mount_line, mount_lines, mounts_of, number_among, spot_of, type_line}
 use Rattle.vt_laws_rules.proofs.same.SameFiles.{path_same}
-use Rattle.vt_laws_trees.proofs.runs.answered.AlikeChanges.{found_alike, here_alike}
+use Rattle.vt_laws_trees.proofs.runs.answered.AlikeChanges.{found_alike}
 use Rattle.vt_laws_trees.proofs.runs.answered.AlikeWorlds.{Alike, mounts_of_one, with_mounts_of}
 
 module _ (one other : World ℕ) (same : Alike one (with_mounts_of one other)) where
@@ -13,8 +13,9 @@ module _ (one other : World ℕ) (same : Alike one (with_mounts_of one other)) w
       λ i. record {
         mount_point = option_map (λ (place : Location ℕ). (
           number_among nat_eq (map (λ (one : Mount ℕ). one.number) mounts) place.mount,
-          spot_of (path_same _ _ (here_alike one (with_mounts_of one other) same place).files
-              (mount_at nat_eq one place).root place.node i),
+          spot_of (option_and_then (λ (parent : Mount ℕ).
+              path_same _ _ (found_alike one (with_mounts_of one other) same parent.filesystem).files parent.root place.node i)
+              (find (λ (parent : Mount ℕ). nat_eq place.mount parent.number) one.mounts)),
         )) mount.mount_point;
         overlay = is_some (shown.overlay i);
         filesystem = number_among nat_eq (filesystems_seen nat_eq mounts) mount.filesystem;

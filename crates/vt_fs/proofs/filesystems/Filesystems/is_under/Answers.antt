@@ -1,8 +1,8 @@
-use Rattle.std.proofs.Common.{ap, sym, ◌∙◌, subst}
+use Rattle.std.proofs.Common.{None, ap, sym, ◌∙◌, ◌≡◌, subst}
 use Rattle.vt_location.specs.Locations.{number_of}
 use Rattle.vt_location.specs.Numbers.{exchanged}
 use Rattle.vt_location.specs.declared.numbers.FilesystemId.{FilesystemId}
-use Rattle.vt_fs.specs.FilesystemsValue.{IsNowhere, entry_at, inodes_at, numbers_seen}
+use Rattle.vt_fs.specs.FilesystemsValue.{entry_at, inodes_at, numbers_seen}
 use Rattle.vt_fs.proofs.Nowhere.{over_none, under_none}
 use Rattle.vt_fs.proofs.Numbers.{numbers_counted}
 use Rattle.vt_fs.proofs.Parents.{under_by_names}
@@ -27,7 +27,7 @@ returns-in_default c =
 
 pub returns-in_default-slot_of : goal.returns-in_default-slot_of
 returns-in_default-slot_of c =
-    let nowhere = subst (λ (id : FilesystemId). IsNowhere c.args.self.now id.count (number_of c.args.directory))
+    let nowhere = subst (λ (id : FilesystemId). (inodes_at c.args.self.now id.count).inode (number_of c.args.directory) ≡ None)
     c.requires.one_filesystem (c.slot_of-2.ensures.nowhere c.in_default-slot_of.is) in
     c.is_same-in_default-slot_of.ensures
     ∙ sym (under_none c.args.self.now c.args.top.filesystem.count (number_of c.args.directory) nowhere

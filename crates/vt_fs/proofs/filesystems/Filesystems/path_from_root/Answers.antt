@@ -7,10 +7,11 @@ use Rattle.vt_fs.specs.FilesystemsValue.{files_at}
 use Rattle.vt_fs.proofs.PathsFound.{root_is}
 use Rattle.vt_fs.proofs.filesystems.Filesystems.path_from_root.Goals as goal
 
-pub path_down-requires-clause-once : goal.path_down-requires-clause-once
-path_down-requires-clause-once c =
-    subst (λ (filesystem : FilesystemId). NamesDirectoriesOnce (files_at c.args.self.now filesystem.count).tree)
-    (sym c.in-Some.ensures.filesystem) c.requires
+pub path_down-requires : goal.path_down-requires
+path_down-requires c = record {
+  once = subst (λ (filesystem : FilesystemId). NamesDirectoriesOnce (files_at c.args.self.now filesystem.count).tree)
+      (sym c.in-Some.ensures.filesystem) c.requires;
+}
 
 pub returns-in-Some : goal.returns-in-Some
 returns-in-Some c = record {

@@ -1,12 +1,14 @@
 -- The list of mounts after an unshare.
-use Rattle.std.proofs.Common.{arith, ◌≡◌, refl, sym, ap, ◌∙◌, List, [], None, eq-eqb, eqb-true, true≢false, Option, Some, flat_map, map, nat_eq, option_map, unwrap_or, ℕ, ◌+◌, ◌∷◌, inl, inr}
-use Rattle.vt_spec.proofs.Common.{Among, Fresh, Location, Mount, MountInvariants, Serves, Spot, Task, World, among-filter, among-from_filter, common_steps, copied_mount, each_once, evens, filesystem_numbered, groups_shown, holds_of, index_from, is_overlay, location_on_copy, mount_line, mount_numbered, mount_point_spot, mounts_of, number_among, numbers_by, odds, odds-distinct, path_down, served-distinct, spot_of, type_line, unshared}
+use Rattle.std.proofs.Common.{arith, ◌≡◌, refl, sym, ap, subst, ◌∙◌, List, [], None, eq-eqb, eqb-true, true≢false, Option, Some, flat_map, map, nat_eq, option_map, true, unwrap_or, ℕ, ◌+◌, ◌∷◌, inl, inr}
+use Rattle.vt_spec.proofs.Common.{Among, Fresh, Location, Mount, MountInvariants, Serves, Spot, Task, World, among-append_left, among-append_right, among-filter, among-from_filter, among-map, common_steps, copied_mount, each_once, evens, filesystem_numbered, groups_shown, holds_of, index_from, is_overlay, location_on_copy, mount_line, mount_numbered, mount_point_spot, mounts_of, number_among, numbers_by, odds, odds-distinct, path_down, served-distinct, spot_of, type_line, unshared}
 use Rattle.std.proofs.lemmas.List.Folds.{flat_map-map}
 use Rattle.vt_spec.specs.Machine.Listing.{root_spot}
 use Rattle.vt_laws_mounts.specs.Mounts.Propagation.{UnshareListsOthersTheSame, UnshareListsTheSame}
+use Rattle.vt_laws_mounts.proofs.mounts.MountPointSpots.{spot_on}
 use Rattle.vt_laws_mounts.proofs.mounts.MountsNumbered.{is_one_of, one_index}
 use Rattle.vt_laws_mounts.proofs.namespaces.Unsharing.{itself, parent_of, copy_found, old_found}
 use Rattle.vt_laws_mounts.proofs.namespaces.UnsharingNamespaces.{unshare_copies_mounts, unshare_leaves_namespaces}
+use Rattle.vt_laws_mounts.specs.Mounts.Attaching.{is_mount}
 use Rattle.vt_laws_mounts.specs.Mounts.Ending.{is_in}
 
 pub map_alike : {A B C : Type 0} (f : A → C) (g : B → C) (h : A → B) (xs : List A)
@@ -84,10 +86,14 @@ module _ (world : World ℕ) (fresh : Fresh ℕ) (task : Task ℕ) (serves : Ser
       ∙ ap (number_among nat_eq (map (λ (other : Mount ℕ). other.number) copied)) same in
       let shows : mount_point_spot nat_eq after (location_on_copy new_number place)
       ≡ mount_point_spot nat_eq world place =
-      ap (λ n. spot (mount_numbered nat_eq after (new_number n)) place) (sym same)
+      spot_on after (location_on_copy new_number place) (subst (λ n. is_mount after (new_number n) ≡ true) same
+      (is_one_of after.mounts (copy parent)
+      (among-append_right world.mounts (map copy copied) (copy parent) (among-map copy copied parent m))))
+      ∙ ap (λ n. spot (mount_numbered nat_eq after (new_number n)) place) (sym same)
       ∙ ap (λ (x : Mount ℕ). spot x place) (copy_found world fresh task serves mounts parent m)
       ∙ ap (λ (x : Mount ℕ). spot x place) (sym (itself world mounts parent there))
-      ∙ ap (λ n. spot (mount_numbered nat_eq world n) place) same in
+      ∙ ap (λ n. spot (mount_numbered nat_eq world n) place) same
+      ∙ sym (spot_on world place (subst (λ n. is_mount world n ≡ true) same (is_one_of world.mounts parent there))) in
       λ i. (number i, shows i)
 
   copied_places : (mount : Mount ℕ) → Among mount copied
@@ -134,13 +140,20 @@ module _ (world : World ℕ) (fresh : Fresh ℕ) (task : Task ℕ) (serves : Ser
       by None e = refl
       by (Some place) e =
           let parent = parent_inside namespace mount m place e in
-          ap (λ (x : Mount ℕ). Some (
+          let here : is_mount world place.mount ≡ true =
+          subst (λ n. is_mount world n ≡ true) parent.2 (is_one_of world.mounts parent.0 parent.3) in
+          let still : is_mount after place.mount ≡ true =
+          subst (λ n. is_mount after n ≡ true) parent.2 (is_one_of after.mounts parent.0
+          (among-append_left world.mounts (map copy copied) parent.0 parent.3)) in
+          ap (λ told. Some (
             number_among nat_eq (map (λ (other : Mount ℕ). other.number)
                 (mounts_of nat_eq world namespace)) place.mount,
-            spot x place,
+            told,
           ))
+          (spot_on after place still ∙ ap (λ (x : Mount ℕ). spot x place)
           (ap (mount_numbered nat_eq after) (sym parent.2) ∙ old_found world fresh task serves mounts parent.0 parent.3
           ∙ sym (itself world mounts parent.0 parent.3) ∙ ap (mount_numbered nat_eq world) parent.2)
+          ∙ sym (spot_on world place here))
 
   other_line : (namespace : ℕ) (mount : Mount ℕ) → Among mount (mounts_of nat_eq world namespace)
       → mount_line nat_eq after (mounts_of nat_eq world namespace) mount

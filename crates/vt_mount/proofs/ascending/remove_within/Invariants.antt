@@ -1,7 +1,7 @@
 use Rattle.std.proofs.Common.{true, ◌≡◌, ◌≤◌, vec_capacity, vec_len}
 use Rattle.vt_mount.specs.Rising.{rises}
 use Rattle.vt_mount.proofs.RisingLemmas.{others, parted}
-use Rattle.vt_mount.proofs.ascending.remove_from.Given as goal
+use Rattle.vt_mount.proofs.ascending.remove_within.Given as goal
 
 -- the others are those that there were, and the mount is at the place if it is there at all
 abbrev pub invariant-loop-ids : goal.invariant-loop-ids

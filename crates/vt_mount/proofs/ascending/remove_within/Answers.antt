@@ -4,7 +4,7 @@ use Rattle.std.proofs.lemmas.List.Sorted.{IsPartitionPoint-from_clause}
 use Rattle.vt_location.specs.declared.numbers.MountId.{MountId}
 use Rattle.vt_mount.specs.Rising.{rises, same_id}
 use Rattle.vt_mount.proofs.RisingLemmas.{is_parted_below, others, others-parted, others-remove, parted, parted-remove, parted_at, rises-remove}
-use Rattle.vt_mount.proofs.ascending.remove_from.Goals as goal
+use Rattle.vt_mount.proofs.ascending.remove_within.Goals as goal
 
 pub loop-ids-init : goal.loop-ids-init
 loop-ids-init c =
