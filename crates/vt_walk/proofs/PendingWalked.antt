@@ -102,19 +102,19 @@ module _ (looks : Looks ℕ) (task : Task ℕ) (whole : Result (Here ℕ) Deny) 
         ∙ ap (λ r. and_then r others_walked) walked ∙ so_far
 
     module _ (passed : Ok tt ≡ unless {A = Unit {0}} (slash_rules nat_eq looks top.text.now reached.location) (Ok tt))
-        where
-      top-ended : texts_walked looks task reached (reverse texts) ≡ whole
-      top-ended = sym (unless-let_through (slash_rules nat_eq looks top.text.now reached.location)
-          (texts_walked looks task reached (reverse texts)) passed)
-          ∙ ap (λ r. and_then r others_walked) walked ∙ so_far
+      where
+        top-ended : texts_walked looks task reached (reverse texts) ≡ whole
+        top-ended = sym (unless-let_through (slash_rules nat_eq looks top.text.now reached.location)
+            (texts_walked looks task reached (reverse texts)) passed)
+            ∙ ap (λ r. and_then r others_walked) walked ∙ so_far
 
-      pub all-walked : texts ≡ [] → Ok reached ≡ whole
-      all-walked none = ap (λ ts. texts_walked looks task reached (reverse ts)) (sym none) ∙ top-ended
+        pub all-walked : texts ≡ [] → Ok reached ≡ whole
+        all-walked none = ap (λ ts. texts_walked looks task reached (reverse ts)) (sym none) ∙ top-ended
 
-      pub next-walked : (others : List Pending) (next : Pending) → texts ≡ others ++ next ∷ []
-          → texts_walked looks task reached (next ∷ reverse others) ≡ whole
-      next-walked others next popped =
-          ap (texts_walked looks task reached) (sym (reverse-push texts others next popped)) ∙ top-ended
+        pub next-walked : (others : List Pending) (next : Pending) → texts ≡ others ++ next ∷ []
+            → texts_walked looks task reached (next ∷ reverse others) ≡ whole
+        next-walked others next popped =
+            ap (texts_walked looks task reached) (sym (reverse-push texts others next popped)) ∙ top-ended
 
   -- a link in the text
   module _ (directory : Location ℕ) (link : Here ℕ) (inner : List ℕ) (behind : List (List ℕ)) (few : link.left ≤ 40)
