@@ -1,6 +1,6 @@
 -- How deep symlinks may stand in one another's texts does not matter, where fewer are left to follow.
-use Rattle.std.proofs.Common.{◌≡◌, ◌∙◌, ◌-◌, ◌<◌, ◌≤◌, ℕ, zero, suc, Bool, true, false, List, [], ◌∷◌, Option, Some, None, Ok, Err, Result, nat_eq, refl, ap, arith, reverse, ◌==◌}
-use Rattle.vt_spec.proofs.Common.{Here, LastWord, Location, Looks, Rules, Task, and_then, follow_rules, last_word, slash_rules, symlink_text, unless, words}
+use Rattle.std.proofs.Common.{◌≡◌, ◌∙◌, ◌-◌, ◌≤◌, ℕ, zero, suc, Bool, true, false, List, [], ◌∷◌, Option, Some, None, Ok, Err, Result, nat_eq, refl, ap, arith, reverse, ◌==◌}
+use Rattle.vt_spec.proofs.Common.{Here, Location, Looks, Rules, Task, and_then, follow_rules, last_word, slash_rules, symlink_text, unless, words}
 use Rattle.vt_spec.specs.declared.errors.Deny.{Deny}
 use Rattle.vt_spec.specs.declared.errors.Rule.TheVariants.{W7, W9}
 use Rattle.vt_spec.specs.Machine.Looks.{mount_at}

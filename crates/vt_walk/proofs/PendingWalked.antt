@@ -6,7 +6,7 @@ use Rattle.vt_spec.specs.declared.errors.Deny.{Deny}
 use Rattle.vt_spec.specs.declared.errors.Rule.TheVariants.{W3}
 use Rattle.vt_spec.specs.Machine.Looks.{is_directory_at}
 use Rattle.vt_walk.proofs.LinksWalked.{begun-walked, follow-refused}
-use Rattle.vt_walk.proofs.RefusalLemmas.{and_then-and_then, and_then-ok, unless-stopped}
+use Rattle.vt_walk.proofs.RefusalLemmas.{and_then-and_then, and_then-ok}
 use Rattle.vt_walk.specs.declared.steps.LinkMet.{LinkMet}
 use Rattle.vt_walk.specs.declared.steps.Pending.{Pending}
 use Rattle.vt_walk.specs.PendingTexts.{link_passed, texts_walked}
@@ -90,26 +90,13 @@ module _ (looks : Looks ℕ) (task : Task ℕ) (whole : Result (Here ℕ) Deny) 
   others_walked reached = unless (slash_rules nat_eq looks top.text.now reached.location)
       (texts_walked looks task reached (reverse texts))
 
-  pub top-refused : (deny : Deny) → Err deny ≡ top_walked → Err deny ≡ whole
-  top-refused deny refused = ap (λ r. and_then r others_walked) refused ∙ so_far
-
   module _ (reached : Here ℕ) (walked : Ok reached ≡ top_walked) where
-    pub slash-denied : (deny : Deny)
-        → Err deny ≡ unless {A = Unit {0}} (slash_rules nat_eq looks top.text.now reached.location) (Ok tt)
-        → Err deny ≡ whole
-    slash-denied deny refused = unless-stopped (slash_rules nat_eq looks top.text.now reached.location)
-        (texts_walked looks task reached (reverse texts)) deny refused
-        ∙ ap (λ r. and_then r others_walked) walked ∙ so_far
-
     module _ (passed : Ok tt ≡ unless {A = Unit {0}} (slash_rules nat_eq looks top.text.now reached.location) (Ok tt))
       where
         top-ended : texts_walked looks task reached (reverse texts) ≡ whole
         top-ended = sym (unless-let_through (slash_rules nat_eq looks top.text.now reached.location)
             (texts_walked looks task reached (reverse texts)) passed)
             ∙ ap (λ r. and_then r others_walked) walked ∙ so_far
-
-        pub all-walked : texts ≡ [] → Ok reached ≡ whole
-        all-walked none = ap (λ ts. texts_walked looks task reached (reverse ts)) (sym none) ∙ top-ended
 
         pub next-walked : (others : List Pending) (next : Pending) → texts ≡ others ++ next ∷ []
             → texts_walked looks task reached (next ∷ reverse others) ≡ whole

@@ -1,4 +1,4 @@
-use Rattle.std.proofs.Common.{◌∷◌, [], ap, arith, length, refl, reverse}
+use Rattle.std.proofs.Common.{ap, arith, length, refl}
 use Rattle.vt_spec.proofs.Common.{err_from_is_err_and}
 use Rattle.vt_location.specs.Locations.{location_of}
 use Rattle.vt_tasks.specs.TaskValue.{task_of}
