@@ -2,6 +2,7 @@ mod Chains
 mod NodeLemmas
 mod RefusalLemmas
 mod LeftToRight
+mod Depths
 mod LinksWalked
 mod PendingWalked
 mod Trails

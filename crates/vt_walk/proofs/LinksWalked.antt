@@ -1,12 +1,12 @@
 -- A link followed, or refused.
-use Rattle.std.proofs.Common.{nat_eq, Bool, true, false, ◌≡◌, ◌≢◌, ◌+◌, ◌-◌, ◌<◌, ℕ, zero, suc, List, ◌∷◌, reverse, Result, Ok, Err, refl, sym, ap, ◌∙◌, arith, ◌==◌}
+use Rattle.std.proofs.Common.{nat_eq, Bool, true, false, ◌≡◌, ◌+◌, ◌-◌, ◌<◌, ◌≤◌, ℕ, zero, suc, List, ◌∷◌, reverse, Result, Ok, Err, sym, ap, ◌∙◌, arith, ◌==◌}
 use Rattle.vt_spec.proofs.Common.{Here, Location, Looks, Rules, Task, and_then, follow_rules, slash_rules, unless, unless-refused, words}
-use Rattle.vt_walk.specs.PlainWalks.{symlink_start, symlink_walked, words_walked}
+use Rattle.vt_walk.specs.PlainWalks.{followed, symlink_start, words_walked}
 use Rattle.vt_spec.specs.declared.errors.Deny.{Deny}
 use Rattle.vt_spec.specs.declared.errors.Rule.TheVariants.{W7, W9}
 use Rattle.vt_spec.specs.Machine.Looks.{mount_at}
+use Rattle.vt_walk.proofs.Depths.{followed-again}
 use Rattle.vt_walk.proofs.RefusalLemmas.{and_then-and_then, unless-and_then, unless-answer}
-use Rattle.vt_walk.specs.PendingTexts.{links_within}
 use Rattle.vt_spec.proofs.Refusals.{unless-passed}
 
 -- a link that may be followed is one of those that are left
@@ -27,55 +27,39 @@ begun-left looks task directory link next text e =
     omega arith
 
 module _ (looks : Looks ℕ) (task : Task ℕ) where
-  -- the words of a text, with links inside no deeper than this
-  abbrev pub inside_walked : ℕ → Here ℕ → List (List ℕ) → Result (Here ℕ) Deny
-  inside_walked depth start ws = words_walked looks task (links_within depth looks task) start (reverse ws)
+  -- the words of a text
+  abbrev pub inside_walked : Here ℕ → List (List ℕ) → Result (Here ℕ) Deny
+  inside_walked start ws = words_walked looks task (followed looks task) start (reverse ws)
 
   abbrev pub slash_checked : List ℕ → Here ℕ → Result (Here ℕ) Deny
   slash_checked text reached = unless (slash_rules nat_eq looks text reached.location) (Ok reached)
 
-  abbrev pub link_followed : ℕ → Location ℕ → Here ℕ → List ℕ → Result (Here ℕ) Deny
-  link_followed depth directory link text = unless (follow_rules nat_eq looks link text)
-      (and_then (inside_walked depth (symlink_start looks task directory link text) (words text)) (slash_checked text))
-
-  pub symlink_walked-deep : (depth : ℕ) (directory : Location ℕ) (link : Here ℕ) (text : List ℕ) → depth ≢ 0 →
-      symlink_walked looks task depth directory link text ≡ link_followed (depth - 1) directory link text
-  symlink_walked-deep zero directory link text deep = absurd (deep refl)
-  symlink_walked-deep (suc depth) directory link text deep = ap (λ d. link_followed d directory link text) (omega arith)
-
-  module _ (depth : ℕ) (directory : Location ℕ) (link : Here ℕ) (text : List ℕ) (deep : depth ≢ 0) where
+  module _ (directory : Location ℕ) (link : Here ℕ) (text : List ℕ) (few : link.left ≤ 40) where
     pub follow-refused : (deny : Deny) →
         Err deny ≡ unless (follow_rules nat_eq looks link text) (Ok (symlink_start looks task directory link text))
-        → Err deny ≡ symlink_walked looks task depth directory link text
+        → Err deny ≡ followed looks task directory link text
     follow-refused deny refused =
         sym (unless-refused (follow_rules nat_eq looks link text) (symlink_start looks task directory link text) _ deny
-        (sym refused)) ∙ sym (symlink_walked-deep depth directory link text deep)
+        (sym refused)) ∙ sym (followed-again looks task directory link text few)
 
     pub follow-begun : (start : Here ℕ) →
         Ok start ≡ unless (follow_rules nat_eq looks link text) (Ok (symlink_start looks task directory link text))
-        → and_then (inside_walked (depth - 1) start (words text)) (slash_checked text)
-        ≡ symlink_walked looks task depth directory link text
-    follow-begun start begun = ap (λ s. and_then (inside_walked (depth - 1) s (words text)) (slash_checked text))
+        → and_then (inside_walked start (words text)) (slash_checked text) ≡ followed looks task directory link text
+    follow-begun start begun = ap (λ s. and_then (inside_walked s (words text)) (slash_checked text))
         (sym (unless-answer (follow_rules nat_eq looks link text) (symlink_start looks task directory link text) start
         (sym begun))) ∙ sym (unless-passed (follow_rules nat_eq looks link text)
         (symlink_start looks task directory link text) start _ (sym begun))
-        ∙ sym (symlink_walked-deep depth directory link text deep)
+        ∙ sym (followed-again looks task directory link text few)
 
-    -- the words behind the link
-    abbrev pub behind_walked : List (List ℕ) → Here ℕ → Result (Here ℕ) Deny
-    behind_walked behind next = words_walked looks task (links_within depth looks task) next (reverse behind)
-
-    -- a link that is followed, then the words behind it, and then what comes after them
+    -- a link that is followed, and then what comes after it
     pub begun-walked : (start : Here ℕ) →
         Ok start ≡ unless (follow_rules nat_eq looks link text) (Ok (symlink_start looks task directory link text))
-        → (behind : List (List ℕ)) (after : Here ℕ → Result (Here ℕ) Deny)
-        → and_then (inside_walked (depth - 1) start (words text)) (λ reached.
-        unless (slash_rules nat_eq looks text reached.location) (and_then (behind_walked behind reached) after))
-        ≡ and_then (symlink_walked looks task depth directory link text)
-        (λ next. and_then (behind_walked behind next) after)
-    begun-walked start begun behind after =
-        let rest : Here ℕ → Result (Here ℕ) Deny = λ next. and_then (behind_walked behind next) after in
-        (λ i. and_then (inside_walked (depth - 1) start (words text))
-        (λ reached. unless-and_then (slash_rules nat_eq looks text reached.location) reached rest i))
-        ∙ sym (and_then-and_then (inside_walked (depth - 1) start (words text)) (slash_checked text) rest)
-        ∙ ap (λ r. and_then r rest) (follow-begun start begun)
+        → (after : Here ℕ → Result (Here ℕ) Deny)
+        → and_then (inside_walked start (words text)) (λ reached.
+        unless (slash_rules nat_eq looks text reached.location) (after reached))
+        ≡ and_then (followed looks task directory link text) after
+    begun-walked start begun after =
+        (λ i. and_then (inside_walked start (words text))
+        (λ reached. unless-and_then (slash_rules nat_eq looks text reached.location) reached after i))
+        ∙ sym (and_then-and_then (inside_walked start (words text)) (slash_checked text) after)
+        ∙ ap (λ r. and_then r after) (follow-begun start begun)

@@ -1,13 +1,15 @@
 -- A walk with texts pending: its top is walked as far as a link, whose text then stands above what is left.
-use Rattle.std.proofs.Common.{nat_eq, ◌≡◌, ◌≢◌, ℕ, ◌-◌, ◌<◌, List, [], ◌∷◌, ◌++◌, Option, Result, Ok, Err, refl, sym, ap, ◌∙◌, arith, length, reverse}
-use Rattle.vt_spec.proofs.Common.{Here, Location, Looks, Task, and_then, follow_rules, length-reverse, reverse-append, slash_rules, unless, unless-let_through, words}
-use Rattle.vt_walk.specs.PlainWalks.{Follow, symlink_start, symlink_walked, words_walked}
+use Rattle.std.proofs.Common.{nat_eq, ◌≡◌, ◌≤◌, ℕ, List, [], ◌∷◌, ◌++◌, Option, Result, Ok, Err, false, not, cond, sym, ap, ◌∙◌, reverse}
+use Rattle.vt_spec.proofs.Common.{Here, Location, Looks, Task, and_then, ends_in_slash, follow_rules, reverse-append, slash_rules, unless, unless-let_through, words}
+use Rattle.vt_walk.specs.PlainWalks.{Follow, followed, symlink_start, words_walked}
 use Rattle.vt_spec.specs.declared.errors.Deny.{Deny}
+use Rattle.vt_spec.specs.declared.errors.Rule.TheVariants.{W3}
+use Rattle.vt_spec.specs.Machine.Looks.{is_directory_at}
 use Rattle.vt_walk.proofs.LinksWalked.{begun-walked, follow-refused}
-use Rattle.vt_walk.proofs.RefusalLemmas.{and_then-and_then, and_then-ok, unless-stopped}
+use Rattle.vt_walk.proofs.RefusalLemmas.{and_then-and_then, and_then-ok}
 use Rattle.vt_walk.specs.declared.steps.LinkMet.{LinkMet}
 use Rattle.vt_walk.specs.declared.steps.Pending.{Pending}
-use Rattle.vt_walk.specs.PendingTexts.{link_passed, links_within, texts_walked}
+use Rattle.vt_walk.specs.PendingTexts.{link_passed, texts_walked}
 
 reverse-push : {X : Type 0} (texts others : List X) (top : X) → texts ≡ others ++ top ∷ []
     → reverse texts ≡ top ∷ reverse others
@@ -19,114 +21,122 @@ pub link_passed-as : (looks : Looks ℕ) (task : Task ℕ) (follow : Follow) (he
     → link_passed looks task follow here link ≡ walked → link_passed looks task follow here as_met ≡ walked
 link_passed-as looks task follow here link as_met walked same e = ap (link_passed looks task follow here) (sym same) ∙ e
 
--- a link that is met while nothing waits: its text stands above the words behind it
-pub first-begun : (looks : Looks ℕ) (task : Task ℕ) (directory : Location ℕ) (link : Here ℕ) (inner : List ℕ)
-    (behind : List (List ℕ)) (next : Here ℕ)
+-- a text without words that are left, and without a slash at its end, need not wait
+pub nothing-left : (looks : Looks ℕ) (task : Task ℕ) (here : Here ℕ) (left : Pending) (others : List Pending)
+    → left.words ≡ [] → ends_in_slash left.text.now ≡ false
+    → texts_walked looks task here (left ∷ others) ≡ texts_walked looks task here others
+nothing-left looks task here left others none plain =
+    ap (λ ws. and_then (words_walked looks task (followed looks task) here (reverse ws)) (λ reached.
+    unless (slash_rules nat_eq looks left.text.now reached.location) (texts_walked looks task reached others))) none
+    ∙ ap (λ slash. unless ((cond slash (not (is_directory_at looks here.location)) false, W3) ∷ [])
+    (texts_walked looks task here others)) plain
+
+-- a link in a text: its own text is walked before what is left of that one
+pub link-followed : (looks : Looks ℕ) (task : Task ℕ) (directory : Location ℕ) (link : Here ℕ) (inner : List ℕ)
+    (behind : List (List ℕ)) → link.left ≤ 40 → (next : Here ℕ)
     → Ok next ≡ unless (follow_rules nat_eq looks link inner) (Ok (symlink_start looks task directory link inner))
-    → (left above : Pending) (once twice : List Pending) → once ≡ [] ++ left ∷ [] → twice ≡ once ++ above ∷ []
+    → (left above : Pending) (others : List Pending)
+    → left.words ≡ behind → above.text.now ≡ inner → above.words ≡ words inner
+    → texts_walked looks task next (above ∷ left ∷ others)
+    ≡ and_then (and_then (followed looks task directory link inner)
+    (λ there. words_walked looks task (followed looks task) there (reverse behind)))
+    (λ reached. unless (slash_rules nat_eq looks left.text.now reached.location) (texts_walked looks task reached others))
+link-followed looks task directory link inner behind few next begun left above others rest inside all =
+    let after : Here ℕ → Result (Here ℕ) Deny = λ reached.
+    unless (slash_rules nat_eq looks left.text.now reached.location) (texts_walked looks task reached others) in
+    let walked : Here ℕ → Result (Here ℕ) Deny = λ there.
+    words_walked looks task (followed looks task) there (reverse behind) in
+    (λ i. and_then (words_walked looks task (followed looks task) next (reverse (all i))) (λ reached.
+    unless (slash_rules nat_eq looks (inside i) reached.location)
+    (and_then (words_walked looks task (followed looks task) reached (reverse (rest i))) after)))
+    ∙ begun-walked looks task directory link inner few next begun (λ there. and_then (walked there) after)
+    ∙ sym (and_then-and_then (followed looks task directory link inner) walked after)
+
+-- a link that is met while nothing waits: the words behind it wait, with no check of a slash
+pub first-begun : (looks : Looks ℕ) (task : Task ℕ) (directory : Location ℕ) (link : Here ℕ) (inner : List ℕ)
+    (behind : List (List ℕ)) → link.left ≤ 40 → (next : Here ℕ)
+    → Ok next ≡ unless (follow_rules nat_eq looks link inner) (Ok (symlink_start looks task directory link inner))
+    → (left above : Pending) (once : List Pending) → once ≡ [] ++ left ∷ []
     → left.text.now ≡ [] → left.words ≡ behind → above.text.now ≡ inner → above.words ≡ words inner
-    → texts_walked looks task next (reverse twice) ≡ and_then (symlink_walked looks task 41 directory link inner)
-    (λ there. words_walked looks task (links_within 41 looks task) there (reverse behind))
-first-begun looks task directory link inner behind next begun left above once twice first second text rest inside all =
-    ap (texts_walked looks task next)
-    (reverse-push twice once above second ∙ ap (λ ts. above ∷ ts) (reverse-push once [] left first))
-    ∙ (λ i. and_then (words_walked looks task (links_within 40 looks task) next (reverse (all i)))
-    (λ reached. unless (slash_rules nat_eq looks (inside i) reached.location)
-    (and_then (words_walked looks task (links_within 41 looks task) reached (reverse (rest i)))
-    (λ there. unless (slash_rules nat_eq looks (text i) there.location) (Ok there)))))
-    ∙ begun-walked looks task 41 directory link inner (omega arith) next begun behind (λ there. Ok there)
-    ∙ (λ i. and_then (symlink_walked looks task 41 directory link inner)
-    (λ there. and_then-ok (words_walked looks task (links_within 41 looks task) there (reverse behind)) i))
+    → texts_walked looks task next (above ∷ reverse once) ≡ and_then (followed looks task directory link inner)
+    (λ there. words_walked looks task (followed looks task) there (reverse behind))
+first-begun looks task directory link inner behind few next begun left above once first text rest inside all =
+    ap (λ ts. texts_walked looks task next (above ∷ ts)) (reverse-push once [] left first)
+    ∙ link-followed looks task directory link inner behind few next begun left above [] rest inside all
+    ∙ (λ i. and_then (and_then (followed looks task directory link inner)
+    (λ there. words_walked looks task (followed looks task) there (reverse behind)))
+    (λ reached. unless (slash_rules nat_eq looks (text i) reached.location) (Ok reached)))
+    ∙ and_then-ok (and_then (followed looks task directory link inner)
+    (λ there. words_walked looks task (followed looks task) there (reverse behind)))
 
 -- and where it is not followed
 pub first-denied : (looks : Looks ℕ) (task : Task ℕ) (directory : Location ℕ) (link : Here ℕ) (inner : List ℕ)
-    (behind : List (List ℕ)) (deny : Deny)
+    (behind : List (List ℕ)) → link.left ≤ 40 → (deny : Deny)
     → Err deny ≡ unless (follow_rules nat_eq looks link inner) (Ok (symlink_start looks task directory link inner))
-    → Err deny ≡ and_then (symlink_walked looks task 41 directory link inner)
-    (λ there. words_walked looks task (links_within 41 looks task) there (reverse behind))
-first-denied looks task directory link inner behind deny refused =
-    ap (λ r. and_then r (λ there. words_walked looks task (links_within 41 looks task) there (reverse behind)))
-    (follow-refused looks task 41 directory link inner (omega arith) deny refused)
+    → Err deny ≡ and_then (followed looks task directory link inner)
+    (λ there. words_walked looks task (followed looks task) there (reverse behind))
+first-denied looks task directory link inner behind few deny refused =
+    ap (λ r. and_then r (λ there. words_walked looks task (followed looks task) there (reverse behind)))
+    (follow-refused looks task directory link inner few deny refused)
 
-module _ (looks : Looks ℕ) (task : Task ℕ) (whole : Result (Here ℕ) Deny) (here : Here ℕ) (texts : List Pending)
-    (so_far : texts_walked looks task here (reverse texts) ≡ whole) where
-  pub all-walked : (0 < length texts → ⊥) → Ok here ≡ whole
-  all-walked none = ap (λ ts. texts_walked looks task here (reverse ts)) (sym (no_texts texts none)) ∙ so_far
-    where
-      no_texts : (ts : List Pending) → (0 < length ts → ⊥) → ts ≡ []
-      no_texts [] none = refl
-      no_texts (t ∷ ts) none = absurd (none (omega arith))
+-- a walk that has come into a text, while others wait
+module _ (looks : Looks ℕ) (task : Task ℕ) (whole : Result (Here ℕ) Deny) (here : Here ℕ) (top : Pending)
+    (texts : List Pending) (so_far : texts_walked looks task here (top ∷ reverse texts) ≡ whole) where
+  -- how the text is walked, and what is done behind it
+  abbrev pub top_walked : Result (Here ℕ) Deny
+  top_walked = words_walked looks task (followed looks task) here (reverse top.words)
 
-  module _ (others : List Pending) (top : Pending) (popped : texts ≡ others ++ top ∷ []) where
-    -- how the top is walked, and what is done behind it
-    abbrev pub top_walked : Result (Here ℕ) Deny
-    top_walked = words_walked looks task (links_within (41 - length (reverse others)) looks task) here
-        (reverse top.words)
+  abbrev pub others_walked : Here ℕ → Result (Here ℕ) Deny
+  others_walked reached = unless (slash_rules nat_eq looks top.text.now reached.location)
+      (texts_walked looks task reached (reverse texts))
 
-    abbrev pub others_walked : Here ℕ → Result (Here ℕ) Deny
-    others_walked reached = unless (slash_rules nat_eq looks top.text.now reached.location)
-        (texts_walked looks task reached (reverse others))
+  module _ (reached : Here ℕ) (walked : Ok reached ≡ top_walked) where
+    module _ (passed : Ok tt ≡ unless {A = Unit {0}} (slash_rules nat_eq looks top.text.now reached.location) (Ok tt))
+      where
+        top-ended : texts_walked looks task reached (reverse texts) ≡ whole
+        top-ended = sym (unless-let_through (slash_rules nat_eq looks top.text.now reached.location)
+            (texts_walked looks task reached (reverse texts)) passed)
+            ∙ ap (λ r. and_then r others_walked) walked ∙ so_far
 
-    by-top : and_then top_walked others_walked ≡ whole
-    by-top = ap (texts_walked looks task here) (sym (reverse-push texts others top popped)) ∙ so_far
+        pub next-walked : (others : List Pending) (next : Pending) → texts ≡ others ++ next ∷ []
+            → texts_walked looks task reached (next ∷ reverse others) ≡ whole
+        next-walked others next popped =
+            ap (texts_walked looks task reached) (sym (reverse-push texts others next popped)) ∙ top-ended
 
-    pub top-refused : (deny : Deny) → Err deny ≡ top_walked → Err deny ≡ whole
-    top-refused deny refused = ap (λ r. and_then r others_walked) refused ∙ by-top
+  -- a link in the text
+  module _ (directory : Location ℕ) (link : Here ℕ) (inner : List ℕ) (behind : List (List ℕ)) (few : link.left ≤ 40)
+      (met : and_then (followed looks task directory link inner)
+      (λ next. words_walked looks task (followed looks task) next (reverse behind)) ≡ top_walked) where
+    pub link-denied : (deny : Deny) → Err deny ≡ unless (follow_rules nat_eq looks link inner)
+        (Ok (symlink_start looks task directory link inner)) → Err deny ≡ whole
+    link-denied deny refused =
+        ap (λ r. and_then (and_then r
+        (λ next. words_walked looks task (followed looks task) next (reverse behind))) others_walked)
+        (follow-refused looks task directory link inner few deny refused)
+        ∙ ap (λ r. and_then r others_walked) met ∙ so_far
 
-    module _ (reached : Here ℕ) (walked : Ok reached ≡ top_walked) where
-      pub slash-denied : (deny : Deny)
-          → Err deny ≡ unless {A = Unit {0}} (slash_rules nat_eq looks top.text.now reached.location) (Ok tt)
-          → Err deny ≡ whole
-      slash-denied deny refused = unless-stopped (slash_rules nat_eq looks top.text.now reached.location)
-          (texts_walked looks task reached (reverse others)) deny refused
-          ∙ ap (λ r. and_then r others_walked) walked ∙ by-top
+    module _ (next : Here ℕ) (begun : Ok next ≡ unless (follow_rules nat_eq looks link inner)
+        (Ok (symlink_start looks task directory link inner)))
+        (left above : Pending) (text : left.text.now ≡ top.text.now) (rest : left.words ≡ behind)
+        (inside : above.text.now ≡ inner) (all : above.words ≡ words inner) where
+      both-wait : texts_walked looks task next (above ∷ left ∷ reverse texts) ≡ whole
+      both-wait =
+          link-followed looks task directory link inner behind few next begun left above (reverse texts) rest inside all
+          ∙ ap (λ slash. and_then (and_then (followed looks task directory link inner)
+          (λ there. words_walked looks task (followed looks task) there (reverse behind)))
+          (λ reached. unless (slash_rules nat_eq looks slash reached.location)
+          (texts_walked looks task reached (reverse texts)))) text
+          ∙ ap (λ r. and_then r others_walked) met ∙ so_far
 
-      pub top-ended : Ok tt ≡ unless {A = Unit {0}} (slash_rules nat_eq looks top.text.now reached.location) (Ok tt)
-          → texts_walked looks task reached (reverse others) ≡ whole
-      top-ended passed = sym (unless-let_through (slash_rules nat_eq looks top.text.now reached.location)
-          (texts_walked looks task reached (reverse others)) passed)
-          ∙ ap (λ r. and_then r others_walked) walked ∙ by-top
+      pub link-begun : (more : List Pending) → more ≡ texts ++ left ∷ []
+          → texts_walked looks task next (above ∷ reverse more) ≡ whole
+      link-begun more pushed =
+          ap (λ ts. texts_walked looks task next (above ∷ ts)) (reverse-push more texts left pushed) ∙ both-wait
 
-    -- a link in the top
-    module _ (directory : Location ℕ) (link : Here ℕ) (inner : List ℕ) (behind : List (List ℕ))
-        (room : length others < 41) where
-      abbrev pub behind_walked : Here ℕ → Result (Here ℕ) Deny
-      behind_walked next = words_walked looks task (links_within (41 - length (reverse others)) looks task) next
-          (reverse behind)
-
-      module _ (met : and_then (symlink_walked looks task
-          (41 - length (reverse others)) directory link inner) behind_walked ≡ top_walked) where
-        deep : 41 - length (reverse others) ≢ 0
-        deep = let same = length-reverse others in omega arith
-
-        by-link : (answer : Result (Here ℕ) Deny)
-            → answer ≡ and_then (symlink_walked looks task (41 - length (reverse others)) directory link inner)
-            (λ next. and_then (behind_walked next) others_walked) → answer ≡ whole
-        by-link answer e = e ∙ sym (and_then-and_then (symlink_walked looks task
-            (41 - length (reverse others)) directory link inner) behind_walked others_walked)
-            ∙ ap (λ r. and_then r others_walked) met ∙ by-top
-
-        pub link-denied : (deny : Deny) → Err deny ≡ unless (follow_rules nat_eq looks link inner)
-            (Ok (symlink_start looks task directory link inner)) → Err deny ≡ whole
-        link-denied deny refused =
-            by-link (Err deny) (ap (λ r. and_then r (λ next. and_then (behind_walked next) others_walked))
-            (follow-refused looks task (41 - length (reverse others)) directory link inner deep deny refused))
-
-        pub link-begun : (next : Here ℕ) → Ok next ≡ unless (follow_rules nat_eq looks link inner)
-            (Ok (symlink_start looks task directory link inner))
-            → (left above : Pending) → left.text.now ≡ top.text.now → left.words ≡ behind → above.text.now ≡ inner
-            → above.words ≡ words inner
-            → (once twice : List Pending) → once ≡ others ++ left ∷ [] → twice ≡ once ++ above ∷ []
-            → texts_walked looks task next (reverse twice) ≡ whole
-        link-begun next begun left above text rest inside all once twice first second =
-            ap (texts_walked looks task next)
-            (reverse-push twice once above second ∙ ap (λ ts. above ∷ ts) (reverse-push once others left first))
-            ∙ (λ i. and_then (words_walked looks task (links_within (less i) looks task) next (reverse (all i)))
-            (λ reached. unless (slash_rules nat_eq looks (inside i) reached.location)
-            (and_then (words_walked looks task (links_within (41 - length (reverse others)) looks task) reached
-            (reverse (rest i))) (λ there. unless (slash_rules nat_eq looks (text i) there.location)
-            (texts_walked looks task there (reverse others)))))) ∙ by-link _ (begun-walked looks task (41 - length
-            (reverse others)) directory link inner deep next begun behind others_walked)
-          where
-            less : 41 - length (left ∷ reverse others) ≡ 41 - length (reverse others) - 1
-            less = omega arith
+      pub last-link-begun : behind ≡ [] → ends_in_slash top.text.now ≡ false
+          → texts_walked looks task next (above ∷ reverse texts) ≡ whole
+      last-link-begun none plain =
+          (λ i. and_then (words_walked looks task (followed looks task) next (reverse above.words)) (λ reached.
+          unless (slash_rules nat_eq looks above.text.now reached.location)
+          (sym (nothing-left looks task reached left (reverse texts) (rest ∙ none) (ap ends_in_slash text ∙ plain)) i)))
+          ∙ both-wait

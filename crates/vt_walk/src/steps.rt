@@ -1,11 +1,11 @@
 //! Words walked one after the other, and symlinks followed.
-ghost use Rattle.std.specs.Prelude.{◌≡◌, ℕ, nat_eq, false, true, option_copied, option_map, reverse, None, Ok, Some, OnOk, IfOk, IfSome};
+ghost use Rattle.std.specs.Prelude.{◌≡◌, ℕ, [], nat_eq, false, true, option_copied, option_map, reverse, None, Ok, Some, OnOk, IfOk, IfSome};
 ghost use Rattle.vt_spec.specs.Errors.{and_then, unless};
 ghost use Rattle.vt_spec.specs.FileTree.{symlink_text};
 ghost use Rattle.vt_spec.specs.Machine.Looks.{is_directory_at, mount_at};
 ghost use Rattle.vt_spec.specs.Machine.Walking.LastWord.{DotDot};
 ghost use Rattle.vt_spec.specs.Machine.Walking.{follow_rules, is_lost, object_named, search_rules, slash_rules, stepped};
-ghost use Rattle.vt_spec.specs.PathText.{words};
+ghost use Rattle.vt_spec.specs.PathText.{ends_in_slash, words};
 ghost use Rattle.vt_spec.specs.Tree.{entries_in, entry_named};
 ghost use Rattle.vt_location.specs.Locations.{location_of};
 ghost use Rattle.vt_location.specs.Numbers.{mount_number};
@@ -420,6 +420,13 @@ impl<'a> Pending<'a> {
             words: link::words(text),
         }
     }
+
+    // Whether words are left to be walked, or a slash at the end to be checked.
+    fn is_unfinished(&self) -> bool
+        ensures { result ≡ false → (self.now.words ≡ []) × (ends_in_slash self.now.text.now ≡ false) }
+    {
+        !self.words.is_empty() || link::ends_in_slash(self.text)
+    }
 }
 
 // What fills the unused entries of a stack.
@@ -482,8 +489,8 @@ pub(crate) fn words_walked<'a, L: Look>(
     }
 }
 
-// Where a symlink and the words after it lead, every symlink followed. The words after a symlink wait on a stack while
-// its text is walked; a walk that comes to no symlink needs no stack.
+// Where a symlink and the words after it lead, every symlink followed. What is left of a text waits on a stack while the
+// text of a symlink in it is walked.
 fn symlink_walked<'a, L: Look>(
     world: &'a L,
     who: &Task,
@@ -495,33 +502,38 @@ fn symlink_walked<'a, L: Look>(
         (followed (L.looks world.now) (task_of who.now)) (here_of met.entry) (Some link.entry) }
 {
     let mut here = link_begun(world, who, link.directory, met, link.text)?;
-    let mut pending = ArrayVec::<Pending, MOST_TEXTS>::new();
     // A slash at the end of the words themselves is checked by the caller.
+    let mut pending = ArrayVec::<Pending, MOST_TEXTS>::new();
     pending.push(Pending {
         text: &[],
         words: link.behind,
     });
-    pending.push(Pending::of(link.text));
-    while let Some(Pending { text, words }) = pending.pop() {
+    let mut top = Pending::of(link.text);
+    'texts: loop {
         let Reached {
             here: reached,
             link,
-        } = walked_to_link(world, who, here, words)?;
-        here = match link {
+        } = walked_to_link(world, who, here, top.words)?;
+        match link {
             Some(link) => {
-                let begun = link_begun(world, who, link.directory, reached, link.text)?;
-                pending.push(Pending {
-                    text,
+                here = link_begun(world, who, link.directory, reached, link.text)?;
+                let left = Pending {
+                    text: top.text,
                     words: link.behind,
-                });
-                pending.push(Pending::of(link.text));
-                begun
+                };
+                if left.is_unfinished() {
+                    pending.push(left);
+                }
+                top = Pending::of(link.text);
             }
             None => {
-                asked_by_slash(world, text, reached)?;
-                reached
+                asked_by_slash(world, top.text, reached)?;
+                here = reached;
+                let Some(next) = pending.pop() else {
+                    return Ok(here);
+                };
+                top = next;
             }
-        };
+        }
     }
-    Ok(here)
 }
