@@ -1,6 +1,6 @@
 -- Where a task gets: to mounts of its namespace, or where it stands. These show what it sees.
 use Rattle.std.proofs.Common.{arith, ◌≡◌, refl, sym, ap, subst, ◌∙◌, ◌⊎◌, inl, inr, ⊎_elim, ℕ, nat_eq, Bool, true, false, List, [], ◌∷◌, ◌++◌, ◌||◌, Option, Some, None, Ok, Err, Result, flat_map, length, eqb-true, ok_or, option_map, option_to_list}
-use Rattle.vt_spec.proofs.Common.{Among, Dot, DotDot, IsWorld, LastWord, Location, Looks, Mount, Named, NoWord, Stands, Task, World, among-append, among-filter, among-from_map, among_from_all, among_from_list_all, and_parts, and_then, any_from_among, chain, child_at, common_steps, denial, entered_upward, entry_location, filesystems_of, found_among, found_or_none, found_passes, holds_of, hops, is_directory_seen_in, last_or, list_any, looks_of, met_at, met_by, mount_at, mount_numbered, mounts_of, nat_eq_itself, none_is_some, number-mount_in, object_named, root_of, same_Some, stands_at, stands_on_directories, start_of, stepped, task_called, up_from}
+use Rattle.vt_spec.proofs.Common.{Among, Dot, DotDot, IsWorld, LastWord, Location, Looks, Mount, Named, NoWord, Stands, Task, World, among-append, among-filter, among-from_map, among_from_list_all, and_parts, and_then, any_from_among, child_at, common_steps, denial, entered_upward, entry_location, filesystems_of, found_among, found_or_none, found_passes, holds_of, hops, is_directory_seen_in, last_or, list_any, looks_of, met_at, met_by, mount_at, mount_numbered, mounts_of, nat_eq_itself, none_is_some, number-mount_in, object_named, root_of, same_Some, stands_at, stands_on_directories, start_of, stepped, task_called, up_from}
 use Rattle.vt_spec.specs.declared.errors.Deny.{Deny}
 use Rattle.vt_spec.specs.declared.errors.Rule.TheVariants.{W6}
 use Rattle.vt_spec.specs.Machine.Looks.{topmost}
@@ -127,7 +127,8 @@ module _ (world : World ℕ) (is : IsWorld nat_eq world) (task : Task ℕ)
       → (mount_numbered nat_eq world number).mount_point ≡ Some point → OnGround point
   parent_ground number point ground e = ⊎_elim (λ own.
       inl (sym (namespace_below world number point (subst (Stands nat_eq world) (number-mount_in world.mounts number)
-      (stands_itself world is.mounts (mount_numbered nat_eq world number) (own_there number own))) e) ∙ own)) (λ none. ⊎_elim
+      (stands_itself world is.mounts (mount_numbered nat_eq world number) (own_there number own))) e) ∙ own))
+      (λ none. ⊎_elim
       (λ m. absurd (placed_inside world is.mounts (mount_numbered nat_eq world number) m point e none.0))
       (λ missing. none_is_some point (sym (ap (λ (x : Mount ℕ). x.mount_point) missing) ∙ e))
       (found_or_none world.mounts number)) ground

@@ -1,9 +1,8 @@
 -- Where a namespace has the mounts that it had, its mounts lead up and down as they did.
 use Rattle.std.proofs.Common.{◌≡◌, refl, sym, ap, subst, ◌∙◌, ◌⊎◌, inl, inr, ⊎_elim, ℕ, zero, suc, pred, nat_eq, Bool, true, cond, true≢false, List, [], ◌∷◌, Option, Some, None, map, find, filter, length, ◌≤◌, arith, option_map}
-use Rattle.vt_spec.proofs.Common.{Among, Location, Mount, MountInvariants, Stands, Task, World, among-filter, among-from_filter, among-map, among_from_all, among_from_list_all, and_parts, at_root, chain, chain_ends, chain_goes_on, child_at, common_steps, false_from_ne_true, filter_here, filter_skip, found_among, found_or_none, found_passes, holds_of, hops, last_of_chain, last_or, length-map, looks_of, mount_numbered, mounts_of, mounts_over, nat_eq_itself, none_is_some, number-mount_in, on_parent, root_of, same_Some, same_location, stands_at}
+use Rattle.vt_spec.proofs.Common.{Among, Location, Mount, MountInvariants, Stands, Task, World, among-filter, among-from_filter, among-map, at_root, chain, chain_ends, chain_goes_on, child_at, common_steps, false_from_ne_true, filter_here, filter_skip, found_among, found_or_none, found_passes, holds_of, hops, last_of_chain, last_or, length-map, looks_of, mount_numbered, mounts_of, mounts_over, nat_eq_itself, none_is_some, number-mount_in, on_parent, root_of, same_Some, same_location, stands_at}
 use Rattle.vt_spec.specs.Machine.Walking.{hop}
 use Rattle.vt_laws_mounts.proofs.mounts.MountsPlaces.{stands_there}
-use Rattle.vt_laws_mounts.proofs.mounts.MountsReplaced.{found_itself}
 use Rattle.vt_laws_mounts.proofs.namespaces.Topmost.{topmost_is_free}
 use Rattle.vt_laws_mounts.proofs.letting_go.Chains.{Way, chains_alike}
 use Rattle.vt_laws_mounts.proofs.letting_go.Chains.Way.{ends, goes_on}
@@ -72,7 +71,8 @@ module _ (world later : World ℕ) (is : MountInvariants nat_eq world) (are : Mo
       (λ c there at. is_within c (child_namespace world is mount c here m number there at ∙ e))) (λ none.
       find_none (stands_at nat_eq here) later.mounts (λ c there. false_from_ne_true (stands_at nat_eq here c) (λ at.
       placed_inside later are c there here (stands_there here c at)
-      (child_namespace later are mount c here n number there at ∙ none))) ∙ sym (find_none (stands_at nat_eq here) world.mounts (λ c there.
+      (child_namespace later are mount c here n number there at ∙ none))) ∙ sym
+      (find_none (stands_at nat_eq here) world.mounts (λ c there.
       false_from_ne_true (stands_at nat_eq here c) (λ at.
       placed_inside world is c there here (stands_there here c at)
       (child_namespace world is mount c here m number there at ∙ none))))) kind
