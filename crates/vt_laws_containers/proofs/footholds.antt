@@ -7,6 +7,7 @@ pub mod Granting
 pub mod Mirror
 pub mod RemovingPermits
 pub mod ReplacedAsBefore
+pub mod ServedCalls
 pub mod TakenAsBefore
 pub mod TakingPermits
 pub mod TasksAsBefore

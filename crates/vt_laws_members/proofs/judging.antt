@@ -20,4 +20,5 @@ pub mod Overfilled
 pub mod Overlaps
 pub mod ParentsSeen
 pub mod SeenInPart
+pub mod TheirCalls
 pub mod WalksLead

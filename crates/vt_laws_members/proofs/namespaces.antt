@@ -6,6 +6,5 @@ pub mod RemadeParts
 pub mod RemadePartReady
 pub mod RemadeRaised
 pub mod RemadeReady
-pub mod ServesPart
 pub mod Unshared
 pub mod Unsharing

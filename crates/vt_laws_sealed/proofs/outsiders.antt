@@ -28,6 +28,7 @@ pub mod Moving
 pub mod NumbersGrown
 pub mod Opening
 pub mod OtherMounts
+pub mod OthersCalls
 pub mod OthersSwept
 pub mod OverlaysMounted
 pub mod OwnTasks

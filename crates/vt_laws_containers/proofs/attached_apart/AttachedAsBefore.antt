@@ -14,10 +14,9 @@ module _ {world : World ℕ} {names : List TaskName} (attaching : AttachesTheirs
     (fresh : Fresh ℕ) (serves : Serves nat_eq world fresh) (new : Copies ℕ) (origins : List (Mount ℕ))
     (new_groups : (a b : ℕ) → IsNewBy fresh (new.image a b))
     (sources : (o : Mount ℕ) → Among o origins → (g : ℕ) → source_of o.propagation ≡ Some g
-    → Ours world names attaching.is attaching.sealed_off fresh serves g)
-    (shows : ShowTheirs attaching new false origins) where
+    → Ours attaching.sealing fresh serves g) (shows : ShowTheirs attaching new false origins) where
   abbrev IsOurs : ℕ → Type 0
-  IsOurs = Ours world names attaching.is attaching.sealed_off fresh serves
+  IsOurs = Ours attaching.sealing fresh serves
 
   abbrev to : World ℕ
   to = base attaching
@@ -39,7 +38,7 @@ module _ {world : World ℕ} {names : List TaskName} (attaching : AttachesTheirs
 
   sourced : (y : Mount ℕ) → Among y (map up world.mounts ++ added) → is_own_mount nat_eq world names y ≡ true
       → (g : ℕ) → source_of y.propagation ≡ Some g → IsOurs g
-  sourced y m mine g e = ⊎_elim (λ old. source_ours world names attaching.is attaching.sealed_off fresh serves old.0
+  sourced y m mine g e = ⊎_elim (λ old. source_ours attaching.sealing fresh serves old.0
       (among-filter (is_own_mount nat_eq world names) world.mounts old.0 old.1 old.2) g
       (sym (ap (λ (x : Mount ℕ). source_of x.propagation) old.3
       ∙ push_keeps attaching new false origins (λ (x : Mount ℕ). source_of x.propagation) (λ x at. refl) old.0) ∙ e))
@@ -54,6 +53,6 @@ module _ {world : World ℕ} {names : List TaskName} (attaching : AttachesTheirs
 
   pub copies_as_before : OthersAsBefore world (attached_by nat_eq to new attaching.place false origins) names names
   copies_as_before = subst (λ w. OthersAsBefore world w names names) (sym as_grown)
-      (grown_as_before world names attaching.is attaching.sealed_off up added attaching.new_ones masters grows
-      (groups_apart world names attaching.is attaching.sealed_off fresh serves up added attaching.new_ones formed grows
-      sourced (made_ours to new attaching.place false origins IsOurs (λ a b. inr (new_groups a b)) sources)))
+      (grown_as_before attaching.sealing up added attaching.new_ones masters grows
+      (groups_apart attaching.sealing fresh serves up added attaching.new_ones formed grows sourced
+      (made_ours to new attaching.place false origins IsOurs (λ a b. inr (new_groups a b)) sources)))

@@ -1,13 +1,14 @@
 -- No mount(2) with MS_BIND by a task of a sealed set gives others a foothold.
 use Rattle.std.proofs.Common.{arith, ◌≡◌, refl, sym, ap, subst, ◌∙◌, inl, ℕ, nat_eq, Bool, true, false, List, [], Option, Some, None, Ok, Err, IfOk, is_ok}
-use Rattle.vt_spec.proofs.Common.{Among, Bind, Copies, Fresh, IsWorld, Judgement, Location, Mount, Serves, Task, TaskName, ToBind, World, among-filter, attach, bind_tree, bound_at, common_steps, copies_from, judge_in, members, mount_at, sealed, source_of, task_called, used_directly}
+use Rattle.vt_spec.proofs.Common.{Among, Bind, Copies, Fresh, Judgement, Location, Mount, Serves, Task, TaskName, ToBind, World, among-filter, attach, bind_tree, bound_at, common_steps, copies_from, judge_in, members, mount_at, source_of, task_called, used_directly}
+use Rattle.vt_laws_members.proofs.judging.TheirCalls.{IsMember, caller_in, sealing_of}
 use Rattle.vt_laws_sealed.proofs.part.part.MountsOver.{numbered}
 use Rattle.vt_laws_sealed.proofs.part.part.PartOfPart.{is_own}
 use Rattle.vt_laws_members.specs.Judging.{is_theirs}
 use Rattle.vt_laws_members.proofs.judging.Grounds.{theirs_from}
 use Rattle.vt_laws_members.proofs.judging.MountTrees.{own_theirs}
 use Rattle.vt_laws_members.proofs.judging.SeenInPart.{theirs_directly}
-use Rattle.vt_laws_members.proofs.changes.looks.Told.{member_called, ran}
+use Rattle.vt_laws_members.proofs.changes.looks.Told.{ran}
 use Rattle.vt_laws_members.proofs.changes.tasks.Denied.{run_by}
 use Rattle.vt_laws_members.proofs.attached.Binding.{Binds, all_copied, binds_there}
 use Rattle.vt_laws_members.proofs.attached.CopiesAlike.{AttachesTheirs, no_new_ones, parts}
@@ -21,26 +22,29 @@ use Rattle.vt_laws_containers.proofs.footholds.TasksPermits.{permit_out}
 use Rattle.vt_laws_containers.specs.AttachedApart.AttachFootholds.{BindsGiveNoFoothold}
 use Rattle.vt_laws_containers.proofs.attached_apart.AttachedAsBefore.{copies_as_before}
 use Rattle.vt_laws_containers.proofs.attached_apart.GroupsApart.{Ours, source_ours}
+use Rattle.vt_laws_sealed.proofs.part.seals.ByPart.{IsSealed}
 
-module _ (world : World ℕ) (names : List TaskName) (is : IsWorld nat_eq world)
-    (sealed_off : sealed nat_eq world names ≡ true) (fresh : Fresh ℕ) (serves : Serves nat_eq world fresh)
+module _ {world : World ℕ} {names : List TaskName} (sealing : IsSealed world names) (fresh : Fresh ℕ)
+    (serves : Serves nat_eq world fresh)
     (from here : Location ℕ) (recursive : Bool) (from_on : is_theirs world names from.mount ≡ true)
     (from_own : is_own world names (members world names) (mount_at nat_eq world from) ≡ true)
     (on : is_theirs world names here.mount ≡ true)
     (own : is_own world names (members world names) (mount_at nat_eq world here) ≡ true) where
   here_there : Among (mount_at nat_eq world here) world.mounts
-  here_there = there world names is sealed_off here (theirs_from world names is.mounts here.mount on) own
+  here_there =
+      there world names sealing.is sealing.sealed_off here (theirs_from world names sealing.is.mounts here.mount on) own
 
   from_there : Among (mount_at nat_eq world from) world.mounts
-  from_there = there world names is sealed_off from (theirs_from world names is.mounts from.mount from_on) from_own
+  from_there =
+      there world names sealing.is sealing.sealed_off from (theirs_from world names sealing.is.mounts from.mount
+      from_on) from_own
 
   abbrev origins : List (Mount ℕ)
   origins = bind_tree nat_eq world from recursive
 
   abbrev attaching : AttachesTheirs world names
   attaching = record {
-    is = is;
-    sealed_off = sealed_off;
+    sealing = sealing;
     new_ones = [];
     unused = none_new world names;
     place = here;
@@ -53,11 +57,11 @@ module _ (world : World ℕ) (names : List TaskName) (is : IsWorld nat_eq world)
 
   shows : ShowTheirs attaching new false origins
   shows = record {
-    shown = λ o m. let x = all_copied world names is from recursive (from_there, from_own) o m in
-        inl (subst (λ n. Among n (used_directly nat_eq world names))
-        (ap (λ (k : Mount ℕ). k.filesystem) (numbered world names is.mounts x.0 x.1.0) ∙ sym x.2)
-        (theirs_directly world names is (record { mount = x.0.number; node = x.0.root })
-        (own_theirs world names is x.0 x.1.0 x.1.1)));
+    shown = λ o m. let x = all_copied world names sealing.is from recursive (from_there, from_own) o m in
+        inl (subst (λ n. Among n (used_directly nat_eq world names)) (ap (λ (k : Mount ℕ). k.filesystem)
+        (numbered world names sealing.is.mounts x.0 x.1.0) ∙ sym x.2) (theirs_directly world names sealing.is
+        (record { mount = x.0.number; node = x.0.root })
+        (own_theirs world names sealing.is x.0 x.1.0 x.1.1)));
     unlisted = λ f m. refl;
     layers = λ f m. absurd m;
     mounted = λ f m. absurd m;
@@ -65,9 +69,9 @@ module _ (world : World ℕ) (names : List TaskName) (is : IsWorld nat_eq world)
 
   -- what is copied is in groups of theirs
   sources : (o : Mount ℕ) → Among o origins → (g : ℕ) → source_of o.propagation ≡ Some g
-      → Ours world names is sealed_off fresh serves g
+      → Ours sealing fresh serves g
   sources o m g e =
-      let x = all_copied world names is from recursive (from_there, from_own) o m in
+      let x = all_copied world names sealing.is from recursive (from_there, from_own) o m in
       grind (arith, common_steps, source_ours, among-filter)
 
   pub bound_as_before : OthersAsBefore world (bound_at nat_eq fresh world from here recursive) names names
@@ -78,14 +82,14 @@ module _ (world : World ℕ) (names : List TaskName) (is : IsWorld nat_eq world)
 pub binds_give_no_foothold : BindsGiveNoFoothold
 binds_give_no_foothold world names name source path recursive it fresh serves = by (task_called world name) refl
   where
-    judged_by : (task : Task ℕ) (member : Among task (members world names)) → task_called world name ≡ Some task
+    judged_by : (task : Task ℕ) (member : IsMember world names task) → task_called world name ≡ Some task
         → (j : Judgement ℕ) → judge_in nat_eq fresh world task (Bind source path recursive) ≡ j
-        → IfOk j (Binds world names it.is it.sealed_off task member recursive)
+        → IfOk j (Binds member recursive)
         → GivesNoFoothold world names name (Bind source path recursive) fresh
     judged_by task member e (Ok permit) judged its =
-        permit_out it refl fresh serves task e (ToBind its.0 its.1 recursive) (judged ∙ ap Ok its.2)
-        (λ ends. bound_as_before world names it.is it.sealed_off fresh serves its.0 its.1 recursive its.3 its.4 its.5
-        its.6)
+        permit_out (record { it = it; few = refl; serves = serves; called = e }) (ToBind its.0 its.1 recursive)
+        (judged ∙ ap Ok its.2) (λ ends. bound_as_before (sealing_of it) fresh serves its.0 its.1 recursive its.3 its.4
+        its.5 its.6)
     judged_by task member e (Err deny) judged its = refused_out it fresh
         (ap (λ o. is_ok (ran name (Bind source path recursive) world fresh o).answer) e
         ∙ ap (λ j. is_ok (run_by it world fresh task j).answer) judged)
@@ -94,6 +98,6 @@ binds_give_no_foothold world names name source path recursive it fresh serves = 
         → GivesNoFoothold world names name (Bind source path recursive) fresh
     by None e = refused_out it fresh (ap (λ o. is_ok (ran name (Bind source path recursive) world fresh o).answer) e)
     by (Some task) e =
-        let member = member_called world names it.is it.sealed_off name it.theirs task e in
+        let member = caller_in it e in
         judged_by task member e (judge_in nat_eq fresh world task (Bind source path recursive)) refl
-        (binds_there world names it.is it.sealed_off task member recursive fresh source path)
+        (binds_there member recursive fresh source path)

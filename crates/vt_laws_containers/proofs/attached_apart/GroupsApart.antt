@@ -1,11 +1,11 @@
 -- Where mounts of a sealed set come, in groups that the set hears or in new ones, mounts share no events with others.
 use Rattle.std.proofs.Common.{arith, ◌≡◌, refl, sym, ap, ◌∙◌, ◌⊎◌, inl, inr, ⊎_elim, ℕ, nat_eq, true, List, [], ◌∷◌, ◌++◌, Option, Some, map, not, eqb-true}
-use Rattle.vt_spec.proofs.Common.{Among, Filesystem, Fresh, HasLivingGroups, IsWorld, Mount, Private, Propagation, Serves, Shared, Slave, TaskName, Unbindable, World, among-from_filter, among_from_all, any_among, common_steps, false_from_ne_true, folded, group_of, holds_of, is_member_of, is_own_mount, is_own_namespace, list_all, list_all_from_among, master_of, masters_with, none_is_some, or_cases, other_mounts, own_mounts, receives_events_of, same_Some, sealed, share_events, shares_no_events, source_of}
+use Rattle.vt_spec.proofs.Common.{Among, Filesystem, Fresh, HasLivingGroups, Mount, Private, Propagation, Serves, Shared, Slave, TaskName, Unbindable, World, among-from_filter, among_from_all, any_among, common_steps, false_from_ne_true, folded, group_of, holds_of, is_member_of, is_own_mount, is_own_namespace, list_all, list_all_from_among, master_of, masters_with, none_is_some, or_cases, other_mounts, own_mounts, receives_events_of, same_Some, share_events, shares_no_events, source_of}
 use Rattle.vt_laws_containers.proofs.types_apart.GroupsApart.{in_group}
 use Rattle.vt_laws_trees.specs.Layers.Layers.ChangesUpper.{IsNewBy}
 use Rattle.vt_laws_sealed.proofs.part.groups.EventsApart.{above_lives, members_of}
 use Rattle.vt_laws_sealed.proofs.part.groups.ReceiversAlike.{Living, member_group}
-use Rattle.vt_laws_sealed.proofs.part.seals.ByPart.{apart_if_sealed}
+use Rattle.vt_laws_sealed.proofs.part.seals.ByPart.{IsSealed, apart_if_sealed}
 use Rattle.vt_laws_sealed.proofs.outsiders.OtherMounts.{member_of_heard, not_heard, other_hears_foreign, standing_apart_with}
 use Rattle.vt_laws_sealed.proofs.outsiders.StandingApart.{StandsApart}
 use Rattle.vt_laws_members.proofs.attached.GrownPart.{Grows, grown_world}
@@ -29,10 +29,10 @@ master_in world (Slave g) group e = none_is_some group e
 master_in world Private group e = none_is_some group e
 master_in world Unbindable group e = none_is_some group e
 
-module _ (world : World ℕ) (names : List TaskName) (is : IsWorld nat_eq world)
-    (sealed_off : sealed nat_eq world names ≡ true) (fresh : Fresh ℕ) (serves : Serves nat_eq world fresh) where
+module _ {world : World ℕ} {names : List TaskName} (sealing : IsSealed world names) (fresh : Fresh ℕ)
+    (serves : Serves nat_eq world fresh) where
   abbrev so_far : StandsApart world names (IsNewBy fresh)
-  so_far = standing_apart_with world names (apart_if_sealed world names is sealed_off) fresh serves
+  so_far = standing_apart_with world names (apart_if_sealed sealing) fresh serves
 
   abbrev HearsIn : World ℕ → Propagation ℕ → ℕ → Type 0
   HearsIn in_world kind group = (group_of kind ≡ Some group) ⊎ (master_of in_world kind ≡ Some group)
@@ -54,7 +54,7 @@ module _ (world : World ℕ) (names : List TaskName) (is : IsWorld nat_eq world)
 
   above_ours : (group above : ℕ) → Ours group → world.master group ≡ Some above → Ours above
   above_ours group above its e = ⊎_elim
-      (λ heard. let member = member_of_heard world names so_far heard.0 heard.1 group heard.2 in
+      (λ heard. let member = member_of_heard so_far heard.0 heard.1 group heard.2 in
       inl (
         member.0,
         member.1,
@@ -86,8 +86,8 @@ module _ (world : World ℕ) (names : List TaskName) (is : IsWorld nat_eq world)
   -- no mount of others hears it
   unheard : (other : Mount ℕ) → Among other (other_mounts nat_eq world names) → (group : ℕ) → Ours group
       → HearsIn world other.propagation group → ⊥
-  unheard other m group its how = ⊎_elim (λ heard. not_heard world names so_far heard.0 heard.1 group
-      (other_hears_foreign world names so_far other m group how) heard.2) (λ new. not_new other
+  unheard other m group its how = ⊎_elim (λ heard. not_heard so_far heard.0 heard.1 group
+      (other_hears_foreign so_far other m group how) heard.2) (λ new. not_new other
       (among-from_filter (λ (x : Mount ℕ). holds_of (λ n. not (is_own_namespace nat_eq world names n)) x.namespace)
       world.mounts other m).0 group how new) its
 
@@ -158,11 +158,10 @@ module _ (world : World ℕ) (names : List TaskName) (is : IsWorld nat_eq world)
 
     pub groups_apart : shares_no_events nat_eq left names ≡ true
     groups_apart = ap (λ others. list_all (λ y. list_all (λ other. not (share_events nat_eq left y other)) others)
-        (own_mounts nat_eq left names)) (others_stay world names is sealed_off change added new_ones
+        (own_mounts nat_eq left names)) (others_stay sealing change added new_ones
         (folded (masters_with nat_eq) world.master made) grows) ∙ list_all_from_among
         (λ y. list_all (λ other. not (share_events nat_eq left y other)) (other_mounts nat_eq world names))
-        (own_mounts nat_eq left names)
-        (λ y m. list_all_from_among (λ other. not (share_events nat_eq left y other)) (other_mounts nat_eq world names)
-        (λ other n. ap not (false_from_ne_true (share_events nat_eq left y other) (λ h.
-        ⊎_elim (own_receives y other m n) (other_receives y other m n)
+        (own_mounts nat_eq left names) (λ y m. list_all_from_among (λ other. not (share_events nat_eq left y other))
+        (other_mounts nat_eq world names) (λ other n. ap not (false_from_ne_true (share_events nat_eq left y other)
+        (λ h. ⊎_elim (own_receives y other m n) (other_receives y other m n)
         (or_cases (receives_events_of nat_eq left y other) (receives_events_of nat_eq left other y) h)))))

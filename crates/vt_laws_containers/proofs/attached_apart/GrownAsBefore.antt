@@ -1,9 +1,9 @@
 -- Where mounts of a sealed set change, and others come that are theirs, others are as they were.
 use Rattle.std.proofs.Common.{arith, ◌≡◌, refl, sym, ap, subst, ◌∙◌, ◌⊎◌, inl, inr, ⊎_elim, ℕ, nat_eq, Bool, true, false, cond, true≢false, List, [], ◌∷◌, ◌++◌, Option, Some, None, filter, find, map, not, ◌||◌, eq-eqb, unwrap_or}
-use Rattle.vt_spec.proofs.Common.{Among, Filesystem, IsWorld, Layer, Location, Mount, Task, TaskName, World, all_locations, among-append, among-append_left, among-append_right, among-filter, among-flat_map, among-from_filter, among-from_flat_map, among-from_map, among-map, among_from_list_all, any_from_among, change_layers, common_steps, holds_of, is_among, is_member_task, is_own_mount, is_own_namespace, layers_of, list_all_from_among, locations, locations_of, members, mount_at, mount_in, no_mount, of_overlay, other_mounts, outsiders, own_mounts, sealed, shares_no_events, used_directly, used_filesystems}
+use Rattle.vt_spec.proofs.Common.{Among, Filesystem, Layer, Location, Mount, Task, TaskName, World, all_locations, among-append, among-append_left, among-append_right, among-filter, among-flat_map, among-from_filter, among-from_flat_map, among-from_map, among-map, among_from_list_all, any_from_among, change_layers, common_steps, holds_of, is_among, is_member_task, is_own_mount, is_own_namespace, layers_of, list_all_from_among, locations, locations_of, members, mount_at, mount_in, no_mount, of_overlay, other_mounts, outsiders, own_mounts, shares_no_events, used_directly, used_filesystems}
 use Rattle.vt_laws_sealed.specs.Part.Seals.{IsApart}
 use Rattle.vt_laws_sealed.proofs.part.part.PartOfPart.{used_directly_used}
-use Rattle.vt_laws_sealed.proofs.part.seals.ByPart.{apart_if_sealed}
+use Rattle.vt_laws_sealed.proofs.part.seals.ByPart.{IsSealed, apart_if_sealed}
 use Rattle.vt_laws_sealed.proofs.outsiders.OtherMounts.{located_there}
 use Rattle.vt_laws_members.proofs.attached.GrownPart.{Grows, as_before, grown_world, is_new, own_how, shows_still}
 use Rattle.vt_laws_containers.proofs.footholds.AsBefore.{GoesOn, OthersAsBefore}
@@ -14,12 +14,12 @@ written_layer : (filesystem : Filesystem ℕ) (number : ℕ) → Among number (c
     → (layer : Layer ℕ) × Among layer (of_overlay [] layers_of filesystem) × (number ≡ layer.filesystem)
 written_layer filesystem number = grind (arith, common_steps, among-from_map, among-append_left)
 
-module _ (world : World ℕ) (names : List TaskName) (is : IsWorld nat_eq world)
-    (sealed_off : sealed nat_eq world names ≡ true) (change : Mount ℕ → Mount ℕ) (added : List (Mount ℕ))
+module _ {world : World ℕ} {names : List TaskName} (sealing : IsSealed world names) (change : Mount ℕ → Mount ℕ)
+    (added : List (Mount ℕ))
     (new_ones : List (Filesystem ℕ)) (master : ℕ → Option ℕ)
     (grows : Grows world names change added new_ones master) where
   apart : IsApart world names
-  apart = apart_if_sealed world names is sealed_off
+  apart = apart_if_sealed sealing
 
   abbrev left : World ℕ
   left = grown_world world names change added new_ones master
@@ -65,7 +65,7 @@ module _ (world : World ℕ) (names : List TaskName) (is : IsWorld nat_eq world)
   numbered_there : (l : Location ℕ) → Among l (all_locations world)
       → is_among nat_eq l.mount (map (λ (m : Mount ℕ). m.number) world.mounts) ≡ true
   numbered_there l m =
-      let at = located_there world names apart l m in
+      let at = located_there apart l m in
       grind (arith, common_steps, any_from_among, among-map)
 
   placed : (test : Task ℕ → Bool) (l : Location ℕ) → Among l (locations (filter test world.tasks))

@@ -1,10 +1,11 @@
 -- No mount(2) of a new plain filesystem by a task of a sealed set gives others a foothold.
 use Rattle.std.proofs.Common.{◌≡◌, refl, sym, ap, ◌∙◌, ⊎_elim, ℕ, nat_eq, true, List, [], Option, Some, None, Ok, Err, ◌&&◌, eq-eqb, IfOk, is_ok}
-use Rattle.vt_spec.proofs.Common.{Among, Filesystem, Fresh, IsWorld, Judgement, Layer, Location, Mount, MountFlags, MountPlain, Serves, Task, TaskName, ToMountPlain, World, evens, is_among, judge_in, layers_of, members, mount_at, mounted, named_in, none_is_some, odds, of_overlay, or_left, plain_filesystem, sealed, source_of, task_called, used_directly}
+use Rattle.vt_spec.proofs.Common.{Among, Filesystem, Fresh, Judgement, Layer, Location, Mount, MountFlags, MountPlain, Serves, Task, TaskName, ToMountPlain, World, evens, is_among, judge_in, layers_of, members, mount_at, mounted, named_in, none_is_some, odds, of_overlay, or_left, plain_filesystem, source_of, task_called, used_directly}
+use Rattle.vt_laws_members.proofs.judging.TheirCalls.{IsMember, caller_in, sealing_of}
 use Rattle.vt_laws_mounts.specs.LettingGo.Keeping.{has_only_named}
 use Rattle.vt_laws_sealed.proofs.part.part.PartOfPart.{is_own}
 use Rattle.vt_laws_members.specs.Judging.{is_theirs}
-use Rattle.vt_laws_members.proofs.changes.looks.Told.{member_called, ran}
+use Rattle.vt_laws_members.proofs.changes.looks.Told.{ran}
 use Rattle.vt_laws_members.proofs.changes.tasks.Denied.{run_by}
 use Rattle.vt_laws_members.proofs.attached.PlainMounting.{Mounts, mounts_there}
 use Rattle.vt_laws_members.proofs.new_overlays.NewFilesystem.{attaching, new, origins, shows}
@@ -15,45 +16,44 @@ use Rattle.vt_laws_containers.proofs.footholds.TasksPermits.{permit_out}
 use Rattle.vt_laws_containers.specs.AttachedApart.AttachFootholds.{PlainMountsGiveNoFoothold}
 use Rattle.vt_laws_containers.proofs.attached_apart.AttachedAsBefore.{copies_as_before}
 use Rattle.vt_laws_containers.proofs.attached_apart.GroupsApart.{Ours}
+use Rattle.vt_laws_sealed.proofs.part.seals.ByPart.{IsSealed}
 
 -- A new filesystem, mounted at a mount of theirs
-module _ (world : World ℕ) (names : List TaskName) (is : IsWorld nat_eq world)
-    (sealed_off : sealed nat_eq world names ≡ true) (fresh : Fresh ℕ) (serves : Serves nat_eq world fresh)
+module _ {world : World ℕ} {names : List TaskName} (sealing : IsSealed world names) (fresh : Fresh ℕ)
+    (serves : Serves nat_eq world fresh)
     (here : Location ℕ) (on : is_theirs world names here.mount ≡ true)
     (own : is_own world names (members world names) (mount_at nat_eq world here) ≡ true) (new_one : Filesystem ℕ)
     (number : new_one.number ≡ fresh 0) (layers : (layer : Layer ℕ) → Among layer (of_overlay [] layers_of new_one)
     → Among layer.filesystem (used_directly nat_eq world names))
     (named : has_only_named new_one ≡ true) (flags : MountFlags) where
   abbrev its_origins : List (Mount ℕ)
-  its_origins = origins world names is sealed_off fresh serves here on own new_one number layers named flags
+  its_origins = origins sealing fresh serves here on own new_one number layers named flags
 
   -- it is private
   sources : (o : Mount ℕ) → Among o its_origins → (g : ℕ) → source_of o.propagation ≡ Some g
-      → Ours world names is sealed_off fresh serves g
+      → Ours sealing fresh serves g
   sources o m g e = ⊎_elim (λ same. none_is_some g (sym (ap (λ (x : Mount ℕ). source_of x.propagation) same) ∙ e))
       (λ none. absurd none) m
 
   pub mounted_as_before : OthersAsBefore world (mounted nat_eq (odds fresh) world here new_one flags) names names
-  mounted_as_before = copies_as_before (attaching world names is sealed_off fresh serves here on own new_one number
-      layers named flags) fresh serves (new world names is sealed_off fresh serves here on own new_one number layers
-      named flags) its_origins (λ a b. (_, refl)) sources
-      (shows world names is sealed_off fresh serves here on own new_one number layers named flags)
+  mounted_as_before = copies_as_before (attaching sealing fresh serves here on own new_one number
+      layers named flags) fresh serves (new sealing fresh serves here on own new_one number layers named flags)
+      its_origins (λ a b. (_, refl)) sources (shows sealing fresh serves here on own new_one number layers named flags)
 
 -- A plain one
 pub plain_mounts_give_no_foothold : PlainMountsGiveNoFoothold
 plain_mounts_give_no_foothold world names name path flags it fresh serves = by (task_called world name) refl
   where
-    judged_by : (task : Task ℕ) (member : Among task (members world names)) → task_called world name ≡ Some task
+    judged_by : (task : Task ℕ) (member : IsMember world names task) → task_called world name ≡ Some task
         → (j : Judgement ℕ) → judge_in nat_eq fresh world task (MountPlain path flags) ≡ j
-        → IfOk j (Mounts world names it.is it.sealed_off task member flags)
+        → IfOk j (Mounts member flags)
         → GivesNoFoothold world names name (MountPlain path flags) fresh
     judged_by task member e (Ok permit) judged its =
-        permit_out it refl fresh serves task e (ToMountPlain its.0 flags) (judged ∙ ap Ok its.1)
-        (λ ends. mounted_as_before world names it.is it.sealed_off fresh serves its.0 its.2 its.3
-        (plain_filesystem nat_eq fresh) refl (λ layer m. absurd m)
-        (ap (λ b. b && true) (or_left (nat_eq (evens fresh 1) (evens fresh 1))
-        (is_among nat_eq (evens fresh 1) (named_in (plain_filesystem nat_eq fresh).files))
-        (eq-eqb (evens fresh 1) (evens fresh 1) refl))) flags)
+        permit_out (record { it = it; few = refl; serves = serves; called = e }) (ToMountPlain its.0 flags)
+        (judged ∙ ap Ok its.1) (λ ends. mounted_as_before (sealing_of it) fresh serves its.0 its.2 its.3
+        (plain_filesystem nat_eq fresh) refl (λ layer m. absurd m) (ap (λ b. b && true)
+        (or_left (nat_eq (evens fresh 1) (evens fresh 1)) (is_among nat_eq (evens fresh 1)
+        (named_in (plain_filesystem nat_eq fresh).files)) (eq-eqb (evens fresh 1) (evens fresh 1) refl))) flags)
     judged_by task member e (Err deny) judged its = refused_out it fresh
         (ap (λ o. is_ok (ran name (MountPlain path flags) world fresh o).answer) e
         ∙ ap (λ j. is_ok (run_by it world fresh task j).answer) judged)
@@ -62,6 +62,6 @@ plain_mounts_give_no_foothold world names name path flags it fresh serves = by (
         → GivesNoFoothold world names name (MountPlain path flags) fresh
     by None e = refused_out it fresh (ap (λ o. is_ok (ran name (MountPlain path flags) world fresh o).answer) e)
     by (Some task) e =
-        let member = member_called world names it.is it.sealed_off name it.theirs task e in
+        let member = caller_in it e in
         judged_by task member e (judge_in nat_eq fresh world task (MountPlain path flags)) refl
-        (mounts_there world names it.is it.sealed_off task member flags fresh path)
+        (mounts_there member flags fresh path)

@@ -1,8 +1,8 @@
 -- No mount(2) with MS_MOVE by a task of a sealed set gives others a foothold.
 use Rattle.std.proofs.Common.{◌≡◌, refl, sym, ap, subst, ◌∙◌, inr, ⊎_elim, ℕ, nat_eq, true, List, [], ◌++◌, Option, Some, None, Ok, Err, map, IfOk, is_ok}
-use Rattle.vt_spec.proofs.Common.{Among, Copies, Fresh, IsWorld, Judgement, Location, Mount, MoveMount, Serves, Task, TaskName, ToMove, World, among-filter, attach, copies_from, folded, is_own_mount, judge_in, masters_with, members, mount_at, moved_to, moved_tree, sealed, source_of, task_called}
+use Rattle.vt_spec.proofs.Common.{Among, Copies, Fresh, Judgement, Location, Mount, MoveMount, Serves, Task, TaskName, ToMove, World, among-filter, attach, copies_from, folded, is_own_mount, judge_in, masters_with, mount_at, moved_to, moved_tree, source_of, task_called}
 use Rattle.vt_laws_members.proofs.judging.Grounds.{theirs_from}
-use Rattle.vt_laws_members.proofs.changes.looks.Told.{member_called, ran}
+use Rattle.vt_laws_members.proofs.changes.looks.Told.{ran}
 use Rattle.vt_laws_members.proofs.changes.tasks.Denied.{run_by}
 use Rattle.vt_laws_members.proofs.attached.CopiesAlike.{AttachesTheirs, base, made, no_new_ones, parts}
 use Rattle.vt_laws_members.proofs.attached.Destination.{there}
@@ -18,24 +18,28 @@ use Rattle.vt_laws_containers.specs.AttachedApart.AttachFootholds.{MovesGiveNoFo
 use Rattle.vt_laws_containers.proofs.attached_apart.CopiesHear.{copy_ours, made_ours}
 use Rattle.vt_laws_containers.proofs.attached_apart.GroupsApart.{Ours, groups_apart, source_ours}
 use Rattle.vt_laws_containers.proofs.attached_apart.GrownAsBefore.{grown_as_before}
+use Rattle.vt_laws_members.proofs.judging.TheirCalls.{IsMember, caller_in, sealing_of}
+use Rattle.vt_laws_sealed.proofs.part.seals.ByPart.{IsSealed}
 
-module _ (world : World ℕ) (names : List TaskName) (is : IsWorld nat_eq world)
-    (sealed_off : sealed nat_eq world names ≡ true) (fresh : Fresh ℕ) (serves : Serves nat_eq world fresh)
+module _ {world : World ℕ} {names : List TaskName} (sealing : IsSealed world names) (fresh : Fresh ℕ)
+    (serves : Serves nat_eq world fresh)
     (from here : Location ℕ) (to : MovesTo world names from here) where
   here_there : Among (mount_at nat_eq world here) world.mounts
-  here_there = there world names is sealed_off here (theirs_from world names is.mounts here.mount to.on) to.own
+  here_there =
+      there world names sealing.is sealing.sealed_off here (theirs_from world names sealing.is.mounts here.mount to.on)
+      to.own
 
   from_there : Among (mount_at nat_eq world from) world.mounts
   from_there =
-      there world names is sealed_off from (theirs_from world names is.mounts from.mount to.from_on) to.from_own
+      there world names sealing.is sealing.sealed_off from (theirs_from world names sealing.is.mounts from.mount
+      to.from_on) to.from_own
 
   abbrev origins : List (Mount ℕ)
   origins = moved_tree nat_eq world from.mount
 
   abbrev attaching : AttachesTheirs world names
   attaching = record {
-    is = is;
-    sealed_off = sealed_off;
+    sealing = sealing;
     new_ones = [];
     unused = none_new world names;
     place = here;
@@ -48,8 +52,7 @@ module _ (world : World ℕ) (names : List TaskName) (is : IsWorld nat_eq world)
 
   abbrev moving : MovesTheirs world names
   moving = record {
-    is = is;
-    sealed_off = sealed_off;
+    sealing = sealing;
     place = here;
     there = here_there;
     own = to.own;
@@ -60,7 +63,7 @@ module _ (world : World ℕ) (names : List TaskName) (is : IsWorld nat_eq world)
   }
 
   abbrev IsOurs : ℕ → Type 0
-  IsOurs = Ours world names is sealed_off fresh serves
+  IsOurs = Ours sealing fresh serves
 
   abbrev base_here : World ℕ
   base_here = base attaching
@@ -87,7 +90,7 @@ module _ (world : World ℕ) (names : List TaskName) (is : IsWorld nat_eq world)
   sources : (o : Mount ℕ) → Among o origins → (g : ℕ) → source_of o.propagation ≡ Some g → IsOurs g
   sources o m g e =
       let its = origin_mine moving o m
-      in source_ours world names is sealed_off fresh serves o
+      in source_ours sealing fresh serves o
       (among-filter (is_own_mount nat_eq world names) world.mounts o its.0 its.1) g e
 
   new_groups : (a b : ℕ) → IsOurs (new.image a b)
@@ -96,7 +99,7 @@ module _ (world : World ℕ) (names : List TaskName) (is : IsWorld nat_eq world)
   -- a mount that stayed or moved is in groups of theirs
   old_sourced : (x : Mount ℕ) → Among x world.mounts → is_own_mount nat_eq world names x ≡ true → (g : ℕ)
       → source_of (change x).propagation ≡ Some g → IsOurs g
-  old_sourced x n mine g e = ⊎_elim (λ same. source_ours world names is sealed_off fresh serves x
+  old_sourced x n mine g e = ⊎_elim (λ same. source_ours sealing fresh serves x
       (among-filter (is_own_mount nat_eq world names) world.mounts x n mine) g
       (ap (λ (z : Mount ℕ). source_of z.propagation) (sym same) ∙ pushed))
       (λ moves. copy_ours base_here new here true origins IsOurs new_groups sources (mount_at nat_eq world here) x
@@ -122,20 +125,19 @@ module _ (world : World ℕ) (names : List TaskName) (is : IsWorld nat_eq world)
 
   pub moved_as_before : OthersAsBefore world (moved_to nat_eq fresh world from.mount here) names names
   moved_as_before = subst (λ w. OthersAsBefore world w names names) (sym as_grown)
-      (grown_as_before world names is sealed_off change added [] masters grows
-      (groups_apart world names is sealed_off fresh serves change added [] formed grows sourced
-      (made_ours base_here new here true origins IsOurs new_groups sources)))
+      (grown_as_before sealing change added [] masters grows (groups_apart sealing fresh serves change added [] formed
+      grows sourced (made_ours base_here new here true origins IsOurs new_groups sources)))
 
 pub moves_give_no_foothold : MovesGiveNoFoothold
 moves_give_no_foothold world names name source path it fresh serves = by (task_called world name) refl
   where
-    judged_by : (task : Task ℕ) (member : Among task (members world names)) → task_called world name ≡ Some task
+    judged_by : (task : Task ℕ) (member : IsMember world names task) → task_called world name ≡ Some task
         → (j : Judgement ℕ) → judge_in nat_eq fresh world task (MoveMount source path) ≡ j
-        → IfOk j (Moves world names it.is it.sealed_off task member)
+        → IfOk j (Moves member)
         → GivesNoFoothold world names name (MoveMount source path) fresh
     judged_by task member e (Ok permit) judged its =
-        permit_out it refl fresh serves task e (ToMove its.0.mount its.1) (judged ∙ ap Ok its.2)
-        (λ ends. moved_as_before world names it.is it.sealed_off fresh serves its.0 its.1 its.3)
+        permit_out (record { it = it; few = refl; serves = serves; called = e }) (ToMove its.0.mount its.1)
+        (judged ∙ ap Ok its.2) (λ ends. moved_as_before (sealing_of it) fresh serves its.0 its.1 its.3)
     judged_by task member e (Err deny) judged its = refused_out it fresh
         (ap (λ o. is_ok (ran name (MoveMount source path) world fresh o).answer) e
         ∙ ap (λ j. is_ok (run_by it world fresh task j).answer) judged)
@@ -144,6 +146,6 @@ moves_give_no_foothold world names name source path it fresh serves = by (task_c
         → GivesNoFoothold world names name (MoveMount source path) fresh
     by None e = refused_out it fresh (ap (λ o. is_ok (ran name (MoveMount source path) world fresh o).answer) e)
     by (Some task) e =
-        let member = member_called world names it.is it.sealed_off name it.theirs task e in
+        let member = caller_in it e in
         judged_by task member e (judge_in nat_eq fresh world task (MoveMount source path)) refl
-        (moves_there world names it.is it.sealed_off task member fresh source path)
+        (moves_there member fresh source path)

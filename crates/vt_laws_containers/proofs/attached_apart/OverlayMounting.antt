@@ -1,9 +1,10 @@
 -- No mount(2) of a new overlay by a task of a sealed set gives others a foothold.
 use Rattle.std.proofs.Common.{◌≡◌, refl, ap, ◌∙◌, ℕ, nat_eq, Option, Some, None, Ok, Err, is_ok}
 use Rattle.vt_spec.proofs.Common.{Among, Judgement, MountOverlay, Overlay, Permit, Task, ToMountOverlay, evens, evens-distinct, judge_in, looks_of, members, overfills, overlay_at, overlay_filesystem, served-distinct, task_called}
+use Rattle.vt_laws_members.proofs.judging.TheirCalls.{a_member, caller_in, sealing_of}
 use Rattle.vt_laws_rules.proofs.given.Inversion.{calls_are_granted}
 use Rattle.vt_laws_worlds.proofs.overlays_let_go.mounting.NewOverlays.{new_overlays_are_named}
-use Rattle.vt_laws_members.proofs.changes.looks.Told.{member_called, ran}
+use Rattle.vt_laws_members.proofs.changes.looks.Told.{ran}
 use Rattle.vt_laws_members.proofs.changes.tasks.Denied.{run_by}
 use Rattle.vt_laws_members.proofs.new_overlays.LayersTheirs.{MountsOverlay, all_used, mounts_overlay}
 use Rattle.vt_laws_containers.specs.Footholds.{GivesNoFoothold}
@@ -17,22 +18,21 @@ overlay_mounts_give_no_foothold world names name path options flags it fresh ser
   where
     granted_out : (task : Task ℕ) (member : Among task (members world names)) → task_called world name ≡ Some task
         → (permit : Permit ℕ) → judge_in nat_eq fresh world task (MountOverlay path options flags) ≡ Ok permit
-        → MountsOverlay world names it.is it.sealed_off task member flags permit
+        → MountsOverlay (a_member (sealing_of it) member) flags permit
         → GivesNoFoothold world names name (MountOverlay path options flags) fresh
     granted_out task member e permit judged its =
         let overlay : Overlay ℕ = overlay_at (looks_of nat_eq world) task its.places in
-        permit_out it refl fresh serves task e (ToMountOverlay its.here overlay flags) (judged ∙ ap Ok its.is_so)
-        (λ ends. mounted_as_before world names it.is it.sealed_off fresh serves its.here its.on its.own
-        (overlay_filesystem nat_eq (evens fresh) world overlay) refl
-        (all_used world names it.is it.sealed_off task member its.places its.all)
-        (new_overlays_are_named (evens fresh) world overlay it.is its.are_layers
+        permit_out (record { it = it; few = refl; serves = serves; called = e }) (ToMountOverlay its.here overlay flags)
+        (judged ∙ ap Ok its.is_so) (λ ends. mounted_as_before (sealing_of it) fresh serves its.here its.on its.own
+        (overlay_filesystem nat_eq (evens fresh) world overlay) refl (all_used (a_member (sealing_of it) member)
+        its.places its.all) (new_overlays_are_named (evens fresh) world overlay it.is its.are_layers
         (evens-distinct fresh (served-distinct world fresh serves))) flags)
 
     judged_by : (task : Task ℕ) → Among task (members world names) → task_called world name ≡ Some task
         → (j : Judgement ℕ) → judge_in nat_eq fresh world task (MountOverlay path options flags) ≡ j
         → GivesNoFoothold world names name (MountOverlay path options flags) fresh
     judged_by task member e (Ok permit) judged = granted_out task member e permit judged
-        (mounts_overlay world names it.is it.sealed_off task member fresh path options flags permit
+        (mounts_overlay (a_member (sealing_of it) member) fresh path options flags permit
         (calls_are_granted nat_eq (looks_of nat_eq world) (overfills nat_eq fresh world task) task
         (MountOverlay path options flags) permit judged))
     judged_by task member e (Err deny) judged = refused_out it fresh
@@ -43,5 +43,5 @@ overlay_mounts_give_no_foothold world names name path options flags it fresh ser
         → GivesNoFoothold world names name (MountOverlay path options flags) fresh
     by None e = refused_out it fresh (ap (λ o. is_ok (ran name (MountOverlay path options flags) world fresh o).answer)
         e)
-    by (Some task) e = judged_by task (member_called world names it.is it.sealed_off name it.theirs task e) e
+    by (Some task) e = judged_by task (caller_in it e).among e
         (judge_in nat_eq fresh world task (MountOverlay path options flags)) refl

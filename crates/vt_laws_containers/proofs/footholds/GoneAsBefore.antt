@@ -1,9 +1,8 @@
 -- Mounts of a set that go, and files that change, leave others as they were.
 use Rattle.std.proofs.Common.{◌≡◌, refl, sym, subst, ℕ, nat_eq, Bool, true, false, cond, true≢false, List, [], ◌∷◌, Some, None, filter, find, length, eq-eqb, eqb-true, arith, option_map}
-use Rattle.vt_spec.proofs.Common.{Among, Call, Fresh, Location, Mount, Serves, Task, TaskName, World, after_going, among-from_filter, among_numbers, any_among, any_from_among, chain, common_steps, detached, false_from_ne_true, holds_of, is_among, is_among_numbers, is_going, is_own_namespace, last_or, list_any, map_alike, mount_numbered, mount_point_of_parent, taken_away, task_called}
+use Rattle.vt_spec.proofs.Common.{Among, Call, Fresh, Location, Mount, Task, TaskName, World, after_going, among-from_filter, among_numbers, any_among, any_from_among, chain, common_steps, detached, false_from_ne_true, holds_of, is_among, is_among_numbers, is_going, is_own_namespace, last_or, list_any, map_alike, mount_numbered, mount_point_of_parent, taken_away}
+use Rattle.vt_laws_containers.proofs.footholds.ServedCalls.{IsServedCall}
 use Rattle.vt_laws_mounts.proofs.mounts.MountsReplaced.{found_itself}
-use Rattle.vt_laws_trees.specs.Trees.Limits.{names_few_groups}
-use Rattle.vt_laws_members.specs.Changes.Changes.{IsCallOfTheirs}
 use Rattle.vt_laws_containers.proofs.footholds.AsBefore.{OthersAsBefore}
 use Rattle.vt_laws_containers.proofs.footholds.EndsAsBefore.{going_on}
 use Rattle.vt_laws_containers.proofs.footholds.FilesGoOn.{ChangesFiles}
@@ -67,14 +66,9 @@ module _ (world : World ℕ) (gone : List ℕ) where
   taken_there =
       cc (map_alike (after_going nat_eq world gone_there) (after_going nat_eq world gone) world.mounts after_same)
 
-  pub taken_filesystems : (taken_away nat_eq world gone).filesystems ≡ world.filesystems
-  taken_filesystems = grind (arith, common_steps)
-
 -- Mounts of theirs that go
-module _ {world : World ℕ} {names : List TaskName} {name : TaskName} {call : Call}
-    (it : IsCallOfTheirs world names name call) (few : names_few_groups call ≡ true) (fresh : Fresh ℕ)
-    (serves : Serves nat_eq world fresh)
-    (task : Task ℕ) (called : task_called world name ≡ Some task) where
+module _ {world : World ℕ} {names : List TaskName} {name : TaskName} {call : Call} {fresh : Fresh ℕ}
+    {task : Task ℕ} (it : IsServedCall world names name call fresh task) where
   abbrev ours : ℕ → Bool
   ours = is_own_namespace nat_eq world names
 
@@ -89,8 +83,8 @@ module _ {world : World ℕ} {names : List TaskName} {name : TaskName} {call : C
       → (t : Task ℕ) × Among t world.tasks × (t.namespace ≡ n))
       → OthersAsBefore world (taken_away nat_eq world gone) names names
   own_gone_before gone own tasked = subst (λ w. OthersAsBefore world w names names) (taken_there world gone)
-      (gone_as_before it few fresh serves task called (gone_there world gone) [] goes
-      (λ mount m n e. tasked mount (subst (λ (w : World ℕ). Among mount w.mounts) (taken_there world gone) m) n e))
+      (gone_as_before it (gone_there world gone) [] goes (λ mount m n e. tasked mount
+      (subst (λ (w : World ℕ). Among mount w.mounts) (taken_there world gone) m) n e))
     where
       goes : (number : ℕ) → is_going nat_eq (gone_there world gone) number ≡ true
           → (n : ℕ) × ((mount_numbered nat_eq world number).namespace ≡ Some n) × (ours n ≡ true)

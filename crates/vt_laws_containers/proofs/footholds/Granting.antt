@@ -1,26 +1,28 @@
 -- A call of theirs gives others no foothold, if what it is permitted leaves others as they were.
 use Rattle.std.proofs.Common.{arith, ◌≡◌, refl, sym, ap, subst, ◌∙◌, inl, ℕ, nat_eq, true, false, true≢false, List, Option, Some, None, Result, Ok, Err, is_ok, not, ◌||◌, IfOk}
-use Rattle.vt_spec.proofs.Common.{Answer, Call, Fresh, IsWorld, Judgement, Outcome, Permit, Serves, Task, TaskName, World, after, answer-finished_by, apply, common_steps, filesystems_changed, filesystems_changed_by, judge_in, locations, members, numbers_raised, only_looks, overfills, policy, same_Some, sealed, settled, task_called}
+use Rattle.vt_spec.proofs.Common.{Answer, Call, Fresh, IsWorld, Judgement, Outcome, Permit, Serves, Task, TaskName, World, after, answer-finished_by, apply, common_steps, filesystems_changed, filesystems_changed_by, judge_in, locations, members, numbers_raised, only_looks, overfills, policy, same_Some, settled, task_called}
 use Rattle.vt_spec.specs.declared.errors.Deny.{Deny}
+use Rattle.vt_laws_members.proofs.judging.TheirCalls.{caller_in, sealing_of}
 use Rattle.vt_laws_rules.proofs.denials.Unchanged.{look_changes_nothing}
 use Rattle.vt_laws_rules.proofs.rules.OwnRules.{denial_changes_nothing}
+use Rattle.vt_laws_sealed.proofs.part.seals.ByPart.{IsSealed}
 use Rattle.vt_laws_trees.specs.Trees.Limits.{names_few_groups}
 use Rattle.vt_laws_worlds.proofs.overlay_permits.worlds.EveryCall.{every_call_keeps_worlds}
 use Rattle.vt_laws_later_calls.proofs.Granted.{permitted}
 use Rattle.vt_laws_members.specs.Judging.{is_theirs}
 use Rattle.vt_laws_members.specs.Changes.Changes.{IsCallOfTheirs, grown, left}
 use Rattle.vt_laws_members.proofs.changes.looks.Granted.{IsLook, looked}
-use Rattle.vt_laws_members.proofs.changes.looks.Told.{member_called, ran}
+use Rattle.vt_laws_members.proofs.changes.looks.Told.{ran}
 use Rattle.vt_laws_containers.specs.Footholds.{GivesNoFoothold, LeavesOthersOut}
 use Rattle.vt_laws_containers.proofs.footholds.AsBefore.{OthersAsBefore, leaves_others_out}
 use Rattle.vt_laws_containers.proofs.footholds.EndsAsBefore.{raised_as_before}
 use Rattle.vt_laws_containers.proofs.footholds.TasksAsBefore.{tasks_as_before, tasks_beside}
 
 -- the world itself
-pub as_itself : (world : World ℕ) (names : List TaskName) → IsWorld nat_eq world → sealed nat_eq world names ≡ true
-    → OthersAsBefore world world names names
-as_itself world names is sealed_off = tasks_as_before world names names is sealed_off world.tasks world.filesystems
-    (tasks_beside world names is world.filesystems (λ f m. inl (f, m, refl, refl)))
+module _ {world : World ℕ} {names : List TaskName} (sealing : IsSealed world names) where
+  pub as_itself : OthersAsBefore world world names names
+  as_itself = tasks_as_before names sealing world.tasks world.filesystems
+      (tasks_beside world names sealing.is world.filesystems (λ f m. inl (f, m, refl, refl)))
 
 module _ {world : World ℕ} {names : List TaskName} {name : TaskName} {call : Call}
     (it : IsCallOfTheirs world names name call) (fresh : Fresh ℕ) where
@@ -34,8 +36,8 @@ module _ {world : World ℕ} {names : List TaskName} {name : TaskName} {call : C
   pub unchanged_out : later ≡ world → grown names name call answer_given ≡ names
       → GivesNoFoothold world names name call fresh
   unchanged_out same stays = subst (LeavesOthersOut world later names) (sym stays)
-      (subst (λ w. LeavesOthersOut world w names names) (sym same)
-      (leaves_others_out world world names names it.is it.is (as_itself world names it.is it.sealed_off)))
+      (subst (λ w. LeavesOthersOut world w names names) (sym same) (leaves_others_out world world names names it.is
+      it.is (as_itself (sealing_of it))))
 
   pub refused_out : is_ok answer_given ≡ false → GivesNoFoothold world names name call fresh
   refused_out refused = by answer_given refl refused
@@ -67,8 +69,7 @@ module _ {world : World ℕ} {names : List TaskName} {name : TaskName} {call : C
       by (Some task) e =
           let judgement : Judgement ℕ = judge_in nat_eq fresh world task call in
           let outcome : Outcome ℕ = after world judgement (apply nat_eq fresh world task) in
-          let its = looked world names it.is it.sealed_off task
-          (member_called world names it.is it.sealed_off name it.theirs task e) (overfills nat_eq fresh world task)
+          let its = looked (caller_in it e) (overfills nat_eq fresh world task)
           names name call looks in
           ap (grown names name call) (answer-finished_by (only_looks call || not (is_ok outcome.answer)) world name
           (filesystems_changed_by nat_eq world judgement) outcome) ∙ after_stays task its.1 judgement its.0

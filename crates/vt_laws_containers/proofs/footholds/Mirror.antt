@@ -2,16 +2,11 @@
 -- mounts for themselves, too.
 use Rattle.std.proofs.Common.{◌≡◌, refl, sym, ap, subst, ◌∙◌, ◌⊎◌, inl, inr, ⊎_elim, ℕ, nat_eq, Bool, true, false, true≢false, List, [], ◌∷◌, Option, Some, None, filter, map, not, ◌||◌, eq-eqb, eqb-true, arith}
 use Rattle.vt_spec.proofs.Common.{Among, Location, Mount, MountInvariants, Namespace, Stands, Task, TaskName, World, all_from_among, among-filter, among-flat_map, among-from_filter, among-from_flat_map, among-from_map, among-map, among_from_all, among_from_list_all, any_among, any_from_among, at_root, common_steps, false_from_ne_true, filter_alike, filter_all, group_of, has_tasks, holds_of, is_at, is_listed, is_member_task, is_own_mount, is_own_namespace, list_all, list_all_from_among, list_any, locations, locations_of, members, mount_at, mount_numbered, not-true, on_parent, other_mounts, outsiders, own_mounts, roots_and_directories, same_name, same_name_itself, share_events}
+use Rattle.vt_laws_mounts.proofs.letting_go.Lists.{nothing_passes}
 use Rattle.vt_laws_mounts.proofs.mounts.MountsReplaced.{found_itself}
 use Rattle.vt_laws_sealed.specs.Part.Seals.{IsApart}
 use Rattle.vt_laws_sealed.proofs.outsiders.OtherMounts.{namespace_outside, standing_apart_of}
 use Rattle.vt_laws_sealed.proofs.outsiders.StandingApart.{StandsApart}
-
--- Filters
-
-filter_none : {A : Type 0} (p : A → Bool) (xs : List A) → ((x : A) → Among x xs → p x ≡ false) → filter p xs ≡ []
-filter_none p [] none = refl
-filter_none p (x ∷ xs) none = cc (none x (inl refl), filter_none p xs (λ y m. none y (inr m)))
 
 -- Two mounts share events, whichever is first.
 or_turned : (a b : Bool) → (a || b) ≡ (b || a)
@@ -28,7 +23,7 @@ pub none_turned : (world : World ℕ) (xs ys : List (Mount ℕ)) → ShareNone (
     → ShareNone (share_events nat_eq world) ys xs ≡ true
 none_turned world xs ys none = grind (arith, common_steps, list_all_from_among, or_turned, among_from_list_all)
 
-module _ (world : World ℕ) (names : List TaskName) (apart : IsApart world names) where
+module _ {world : World ℕ} {names : List TaskName} (apart : IsApart world names) where
   abbrev pub out : List (Task ℕ)
   out = outsiders world names
 
@@ -53,7 +48,7 @@ module _ (world : World ℕ) (names : List TaskName) (apart : IsApart world name
   all_there = filter_all (is_member_task their_names) out all_named
 
   pub none_there : filter (λ (t : Task ℕ). not (is_member_task their_names t)) out ≡ []
-  none_there = filter_none (λ (t : Task ℕ). not (is_member_task their_names t)) out (λ t m. ap not (all_named t m))
+  none_there = nothing_passes (λ (t : Task ℕ). not (is_member_task their_names t)) out (λ t m. ap not (all_named t m))
 
   pub own_out : (n : ℕ) → is_own_namespace nat_eq mirror their_names n ≡ is_out n
   own_out n = ap (list_any (λ (t : Task ℕ). nat_eq n t.namespace)) all_there

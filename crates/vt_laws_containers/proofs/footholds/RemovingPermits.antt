@@ -1,10 +1,11 @@
 -- Removals, renames and lazy unmounts of theirs give others no foothold: all mounts that go are theirs.
 use Rattle.std.proofs.Common.{◌≡◌, refl, sym, ap, subst, ◌∙◌, ⊎_elim, ℕ, nat_eq, eq-eqb, true, false, true≢false, List, [], Option, Some, None, Ok}
-use Rattle.vt_spec.proofs.Common.{Among, Call, Change, Filesystem, Fresh, IsWorld, Location, Mount, MountInvariants, Move, Overlay, Permit, Remove, Serves, Task, TaskName, ToRemoveDirectory, ToRename, ToUnmountLazily, World, any_pair, apply, filesystem_at, filesystem_numbered, folded, found_or_none, holds_of, is_own_namespace, judge_in, lazily_unmounted, looks_of, members, mount_at, mount_numbered, mounts_on, none_is_some, numbers_raised, overfills, part_of, points_of, settled, taken_away, task_called, unmounted_if_there, used_alone, with_change, without_mounts_on}
+use Rattle.vt_spec.proofs.Common.{Among, Call, Change, Filesystem, Fresh, IsWorld, Location, Mount, MountInvariants, Move, Overlay, Permit, Remove, Task, TaskName, ToRemoveDirectory, ToRename, ToUnmountLazily, World, any_pair, apply, filesystem_at, filesystem_numbered, filesystems-taken_away, folded, found_or_none, holds_of, is_own_namespace, judge_in, lazily_unmounted, looks_of, members, mount_at, mount_numbered, mounts_on, none_is_some, numbers_raised, overfills, part_of, points_of, settled, taken_away, task_called, unmounted_if_there, used_alone, with_change, without_mounts_on}
+use Rattle.vt_laws_containers.proofs.footholds.ServedCalls.{IsServedCall}
+use Rattle.vt_laws_members.proofs.judging.TheirCalls.{IsMember, caller_in, sealing_of}
 use Rattle.vt_laws_rules.proofs.given.GivenPermits.{permits_are_for_their_calls}
 use Rattle.vt_laws_rules.proofs.given.Inversion.{calls_are_granted}
 use Rattle.vt_laws_trees.specs.Trees.Calls.{mounts_overlay}
-use Rattle.vt_laws_trees.specs.Trees.Limits.{names_few_groups}
 use Rattle.vt_laws_mounts.proofs.letting_go.SweptBetween.{settled_without_groups}
 use Rattle.vt_laws_mounts.proofs.ends.EndingLazy.{IsUnderWay, begun}
 use Rattle.vt_laws_mounts.proofs.ends.EndingOrder.{taken_in_turn}
@@ -15,10 +16,8 @@ use Rattle.vt_laws_sealed.proofs.part.part.PartOfPart.{is_own}
 use Rattle.vt_laws_members.proofs.judging.Grounds.{theirs_from}
 use Rattle.vt_laws_members.proofs.judging.MountPoints.{in_own}
 use Rattle.vt_laws_members.proofs.judging.SeenInPart.{OnTheirs, theirs_directly}
-use Rattle.vt_laws_members.specs.Changes.Changes.{IsCallOfTheirs}
 use Rattle.vt_laws_members.proofs.changes.files.OneFilesystem.{found_numbered}
 use Rattle.vt_laws_members.proofs.changes.letting_go.PartMounts.{part_mounts}
-use Rattle.vt_laws_members.proofs.changes.looks.Told.{member_called}
 use Rattle.vt_laws_members.proofs.changes.names.Elsewhere.{own_here, plain_points}
 use Rattle.vt_laws_members.proofs.changes.names.GrantedNames.{Names, naming_of}
 use Rattle.vt_laws_members.proofs.changes.names.NamesEnding.{naming_alone}
@@ -32,19 +31,17 @@ use Rattle.vt_laws_containers.specs.PermitFootholds.{RemovingGivesNoFoothold, is
 use Rattle.vt_laws_containers.proofs.footholds.AsBefore.{OthersAsBefore}
 use Rattle.vt_laws_containers.proofs.footholds.EndsAsBefore.{swept_as_before}
 use Rattle.vt_laws_containers.proofs.footholds.FilesGoOn.{ChangesFiles, change_changes_files}
-use Rattle.vt_laws_containers.proofs.footholds.GoneAsBefore.{files_as_before, own_gone_before, taken_filesystems}
+use Rattle.vt_laws_containers.proofs.footholds.GoneAsBefore.{files_as_before, own_gone_before}
 use Rattle.vt_laws_containers.proofs.footholds.Granting.{EndsInAWorld}
 use Rattle.vt_laws_containers.proofs.footholds.TakenAsBefore.{taken_tasks}
 use Rattle.vt_laws_containers.proofs.footholds.TakingPermits.{tasked_later}
 use Rattle.vt_laws_containers.proofs.footholds.TasksPermits.{Before, changed_before, kept, permit_out, swept_out}
 use Rattle.vt_laws_members.proofs.changes.letting_go.Regrouped.{TheirsGo}
 
-module _ {world : World ℕ} {names : List TaskName} {name : TaskName} {call : Call}
-    (it : IsCallOfTheirs world names name call) (few : names_few_groups call ≡ true) (fresh : Fresh ℕ)
-    (serves : Serves nat_eq world fresh)
-    (task : Task ℕ) (called : task_called world name ≡ Some task) where
-  member : Among task (members world names)
-  member = member_called world names it.is it.sealed_off name it.theirs task called
+module _ {world : World ℕ} {names : List TaskName} {name : TaskName} {call : Call} {fresh : Fresh ℕ}
+    {task : Task ℕ} (it : IsServedCall world names name call fresh task) where
+  member : IsMember world names task
+  member = caller_in it.it it.called
 
   -- A change by which a directory goes, with the mounts on it
   module _ (permit : Permit ℕ) (judged : judge_in nat_eq fresh world task call ≡ Ok permit)
@@ -61,7 +58,7 @@ module _ {world : World ℕ} {names : List TaskName} {name : TaskName} {call : C
     gone_alone = cc (
       one_filesystem,
       found_numbered (mount_at nat_eq world location).filesystem world.filesystems,
-      naming_alone (naming_of it task called fresh serves permit judged location change asks names_it),
+      naming_alone (naming_of it.it task it.called fresh it.serves permit judged location change asks names_it),
     )
 
     points_own : (point : ℕ × ℕ) → Among point (points_of nat_eq world gone)
@@ -71,8 +68,7 @@ module _ {world : World ℕ} {names : List TaskName} {name : TaskName} {call : C
         by : (o : Option (Overlay ℕ)) → (filesystem_at nat_eq world gone).overlay ≡ o → (point : ℕ × ℕ)
             → Among point (points_of nat_eq world gone) → used_alone nat_eq world names point.0 ≡ true
         by None e = plain_points world names it.is gone e gone_alone
-        by (Some overlay) e =
-            points_alone world names it.is it.sealed_off gone overlay e (theirs_directly world names it.is gone on)
+        by (Some overlay) e = points_alone (sealing_of it.it) gone overlay e (theirs_directly world names it.is gone on)
 
     only_own : (mount : Mount ℕ) → Among mount (mounts_on nat_eq world gone) → (n : ℕ) → mount.namespace ≡ Some n
         → is_own_namespace nat_eq world names n ≡ true
@@ -90,14 +86,13 @@ module _ {world : World ℕ} {names : List TaskName} {name : TaskName} {call : C
     changes : ChangesFiles base done
     changes = change_changes_files base
         (subst (λ fs. any_pair (λ (a b : Filesystem ℕ). nat_eq a.number b.number) fs ≡ false)
-        (sym (taken_filesystems world list)) it.is.files.one_filesystem) fresh location change
+        (sym (filesystems-taken_away world list)) it.is.files.one_filesystem) fresh location change
 
     pub removed_before : (changed : List ℕ)
         → IsWorld nat_eq (numbers_raised nat_eq world name changed (settled nat_eq done))
         → OthersAsBefore world done names names
     removed_before changed ends = files_as_before world base done names names
-        (own_gone_before it few fresh serves task called list (own_go world names it.is gone on only_own)
-        (λ mount m n e.
+        (own_gone_before it list (own_go world names it.is gone on only_own) (λ mount m n e.
         let of = tasked_later world done name changed ends mount
         (subst (Among mount) (sym (ap (λ (w : World ℕ). w.mounts) changes.same)) m) n e in (
           of.0,
@@ -107,34 +102,31 @@ module _ {world : World ℕ} {names : List TaskName} {name : TaskName} {call : C
 
   removes_before : (parent : Location ℕ) (entry : List ℕ) (directory : Location ℕ)
       → judge_in nat_eq fresh world task call ≡ Ok (ToRemoveDirectory parent entry directory)
-      → EndsInAWorld it fresh serves few task (ToRemoveDirectory parent entry directory)
-      → Before it few fresh serves task called (ToRemoveDirectory parent entry directory)
+      → EndsInAWorld it.it fresh it.serves it.few task (ToRemoveDirectory parent entry directory)
+      → Before it (ToRemoveDirectory parent entry directory)
   removes_before parent entry directory judged ends =
-      kept it few fresh serves task called (ToRemoveDirectory parent entry directory) judged refl
-      (apply nat_eq fresh world task (ToRemoveDirectory parent entry directory)).world
-      (removed_before (ToRemoveDirectory parent entry directory) judged directory parent
-      (Remove parent.node entry directory.node) refl tt
-      (removed_free world names it.is it.sealed_off task member fresh call (ToRemoveDirectory parent entry directory)
+      kept it (ToRemoveDirectory parent entry directory) judged refl (apply nat_eq fresh world task
+      (ToRemoveDirectory parent entry directory)).world (removed_before (ToRemoveDirectory parent entry directory)
+      judged directory parent (Remove parent.node entry directory.node) refl tt
+      (removed_free member fresh call (ToRemoveDirectory parent entry directory)
       (calls_are_granted nat_eq (looks_of nat_eq world) (overfills nat_eq fresh world task) task call
       (ToRemoveDirectory parent entry directory) judged) parent entry directory refl) _ ends)
 
   renames_before : (from : Location ℕ) (old : List ℕ) (to : Location ℕ) (new : List ℕ) (object : Location ℕ)
       (replaced : Option (Location ℕ))
       → judge_in nat_eq fresh world task call ≡ Ok (ToRename from old to new object replaced)
-      → EndsInAWorld it fresh serves few task (ToRename from old to new object replaced)
-      → Before it few fresh serves task called (ToRename from old to new object replaced)
+      → EndsInAWorld it.it fresh it.serves it.few task (ToRename from old to new object replaced)
+      → Before it (ToRename from old to new object replaced)
   renames_before from old to new object None judged ends =
-      kept it few fresh serves task called (ToRename from old to new object None) judged refl
-      (apply nat_eq fresh world task (ToRename from old to new object None)).world
-      (changed_before it few fresh serves task called
-      (apply nat_eq fresh world task (ToRename from old to new object None)).world
-      (change_changes_files world it.is.files.one_filesystem fresh from (Move from.node old to.node new object.node)))
+      kept it (ToRename from old to new object None) judged refl (apply nat_eq fresh world task
+      (ToRename from old to new object None)).world (changed_before it (apply nat_eq fresh world task
+      (ToRename from old to new object None)).world (change_changes_files world it.is.files.one_filesystem fresh from
+      (Move from.node old to.node new object.node)))
   renames_before from old to new object (Some gone) judged ends =
-      kept it few fresh serves task called (ToRename from old to new object (Some gone)) judged
-      refl (apply nat_eq fresh world task (ToRename from old to new object (Some gone))).world
-      (removed_before (ToRename from old to new object (Some gone)) judged gone from
-      (Move from.node old to.node new object.node) refl tt (replaced_free world names it.is it.sealed_off task member
-      fresh call (ToRename from old to new object (Some gone))
+      kept it (ToRename from old to new object (Some gone)) judged refl (apply nat_eq fresh world task
+      (ToRename from old to new object (Some gone))).world (removed_before (ToRename from old to new object (Some gone))
+      judged gone from (Move from.node old to.node new object.node) refl tt
+      (replaced_free member fresh call (ToRename from old to new object (Some gone))
       (calls_are_granted nat_eq (looks_of nat_eq world) (overfills nat_eq fresh world task) task call
       (ToRename from old to new object (Some gone)) judged) from old to new object gone refl) _ ends)
 
@@ -144,7 +136,7 @@ module _ {world : World ℕ} {names : List TaskName} {name : TaskName} {call : C
     part = part_of nat_eq world names
 
     abbrev in_part : MountInvariants nat_eq part
-    in_part = part_mounts world names it.is it.sealed_off
+    in_part = part_mounts (sealing_of it.it)
 
     abbrev detached_ones : World ℕ
     detached_ones = lazily_unmounted nat_eq world number
@@ -152,9 +144,9 @@ module _ {world : World ℕ} {names : List TaskName} {name : TaskName} {call : C
     in_callers : (mount_numbered nat_eq world number).namespace ≡ Some task.namespace
     in_callers =
         let for = permits_are_for_their_calls fresh world task call (ToUnmountLazily number) judged in
-        (all_permits_fit world fresh task call (ToUnmountLazily number) it.is serves
-        (ap (task_called world) (sym (name_found world name task called)) ∙ called)
-        (ap mounts_overlay for.1) judged).names.0
+        (all_permits_fit world fresh task call (ToUnmountLazily number) it.is it.serves
+        (ap (task_called world) (sym (name_found world name task it.called)) ∙ it.called) (ap mounts_overlay for.1)
+        judged).names.0
 
     is_there : Among (mount_numbered nat_eq world number) world.mounts
     is_there = ⊎_elim (λ m. m)
@@ -162,19 +154,18 @@ module _ {world : World ℕ} {names : List TaskName} {name : TaskName} {call : C
         (found_or_none world.mounts number)
 
     is_its : is_own world names (members world names) (mount_numbered nat_eq world number) ≡ true
-    is_its = in_own world names it.is task member (mount_numbered nat_eq world number)
+    is_its = in_own world names it.is task member.among (mount_numbered nat_eq world number)
         (ap (holds_of (nat_eq task.namespace)) in_callers ∙ eq-eqb task.namespace task.namespace refl)
 
     all_gone : (gone : List ℕ) × TheirsGo world names gone × TookAway world detached_ones gone
         × TookAway part (folded (unmounted_if_there nat_eq) part (taken_in_turn world number)) gone
-    all_gone = events_alike world names it.is it.sealed_off number (taken_in_turn world number) world part []
+    all_gone = events_alike (sealing_of it.it) number (taken_in_turn world number) world part []
         (begun world it.is.mounts number) (subst (IsUnderWay part in_part number part)
-        (same_turns world names it.is it.sealed_off number is_there is_its) (begun part in_part number)) (record {
-          is = it.is;
-          sealed_off = it.sealed_off;
+        (same_turns (sealing_of it.it) number is_there is_its) (begun part in_part number)) (record {
+          sealing = sealing_of it.it;
           own_go = λ m n none. absurd (true≢false (sym none));
         }) (took_none world it.is.mounts) (took_none part in_part)
-        (turns_own world names it.is it.sealed_off number is_there is_its)
+        (turns_own (sealing_of it.it) number is_there is_its)
 
     same : SameButGroups detached_ones (taken_away nat_eq world all_gone.0)
     same = took world detached_ones all_gone.0 all_gone.2
@@ -183,10 +174,10 @@ module _ {world : World ℕ} {names : List TaskName} {name : TaskName} {call : C
     same_swept =
         cc (settled_without_groups (taken_away nat_eq world all_gone.0), same, settled_without_groups detached_ones)
 
-    taken_before : EndsInAWorld it fresh serves few task (ToUnmountLazily number)
+    taken_before : EndsInAWorld it.it fresh it.serves it.few task (ToUnmountLazily number)
         → OthersAsBefore world (taken_away nat_eq world all_gone.0) names names
     taken_before ends =
-        own_gone_before it few fresh serves task called all_gone.0 all_gone.1.own_go (λ mount m n e.
+        own_gone_before it all_gone.0 all_gone.1.own_go (λ mount m n e.
         let of = tasked_later world detached_ones name [] ends mount
         (subst (Among mount) (sym (ap (λ (w : World ℕ). w.mounts) same)) m) n e in (
           of.0,
@@ -195,22 +186,21 @@ module _ {world : World ℕ} {names : List TaskName} {name : TaskName} {call : C
         ))
 
     lazy_out : GivesNoFoothold world names name call fresh
-    lazy_out = swept_out it few fresh serves task called (ToUnmountLazily number) judged
-        (λ ends. kept it few fresh serves task called (ToUnmountLazily number) judged refl
-        (settled nat_eq detached_ones) (subst (λ w. OthersAsBefore world w names names) same_swept
-        (swept_as_before world (taken_away nat_eq world all_gone.0) names names (taken_before ends))))
+    lazy_out = swept_out it (ToUnmountLazily number) judged
+        (λ ends. kept it (ToUnmountLazily number) judged refl (settled nat_eq detached_ones)
+        (subst (λ w. OthersAsBefore world w names names) same_swept (swept_as_before world
+        (taken_away nat_eq world all_gone.0) names names (taken_before ends))))
 
   by_permit : (permit : Permit ℕ) → judge_in nat_eq fresh world task call ≡ Ok permit → is_of_removing permit ≡ true
       → GivesNoFoothold world names name call fresh
   by_permit (ToRemoveDirectory parent entry directory) judged e =
-      permit_out it few fresh serves task called (ToRemoveDirectory parent entry directory) judged
-      (removes_before parent entry directory judged)
+      permit_out it (ToRemoveDirectory parent entry directory) judged (removes_before parent entry directory judged)
   by_permit (ToRename from old to new object replaced) judged e =
-      permit_out it few fresh serves task called (ToRename from old to new object replaced) judged
-      (renames_before from old to new object replaced judged)
+      permit_out it (ToRename from old to new object replaced) judged (renames_before from old to new object replaced
+      judged)
   by_permit (ToUnmountLazily number) judged e = lazy_out number judged
   by_permit permit judged e = absurd (true≢false (sym e))
 
 pub removing_gives_no_foothold : RemovingGivesNoFoothold
 removing_gives_no_foothold world names name call it few fresh serves task called permit judged is_one =
-    by_permit it few fresh serves task called permit judged is_one
+    by_permit (record { it = it; few = few; serves = serves; called = called }) permit judged is_one

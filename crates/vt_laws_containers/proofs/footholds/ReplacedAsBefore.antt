@@ -1,24 +1,23 @@
 -- Where mounts of a sealed set get other flags or mount points, others are as they were.
 use Rattle.std.proofs.Common.{◌≡◌, refl, sym, ap, subst, ◌∙◌, ◌⊎◌, inl, inr, ⊎_elim, ℕ, nat_eq, Bool, true, false, cond, true≢false, List, [], ◌∷◌, Option, Some, None, Ok, filter, map, not, eq-eqb, eqb-true, arith}
-use Rattle.vt_spec.proofs.Common.{Among, Call, Fresh, IsWorld, Location, Mount, MountFlags, Permit, PivotRoot, Propagation, Serves, Task, TaskName, ToPivot, ToSetFlags, World, among-append, among-append_left, among-append_right, among-flat_map, among-from_filter, among-from_flat_map, among-from_map, among-map, any_from_among, apply, common_steps, found_or_none, holds_of, is_among, is_member_task, is_own_namespace, judge_in, list_all, list_any, locations, locations_of, map_alike, members, mount_at, mount_in, mount_numbered, no_mount, none_is_some, not-true, number-mount_in, other_mounts, outsiders, own_mounts, pivoted_location, pivoted_mount, pivoted_task, replaced_if_same, root_of, same_Some, same_location, same_name, sealed, share_events, task_called, used_directly, with_mounts}
+use Rattle.vt_spec.proofs.Common.{Among, Call, Fresh, Location, Mount, MountFlags, Permit, PivotRoot, Propagation, Task, TaskName, ToPivot, ToSetFlags, World, among-append, among-append_left, among-append_right, among-flat_map, among-from_filter, among-from_flat_map, among-from_map, among-map, any_from_among, apply, common_steps, found_or_none, holds_of, is_among, is_member_task, is_own_namespace, judge_in, list_all, list_any, locations, locations_of, map_alike, members, mount_at, mount_in, mount_numbered, no_mount, none_is_some, not-true, number-mount_in, other_mounts, outsiders, own_mounts, pivoted_location, pivoted_mount, pivoted_task, replaced_if_same, root_of, same_Some, same_location, same_name, share_events, task_called, used_directly, with_mounts}
+use Rattle.vt_laws_containers.proofs.footholds.ServedCalls.{IsServedCall}
+use Rattle.vt_laws_members.proofs.judging.TheirCalls.{IsMember, caller_in, sealing_of}
 use Rattle.vt_laws_mounts.proofs.letting_go.Lists.{filter-map}
 use Rattle.vt_laws_mounts.proofs.mounts.MountsReplaced.{found_itself}
 use Rattle.vt_laws_rules.proofs.given.GivenPermits.{permits_are_for_their_calls}
 use Rattle.vt_laws_trees.specs.Trees.Calls.{mounts_overlay}
-use Rattle.vt_laws_trees.specs.Trees.Limits.{names_few_groups}
 use Rattle.vt_laws_worlds.specs.Worlds.Permits.{MayPivot}
 use Rattle.vt_laws_worlds.proofs.worlds.CallsKept.{name_found}
 use Rattle.vt_laws_worlds.proofs.worlds.FitPermitsNamed.{all_permits_fit}
 use Rattle.vt_laws_sealed.specs.Part.Seals.{IsApart}
-use Rattle.vt_laws_sealed.proofs.part.seals.ByPart.{apart_if_sealed}
+use Rattle.vt_laws_sealed.proofs.part.seals.ByPart.{IsSealed, apart_if_sealed}
 use Rattle.vt_laws_sealed.proofs.outsiders.FlagsSet.{set}
 use Rattle.vt_laws_sealed.proofs.outsiders.OtherMounts.{namespace_outside}
 use Rattle.vt_laws_sealed.proofs.outsiders.Raising.{all-map_same}
 use Rattle.vt_laws_members.proofs.judging.Grounds.{IsTheirs}
 use Rattle.vt_laws_members.proofs.judging.MountTrees.{own_theirs}
 use Rattle.vt_laws_members.proofs.judging.SeenInPart.{theirs_directly}
-use Rattle.vt_laws_members.specs.Changes.Changes.{IsCallOfTheirs}
-use Rattle.vt_laws_members.proofs.changes.looks.Told.{member_called}
 use Rattle.vt_laws_members.proofs.changes.tasks.Rights.{any_mapped}
 use Rattle.vt_laws_containers.specs.PermitFootholds.{ReplacingGivesNoFoothold, is_of_replacing}
 use Rattle.vt_laws_containers.proofs.footholds.AsBefore.{OthersAsBefore}
@@ -40,12 +39,11 @@ map_fixed : (f : Mount ℕ → Mount ℕ) (list : List (Mount ℕ)) → ((m : Mo
 map_fixed f [] same = refl
 map_fixed f (m ∷ rest) same = cc (same m (inl refl), map_fixed f rest (λ x n. same x (inr n)))
 
-module _ (world : World ℕ) (names : List TaskName) (is : IsWorld nat_eq world)
-    (sealed_off : sealed nat_eq world names ≡ true) (change : Mount ℕ → Mount ℕ)
-    (replaces : ReplacesOwn world names change) (tasks : List (Task ℕ))
-    (beside : StandsBeside world names names is tasks world.filesystems) where
+module _ {world : World ℕ} {names : List TaskName} (sealing : IsSealed world names) (change : Mount ℕ → Mount ℕ)
+    (replaces : ReplacesOwn world names change) (tasks : List (Task ℕ)) (beside : StandsBeside world names names
+    sealing.is tasks world.filesystems) where
   apart : IsApart world names
-  apart = apart_if_sealed world names is sealed_off
+  apart = apart_if_sealed sealing
 
   abbrev left : World ℕ
   left = record world { mounts = map change world.mounts; tasks = tasks }
@@ -128,7 +126,7 @@ module _ (world : World ℕ) (names : List TaskName) (is : IsWorld nat_eq world)
       subst (λ k. Among k (used_directly nat_eq world names)) (sym (at.2 ∙ shown_same at.0)) (⊎_elim
       (λ old. among-append_right mounted located_at (mount_at nat_eq world at.0).filesystem
       (among-map (λ (l : Location ℕ). (mount_at nat_eq world l).filesystem) (locations (members world names)) at.0 old))
-      (λ theirs. theirs_directly world names is at.0 theirs) (beside.located at.0 at.1)))
+      (λ theirs. theirs_directly world names sealing.is at.0 theirs) (beside.located at.0 at.1)))
       (among-append (map (λ (x : Mount ℕ). x.filesystem) (own_mounts nat_eq left names))
       (map (λ (l : Location ℕ). (mount_at nat_eq left l).filesystem) (locations (members left names))) number m)
 
@@ -152,18 +150,16 @@ module _ (world : World ℕ) (names : List TaskName) (is : IsWorld nat_eq world)
   }
 
 -- The permits
-module _ {world : World ℕ} {names : List TaskName} {name : TaskName} {call : Call}
-    (it : IsCallOfTheirs world names name call) (few : names_few_groups call ≡ true) (fresh : Fresh ℕ)
-    (serves : Serves nat_eq world fresh)
-    (task : Task ℕ) (called : task_called world name ≡ Some task) where
-  its_member : Among task (members world names)
-  its_member = member_called world names it.is it.sealed_off name it.theirs task called
+module _ {world : World ℕ} {names : List TaskName} {name : TaskName} {call : Call} {fresh : Fresh ℕ}
+    {task : Task ℕ} (it : IsServedCall world names name call fresh task) where
+  its_member : IsMember world names task
+  its_member = caller_in it.it it.called
 
   abbrev is_ours : ℕ → Bool
   is_ours = is_own_namespace nat_eq world names
 
   caller_ours : is_ours task.namespace ≡ true
-  caller_ours = grind (arith, common_steps, its_member, any_from_among, eq-eqb)
+  caller_ours = grind (arith, common_steps, its_member.among, any_from_among, eq-eqb)
 
   same_mount : (number : ℕ) (mount : Mount ℕ) → Among mount world.mounts → nat_eq number mount.number ≡ true
       → mount_numbered nat_eq world number ≡ mount
@@ -181,17 +177,16 @@ module _ {world : World ℕ} {names : List TaskName} {name : TaskName} {call : C
   -- mount(2) with MS_REMOUNT and MS_BIND
   flags_before : (number : ℕ) (flags : MountFlags)
       → judge_in nat_eq fresh world task call ≡ Ok (ToSetFlags number flags)
-      → Before it few fresh serves task called (ToSetFlags number flags)
+      → Before it (ToSetFlags number flags)
   flags_before number flags judged =
       let for = permits_are_for_their_calls fresh world task call (ToSetFlags number flags) judged in
-      let placed = (all_permits_fit world fresh task call (ToSetFlags number flags) it.is serves
-      (ap (task_called world) (sym (name_found world name task called)) ∙ called) (ap mounts_overlay for.1)
+      let placed = (all_permits_fit world fresh task call (ToSetFlags number flags) it.is it.serves
+      (ap (task_called world) (sym (name_found world name task it.called)) ∙ it.called) (ap mounts_overlay for.1)
       judged).names in
-      kept it few fresh serves task called (ToSetFlags number flags) judged refl
-      (apply nat_eq fresh world task (ToSetFlags number flags)).world (subst (λ w. OthersAsBefore world w names names)
-      (sym (ap (with_mounts world) (map_alike (replaced_if_same nat_eq (record old { flags = flags }))
-      (set world number flags) world.mounts same_set)))
-      (replaced_as_before world names it.is it.sealed_off (set world number flags) (record {
+      kept it (ToSetFlags number flags) judged refl (apply nat_eq fresh world task (ToSetFlags number flags)).world
+      (subst (λ w. OthersAsBefore world w names names) (sym (ap (with_mounts world)
+      (map_alike (replaced_if_same nat_eq (record old { flags = flags })) (set world number flags) world.mounts
+      same_set))) (replaced_as_before (sealing_of it.it) (set world number flags) (record {
         number = λ mount. by_number mount (nat_eq number mount.number);
         filesystem = λ mount. by_filesystem mount (nat_eq number mount.number);
         namespace = λ mount. by_namespace mount (nat_eq number mount.number);
@@ -237,8 +232,8 @@ module _ {world : World ℕ} {names : List TaskName} {name : TaskName} {call : C
     for_pivot = permits_are_for_their_calls fresh world task call (ToPivot new put) judged
 
     fits : MayPivot world task new put
-    fits = (all_permits_fit world fresh task call (ToPivot new put) it.is serves
-        (ap (task_called world) (sym (name_found world name task called)) ∙ called)
+    fits = (all_permits_fit world fresh task call (ToPivot new put) it.is it.serves
+        (ap (task_called world) (sym (name_found world name task it.called)) ∙ it.called)
         (ap mounts_overlay for_pivot.2) judged).names
 
     abbrev old_root : Mount ℕ
@@ -365,19 +360,18 @@ module _ {world : World ℕ} {names : List TaskName} {name : TaskName} {call : C
         tasks_fixed [] same = refl
         tasks_fixed (t ∷ rest) same = cc (same t (inl refl), tasks_fixed rest (λ x m. same x (inr m)))
 
-    pivot_before : Before it few fresh serves task called (ToPivot new put)
-    pivot_before = kept it few fresh serves task called (ToPivot new put) judged refl
-        (apply nat_eq fresh world task (ToPivot new put)).world
-        (replaced_as_before world names it.is it.sealed_off change pivot_replaces (map turned world.tasks)
-        turned_beside)
+    pivot_before : Before it (ToPivot new put)
+    pivot_before = kept it (ToPivot new put) judged refl
+        (apply nat_eq fresh world task (ToPivot new put)).world (replaced_as_before (sealing_of it.it) change
+        pivot_replaces (map turned world.tasks) turned_beside)
 
   of_replacing : (permit : Permit ℕ) → judge_in nat_eq fresh world task call ≡ Ok permit
-      → is_of_replacing permit ≡ true → Before it few fresh serves task called permit
+      → is_of_replacing permit ≡ true → Before it permit
   of_replacing (ToSetFlags number flags) judged e = flags_before number flags judged
   of_replacing (ToPivot new put) judged e = pivot_before new put judged
   of_replacing permit judged e = absurd (true≢false (sym e))
 
 pub replacing_gives_no_foothold : ReplacingGivesNoFoothold
 replacing_gives_no_foothold world names name call it few fresh serves task called permit judged is_one =
-    permit_out it few fresh serves task called permit judged
-    (λ ends. of_replacing it few fresh serves task called permit judged is_one)
+    permit_out (record { it = it; few = few; serves = serves; called = called }) permit judged
+    (λ ends. of_replacing (record { it = it; few = few; serves = serves; called = called }) permit judged is_one)

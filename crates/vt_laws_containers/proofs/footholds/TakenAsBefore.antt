@@ -1,6 +1,6 @@
 -- Where mounts of a sealed set are taken away, others are as they were.
 use Rattle.std.proofs.Common.{◌≡◌, refl, sym, ap, subst, ◌∙◌, ◌⊎◌, inl, ⊎_elim, ℕ, nat_eq, Bool, true, false, true≢false, List, [], ◌∷◌, Option, Some, None, filter, map, not, ◌&&◌, ◌+◌, eq-eqb, eqb-true, arith, option_to_list}
-use Rattle.vt_spec.proofs.Common.{Among, IsWorld, Location, Mount, Namespace, Task, TaskName, World, all_locations, among-append, among-append_left, among-append_right, among-filter, among-flat_map, among-from_filter, among-from_flat_map, among-from_map, among-map, among_from_list_all, and_parts, any_from_among, common_steps, false_from_ne_true, filesystems-taken_away, filter_alike, holds_of, is_among_numbers, is_going, is_listed, is_member_task, is_own_mount, is_own_namespace, list_all, list_all_from_among, list_any, locations, locations_of, members, mount_at, mount_numbered, not-true, other_mounts, outsiders, own_mounts, sealed, share_events, taken_away, used_directly}
+use Rattle.vt_spec.proofs.Common.{Among, IsWorld, Location, Mount, Namespace, Task, TaskName, World, all_locations, among-append, among-append_left, among-append_right, among-filter, among-flat_map, among-from_filter, among-from_flat_map, among-from_map, among-map, among_from_list_all, and_parts, any_from_among, common_steps, false_from_ne_true, filesystems-taken_away, filter_alike, holds_of, is_among_numbers, is_going, is_listed, is_member_task, is_own_mount, is_own_namespace, list_all, list_all_from_among, list_any, locations, locations_of, members, mount_at, mount_numbered, not-true, other_mounts, outsiders, own_mounts, share_events, taken_away, used_directly}
 use Rattle.vt_laws_mounts.specs.Mounts.Attaching.{OneNumberAMount, is_mount}
 use Rattle.vt_laws_mounts.specs.Mounts.Invariants.{OneNumberEach}
 use Rattle.vt_laws_mounts.proofs.mounts.MountsReplaced.{found_itself}
@@ -8,7 +8,7 @@ use Rattle.vt_laws_worlds.proofs.worlds.Seen.{KeepsWhatIsSeen, is_in}
 use Rattle.vt_laws_worlds.proofs.worlds.SeenMounts.{ended_seen}
 use Rattle.vt_laws_sealed.specs.Part.Seals.{IsApart}
 use Rattle.vt_laws_sealed.proofs.part.part.Observed.{own_mounts_same}
-use Rattle.vt_laws_sealed.proofs.part.seals.ByPart.{apart_if_sealed}
+use Rattle.vt_laws_sealed.proofs.part.seals.ByPart.{IsSealed, apart_if_sealed}
 use Rattle.vt_laws_members.proofs.judging.Grounds.{IsTheirs}
 use Rattle.vt_laws_members.proofs.judging.SeenInPart.{theirs_directly}
 use Rattle.vt_laws_sealed.proofs.outsiders.ChangedWorlds.{OthersMove}
@@ -52,11 +52,11 @@ pub record TakesOwn (world : World ℕ) (names set : List TaskName) (is : IsWorl
       ≡ filter (λ (s : Namespace ℕ). list_any (λ (t : Task ℕ). nat_eq s.number t.namespace)
       (outsiders world names)) world.namespaces
 
-module _ (world : World ℕ) (names set : List TaskName) (is : IsWorld nat_eq world)
-    (sealed_off : sealed nat_eq world names ≡ true) (tasks : List (Task ℕ)) (namespaces : List (Namespace ℕ))
-    (gone : List ℕ) (takes : TakesOwn world names set is tasks namespaces gone) where
+module _ {world : World ℕ} {names : List TaskName} (set : List TaskName) (sealing : IsSealed world names)
+    (tasks : List (Task ℕ)) (namespaces : List (Namespace ℕ))
+    (gone : List ℕ) (takes : TakesOwn world names set sealing.is tasks namespaces gone) where
   apart : IsApart world names
-  apart = apart_if_sealed world names is sealed_off
+  apart = apart_if_sealed sealing
 
   abbrev left : World ℕ
   left = record (taken_away nat_eq (record world { tasks = tasks }) gone) { namespaces = namespaces }
@@ -72,28 +72,28 @@ module _ (world : World ℕ) (names set : List TaskName) (is : IsWorld nat_eq wo
 
   -- The mirror
   abbrev others_names : List TaskName
-  others_names = their_names world names apart
+  others_names = their_names apart
 
   abbrev beside : World ℕ
-  beside = mirror world names apart
+  beside = mirror apart
 
   stands : StandsApart beside others_names NothingNew
-  stands = mirror_stands world names apart NothingNew (λ mount group m is_in new. new)
+  stands = mirror_stands apart NothingNew (λ mount group m is_in new. new)
 
   none_out : (t : Task ℕ)
-      → Among t (filter (λ (x : Task ℕ). not (is_member_task others_names x)) (out world names apart)) → ⊥
-  none_out t m = subst (Among t) (none_there world names apart) m
+      → Among t (filter (λ (x : Task ℕ). not (is_member_task others_names x)) (out apart)) → ⊥
+  none_out t m = subst (Among t) (none_there apart) m
 
-  moved : OthersMove beside others_names (out world names apart) namespaces
+  moved : OthersMove beside others_names (out apart) namespaces
   moved = record {
     members = refl;
     outside = λ t m. absurd (none_out t m);
     located = λ location m.
         let of = among-from_flat_map locations_of
-        (filter (λ (x : Task ℕ). not (is_member_task others_names x)) (out world names apart)) location m in
+        (filter (λ (x : Task ℕ). not (is_member_task others_names x)) (out apart)) location m in
         absurd (none_out of.0 of.1);
-    listed = (λ i. filter (λ (s : Namespace ℕ). own_out world names apart s.number i) namespaces) ∙ takes.listed
-        ∙ sym (λ i. filter (λ (s : Namespace ℕ). own_out world names apart s.number i) world.namespaces);
+    listed = (λ i. filter (λ (s : Namespace ℕ). own_out apart s.number i) namespaces) ∙ takes.listed
+        ∙ sym (λ i. filter (λ (s : Namespace ℕ). own_out apart s.number i) world.namespaces);
   }
 
   mirror_goes : (number : ℕ) → is_going nat_eq gone number ≡ true
@@ -101,15 +101,15 @@ module _ (world : World ℕ) (names set : List TaskName) (is : IsWorld nat_eq wo
       × (is_own_namespace nat_eq beside others_names n ≡ false)
   mirror_goes number h =
       let goes = takes.going number h in
-      (goes.0, goes.1, own_out world names apart goes.0 ∙ ours_is_not_out world names apart goes.0 goes.2)
+      (goes.0, goes.1, own_out apart goes.0 ∙ ours_is_not_out apart goes.0 goes.2)
 
   abbrev mirror_left : World ℕ
-  mirror_left = record (taken_away nat_eq (record world { tasks = out world names apart }) gone) {
+  mirror_left = record (taken_away nat_eq (record world { tasks = out apart }) gone) {
     namespaces = namespaces;
   }
 
   leaves : LeavesApart beside mirror_left others_names []
-  leaves = taken_leaves_apart beside others_names stands (out world names apart) namespaces moved gone mirror_goes
+  leaves = taken_leaves_apart stands (out apart) namespaces moved gone mirror_goes
 
   abbrev taken_ones : List (Mount ℕ)
   taken_ones = (taken_away nat_eq world gone).mounts
@@ -118,23 +118,23 @@ module _ (world : World ℕ) (names set : List TaskName) (is : IsWorld nat_eq wo
   left_mounts = taken_mounts world tasks gone
 
   mirror_mounts : mirror_left.mounts ≡ taken_ones
-  mirror_mounts = taken_mounts world (out world names apart) gone
+  mirror_mounts = taken_mounts world (out apart) gone
 
   same_master : mirror_left.master ≡ left.master
-  same_master = taken_master world (out world names apart) gone ∙ sym (taken_master world tasks gone)
+  same_master = taken_master world (out apart) gone ∙ sym (taken_master world tasks gone)
 
   -- a mount in a namespace was in it
   was : (mount : Mount ℕ) → Among mount taken_ones → (n : ℕ) → mount.namespace ≡ Some n
       → (old : Mount ℕ) × Among old world.mounts × (old.number ≡ mount.number) × (old.namespace ≡ Some n)
   was mount m n e =
-      taken_from beside others_names stands (out world names apart) namespaces moved gone mirror_goes mount
-      (subst (Among mount) (sym mirror_mounts) m) n e
+      taken_from stands (out apart) namespaces moved gone mirror_goes mount (subst (Among mount) (sym mirror_mounts) m)
+      n e
 
   listed_still : (mount : Mount ℕ) → Among mount taken_ones → (n : ℕ) → mount.namespace ≡ Some n
       → is_listed nat_eq world n ≡ true
   listed_still mount m n e =
       let old = was mount m n e in
-      placed_listed world names apart old.0 old.1 n old.3
+      placed_listed apart old.0 old.1 n old.3
 
   -- of such a namespace: it is theirs just if it was
   same_own : (mount : Mount ℕ) → Among mount taken_ones → (n : ℕ) → mount.namespace ≡ Some n → own_left n ≡ ours n
@@ -152,8 +152,8 @@ module _ (world : World ℕ) (names set : List TaskName) (is : IsWorld nat_eq wo
       by false other = false_from_ne_true (own_left n) (λ h. true≢false (sym (takes.own_less n h) ∙ other))
 
   mirror_own : (n : ℕ) → is_own_namespace nat_eq mirror_left others_names n
-      ≡ list_any (λ (t : Task ℕ). nat_eq n t.namespace) (out world names apart)
-  mirror_own n = cc (taken_tasks world (out world names apart) gone, own_out world names apart n)
+      ≡ list_any (λ (t : Task ℕ). nat_eq n t.namespace) (out apart)
+  mirror_own n = cc (taken_tasks world (out apart) gone, own_out apart n)
 
   others_alike : other_mounts nat_eq left set ≡ own_mounts nat_eq mirror_left others_names
   others_alike = cc (
@@ -170,7 +170,7 @@ module _ (world : World ℕ) (names set : List TaskName) (is : IsWorld nat_eq wo
       by mount m (Some n) e = cc (
         own_left_is n,
         same_own mount m n e,
-        out_if_not_ours world names apart n (listed_still mount m n e),
+        out_if_not_ours apart n (listed_still mount m n e),
         mirror_own n,
       )
 
@@ -189,7 +189,7 @@ module _ (world : World ℕ) (names set : List TaskName) (is : IsWorld nat_eq wo
       by mount m (Some n) e = cc (
         own_left_is n,
         same_own mount m n e,
-        ours_if_not_out world names apart n (listed_still mount m n e),
+        ours_if_not_out apart n (listed_still mount m n e),
         mirror_own n,
       )
 
@@ -200,7 +200,7 @@ module _ (world : World ℕ) (names set : List TaskName) (is : IsWorld nat_eq wo
 
   number_there : (location : Location ℕ) → Among location (all_locations world) → is_mount world location.mount ≡ true
   number_there location m =
-      let at = located_there world names apart location m in
+      let at = located_there apart location m in
       grind (arith, common_steps, is_among_numbers, eqb-true, among-map)
 
   shown_still : (location : Location ℕ) → Among location (all_locations world)
@@ -261,7 +261,7 @@ module _ (world : World ℕ) (names set : List TaskName) (is : IsWorld nat_eq wo
 
   one_left : OneNumberEach left
   one_left = subst OneNumberAMount (mirror_mounts ∙ sym left_mounts)
-      (one_taken beside others_names stands (out world names apart) namespaces moved gone mirror_goes)
+      (one_taken stands (out apart) namespaces moved gone mirror_goes)
 
   -- a mount of theirs was one, and shows what it showed
   own_showed : (mount : Mount ℕ) → Among mount left.mounts → (o : Option ℕ) → mount.namespace ≡ o
@@ -272,9 +272,9 @@ module _ (world : World ℕ) (names set : List TaskName) (is : IsWorld nat_eq wo
       let there : is_mount world old.0.number ≡ true =
       is_among_numbers (map (λ (x : Mount ℕ). x.number) world.mounts) old.0.number
       (among-map (λ (x : Mount ℕ). x.number) world.mounts old.0 old.1) in
-      subst (λ k. Among k mounted)
-      (ap (λ (x : Mount ℕ). x.filesystem) (sym (found_itself world.mounts is.mounts.one_number old.0 old.1))
-      ∙ sym (seen.views old.0.number there).filesystem ∙ ap (λ (x : Mount ℕ). x.filesystem)
+      subst (λ k. Among k mounted) (ap (λ (x : Mount ℕ). x.filesystem) (sym
+      (found_itself world.mounts sealing.is.mounts.one_number old.0 old.1)) ∙ sym
+      (seen.views old.0.number there).filesystem ∙ ap (λ (x : Mount ℕ). x.filesystem)
       (ap (mount_numbered nat_eq left) old.2 ∙ found_itself left.mounts one_left mount m))
       (among-map (λ (x : Mount ℕ). x.filesystem) (own_mounts nat_eq world names) old.0
       (among-filter (is_own_mount nat_eq world names) world.mounts old.0 old.1
@@ -297,11 +297,11 @@ module _ (world : World ℕ) (names set : List TaskName) (is : IsWorld nat_eq wo
       (among-map shows (locations (members world names)) at.0 old)))
       (λ theirs. subst (λ k. Among k (used_directly nat_eq world names))
       (sym (at.2 ∙ (seen.views at.0.mount (theirs_there at.0 theirs)).filesystem))
-      (theirs_directly world names is at.0 theirs)) (takes.located at.0 its))
+      (theirs_directly world names sealing.is at.0 theirs)) (takes.located at.0 its))
       (among-append (map (λ (x : Mount ℕ). x.filesystem) (own_mounts nat_eq left set))
       (map (λ (l : Location ℕ). (mount_at nat_eq left l).filesystem) (locations (members left set))) number m)
     where
-      theirs_there : (l : Location ℕ) → IsTheirs world names is.mounts l.mount → is_mount world l.mount ≡ true
+      theirs_there : (l : Location ℕ) → IsTheirs world names sealing.is.mounts l.mount → is_mount world l.mount ≡ true
       theirs_there l theirs = grind (arith, common_steps, is_among_numbers, among-map)
 
   others_are : outsiders left set ≡ outsiders world names
@@ -325,7 +325,7 @@ module _ (world : World ℕ) (names set : List TaskName) (is : IsWorld nat_eq wo
   pub taken_as_before : OthersAsBefore world left names set
   taken_as_before = record {
     others = others_are;
-    mounts = others_alike ∙ own_mounts_same beside mirror_left others_names leaves.sees ∙ mirror_owns world names apart;
+    mounts = others_alike ∙ own_mounts_same beside mirror_left others_names leaves.sees ∙ mirror_owns apart;
     shown = λ location m. shown_still location (placed (λ (t : Task ℕ). not (is_member_task names t)) location m);
     tasks = holds_all;
     events = no_events;

@@ -1,11 +1,12 @@
 -- Permits that take mounts of a sealed set away leave others as they were: umount(2), _exit(2), setns(2).
 use Rattle.std.proofs.Common.{◌≡◌, refl, sym, ap, subst, ◌∙◌, ◌⊎◌, inl, inr, ⊎_elim, ℕ, nat_eq, Bool, true, false, true≢false, List, [], ◌∷◌, Option, Some, None, Ok, filter, map, not, is_some, ◌&&◌, ◌||◌, eq-eqb, eqb-true, arith, IfOk, option_to_list}
-use Rattle.vt_spec.proofs.Common.{Among, Call, Exit, Fresh, IsWorld, Location, Mount, Namespace, Permit, Serves, Setns, Task, TaskName, ToEnterNamespace, ToExit, ToUnmount, World, among-filter, among-flat_map, among-from_filter, among-from_flat_map, among-from_map, among_from_list_all, among_numbers, and_from, and_parts, any_among, any_from_among, apply, common_steps, false_from_ne_true, found_or_none, going, has_tasks, holds_of, is_going, is_in_ended, is_listed, is_located, is_member_task, is_own_namespace, judge_in, list_all, list_any, locations, locations_of, members, mount_lives, mount_numbered, namespaces_ended, none_is_some, not-false, not-true, numbers_raised, outsiders, raised_task, replaced_if_called, same_name, settled, taken_away, task_called, without_task}
+use Rattle.vt_spec.proofs.Common.{Among, Call, Exit, Fresh, IsWorld, Location, Mount, Namespace, Permit, Setns, Task, TaskName, ToEnterNamespace, ToExit, ToUnmount, World, among-filter, among-flat_map, among-from_filter, among-from_flat_map, among-from_map, among_from_list_all, among_numbers, and_from, and_parts, any_among, any_from_among, apply, common_steps, false_from_ne_true, found_or_none, going, has_tasks, holds_of, is_going, is_in_ended, is_listed, is_located, is_member_task, is_own_namespace, judge_in, list_all, list_any, locations, locations_of, members, mount_lives, mount_numbered, namespaces_ended, none_is_some, not-false, not-true, numbers_raised, outsiders, raised_task, replaced_if_called, same_name, settled, taken_away, task_called, without_task}
+use Rattle.vt_laws_containers.proofs.footholds.ServedCalls.{IsServedCall}
+use Rattle.vt_laws_members.proofs.judging.TheirCalls.{IsMember, caller_in, sealing_of}
 use Rattle.vt_laws_mounts.proofs.letting_go.Lists.{filter_less}
 use Rattle.vt_laws_mounts.proofs.mounts.MountsReplaced.{found_itself}
 use Rattle.vt_laws_rules.proofs.given.GivenPermits.{permits_are_for_their_calls}
 use Rattle.vt_laws_trees.specs.Trees.Calls.{mounts_overlay}
-use Rattle.vt_laws_trees.specs.Trees.Limits.{names_few_groups}
 use Rattle.vt_laws_worlds.proofs.worlds.CallsKept.{name_found}
 use Rattle.vt_laws_worlds.proofs.worlds.FitPermitsNamed.{all_permits_fit}
 use Rattle.vt_laws_sealed.specs.Part.Seals.{IsApart}
@@ -19,11 +20,10 @@ use Rattle.vt_laws_members.proofs.changes.letting_go.Callers.{of_set, places_lef
 use Rattle.vt_laws_members.proofs.changes.letting_go.Entering.{Enters, entered_was, enters, mine, stands}
 use Rattle.vt_laws_members.proofs.changes.letting_go.Ends.{raised_is}
 use Rattle.vt_laws_members.proofs.changes.letting_go.Leaving.{is_task, its, its_name, member, new_old, set_from, set_parts, stays}
-use Rattle.vt_laws_members.proofs.changes.looks.Told.{member_called}
 use Rattle.vt_laws_containers.specs.PermitFootholds.{DetachingGivesNoFoothold, is_of_detaching}
 use Rattle.vt_laws_containers.proofs.footholds.AsBefore.{OthersAsBefore}
 use Rattle.vt_laws_containers.proofs.footholds.Granting.{EndsInAWorld}
-use Rattle.vt_laws_containers.proofs.footholds.Mirror.{mirror, mirror_stands, side, ours_is_not_out, own_out, placed_listed, their_names}
+use Rattle.vt_laws_containers.proofs.footholds.Mirror.{mirror_stands, side, ours_is_not_out, own_out, placed_listed}
 use Rattle.vt_laws_containers.proofs.footholds.TakenAsBefore.{TakesOwn, taken_as_before, taken_mounts, taken_tasks}
 use Rattle.vt_laws_containers.proofs.footholds.TasksAsBefore.{others_unmoved}
 use Rattle.vt_laws_containers.proofs.footholds.TasksPermits.{Before, kept, permit_out}
@@ -64,7 +64,7 @@ filter_twice {A} p q r (x ∷ xs) same none =
 module _ {world : World ℕ} {names : List TaskName} {name : TaskName} {call : Call}
     (it : IsCallOfTheirs world names name call) where
   apart : IsApart world names
-  apart = apart_if_sealed world names it.is it.sealed_off
+  apart = apart_if_sealed (sealing_of it)
 
   abbrev ours : ℕ → Bool
   ours = is_own_namespace nat_eq world names
@@ -119,11 +119,11 @@ module _ {world : World ℕ} {names : List TaskName} {name : TaskName} {call : C
             world.namespaces)) o ≡ true → (n : ℕ) × (mount.namespace ≡ Some n) × (ours n ≡ true)
         by None e ended = absurd (true≢false (sym ended))
         by (Some n) e ended =
-            let listed = placed_listed world names apart mount m n e in (
+            let listed = placed_listed apart mount m n e in (
               n,
               e,
               ⊎_elim (λ own. own) (λ theirs. absurd (true≢false (sym (lives_on n listed theirs) ∙ not-true _ ended)))
-                  (side world names apart n listed),
+                  (side apart n listed),
             )
 
     ended_takes : TakesOwn world names set it.is tasks (filter (has_tasks nat_eq before) world.namespaces) gone
@@ -153,8 +153,7 @@ module _ {world : World ℕ} {names : List TaskName} {name : TaskName} {call : C
 
     pub ended_as_before : OthersAsBefore world (namespaces_ended nat_eq (record world { tasks = tasks })) names set
     ended_as_before =
-        taken_as_before world names set it.is it.sealed_off tasks (filter (has_tasks nat_eq before) world.namespaces)
-        gone ended_takes
+        taken_as_before set (sealing_of it) tasks (filter (has_tasks nat_eq before) world.namespaces) gone ended_takes
 
 -- _exit(2)
 module _ {world : World ℕ} {names : List TaskName} {name : TaskName} (it : IsCallOfTheirs world names name Exit)
@@ -171,7 +170,7 @@ module _ {world : World ℕ} {names : List TaskName} {name : TaskName} (it : IsC
       (λ t m stay. ap not (same t stay (is_member_task names t) refl))
       (λ t m gone. ap not (ap (is_member_task names)
       (sym (is_task it task called t m (not-false (same_name name t.name) gone)))
-      ∙ (among-from_filter (is_member_task names) world.tasks task (member it task called)).1))
+      ∙ (among-from_filter (is_member_task names) world.tasks task (member it task called).among).1))
     where
       same : (t : Task ℕ) → stays it task called t ≡ true → (b : Bool) → is_member_task names t ≡ b
           → is_left t ≡ b
@@ -214,15 +213,13 @@ entering_before world names name target_name it task called target target_in fre
     changed ends
 
 -- umount(2)
-module _ {world : World ℕ} {names : List TaskName} {name : TaskName} {call : Call}
-    (it : IsCallOfTheirs world names name call) (few : names_few_groups call ≡ true) (fresh : Fresh ℕ)
-    (serves : Serves nat_eq world fresh)
-    (task : Task ℕ) (called : task_called world name ≡ Some task) where
+module _ {world : World ℕ} {names : List TaskName} {name : TaskName} {call : Call} {fresh : Fresh ℕ}
+    {task : Task ℕ} (it : IsServedCall world names name call fresh task) where
   its_apart : IsApart world names
-  its_apart = apart_if_sealed world names it.is it.sealed_off
+  its_apart = apart_if_sealed (sealing_of it.it)
 
-  its_member : Among task (members world names)
-  its_member = member_called world names it.is it.sealed_off name it.theirs task called
+  its_member : IsMember world names task
+  its_member = caller_in it.it it.called
 
   -- mounts that go without a change of tasks
   pub gone_as_before : (gone : List ℕ) → (changed : List ℕ) → ((number : ℕ) → is_going nat_eq gone number ≡ true
@@ -233,7 +230,7 @@ module _ {world : World ℕ} {names : List TaskName} {name : TaskName} {call : C
       → OthersAsBefore world (taken_away nat_eq world gone) names names
   gone_as_before gone changed goes tasked =
       subst (λ w. OthersAsBefore world w names names) (namespaces_taken_away world gone)
-      (taken_as_before world names names it.is it.sealed_off world.tasks world.namespaces gone (record {
+      (taken_as_before names (sealing_of it.it) world.tasks world.namespaces gone (record {
         going = goes;
         others = refl;
         own_less = λ n h. h;
@@ -246,28 +243,26 @@ module _ {world : World ℕ} {names : List TaskName} {name : TaskName} {call : C
       → is_going nat_eq (going nat_eq world (mount_numbered nat_eq world number)) k ≡ true
       → (n : ℕ) × ((mount_numbered nat_eq world k).namespace ≡ Some n) × (is_own_namespace nat_eq world names n ≡ true)
   umount_goes number placed k h =
-      let goes = others_go (mirror world names its_apart) (their_names world names its_apart)
-      (mirror_stands world names its_apart NothingNew (λ mount group m is_in new. new)) task.namespace
-      (own_out world names its_apart task.namespace
-      ∙ ours_is_not_out world names its_apart task.namespace (its_own it task its_member)) number placed k h in (
+      let goes = others_go (mirror_stands its_apart NothingNew (λ mount group m is_in new. new)) task.namespace
+      (own_out its_apart task.namespace
+      ∙ ours_is_not_out its_apart task.namespace (its_own it.it task its_member.among)) number placed k h in (
         goes.0,
         goes.1,
         ⊎_elim (λ own. own)
-            (λ theirs. absurd (true≢false (sym (own_out world names its_apart goes.0 ∙ theirs) ∙ goes.2)))
-            (side world names its_apart goes.0 (placed_listed world names its_apart (mount_numbered nat_eq world k)
-            (there_in it k goes.0 goes.1) goes.0 goes.1)),
+            (λ theirs. absurd (true≢false (sym (own_out its_apart goes.0 ∙ theirs) ∙ goes.2)))
+            (side its_apart goes.0 (placed_listed its_apart (mount_numbered nat_eq world k)
+            (there_in it.it k goes.0 goes.1) goes.0 goes.1)),
       )
 
   umount_before : (number : ℕ) → judge_in nat_eq fresh world task call ≡ Ok (ToUnmount number)
-      → EndsInAWorld it fresh serves few task (ToUnmount number)
-      → Before it few fresh serves task called (ToUnmount number)
+      → EndsInAWorld it.it fresh it.serves it.few task (ToUnmount number)
+      → Before it (ToUnmount number)
   umount_before number judged ends =
       let for = permits_are_for_their_calls fresh world task call (ToUnmount number) judged in
-      let placed = (all_permits_fit world fresh task call (ToUnmount number) it.is serves
-      (ap (task_called world) (sym (name_found world name task called)) ∙ called) (ap mounts_overlay for.1)
+      let placed = (all_permits_fit world fresh task call (ToUnmount number) it.is it.serves
+      (ap (task_called world) (sym (name_found world name task it.called)) ∙ it.called) (ap mounts_overlay for.1)
       judged).names.0 in
-      kept it few fresh serves task called (ToUnmount number) judged refl
-      (apply nat_eq fresh world task (ToUnmount number)).world
+      kept it (ToUnmount number) judged refl (apply nat_eq fresh world task (ToUnmount number)).world
       (gone_as_before (going nat_eq world (mount_numbered nat_eq world number)) [] (umount_goes number placed)
       (λ mount m n e.
       let of = tasked_later world (taken_away nat_eq world (going nat_eq world (mount_numbered nat_eq world number)))
@@ -279,18 +274,18 @@ module _ {world : World ℕ} {names : List TaskName} {name : TaskName} {call : C
       )))
 
   of_detaching : (permit : Permit ℕ) → judge_in nat_eq fresh world task call ≡ Ok permit → is_of_detaching permit ≡ true
-      → EndsInAWorld it fresh serves few task permit
-      → Before it few fresh serves task called permit
+      → EndsInAWorld it.it fresh it.serves it.few task permit
+      → Before it permit
   of_detaching ToExit judged e ends =
       let for : call ≡ Exit = permits_are_for_their_calls fresh world task call ToExit judged in
       subst (λ c. OthersAsBefore world (apply nat_eq fresh world task ToExit).world names (left names name c)) (sym for)
-      (exits_before (subst (IsCallOfTheirs world names name) for it) task called fresh [] ends)
+      (exits_before (subst (IsCallOfTheirs world names name) for it.it) task it.called fresh [] ends)
   of_detaching (ToEnterNamespace namespace) judged e ends =
       let for = permits_are_for_their_calls fresh world task call (ToEnterNamespace namespace) judged in
-      kept it few fresh serves task called (ToEnterNamespace namespace) judged refl
-      (apply nat_eq fresh world task (ToEnterNamespace namespace)).world
-      (enters_before namespace for.0 (subst (IsCallOfTheirs world names name) for.1 it)
-      (sym (ap (judge_in nat_eq fresh world task) for.1) ∙ judged) ends)
+      kept it (ToEnterNamespace namespace) judged refl (apply nat_eq fresh world task
+      (ToEnterNamespace namespace)).world (enters_before namespace for.0
+      (subst (IsCallOfTheirs world names name) for.1 it.it) (sym (ap (judge_in nat_eq fresh world task) for.1) ∙ judged)
+      ends)
     where
       space_of : ℕ → Permit ℕ → ℕ
       space_of other (ToEnterNamespace n) = n
@@ -298,21 +293,21 @@ module _ {world : World ℕ} {names : List TaskName} {name : TaskName} {call : C
 
       enters_before : (n : ℕ) (target_name : TaskName) (its_call : IsCallOfTheirs world names name (Setns target_name))
           → judge_in nat_eq fresh world task (Setns target_name) ≡ Ok (ToEnterNamespace n)
-          → EndsInAWorld it fresh serves few task (ToEnterNamespace n)
+          → EndsInAWorld it.it fresh it.serves it.few task (ToEnterNamespace n)
           → OthersAsBefore world (apply nat_eq fresh world task (ToEnterNamespace n)).world names names
       enters_before n target_name its_call so ended =
-          let target : Enters world names it.is it.sealed_off task its_member (ToEnterNamespace n) =
-          subst (λ j. IfOk j (Enters world names it.is it.sealed_off task its_member)) so
-          (enters world names it.is it.sealed_off task its_member target_name (its_call.among_them target_name refl)) in
+          let target : Enters its_member (ToEnterNamespace n) =
+          subst (λ j. IfOk j (Enters its_member)) so
+          (enters its_member target_name (its_call.among_them target_name refl)) in
           subst (λ k. IsWorld nat_eq (numbers_raised nat_eq world name []
           (settled nat_eq (apply nat_eq fresh world task (ToEnterNamespace k)).world))
           → OthersAsBefore world (apply nat_eq fresh world task (ToEnterNamespace k)).world names names)
-          (sym (ap (space_of n) target.2))
-          (entering_before world names name target_name its_call task called target.0 target.1 fresh []) ended
+          (sym (ap (space_of n) target.2)) (entering_before world names name target_name its_call task it.called
+          target.0 target.1 fresh []) ended
   of_detaching (ToUnmount number) judged e ends = umount_before number judged ends
   of_detaching permit judged e ends = absurd (true≢false (sym e))
 
 pub detaching_gives_no_foothold : DetachingGivesNoFoothold
 detaching_gives_no_foothold world names name call it few fresh serves task called permit judged is_one =
-    permit_out it few fresh serves task called permit judged
-    (of_detaching it few fresh serves task called permit judged is_one)
+    permit_out (record { it = it; few = few; serves = serves; called = called }) permit judged
+    (of_detaching (record { it = it; few = few; serves = serves; called = called }) permit judged is_one)

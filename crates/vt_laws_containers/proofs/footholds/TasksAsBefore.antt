@@ -1,14 +1,14 @@
 -- Where tasks of a set and filesystems change, and mounts do not, others are as they were.
 use Rattle.std.proofs.Common.{◌≡◌, refl, sym, ap, subst, ◌∙◌, ◌⊎◌, inl, inr, ⊎_elim, ℕ, nat_eq, Bool, true, false, cond, true≢false, List, [], ◌∷◌, ◌++◌, Some, filter, map, not, ◌+◌, ◌||◌, arith}
-use Rattle.vt_spec.proofs.Common.{Among, Call, Credentials, Filesystem, IsWorld, Location, Mount, Task, TaskName, World, among-append, among-append_left, among-append_right, among-flat_map, among-from_filter, among-from_flat_map, among-from_map, among-map, any_among, any_from_among, child_name, child_of, common_steps, contains_from_among, false_from_ne_true, found_among, holds_of, is_among, is_member_task, list_all, list_any, locations, locations_of, members, mount_at, name-replaced_if_called, not-true, outsiders, own_mounts, replaced_if_called, same_name, same_name_itself, same_task_name, same_truth, sealed, share_events, task_called, used_directly}
+use Rattle.vt_spec.proofs.Common.{Among, Call, Credentials, Filesystem, IsWorld, Location, Mount, Task, TaskName, World, among-append, among-append_left, among-append_right, among-flat_map, among-from_filter, among-from_flat_map, among-from_map, among-map, any_among, any_from_among, child_name, child_of, common_steps, contains_from_among, false_from_ne_true, found_among, holds_of, is_among, is_member_task, list_all, list_any, locations, locations_of, members, mount_at, name-replaced_if_called, not-true, outsiders, own_mounts, replaced_if_called, same_name, same_name_itself, same_task_name, same_truth, share_events, task_called, used_directly}
+use Rattle.vt_laws_members.proofs.judging.TheirCalls.{IsMember, caller_in}
 use Rattle.vt_laws_mounts.proofs.letting_go.Lists.{filter-map}
 use Rattle.vt_laws_sealed.specs.Part.Seals.{IsApart}
-use Rattle.vt_laws_sealed.proofs.part.seals.ByPart.{apart_if_sealed}
+use Rattle.vt_laws_sealed.proofs.part.seals.ByPart.{IsSealed, apart_if_sealed}
 use Rattle.vt_laws_members.proofs.judging.Grounds.{IsTheirs}
 use Rattle.vt_laws_members.proofs.judging.SeenInPart.{theirs_directly}
 use Rattle.vt_laws_members.specs.Changes.Changes.{IsCallOfTheirs}
 use Rattle.vt_laws_members.proofs.changes.letting_go.Callers.{StandsOnTheirs, of_set, places_left, replaced_how, spaces_kept}
-use Rattle.vt_laws_members.proofs.changes.looks.Told.{member_called}
 use Rattle.vt_laws_containers.proofs.footholds.AsBefore.{GoesOn, OthersAsBefore}
 
 -- These tasks stand in the place of the world's, and these filesystems: those of the set are in the namespaces of
@@ -22,11 +22,11 @@ pub record StandsBeside (world : World ℕ) (names set : List TaskName) (is : Is
       → Among location (locations (members world names)) ⊎ IsTheirs world names is.mounts location.mount
   pub files : (filesystem : Filesystem ℕ) → Among filesystem filesystems → GoesOn world names filesystem
 
-module _ (world : World ℕ) (names set : List TaskName) (is : IsWorld nat_eq world)
-    (sealed_off : sealed nat_eq world names ≡ true) (tasks : List (Task ℕ)) (filesystems : List (Filesystem ℕ))
-    (beside : StandsBeside world names set is tasks filesystems) where
+module _ {world : World ℕ} {names : List TaskName} (set : List TaskName) (sealing : IsSealed world names)
+    (tasks : List (Task ℕ)) (filesystems : List (Filesystem ℕ))
+    (beside : StandsBeside world names set sealing.is tasks filesystems) where
   apart : IsApart world names
-  apart = apart_if_sealed world names is sealed_off
+  apart = apart_if_sealed sealing
 
   abbrev left : World ℕ
   left = record world { tasks = tasks; filesystems = filesystems }
@@ -53,10 +53,9 @@ module _ (world : World ℕ) (names set : List TaskName) (is : IsWorld nat_eq wo
       (λ placed. let l = among-from_map shows (locations (members left set)) number placed in
       subst (λ k. Among k (used_directly nat_eq world names)) (sym l.2) (⊎_elim
       (λ was. among-append_right mounted (map shows (locations (members world names))) (shows l.0)
-      (among-map shows (locations (members world names)) l.0 was)) (λ theirs. theirs_directly world names is l.0 theirs)
-      (beside.located l.0 l.1)))
-      (among-append (map (λ (mount : Mount ℕ). mount.filesystem) (own_mounts nat_eq left set))
-      (map shows (locations (members left set))) number m)
+      (among-map shows (locations (members world names)) l.0 was)) (λ theirs. theirs_directly world names sealing.is l.0
+      theirs) (beside.located l.0 l.1))) (among-append (map (λ (mount : Mount ℕ). mount.filesystem)
+      (own_mounts nat_eq left set)) (map shows (locations (members left set))) number m)
 
   pub tasks_as_before : OthersAsBefore world (record world { tasks = tasks; filesystems = filesystems }) names set
   tasks_as_before = record {
@@ -98,7 +97,7 @@ others_unmoved world names name call it task called mine named =
   where
     member : is_member_task names task ≡ true
     member = (among-from_filter (is_member_task names) world.tasks task
-        (member_called world names it.is it.sealed_off name it.theirs task called)).1
+        (caller_in it called).among).1
 
     unmoved : (t : Task ℕ) → Among t (outsiders world names) → replaced_if_called mine t ≡ t
     unmoved t m =
@@ -154,8 +153,8 @@ module _ {world : World ℕ} {names : List TaskName} {name : TaskName} {call : C
   there : Among task world.tasks
   there = found_among (λ (x : Task ℕ). same_name name x.name) world.tasks task called
 
-  its_member : Among task (members world names)
-  its_member = member_called world names it.is it.sealed_off name it.theirs task called
+  its_member : IsMember world names task
+  its_member = caller_in it called
 
   -- no task has the child's name
   child_apart : (t : Task ℕ) → Among t world.tasks → same_name t.name (child_name task) ≡ false
@@ -189,9 +188,9 @@ module _ {world : World ℕ} {names : List TaskName} {name : TaskName} {call : C
       ∙ ap (λ b. map replaced (outsiders world names) ++ cond (not b) (child ∷ []) []) child_member
       ∙ append_none (map replaced (outsiders world names)) ∙ map_itself replaced (outsiders world names) (λ t m.
       let from = among-from_filter (λ (x : Task ℕ). not (is_member_task names x)) world.tasks t m in
-      ⊎_elim (λ its. absurd (true≢false (sym (among-from_filter (is_member_task names) world.tasks task its_member).1
-      ∙ ap (is_member_task names) its.1 ∙ not-true (is_member_task names t) from.1)))
-      (λ same. same) (replaced_how_here t from.0))
+      ⊎_elim (λ its. absurd (true≢false (sym (among-from_filter (is_member_task names) world.tasks task
+      its_member.among).1 ∙ ap (is_member_task names) its.1 ∙ not-true (is_member_task names t) from.1))) (λ same. same)
+      (replaced_how_here t from.0))
 
   -- each member after the call has the namespace and the locations of one before
   was : (t : Task ℕ) → Among t (map replaced (members world names) ++ child ∷ [])
@@ -201,7 +200,7 @@ module _ {world : World ℕ} {names : List TaskName} {name : TaskName} {call : C
       let from = among-from_map replaced (members world names) t mapped in
       ⊎_elim (λ its. (
         task,
-        its_member,
+        its_member.among,
         ap (λ (x : Task ℕ). x.namespace) (from.2 ∙ its.0),
         λ l k. subst (λ (x : Task ℕ). Among l (locations_of x)) (from.2 ∙ its.0) k,
       )) (λ same. (
@@ -212,7 +211,7 @@ module _ {world : World ℕ} {names : List TaskName} {name : TaskName} {call : C
       )) (replaced_how_here from.0 (among-from_filter (is_member_task names) world.tasks from.0 from.1).0))
       (λ last. ⊎_elim (λ e. (
         task,
-        its_member,
+        its_member.among,
         ap (λ (x : Task ℕ). x.namespace) e,
         λ l k. of_child l (subst (λ (x : Task ℕ). Among l (locations_of x)) e k),
       )) (λ none. absurd none) last) (among-append (map replaced (members world names)) (child ∷ []) t m)

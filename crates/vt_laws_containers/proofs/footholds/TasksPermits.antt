@@ -1,16 +1,16 @@
 -- Permits to look, to change tasks, and to change files leave others as they were.
-use Rattle.std.proofs.Common.{◌≡◌, refl, sym, ap, subst, ◌∙◌, inl, inr, ⊎_elim, ℕ, nat_eq, Bool, true, false, true≢false, List, Some, Ok, filter, map, not, arith, IfOk, ◌==◌}
-use Rattle.vt_spec.proofs.Common.{Access, Allowed, Among, Call, Descriptor, Filesystem, Fresh, Location, Make, Permit, Serves, Task, TaskName, ToChange, ToClose, ToExit, ToFork, ToList, ToListMounts, ToMake, ToOpen, ToOpenNew, ToRead, ToReadPart, ToSetCredentials, ToSetDirectory, ToSetRoot, ToSetUmask, ToStat, ToWritePart, World, among-from_filter, among-from_map, among-map, apply, common_steps, evens, is_copied_up, judge_in, members, odds, only_looks, replaced_if_called, settled, task_called, with_descriptor, without_descriptor}
+use Rattle.std.proofs.Common.{◌≡◌, refl, sym, ap, subst, ◌∙◌, inl, inr, ⊎_elim, ℕ, nat_eq, Bool, true, false, true≢false, List, Ok, filter, map, not, arith, IfOk, ◌==◌}
+use Rattle.vt_spec.proofs.Common.{Access, Allowed, Among, Call, Descriptor, Filesystem, Fresh, Location, Make, Permit, Task, TaskName, ToChange, ToClose, ToExit, ToFork, ToList, ToListMounts, ToMake, ToOpen, ToOpenNew, ToRead, ToReadPart, ToSetCredentials, ToSetDirectory, ToSetRoot, ToSetUmask, ToStat, ToWritePart, World, among-from_filter, among-from_map, among-map, apply, common_steps, evens, is_copied_up, judge_in, odds, only_looks, replaced_if_called, settled, with_descriptor, without_descriptor}
+use Rattle.vt_laws_containers.proofs.footholds.ServedCalls.{IsServedCall}
+use Rattle.vt_laws_members.proofs.judging.TheirCalls.{IsMember, caller_in, sealing_of}
 use Rattle.vt_laws_sealed.proofs.outsiders.Opening.{inserted_at}
 use Rattle.vt_laws_rules.proofs.given.GivenPermits.{permits_are_for_their_calls}
-use Rattle.vt_laws_trees.specs.Trees.Limits.{names_few_groups}
 use Rattle.vt_laws_members.specs.Judging.{is_theirs}
 use Rattle.vt_laws_members.proofs.judging.Grounds.{IsTheirs, theirs_from}
 use Rattle.vt_laws_members.proofs.judging.SeenInPart.{directory_theirs, root_theirs}
-use Rattle.vt_laws_members.specs.Changes.Changes.{IsCallOfTheirs, grown, left}
+use Rattle.vt_laws_members.specs.Changes.Changes.{grown, left}
 use Rattle.vt_laws_members.proofs.changes.letting_go.Callers.{StandsOnTheirs}
 use Rattle.vt_laws_members.proofs.changes.letting_go.Moving.{SetsDirectory, SetsRoot, sets_directory, sets_root}
-use Rattle.vt_laws_members.proofs.changes.looks.Told.{member_called}
 use Rattle.vt_laws_members.proofs.changes.names.GrantedNames.{granted_theirs}
 use Rattle.vt_laws_members.proofs.changes.tasks.Opening.{OpensOn, opens_theirs}
 use Rattle.vt_laws_containers.specs.Footholds.{GivesNoFoothold}
@@ -32,12 +32,10 @@ abbrev ends_task : Permit ℕ → Bool
 ends_task ToExit = true
 ends_task permit = false
 
-module _ {world : World ℕ} {names : List TaskName} {name : TaskName} {call : Call}
-    (it : IsCallOfTheirs world names name call) (few : names_few_groups call ≡ true) (fresh : Fresh ℕ)
-    (serves : Serves nat_eq world fresh)
-    (task : Task ℕ) (called : task_called world name ≡ Some task) where
-  member : Among task (members world names)
-  member = member_called world names it.is it.sealed_off name it.theirs task called
+module _ {world : World ℕ} {names : List TaskName} {name : TaskName} {call : Call} {fresh : Fresh ℕ}
+    {task : Task ℕ} (it : IsServedCall world names name call fresh task) where
+  member : IsMember world names task
+  member = caller_in it.it it.called
 
   abbrev pub Before : Permit ℕ → Type 0
   Before permit = OthersAsBefore world (apply nat_eq fresh world task permit).world names
@@ -56,46 +54,46 @@ module _ {world : World ℕ} {names : List TaskName} {name : TaskName} {call : C
   its_files f m = inl (f, m, refl, refl)
 
   itself : OthersAsBefore world world names names
-  itself = as_itself world names it.is it.sealed_off
+  itself = as_itself (sealing_of it.it)
 
   -- a task in the place of the caller, and other filesystems
-  replaced : (mine : Task ℕ) → StandsOnTheirs world names name call it task mine → mine.namespace ≡ task.namespace
+  replaced : (mine : Task ℕ) → StandsOnTheirs world names name call it.it task mine → mine.namespace ≡ task.namespace
       → (filesystems : List (Filesystem ℕ)) → ((f : Filesystem ℕ) → Among f filesystems → GoesOn world names f)
       → OthersAsBefore world (record world {
         tasks = map (replaced_if_called mine) world.tasks;
         filesystems = filesystems;
       }) names names
   replaced mine stands spaced filesystems files =
-      tasks_as_before world names names it.is it.sealed_off (map (replaced_if_called mine) world.tasks) filesystems
-      (caller_beside world names name call it task called mine stands spaced filesystems files)
+      tasks_as_before names (sealing_of it.it) (map (replaced_if_called mine) world.tasks) filesystems
+      (caller_beside world names name call it.it task it.called mine stands spaced filesystems files)
 
   abbrev OnTheirs : Location ℕ → Type 0
   OnTheirs location = IsTheirs world names it.is.mounts location.mount
 
   with_directory : (place : Location ℕ) → OnTheirs place
-      → StandsOnTheirs world names name call it task (record task { directory = place })
+      → StandsOnTheirs world names name call it.it task (record task { directory = place })
   with_directory place on = record {
     named = refl;
-    root = root_theirs world names it.is task member;
+    root = root_theirs world names it.is task member.among;
     directory = on;
     places = λ l m. ⊎_elim (λ root. inl (inl root))
         (λ rest. ⊎_elim (λ here. inr (subst OnTheirs (sym here) on)) (λ open_file. inl (inr (inr open_file))) rest) m;
   }
 
   with_root : (place : Location ℕ) → OnTheirs place
-      → StandsOnTheirs world names name call it task (record task { root = place })
+      → StandsOnTheirs world names name call it.it task (record task { root = place })
   with_root place on = record {
     named = refl;
     root = on;
-    directory = directory_theirs world names it.is task member;
+    directory = directory_theirs world names it.is task member.among;
     places = λ l m. ⊎_elim (λ here. inr (subst OnTheirs (sym here) on)) (λ rest. inl (inr rest)) m;
   }
 
-  closing : (number : ℕ) → StandsOnTheirs world names name call it task (without_descriptor task number)
+  closing : (number : ℕ) → StandsOnTheirs world names name call it.it task (without_descriptor task number)
   closing number = record {
     named = refl;
-    root = root_theirs world names it.is task member;
-    directory = directory_theirs world names it.is task member;
+    root = root_theirs world names it.is task member.among;
+    directory = directory_theirs world names it.is task member.among;
     places = λ l m. inl (⊎_elim inl (λ rest. inr (⊎_elim inl (λ open_file.
         let d = among-from_map (λ (d : Descriptor ℕ). d.location)
         (filter (λ (d : Descriptor ℕ). not (number == d.number)) task.descriptors) l open_file in
@@ -105,11 +103,11 @@ module _ {world : World ℕ} {names : List TaskName} {name : TaskName} {call : C
   }
 
   opening : (file : Location ℕ) (access : Access) → OnTheirs file
-      → StandsOnTheirs world names name call it task (with_descriptor task file access)
+      → StandsOnTheirs world names name call it.it task (with_descriptor task file access)
   opening file access on = record {
     named = refl;
-    root = root_theirs world names it.is task member;
-    directory = directory_theirs world names it.is task member;
+    root = root_theirs world names it.is task member.among;
+    directory = directory_theirs world names it.is task member.among;
     places = λ l m. ⊎_elim (λ root. inl (inl root)) (λ rest. ⊎_elim (λ directory. inl (inr (inl directory)))
         (λ open_file. ⊎_elim (λ here. inr (subst OnTheirs (sym here) on)) (λ old. inl (inr (inr old)))
         (inserted_at _ task.descriptors l open_file)) rest) m;
@@ -119,20 +117,18 @@ module _ {world : World ℕ} {names : List TaskName} {name : TaskName} {call : C
       → OnTheirs place
   directory_there place judged =
       let for = permits_are_for_their_calls fresh world task call (ToSetDirectory place) judged in
-      let its : SetsDirectory world names it.is it.sealed_off task member (ToSetDirectory place) =
-      subst (λ j. IfOk j (SetsDirectory world names it.is it.sealed_off task member))
-      (sym (ap (judge_in nat_eq fresh world task) for.1) ∙ judged)
-      (sets_directory world names it.is it.sealed_off task member for.0) in
+      let its : SetsDirectory member (ToSetDirectory place) =
+      subst (λ j. IfOk j (SetsDirectory member)) (sym (ap (judge_in nat_eq fresh world task) for.1) ∙ judged)
+      (sets_directory member for.0) in
       theirs_from world names it.is.mounts place.mount
       (ap (λ (l : Location ℕ). is_theirs world names l.mount) (ap (place_of place) its.1) ∙ its.2)
 
   root_there : (place : Location ℕ) → judge_in nat_eq fresh world task call ≡ Ok (ToSetRoot place) → OnTheirs place
   root_there place judged =
       let for = permits_are_for_their_calls fresh world task call (ToSetRoot place) judged in
-      let its : SetsRoot world names it.is it.sealed_off task member (ToSetRoot place) =
-      subst (λ j. IfOk j (SetsRoot world names it.is it.sealed_off task member))
-      (sym (ap (judge_in nat_eq fresh world task) for.1) ∙ judged)
-      (sets_root world names it.is it.sealed_off task member for.0) in
+      let its : SetsRoot member (ToSetRoot place) =
+      subst (λ j. IfOk j (SetsRoot member)) (sym (ap (judge_in nat_eq fresh world task) for.1) ∙ judged)
+      (sets_root member for.0) in
       theirs_from world names it.is.mounts place.mount
       (ap (λ (l : Location ℕ). is_theirs world names l.mount) (ap (place_of place) its.1) ∙ its.2)
 
@@ -164,26 +160,26 @@ module _ {world : World ℕ} {names : List TaskName} {name : TaskName} {call : C
       kept (ToSetUmask umask) judged refl (apply nat_eq fresh world task (ToSetUmask umask)).world
       (replaced (record task { umask = umask }) (record {
         named = refl;
-        root = root_theirs world names it.is task member;
-        directory = directory_theirs world names it.is task member;
+        root = root_theirs world names it.is task member.among;
+        directory = directory_theirs world names it.is task member.among;
         places = λ l m. inl m;
       }) refl world.filesystems its_files)
   of_tasks (ToSetCredentials credentials) judged e = kept (ToSetCredentials credentials) judged refl
       (apply nat_eq fresh world task (ToSetCredentials credentials)).world
       (replaced (record task { credentials = credentials }) (record {
         named = refl;
-        root = root_theirs world names it.is task member;
-        directory = directory_theirs world names it.is task member;
+        root = root_theirs world names it.is task member.among;
+        directory = directory_theirs world names it.is task member.among;
         places = λ l m. inl m;
       }) refl world.filesystems its_files)
-  of_tasks (ToFork credentials) judged e = tasks_as_before world names _ it.is it.sealed_off _ world.filesystems
-      (child_beside it task called credentials)
+  of_tasks (ToFork credentials) judged e = tasks_as_before _ (sealing_of it.it) _ world.filesystems
+      (child_beside it.it task it.called credentials)
   of_tasks permit judged e = absurd (true≢false (sym e))
 
   -- Files
   pub changed_before : (w : World ℕ) → ChangesFiles world w → OthersAsBefore world w names names
   changed_before w changes = subst (λ v. OthersAsBefore world v names names) (sym changes.same)
-      (tasks_as_before world names names it.is it.sealed_off world.tasks w.filesystems
+      (tasks_as_before names (sealing_of it.it) world.tasks w.filesystems
       (tasks_beside world names it.is w.filesystems (λ f m. inl (changes.placed f m))))
 
   opened_before : (w : World ℕ) → ChangesFiles world w → (file : Location ℕ) (access : Access) → OnTheirs file
@@ -199,8 +195,7 @@ module _ {world : World ℕ} {names : List TaskName} {name : TaskName} {call : C
   opened_there file access judged =
       let for = permits_are_for_their_calls fresh world task call (ToOpen file access) judged in
       theirs_from world names it.is.mounts file.mount (subst (λ j. IfOk j (OpensOn (is_theirs world names)))
-      (sym (ap (judge_in nat_eq fresh world task) for.2) ∙ judged)
-      (opens_theirs world names it.is it.sealed_off task member for.0 access for.1))
+      (sym (ap (judge_in nat_eq fresh world task) for.2) ∙ judged) (opens_theirs member for.0 access for.1))
 
   of_files : (permit : Permit ℕ) → judge_in nat_eq fresh world task call ≡ Ok permit → is_of_files permit ≡ true
       → Before permit
@@ -220,9 +215,9 @@ module _ {world : World ℕ} {names : List TaskName} {name : TaskName} {call : C
       opened_before _ (change_changes_files world it.is.files.one_filesystem (odds fresh) directory
       (Make directory.node entry (evens fresh 0) node))
       (record { mount = directory.mount; node = evens fresh 0 }) access
-      (theirs_from world names it.is.mounts directory.mount
-      (granted_theirs world names it.is it.sealed_off task member fresh call (ToOpenNew directory entry node access)
-      judged directory (Make directory.node entry (evens fresh 0) node) refl tt))
+      (theirs_from world names it.is.mounts directory.mount (granted_theirs member fresh call
+      (ToOpenNew directory entry node access) judged directory (Make directory.node entry (evens fresh 0) node) refl
+      tt))
   of_files (ToWritePart file offset bytes) judged e = kept (ToWritePart file offset bytes) judged refl
       (apply nat_eq fresh world task (ToWritePart file offset bytes)).world
       (changed_before (apply nat_eq fresh world task (ToWritePart file offset bytes)).world
@@ -231,19 +226,21 @@ module _ {world : World ℕ} {names : List TaskName} {name : TaskName} {call : C
 
   -- by the one permit of the call, whose world is swept
   pub swept_out : (permit : Permit ℕ) → judge_in nat_eq fresh world task call ≡ Ok permit
-      → (EndsInAWorld it fresh serves few task permit
+      → (EndsInAWorld it.it fresh it.serves it.few task permit
       → OthersAsBefore world (settled nat_eq (apply nat_eq fresh world task permit).world) names
       (grown names name call (apply nat_eq fresh world task permit).answer))
       → GivesNoFoothold world names name call fresh
   swept_out permit judged before = by (only_looks call) refl
     where
       by : (b : Bool) → only_looks call ≡ b → GivesNoFoothold world names name call fresh
-      by true e = looks_out it fresh e
-      by false e = granted_out it fresh serves few e (one_permit it fresh serves few task called permit judged before)
+      by true e = looks_out it.it fresh e
+      by false e =
+          granted_out it.it fresh it.serves it.few e (one_permit it.it fresh it.serves it.few task it.called permit
+          judged before)
 
   -- or before the sweep
   pub permit_out : (permit : Permit ℕ) → judge_in nat_eq fresh world task call ≡ Ok permit
-      → (EndsInAWorld it fresh serves few task permit → Before permit)
+      → (EndsInAWorld it.it fresh it.serves it.few task permit → Before permit)
       → GivesNoFoothold world names name call fresh
   permit_out permit judged before = swept_out permit judged (λ ends.
       swept_as_before world (apply nat_eq fresh world task permit).world names
@@ -257,10 +254,10 @@ denials_give_no_foothold world names name call it fresh refused = refused_out it
 
 pub tasks_give_no_foothold : TasksGiveNoFoothold
 tasks_give_no_foothold world names name call it few fresh serves task called permit judged is_one =
-    permit_out it few fresh serves task called permit judged
-    (λ ends. of_tasks it few fresh serves task called permit judged is_one)
+    permit_out (record { it = it; few = few; serves = serves; called = called }) permit judged
+    (λ ends. of_tasks (record { it = it; few = few; serves = serves; called = called }) permit judged is_one)
 
 pub files_give_no_foothold : FilesGiveNoFoothold
 files_give_no_foothold world names name call it few fresh serves task called permit judged is_one =
-    permit_out it few fresh serves task called permit judged
-    (λ ends. of_files it few fresh serves task called permit judged is_one)
+    permit_out (record { it = it; few = few; serves = serves; called = called }) permit judged
+    (λ ends. of_files (record { it = it; few = few; serves = serves; called = called }) permit judged is_one)

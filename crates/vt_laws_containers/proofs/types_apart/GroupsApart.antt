@@ -1,7 +1,7 @@
 -- Where mounts of a sealed set change their types, they are in groups that the set heard or in new ones, and others
 -- keep theirs: so mounts share no events with others.
 use Rattle.std.proofs.Common.{arith, ◌≡◌, refl, sym, ap, subst, ◌∙◌, ◌⊎◌, inl, inr, ⊎_elim, ℕ, nat_eq, Bool, true, false, cond, true≢false, List, [], ◌∷◌, Option, Some, None, length, map, not, eq-eqb, eqb-true}
-use Rattle.vt_spec.proofs.Common.{Among, Fresh, IsWorld, Mount, Private, Propagation, Serves, Shared, Slave, TaskName, TypeWord, Unbindable, World, among-from_filter, among-from_map, among-map, any_among, any_from_among, common_steps, false_from_ne_true, find-chain_start, found_among, group_of, groups_up, has_members, heir, holds_of, index_of, inherited, is_among_numbers, is_member_of, is_own_mount, is_own_namespace, list_all, list_all_from_among, map_same, master_after, master_of, none_is_some, not-true, numbers_by, or_cases, other_mounts, own_mounts, receives_events_of, same_Some, sealed, share_events, shares_no_events, slave_of_heir, source_of, type_after, with_master, with_new_groups}
+use Rattle.vt_spec.proofs.Common.{Among, Fresh, Mount, Private, Propagation, Serves, Shared, Slave, TaskName, TypeWord, Unbindable, World, among-from_filter, among-from_map, among-map, any_among, any_from_among, common_steps, false_from_ne_true, find-chain_start, found_among, group_of, groups_up, has_members, heir, holds_of, index_of, inherited, is_among_numbers, is_member_of, is_own_mount, is_own_namespace, list_all, list_all_from_among, map_same, master_after, master_of, none_is_some, not-true, numbers_by, or_cases, other_mounts, own_mounts, receives_events_of, same_Some, share_events, shares_no_events, slave_of_heir, source_of, type_after, with_master, with_new_groups}
 use Rattle.vt_laws_trees.specs.Layers.Layers.ChangesUpper.{IsNewBy}
 use Rattle.vt_laws_mounts.specs.LettingGo.Detaching.{with_changed}
 use Rattle.vt_laws_mounts.proofs.letting_go.Lists.{filter-map}
@@ -10,7 +10,7 @@ use Rattle.vt_laws_mounts.proofs.mounts.Receivers.{along_chain}
 use Rattle.vt_laws_sealed.specs.Part.Seals.{IsApart}
 use Rattle.vt_laws_sealed.proofs.part.groups.EventsApart.{members_of, sides}
 use Rattle.vt_laws_sealed.proofs.part.groups.ReceiversAlike.{OtherLives, member_group, none_other, start_hears}
-use Rattle.vt_laws_sealed.proofs.part.seals.ByPart.{apart_if_sealed}
+use Rattle.vt_laws_sealed.proofs.part.seals.ByPart.{IsSealed, apart_if_sealed}
 use Rattle.vt_laws_sealed.proofs.outsiders.OtherMounts.{HearsGroup, member_not_new, member_of_heard, not_heard, other_hears_foreign, standing_apart, standing_apart_with}
 use Rattle.vt_laws_sealed.proofs.outsiders.StandingApart.{NothingNew, StandsApart}
 use Rattle.vt_laws_members.proofs.types.Inherited.{kind_left, master_left, master_left_so}
@@ -32,12 +32,12 @@ pub in_group : (o : Option ℕ) (mount : Mount ℕ) → holds_of (λ group. is_m
 in_group None mount h = absurd (true≢false (sym h))
 in_group (Some group) mount h = (group, refl, member_group group mount h)
 
-module _ (world : World ℕ) (names : List TaskName) (is : IsWorld nat_eq world)
-    (sealed_off : sealed nat_eq world names ≡ true) (fresh : Fresh ℕ) (serves : Serves nat_eq world fresh)
+module _ {world : World ℕ} {names : List TaskName} (sealing : IsSealed world names) (fresh : Fresh ℕ)
+    (serves : Serves nat_eq world fresh)
     (word : TypeWord) (named : List (Mount ℕ))
     (named_own : (m : Mount ℕ) → Among m named → Among m (own_mounts nat_eq world names)) where
   abbrev apart : IsApart world names
-  apart = apart_if_sealed world names is sealed_off
+  apart = apart_if_sealed sealing
 
   abbrev so_far : StandsApart world names NothingNew
   so_far = standing_apart world names apart
@@ -52,7 +52,7 @@ module _ (world : World ℕ) (names : List TaskName) (is : IsWorld nat_eq world)
   is_out mount = holds_of (λ n. not (is_own_namespace nat_eq world names n)) mount.namespace
 
   abbrev Hears : World ℕ → Propagation ℕ → ℕ → Type 0
-  Hears in_world kind group = HearsGroup world names so_far in_world kind group
+  Hears in_world kind group = HearsGroup so_far in_world kind group
 
   -- a group that a mount of theirs hears, or a new one
   abbrev Ours : ℕ → Type 0
@@ -92,7 +92,7 @@ module _ (world : World ℕ) (names : List TaskName) (is : IsWorld nat_eq world)
 
   above_ours : (group above : ℕ) → Ours group → world.master group ≡ Some above → Ours above
   above_ours group above its e = ⊎_elim
-      (λ heard. let member = member_of_heard world names so_far heard.0 heard.1 group heard.2 in
+      (λ heard. let member = member_of_heard so_far heard.0 heard.1 group heard.2 in
       inl (member.0, member.1, inr (master_in member.0.propagation group (member_group group member.0 member.2) ∙ e)))
       (λ new. none_is_some above
       (sym ((standing_apart_with world names apart fresh serves).new_master group new) ∙ e)) its
@@ -101,12 +101,12 @@ module _ (world : World ℕ) (names : List TaskName) (is : IsWorld nat_eq world)
   other_lives : (other : Mount ℕ) → Among other others → (group : ℕ) → Hears world other.propagation group
       → OtherLives world names so_far.mounts so_far.events group
   other_lives other m group how =
-      ⊎_elim (λ lives. lives) (λ none. absurd none) (other_hears_foreign world names so_far other m group how)
+      ⊎_elim (λ lives. lives) (λ none. absurd none) (other_hears_foreign so_far other m group how)
 
   unheard : (other : Mount ℕ) → Among other others → (group : ℕ) → Ours group → Hears world other.propagation group → ⊥
-  unheard other m group its how = ⊎_elim (λ heard. not_heard world names so_far heard.0 heard.1 group
-      (other_hears_foreign world names so_far other m group how) heard.2)
-      (λ new. let member = any_among (is_member_of nat_eq group) world.mounts
+  unheard other m group its how = ⊎_elim (λ heard. not_heard so_far heard.0 heard.1 group
+      (other_hears_foreign so_far other m group how) heard.2) (λ new. let member =
+      any_among (is_member_of nat_eq group) world.mounts
       (members_of world names so_far.mounts so_far.events group (other_lives other m group how).1) in
       member_not_new world fresh serves member.0 group new.0 member.1 (member_group group member.0 member.2) new.1) its
 

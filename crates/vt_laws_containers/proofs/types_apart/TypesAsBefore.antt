@@ -1,8 +1,8 @@
 -- Where mounts of a sealed set change their types, others are as they were.
-use Rattle.std.proofs.Common.{arith, ◌≡◌, refl, ap, subst, ◌∙◌, inl, ℕ, nat_eq, Bool, true, List, [], ◌∷◌, ◌++◌, map, not}
-use Rattle.vt_spec.proofs.Common.{Among, Fresh, IsWorld, Location, Mount, Propagation, Serves, TaskName, TypeWord, World, among_from_list_all, common_steps, is_own_mount, list_all_from_among, locations, map_alike, map_twice, members, mount_at, mount_in, outsiders, own_mounts, sealed, used_directly}
+use Rattle.std.proofs.Common.{arith, ◌≡◌, refl, ap, subst, ◌∙◌, inl, ℕ, nat_eq, Bool, List, [], ◌∷◌, ◌++◌, map, not}
+use Rattle.vt_spec.proofs.Common.{Among, Fresh, Location, Mount, Propagation, Serves, TaskName, TypeWord, World, among_from_list_all, common_steps, is_own_mount, list_all_from_among, locations, map_alike, map_twice, members, mount_at, mount_in, outsiders, own_mounts, used_directly}
 use Rattle.vt_laws_mounts.proofs.letting_go.Lists.{filter-map}
-use Rattle.vt_laws_sealed.proofs.part.seals.ByPart.{apart_if_sealed}
+use Rattle.vt_laws_sealed.proofs.part.seals.ByPart.{IsSealed, apart_if_sealed}
 use Rattle.vt_laws_containers.proofs.footholds.AsBefore.{OthersAsBefore}
 use Rattle.vt_laws_containers.proofs.types_apart.GroupsApart.{groups_apart, kind_after, left, others_kept}
 
@@ -17,15 +17,15 @@ module _ {A : Type 0} (kind : Mount ℕ → Propagation ℕ) (f : Mount ℕ → 
   kept_at [] = refl
   kept_at (m ∷ rest) = grind (arith, common_steps, kept_at rest)
 
-module _ (world : World ℕ) (names : List TaskName) (is : IsWorld nat_eq world)
-    (sealed_off : sealed nat_eq world names ≡ true) (fresh : Fresh ℕ) (serves : Serves nat_eq world fresh)
+module _ {world : World ℕ} {names : List TaskName} (sealing : IsSealed world names) (fresh : Fresh ℕ)
+    (serves : Serves nat_eq world fresh)
     (word : TypeWord) (named : List (Mount ℕ))
     (named_own : (m : Mount ℕ) → Among m named → Among m (own_mounts nat_eq world names)) where
   abbrev now : World ℕ
-  now = left world names is sealed_off fresh serves word named named_own
+  now = left sealing fresh serves word named named_own
 
   abbrev kind : Mount ℕ → Propagation ℕ
-  kind = kind_after world names is sealed_off fresh serves word named named_own
+  kind = kind_after sealing fresh serves word named named_own
 
   abbrev typed : Mount ℕ → Mount ℕ
   typed m = record m { propagation = kind m }
@@ -50,14 +50,14 @@ module _ (world : World ℕ) (names : List TaskName) (is : IsWorld nat_eq world)
   pub types_as_before : OthersAsBefore world now names names
   types_as_before = record {
     others = refl;
-    mounts = others_kept world names is sealed_off fresh serves word named named_own;
+    mounts = others_kept sealing fresh serves word named named_own;
     shown = λ l m. shown_still l;
-    tasks = (apart_if_sealed world names is sealed_off).tasks;
-    events = groups_apart world names is sealed_off fresh serves word named named_own;
+    tasks = (apart_if_sealed sealing).tasks;
+    events = groups_apart sealing fresh serves word named named_own;
     places = list_all_from_among (λ l. not (owned (mount_at nat_eq now l))) (locations (outsiders world names))
         (λ l m. ap not (kept_at kind owned (λ x. refl) l.mount world.mounts)
         ∙ among_from_list_all (λ k. not (owned (mount_at nat_eq world k))) (locations (outsiders world names))
-        (apart_if_sealed world names is sealed_off).locations l m);
+        (apart_if_sealed sealing).locations l m);
     filesystems = λ f m. inl (f, m, refl, refl);
     direct = λ number m. inl (subst (Among number) direct_same m);
   }

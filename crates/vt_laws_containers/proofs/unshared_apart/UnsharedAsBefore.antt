@@ -1,6 +1,7 @@
 -- After an unshare(2) of a task of a sealed set others are as they were.
 use Rattle.std.proofs.Common.{arith, ◌≡◌, refl, sym, ap, subst, ◌∙◌, ◌⊎◌, inl, inr, ⊎_elim, ℕ, nat_eq, Bool, true, false, cond, true≢false, List, [], ◌∷◌, ◌++◌, Option, Some, None, filter, map, not, ◌||◌, eq-eqb, eqb-true}
 use Rattle.vt_spec.proofs.Common.{Among, Fresh, Location, Mount, MountInvariants, Private, Serves, Task, TaskName, Unshare, World, all_locations, among-append, among-append_left, among-append_right, among-filter, among-flat_map, among-from_filter, among-from_flat_map, among-from_map, among-map, among_from_list_all, any_among, any_from_among, common_steps, detached, false_from_ne_true, group_of, holds_of, is_among, is_listed, is_member_of, is_member_task, is_own_mount, is_own_namespace, list_all, list_all_from_among, list_any, locations, locations_of, master_of, members, mount_at, mount_numbered, mounts_of, name-replaced_if_called, namespaces_ended, not-true, other_mounts, outsiders, own_mounts, replaced_if_called, same_name, same_name_itself, same_task_name, share_events, shares_no_events, task_called, unshared, used_directly}
+use Rattle.vt_laws_members.proofs.judging.TheirCalls.{IsMember, caller_in, sealing_of}
 use Rattle.vt_laws_members.proofs.namespaces.Unsharing.{places_moved}
 use Rattle.vt_laws_mounts.proofs.letting_go.Lists.{filter-map}
 use Rattle.vt_laws_mounts.proofs.ends.Ending.{ended_namespaces_keep_mounts}
@@ -14,7 +15,6 @@ use Rattle.vt_laws_members.specs.Changes.Changes.{IsCallOfTheirs}
 use Rattle.vt_laws_members.proofs.changes.letting_go.Callers.{replaced_how}
 use Rattle.vt_laws_members.proofs.changes.letting_go.CutNamespace.{in_space}
 use Rattle.vt_laws_members.proofs.changes.letting_go.Heard.{own_in}
-use Rattle.vt_laws_members.proofs.changes.looks.Told.{member_called}
 use Rattle.vt_laws_members.proofs.changes.tasks.Rights.{only_task}
 use Rattle.vt_laws_members.proofs.namespaces.Remade.{remade}
 use Rattle.vt_laws_members.proofs.namespaces.Unshared.{CanUnshare, Ends, copy_of, cut, listed_in, moved_to_copies, new_among_spaces, new_space, unshare_plan, unshared_so}
@@ -26,7 +26,7 @@ module _ {world : World ℕ} {names : List TaskName} {name : TaskName} (it : IsC
     (task : Task ℕ) (called : task_called world name ≡ Some task) (fresh : Fresh ℕ)
     (serves : Serves nat_eq world fresh) where
   its_apart : IsApart world names
-  its_apart = apart_if_sealed world names it.is it.sealed_off
+  its_apart = apart_if_sealed (sealing_of it)
 
   abbrev old : List (Task ℕ)
   old = members world names
@@ -71,17 +71,17 @@ module _ {world : World ℕ} {names : List TaskName} {name : TaskName} (it : IsC
   is_out_left m = holds_of (λ n. not (own_left n)) m.namespace
 
   -- The caller
-  member : Among task old
-  member = member_called world names it.is it.sealed_off name it.theirs task called
+  member : IsMember world names task
+  member = caller_in it called
 
   in_world : (t : Task ℕ) → Among t old → Among t world.tasks
   in_world t m = (among-from_filter (is_member_task names) world.tasks t m).0
 
   only : (t : Task ℕ) → Among t world.tasks → (task ≡ t) ⊎ (same_name task.name t.name ≡ false)
-  only t m = grind (arith, common_steps, only_task, in_world, member, same_task_name)
+  only t m = grind (arith, common_steps, only_task, in_world, member.among, same_task_name)
 
   k_own : ours k ≡ true
-  k_own = any_from_among (λ (t : Task ℕ). nat_eq k t.namespace) old task member (eq-eqb k k refl)
+  k_own = any_from_among (λ (t : Task ℕ). nat_eq k t.namespace) old task member.among (eq-eqb k k refl)
 
   -- the new namespace is none of the world
   not_new : (n : ℕ) → is_listed nat_eq world n ≡ true → nat_eq n s ≡ false
@@ -94,7 +94,7 @@ module _ {world : World ℕ} {names : List TaskName} {name : TaskName} (it : IsC
       it.is.namespaces.tasks_listed t m
 
   can : CanUnshare world fresh task
-  can = grind (arith, common_steps, in_world, member, same_name_itself, not_new, task_listed, only)
+  can = grind (arith, common_steps, in_world, member.among, same_name_itself, not_new, task_listed, only)
 
   -- Tasks of the set
   set_is : new ≡ map replaced old
@@ -116,7 +116,7 @@ module _ {world : World ℕ} {names : List TaskName} {name : TaskName} (it : IsC
 
   s_own : own_left s ≡ true
   s_own = any_from_among (λ (x : Task ℕ). nat_eq s x.namespace) new moved
-      (subst (λ x. Among x new) (ap (λ b. cond b moved task) (same_name_itself task.name)) (in_set task member))
+      (subst (λ x. Among x new) (ap (λ b. cond b moved task) (same_name_itself task.name)) (in_set task member.among))
       (eq-eqb s s refl)
 
   still : (n : ℕ) → nat_eq k n ≡ false → ours n ≡ true → own_left n ≡ true
@@ -141,7 +141,7 @@ module _ {world : World ℕ} {names : List TaskName} {name : TaskName} (it : IsC
     where
       by : (o : Option ℕ) → m.namespace ≡ o → holds_of own_left o ≡ holds_of ours o
       by None e = refl
-      by (Some i) e = own_same i (placed_listed world names its_apart m n i e) (sym (ap (holds_of (nat_eq k)) e) ∙ out)
+      by (Some i) e = own_same i (placed_listed its_apart m n i e) (sym (ap (holds_of (nat_eq k)) e) ∙ out)
 
   outs_same : (m : Mount ℕ) → Among m world.mounts → in_space k m ≡ false → is_out_left m ≡ is_out m
   outs_same m n out = by m.namespace refl
@@ -149,10 +149,10 @@ module _ {world : World ℕ} {names : List TaskName} {name : TaskName} (it : IsC
       by : (o : Option ℕ) → m.namespace ≡ o → holds_of (λ i. not (own_left i)) o ≡ holds_of (λ i. not (ours i)) o
       by None e = refl
       by (Some i) e = ap not
-          (own_same i (placed_listed world names its_apart m n i e) (sym (ap (holds_of (nat_eq k)) e) ∙ out))
+          (own_same i (placed_listed its_apart m n i e) (sym (ap (holds_of (nat_eq k)) e) ∙ out))
 
   own_in_k : (m : Mount ℕ) → in_space k m ≡ true → owns m ≡ true
-  own_in_k m e = own_in world names it.is it.sealed_off k k_own m e
+  own_in_k m e = own_in (sealing_of it) k k_own m e
 
   own_not_out : (o : Option ℕ) → holds_of ours o ≡ true → holds_of (λ n. not (ours n)) o ≡ false
   own_not_out None own = refl
@@ -315,13 +315,13 @@ module _ {world : World ℕ} {names : List TaskName} {name : TaskName} (it : IsC
     shown_there : (l : Location ℕ) → Among l (all_locations world)
         → (mount_at nat_eq left l).filesystem ≡ (mount_at nat_eq world l).filesystem
     shown_there l m =
-        let at = located_there world names its_apart l m in
+        let at = located_there its_apart l m in
         shown_still at.0 at.1 l (eqb-true l.mount at.0.number at.2)
 
     none_on_own : (l : Location ℕ) → Among l (locations (outsiders world names))
         → not (owns_left (mount_at nat_eq left l)) ≡ true
     none_on_own l m =
-        let at = located_there world names its_apart l (placed (λ (t : Task ℕ). not (is_member_task names t)) l m) in
+        let at = located_there its_apart l (placed (λ (t : Task ℕ). not (is_member_task names t)) l m) in
         let same = eqb-true l.mount at.0.number at.2 in
         ap not (false_from_ne_true (owns_left (mount_at nat_eq left l)) (λ h. true≢false
         (sym (own_before at.0 at.1 (ap owns_left (sym (at_turned at.0 at.1 l same)) ∙ h))

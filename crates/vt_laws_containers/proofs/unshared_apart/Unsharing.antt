@@ -53,7 +53,7 @@ unshares_give_no_foothold world names name it fresh serves = by (task_called wor
         → (j : Judgement ℕ) → judge_in nat_eq fresh world task Unshare ≡ j → IfOk j Unshares
         → GivesNoFoothold world names name Unshare fresh
     judged_by task e (Ok permit) judged known =
-        permit_out it refl fresh serves task e ToUnshare (judged ∙ ap Ok known)
+        permit_out (record { it = it; few = refl; serves = serves; called = e }) ToUnshare (judged ∙ ap Ok known)
         (λ ends. either_as_before world names name it task e fresh serves)
     judged_by task e (Err deny) judged known = refused_out it fresh
         (ap (λ o. is_ok (ran name Unshare world fresh o).answer) e

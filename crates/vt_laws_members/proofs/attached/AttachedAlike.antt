@@ -1,6 +1,6 @@
 -- Where copies come at a mount of theirs and at its receivers, the worlds that are left have one part.
 use Rattle.std.proofs.Common.{arith, ◌≡◌, refl, sym, ap, ◌∙◌, ⊎_elim, ℕ, nat_eq, Bool, true, false, cond, List, [], ◌++◌, Option, Some, None, append_assoc, filter, map}
-use Rattle.vt_spec.proofs.Common.{Among, Copies, Filesystem, IsWorld, Mount, Task, TaskName, World, among-filter, among-from_filter, any_among, attached_by, common_steps, folded, is_member_of, is_own_mount, list_any, master_above, masters_with, members, numbers_raised, own_mounts, part_of, part_of_master, sealed, source_of}
+use Rattle.vt_spec.proofs.Common.{Among, Copies, Filesystem, Mount, Task, TaskName, World, among-filter, among-from_filter, any_among, attached_by, common_steps, folded, is_member_of, is_own_mount, list_any, master_above, masters_with, members, numbers_raised, own_mounts, part_of, part_of_master, source_of}
 use Rattle.vt_laws_mounts.proofs.GroupsUp.{source_from_group}
 use Rattle.vt_laws_sealed.proofs.part.groups.ReceiversAlike.{member_group}
 use Rattle.vt_laws_sealed.proofs.part.part.PartOfPart.{is_own, same_members, same_own}
@@ -12,10 +12,11 @@ use Rattle.vt_laws_members.proofs.attached.KnownMasters.{copy_known}
 use Rattle.vt_laws_members.proofs.attached.PartGrows.{part_grows}
 use Rattle.vt_laws_members.proofs.attached.PushedUp.{ShowTheirs, all_copies, copies_grow, of_copies, push_keeps}
 use Rattle.vt_laws_members.proofs.attached.RaisedAlike.{parts_left}
+use Rattle.vt_laws_sealed.proofs.part.seals.ByPart.{IsSealed}
 
 -- a world and its part grow alike, if the masters of what is theirs then are the same in both
-module _ (world : World ℕ) (names : List TaskName) (is : IsWorld nat_eq world)
-    (sealed_off : sealed nat_eq world names ≡ true) (change : Mount ℕ → Mount ℕ) (added : List (Mount ℕ))
+module _ {world : World ℕ} {names : List TaskName} (sealing : IsSealed world names) (change : Mount ℕ → Mount ℕ)
+    (added : List (Mount ℕ))
     (new_ones : List (Filesystem ℕ)) (master master_too : ℕ → Option ℕ)
     (grows : Grows world names change added new_ones master)
     (known : (y : Mount ℕ) → Among y (map change world.mounts ++ added)
@@ -45,8 +46,8 @@ module _ (world : World ℕ) (names : List TaskName) (is : IsWorld nat_eq world)
 
   of_part : part_of nat_eq u_part names ≡ grown_by part (part_of_master nat_eq u_part names)
   of_part = part_grown part names change added new_ones master_too
-      (part_grows world names is change added new_ones master master_too grows)
-      ∙ ap (λ (w : World ℕ). grown_by w (part_of_master nat_eq u_part names)) (part_again world names is)
+      (part_grows world names sealing.is change added new_ones master master_too grows) ∙ ap
+      (λ (w : World ℕ). grown_by w (part_of_master nat_eq u_part names)) (part_again world names sealing.is)
 
   pub own_alike : own_mounts nat_eq u_part names ≡ own_mounts nat_eq u names
   own_alike = sym (same_own u_part names)
@@ -78,8 +79,8 @@ module _ (world : World ℕ) (names : List TaskName) (is : IsWorld nat_eq world)
   pub grown_alike : (name : TaskName) → part_of nat_eq (numbers_raised nat_eq world name [] u) names
       ≡ part_of nat_eq (numbers_raised nat_eq part name [] u_part) names
   grown_alike name =
-      parts_left world names is sealed_off u.mounts u_part.mounts master master_too u.filesystems u_part.filesystems
-      one_part above_alike name
+      parts_left sealing u.mounts u_part.mounts master master_too u.filesystems u_part.filesystems one_part above_alike
+      name
 
 -- So it is where copies come.
 module _ {world : World ℕ} {names : List TaskName} (attaching : AttachesTheirs world names)
@@ -103,11 +104,10 @@ module _ {world : World ℕ} {names : List TaskName} (attaching : AttachesTheirs
       → is_own world names (members world names) y ≡ true → (g : ℕ) → source_of y.propagation ≡ Some g
       → with_made (part_of nat_eq world names).master g ≡ with_made world.master g
   known y m mine g e = masters_agree (made attaching new false origins) (part_of nat_eq world names).master world.master
-      g (⊎_elim (λ old. master_same world names attaching.is attaching.sealed_off g
-      (heard_by_own world names attaching.is attaching.sealed_off old.0
+      g (⊎_elim (λ old. master_same attaching.sealing g (heard_by_own attaching.sealing old.0
       (among-filter (is_own_mount nat_eq world names) world.mounts old.0 old.1 old.2) g
-      (sym (ap (λ (x : Mount ℕ). source_of x.propagation) old.3
-      ∙ push_keeps attaching new false origins (λ (x : Mount ℕ). source_of x.propagation) (λ x at. refl) old.0) ∙ e)))
+      (sym (ap (λ (x : Mount ℕ). source_of x.propagation) old.3 ∙ push_keeps attaching new false origins
+      (λ (x : Mount ℕ). source_of x.propagation) (λ x at. refl) old.0) ∙ e)))
       (λ more. let of = of_copies attaching new false origins y more in
       copy_known attaching new false origins new_groups sources of.0 of.2 of.3 g
       (ap (λ (x : Mount ℕ). source_of x.propagation) (sym of.4) ∙ e))
@@ -123,7 +123,7 @@ module _ {world : World ℕ} {names : List TaskName} (attaching : AttachesTheirs
       (numbers_raised nat_eq (part_of nat_eq world names) name []
       (attached_by nat_eq (base_part attaching) new attaching.place false origins)) names
   copies_alike name = ap (λ w. part_of nat_eq (numbers_raised nat_eq world name [] w) names) (as_grown world)
-      ∙ grown_alike world names attaching.is attaching.sealed_off up added attaching.new_ones (with_made world.master)
-      (with_made (part_of nat_eq world names).master) grows known name
-      ∙ sym (ap (λ w. part_of nat_eq (numbers_raised nat_eq (part_of nat_eq world names) name [] w) names)
+      ∙ grown_alike attaching.sealing up added attaching.new_ones (with_made world.master)
+      (with_made (part_of nat_eq world names).master) grows known name ∙ sym
+      (ap (λ w. part_of nat_eq (numbers_raised nat_eq (part_of nat_eq world names) name [] w) names)
       (attached_there attaching new false origins ∙ as_grown (part_of nat_eq world names)))

@@ -1,6 +1,7 @@
 -- Each mount(2) with MS_BIND, recursive or not, ends in the part as in the world.
 use Rattle.std.proofs.Common.{arith, ◌≡◌, refl, sym, ap, subst, ◌∙◌, ⊎_elim, ℕ, zero, suc, nat_eq, Bool, true, false, List, [], Option, Some, None, Ok, Err, filter, length, not, IfOk, is_ok}
-use Rattle.vt_spec.proofs.Common.{Among, Bind, Copies, Done, Filesystem, Fresh, IsWorld, Judgement, Location, Mount, Permit, Serves, Task, TaskName, ToBind, World, admin_rules, among-filter, among-from_filter, among-from_flat_map, and_then, attach, attach_permit, attached_by, bind_permit, bind_rules, bind_tree, bindable_children, bindable_tree, bound_at, children, common_steps, copies_from, destination_walk, granted, is_among, is_elsewhere, is_own_mount, is_unbindable, judge_in, list_any, members, mount_at, number-mount_in, numbers_raised, or_parts, overfills, part_of, policy, sealed, source_of, source_walk, stands_under, task_called, used_directly, used_filesystems, walk_end}
+use Rattle.vt_spec.proofs.Common.{Among, Bind, Copies, Done, Filesystem, Fresh, IsWorld, Judgement, Location, Mount, Permit, Serves, Task, TaskName, ToBind, World, admin_rules, among-filter, among-from_filter, among-from_flat_map, and_then, attach, attach_permit, attached_by, bind_permit, bind_rules, bind_tree, bindable_children, bindable_tree, bound_at, children, common_steps, copies_from, destination_walk, granted, is_among, is_elsewhere, is_own_mount, is_unbindable, judge_in, list_any, members, mount_at, number-mount_in, numbers_raised, or_parts, overfills, part_of, policy, source_of, source_walk, stands_under, task_called, used_directly, used_filesystems, walk_end}
+use Rattle.vt_laws_members.proofs.judging.TheirCalls.{IsMember, caller_in, sealing_of}
 use Rattle.vt_laws_sealed.proofs.part.part.MountsOver.{numbered}
 use Rattle.vt_laws_mounts.proofs.letting_go.mounting.AttachedSwept.{binds_keep_all}
 use Rattle.vt_laws_mounts.proofs.letting_go.sweeps.OfWorlds.{all_in_use, locations_of_worlds_stand, mounts_of_worlds_stand}
@@ -15,7 +16,7 @@ use Rattle.vt_laws_members.proofs.changes.letting_go.Heard.{heard_by_own, master
 use Rattle.vt_laws_members.proofs.changes.letting_go.Moving.{StandsHere, one}
 use Rattle.vt_laws_members.proofs.changes.letting_go.Umounting.{of_passed}
 use Rattle.vt_laws_members.proofs.changes.looks.Granted.{of_rules, of_walk}
-use Rattle.vt_laws_members.proofs.changes.looks.Told.{member_called, ran, same_caller}
+use Rattle.vt_laws_members.proofs.changes.looks.Told.{ran, same_caller}
 use Rattle.vt_laws_members.proofs.changes.part.SettledPart.{part_in_use}
 use Rattle.vt_laws_members.proofs.changes.tasks.Denied.{denial_ends_alike, ran_there, run_by, unnamed_ends_alike}
 use Rattle.vt_laws_members.specs.Attached.Attaching.{BindsEndAlike}
@@ -26,8 +27,7 @@ use Rattle.vt_laws_members.proofs.attached.PushedUp.{ShowTheirs}
 use Rattle.vt_laws_members.proofs.attached.Unused.{group_new}
 
 -- What a granted bind attaches
-module _ (world : World ℕ) (names : List TaskName) (is : IsWorld nat_eq world)
-    (sealed_off : sealed nat_eq world names ≡ true) (task : Task ℕ) (member : Among task (members world names))
+module _ {world : World ℕ} {names : List TaskName} {task : Task ℕ} (member : IsMember world names task)
     (recursive : Bool) where
   abbrev own_at : Location ℕ → Type 0
   own_at here = is_own world names (members world names) (mount_at nat_eq world here) ≡ true
@@ -38,34 +38,28 @@ module _ (world : World ℕ) (names : List TaskName) (is : IsWorld nat_eq world)
       × own_at here
 
   pub binds_there : (fresh : Fresh ℕ) (source path : List ℕ) → IfOk
-      (bind_permit nat_eq (one world names is sealed_off task member)
-      (overfills nat_eq fresh world task) task source path recursive) Binds
+      (bind_permit nat_eq (one member) (overfills nat_eq fresh world task) task source path recursive) Binds
   unfolding bind_permit
   binds_there fresh source path = of_rules Binds (admin_rules task) _
-      (of_walk (StandsHere world names is sealed_off task member) Binds
-      (source_walk nat_eq (one world names is sealed_off task member) task source)
-      (λ from. and_then (walk_end (destination_walk nat_eq (one world names is sealed_off task member) task path))
-      (λ here. attach_permit
-      (bind_rules nat_eq (one world names is sealed_off task member) task from.location here.location)
-      (overfills nat_eq fresh world task) (ToBind from.location here.location recursive)))
-      (at_source world names is sealed_off task member source) (λ from at.
-      of_walk (StandsHere world names is sealed_off task member) Binds
-      (destination_walk nat_eq (one world names is sealed_off task member) task path) (λ here. attach_permit
-      (bind_rules nat_eq (one world names is sealed_off task member) task from.location here.location)
-      (overfills nat_eq fresh world task) (ToBind from.location here.location recursive))
-      (at_destination world names is sealed_off task member path) (λ here on. of_passed Binds
-      (bind_rules nat_eq (one world names is sealed_off task member) task from.location here.location
+      (of_walk (StandsHere member) Binds (source_walk nat_eq (one member) task source)
+      (λ from. and_then (walk_end (destination_walk nat_eq (one member) task path))
+      (λ here. attach_permit (bind_rules nat_eq (one member) task from.location here.location)
+      (overfills nat_eq fresh world task) (ToBind from.location here.location recursive))) (at_source member source)
+      (λ from at. of_walk (StandsHere member) Binds (destination_walk nat_eq (one member) task path)
+      (λ here. attach_permit (bind_rules nat_eq (one member) task from.location here.location)
+      (overfills nat_eq fresh world task) (ToBind from.location here.location recursive)) (at_destination member path)
+      (λ here on. of_passed Binds (bind_rules nat_eq (one member) task from.location here.location
       (overfills nat_eq fresh world task (ToBind from.location here.location recursive)))
       (Ok (ToBind from.location here.location recursive)) (λ passed.
-      let both = or_parts (is_elsewhere nat_eq (one world names is sealed_off task member) task from.location)
-      (is_elsewhere nat_eq (one world names is sealed_off task member) task here.location) passed.0 in (
+      let both = or_parts (is_elsewhere nat_eq (one member) task from.location)
+      (is_elsewhere nat_eq (one member) task here.location) passed.0 in (
         from.location,
         here.location,
         refl,
         at,
-        owned world names is sealed_off task member from.location both.0,
+        owned member from.location both.0,
         on,
-        owned world names is sealed_off task member here.location both.1,
+        owned member here.location both.1,
       )))))
 
 -- What a bind copies is of mounts of theirs
@@ -149,8 +143,7 @@ module _ {world : World ℕ} {names : List TaskName} {name : TaskName} {source p
 
   abbrev attaching : AttachesTheirs world names
   attaching = record {
-    is = it.is;
-    sealed_off = it.sealed_off;
+    sealing = sealing_of it;
     new_ones = [];
     unused = unused;
     place = here;
@@ -176,8 +169,8 @@ module _ {world : World ℕ} {names : List TaskName} {name : TaskName} {source p
       → part.master g ≡ world.master g
   sources o m g e =
       let x = all_copied world names it.is from recursive from_mine o m in
-      master_same world names it.is it.sealed_off g (heard_by_own world names it.is it.sealed_off x.0
-      (among-filter (is_own_mount nat_eq world names) world.mounts x.0 x.1.0 x.1.1) g (ap source_of (sym x.3) ∙ e))
+      master_same (sealing_of it) g (heard_by_own (sealing_of it) x.0 (among-filter (is_own_mount nat_eq world names)
+      world.mounts x.0 x.1.0 x.1.1) g (ap source_of (sym x.3) ∙ e))
 
   new_groups : (a b : ℕ) → world.master (new.image a b) ≡ None
   new_groups a b = group_new world names it.is fresh serves _
@@ -198,12 +191,10 @@ module _ {world : World ℕ} {names : List TaskName} {name : TaskName} {source p
   second : policy nat_eq fresh part name (Bind source path recursive)
       ≡ granted Done (numbers_raised nat_eq part name [] now_there)
   second = ap (ran name (Bind source path recursive) part fresh)
-      (same_caller world names it.is it.sealed_off name it.theirs ∙ called)
-      ∙ ran_there it fresh fresh task called judged
-      ∙ ap (λ w. granted Done (numbers_raised nat_eq part name [] w))
-      (binds_keep_all fresh part task from here recursive (part_in_use world names it.is it.sealed_off)
-      (mounts_stand_there world names it.is it.sealed_off) (locations_stand_there world names it.is)
-      (placed_there world names it.is it.sealed_off here here_theirs own))
+      (same_caller (sealing_of it) name it.theirs ∙ called) ∙ ran_there it fresh fresh task called judged ∙ ap
+      (λ w. granted Done (numbers_raised nat_eq part name [] w)) (binds_keep_all fresh part task from here recursive
+      (part_in_use (sealing_of it)) (mounts_stand_there world names it.is it.sealed_off)
+      (locations_stand_there world names it.is) (placed_there world names it.is it.sealed_off here here_theirs own))
 
   abbrev attached_to : List (Mount ℕ) → World ℕ → World ℕ
   attached_to mounts w = attach nat_eq w fresh here false mounts
@@ -230,9 +221,9 @@ module _ {world : World ℕ} {names : List TaskName} {name : TaskName} {source p
 pub binds_end_alike : BindsEndAlike
 binds_end_alike world names name source path recursive it fresh serves = by (task_called world name) refl
   where
-    judged_by : (task : Task ℕ) (member : Among task (members world names)) → task_called world name ≡ Some task
+    judged_by : (task : Task ℕ) (member : IsMember world names task) → task_called world name ≡ Some task
         → (j : Judgement ℕ) → judge_in nat_eq fresh world task (Bind source path recursive) ≡ j
-        → IfOk j (Binds world names it.is it.sealed_off task member recursive)
+        → IfOk j (Binds member recursive)
         → EndsAlike world names name (Bind source path recursive) fresh fresh
     judged_by task member e (Ok permit) judged its =
         bind_ends it task e fresh serves its.0 its.1 its.3 its.4 its.5 its.6 (judged ∙ ap Ok its.2)
@@ -244,6 +235,6 @@ binds_end_alike world names name source path recursive it fresh serves = by (tas
         → EndsAlike world names name (Bind source path recursive) fresh fresh
     by None e = unnamed_ends_alike it fresh fresh e
     by (Some task) e =
-        let member = member_called world names it.is it.sealed_off name it.theirs task e in
+        let member = caller_in it e in
         judged_by task member e (judge_in nat_eq fresh world task (Bind source path recursive)) refl
-        (binds_there world names it.is it.sealed_off task member recursive fresh source path)
+        (binds_there member recursive fresh source path)

@@ -1,6 +1,6 @@
 -- Copies that are attached at a mount of theirs, at its receivers and what they push up, are the same in the part.
 use Rattle.std.proofs.Common.{arith, ◌≡◌, refl, sym, ap, subst, ◌∙◌, inl, inr, ⊎_elim, ℕ, nat_eq, Bool, true, false, cond, List, [], ◌∷◌, ◌++◌, Option, Some, None, append-nil, filter, find, flat_map, is_some, map, not, ◌&&◌, option_map, filter_map}
-use Rattle.vt_spec.proofs.Common.{Among, Copies, Filesystem, Graft, IsWorld, Location, Mount, Private, Propagation, Shared, Slave, Task, TaskName, Twig, Unbindable, World, added_mounts, all_groups_made, among-filter, among-from_filter, attached_at, attached_by, common_steps, copies_at, copy_at, copy_mount_point, copy_number, copy_type, filesystem_numbered, filter_alike, folded, found_among, graft_of, group_made, group_of, has_members, image, is_among, is_destination, is_directory_under, is_member_of, is_own_mount, list_any, map_alike, masters_with, members, mount_at, nearest_image, number-mount_in, part_of, parts_of, pushed_up, receivers_of, rest_of, sealed, slave_of_heir, source_of, takes_part, then_some, twig_master, twig_of, used_filesystems, when, with_moved_mounts}
+use Rattle.vt_spec.proofs.Common.{Among, Copies, Filesystem, Graft, Location, Mount, Private, Propagation, Shared, Slave, Task, TaskName, Twig, Unbindable, World, added_mounts, all_groups_made, among-filter, among-from_filter, attached_at, attached_by, common_steps, copies_at, copy_at, copy_mount_point, copy_number, copy_type, filesystem_numbered, filter_alike, folded, found_among, graft_of, group_made, group_of, has_members, image, is_among, is_destination, is_directory_under, is_member_of, is_own_mount, list_any, map_alike, masters_with, members, mount_at, nearest_image, number-mount_in, part_of, parts_of, pushed_up, receivers_of, rest_of, slave_of_heir, source_of, takes_part, then_some, twig_master, twig_of, used_filesystems, when, with_moved_mounts}
 use Rattle.vt_laws_members.proofs.detached.lazily.GoingAlike.{receivers_alike, receivers_own}
 use Rattle.vt_laws_mounts.proofs.GroupsUp.{source_from_group}
 use Rattle.vt_laws_sealed.proofs.part.part.MountsOver.{numbered}
@@ -14,6 +14,7 @@ use Rattle.vt_laws_members.proofs.judging.MountTrees.{own_theirs}
 use Rattle.vt_laws_members.proofs.judging.SeenInPart.{theirs_used}
 use Rattle.vt_laws_members.proofs.changes.letting_go.Heard.{IsHeard, above_heard, apart, heard_by_own, master_same}
 use Rattle.vt_laws_members.proofs.attached.GrownPart.{found_before}
+use Rattle.vt_laws_sealed.proofs.part.seals.ByPart.{IsSealed}
 
 -- a world without new filesystems
 pub no_new_ones : (w : World ℕ) → w ≡ record w { filesystems = w.filesystems ++ [] }
@@ -28,8 +29,8 @@ masters_agree (one ∷ made) m n g e = masters_agree made (masters_with nat_eq m
 
 -- a mount of theirs where copies come, and new filesystems, whose numbers they do not use
 pub record AttachesTheirs (world : World ℕ) (names : List TaskName) : Type 0 where
-  pub is : IsWorld nat_eq world
-  pub sealed_off : sealed nat_eq world names ≡ true
+  pub sealing : IsSealed world names
+  pub open sealing use {is, sealed_off}
   pub new_ones : List (Filesystem ℕ)
   pub unused : (n : ℕ) → is_among nat_eq n (used_filesystems nat_eq world names) ≡ true
       → list_any (λ (f : Filesystem ℕ). nat_eq n f.number) new_ones ≡ false
@@ -58,7 +59,7 @@ module _ {world : World ℕ} {names : List TaskName} (attaching : AttachesTheirs
   destination = mount_at nat_eq world attaching.place
 
   abbrev Heard : ℕ → Type 0
-  Heard g = IsHeard world names attaching.is attaching.sealed_off g
+  Heard g = IsHeard attaching.sealing g
 
   on : IsTheirs world names attaching.is.mounts attaching.place.mount
   on = subst (IsTheirs world names attaching.is.mounts) (number-mount_in world.mounts attaching.place.mount)
@@ -88,12 +89,11 @@ module _ {world : World ℕ} {names : List TaskName} (attaching : AttachesTheirs
 
   pub parts_alike : parts_of nat_eq base_part attaching.place ≡ parts
   parts_alike = ap (λ to. to ∷ filter (takes base_part to) (receivers_of nat_eq part to)) same_destination
-      ∙ ap (λ l. destination ∷ filter (takes base_part destination) l)
-      (receivers_alike world names attaching.is.mounts (no_events world names attaching.is attaching.sealed_off)
-      destination attaching.there attaching.own) ∙ ap (λ l. destination ∷ l)
+      ∙ ap (λ l. destination ∷ filter (takes base_part destination) l) (receivers_alike world names attaching.is.mounts
+      (no_events attaching.sealing) destination attaching.there attaching.own) ∙ ap (λ l. destination ∷ l)
       (filter_alike (takes base_part destination) (takes base destination) (receivers_of nat_eq world destination)
       (λ m n.
-      let its = receivers_own world names attaching.is.mounts (no_events world names attaching.is attaching.sealed_off)
+      let its = receivers_own world names attaching.is.mounts (no_events attaching.sealing)
       destination m attaching.there attaching.own n in
       ap (λ (f : Filesystem ℕ). not (nat_eq attaching.place.mount m.number) && is_some m.namespace && nat_eq
       destination.filesystem m.filesystem && is_directory_under nat_eq f.files m.root attaching.place.node)
@@ -105,7 +105,7 @@ module _ {world : World ℕ} {names : List TaskName} (attaching : AttachesTheirs
     ap owns same
         ∙ attaching.own,
   )) (λ receiver. receivers_own world names attaching.is.mounts
-      (no_events world names attaching.is attaching.sealed_off) destination m attaching.there attaching.own
+      (no_events attaching.sealing) destination m attaching.there attaching.own
       (among-from_filter (takes_part nat_eq base attaching.place) (receivers_of nat_eq world destination) m receiver).0)
       n
 
@@ -126,8 +126,7 @@ module _ {world : World ℕ} {names : List TaskName} (attaching : AttachesTheirs
     heard_part : (p : Mount ℕ) → Among p parts → (g : ℕ) → source_of p.propagation ≡ Some g → Heard g
     heard_part p n g e =
         let its = parts_own p n in
-        heard_by_own world names attaching.is attaching.sealed_off p
-        (among-filter (is_own_mount nat_eq world names) world.mounts p its.0 its.1) g e
+        heard_by_own attaching.sealing p (among-filter (is_own_mount nat_eq world names) world.mounts p its.0 its.1) g e
 
     -- images up the masters
     nearest_alike : (twig : Twig ℕ) (g : ℕ) → Heard g
@@ -135,8 +134,7 @@ module _ {world : World ℕ} {names : List TaskName} (attaching : AttachesTheirs
         ≡ nearest_image nat_eq base new parts destination twig (Some g)
     nearest_alike twig g heard =
         ap (λ l. option_map (image nat_eq new destination twig) (find (has_members nat_eq parts) l))
-        (same_up world names attaching.is.mounts (apart world names attaching.is attaching.sealed_off).events g heard.0
-        heard.1)
+        (same_up world names attaching.is.mounts (apart attaching.sealing).events g heard.0 heard.1)
 
     type_alike : (p : Mount ℕ) → Among p parts → (twig : Twig ℕ)
         → copy_type nat_eq base_part new parts destination twig p.propagation
@@ -193,7 +191,7 @@ module _ {world : World ℕ} {names : List TaskName} (attaching : AttachesTheirs
             ≡ nearest_image nat_eq base new parts destination twig o
         above g heard None e = refl
         above g heard (Some up) e = nearest_alike twig up
-            (above_heard world names attaching.is attaching.sealed_off up g e heard)
+            (above_heard attaching.sealing up g e heard)
 
         by : (o : Option ℕ) → group_of p.propagation ≡ o
             → then_some o (made_by base_part part.master) ≡ then_some o (made_by base world.master)
@@ -201,8 +199,8 @@ module _ {world : World ℕ} {names : List TaskName} (attaching : AttachesTheirs
         by (Some g) e =
             let heard = heard_part p n g (source_from_group p.propagation g e) in
             ap (λ k. when (not (is_member_of nat_eq g destination)) (image nat_eq new destination twig g, k))
-            (ap (nearest_image nat_eq base_part new parts destination twig)
-            (master_same world names attaching.is attaching.sealed_off g heard) ∙ above g heard (world.master g) refl)
+            (ap (nearest_image nat_eq base_part new parts destination twig) (master_same attaching.sealing g heard)
+            ∙ above g heard (world.master g) refl)
 
     pub all_made_alike : all_groups_made nat_eq base_part new tree parts ≡ made
     all_made_alike = flat_map_alike (λ p. filter_map (group_made nat_eq base_part new tree parts p) tree.twigs)

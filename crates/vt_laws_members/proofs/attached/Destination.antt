@@ -1,6 +1,7 @@
 -- The part of a sealed set is fit for what is attached to a mount of theirs: mounts and locations stand in it.
 use Rattle.std.proofs.Common.{arith, ◌≡◌, sym, ap, subst, ◌∙◌, ⊎_elim, ℕ, nat_eq, true, List, is_some, map, eq-eqb, IfOk}
 use Rattle.vt_spec.proofs.Common.{Among, IsWorld, Location, Mount, Task, TaskName, World, all_locations, among-filter_map, among-flat_map, among-from_filter, among-from_flat_map, among-from_map, among-map, among_from_list_all, among_numbers, and_parts, any_from_among, common_steps, destination_walk, is_among, is_among_numbers, is_located_well, is_member_task, is_there, list_all_from_among, locations, locations_of, members, mount_at, part_of, sealed, source_walk}
+use Rattle.vt_laws_members.proofs.judging.TheirCalls.{IsMember}
 use Rattle.vt_laws_mounts.specs.LettingGo.Attaching.{is_attached}
 use Rattle.vt_laws_mounts.specs.LettingGo.Keeping.{LocationsStand}
 use Rattle.vt_laws_mounts.specs.LettingGo.Leaving.{MountsStand}
@@ -11,6 +12,7 @@ use Rattle.vt_laws_members.proofs.judging.Grounds.{IsTheirs, its_mount, same_mou
 use Rattle.vt_laws_members.proofs.judging.WalksLead.{destination_agrees, source_agrees}
 use Rattle.vt_laws_members.proofs.changes.letting_go.Moving.{On, StandsHere, alike, one, other}
 use Rattle.vt_laws_members.proofs.changes.letting_go.PartMounts.{part_mounts}
+use Rattle.vt_laws_sealed.proofs.part.seals.ByPart.{sealed_by}
 
 -- the mounts' numbers
 abbrev numbers : World ℕ → List ℕ
@@ -52,7 +54,7 @@ module _ (world : World ℕ) (names : List TaskName) (is : IsWorld nat_eq world)
 
   module _ (sealed_off : sealed nat_eq world names ≡ true) where
     pub mounts_stand_there : MountsStand part
-    mounts_stand_there = mounts_stand part (part_mounts world names is sealed_off)
+    mounts_stand_there = mounts_stand part (part_mounts (sealed_by is sealed_off))
 
     -- a mount of theirs is attached, in both
     module _ (here : Location ℕ) (theirs : IsTheirs world names is.mounts here.mount)
@@ -68,19 +70,15 @@ module _ (world : World ℕ) (names : List TaskName) (is : IsWorld nat_eq world)
           ap (λ (m : Mount ℕ). is_some m.namespace) (same_mount world names is.mounts here.mount theirs) ∙ placed
 
 -- where a task of theirs gets for the source and the destination of a mount
-module _ (world : World ℕ) (names : List TaskName) (is : IsWorld nat_eq world)
-    (sealed_off : sealed nat_eq world names ≡ true) (task : Task ℕ) (member : Among task (members world names)) where
-  pub at_source : (path : List ℕ) → IfOk (source_walk nat_eq (one world names is sealed_off task member) task path)
-      (StandsHere world names is sealed_off task member)
+module _ {world : World ℕ} {names : List TaskName} {task : Task ℕ} (member : IsMember world names task) where
+  pub at_source : (path : List ℕ) → IfOk (source_walk nat_eq (one member) task path)
+      (StandsHere member)
   at_source path =
-      let it = alike world names is sealed_off task member in
-      (source_agrees (one world names is sealed_off task member) (other world names is sealed_off task member) task
-      (On world names is sealed_off task member) it.walks it.directory it.rules.removed path).1
+      let it = alike member in
+      (source_agrees (one member) (other member) task (On member) it.walks it.directory it.rules.removed path).1
 
   pub at_destination : (path : List ℕ) → IfOk
-      (destination_walk nat_eq (one world names is sealed_off task member) task path)
-      (StandsHere world names is sealed_off task member)
+      (destination_walk nat_eq (one member) task path) (StandsHere member)
   at_destination path =
-      let it = alike world names is sealed_off task member in
-      (destination_agrees (one world names is sealed_off task member) (other world names is sealed_off task member) task
-      (On world names is sealed_off task member) it.walks it.directory it.rules.removed path).1
+      let it = alike member in
+      (destination_agrees (one member) (other member) task (On member) it.walks it.directory it.rules.removed path).1

@@ -1,6 +1,6 @@
 -- Where a tree of theirs moves, the worlds that are left have one part after the sweep.
 use Rattle.std.proofs.Common.{◌≡◌, refl, sym, ap, subst, ◌∙◌, ℕ, nat_eq, true, cond, List, [], ◌++◌, Option, Some, None, filter, map, All}
-use Rattle.vt_spec.proofs.Common.{Among, HasLivingGroups, IsWorld, Location, Mount, TaskName, World, all_locations, among-filter, among-from_filter, among_from_all, among_from_list_all, filter_all, has_members, is_among, is_nowhere_or_attached, is_own_mount, list_all, master_above, members, mount_lives, numbers_raised, own_lowers, part_of, sealed, settled, source_of, then_some, used_filesystems, with_mounts}
+use Rattle.vt_spec.proofs.Common.{Among, HasLivingGroups, Location, Mount, TaskName, World, all_locations, among-filter, among-from_filter, among_from_all, among_from_list_all, filter_all, has_members, is_among, is_nowhere_or_attached, is_own_mount, list_all, master_above, members, mount_lives, numbers_raised, own_lowers, part_of, settled, source_of, then_some, used_filesystems, with_mounts}
 use Rattle.vt_laws_members.proofs.namespaces.RemadeRaised.{lives_members}
 use Rattle.vt_laws_mounts.proofs.letting_go.sweeps.OfWorlds.{all_in_use, locations_of_worlds_stand}
 use Rattle.vt_laws_mounts.specs.Mounts.Invariants.{OneNumberEach}
@@ -18,23 +18,23 @@ use Rattle.vt_laws_members.proofs.attached.GrownReady.{all_live, grown, grown_se
 use Rattle.vt_laws_members.proofs.attached.PartGrows.{part_grows}
 use Rattle.vt_laws_members.proofs.attached.RaisedAlike.{parts_left}
 use Rattle.vt_laws_members.proofs.changes.letting_go.TasksStay.{tasks_stay}
+use Rattle.vt_laws_sealed.proofs.part.seals.ByPart.{IsSealed}
 
-module _ (world : World ℕ) (names : List TaskName) (is : IsWorld nat_eq world)
-    (sealed_off : sealed nat_eq world names ≡ true) where
+module _ {world : World ℕ} {names : List TaskName} (sealing : IsSealed world names) where
   abbrev part : World ℕ
   part = part_of nat_eq world names
 
   pub ready_here : Ready world names (used_filesystems nat_eq world names) (own_lowers nat_eq world names)
   ready_here = subst (λ l. Ready (with_mounts world l) names (used_filesystems nat_eq world names)
       (own_lowers nat_eq world names)) (filter_all (mount_lives nat_eq world) world.mounts
-      (among_from_list_all (mount_lives nat_eq world) world.mounts (all_in_use world is).mounts))
-      (world_ready world names is sealed_off names world.tasks world.change (tasks_stay world names is sealed_off).lets)
+      (among_from_list_all (mount_lives nat_eq world) world.mounts (all_in_use world sealing.is).mounts))
+      (world_ready sealing names world.tasks world.change (tasks_stay sealing).lets)
 
   pub ready_there : Ready part names (used_filesystems nat_eq world names) (own_lowers nat_eq world names)
   ready_there = subst (λ l. Ready (with_mounts part l) names (used_filesystems nat_eq world names)
       (own_lowers nat_eq world names)) (filter_all (mount_lives nat_eq part) part.mounts
-      (among_from_list_all (mount_lives nat_eq part) part.mounts (part_in_use world names is sealed_off).mounts))
-      (part_ready (tasks_stay world names is sealed_off) world.change part.change)
+      (among_from_list_all (mount_lives nat_eq part) part.mounts (part_in_use sealing).mounts))
+      (part_ready (tasks_stay sealing) world.change part.change)
 
 -- Where such a change leaves mounts that stand, and groups that live
 pub record Stays (w : World ℕ) : Type 0 where
@@ -43,8 +43,8 @@ pub record Stays (w : World ℕ) : Type 0 where
   pub nowhere : list_all is_nowhere_or_attached w.mounts ≡ true
   pub groups : All (HasLivingGroups nat_eq w) w.mounts
 
-module _ (world : World ℕ) (names : List TaskName) (is : IsWorld nat_eq world)
-    (sealed_off : sealed nat_eq world names ≡ true) (change : Mount ℕ → Mount ℕ) (added : List (Mount ℕ))
+module _ {world : World ℕ} {names : List TaskName} (sealing : IsSealed world names) (change : Mount ℕ → Mount ℕ)
+    (added : List (Mount ℕ))
     (master master_too : ℕ → Option ℕ) (grows : Grows world names change added [] master)
     (known : (y : Mount ℕ) → Among y (map change world.mounts ++ added)
     → is_own world names (members world names) y ≡ true → (g : ℕ) → source_of y.propagation ≡ Some g
@@ -52,37 +52,34 @@ module _ (world : World ℕ) (names : List TaskName) (is : IsWorld nat_eq world)
   abbrev pub left_here : World ℕ
   left_here =
       grown world names change added master (used_filesystems nat_eq world names) (own_lowers nat_eq world names)
-      (ready_here world names is sealed_off) grows
+      (ready_here sealing) grows
 
   abbrev pub grows_there : Grows (part_of nat_eq world names) names change added [] master_too
-  grows_there = part_grows world names is change added [] master master_too grows
+  grows_there = part_grows world names sealing.is change added [] master master_too grows
 
   abbrev pub left_there : World ℕ
   left_there = grown (part_of nat_eq world names) names change added master_too (used_filesystems nat_eq world names)
-      (own_lowers nat_eq world names) (ready_there world names is sealed_off) grows_there
+      (own_lowers nat_eq world names) (ready_there sealing) grows_there
 
   module _ (stays : Stays left_here) (stays_there : Stays left_there) where
     settled_here : part_of nat_eq (settled nat_eq left_here) names ≡ swept_of names (part_of nat_eq left_here names)
     settled_here = grown_settled world names change added master (used_filesystems nat_eq world names)
-        (own_lowers nat_eq world names) (ready_here world names is sealed_off) grows
-        (among_from_list_all (λ (l : Location ℕ). is_among nat_eq l.mount (map (λ
-        (m : Mount ℕ). m.number) world.mounts)) (all_locations world) (locations_of_worlds_stand world is))
-        stays.one stays.stands stays.nowhere
+        (own_lowers nat_eq world names) (ready_here sealing) grows (among_from_list_all
+        (λ (l : Location ℕ). is_among nat_eq l.mount (map (λ (m : Mount ℕ). m.number) world.mounts))
+        (all_locations world) (locations_of_worlds_stand world sealing.is)) stays.one stays.stands stays.nowhere
 
     settled_there : part_of nat_eq (settled nat_eq left_there) names ≡ swept_of names (part_of nat_eq left_there names)
     settled_there =
         grown_settled (part_of nat_eq world names) names change added master_too (used_filesystems nat_eq world names)
-        (own_lowers nat_eq world names) (ready_there world names is sealed_off) grows_there
-        (located_there world names is) stays_there.one stays_there.stands stays_there.nowhere
+        (own_lowers nat_eq world names) (ready_there sealing) grows_there (located_there world names sealing.is)
+        stays_there.one stays_there.stands stays_there.nowhere
 
     same_part : part_of nat_eq left_there names ≡ part_of nat_eq left_here names
     same_part = sym (ap (λ w. part_of nat_eq w names)
         (without_new (part_of nat_eq world names) names change added master_too (used_filesystems nat_eq world names)
-        (own_lowers nat_eq world names) (ready_there world names is sealed_off) grows_there))
-        ∙ one_part world names is sealed_off change added [] master master_too grows known
-        ∙ ap (λ w. part_of nat_eq w names)
-        (without_new world names change added master (used_filesystems nat_eq world names)
-        (own_lowers nat_eq world names) (ready_here world names is sealed_off) grows)
+        (own_lowers nat_eq world names) (ready_there sealing) grows_there)) ∙ one_part sealing change added [] master
+        master_too grows known ∙ ap (λ w. part_of nat_eq w names) (without_new world names change added master
+        (used_filesystems nat_eq world names) (own_lowers nat_eq world names) (ready_here sealing) grows)
 
     swept_alike : part_of nat_eq (settled nat_eq left_there) names ≡ part_of nat_eq (settled nat_eq left_here) names
     swept_alike = settled_there ∙ ap (swept_of names) same_part ∙ sym settled_here
@@ -90,16 +87,15 @@ module _ (world : World ℕ) (names : List TaskName) (is : IsWorld nat_eq world)
     -- all mounts stay
     mounts_here : filter (mount_lives nat_eq left_here) left_here.mounts ≡ left_here.mounts
     mounts_here = all_live world names change added master (used_filesystems nat_eq world names)
-        (own_lowers nat_eq world names) (ready_here world names is sealed_off) grows
-        (among_from_list_all (λ (l : Location ℕ). is_among nat_eq l.mount (map (λ
-        (m : Mount ℕ). m.number) world.mounts)) (all_locations world) (locations_of_worlds_stand world is))
-        stays.one stays.stands stays.nowhere
+        (own_lowers nat_eq world names) (ready_here sealing) grows (among_from_list_all
+        (λ (l : Location ℕ). is_among nat_eq l.mount (map (λ (m : Mount ℕ). m.number) world.mounts))
+        (all_locations world) (locations_of_worlds_stand world sealing.is)) stays.one stays.stands stays.nowhere
 
     mounts_there : filter (mount_lives nat_eq left_there) left_there.mounts ≡ left_there.mounts
     mounts_there =
         all_live (part_of nat_eq world names) names change added master_too (used_filesystems nat_eq world names)
-        (own_lowers nat_eq world names) (ready_there world names is sealed_off) grows_there
-        (located_there world names is) stays_there.one stays_there.stands stays_there.nowhere
+        (own_lowers nat_eq world names) (ready_there sealing) grows_there (located_there world names sealing.is)
+        stays_there.one stays_there.stands stays_there.nowhere
 
     -- so groups of theirs keep their masters
     above_alike : (m : Mount ℕ) → Among m (settled nat_eq left_here).mounts
@@ -112,7 +108,7 @@ module _ (world : World ℕ) (names : List TaskName) (is : IsWorld nat_eq world)
 
         there : Among m left_there.mounts
         there = (among-from_filter (is_own_mount nat_eq left_there names) left_there.mounts m
-            (subst (Among m) (sym (own_alike world names is sealed_off change added [] master master_too grows known))
+            (subst (Among m) (sym (own_alike sealing change added [] master master_too grows known))
             (among-filter (is_own_mount nat_eq left_here names) left_here.mounts m here own))).0
 
         members_in : (w : World ℕ) → Stays w → filter (mount_lives nat_eq w) w.mounts ≡ w.mounts → Among m w.mounts
@@ -133,6 +129,6 @@ module _ (world : World ℕ) (names : List TaskName) (is : IsWorld nat_eq world)
         → part_of nat_eq (numbers_raised nat_eq world name [] (settled nat_eq left_here)) names
         ≡ part_of nat_eq (numbers_raised nat_eq (part_of nat_eq world names) name [] (settled nat_eq left_there)) names
     moved_alike name =
-        parts_left world names is sealed_off (settled nat_eq left_here).mounts (settled nat_eq left_there).mounts
+        parts_left sealing (settled nat_eq left_here).mounts (settled nat_eq left_there).mounts
         (settled nat_eq left_here).master (settled nat_eq left_there).master (settled nat_eq left_here).filesystems
         (settled nat_eq left_there).filesystems swept_alike above_alike name

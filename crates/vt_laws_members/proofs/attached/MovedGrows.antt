@@ -1,6 +1,6 @@
 -- A tree of theirs moves, with copies at receivers: it grows the world.
 use Rattle.std.proofs.Common.{arith, ◌≡◌, refl, sym, ap, subst, ◌∙◌, ◌⊎◌, inl, inr, ⊎_elim, ℕ, zero, suc, nat_eq, Bool, true, false, cond, true≢false, List, [], ◌∷◌, ◌++◌, Option, Some, None, append-nil, flat_map, length, map, eq-eqb, eqb-true}
-use Rattle.vt_spec.proofs.Common.{Among, Copies, Filesystem, IsWorld, Location, Mount, TaskName, World, among-filter, among-from_flat_map, children, common_steps, folded, is_among, is_own_mount, list_any, map_twice, masters_with, members, mount_at, mount_numbered, moved_tree, number-mount_in, part_of, rest_of, sealed, seen_by_descriptor, source_of, tree_from, used_directly, used_filesystems}
+use Rattle.vt_spec.proofs.Common.{Among, Copies, Filesystem, Location, Mount, TaskName, World, among-filter, among-from_flat_map, children, common_steps, folded, is_among, is_own_mount, list_any, map_twice, masters_with, members, mount_at, mount_numbered, moved_tree, number-mount_in, part_of, rest_of, seen_by_descriptor, source_of, tree_from, used_directly, used_filesystems}
 use Rattle.vt_laws_mounts.proofs.letting_go.mounting.Attached.{swapped_all, swapped}
 use Rattle.vt_laws_sealed.proofs.part.part.MountsOver.{numbered}
 use Rattle.vt_laws_sealed.proofs.part.part.PartOfPart.{is_own}
@@ -12,6 +12,7 @@ use Rattle.vt_laws_members.proofs.attached.Destination.{located_well}
 use Rattle.vt_laws_members.proofs.attached.GrownPart.{Grows, grown_world, own_how}
 use Rattle.vt_laws_members.proofs.attached.KnownMasters.{copy_known}
 use Rattle.vt_laws_members.proofs.attached.PushedUp.{copy, copy_of, other_stays, push_keeps, stub_stays}
+use Rattle.vt_laws_sealed.proofs.part.seals.ByPart.{IsSealed}
 
 -- a mount is as it was, or it is one of its number
 swapped_is : (copied : List (Mount ℕ)) (mount : Mount ℕ) → (swapped copied mount ≡ mount)
@@ -33,8 +34,8 @@ none_new world names n used = refl
 
 -- a tree of mounts of theirs that moves to a mount of theirs
 pub record MovesTheirs (world : World ℕ) (names : List TaskName) : Type 0 where
-  pub is : IsWorld nat_eq world
-  pub sealed_off : sealed nat_eq world names ≡ true
+  pub sealing : IsSealed world names
+  pub open sealing use {is, sealed_off}
   pub place : Location ℕ
   pub there : Among (mount_at nat_eq world place) world.mounts
   pub own : is_own world names (members world names) (mount_at nat_eq world place) ≡ true
@@ -55,8 +56,7 @@ module _ {world : World ℕ} {names : List TaskName} (moving : MovesTheirs world
 
   abbrev attaching : AttachesTheirs world names
   attaching = record {
-    is = moving.is;
-    sealed_off = moving.sealed_off;
+    sealing = moving.sealing;
     new_ones = [];
     unused = none_new world names;
     place = moving.place;
@@ -191,8 +191,8 @@ module _ {world : World ℕ} {names : List TaskName} (moving : MovesTheirs world
         → (part_of nat_eq world names).master g ≡ world.master g
     sources o m g e =
         let its = origin_mine o m in
-        master_same world names moving.is moving.sealed_off g (heard_by_own world names moving.is moving.sealed_off o
-        (among-filter (is_own_mount nat_eq world names) world.mounts o its.0 its.1) g e)
+        master_same moving.sealing g (heard_by_own moving.sealing o (among-filter (is_own_mount nat_eq world names)
+        world.mounts o its.0 its.1) g e)
 
     known_copy : (p o : Mount ℕ) → Among o origins → (g : ℕ) → source_of (copied p o).propagation ≡ Some g
         → (part_of nat_eq world names).master g ≡ world.master g
@@ -213,9 +213,8 @@ module _ {world : World ℕ} {names : List TaskName} (moving : MovesTheirs world
       where
         by : (x : Mount ℕ) → Among x world.mounts → owns x ≡ true → source_of (went x).propagation ≡ Some g
             → (part_of nat_eq world names).master g ≡ world.master g
-        by x n own_one s = ⊎_elim (λ same. master_same world names moving.is moving.sealed_off g
-            (heard_by_own world names moving.is moving.sealed_off x
-            (among-filter (is_own_mount nat_eq world names) world.mounts x n own_one) g
+        by x n own_one s = ⊎_elim (λ same. master_same moving.sealing g
+            (heard_by_own moving.sealing x (among-filter (is_own_mount nat_eq world names) world.mounts x n own_one) g
             (ap (λ (z : Mount ℕ). source_of z.propagation) (sym same) ∙ s)))
             (λ moves. known_copy destination x moves.0 g (ap (λ (z : Mount ℕ). source_of z.propagation) (sym moves.1)
             ∙ s)) (went_how x x n refl)

@@ -1,6 +1,7 @@
 -- Each mount(2) with MS_MOVE ends in the part as in the world.
-use Rattle.std.proofs.Common.{arith, ◌≡◌, refl, sym, ap, subst, ◌∙◌, ℕ, nat_eq, Bool, true, false, true≢false, List, [], Option, Some, None, Ok, Err, is_some, not, eqb-true, IfOk, is_ok}
-use Rattle.vt_spec.proofs.Common.{Among, Copies, Done, Fresh, IsWorld, Judgement, Location, Mount, MountInvariants, MoveMount, Permit, Serves, Task, TaskName, ToMove, World, admin_rules, among-filter, among-map, and_then, attach, attach_permit, attached_by, common_steps, copies_from, destination_walk, granted, holds_of, is_among_numbers, is_elsewhere, is_own_mount, judge_in, members, mount_at, mount_tree, move_permit, move_rules, moved_to, moved_tree, number-mount_in, numbers_raised, or_parts, overfills, own_lowers, part_of, policy, sealed, settled, source_walk, task_called, used_filesystems, walk_end}
+use Rattle.std.proofs.Common.{arith, ◌≡◌, refl, sym, ap, subst, ◌∙◌, ℕ, nat_eq, true, false, true≢false, List, [], Option, Some, None, Ok, Err, is_some, not, eqb-true, IfOk, is_ok}
+use Rattle.vt_spec.proofs.Common.{Among, Copies, Done, Fresh, Judgement, Location, Mount, MountInvariants, MoveMount, Permit, Serves, Task, TaskName, ToMove, World, admin_rules, among-filter, among-map, and_then, attach, attach_permit, attached_by, common_steps, copies_from, destination_walk, granted, holds_of, is_among_numbers, is_elsewhere, is_own_mount, judge_in, members, mount_at, mount_tree, move_permit, move_rules, moved_to, moved_tree, not-false, number-mount_in, numbers_raised, or_parts, overfills, own_lowers, part_of, policy, settled, source_walk, task_called, used_filesystems, walk_end}
+use Rattle.vt_laws_members.proofs.judging.TheirCalls.{IsMember, caller_in, sealing_of}
 use Rattle.vt_laws_mounts.specs.Mounts.Attaching.{is_mount, numbers_of}
 use Rattle.vt_laws_mounts.specs.Mounts.Moving.{CanMove}
 use Rattle.vt_laws_mounts.proofs.GroupsLiving.{all_live, tested_live}
@@ -20,7 +21,7 @@ use Rattle.vt_laws_members.proofs.changes.letting_go.Moving.{StandsHere, one}
 use Rattle.vt_laws_members.proofs.changes.letting_go.PartMounts.{part_mounts}
 use Rattle.vt_laws_members.proofs.changes.letting_go.Umounting.{of_passed}
 use Rattle.vt_laws_members.proofs.changes.looks.Granted.{of_rules, of_walk}
-use Rattle.vt_laws_members.proofs.changes.looks.Told.{member_called, ran, same_caller}
+use Rattle.vt_laws_members.proofs.changes.looks.Told.{ran, same_caller}
 use Rattle.vt_laws_members.proofs.changes.tasks.Denied.{denial_ends_alike, ran_there, run_by, unnamed_ends_alike}
 use Rattle.vt_laws_members.specs.Attached.Attaching.{MovesEndAlike}
 use Rattle.vt_laws_members.proofs.attached.CopiesAlike.{AttachesTheirs, attached_there, base_part, no_new_ones, parts, parts_alike}
@@ -41,52 +42,41 @@ pub record MovesTo (world : World ℕ) (names : List TaskName) (from here : Loca
   pub can : CanMove world from here
 
 -- What a granted move moves
-module _ (world : World ℕ) (names : List TaskName) (is : IsWorld nat_eq world)
-    (sealed_off : sealed nat_eq world names ≡ true) (task : Task ℕ) (member : Among task (members world names)) where
+module _ {world : World ℕ} {names : List TaskName} {task : Task ℕ} (member : IsMember world names task) where
   abbrev pub Moves : Permit ℕ → Type 0
   Moves permit =
       (from : Location ℕ) × (here : Location ℕ) × (permit ≡ ToMove from.mount here) × MovesTo world names from here
 
-  is_so : (b : Bool) → not b ≡ false → b ≡ true
-  is_so true e = refl
-  is_so false e = sym e
-
   in_it : (n : ℕ) (o : Option ℕ) → not (holds_of (nat_eq n) o) ≡ false → o ≡ Some n
   in_it n None e = absurd (true≢false e)
-  in_it n (Some k) e = ap Some (sym (eqb-true n k (is_so (nat_eq n k) e)))
+  in_it n (Some k) e = ap Some (sym (eqb-true n k (not-false (nat_eq n k) e)))
 
   pub moves_there : (fresh : Fresh ℕ) (source path : List ℕ) → IfOk
-      (move_permit nat_eq (one world names is sealed_off task member) (overfills nat_eq fresh world task) task source
-      path) Moves
+      (move_permit nat_eq (one member) (overfills nat_eq fresh world task) task source path) Moves
   unfolding move_permit
   moves_there fresh source path = of_rules Moves (admin_rules task) _
-      (of_walk (StandsHere world names is sealed_off task member) Moves
-      (source_walk nat_eq (one world names is sealed_off task member) task source)
-      (λ from. and_then (walk_end (destination_walk nat_eq (one world names is sealed_off task member) task path))
-      (λ here. attach_permit
-      (move_rules nat_eq (one world names is sealed_off task member) task from.location here.location)
-      (overfills nat_eq fresh world task) (ToMove from.location.mount here.location)))
-      (at_source world names is sealed_off task member source) (λ from at.
-      of_walk (StandsHere world names is sealed_off task member) Moves
-      (destination_walk nat_eq (one world names is sealed_off task member) task path) (λ here. attach_permit
-      (move_rules nat_eq (one world names is sealed_off task member) task from.location here.location)
-      (overfills nat_eq fresh world task) (ToMove from.location.mount here.location))
-      (at_destination world names is sealed_off task member path) (λ here on. of_passed Moves
-      (move_rules nat_eq (one world names is sealed_off task member) task from.location here.location
+      (of_walk (StandsHere member) Moves (source_walk nat_eq (one member) task source)
+      (λ from. and_then (walk_end (destination_walk nat_eq (one member) task path))
+      (λ here. attach_permit (move_rules nat_eq (one member) task from.location here.location)
+      (overfills nat_eq fresh world task) (ToMove from.location.mount here.location))) (at_source member source)
+      (λ from at. of_walk (StandsHere member) Moves (destination_walk nat_eq (one member) task path)
+      (λ here. attach_permit (move_rules nat_eq (one member) task from.location here.location)
+      (overfills nat_eq fresh world task) (ToMove from.location.mount here.location)) (at_destination member path)
+      (λ here on. of_passed Moves (move_rules nat_eq (one member) task from.location here.location
       (overfills nat_eq fresh world task (ToMove from.location.mount here.location)))
       (Ok (ToMove from.location.mount here.location)) (λ passed.
-      let both = or_parts (is_elsewhere nat_eq (one world names is sealed_off task member) task from.location)
-      (is_elsewhere nat_eq (one world names is sealed_off task member) task here.location) passed.0 in (
+      let both = or_parts (is_elsewhere nat_eq (one member) task from.location)
+      (is_elsewhere nat_eq (one member) task here.location) passed.0 in (
         from.location,
         here.location,
         refl,
         record {
           from_on = at;
-          from_own = owned world names is sealed_off task member from.location both.0;
+          from_own = owned member from.location both.0;
           on = on;
-          own = owned world names is sealed_off task member here.location both.1;
+          own = owned member here.location both.1;
           can = record {
-            placed = is_so (is_some (mount_at nat_eq world from.location).mount_point) passed.1.1.1.1.1.1.0;
+            placed = not-false (is_some (mount_at nat_eq world from.location).mount_point) passed.1.1.1.1.1.1.0;
             one_namespace = in_it task.namespace (mount_at nat_eq world here.location).namespace both.1
                 ∙ sym (in_it task.namespace (mount_at nat_eq world from.location).namespace both.0);
             outside = passed.1.1.1.0;
@@ -132,8 +122,7 @@ module _ {world : World ℕ} {names : List TaskName} {name : TaskName} {source p
 
   abbrev attaching : AttachesTheirs world names
   attaching = record {
-    is = it.is;
-    sealed_off = it.sealed_off;
+    sealing = sealing_of it;
     new_ones = [];
     unused = none_new world names;
     place = here;
@@ -146,8 +135,7 @@ module _ {world : World ℕ} {names : List TaskName} {name : TaskName} {source p
 
   abbrev moving : MovesTheirs world names
   moving = record {
-    is = it.is;
-    sealed_off = it.sealed_off;
+    sealing = sealing_of it;
     place = here;
     there = here_there;
     own = to.own;
@@ -176,12 +164,12 @@ module _ {world : World ℕ} {names : List TaskName} {name : TaskName} {source p
   now_there = moved_to nat_eq fresh part from.mount here
 
   abbrev left : World ℕ
-  left = left_here world names it.is it.sealed_off change added (with_made world.master) (with_made part.master) grows
+  left = left_here (sealing_of it) change added (with_made world.master) (with_made part.master) grows
       (moved_known moving (λ a b. group_new world names it.is fresh serves _))
 
   abbrev left_too : World ℕ
   left_too =
-      left_there world names it.is it.sealed_off change added (with_made world.master) (with_made part.master) grows
+      left_there (sealing_of it) change added (with_made world.master) (with_made part.master) grows
       (moved_known moving (λ a b. group_new world names it.is fresh serves _))
 
   abbrev attached_to : List (Mount ℕ) → World ℕ → World ℕ
@@ -190,7 +178,7 @@ module _ {world : World ℕ} {names : List TaskName} {name : TaskName} {source p
   now_so : now ≡ left
   now_so = ap (attached_to origins) (no_new_ones world) ∙ moved_as moving world
       ∙ without_new world names change added (with_made world.master) (used_filesystems nat_eq world names)
-      (own_lowers nat_eq world names) (ready_here world names it.is it.sealed_off) grows
+      (own_lowers nat_eq world names) (ready_here (sealing_of it)) grows
 
   same_tree : moved_tree nat_eq part from.mount ≡ origins
   same_tree = ap (mount_tree nat_eq part.mounts) (same_mount world names it.is.mounts from.mount from_theirs)
@@ -202,9 +190,9 @@ module _ {world : World ℕ} {names : List TaskName} {name : TaskName} {source p
       ∙ ap (λ l. attached_by nat_eq (base_part attaching) (copies_from nat_eq fresh l origins) here true origins)
       (parts_alike attaching) ∙ attached_there attaching new true origins ∙ moved_as moving part
       ∙ without_new part names change added (with_made part.master) (used_filesystems nat_eq world names)
-      (own_lowers nat_eq world names) (ready_there world names it.is it.sealed_off)
-      (grows_there world names it.is it.sealed_off change added (with_made world.master) (with_made part.master) grows
-      (moved_known moving (λ a b. group_new world names it.is fresh serves _)))
+      (own_lowers nat_eq world names) (ready_there (sealing_of it)) (grows_there (sealing_of it) change added
+      (with_made world.master) (with_made part.master) grows (moved_known moving
+      (λ a b. group_new world names it.is fresh serves _)))
 
   -- what moves exists, in both
   is_there : is_mount world from.mount ≡ true
@@ -216,9 +204,8 @@ module _ {world : World ℕ} {names : List TaskName} {name : TaskName} {source p
   is_there_too = subst (λ n. is_mount part n ≡ true) (number-mount_in world.mounts from.mount)
       (is_among_numbers (numbers_of part.mounts) (mount_at nat_eq world from).number
       (among-map (λ (m : Mount ℕ). m.number) part.mounts (mount_at nat_eq world from)
-      (own_in_part world names it.is it.sealed_off (mount_at nat_eq world from)
-      (among-filter (is_own_mount nat_eq world names) world.mounts (mount_at nat_eq world from) from_there
-      to.from_own))))
+      (own_in_part (sealing_of it) (mount_at nat_eq world from) (among-filter (is_own_mount nat_eq world names)
+      world.mounts (mount_at nat_eq world from) from_there to.from_own))))
 
   can_there : CanMove part from here
   can_there = grind (arith, common_steps, placed, same_mount, from_theirs, here_theirs, same_tree)
@@ -229,15 +216,15 @@ module _ {world : World ℕ} {names : List TaskName} {name : TaskName} {source p
 
   stays_too : Stays left_too
   stays_too = subst Stays there_so (moves_stay part fresh from here (serves_there world names fresh serves)
-      (part_mounts world names it.is it.sealed_off) can_there
-      (placed_there world names it.is it.sealed_off here here_theirs to.own) is_there_too)
+      (part_mounts (sealing_of it)) can_there (placed_there world names it.is it.sealed_off here here_theirs to.own)
+      is_there_too)
 
   parts_same : part_of nat_eq (numbers_raised nat_eq world name [] (settled nat_eq now)) names
       ≡ part_of nat_eq (numbers_raised nat_eq part name [] (settled nat_eq now_there)) names
   parts_same = ap (λ w. part_of nat_eq (numbers_raised nat_eq world name [] (settled nat_eq w)) names) now_so
-      ∙ moved_alike world names it.is it.sealed_off change added (with_made world.master) (with_made part.master) grows
-      (moved_known moving (λ a b. group_new world names it.is fresh serves _)) stays stays_too name
-      ∙ sym (ap (λ w. part_of nat_eq (numbers_raised nat_eq part name [] (settled nat_eq w)) names) there_so)
+      ∙ moved_alike (sealing_of it) change added (with_made world.master) (with_made part.master) grows
+      (moved_known moving (λ a b. group_new world names it.is fresh serves _)) stays stays_too name ∙ sym
+      (ap (λ w. part_of nat_eq (numbers_raised nat_eq part name [] (settled nat_eq w)) names) there_so)
 
   first : policy nat_eq fresh world name (MoveMount source path)
       ≡ granted Done (numbers_raised nat_eq world name [] (settled nat_eq now))
@@ -246,8 +233,7 @@ module _ {world : World ℕ} {names : List TaskName} {name : TaskName} {source p
   second : policy nat_eq fresh part name (MoveMount source path)
       ≡ granted Done (numbers_raised nat_eq part name [] (settled nat_eq now_there))
   second = ap (ran name (MoveMount source path) part fresh)
-      (same_caller world names it.is it.sealed_off name it.theirs ∙ called)
-      ∙ ran_there it fresh fresh task called judged
+      (same_caller (sealing_of it) name it.theirs ∙ called) ∙ ran_there it fresh fresh task called judged
 
   move_ends : EndsAlike world names name (MoveMount source path) fresh fresh
   move_ends = subst (λ p. EndAlike
@@ -260,9 +246,9 @@ module _ {world : World ℕ} {names : List TaskName} {name : TaskName} {source p
 pub moves_end_alike : MovesEndAlike
 moves_end_alike world names name source path it fresh serves = by (task_called world name) refl
   where
-    judged_by : (task : Task ℕ) (member : Among task (members world names)) → task_called world name ≡ Some task
+    judged_by : (task : Task ℕ) (member : IsMember world names task) → task_called world name ≡ Some task
         → (j : Judgement ℕ) → judge_in nat_eq fresh world task (MoveMount source path) ≡ j
-        → IfOk j (Moves world names it.is it.sealed_off task member)
+        → IfOk j (Moves member)
         → EndsAlike world names name (MoveMount source path) fresh fresh
     judged_by task member e (Ok permit) judged its =
         move_ends it task e fresh serves its.0 its.1 its.3 (judged ∙ ap Ok its.2)
@@ -274,6 +260,6 @@ moves_end_alike world names name source path it fresh serves = by (task_called w
         → EndsAlike world names name (MoveMount source path) fresh fresh
     by None e = unnamed_ends_alike it fresh fresh e
     by (Some task) e =
-        let member = member_called world names it.is it.sealed_off name it.theirs task e in
+        let member = caller_in it e in
         judged_by task member e (judge_in nat_eq fresh world task (MoveMount source path)) refl
-        (moves_there world names it.is it.sealed_off task member fresh source path)
+        (moves_there member fresh source path)

@@ -1,6 +1,7 @@
 -- Each mount(2) of a new plain filesystem ends in the part as in the world.
 use Rattle.std.proofs.Common.{◌≡◌, refl, sym, ap, subst, ◌∙◌, inl, inr, ⊎_elim, ℕ, nat_eq, true, false, List, [], ◌∷◌, Option, Some, None, Ok, Err, ◌||◌, eq-eqb, IfOk, is_ok}
-use Rattle.vt_spec.proofs.Common.{Among, Copies, Done, Filesystem, Fresh, IsWorld, Judgement, Location, Mount, MountFlags, MountPlain, Permit, Serves, Task, TaskName, ToMountPlain, World, admin_rules, attach_permit, attached_by, copies_from, destination_walk, granted, is_among, judge_in, layers_of, list_any, members, mount_at, mount_plain_permit, mounted, new_mount, new_mount_rules, none_is_some, numbers_raised, odds, of_overlay, overfills, part_of, plain_filesystem, policy, sealed, source_of, task_called, used_filesystems}
+use Rattle.vt_spec.proofs.Common.{Among, Copies, Done, Filesystem, Fresh, Judgement, Location, Mount, MountFlags, MountPlain, Permit, Serves, Task, TaskName, ToMountPlain, World, admin_rules, attach_permit, attached_by, copies_from, destination_walk, granted, is_among, judge_in, layers_of, list_any, members, mount_at, mount_plain_permit, mounted, new_mount, new_mount_rules, none_is_some, numbers_raised, odds, of_overlay, overfills, part_of, plain_filesystem, policy, source_of, task_called, used_filesystems}
+use Rattle.vt_laws_members.proofs.judging.TheirCalls.{IsMember, caller_in, sealing_of}
 use Rattle.vt_laws_mounts.proofs.letting_go.mounting.AttachedSwept.{new_mounts_of_trees_keep_all}
 use Rattle.vt_laws_mounts.proofs.letting_go.sweeps.OfWorlds.{all_in_use, locations_of_worlds_stand, mounts_of_worlds_stand}
 use Rattle.vt_laws_sealed.proofs.part.part.PartOfPart.{is_own}
@@ -11,7 +12,7 @@ use Rattle.vt_laws_members.specs.Changes.Changes.{EndAlike, EndsAlike, IsCallOfT
 use Rattle.vt_laws_members.proofs.changes.letting_go.Moving.{StandsHere, one}
 use Rattle.vt_laws_members.proofs.changes.letting_go.Umounting.{of_passed}
 use Rattle.vt_laws_members.proofs.changes.looks.Granted.{of_rules, of_walk}
-use Rattle.vt_laws_members.proofs.changes.looks.Told.{member_called, ran, same_caller}
+use Rattle.vt_laws_members.proofs.changes.looks.Told.{ran, same_caller}
 use Rattle.vt_laws_members.proofs.changes.part.SettledPart.{part_in_use}
 use Rattle.vt_laws_members.proofs.changes.tasks.Denied.{denial_ends_alike, ran_there, run_by, unnamed_ends_alike}
 use Rattle.vt_laws_members.specs.Attached.Attaching.{PlainMountsEndAlike}
@@ -22,26 +23,22 @@ use Rattle.vt_laws_members.proofs.attached.PushedUp.{ShowTheirs}
 use Rattle.vt_laws_members.proofs.attached.Unused.{filesystem_unlike, group_new, used_unlike}
 
 -- What a granted mount of a plain filesystem attaches
-module _ (world : World ℕ) (names : List TaskName) (is : IsWorld nat_eq world)
-    (sealed_off : sealed nat_eq world names ≡ true) (task : Task ℕ) (member : Among task (members world names))
+module _ {world : World ℕ} {names : List TaskName} {task : Task ℕ} (member : IsMember world names task)
     (flags : MountFlags) where
   abbrev pub Mounts : Permit ℕ → Type 0
   Mounts permit = (here : Location ℕ) × (permit ≡ ToMountPlain here flags) × (is_theirs world names here.mount ≡ true)
       × (is_own world names (members world names) (mount_at nat_eq world here) ≡ true)
 
   pub mounts_there : (fresh : Fresh ℕ) (path : List ℕ) → IfOk
-      (mount_plain_permit nat_eq (one world names is sealed_off task member)
-      (overfills nat_eq fresh world task) task path flags) Mounts
+      (mount_plain_permit nat_eq (one member) (overfills nat_eq fresh world task) task path flags) Mounts
   unfolding mount_plain_permit
   mounts_there fresh path = of_rules Mounts (admin_rules task) _
-      (of_walk (StandsHere world names is sealed_off task member) Mounts
-      (destination_walk nat_eq (one world names is sealed_off task member) task path)
-      (λ here. attach_permit (new_mount_rules nat_eq (one world names is sealed_off task member) task here.location)
-      (overfills nat_eq fresh world task) (ToMountPlain here.location flags))
-      (at_destination world names is sealed_off task member path) (λ here on. of_passed Mounts
-      (new_mount_rules nat_eq (one world names is sealed_off task member) task here.location
+      (of_walk (StandsHere member) Mounts (destination_walk nat_eq (one member) task path)
+      (λ here. attach_permit (new_mount_rules nat_eq (one member) task here.location)
+      (overfills nat_eq fresh world task) (ToMountPlain here.location flags)) (at_destination member path)
+      (λ here on. of_passed Mounts (new_mount_rules nat_eq (one member) task here.location
       (overfills nat_eq fresh world task (ToMountPlain here.location flags))) (Ok (ToMountPlain here.location flags))
-      (λ passed. (here.location, refl, on, owned world names is sealed_off task member here.location passed.0))))
+      (λ passed. (here.location, refl, on, owned member here.location passed.0))))
 
 -- A granted mount of a plain filesystem
 module _ {world : World ℕ} {names : List TaskName} {name : TaskName} {path : List ℕ} {flags : MountFlags}
@@ -71,8 +68,7 @@ module _ {world : World ℕ} {names : List TaskName} {name : TaskName} {path : L
 
   abbrev attaching : AttachesTheirs world names
   attaching = record {
-    is = it.is;
-    sealed_off = it.sealed_off;
+    sealing = sealing_of it;
     new_ones = new_one ∷ [];
     unused = unused;
     place = here;
@@ -122,12 +118,10 @@ module _ {world : World ℕ} {names : List TaskName} {name : TaskName} {path : L
   second : policy nat_eq fresh part name (MountPlain path flags)
       ≡ granted Done (numbers_raised nat_eq part name [] now_there)
   second = ap (ran name (MountPlain path flags) part fresh)
-      (same_caller world names it.is it.sealed_off name it.theirs ∙ called)
-      ∙ ran_there it fresh fresh task called judged
-      ∙ ap (λ w. granted Done (numbers_raised nat_eq part name [] w))
-      (new_mounts_of_trees_keep_all fresh part task here flags (part_in_use world names it.is it.sealed_off)
-      (mounts_stand_there world names it.is it.sealed_off) (locations_stand_there world names it.is)
-      (placed_there world names it.is it.sealed_off here theirs own))
+      (same_caller (sealing_of it) name it.theirs ∙ called) ∙ ran_there it fresh fresh task called judged ∙ ap
+      (λ w. granted Done (numbers_raised nat_eq part name [] w)) (new_mounts_of_trees_keep_all fresh part task here
+      flags (part_in_use (sealing_of it)) (mounts_stand_there world names it.is it.sealed_off)
+      (locations_stand_there world names it.is) (placed_there world names it.is it.sealed_off here theirs own))
 
   -- the numbers are handed out to the same parts
   same_numbers : now_there ≡ attached_by nat_eq
@@ -151,9 +145,9 @@ module _ {world : World ℕ} {names : List TaskName} {name : TaskName} {path : L
 pub plain_mounts_end_alike : PlainMountsEndAlike
 plain_mounts_end_alike world names name path flags it fresh serves = by (task_called world name) refl
   where
-    judged_by : (task : Task ℕ) (member : Among task (members world names)) → task_called world name ≡ Some task
+    judged_by : (task : Task ℕ) (member : IsMember world names task) → task_called world name ≡ Some task
         → (j : Judgement ℕ) → judge_in nat_eq fresh world task (MountPlain path flags) ≡ j
-        → IfOk j (Mounts world names it.is it.sealed_off task member flags)
+        → IfOk j (Mounts member flags)
         → EndsAlike world names name (MountPlain path flags) fresh fresh
     judged_by task member e (Ok permit) judged its =
         mount_alike it task e fresh serves its.0 its.2 its.3 (judged ∙ ap Ok its.1)
@@ -165,6 +159,6 @@ plain_mounts_end_alike world names name path flags it fresh serves = by (task_ca
         → EndsAlike world names name (MountPlain path flags) fresh fresh
     by None e = unnamed_ends_alike it fresh fresh e
     by (Some task) e =
-        let member = member_called world names it.is it.sealed_off name it.theirs task e in
+        let member = caller_in it e in
         judged_by task member e (judge_in nat_eq fresh world task (MountPlain path flags)) refl
-        (mounts_there world names it.is it.sealed_off task member flags fresh path)
+        (mounts_there member flags fresh path)

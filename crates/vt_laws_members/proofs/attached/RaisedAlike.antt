@@ -1,7 +1,7 @@
 -- Where a set sees the same after a change of mounts, masters and filesystems in the world and in its part, the worlds
 -- that are left have one part, with their change numbers.
 use Rattle.std.proofs.Common.{arith, ◌≡◌, refl, sym, ap, ◌∙◌, ⊎_elim, ℕ, nat_eq, Bool, true, cond, true≢false, List, [], ◌∷◌, Option, Some, None, filter, map, ◌&&◌, eqb-true}
-use Rattle.vt_spec.proofs.Common.{Among, Filesystem, IsWorld, Mount, Namespace, Task, TaskName, World, among-filter, among-from_filter, common_steps, holds_of, is_at, is_member_task, is_own_mount, list_any, locations_of, map_alike, map_same, master_above, members, mounts_of, numbers_raised, or_left, own_mounts, part_of, raised, raised_if_changed, raised_namespace, raised_task, roots_and_directories, same_flags, same_list, same_location, same_mount, same_mounts_in, same_option, same_propagation, sealed, source_of, then_some}
+use Rattle.vt_spec.proofs.Common.{Among, Filesystem, Mount, Namespace, Task, TaskName, World, among-filter, among-from_filter, common_steps, holds_of, is_at, is_member_task, is_own_mount, list_any, locations_of, map_alike, map_same, master_above, members, mounts_of, numbers_raised, or_left, own_mounts, part_of, raised, raised_if_changed, raised_namespace, raised_task, roots_and_directories, same_flags, same_list, same_location, same_mount, same_mounts_in, same_option, same_propagation, source_of, then_some}
 use Rattle.vt_laws_mounts.proofs.letting_go.Lists.{filter-map}
 use Rattle.vt_laws_sealed.proofs.part.Kept.{filter_again, filter_both}
 use Rattle.vt_laws_sealed.proofs.part.part.PartOfPart.{is_own, keep, kept_how, kept_whole, same_members}
@@ -10,6 +10,7 @@ use Rattle.vt_laws_members.proofs.changes.letting_go.Heard.{heard_by_own, master
 use Rattle.vt_laws_members.proofs.changes.files.FilesRaised.{raised_is}
 use Rattle.vt_laws_members.proofs.changes.tasks.Retasked.{retasked}
 use Rattle.vt_laws_members.proofs.changes.tasks.Rights.{sees_alike}
+use Rattle.vt_laws_sealed.proofs.part.seals.ByPart.{IsSealed}
 
 -- the namespaces of these tasks
 abbrev pub spaces : List (Task ℕ) → Namespace ℕ → Bool
@@ -64,18 +65,17 @@ shown_in w names n own = filter_both (keep w names theirs) (its_in n) (its_in n)
     its m = grind (arith, common_steps, true≢false, eqb-true)
 
 -- masters of groups of theirs, in the part
-pub above_in_part : (world : World ℕ) (names : List TaskName) (is : IsWorld nat_eq world)
-    (sealed_off : sealed nat_eq world names ≡ true) (m : Mount ℕ) → Among m (own_mounts nat_eq world names)
-    → master_above (part_of nat_eq world names) m ≡ master_above world m
-above_in_part world names is sealed_off m n = by (source_of m.propagation) refl
-  where
-    by : (o : Option ℕ) → source_of m.propagation ≡ o
-        → then_some o (part_of nat_eq world names).master ≡ then_some o world.master
-    by None e = refl
-    by (Some g) e = master_same world names is sealed_off g (heard_by_own world names is sealed_off m n g e)
+module _ {world : World ℕ} {names : List TaskName} (sealing : IsSealed world names) where
+  pub above_in_part : (m : Mount ℕ) → Among m (own_mounts nat_eq world names)
+      → master_above (part_of nat_eq world names) m ≡ master_above world m
+  above_in_part m n = by (source_of m.propagation) refl
+    where
+      by : (o : Option ℕ) → source_of m.propagation ≡ o
+          → then_some o (part_of nat_eq world names).master ≡ then_some o world.master
+      by None e = refl
+      by (Some g) e = master_same sealing g (heard_by_own sealing m n g e)
 
-module _ (world : World ℕ) (names : List TaskName) (is : IsWorld nat_eq world)
-    (sealed_off : sealed nat_eq world names ≡ true) (mounts mounts_too : List (Mount ℕ))
+module _ {world : World ℕ} {names : List TaskName} (sealing : IsSealed world names) (mounts mounts_too : List (Mount ℕ))
     (master master_too : ℕ → Option ℕ) (filesystems filesystems_too : List (Filesystem ℕ)) where
   abbrev part : World ℕ
   part = part_of nat_eq world names
@@ -100,15 +100,13 @@ module _ (world : World ℕ) (names : List TaskName) (is : IsWorld nat_eq world)
       -- the mounts of a namespace of theirs changed in both, or in none
       spaces_alike : same_mounts_in nat_eq part later_part n ≡ same_mounts_in nat_eq world later n
       spaces_alike = ap (λ l. same_list (same_mount nat_eq part later_part) l (mounts_of nat_eq later_part n))
-          (space_in_part world names is sealed_off n space)
-          ∙ ap (same_list (same_mount nat_eq part later_part) (mounts_of nat_eq world n)) later_alike
-          ∙ same_list_alike (same_mount nat_eq part later_part) (same_mount nat_eq world later)
-          (mounts_of nat_eq world n) (mounts_of nat_eq later n) (λ x y m l.
+          (space_in_part sealing n space) ∙ ap (same_list (same_mount nat_eq part later_part)
+          (mounts_of nat_eq world n)) later_alike ∙ same_list_alike (same_mount nat_eq part later_part)
+          (same_mount nat_eq world later) (mounts_of nat_eq world n) (mounts_of nat_eq later n) (λ x y m l.
           let first = among-from_filter (its_in n) world.mounts x m in
           let second = among-from_filter (its_in n) mounts y l in
-          compared x y (above_in_part world names is sealed_off x (among-filter (is_own_mount nat_eq world names) world.mounts x first.0
-          (own_in world names is sealed_off n space x first.1)))
-          (masters y second.0 (own_in world names is sealed_off n space y second.1)))
+          compared x y (above_in_part sealing x (among-filter (is_own_mount nat_eq world names) world.mounts x first.0
+          (own_in sealing n space x first.1))) (masters y second.0 (own_in sealing n space y second.1)))
         where
           same_ones : Mount ℕ → Mount ℕ → Bool
           same_ones x y = nat_eq x.number y.number && same_option (same_location nat_eq) x.mount_point y.mount_point

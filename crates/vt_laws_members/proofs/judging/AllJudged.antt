@@ -1,8 +1,10 @@
 -- Calls of members are judged in their part as in the world.
 use Rattle.std.proofs.Common.{arith, ◌≡◌, refl, sym, ap, subst, ◌∙◌, inr, ℕ, nat_eq, Bool, true, false, cond, true≢false, List, [], ◌∷◌, filter, find, Option, Some, None, Ok, not, length, ◌&&◌, ◌||◌, ◌+◌, nat_lt, ok_or, option_to_list}
-use Rattle.vt_spec.proofs.Common.{Among, Bind, Call, Chdir, Chmod, Chown, Chroot, Close, Descriptor, Drop, Exec, Exit, Filesystem, Fork, IsWorld, Judgement, Lazy, LinkTo, ListMounts, Location, Looks, Ls, Lstat, MakeWhiteout, Mkdir, Mount, MountOverlay, MountPlain, MoveMount, Opaque, OpenFile, Permit, PivotRoot, Pread, Pwrite, Read, Readlink, Remount, Rename, Rmdir, SetType, Setns, Stat, SymlinkAt, Task, TaskName, ToWritePart, Umask, Umount, Unlink, Unshare, World, Write, among-append_left, among-append_right, among-flat_map, among-map, among_from_contains, and_then, common_steps, contains_from_among, denial, descriptor_numbered, found_among, holds_of, is_among, is_busy, is_elsewhere, is_empty, is_locked_at, is_member_task, is_removed, judge, largest_file, live_layers, live_upper_and_work, locations, locations_of, looks_of, members, mount_at, mount_tree, number-mount_in, of_overlay, overlaps_one_of, overlay_rules, part_of, pwrite_permit, pwrite_rules, same_name, same_task_name, sealed, setns_permit, unless, upper_and_work, used_filesystems}
+use Rattle.vt_spec.proofs.Common.{Among, Bind, Call, Chdir, Chmod, Chown, Chroot, Close, Descriptor, Drop, Exec, Exit, Filesystem, Fork, Judgement, Lazy, LinkTo, ListMounts, Location, Looks, Ls, Lstat, MakeWhiteout, Mkdir, Mount, MountOverlay, MountPlain, MoveMount, Opaque, OpenFile, Permit, PivotRoot, Pread, Pwrite, Read, Readlink, Remount, Rename, Rmdir, SetType, Setns, Stat, SymlinkAt, Task, TaskName, ToWritePart, Umask, Umount, Unlink, Unshare, World, Write, among-append_left, among-append_right, among-flat_map, among-map, among_from_contains, and_then, common_steps, contains_from_among, denial, descriptor_numbered, found_among, holds_of, is_among, is_busy, is_elsewhere, is_empty, is_locked_at, is_member_task, is_removed, judge, largest_file, live_layers, live_upper_and_work, locations, locations_of, looks_of, members, mount_at, mount_tree, number-mount_in, of_overlay, overlaps_one_of, overlay_rules, part_of, pwrite_permit, pwrite_rules, same_name, same_task_name, setns_permit, unless, upper_and_work, used_filesystems}
 use Rattle.vt_spec.specs.declared.errors.Rule.TheVariants.{E6, L1, S4}
+use Rattle.vt_laws_members.proofs.judging.TheirCalls.{IsMember, a_member}
 use Rattle.vt_laws_sealed.proofs.part.part.PartOfPart.{is_own, located}
+use Rattle.vt_laws_sealed.proofs.part.seals.ByPart.{sealed_by}
 use Rattle.vt_laws_sealed.proofs.part.walks.WalksAgree.{Alike, each_from}
 use Rattle.vt_laws_members.specs.Judging.{MembersAreJudgedAlike, is_theirs}
 use Rattle.vt_laws_members.proofs.judging.Busy.{busy_alike}
@@ -44,8 +46,7 @@ called_alike names name theirs (task ∷ rest) =
     by false true e f later = cc (e, later)
     by false false e f later = later
 
-module _ (world : World ℕ) (names : List TaskName) (is : IsWorld nat_eq world)
-    (sealed_off : sealed nat_eq world names ≡ true) (task : Task ℕ) (member : Among task (members world names)) where
+module _ {world : World ℕ} {names : List TaskName} {task : Task ℕ} (member : IsMember world names task) where
   abbrev part : World ℕ
   part = part_of nat_eq world names
 
@@ -61,34 +62,36 @@ module _ (world : World ℕ) (names : List TaskName) (is : IsWorld nat_eq world)
   abbrev uses : ℕ → Bool
   uses number = is_among nat_eq number (used_filesystems nat_eq world names)
 
-  on : (here : Location ℕ) → own here.mount ≡ true → OnTheirs world names is here
-  on here e = theirs_from world names is.mounts here.mount e
+  on : (here : Location ℕ) → own here.mount ≡ true → OnTheirs world names member.is here
+  on here e = theirs_from world names member.is.mounts here.mount e
 
   locked_here : (here : Location ℕ) → uses (mount_at nat_eq world here).filesystem ≡ true
       → (mount_at nat_eq world here).filesystem ≡ (mount_at nat_eq part here).filesystem
       → is_locked_at nat_eq world here ≡ is_locked_at nat_eq part here
   locked_here here used same =
-      cc (locked_alike world names is sealed_off (mount_at nat_eq world here).filesystem used here.node, same)
+      cc (locked_alike member.sealing (mount_at nat_eq world here).filesystem used here.node, same)
 
   rules : RulesSeeAlike one other own uses
   rules = record {
-    mount = λ number e. sym (same_mount world names is.mounts number (theirs_from world names is.mounts number e));
-    over = λ here e. sym (over_alike world names is.mounts here (on here e));
+    mount = λ number e. sym (same_mount world names member.is.mounts number
+        (theirs_from world names member.is.mounts number e));
+    over = λ here e. sym (over_alike world names member.is.mounts here (on here e));
     node = λ here e. ap (λ (f : Filesystem ℕ). f.files.tree.node here.node)
-        (filesystem_alike world names is here (on here e));
+        (filesystem_alike world names member.is here (on here e));
     removed = λ here e. ap (λ (f : Filesystem ℕ). is_removed nat_eq f.files.tree here.node)
-        (filesystem_alike world names is here (on here e));
-    under = λ filesystem top directory used. under_alike world names is filesystem used top directory;
-    overlay = λ here e. ap (λ (f : Filesystem ℕ). f.overlay) (filesystem_alike world names is here (on here e));
+        (filesystem_alike world names member.is here (on here e));
+    under = λ filesystem top directory used. under_alike world names member.is filesystem used top directory;
+    overlay = λ here e. ap (λ (f : Filesystem ℕ). f.overlay) (filesystem_alike world names member.is here (on here e));
     mounter = λ here change e. ap (λ (f : Filesystem ℕ). of_overlay [] (overlay_rules nat_eq f change) f)
-        (filesystem_alike world names is here (on here e));
-    locked = λ here e. locked_here here (theirs_used world names is here (on here e))
-        (ap (λ (m : Mount ℕ). m.filesystem) (mount_alike world names is here (on here e)));
+        (filesystem_alike world names member.is here (on here e));
+    locked = λ here e. locked_here here (theirs_used world names member.is here (on here e))
+        (ap (λ (m : Mount ℕ). m.filesystem) (mount_alike world names member.is here (on here e)));
   }
 
   pub walks : Alike one other task (λ number. own number ≡ true)
   walks =
-      let alike = members_see_alike world names task is (contains_from_among (members world names) task member) in
+      let alike = members_see_alike world names task member.is (contains_from_among (members world names) task
+      member.among) in
       record {
         root = alike.root;
         node = alike.node;
@@ -104,10 +107,11 @@ module _ (world : World ℕ) (names : List TaskName) (is : IsWorld nat_eq world)
   pub judges : JudgesAlike one other task own uses
   judges = record {
     walks = walks;
-    directory = theirs_test world names is.mounts task.directory.mount (directory_theirs world names is task member);
+    directory = theirs_test world names member.is.mounts task.directory.mount
+        (directory_theirs world names member.is task member.among);
     rules = rules;
-    seen = λ number e. theirs_used world names is (record { mount = number; node = 0 })
-        (theirs_from world names is.mounts number e);
+    seen = λ number e. theirs_used world names member.is (record { mount = number; node = 0 })
+        (theirs_from world names member.is.mounts number e);
   }
 
   -- a descriptor of theirs
@@ -115,9 +119,9 @@ module _ (world : World ℕ) (names : List TaskName) (is : IsWorld nat_eq world)
       → is_locked_at nat_eq world descriptor.location ≡ is_locked_at nat_eq part descriptor.location
   descriptor_locked descriptor m =
       let at : Among descriptor.location (locations (members world names)) =
-      among-flat_map locations_of (members world names) task descriptor.location member
+      among-flat_map locations_of (members world names) task descriptor.location member.among
       (inr (inr (among-map (λ (d : Descriptor ℕ). d.location) task.descriptors descriptor m))) in
-      locked_here descriptor.location (located_used world names is descriptor.location at)
+      locked_here descriptor.location (located_used world names member.is descriptor.location at)
       (sym (located world names descriptor.location at))
 
   pwrite_alike : (number offset : ℕ) (bytes : List ℕ)
@@ -151,17 +155,17 @@ module _ (world : World ℕ) (names : List TaskName) (is : IsWorld nat_eq world)
 
   renames : RenamesAlike one other own
   renames = record {
-    anywhere = λ here e free. anywhere_alike world names is sealed_off here (on here e) free;
-    lower = λ here name e. lower_directory_alike world names is here (on here e) name;
+    anywhere = λ here e free. anywhere_alike member.sealing here (on here e) free;
+    lower = λ here name e. lower_directory_alike world names member.is here (on here e) name;
   }
 
   parents : ParentsAlike one other task own
-  parents = parents_alike world names is sealed_off task member
+  parents = parents_alike member
 
   -- a mount of the task's namespace is theirs
   pub owned : (here : Location ℕ) → is_elsewhere nat_eq one task here ≡ false
       → is_own world names (members world names) (mount_at nat_eq world here) ≡ true
-  owned here e = in_own world names is task member (mount_at nat_eq world here)
+  owned here e = in_own world names member.is task member.among (mount_at nat_eq world here)
       (by (holds_of (nat_eq task.namespace) (mount_at nat_eq world here).namespace) e)
     where
       by : (b : Bool) → not b ≡ false → b ≡ true
@@ -171,25 +175,25 @@ module _ (world : World ℕ) (names : List TaskName) (is : IsWorld nat_eq world)
   trees : TreesAlike one other task own
   trees = record {
     busy = λ here e apart. let at = on here e in
-        subst (λ n. is_busy nat_eq world n ≡ is_busy nat_eq part n) at.2 (busy_alike world names is sealed_off at.0 at.1
-        (ap (is_own world names (members world names)) (sym (its_mount world names is.mounts here.mount at))
+        subst (λ n. is_busy nat_eq world n ≡ is_busy nat_eq part n) at.2
+        (busy_alike member.sealing at.0 at.1 (ap (is_own world names (members world names))
+        (sym (its_mount world names member.is.mounts here.mount at))
         ∙ owned here apart));
     tree = λ here e. let at = on here e in
-        sym (ap (mount_tree nat_eq part.mounts) (same_mount world names is.mounts here.mount at)
-        ∙ tree_alike world names is (mount_at nat_eq world here)
-        (subst (IsTheirs world names is.mounts) (sym (number-mount_in world.mounts here.mount)) at));
+        sym (ap (mount_tree nat_eq part.mounts) (same_mount world names member.is.mounts here.mount at) ∙ tree_alike
+        world names member.is (mount_at nat_eq world here)
+        (subst (IsTheirs world names member.is.mounts) (sym (number-mount_in world.mounts here.mount)) at));
   }
 
   layers : LayersAlike one other uses
   layers = record {
-    overlaps = λ layer used others. overlaps_alike world names is sealed_off layer.filesystem used layer.directory others;
+    overlaps = λ layer used others. overlaps_alike member.sealing layer.filesystem used layer.directory others;
     in_use = λ overlay used i.
         any_same (overlaps_one_of nat_eq world (live_layers world)) (overlaps_one_of nat_eq part (live_layers part))
-        (upper_and_work overlay) (λ layer m. overlaps_live world names is sealed_off layer.filesystem
-        (used layer (among-append_left (upper_and_work overlay) overlay.lowers layer m)) layer.directory) i
-        || any_same (overlaps_one_of nat_eq world (live_upper_and_work world))
-        (overlaps_one_of nat_eq part (live_upper_and_work part)) overlay.lowers
-        (λ layer m. overlaps_written world names is sealed_off layer.filesystem
+        (upper_and_work overlay) (λ layer m. overlaps_live member.sealing layer.filesystem
+        (used layer (among-append_left (upper_and_work overlay) overlay.lowers layer m)) layer.directory) i || any_same
+        (overlaps_one_of nat_eq world (live_upper_and_work world)) (overlaps_one_of nat_eq part
+        (live_upper_and_work part)) overlay.lowers (λ layer m. overlaps_written member.sealing layer.filesystem
         (used layer (among-append_right (upper_and_work overlay) overlay.lowers layer m)) layer.directory) i;
   }
 
@@ -209,9 +213,9 @@ module _ (world : World ℕ) (names : List TaskName) (is : IsWorld nat_eq world)
   judged overfills (LinkTo old new) t = hard_link_alike one other task own uses judges old new
   judged overfills (Unlink path) t = unlink_alike one other task own uses judges path
   judged overfills (Rmdir path) t =
-      rmdir_alike one other task own uses judges (points_alike world names is task member) path
+      rmdir_alike one other task own uses judges (points_alike world names member.is task member.among) path
   judged overfills (Rename old new) t =
-      rename_alike one other task own uses judges (points_alike world names is task member) renames old new
+      rename_alike one other task own uses judges (points_alike world names member.is task member.among) renames old new
   judged overfills (Chmod path mode) t = chmod_alike one other task own uses judges path mode
   judged overfills (Chown path uid gid) t = chown_alike one other task own uses judges path uid gid
   judged overfills (Opaque path mark) t = opaque_alike one other task own uses judges path mark
@@ -243,5 +247,6 @@ module _ (world : World ℕ) (names : List TaskName) (is : IsWorld nat_eq world)
   judged overfills ListMounts t = refl
 
 pub members_are_judged_alike : MembersAreJudgedAlike
-members_are_judged_alike world names task call is overfills = judged world names is.is is.sealed_off task
-    (among_from_contains (members world names) task is.member) overfills call is.among_them
+members_are_judged_alike world names task call is overfills =
+    judged (a_member (sealed_by is.is is.sealed_off) (among_from_contains (members world names) task is.member))
+    overfills call is.among_them

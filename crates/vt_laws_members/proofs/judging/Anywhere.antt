@@ -1,20 +1,19 @@
 -- Mounts of other namespaces stand on nothing that members reach but what is locked.
 use Rattle.std.proofs.Common.{◌≡◌, refl, sym, ap, subst, ◌∙◌, inl, ⊎_elim, ℕ, nat_eq, Bool, true, false, true≢false, not, List, [], ◌++◌, Option, Some, None, is_some, ◌&&◌, eq-eqb, eqb-true, arith, option_map, option_to_list}
-use Rattle.vt_spec.proofs.Common.{Among, Filesystem, IsWorld, Layer, Location, Mount, Overlay, Stands, TaskName, World, among-append_left, among-filter, among-flat_map, among_from_all, among_from_list_all, among_numbers, and_from, and_parts, any_among, any_from_among, common_steps, directory_used, filesystem_at, filesystem_numbered, found_or_none, holds_of, is_among, is_directory_at, is_directory_node, is_locked, is_locked_at, is_overlay, is_own_namespace, is_point, is_under, layers_of, lies_in_layer, lies_or_counts_under, list_any, live_lowers, live_upper_and_work, locations, members, mount_at, mounts_on, no_outsider_on, none_among, none_is_some, not-true, of_overlay, or_cases, or_left, other_mounts, outsiders, overlaps_one_of, overlay_or, overlays, part_of, points_of, sealed, then_some, upper_and_work, upper_object, upper_points, used_alone, used_filesystems, wholly_locked}
+use Rattle.vt_spec.proofs.Common.{Among, Filesystem, Layer, Location, Mount, Overlay, Stands, TaskName, World, among-append_left, among-filter, among-flat_map, among_from_all, among_from_list_all, among_numbers, and_from, and_parts, any_among, any_from_among, common_steps, directory_used, filesystem_at, filesystem_numbered, found_or_none, holds_of, is_among, is_directory_at, is_directory_node, is_locked, is_locked_at, is_overlay, is_own_namespace, is_point, is_under, layers_of, lies_in_layer, lies_or_counts_under, list_any, live_lowers, live_upper_and_work, locations, members, mount_at, mounts_on, no_outsider_on, none_among, none_is_some, not-true, of_overlay, or_cases, or_left, other_mounts, outsiders, overlaps_one_of, overlay_or, overlays, part_of, points_of, then_some, upper_and_work, upper_object, upper_points, used_alone, used_filesystems, wholly_locked}
 use Rattle.vt_laws_sealed.proofs.part.part.MountsOver.{numbered}
 use Rattle.vt_laws_trees.proofs.layers.layers.LowersWorld.{number_of_filesystem}
 use Rattle.vt_laws_trees.proofs.layers.locked.Apart.{under_itself}
 use Rattle.vt_laws_sealed.proofs.part.locks.LockedTrees.{all_locked}
 use Rattle.vt_laws_sealed.proofs.part.part.PartOfPart.{is_own}
-use Rattle.vt_laws_sealed.proofs.part.seals.ByPart.{layer_directory, used_are_free}
+use Rattle.vt_laws_sealed.proofs.part.seals.ByPart.{IsSealed, layer_directory, used_are_free}
 use Rattle.vt_laws_worlds.proofs.worlds.Reached.{namespace_below}
 use Rattle.vt_laws_members.proofs.judging.Locks.{tree_there, whole_how}
 use Rattle.vt_laws_members.proofs.judging.LowersSeen.{overlay_there, upper_used}
 use Rattle.vt_laws_members.proofs.judging.MountPoints.{found_alike, stands_on_one}
 use Rattle.vt_laws_members.proofs.judging.SeenInPart.{OnTheirs, theirs_used}
 
-module _ (world : World ℕ) (names : List TaskName) (is : IsWorld nat_eq world)
-    (sealed_off : sealed nat_eq world names ≡ true) where
+module _ {world : World ℕ} {names : List TaskName} (sealing : IsSealed world names) where
   abbrev uses : ℕ → Bool
   uses number = is_among nat_eq number (used_filesystems nat_eq world names)
 
@@ -27,9 +26,9 @@ module _ (world : World ℕ) (names : List TaskName) (is : IsWorld nat_eq world)
 
     below_placed : (mount_at nat_eq world point).namespace ≡ Some n
     below_placed = sym (namespace_below world mount.number point
-        (among_from_all (λ (x : Mount ℕ). Stands nat_eq world x.number) world.mounts is.mounts.standing mount there)
-        (ap (λ (x : Mount ℕ). x.mount_point) (numbered world names is.mounts mount there) ∙ at))
-        ∙ ap (λ (x : Mount ℕ). x.namespace) (numbered world names is.mounts mount there) ∙ placed
+        (among_from_all (λ (x : Mount ℕ). Stands nat_eq world x.number) world.mounts sealing.is.mounts.standing mount
+        there) (ap (λ (x : Mount ℕ). x.mount_point) (numbered world names sealing.is.mounts mount there) ∙ at)) ∙ ap
+        (λ (x : Mount ℕ). x.namespace) (numbered world names sealing.is.mounts mount there) ∙ placed
 
     below_there : Among (mount_at nat_eq world point) world.mounts
     below_there = ⊎_elim (λ found. found)
@@ -54,7 +53,8 @@ module _ (world : World ℕ) (names : List TaskName) (is : IsWorld nat_eq world)
     whole : uses shows ≡ true → wholly_locked nat_eq world names shows ≡ true
     whole used = ⊎_elim (λ alone. absurd (not_alone alone)) (λ locked. locked)
         (or_cases (used_alone nat_eq world names shows) (wholly_locked nat_eq world names shows)
-        (used_are_free world names sealed_off shows (among_numbers (used_filesystems nat_eq world names) shows used)))
+        (used_are_free world names sealing.sealed_off shows (among_numbers (used_filesystems nat_eq world names) shows
+        used)))
 
     directory : is_directory_at nat_eq world point ≡ true
     directory = grind (arith, common_steps, among_from_list_all)
@@ -68,21 +68,21 @@ module _ (world : World ℕ) (names : List TaskName) (is : IsWorld nat_eq world)
       (e : merged.overlay ≡ Some overlay) (upper : Layer ℕ) (its : Among upper (upper_and_work overlay)) where
     upper_apart : overlaps_one_of nat_eq world (live_lowers nat_eq world) upper ≡ false
     upper_apart = none_among (overlaps_one_of nat_eq world (live_lowers nat_eq world))
-        (live_upper_and_work world) is.overlays.lowers_apart upper
+        (live_upper_and_work world) sealing.is.overlays.lowers_apart upper
         (among-flat_map (of_overlay [] upper_and_work) (overlays world) merged upper
         (among-filter is_overlay world.filesystems merged there (ap is_some e))
         (subst (λ o. Among upper (overlay_or [] upper_and_work o)) (sym e) its))
 
     upper_directory : is_directory_node
         ((filesystem_numbered nat_eq world upper.filesystem).files.tree.node upper.directory) ≡ true
-    upper_directory = layer_directory world names is merged there upper
+    upper_directory = layer_directory world names sealing.is merged there upper
         (subst (λ o. Among upper (overlay_or [] layers_of o)) (sym e)
         (among-append_left (option_to_list overlay.upper ++ option_to_list overlay.work) overlay.lowers upper its))
 
     pub not_whole : wholly_locked nat_eq world names upper.filesystem ≡ true → ⊥
     not_whole wholly =
-        let how = whole_how world names is sealed_off upper.filesystem wholly in
-        let tree = tree_there world names is sealed_off upper.filesystem upper.directory upper_directory in
+        let how = whole_how sealing upper.filesystem wholly in
+        let tree = tree_there sealing upper.filesystem upper.directory upper_directory in
         let object = directory_used (filesystem_numbered nat_eq world upper.filesystem).files.tree upper.directory
         upper_directory in
         true≢false (sym (any_from_among (λ object. lies_or_counts_under nat_eq world upper.filesystem object upper
@@ -107,7 +107,7 @@ module _ (world : World ℕ) (names : List TaskName) (is : IsWorld nat_eq world)
         (subst (λ d. is_under nat_eq (filesystem_numbered nat_eq world upper.filesystem).files d upper.directory ≡ true)
         how.at_root (how.under upper.directory object))))))) ∙ upper_apart)
 
-  module _ (here : Location ℕ) (own : OnTheirs world names is here)
+  module _ (here : Location ℕ) (own : OnTheirs world names sealing.is here)
       (free : is_locked_at nat_eq world here ≡ false) where
     abbrev number : ℕ
     number = (mount_at nat_eq world here).filesystem
@@ -127,7 +127,7 @@ module _ (world : World ℕ) (names : List TaskName) (is : IsWorld nat_eq world)
           let same : (mount_at nat_eq world at.0).filesystem ≡ number = at.3 ∙ f in
           true≢false (sym (ap (λ a. is_locked nat_eq world number a) (sym (at.2 ∙ k))
           ∙ ap (λ g. is_locked nat_eq world g at.0.node) (sym same) ∙ locked mount there n placed outside at.0 at.1
-          (ap uses same ∙ theirs_used world names is here own)) ∙ free)
+          (ap uses same ∙ theirs_used world names sealing.is here own)) ∙ free)
 
       not_above : (overlay : Overlay ℕ) → (filesystem_at nat_eq world here).overlay ≡ Some overlay
           → (p : ℕ × ℕ) → Among p (upper_points world (filesystem_at nat_eq world here) overlay here.node)
@@ -142,14 +142,12 @@ module _ (world : World ℕ) (names : List TaskName) (is : IsWorld nat_eq world)
               let at = at_point p.0 p.1 h in
               let shows : (mount_at nat_eq world at.0).filesystem ≡ upper.filesystem = at.3
               ∙ ap (λ (q : ℕ × ℕ). q.0) same in
-              not_whole (filesystem_at nat_eq world here)
-              (overlay_there world names is number overlay e) overlay e upper
-              (among-append_left (option_to_list overlay.upper) (option_to_list overlay.work) upper
+              not_whole (filesystem_at nat_eq world here) (overlay_there world names sealing.is number overlay e)
+              overlay e upper (among-append_left (option_to_list overlay.upper) (option_to_list overlay.work) upper
               (subst (λ o. Among upper (option_to_list o)) (sym u) (inl refl)))
               (subst (λ g. wholly_locked nat_eq world names g ≡ true) shows
-              (whole mount there n placed outside at.0 at.1 (ap uses shows
-              ∙ upper_used world names is here own overlay e upper
-              (subst (λ o. Among upper (option_to_list o)) (sym u) (inl refl)))))
+              (whole mount there n placed outside at.0 at.1 (ap uses shows ∙ upper_used world names sealing.is here own
+              overlay e upper (subst (λ o. Among upper (option_to_list o)) (sym u) (inl refl)))))
 
           by : (o : Option (Layer ℕ)) → overlay.upper ≡ o
               → Among p (option_to_list (then_some o (λ layer. option_map (λ object. (layer.filesystem, object))
@@ -157,7 +155,7 @@ module _ (world : World ℕ) (names : List TaskName) (is : IsWorld nat_eq world)
           by None u m = absurd m
           by (Some upper) u m = of_upper upper u (upper_object (overlay.real here.node)) m
 
-      none_stands : stands_on_one world names is world (points_of nat_eq world here) mount ≡ true → ⊥
+      none_stands : stands_on_one world names sealing.is world (points_of nat_eq world here) mount ≡ true → ⊥
       none_stands h =
           let at = any_among (λ (p : ℕ × ℕ). is_point nat_eq world p.0 p.1 mount) (points_of nat_eq world here) h in
           ⊎_elim (λ first. not_here at.0.0 at.0.1
@@ -172,11 +170,11 @@ module _ (world : World ℕ) (names : List TaskName) (is : IsWorld nat_eq world)
 
     pub anywhere_alike : list_any (λ (mount : Mount ℕ). is_some mount.namespace) (mounts_on nat_eq world here)
         ≡ list_any (λ (mount : Mount ℕ). is_some mount.namespace) (mounts_on nat_eq (part_of nat_eq world names) here)
-    anywhere_alike = found_alike world names is (λ (mount : Mount ℕ). is_some mount.namespace)
+    anywhere_alike = found_alike world names sealing.is (λ (mount : Mount ℕ). is_some mount.namespace)
         (λ mount none. ap is_some none) here own (λ mount m on attached. by mount m on mount.namespace refl attached)
       where
         by : (mount : Mount ℕ) → Among mount world.mounts
-            → stands_on_one world names is world (points_of nat_eq world here) mount ≡ true → (o : Option ℕ)
+            → stands_on_one world names sealing.is world (points_of nat_eq world here) mount ≡ true → (o : Option ℕ)
             → mount.namespace ≡ o → is_some mount.namespace ≡ true
             → is_own world names (members world names) mount ≡ true
         by mount m on None e attached = absurd (true≢false (sym attached ∙ ap is_some e))

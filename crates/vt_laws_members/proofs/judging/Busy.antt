@@ -1,16 +1,15 @@
 -- Whether a mount of theirs is busy is the same in the part.
 use Rattle.std.proofs.Common.{◌≡◌, refl, sym, ap, ◌∙◌, ⊎_elim, ℕ, nat_eq, Bool, true, false, true≢false, not, List, ◌||◌}
-use Rattle.vt_spec.proofs.Common.{Among, IsWorld, Location, Mount, Task, TaskName, World, all_locations, among-filter, among-filter_map, among-flat_map, among-from_filter, among-from_filter_map, among-from_flat_map, among_from_list_all, among_numbers, any_among, any_from_among, going, has_child, is_among, is_busy, is_member_task, is_used, locations, locations_of, members, mount_at, mount_numbered, not-true, outsiders, part_of, same_truth, sealed, shares_no_events, stands_on}
+use Rattle.vt_spec.proofs.Common.{Among, Location, Mount, Task, TaskName, World, all_locations, among-filter, among-filter_map, among-flat_map, among-from_filter, among-from_filter_map, among-from_flat_map, among_from_list_all, among_numbers, any_among, any_from_among, going, has_child, is_among, is_busy, is_member_task, is_used, locations, locations_of, members, mount_at, mount_numbered, not-true, outsiders, part_of, same_truth, shares_no_events, stands_on}
 use Rattle.vt_spec.specs.Machine.Sealed.{is_on_own_mount}
 use Rattle.vt_laws_sealed.proofs.part.part.MountsOver.{numbered}
 use Rattle.vt_laws_sealed.proofs.part.part.PartOfPart.{is_own, keep, kept_how}
-use Rattle.vt_laws_sealed.proofs.part.seals.ByPart.{apart_if_sealed}
+use Rattle.vt_laws_sealed.proofs.part.seals.ByPart.{IsSealed, apart_if_sealed}
 use Rattle.vt_laws_members.proofs.detached.lazily.GoingAlike.{going_alike, going_own}
 use Rattle.vt_laws_members.proofs.judging.Grounds.{IsTheirs, same_mount}
 use Rattle.vt_laws_members.proofs.judging.MountTrees.{child_own, own_theirs, own_whole}
 
-module _ (world : World ℕ) (names : List TaskName) (is : IsWorld nat_eq world)
-    (sealed_off : sealed nat_eq world names ≡ true) where
+module _ {world : World ℕ} {names : List TaskName} (sealing : IsSealed world names) where
   abbrev theirs : List (Task ℕ)
   theirs = members world names
 
@@ -21,18 +20,18 @@ module _ (world : World ℕ) (names : List TaskName) (is : IsWorld nat_eq world)
   owns = is_own world names theirs
 
   abbrev On : ℕ → Type 0
-  On = IsTheirs world names is.mounts
+  On = IsTheirs world names sealing.is.mounts
 
   -- no events of theirs are those of others
   pub no_events : shares_no_events nat_eq world names ≡ true
-  no_events = (apart_if_sealed world names is sealed_off).events
+  no_events = (apart_if_sealed sealing).events
 
   -- no other task uses a location on a mount of theirs
   pub none_located : (location : Location ℕ) → Among location (locations (outsiders world names))
       → owns (mount_at nat_eq world location) ≡ false
   none_located location m = not-true (is_on_own_mount nat_eq world names location)
       (among_from_list_all (λ l. not (is_on_own_mount nat_eq world names l)) (locations (outsiders world names))
-      (apart_if_sealed world names is sealed_off).locations location m)
+      (apart_if_sealed sealing).locations location m)
 
   used_alike : (gone : List ℕ) → ((number : ℕ) → Among number gone
       → (mount : Mount ℕ) × Among mount world.mounts × (owns mount ≡ true) × (mount.number ≡ number))
@@ -56,8 +55,8 @@ module _ (world : World ℕ) (names : List TaskName) (is : IsWorld nat_eq world)
           (among-filter (is_member_task names) world.tasks task there member) at) on
       by location task there at on false member =
           let its = own location.mount (among_numbers gone location.mount on) in
-          absurd (true≢false (sym its.2 ∙ ap owns (sym (numbered world names is.mounts its.0 its.1))
-          ∙ ap (λ n. owns (mount_numbered nat_eq world n)) its.3 ∙ none_located location
+          absurd (true≢false (sym its.2 ∙ ap owns (sym (numbered world names sealing.is.mounts its.0 its.1)) ∙ ap
+          (λ n. owns (mount_numbered nat_eq world n)) its.3 ∙ none_located location
           (among-flat_map locations_of (outsiders world names) task location
           (among-filter (λ t. not (is_member_task names t)) world.tasks task there (ap not member)) at)))
 
@@ -66,7 +65,7 @@ module _ (world : World ℕ) (names : List TaskName) (is : IsWorld nat_eq world)
       let at = any_among (stands_on nat_eq number) world.mounts h in
       any_from_among (stands_on nat_eq number) part.mounts at.0
       (among-filter_map (keep world names theirs) world.mounts at.0 at.0 at.1
-      (own_whole world names is at.0 (child_own world names is number at.0 own at.1 at.2))) at.2) (λ h.
+      (own_whole world names sealing.is at.0 (child_own world names sealing.is number at.0 own at.1 at.2))) at.2) (λ h.
       let at = any_among (stands_on nat_eq number) part.mounts h in
       let from = among-from_filter_map (keep world names theirs) world.mounts at.0 at.1 in
       any_from_among (stands_on nat_eq number) world.mounts from.0 from.1
@@ -77,11 +76,12 @@ module _ (world : World ℕ) (names : List TaskName) (is : IsWorld nat_eq world)
   pub busy_alike : (mount : Mount ℕ) → Among mount world.mounts → owns mount ≡ true
       → is_busy nat_eq world mount.number ≡ is_busy nat_eq part mount.number
   busy_alike mount m own =
-      let it = own_theirs world names is mount m own in
-      let itself = numbered world names is.mounts mount m in
+      let it = own_theirs world names sealing.is mount m own in
+      let itself = numbered world names sealing.is.mounts mount m in
       ap (λ b. b || is_used nat_eq world (going nat_eq world (mount_numbered nat_eq world mount.number)))
       (child_alike mount.number it) ∙ ap (λ b. has_child nat_eq part mount.number || b)
-      (ap (λ x. is_used nat_eq world (going nat_eq world x)) itself
-      ∙ used_alike (going nat_eq world mount) (λ number at. going_own world names is.mounts no_events mount number m own at)
-      ∙ ap (is_used nat_eq part) (sym (going_alike world names is.mounts no_events mount m own)) ∙ ap (λ x. is_used nat_eq part (going nat_eq part x))
-      (sym (same_mount world names is.mounts mount.number it ∙ itself)))
+      (ap (λ x. is_used nat_eq world (going nat_eq world x)) itself ∙ used_alike (going nat_eq world mount)
+      (λ number at. going_own world names sealing.is.mounts no_events mount number m own at) ∙ ap (is_used nat_eq part)
+      (sym (going_alike world names sealing.is.mounts no_events mount m own)) ∙ ap
+      (λ x. is_used nat_eq part (going nat_eq part x)) (sym (same_mount world names sealing.is.mounts mount.number it
+      ∙ itself)))

@@ -1,9 +1,11 @@
 -- Calls of theirs are judged by the part alone, with the limit of mounts.
 use Rattle.std.proofs.Common.{arith, ◌≡◌, refl, sym, ap, subst, ◌∙◌, ℕ, nat_eq, Bool, true, false, not, List, [], ◌∷◌, Option, Some, None, Ok, ◌&&◌, ◌||◌, is_some}
-use Rattle.vt_spec.proofs.Common.{Among, Call, Fresh, Here, IsWorld, Judgement, LayerLocations, Location, Looks, Mount, MountFlags, OverlayWords, Permit, Rules, Task, TaskName, ToBind, ToMountOverlay, ToMountPlain, ToMove, World, admin_rules, among_from_contains, and_then, attach_permit, bind_permit, bind_rules, common_steps, destination_walk, has_shared_parent, is_among, is_elsewhere, is_no_root, is_shared, is_unbindable, judge, layer_rules, layers_walked, list_any, looks_of, members, mount_numbered, mount_overlay_permit, mount_plain_permit, move_permit, move_rules, new_mount_rules, or_parts, overfills, overlay_at, overlay_permit_by, part_of, sealed, source_walk, unless, used_filesystems, walk_end}
+use Rattle.vt_spec.proofs.Common.{Among, Call, Fresh, Here, Judgement, LayerLocations, Location, Looks, Mount, MountFlags, OverlayWords, Permit, Rules, Task, TaskName, ToBind, ToMountOverlay, ToMountPlain, ToMove, World, admin_rules, among_from_contains, and_then, attach_permit, bind_permit, bind_rules, common_steps, destination_walk, has_shared_parent, is_among, is_elsewhere, is_no_root, is_shared, is_unbindable, judge, layer_rules, layers_walked, list_any, looks_of, members, mount_numbered, mount_overlay_permit, mount_plain_permit, move_permit, move_rules, new_mount_rules, or_parts, overfills, overlay_at, overlay_permit_by, part_of, source_walk, unless, used_filesystems, walk_end}
 use Rattle.vt_spec.specs.declared.errors.Rule.TheVariants.{M2, M3, M4, M5, M6, M7, M9, M10}
 use Rattle.vt_spec.specs.Machine.Looks.{mount_at}
+use Rattle.vt_laws_members.proofs.judging.TheirCalls.{IsMember, a_member}
 use Rattle.vt_laws_sealed.proofs.part.part.PartOfPart.{is_own}
+use Rattle.vt_laws_sealed.proofs.part.seals.ByPart.{sealed_by}
 use Rattle.vt_laws_sealed.proofs.part.walks.WalksAgree.{Agree}
 use Rattle.vt_laws_members.specs.Judging.{MembersAreJudgedByTheirPart, is_theirs}
 use Rattle.vt_laws_members.proofs.judging.AllJudged.{judges, members_are_judged_alike, owned}
@@ -18,8 +20,7 @@ asked_later : (first : Bool) (a b : Bool) (rest : Bool → Rules) (r : Judgement
 asked_later true a b rest r same = refl
 asked_later false a b rest r same = ap (λ c. unless (rest c) r) (same refl)
 
-module _ (world : World ℕ) (names : List TaskName) (is : IsWorld nat_eq world)
-    (sealed_off : sealed nat_eq world names ≡ true) (task : Task ℕ) (member : Among task (members world names))
+module _ {world : World ℕ} {names : List TaskName} {task : Task ℕ} (member : IsMember world names task)
     (fresh other : Fresh ℕ) where
   abbrev part : World ℕ
   part = part_of nat_eq world names
@@ -41,7 +42,7 @@ module _ (world : World ℕ) (names : List TaskName) (is : IsWorld nat_eq world)
 
   alike : JudgesAlike one (looks_of nat_eq part) task own
       (λ number. is_among nat_eq number (used_filesystems nat_eq world names))
-  alike = judges world names is sealed_off task member
+  alike = judges member
 
   abbrev StandsThere : Here ℕ → Type 0
   StandsThere = HereAt one (looks_of nat_eq part) task On alike.walks alike.directory alike.rules.removed
@@ -57,17 +58,17 @@ module _ (world : World ℕ) (names : List TaskName) (is : IsWorld nat_eq world)
     (destination_agrees one (looks_of nat_eq part) task On alike.walks alike.directory alike.rules.removed path).1,
   )
 
-  theirs : (here : Location ℕ) → On here.mount → IsTheirs world names is.mounts here.mount
-  theirs here on = theirs_from world names is.mounts here.mount on
+  theirs : (here : Location ℕ) → On here.mount → IsTheirs world names member.is.mounts here.mount
+  theirs here on = theirs_from world names member.is.mounts here.mount on
 
   there : (here : Location ℕ) → On here.mount → Among (mount_numbered nat_eq world here.mount) world.mounts
   there here on =
       let at = theirs here on in
-      subst (λ m. Among m world.mounts) (sym (its_mount world names is.mounts here.mount at)) at.1
+      subst (λ m. Among m world.mounts) (sym (its_mount world names member.is.mounts here.mount at)) at.1
 
   its : (here : Location ℕ) → is_elsewhere nat_eq one task here ≡ false
       → is_own world names (members world names) (mount_numbered nat_eq world here.mount) ≡ true
-  its here apart = owned world names is sealed_off task member here apart
+  its here apart = owned member here apart
 
   plain_limited : (path : List ℕ) (flags : MountFlags)
       → mount_plain_permit nat_eq one full task path flags ≡ mount_plain_permit nat_eq one full_too task path flags
@@ -79,8 +80,8 @@ module _ (world : World ℕ) (names : List TaskName) (is : IsWorld nat_eq world)
       (ToMountPlain here.location flags)) (at_destination path) (λ here on.
       asked_later (is_elsewhere nat_eq one task here.location) (full (ToMountPlain here.location flags))
       (full_too (ToMountPlain here.location flags)) (λ b. (b, M9) ∷ []) (Ok (ToMountPlain here.location flags))
-      (λ apart. plain_overfills world names is sealed_off here.location (there here.location on)
-      (its here.location apart) fresh other task flags)))
+      (λ apart. plain_overfills member.sealing here.location (there here.location on) (its here.location apart) fresh
+      other task flags)))
 
   overlay_limited_by : (here : Location ℕ) → On here.mount → (options : Option OverlayWords) (flags : MountFlags)
       → overlay_permit_by nat_eq one full task here options flags
@@ -96,9 +97,8 @@ module _ (world : World ℕ) (names : List TaskName) (is : IsWorld nat_eq world)
       same layers = asked_later (is_elsewhere nat_eq one task here)
           (full (ToMountOverlay here (overlay_at one task layers) flags))
           (full_too (ToMountOverlay here (overlay_at one task layers) flags)) (λ b. (b, M9) ∷ [])
-          (Ok (ToMountOverlay here (overlay_at one task layers) flags))
-          (λ apart. overlay_overfills world names is sealed_off here (there here on) (its here apart) fresh other task
-          (overlay_at one task layers) flags)
+          (Ok (ToMountOverlay here (overlay_at one task layers) flags)) (λ apart. overlay_overfills member.sealing here
+          (there here on) (its here apart) fresh other task (overlay_at one task layers) flags)
 
   overlay_limited : (path : List ℕ) (options : Option OverlayWords) (flags : MountFlags)
       → mount_overlay_permit nat_eq one full task path options flags
@@ -123,9 +123,8 @@ module _ (world : World ℕ) (names : List TaskName) (is : IsWorld nat_eq world)
       asked_later (is_elsewhere nat_eq one task from.location || is_elsewhere nat_eq one task here.location)
       (full (ToBind from.location here.location recursive)) (full_too (ToBind from.location here.location recursive))
       (λ b. (is_unbindable (mount_at one from.location).propagation, M3) ∷ (b, M9) ∷ [])
-      (Ok (ToBind from.location here.location recursive))
-      (λ apart. bind_overfills world names is sealed_off here.location (there here.location on)
-      (its here.location (or_parts (is_elsewhere nat_eq one task from.location)
+      (Ok (ToBind from.location here.location recursive)) (λ apart. bind_overfills member.sealing here.location
+      (there here.location on) (its here.location (or_parts (is_elsewhere nat_eq one task from.location)
       (is_elsewhere nat_eq one task here.location) apart).1) fresh other task from.location recursive
       (theirs from.location at)))))
     where
@@ -157,7 +156,7 @@ module _ (world : World ℕ) (names : List TaskName) (is : IsWorld nat_eq world)
       (Ok (ToMove from.location.mount here.location)) (λ apart.
       let both = or_parts (is_elsewhere nat_eq one task from.location)
       (is_elsewhere nat_eq one task here.location) apart in
-      move_overfills world names is sealed_off here.location (there here.location on) (its here.location both.1)
+      move_overfills member.sealing here.location (there here.location on) (its here.location both.1)
       from.location.mount (there from.location at) (its from.location both.0) fresh other task))))
     where
       moved_by : (Permit ℕ → Bool) → Here ℕ → Here ℕ → Judgement ℕ
@@ -169,6 +168,7 @@ module _ (world : World ℕ) (names : List TaskName) (is : IsWorld nat_eq world)
   limited call = grind (arith, common_steps, plain_limited, overlay_limited, bind_limited, move_limited)
 
 pub members_are_judged_by_their_part : MembersAreJudgedByTheirPart
-members_are_judged_by_their_part world names task call is fresh other = limited world names is.is is.sealed_off task
-    (among_from_contains (members world names) task is.member) fresh other call
+members_are_judged_by_their_part world names task call is fresh other = limited
+    (a_member (sealed_by is.is is.sealed_off) (among_from_contains (members world names) task is.member)) fresh other
+    call
     ∙ members_are_judged_alike world names task call is (overfills nat_eq other (part_of nat_eq world names) task)

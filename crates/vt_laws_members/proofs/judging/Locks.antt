@@ -1,12 +1,12 @@
 -- What is locked in the world is locked in the part, and the other way round.
 use Rattle.std.proofs.Common.{◌≡◌, refl, sym, ap, subst, ◌∙◌, ⊎_elim, ℕ, nat_eq, true, cond, true≢false, List, [], Option, Some, None, find, is_some, ◌||◌, ◌&&◌, eq-eqb, eqb-true, arith, unwrap_or}
-use Rattle.vt_spec.proofs.Common.{Among, FileTree, Filesystem, IsTree, IsWorld, Layer, ListsNumbers, Overlay, TaskName, World, all_named, among-append_left, among-append_right, among-filter, among-filter_map, among-flat_map, among-from_filter, among-from_filter_map, among-from_flat_map, among_from_all, among_from_contains, among_from_list_all, among_numbers, and_from, and_parts, any_among, any_from_among, common_steps, contains_from_among, counts_in_layer, filesystem_numbered, found_among, has_layer_on, holds_of, is_among, is_directory_node, is_locked, is_lower_root, is_object_of, is_overlay, is_real_upper, is_there, is_under, layers_of, lies_in_layer, lies_or_counts_under, list_any, live_layers, named_in, no_filesystem, of_overlay, or_cases, or_left, or_right, overlays, own_lowers, part_of, part_of_filesystem, part_of_lower, same_truth, sealed, upper_real, used_alone, used_filesystems, when, wholly_locked}
+use Rattle.vt_spec.proofs.Common.{Among, FileTree, Filesystem, IsTree, Layer, ListsNumbers, Overlay, TaskName, World, all_named, among-append_left, among-append_right, among-filter, among-filter_map, among-flat_map, among-from_filter, among-from_filter_map, among-from_flat_map, among_from_all, among_from_contains, among_from_list_all, among_numbers, and_from, and_parts, any_among, any_from_among, common_steps, contains_from_among, counts_in_layer, filesystem_numbered, found_among, has_layer_on, holds_of, is_among, is_directory_node, is_locked, is_lower_root, is_object_of, is_overlay, is_real_upper, is_there, is_under, layers_of, lies_in_layer, lies_or_counts_under, list_any, live_layers, named_in, no_filesystem, of_overlay, or_cases, or_left, or_right, overlays, own_lowers, part_of, part_of_filesystem, part_of_lower, same_truth, upper_real, used_alone, used_filesystems, when, wholly_locked}
 use Rattle.vt_laws_trees.proofs.layers.layers.ShownDirectories.{led_is_there}
 use Rattle.vt_laws_mounts.proofs.letting_go.sweeps.OfWorlds.{found_filesystem}
 use Rattle.vt_laws_trees.proofs.overlays.whole.ApartPaths.{under_led}
 use Rattle.vt_laws_sealed.proofs.part.locks.LockedTrees.{named_under, root_under}
 use Rattle.vt_laws_sealed.proofs.part.part.PartOfPart.{found, shown_how}
-use Rattle.vt_laws_sealed.proofs.part.seals.ByPart.{layer_directory, lower_plain, overlay_without_others, their_overlays_are_in_the_part, used_are_free}
+use Rattle.vt_laws_sealed.proofs.part.seals.ByPart.{IsSealed, layer_directory, lower_plain, overlay_without_others, their_overlays_are_in_the_part, used_are_free}
 
 -- an overlay with one of its layers in the filesystem
 pub has_layer : (number : ℕ) (merged : Filesystem ℕ) (layer : Layer ℕ) → Among layer (of_overlay [] layers_of merged)
@@ -68,8 +68,7 @@ module _ (a b : World ℕ) (number : ℕ) (same : filesystem_numbered nat_eq b n
       (within from.0 from.1 (has_layer number from.0 at.0 from.2 under.1)) from.2) under.0
 
 -- In a world, and in the part of a sealed set
-module _ (world : World ℕ) (names : List TaskName) (is : IsWorld nat_eq world)
-    (sealed_off : sealed nat_eq world names ≡ true) where
+module _ {world : World ℕ} {names : List TaskName} (sealing : IsSealed world names) where
   abbrev part : World ℕ
   part = part_of nat_eq world names
 
@@ -94,10 +93,10 @@ module _ (world : World ℕ) (names : List TaskName) (is : IsWorld nat_eq world)
       let from = among-from_filter is_overlay part.filesystems merged m in
       let kept = among-from_filter_map (part_of_filesystem nat_eq world names) world.filesystems merged from.0 in
       among-filter is_overlay world.filesystems merged (⊎_elim
-      (λ whole. subst (λ f. Among f world.filesystems) whole.0 kept.1)
-      (λ lower. absurd (true≢false (sym from.1 ∙ ap is_overlay (sym lower.0)
-      ∙ ap is_overlay (sym (found_filesystem world.filesystems is.files.one_filesystem kept.0 kept.1))
-      ∙ lower_plain world names is kept.0.number lower.2))) (shown_how world names kept.0 merged kept.2)) from.1
+      (λ whole. subst (λ f. Among f world.filesystems) whole.0 kept.1) (λ lower. absurd
+      (true≢false (sym from.1 ∙ ap is_overlay (sym lower.0) ∙ ap is_overlay
+      (sym (found_filesystem world.filesystems sealing.is.files.one_filesystem kept.0 kept.1)) ∙ lower_plain world names
+      sealing.is kept.0.number lower.2))) (shown_how world names kept.0 merged kept.2)) from.1
 
   abbrev pub files_of : ℕ → FileTree ℕ
   files_of number = (filesystem_numbered nat_eq world number).files
@@ -114,8 +113,9 @@ module _ (world : World ℕ) (names : List TaskName) (is : IsWorld nat_eq world)
       by None e h = absurd (true≢false (sym h))
       by (Some x) e h =
           let m = found_among (λ (f : Filesystem ℕ). nat_eq number f.number) world.filesystems x e in (
-            among_from_all (λ (f : Filesystem ℕ). IsTree f.files.tree) world.filesystems is.files.trees x m,
-            among_from_all (λ (f : Filesystem ℕ). ListsNumbers nat_eq f.files) world.filesystems is.files.numbers x m,
+            among_from_all (λ (f : Filesystem ℕ). IsTree f.files.tree) world.filesystems sealing.is.files.trees x m,
+            among_from_all (λ (f : Filesystem ℕ). ListsNumbers nat_eq f.files) world.filesystems
+                sealing.is.files.numbers x m,
           )
 
   lies_there : (number object : ℕ) (layer : Layer ℕ) (merged : Filesystem ℕ) → Among merged (overlays world)
@@ -126,8 +126,9 @@ module _ (world : World ℕ) (names : List TaskName) (is : IsWorld nat_eq world)
       (is_under nat_eq (files_of number) layer.directory object) lies in
       let directory : is_directory_node ((files_of number).tree.node layer.directory) ≡ true =
       subst (λ n. is_directory_node ((files_of n).tree.node layer.directory) ≡ true)
-      (sym (eqb-true number layer.filesystem both.0))
-      (layer_directory world names is merged (among-from_filter is_overlay world.filesystems merged m).0 layer at) in
+      (sym (eqb-true number layer.filesystem both.0)) (layer_directory world names sealing.is merged
+      (among-from_filter is_overlay world.filesystems merged m).0 layer
+      at) in
       let tree = tree_there number layer.directory directory in
       let way = under_led (files_of number) tree.0 layer.directory object both.1 in
       led_is_there (record { tree = (files_of number).tree; directory = layer.directory }) tree.0 directory way.0 object
@@ -142,8 +143,9 @@ module _ (world : World ℕ) (names : List TaskName) (is : IsWorld nat_eq world)
       let real = any_among (is_real_upper nat_eq c.overlay object) merged.files.numbers
       (and_parts (holds_of (λ (l : Layer ℕ). nat_eq number l.filesystem) c.overlay.upper)
       (list_any (is_real_upper nat_eq c.overlay object) merged.files.numbers) c.object_of).1 in
-      let merge = is.overlays.overlays_merge merged.number c.overlay
-      (ap (λ (f : Filesystem ℕ). f.overlay) (found_filesystem world.filesystems is.files.one_filesystem merged there)
+      let merge = sealing.is.overlays.overlays_merge merged.number c.overlay
+      (ap (λ (f : Filesystem ℕ). f.overlay) (found_filesystem world.filesystems sealing.is.files.one_filesystem merged
+      there)
       ∙ c.is) in
       subst (λ n. is_some ((files_of n).tree.node object) ≡ true) (sym c.inside)
       (sym (ap (holds_of (λ (l : Layer ℕ). is_there nat_eq world l.filesystem object)) c.has)
@@ -189,7 +191,7 @@ module _ (world : World ℕ) (names : List TaskName) (is : IsWorld nat_eq world)
       let directory : is_directory_node ((files_of number).tree.node (files_of number).tree.root) ≡ true =
       subst (λ n. is_directory_node ((files_of n).tree.node (files_of number).tree.root) ≡ true) (sym layer.3)
       (subst (λ d. is_directory_node ((files_of layer.0.filesystem).tree.node d) ≡ true) (sym layer.4)
-      (layer_directory world names is at.0
+      (layer_directory world names sealing.is at.0
       (among-from_filter is_overlay world.filesystems at.0 at.1).0 layer.0 layer.1)) in
       let tree = tree_there number (files_of number).tree.root directory in
       record {
@@ -218,7 +220,7 @@ module _ (world : World ℕ) (names : List TaskName) (is : IsWorld nat_eq world)
       → is_locked nat_eq part number object ≡ true
   wholly_in_part number object used whole there =
       let in_part : Among whole.merged (overlays part) = among_from_contains (overlays part) whole.merged
-      (their_overlays_are_in_the_part world names whole.merged is
+      (their_overlays_are_in_the_part world names whole.merged sealing.is
       (contains_from_among (overlays world) whole.merged whole.overlaid) whole.alone) in
       any_from_among (lies_or_counts_under nat_eq part number object) (live_layers part) whole.layer
       (among-flat_map (of_overlay [] layers_of) (overlays part) whole.merged whole.layer in_part whole.layered)
@@ -235,6 +237,6 @@ module _ (world : World ℕ) (names : List TaskName) (is : IsWorld nat_eq world)
       (λ alone. locked_at world part number (found world names number used) (alone_in_part number alone) object h)
       (λ whole. wholly_in_part number object used (whole_how number whole) (locked_there number object h))
       (or_cases (used_alone nat_eq world names number) (wholly_locked nat_eq world names number)
-      (used_are_free world names sealed_off number (among_numbers (used_filesystems nat_eq world names) number used))))
-      (λ h. locked_at part world number (sym (found world names number used)) (λ merged m has. part_in_world merged m)
-      object h)
+      (used_are_free world names sealing.sealed_off number (among_numbers (used_filesystems nat_eq world names) number
+      used)))) (λ h. locked_at part world number (sym (found world names number used))
+      (λ merged m has. part_in_world merged m) object h)

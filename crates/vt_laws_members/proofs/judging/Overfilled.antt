@@ -1,11 +1,13 @@
 -- Whether an attachment at a mount of theirs leaves a namespace with too many mounts is the same in the part (M9).
 use Rattle.std.proofs.Common.{◌≡◌, refl, sym, ap, subst, ◌∙◌, ⊎_elim, ℕ, nat_eq, nat_lt, Bool, true, false, true≢false, not, List, [], ◌∷◌, filter, is_some, length, ◌&&◌, ◌+◌, ◌*◌, ◌≤◌, arith}
-use Rattle.vt_spec.proofs.Common.{Among, Copies, Filesystem, Fresh, IsWorld, Location, Mount, MountFlags, Namespace, Overlay, Task, TaskName, ToBind, ToMountOverlay, ToMountPlain, ToMove, World, among-filter_map, among-from_filter, among_from_list_all, attach, attached_by, bind_tree, common_steps, copies_from, evens, false_from_ne_true, filesystem_numbered, filter_alike, find-append, has_too_many, is_among, is_directory_node, is_directory_under, is_own_namespace, list_any, members, most_mounts, mount_at, mount_numbered, mount_tree, new_mount, number-mount_in, odds, overfills, overlay_filesystem, part_of, parts_of, plain_filesystem, receivers_of, sealed, takes_part, tree_among, used_filesystems, with_new_filesystem}
+use Rattle.vt_spec.proofs.Common.{Among, Copies, Filesystem, Fresh, Location, Mount, MountFlags, Namespace, Overlay, Task, TaskName, ToBind, ToMountOverlay, ToMountPlain, ToMove, World, among-filter_map, among-from_filter, among_from_list_all, attach, attached_by, bind_tree, common_steps, copies_from, evens, false_from_ne_true, filesystem_numbered, filter_alike, find-append, has_too_many, is_among, is_directory_node, is_directory_under, is_own_namespace, list_any, members, most_mounts, mount_at, mount_numbered, mount_tree, new_mount, number-mount_in, odds, overfills, overlay_filesystem, part_of, parts_of, plain_filesystem, receivers_of, takes_part, tree_among, used_filesystems, with_new_filesystem}
 use Rattle.vt_laws_members.proofs.detached.lazily.GoingAlike.{receivers_alike, receivers_own}
+use Rattle.vt_laws_mounts.proofs.letting_go.Lists.{any-filter}
 use Rattle.vt_laws_sealed.proofs.part.part.MountsOver.{numbered}
 use Rattle.vt_laws_mounts.specs.Mounts.Ending.{count_in, is_in}
 use Rattle.vt_laws_mounts.proofs.Counting.{added_counted, moved_all}
 use Rattle.vt_laws_mounts.proofs.mounts.Standing.{trees_have_each_once}
+use Rattle.vt_laws_sealed.proofs.part.seals.ByPart.{IsSealed}
 use Rattle.vt_laws_worlds.proofs.worlds.FewMounts.{few_of, none_counted, not_too_many}
 use Rattle.vt_laws_sealed.proofs.part.Kept.{filter_kept}
 use Rattle.vt_laws_sealed.proofs.part.part.PartOfPart.{found, is_own, keep, kept_how}
@@ -13,7 +15,6 @@ use Rattle.vt_laws_members.proofs.judging.Busy.{no_events}
 use Rattle.vt_laws_members.proofs.judging.Grounds.{IsTheirs, same_mount}
 use Rattle.vt_laws_members.proofs.judging.JudgedOverlays.{any_same}
 use Rattle.vt_laws_members.proofs.judging.MountTrees.{bind_alike, own_theirs, own_whole, part_one_number, part_stands, tree_alike}
-use Rattle.vt_laws_members.proofs.judging.ParentsSeen.{any_filter}
 use Rattle.vt_laws_members.proofs.judging.SeenInPart.{theirs_used}
 
 no_rows : (n : ℕ) → 0 * n ≡ 0
@@ -25,8 +26,7 @@ found_before : (world : World ℕ) (added : Filesystem ℕ) (number directory : 
     → filesystem_numbered nat_eq (with_new_filesystem world added) number ≡ filesystem_numbered nat_eq world number
 found_before world added number directory shows = grind (arith, common_steps, shows, find-append, true≢false)
 
-module _ (world : World ℕ) (names : List TaskName) (is : IsWorld nat_eq world)
-    (sealed_off : sealed nat_eq world names ≡ true) where
+module _ {world : World ℕ} {names : List TaskName} (sealing : IsSealed world names) where
   abbrev theirs : List (Task ℕ)
   theirs = members world names
 
@@ -40,7 +40,7 @@ module _ (world : World ℕ) (names : List TaskName) (is : IsWorld nat_eq world)
   own_one namespace = is_own_namespace nat_eq world names namespace
 
   abbrev On : ℕ → Type 0
-  On = IsTheirs world names is.mounts
+  On = IsTheirs world names sealing.is.mounts
 
   -- Namespaces of theirs have the same mounts
 
@@ -62,12 +62,11 @@ module _ (world : World ℕ) (names : List TaskName) (is : IsWorld nat_eq world)
       → ((namespace : ℕ) → own_one namespace ≡ false → count_in one.mounts namespace ≤ count_in world.mounts namespace)
       → has_too_many nat_eq one ≡ has_too_many nat_eq other
   too_many_alike one other listed listed_too same less = ap (list_any full) listed
-      ∙ sym (any_filter full (λ (n : Namespace ℕ). own_one n.number) world.namespaces (λ n m outside.
+      ∙ sym (any-filter full (λ (n : Namespace ℕ). own_one n.number) world.namespaces (λ n m outside.
       not_too_many (count_in one.mounts n.number) (count_in world.mounts n.number) (less n.number outside)
-      (few_of world is.namespaces.few_mounts n m))) ∙ any_same full full_too part.namespaces (λ n m.
-      ap (nat_lt most_mounts)
-      (same n.number (among-from_filter (λ (k : Namespace ℕ). own_one k.number) world.namespaces n m).1))
-      ∙ sym (ap (list_any full_too) listed_too)
+      (few_of world sealing.is.namespaces.few_mounts n m))) ∙ any_same full full_too part.namespaces
+      (λ n m. ap (nat_lt most_mounts) (same n.number (among-from_filter (λ (k : Namespace ℕ). own_one k.number)
+      world.namespaces n m).1)) ∙ sym (ap (list_any full_too) listed_too)
     where
       full : Namespace ℕ → Bool
       full n = nat_lt most_mounts (count_in one.mounts n.number)
@@ -82,18 +81,17 @@ module _ (world : World ℕ) (names : List TaskName) (is : IsWorld nat_eq world)
     destination = mount_at nat_eq world place
 
     on : On place.mount
-    on = subst On (number-mount_in world.mounts place.mount) (own_theirs world names is destination there own)
+    on = subst On (number-mount_in world.mounts place.mount) (own_theirs world names sealing.is destination there own)
 
     same_destination : mount_at nat_eq part place ≡ destination
-    same_destination = same_mount world names is.mounts place.mount on
+    same_destination = same_mount world names sealing.is.mounts place.mount on
 
     reached_alike : (mount : Mount ℕ) → Among mount world.mounts → owns mount ≡ true
         → filesystem_numbered nat_eq part mount.filesystem ≡ filesystem_numbered nat_eq world mount.filesystem
     reached_alike mount m its = found world names mount.filesystem
         (ap (λ (x : Mount ℕ). is_among nat_eq x.filesystem (used_filesystems nat_eq world names))
-        (sym (numbered world names is.mounts mount m))
-        ∙ theirs_used world names is (record { mount = mount.number; node = mount.root })
-        (own_theirs world names is mount m its))
+        (sym (numbered world names sealing.is.mounts mount m)) ∙ theirs_used world names sealing.is
+        (record { mount = mount.number; node = mount.root }) (own_theirs world names sealing.is mount m its))
 
     abbrev takes : World ℕ → Location ℕ → Mount ℕ → Mount ℕ → Bool
     takes w at to mount =
@@ -102,12 +100,20 @@ module _ (world : World ℕ) (names : List TaskName) (is : IsWorld nat_eq world)
 
     parts_alike : parts_of nat_eq part place ≡ parts_of nat_eq world place
     parts_alike =
-        grind (arith, common_steps, same_destination, receivers_alike world names is.mounts (no_events world names is sealed_off), filter_alike, receivers_own world names is.mounts (no_events world names is sealed_off), reached_alike)
+        grind (
+          arith,
+          common_steps,
+          same_destination,
+          receivers_alike world names sealing.is.mounts (no_events sealing),
+          filter_alike,
+          receivers_own world names sealing.is.mounts (no_events sealing),
+          reached_alike,
+        )
 
     parts_own : (mount : Mount ℕ) → Among mount (parts_of nat_eq world place)
         → Among mount world.mounts × (owns mount ≡ true)
     parts_own mount m = ⊎_elim (λ same. (subst (λ x. Among x world.mounts) (sym same) there, ap owns same ∙ own))
-        (λ receiver. receivers_own world names is.mounts (no_events world names is sealed_off) destination mount there own
+        (λ receiver. receivers_own world names sealing.is.mounts (no_events sealing) destination mount there own
         (among-from_filter (takes_part nat_eq world place) (receivers_of nat_eq world destination) mount receiver).0) m
 
     none_outside : (namespace : ℕ) → own_one namespace ≡ false → count_in (parts_of nat_eq world place) namespace ≡ 0
@@ -124,7 +130,7 @@ module _ (world : World ℕ) (names : List TaskName) (is : IsWorld nat_eq world)
     added_parts added = ap (λ list. destination ∷ list)
         (filter_alike (takes (with_new_filesystem world added) place destination) (takes world place destination)
         (receivers_of nat_eq world destination) (λ mount m.
-        let its = receivers_own world names is.mounts (no_events world names is sealed_off) destination mount there own m in
+        let its = receivers_own world names sealing.is.mounts (no_events sealing) destination mount there own m in
         ap (λ (f : Filesystem ℕ). not (nat_eq place.mount mount.number) && is_some mount.namespace
         && nat_eq destination.filesystem mount.filesystem && is_directory_under nat_eq f.files mount.root place.node)
         (found_before world added mount.filesystem mount.root (shows mount its.0))))
@@ -134,17 +140,17 @@ module _ (world : World ℕ) (names : List TaskName) (is : IsWorld nat_eq world)
     added_parts_in_part added = ap (λ to. to ∷ filter (takes (with_new_filesystem part added) place to)
         (receivers_of nat_eq part to)) same_destination
         ∙ ap (λ list. destination ∷ filter (takes (with_new_filesystem part added) place destination) list)
-        (receivers_alike world names is.mounts (no_events world names is sealed_off) destination there own) ∙ ap (λ list. destination ∷ list)
-        (filter_alike (takes (with_new_filesystem part added) place destination) (takes part place destination)
-        (receivers_of nat_eq world destination) (λ mount m.
-        let its = receivers_own world names is.mounts (no_events world names is sealed_off) destination mount there own m in
+        (receivers_alike world names sealing.is.mounts (no_events sealing) destination there own) ∙ ap
+        (λ list. destination ∷ list) (filter_alike (takes (with_new_filesystem part added) place destination)
+        (takes part place destination) (receivers_of nat_eq world destination) (λ mount m.
+        let its = receivers_own world names sealing.is.mounts (no_events sealing) destination mount there own m in
         ap (λ (f : Filesystem ℕ). not (nat_eq place.mount mount.number) && is_some mount.namespace
         && nat_eq destination.filesystem mount.filesystem && is_directory_under nat_eq f.files mount.root place.node)
         (found_before part added mount.filesystem mount.root
         (ap (λ (f : Filesystem ℕ). is_directory_node (f.files.tree.node mount.root)) (reached_alike mount its.0 its.1)
         ∙ shows mount its.0)))) ∙ sym (ap (λ list. destination ∷ filter (takes part place destination) list)
-        (receivers_alike world names is.mounts (no_events world names is sealed_off) destination there own))
-        ∙ sym (ap (λ to. to ∷ filter (takes part place to) (receivers_of nat_eq part to)) same_destination)
+        (receivers_alike world names sealing.is.mounts (no_events sealing) destination there own)) ∙ sym
+        (ap (λ to. to ∷ filter (takes part place to) (receivers_of nat_eq part to)) same_destination)
 
     -- what is added at each part
     copies_alike : (base other : World ℕ) → base.mounts ≡ world.mounts → base.namespaces ≡ world.namespaces
@@ -209,7 +215,8 @@ module _ (world : World ℕ) (names : List TaskName) (is : IsWorld nat_eq world)
         ≡ overfills nat_eq other part task (ToBind source place recursive)
     bind_overfills fresh other task source recursive from =
         copies_alike world part refl refl refl refl refl refl fresh other (bind_tree nat_eq world source recursive)
-        (bind_tree nat_eq part source recursive) (ap length (sym (bind_alike world names is source recursive from)))
+        (bind_tree nat_eq part source recursive) (ap length (sym (bind_alike world names sealing.is source recursive
+        from)))
 
     -- a tree of theirs that moves
     module _ (number : ℕ) (source : Among (mount_numbered nat_eq world number) world.mounts)
@@ -222,21 +229,21 @@ module _ (world : World ℕ) (names : List TaskName) (is : IsWorld nat_eq world)
 
       from : On number
       from = subst On (number-mount_in world.mounts number)
-          (own_theirs world names is (mount_numbered nat_eq world number) source its)
+          (own_theirs world names sealing.is (mount_numbered nat_eq world number) source its)
 
       same_source : mount_numbered nat_eq part number ≡ mount_numbered nat_eq world number
-      same_source = same_mount world names is.mounts number from
+      same_source = same_mount world names sealing.is.mounts number from
 
       same_tree : tree_too ≡ tree
       same_tree = ap (mount_tree nat_eq part.mounts) same_source
-          ∙ tree_alike world names is (mount_numbered nat_eq world number)
-          (own_theirs world names is (mount_numbered nat_eq world number) source its)
+          ∙ tree_alike world names sealing.is (mount_numbered nat_eq world number)
+          (own_theirs world names sealing.is (mount_numbered nat_eq world number) source its)
 
       source_in_part : Among (mount_numbered nat_eq part number) part.mounts
       source_in_part = subst (λ x. Among x part.mounts) (sym same_source)
           (among-filter_map (keep world names theirs) world.mounts (mount_numbered nat_eq world number)
-          (mount_numbered nat_eq world number) source
-          (own_whole world names is (mount_numbered nat_eq world number) its))
+          (mount_numbered nat_eq world number) source (own_whole world names sealing.is
+          (mount_numbered nat_eq world number) its))
 
       within : (w : World ℕ) → Among (mount_numbered nat_eq w number) w.mounts → (one : Mount ℕ)
           → Among one (mount_tree nat_eq w.mounts (mount_numbered nat_eq w number)) → Among one w.mounts
@@ -246,15 +253,16 @@ module _ (world : World ℕ) (names : List TaskName) (is : IsWorld nat_eq world)
       moved_count : (new : Copies ℕ) (namespace : ℕ)
           → count_in (attached_by nat_eq world new place true tree).mounts namespace + count_in tree namespace
           ≡ count_in world.mounts namespace + count_in (parts_of nat_eq world place) namespace * length tree
-      moved_count new namespace = moved_all world place new tree is.mounts.one_number
-          (trees_have_each_once world number is.mounts.one_number is.mounts.standing) (within world source) namespace
+      moved_count new namespace = moved_all world place new tree sealing.is.mounts.one_number
+          (trees_have_each_once world number sealing.is.mounts.one_number sealing.is.mounts.standing)
+          (within world source) namespace
 
       moved_count_in_part : (new : Copies ℕ) (namespace : ℕ)
           → count_in (attached_by nat_eq part new place true tree_too).mounts namespace + count_in tree_too namespace
           ≡ count_in part.mounts namespace + count_in (parts_of nat_eq part place) namespace * length tree_too
-      moved_count_in_part new namespace = moved_all part place new tree_too (part_one_number world names is)
-          (trees_have_each_once part number (part_one_number world names is) (part_stands world names is))
-          (within part source_in_part) namespace
+      moved_count_in_part new namespace = moved_all part place new tree_too (part_one_number world names sealing.is)
+          (trees_have_each_once part number (part_one_number world names sealing.is)
+          (part_stands world names sealing.is)) (within part source_in_part) namespace
 
       pub move_overfills : (fresh other : Fresh ℕ) (task : Task ℕ)
           → overfills nat_eq fresh world task (ToMove number place)

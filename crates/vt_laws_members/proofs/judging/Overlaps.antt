@@ -1,8 +1,8 @@
 -- Layers of a new overlay overlap others in the part as in the world: overlayfs, "sharing and copying layers".
 use Rattle.std.proofs.Common.{arith, ◌≡◌, refl, sym, ap, subst, ◌∙◌, inl, ⊎_elim, ℕ, nat_eq, true, List, [], Some, ◌&&◌, eqb-true, option_to_list}
-use Rattle.vt_spec.proofs.Common.{Among, Filesystem, IsWorld, Layer, Overlay, TaskName, World, among-append_left, among-flat_map, among-from_filter, among-from_flat_map, among_numbers, any_among, any_from_among, common_steps, counts_in_layer, filesystem_numbered, is_among, is_overlay, is_under, layers_of, lies_in_layer, lies_or_counts_under, list_any, live_layers, live_upper_and_work, of_overlay, or_cases, or_left, overlaps_one_of, overlays, part_of, same_truth, sealed, upper_and_work, used_alone, used_filesystems, wholly_locked}
+use Rattle.vt_spec.proofs.Common.{Among, Filesystem, Layer, Overlay, TaskName, World, among-append_left, among-flat_map, among-from_filter, among-from_flat_map, among_numbers, any_among, any_from_among, common_steps, counts_in_layer, filesystem_numbered, is_among, is_overlay, is_under, layers_of, lies_in_layer, lies_or_counts_under, list_any, live_layers, live_upper_and_work, of_overlay, or_cases, or_left, overlaps_one_of, overlays, part_of, same_truth, upper_and_work, used_alone, used_filesystems, wholly_locked}
 use Rattle.vt_laws_sealed.proofs.part.part.PartOfPart.{found}
-use Rattle.vt_laws_sealed.proofs.part.seals.ByPart.{used_are_free}
+use Rattle.vt_laws_sealed.proofs.part.seals.ByPart.{IsSealed, used_are_free}
 use Rattle.vt_laws_members.proofs.judging.Anywhere.{not_whole}
 use Rattle.vt_laws_members.proofs.judging.Locks.{alone_in_part, counts_how, has_layer, locked_alike, part_in_world, under_at}
 
@@ -12,8 +12,7 @@ written_layer : (merged : Filesystem ℕ) (layer : Layer ℕ) → Among layer (o
     × Among layer (of_overlay [] layers_of merged)
 written_layer merged layer m = grind (arith, common_steps, among-append_left)
 
-module _ (world : World ℕ) (names : List TaskName) (is : IsWorld nat_eq world)
-    (sealed_off : sealed nat_eq world names ≡ true) (number : ℕ)
+module _ {world : World ℕ} {names : List TaskName} (sealing : IsSealed world names) (number : ℕ)
     (used : is_among nat_eq number (used_filesystems nat_eq world names) ≡ true) where
   abbrev part : World ℕ
   part = part_of nat_eq world names
@@ -27,7 +26,8 @@ module _ (world : World ℕ) (names : List TaskName) (is : IsWorld nat_eq world)
   how : {A : Type 0} → (Alone → A) → (Whole → A) → A
   how alone whole = ⊎_elim alone whole
       (or_cases (used_alone nat_eq world names number) (wholly_locked nat_eq world names number)
-      (used_are_free world names sealed_off number (among_numbers (used_filesystems nat_eq world names) number used)))
+      (used_are_free world names sealing.sealed_off number (among_numbers (used_filesystems nat_eq world names) number
+      used)))
 
   same : filesystem_numbered nat_eq part number ≡ filesystem_numbered nat_eq world number
   same = found world names number used
@@ -36,16 +36,16 @@ module _ (world : World ℕ) (names : List TaskName) (is : IsWorld nat_eq world)
   none_written : Whole → (merged : Filesystem ℕ) → Among merged (overlays world) → (overlay : Overlay ℕ)
       → merged.overlay ≡ Some overlay → (layer : Layer ℕ) → Among layer (upper_and_work overlay)
       → number ≡ layer.filesystem → ⊥
-  none_written whole merged m overlay e layer its inside = not_whole world names is sealed_off merged
+  none_written whole merged m overlay e layer its inside = not_whole sealing merged
       (among-from_filter is_overlay world.filesystems merged m).0 overlay e layer
       its (subst (λ n. wholly_locked nat_eq world names n ≡ true) inside whole)
 
   pub under_alike : (object : ℕ) (layer : Layer ℕ)
       → lies_or_counts_under nat_eq world number object layer ≡ lies_or_counts_under nat_eq part number object layer
   under_alike object layer = same_truth (lies_or_counts_under nat_eq world number object layer)
-      (lies_or_counts_under nat_eq part number object layer) (λ h. how (λ alone. (under_at world part number same
-      (alone_in_part world names is sealed_off number alone) object layer h).0) (λ whole. ⊎_elim
-      (λ lies. or_left (lies_in_layer nat_eq part number object layer) _
+      (lies_or_counts_under nat_eq part number object layer) (λ h. how (λ alone.
+      (under_at world part number same (alone_in_part sealing number alone) object layer h).0)
+      (λ whole. ⊎_elim (λ lies. or_left (lies_in_layer nat_eq part number object layer) _
       (ap (λ (f : Filesystem ℕ). nat_eq number layer.filesystem && is_under nat_eq f.files layer.directory object) same
       ∙ lies)) (λ counts.
       let at = any_among (counts_in_layer nat_eq world number object layer) (overlays world) counts in
@@ -55,8 +55,7 @@ module _ (world : World ℕ) (names : List TaskName) (is : IsWorld nat_eq world)
       (subst (λ o. Among c.upper (option_to_list o)) (sym c.has) (inl refl))) c.inside))
       (or_cases (lies_in_layer nat_eq world number object layer)
       (list_any (counts_in_layer nat_eq world number object layer) (overlays world)) h)))
-      (λ h. (under_at part world number (sym same) (λ merged m has. part_in_world world names is sealed_off merged m)
-      object layer h).0)
+      (λ h. (under_at part world number (sym same) (λ merged m has. part_in_world sealing merged m) object layer h).0)
 
   -- under one of the layers that live overlays change
   written_alike : (object : ℕ) → list_any (lies_or_counts_under nat_eq world number object) (live_upper_and_work world)
@@ -71,15 +70,14 @@ module _ (world : World ℕ) (names : List TaskName) (is : IsWorld nat_eq world)
       how (λ alone.
       any_from_among (lies_or_counts_under nat_eq part number object) (live_upper_and_work part) at.0
       (among-flat_map (of_overlay [] upper_and_work) (overlays part) from.0 at.0
-      (alone_in_part world names is sealed_off number alone from.0 from.1 (has_layer number from.0 at.0 written.3 here))
-      from.2) (sym (under_alike object at.0) ∙ at.2))
-      (λ whole. absurd (none_written whole from.0 from.1 written.0 written.1 at.0 written.2
-      (eqb-true number at.0.filesystem here)))) (λ h.
+      (alone_in_part sealing number alone from.0 from.1 (has_layer number from.0 at.0 written.3 here)) from.2)
+      (sym (under_alike object at.0) ∙ at.2)) (λ whole. absurd (none_written whole from.0 from.1 written.0 written.1
+      at.0 written.2 (eqb-true number at.0.filesystem here)))) (λ h.
       let at = any_among (lies_or_counts_under nat_eq part number object) (live_upper_and_work part) h in
       let from = among-from_flat_map (of_overlay [] upper_and_work) (overlays part) at.0 at.1 in
       any_from_among (lies_or_counts_under nat_eq world number object) (live_upper_and_work world) at.0
-      (among-flat_map (of_overlay [] upper_and_work) (overlays world) from.0 at.0
-      (part_in_world world names is sealed_off from.0 from.1) from.2) (under_alike object at.0 ∙ at.2))
+      (among-flat_map (of_overlay [] upper_and_work) (overlays world) from.0 at.0 (part_in_world sealing from.0 from.1)
+      from.2) (under_alike object at.0 ∙ at.2))
 
   -- a directory of the filesystem, as a layer
   module _ (directory : ℕ) where
@@ -96,7 +94,7 @@ module _ (world : World ℕ) (names : List TaskName) (is : IsWorld nat_eq world)
     pub overlaps_live : overlaps_one_of nat_eq world (live_layers world) layer
         ≡ overlaps_one_of nat_eq part (live_layers part) layer
     overlaps_live i =
-        list_any (λ object. under_alike object layer i && locked_alike world names is sealed_off number used object i)
+        list_any (λ object. under_alike object layer i && locked_alike sealing number used object i)
         (sym same i).files.numbers
 
     pub overlaps_written : overlaps_one_of nat_eq world (live_upper_and_work world) layer

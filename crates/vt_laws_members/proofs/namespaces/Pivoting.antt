@@ -1,6 +1,7 @@
 -- Each pivot_root(2) ends in the part as in the world.
 use Rattle.std.proofs.Common.{arith, ◌≡◌, refl, sym, ap, subst, ◌∙◌, ◌⊎◌, inl, inr, ⊎_elim, ℕ, nat_eq, Bool, true, false, cond, true≢false, List, [], ◌∷◌, Option, Some, None, Ok, Err, filter, map, not, eq-eqb, eqb-true, IfOk, is_ok, append-nil}
 use Rattle.vt_spec.proofs.Common.{Among, Descriptor, Done, Fresh, Judgement, Location, Mount, MountInvariants, Namespace, PivotRoot, Private, Task, TaskName, ToPivot, World, among-flat_map, among-from_filter, among-from_flat_map, among-from_map, any_from_among, common_steps, false_from_ne_true, filter_all, granted, holds_of, is_among, is_member_task, is_own_namespace, judge_in, locations, locations_of, members, mount_at, mount_numbered, number-mount_in, numbers_raised, outsiders, part_of, pivoted, pivoted_location, pivoted_mount, pivoted_task, policy, root_of, roots_and_directories, same_name, seen_by_descriptor, settled, task_called}
+use Rattle.vt_laws_members.proofs.judging.TheirCalls.{IsMember, caller_in, sealing_of}
 use Rattle.vt_laws_mounts.proofs.letting_go.Lists.{any-map, filter-map}
 use Rattle.vt_laws_mounts.specs.Mounts.Namespaces.{CanPivot}
 use Rattle.vt_laws_mounts.proofs.namespaces.Pivoting.{is_new, is_root, moved_namespace, moved_other, new_among, pivot_keeps_mounts}
@@ -10,7 +11,7 @@ use Rattle.vt_laws_members.proofs.judging.MountTrees.{own_theirs}
 use Rattle.vt_laws_members.proofs.judging.SeenInPart.{directory_theirs, root_theirs}
 use Rattle.vt_laws_sealed.proofs.outsiders.OtherMounts.{namespace_outside}
 use Rattle.vt_laws_members.specs.Changes.Changes.{EndAlike, EndsAlike, IsCallOfTheirs, grown}
-use Rattle.vt_laws_members.proofs.changes.looks.Told.{member_called, ran, same_caller}
+use Rattle.vt_laws_members.proofs.changes.looks.Told.{ran, same_caller}
 use Rattle.vt_laws_members.proofs.changes.tasks.Denied.{denial_ends_alike, run_by, same_judgement, unnamed_ends_alike}
 use Rattle.vt_laws_members.proofs.changes.letting_go.Heard.{apart}
 use Rattle.vt_laws_members.proofs.changes.letting_go.NamespaceLess.{KeepsShape}
@@ -100,8 +101,8 @@ module _ {world : World ℕ} {names : List TaskName} {name : TaskName} {new_path
   abbrev move : Task ℕ → Task ℕ
   move = pivoted_task nat_eq space root new
 
-  member : Among task old
-  member = member_called world names it.is it.sealed_off name it.theirs task called
+  member : IsMember world names task
+  member = caller_in it called
 
   -- both worlds allow it
   judged_there : judge_in nat_eq supply part task (PivotRoot new_path put_path) ≡ Ok (ToPivot number put)
@@ -113,13 +114,13 @@ module _ {world : World ℕ} {names : List TaskName} {name : TaskName} {new_path
       (pivots_there world it.is.mounts task new_path put_path)
 
   may_there : CanPivot part space (mount_at nat_eq part task.root) (mount_numbered nat_eq part number) put
-  may_there = subst (λ j. IfOk j (PivotsThere part (part_mounts world names it.is it.sealed_off) task)) judged_there
-      (pivots_there part (part_mounts world names it.is it.sealed_off) task new_path put_path)
+  may_there = subst (λ j. IfOk j (PivotsThere part (part_mounts (sealing_of it)) task)) judged_there
+      (pivots_there part (part_mounts (sealing_of it)) task new_path put_path)
 
   -- both mounts are theirs
   owned : (m : Mount ℕ) → m.namespace ≡ Some space → is_own world names old m ≡ true
   owned m e = ap (holds_of (is_own_namespace nat_eq world names)) e
-      ∙ any_from_among (λ (t : Task ℕ). nat_eq space t.namespace) old task member (eq-eqb space space refl)
+      ∙ any_from_among (λ (t : Task ℕ). nat_eq space t.namespace) old task member.among (eq-eqb space space refl)
 
   new_in : Among new world.mounts
   new_in = new_among world space root new put may it.is.mounts
@@ -128,7 +129,7 @@ module _ {world : World ℕ} {names : List TaskName} {name : TaskName} {new_path
   new_theirs = own_theirs world names it.is new new_in (owned new may.new_inside)
 
   root_same : mount_at nat_eq part task.root ≡ root
-  root_same = same_mount world names it.is.mounts task.root.mount (root_theirs world names it.is task member)
+  root_same = same_mount world names it.is.mounts task.root.mount (root_theirs world names it.is task member.among)
 
   new_same : mount_numbered nat_eq part number ≡ new
   new_same = same_mount world names it.is.mounts number
@@ -142,8 +143,7 @@ module _ {world : World ℕ} {names : List TaskName} {name : TaskName} {new_path
   remaking = record {
     world = world;
     names = names;
-    is = it.is;
-    sealed_off = it.sealed_off;
+    sealing = sealing_of it;
     plan = plan;
     tasks = map move world.tasks;
     tasks_too = map move part.tasks;
@@ -206,7 +206,7 @@ module _ {world : World ℕ} {names : List TaskName} {name : TaskName} {new_path
         (pivot_keeps_mounts world space root new put may it.is.mounts);
     kept_there = subst (MountInvariants nat_eq) pivots_part
         (pivot_keeps_mounts part space (mount_at nat_eq part task.root) (mount_numbered nat_eq part number) put
-        may_there (part_mounts world names it.is it.sealed_off));
+        may_there (part_mounts (sealing_of it)));
   }
 
   abbrev OnTheirs : Location ℕ → Type 0
@@ -245,9 +245,9 @@ module _ {world : World ℕ} {names : List TaskName} {name : TaskName} {new_path
       by : (b : Bool) → nat_eq space t.namespace ≡ b → cond b (moved_by root new put true t) t ≡ t
       by false e = refl
       by true e =
-          absurd (true≢false (sym (any_from_among (λ (x : Task ℕ). nat_eq t.namespace x.namespace) old task member
-          (eq-eqb t.namespace space (sym (eqb-true space t.namespace e))))
-          ∙ namespace_outside world names (apart world names it.is it.sealed_off) t m))
+          absurd (true≢false (sym (any_from_among (λ (x : Task ℕ). nat_eq t.namespace x.namespace) old task member.among
+          (eq-eqb t.namespace space (sym (eqb-true space t.namespace e)))) ∙ namespace_outside world names
+          (apart (sealing_of it)) t m))
 
   others_are : filter (λ t. not (is_member_task names t)) (map move world.tasks) ≡ map move (outsiders world names)
   others_are = filter-map (λ t. not (is_member_task names t)) move world.tasks
@@ -288,9 +288,8 @@ module _ {world : World ℕ} {names : List TaskName} {name : TaskName} {new_path
 
   second : policy nat_eq supply part name (PivotRoot new_path put_path) ≡ granted Done left_too
   second = ap (ran name (PivotRoot new_path put_path) part supply)
-      (same_caller world names it.is it.sealed_off name it.theirs ∙ called)
-      ∙ ap (run_by it part supply task) judged_there
-      ∙ ap (λ w. granted Done (numbers_raised nat_eq part name [] (settled nat_eq w))) pivots_part
+      (same_caller (sealing_of it) name it.theirs ∙ called) ∙ ap (run_by it part supply task) judged_there ∙ ap
+      (λ w. granted Done (numbers_raised nat_eq part name [] (settled nat_eq w))) pivots_part
 
   pivot_alike : EndsAlike world names name (PivotRoot new_path put_path) fresh supply
   pivot_alike = subst (λ p. EndAlike (grown names name (PivotRoot new_path put_path)

@@ -1,6 +1,6 @@
 -- Where mounts of theirs change, new ones come, and namespaces come and go, a set sees what is made of its part.
 use Rattle.std.proofs.Common.{arith, ◌≡◌, refl, sym, ap, subst, ◌∙◌, ◌⊎◌, inl, inr, ⊎_elim, ℕ, nat_eq, Bool, true, false, cond, true≢false, List, [], ◌∷◌, ◌++◌, Option, Some, None, filter, map, not, ◌||◌, eq-eqb, eqb-true, filter_map}
-use Rattle.vt_spec.proofs.Common.{Among, IsWorld, Location, Mount, MountInvariants, Namespace, Private, Propagation, Task, TaskName, World, among-append, among-append_left, among-append_right, among-filter, among-flat_map, among-from_filter, among-from_flat_map, among-from_map, among-map, any_among, any_from_among, common_steps, filter-append, filter_map-append, holds_of, is_at, is_member_of, is_member_task, is_own_mount, list_any, locations, locations_of, members, mount_at, mount_numbered, none_is_some, or_cases, or_left, or_parts, outsiders, own_mounts, part_of, roots_and_directories, sealed, seen_by_descriptor, source_of, then_some, used_directly, when}
+use Rattle.vt_spec.proofs.Common.{Among, Location, Mount, MountInvariants, Namespace, Private, Propagation, Task, TaskName, World, among-append, among-append_left, among-append_right, among-filter, among-flat_map, among-from_filter, among-from_flat_map, among-from_map, among-map, any_among, any_from_among, common_steps, filter-append, filter_map-append, holds_of, is_at, is_member_of, is_member_task, is_own_mount, list_any, locations, locations_of, members, mount_at, mount_numbered, none_is_some, or_cases, or_left, or_parts, outsiders, own_mounts, part_of, roots_and_directories, seen_by_descriptor, source_of, then_some, used_directly, when}
 use Rattle.vt_laws_mounts.proofs.GroupsUp.{source_from_group}
 use Rattle.vt_laws_sealed.proofs.part.part.MountsOver.{numbered}
 use Rattle.vt_laws_mounts.proofs.mounts.MountsReplaced.{found_itself}
@@ -14,6 +14,7 @@ use Rattle.vt_laws_members.proofs.changes.letting_go.Changed.{mount_under}
 use Rattle.vt_laws_members.proofs.changes.letting_go.Heard.{IsHeard, heard_by_own, master_same}
 use Rattle.vt_laws_members.proofs.changes.letting_go.LessSeen.{AreLess, filter_map_then}
 use Rattle.vt_laws_members.proofs.changes.letting_go.NamespaceLess.{KeepsShape, ground_at, ground_whole}
+use Rattle.vt_laws_sealed.proofs.part.seals.ByPart.{IsSealed}
 
 -- what becomes of mounts, which ones come, and which namespaces stay and come
 pub record Plan : Type 0 where
@@ -47,8 +48,8 @@ OnAdded plan l = (y : Mount ℕ) × Among y plan.added × (l.mount ≡ y.number)
 pub record Remaking : Type 0 where
   pub world : World ℕ
   pub names : List TaskName
-  pub is : IsWorld nat_eq world
-  pub sealed_off : sealed nat_eq world names ≡ true
+  pub sealing : IsSealed world names
+  pub open sealing use {is, sealed_off}
   pub plan : Plan
   pub tasks : List (Task ℕ)
   pub tasks_too : List (Task ℕ)
@@ -244,10 +245,10 @@ module _ (it : Remaking) (does : ChangesTheirs it) (moves : MovesTheirs it) wher
       (among-append (map turn world.mounts) it.plan.added y n)
 
   pub source_heard : (y : Mount ℕ) → Among y v.mounts → owns new y ≡ true → (g : ℕ)
-      → source_of y.propagation ≡ Some g → IsHeard world names it.is it.sealed_off g
+      → source_of y.propagation ≡ Some g → IsHeard it.sealing g
   source_heard y n own g e =
       let of = origin y n own in
-      ⊎_elim (λ same. heard_by_own world names it.is it.sealed_off of.0 of.1 g (ap source_of (sym same) ∙ e))
+      ⊎_elim (λ same. heard_by_own it.sealing of.0 of.1 g (ap source_of (sym same) ∙ e))
       (λ none. absurd (no_group y.propagation none g e)) of.3
 
   masters_less : (group : ℕ) → list_any (is_member_of nat_eq group) (own_mounts nat_eq v names) ≡ true
@@ -255,8 +256,8 @@ module _ (it : Remaking) (does : ChangesTheirs it) (moves : MovesTheirs it) wher
   masters_less group h =
       let y = any_among (is_member_of nat_eq group) (own_mounts nat_eq v names) h in
       let own = among-from_filter (owns new) v.mounts y.0 y.1 in
-      master_same world names it.is it.sealed_off group (source_heard y.0 own.0 own.1 group
-      (source_from_group y.0.propagation group (member_group group y.0 y.2)))
+      master_same it.sealing group (source_heard y.0 own.0 own.1 group (source_from_group y.0.propagation group
+      (member_group group y.0 y.2)))
 
   -- mounts by their numbers
   pub shown_after : (y : Mount ℕ) → Among y v.mounts → (l : Location ℕ) → l.mount ≡ y.number → mount_at nat_eq v l ≡ y
@@ -276,7 +277,7 @@ module _ (it : Remaking) (does : ChangesTheirs it) (moves : MovesTheirs it) wher
       → (m : Mount ℕ) × Among m world.mounts × (l.mount ≡ m.number)
   placed_old l m =
       let t = among-from_flat_map locations_of old l m in
-      mount_under world names it.is it.sealed_off l (among-flat_map locations_of world.tasks t.0 l
+      mount_under it.sealing l (among-flat_map locations_of world.tasks t.0 l
       (among-from_filter (is_member_task names) world.tasks t.0 t.1).0 t.2)
 
   -- a location of the set is on a mount of the part, or on one that comes

@@ -95,13 +95,13 @@ module _ (it : Remaking) (does : ChangesTheirs it) (moves : MovesTheirs it) wher
 
     before : mounts_of nat_eq part n ≡ mounts_of nat_eq world n
     before = filter_both kept (its_in n) (its_in n) world.mounts
-        (λ m at h. (own_kept world names it.is it.sealed_off m (own_was it does moves m at (owned m h)), h))
+        (λ m at h. (own_kept it.sealing m (own_was it does moves m at (owned m h)), h))
         (λ m y at h e. ⊎_elim (λ same. ap (its_in n) (sym same) ∙ h) (λ stub. ap (its_in n) (sym stub.0))
         (kept_how world names old m y e))
 
     turned : filter (λ m. its_in n (turn m)) part.mounts ≡ filter (λ m. its_in n (turn m)) world.mounts
     turned = filter_both kept (λ m. its_in n (turn m)) (λ m. its_in n (turn m)) world.mounts (λ m at h. (
-      own_kept world names it.is it.sealed_off m (own_before it does moves m at (owned (turn m) h)),
+      own_kept it.sealing m (own_before it does moves m at (owned (turn m) h)),
       h,
     )) (λ m y at h e. ⊎_elim (λ same. ap (λ x. its_in n (turn x)) (sym same) ∙ h)
         (λ stub. ap (λ x. its_in n (turn x)) (sym stub.0) ∙ ap (its_in n) (does.others m at stub.1).1)
@@ -125,7 +125,7 @@ module _ (it : Remaking) (does : ChangesTheirs it) (moves : MovesTheirs it) wher
 
         by : (o : Option ℕ) → source_of m.propagation ≡ o → then_some o part.master ≡ then_some o world.master
         by None e = refl
-        by (Some g) e = master_same world names it.is it.sealed_off g (heard_by_own world names it.is it.sealed_off m
+        by (Some g) e = master_same it.sealing g (heard_by_own it.sealing m
             (among-filter (is_own_mount nat_eq world names) world.mounts m from.0
             (own_was it does moves m from.0 (owned m from.1))) g e)
 
@@ -142,8 +142,8 @@ module _ (it : Remaking) (does : ChangesTheirs it) (moves : MovesTheirs it) wher
         by : (o : Option ℕ) → source_of y.propagation ≡ o → then_some o u_part.master ≡ then_some o u.master
         by None e = refl
         by (Some g) e = ap (λ c. cond c (part.master g) None) (settled_members after_part does.kept_there y there g e)
-            ∙ master_same world names it.is it.sealed_off g (source_heard it does moves y from.0 (owned y from.1) g e)
-            ∙ sym (ap (λ c. cond c (world.master g) None) (settled_members after does.kept y from.0 g e))
+            ∙ master_same it.sealing g (source_heard it does moves y from.0 (owned y from.1) g e) ∙ sym
+            (ap (λ c. cond c (world.master g) None) (settled_members after does.kept y from.0 g e))
 
     -- they changed in both, or in none
     spaces_alike : same_mounts_in nat_eq part u_part n ≡ same_mounts_in nat_eq world u n

@@ -118,7 +118,7 @@ module _ (it : Remaking) (does : ChangesTheirs it) (moves : MovesTheirs it) wher
         → (mount_at nat_eq living l).filesystem ≡ (mount_at nat_eq world l).filesystem
     other_shows l m out =
         let from = among-from_flat_map locations_of (outsiders world names) l out in
-        let under = mount_under world names it.is it.sealed_off l (among-flat_map locations_of world.tasks from.0 l
+        let under = mount_under it.sealing l (among-flat_map locations_of world.tasks from.0 l
         (among-from_filter (λ y. not (is_member_task names y)) world.tasks from.0 from.1).0 from.2) in
         let number : l.mount ≡ (turn under.0).number = under.2 ∙ sym (does.shape under.0).number in
         let there = turned_in it does moves under.0 under.1 in

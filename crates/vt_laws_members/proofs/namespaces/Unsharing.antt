@@ -1,6 +1,8 @@
 -- Each unshare(2) ends in the part as in the world.
 use Rattle.std.proofs.Common.{arith, ◌≡◌, refl, sym, ap, subst, ◌∙◌, ◌⊎◌, inl, inr, ⊎_elim, ℕ, nat_eq, Bool, true, false, cond, true≢false, List, [], ◌∷◌, Option, Some, None, Ok, Err, filter, map, not, ◌&&◌, ◌+◌, ◌*◌, eq-eqb, eqb-true, IfOk, is_ok}
 use Rattle.vt_spec.proofs.Common.{Among, Call, Done, Exit, Fresh, Judgement, Location, Mount, MountInvariants, Namespace, Permit, Private, Serves, Task, TaskName, ToUnshare, Unshare, World, admin_rules, among-filter, among-flat_map, among-from_filter, among-from_flat_map, among-from_map, among-map, among_from_list_all, any_among, any_from_among, common_steps, detached, false_from_ne_true, granted, has_tasks, index_of, is_among, is_copied, is_listed, is_member_task, is_own_mount, is_own_namespace, judge_in, list_all_from_among, list_any, location_on_copy, locations, locations_of, members, mounts_of, moved_location, name-replaced_if_called, namespaces_ended, none_among, not-true, numbers_by, numbers_raised, odds, outsiders, part_of, policy, replaced_if_called, roots_and_directories, same_name, same_name_itself, same_task_name, seen_by_descriptor, settled, task_called, unshare_permit, unshared}
+use Rattle.vt_laws_members.proofs.attached.PartServes.{serves_there}
+use Rattle.vt_laws_members.proofs.judging.TheirCalls.{IsMember, caller_in, sealing_of}
 use Rattle.vt_laws_mounts.proofs.letting_go.Lists.{filter-map}
 use Rattle.vt_laws_mounts.proofs.ends.Ending.{ended_namespaces_keep_mounts}
 use Rattle.vt_laws_mounts.proofs.namespaces.Unsharing.{unshare_keeps_mounts}
@@ -11,7 +13,7 @@ use Rattle.vt_laws_sealed.proofs.outsiders.OtherMounts.{namespace_outside, numbe
 use Rattle.vt_laws_members.specs.Changes.Changes.{EndAlike, IsCallOfTheirs, grown}
 use Rattle.vt_laws_members.specs.Changes.NameChanges.{EndsAlikeByOne}
 use Rattle.vt_laws_members.proofs.changes.looks.Granted.{of_rules}
-use Rattle.vt_laws_members.proofs.changes.looks.Told.{member_called, ran, same_caller}
+use Rattle.vt_laws_members.proofs.changes.looks.Told.{ran, same_caller}
 use Rattle.vt_laws_members.proofs.changes.tasks.Denied.{denial_ends_alike, ran_there, run_by, unnamed_ends_alike}
 use Rattle.vt_laws_members.proofs.changes.tasks.Rights.{only_task}
 use Rattle.vt_laws_members.proofs.changes.letting_go.CutNamespace.{in_space}
@@ -22,7 +24,6 @@ use Rattle.vt_laws_members.proofs.changes.letting_go.PartMounts.{part_mounts}
 use Rattle.vt_laws_members.specs.Namespaces.NamespaceChanges.{UnsharesEndAlike}
 use Rattle.vt_laws_members.proofs.namespaces.Remade.{ChangesTheirs, IsNewSpace, MovesTheirs, Plan, Remaking, in_spaces, remade}
 use Rattle.vt_laws_members.proofs.namespaces.RemadeParts.{remade_parts}
-use Rattle.vt_laws_members.proofs.namespaces.ServesPart.{serves_part}
 use Rattle.vt_laws_members.proofs.namespaces.Unshared.{CanUnshare, Ends, copy_of, cut, listed_in, moved_to_copies, new_among_spaces, new_space, none_in_new, unshare_plan, unshared_so}
 
 abbrev is_exit : Call → Bool
@@ -68,34 +69,34 @@ module _ {world : World ℕ} {names : List TaskName} {name : TaskName} (it : IsC
   in_world : (t : Task ℕ) → Among t old → Among t world.tasks
   in_world t m = (among-from_filter (is_member_task names) world.tasks t m).0
 
-  member : Among task old
-  member = member_called world names it.is it.sealed_off name it.theirs task called
+  member : IsMember world names task
+  member = caller_in it called
 
   only : (t : Task ℕ) → Among t world.tasks → (task ≡ t) ⊎ (same_name task.name t.name ≡ false)
-  only t m = grind (arith, common_steps, only_task, in_world, member, same_task_name)
+  only t m = grind (arith, common_steps, only_task, in_world, member.among, same_task_name)
 
   k_own : is_own_namespace nat_eq world names k ≡ true
-  k_own = any_from_among (λ (t : Task ℕ). nat_eq k t.namespace) old task member (eq-eqb k k refl)
+  k_own = any_from_among (λ (t : Task ℕ). nat_eq k t.namespace) old task member.among (eq-eqb k k refl)
 
   k_left : nat_eq k s ≡ false
   k_left =
       let at = listed_in world k (among_from_list_all (λ (t : Task ℕ). is_listed nat_eq world t.namespace) world.tasks
-      it.is.namespaces.tasks_listed task (in_world task member)) in
+      it.is.namespaces.tasks_listed task (in_world task member.among)) in
       false_from_ne_true (nat_eq k s) (λ e. true≢false
       (sym (eq-eqb s at.0.number (sym (eqb-true k s e) ∙ at.2)) ∙ new_among_spaces world fresh serves at.0 at.1))
 
   -- both worlds can
   can_world : CanUnshare world fresh task
-  can_world = grind (arith, common_steps, in_world, member, same_name_itself, k_left, only)
+  can_world = grind (arith, common_steps, in_world, member.among, same_name_itself, k_left, only)
 
   can_part : CanUnshare part fresh task
   can_part = record {
-    kept = part_mounts world names it.is it.sealed_off;
-    serves = serves_part world names fresh serves;
+    kept = part_mounts (sealing_of it);
+    serves = serves_there world names fresh serves;
     listed = part_listed exits task called;
     live = list_all_from_among (has_tasks nat_eq part) part.namespaces (λ n m.
         (among-from_filter (λ (x : Namespace ℕ). in_spaces old x.number) world.namespaces n m).1);
-    there = member;
+    there = member.among;
     named = same_name_itself task.name;
     left = k_left;
     only = λ t m. only t (in_world t m);
@@ -172,8 +173,8 @@ module _ {world : World ℕ} {names : List TaskName} {name : TaskName} (it : IsC
       (replaced_how u.0 (in_world u.0 u.1))
     where
       mine : Among l (moved.root ∷ moved.directory ∷ []) → OnTheirs l ⊎ OnCopy l
-      mine n = ⊎_elim (moved_how task.root l (root_theirs world names it.is task member))
-          (λ rest. ⊎_elim (moved_how task.directory l (directory_theirs world names it.is task member))
+      mine n = ⊎_elim (moved_how task.root l (root_theirs world names it.is task member.among))
+          (λ rest. ⊎_elim (moved_how task.directory l (directory_theirs world names it.is task member.among))
           (λ none. absurd none) rest) n
 
       its_own : (u : Task ℕ) → Among u old → Among l (u.root ∷ u.directory ∷ []) → OnTheirs l
@@ -190,9 +191,9 @@ module _ {world : World ℕ} {names : List TaskName} {name : TaskName} (it : IsC
       (subst (λ (x : Task ℕ). Among l (locations_of x)) (u.2 ∙ same) t.2))) (replaced_how u.0 (in_world u.0 u.1))
     where
       mine : Among l (locations_of moved) → Among l (locations old) ⊎ (OnTheirs l ⊎ OnCopy l)
-      mine n = ⊎_elim (λ e. inr (moved_how task.root l (root_theirs world names it.is task member) e))
-          (λ rest. ⊎_elim (λ e. inr (moved_how task.directory l (directory_theirs world names it.is task member) e))
-          (λ files. inl (among-flat_map locations_of old task l member (inr (inr files)))) rest) n
+      mine n = ⊎_elim (λ e. inr (moved_how task.root l (root_theirs world names it.is task member.among) e))
+          (λ rest. ⊎_elim (λ e. inr (moved_how task.directory l (directory_theirs world names it.is task member.among)
+          e)) (λ files. inl (among-flat_map locations_of old task l member.among (inr (inr files)))) rest) n
 
   others_are : filter (λ t. not (is_member_task names t)) (map replaced world.tasks)
       ≡ map replaced (outsiders world names)
@@ -208,7 +209,7 @@ module _ {world : World ℕ} {names : List TaskName} {name : TaskName} (it : IsC
       let u = among-from_map replaced (outsiders world names) t.0 t.1 in
       let from = among-from_filter (λ x. not (is_member_task names x)) world.tasks u.0 u.1 in
       ⊎_elim (λ caller. absurd (true≢false (sym from.1 ∙ ap not (ap (is_member_task names) (sym caller.0)
-      ∙ (among-from_filter (is_member_task names) world.tasks task member).1))))
+      ∙ (among-from_filter (is_member_task names) world.tasks task member.among).1))))
       (λ same. among-flat_map locations_of (outsiders world names) u.0 l u.1
       (subst (λ (x : Task ℕ). Among l (locations_of x)) (u.2 ∙ same) t.2)) (replaced_how u.0 from.0)
 
@@ -224,8 +225,7 @@ module _ {world : World ℕ} {names : List TaskName} {name : TaskName} (it : IsC
     remaking = record {
       world = world;
       names = names;
-      is = it.is;
-      sealed_off = it.sealed_off;
+      sealing = sealing_of it;
       plan = plan;
       tasks = map replaced world.tasks;
       tasks_too = map replaced part.tasks;
@@ -236,8 +236,7 @@ module _ {world : World ℕ} {names : List TaskName} {name : TaskName} (it : IsC
 
     part_so : namespaces_ended nat_eq (unshared nat_eq part fresh task) ≡ remade plan part (map replaced part.tasks)
     part_so = unshared_so part fresh task can_part ends here_too ∙ ap (λ c. remade (unshare_plan ends k fresh c) part
-        (map (replaced_if_called (moved_to_copies fresh c task)) part.tasks))
-        (space_in_part world names it.is it.sealed_off k k_own)
+        (map (replaced_if_called (moved_to_copies fresh c task)) part.tasks)) (space_in_part (sealing_of it) k k_own)
 
     turned_shape : (m : Mount ℕ) → KeepsShape m (turn m)
     turned_shape m = by (ends && in_space k m)
@@ -286,13 +285,13 @@ module _ {world : World ℕ} {names : List TaskName} {name : TaskName} (it : IsC
           let at = among-from_filter (in_space k) world.mounts from.0 from.1 in (
             from.0,
             among-filter (is_own_mount nat_eq world names) world.mounts from.0 at.0
-                (own_in world names it.is it.sealed_off k k_own from.0 at.1),
+                (own_in (sealing_of it) k k_own from.0 at.1),
             ap (λ (x : Mount ℕ). x.filesystem) from.2,
             ap (λ (x : Mount ℕ). x.propagation) from.2,
           );
       owned = λ y fresh_one. ap (is_own world names new) (among-from_map copy copied y fresh_one).2
           ∙ any_from_among (λ (x : Task ℕ). nat_eq s x.namespace) new moved
-          (subst (λ x. Among x new) its (in_set task member)) (eq-eqb s s refl);
+          (subst (λ x. Among x new) its (in_set task member.among)) (eq-eqb s s refl);
       apart = λ y m fresh_one there same. let from = among-from_map copy copied y fresh_one in
           number_not_new world fresh serves m (2 * index_of nat_eq copied from.0.number + 1) there
           (sym same ∙ ap (λ (x : Mount ℕ). x.number) from.2);
@@ -329,8 +328,8 @@ module _ {world : World ℕ} {names : List TaskName} {name : TaskName} (it : IsC
         ap (ran name Unshare world fresh) called ∙ ap (run_by it world fresh task) judged
         ∙ ap (λ w. granted Done (numbers_raised nat_eq world name [] (settled nat_eq w))) world_so in
         let second : policy nat_eq fresh part name Unshare ≡ granted Done left_too =
-        ap (ran name Unshare part fresh) (same_caller world names it.is it.sealed_off name it.theirs ∙ called)
-        ∙ ran_there it fresh fresh task called judged
+        ap (ran name Unshare part fresh) (same_caller (sealing_of it) name it.theirs ∙ called) ∙ ran_there it fresh
+        fresh task called judged
         ∙ ap (λ w. granted Done (numbers_raised nat_eq part name [] (settled nat_eq w))) part_so in
         subst (λ p. EndAlike (grown names name Unshare (policy nat_eq fresh world name Unshare).answer)
         (policy nat_eq fresh world name Unshare) p) (sym second)

@@ -1,7 +1,8 @@
 -- The layers of an overlay that a task of a sealed set mounts lie in filesystems that the set uses.
 use Rattle.std.proofs.Common.{◌≡◌, refl, sym, subst, inl, ⊎_elim, ℕ, nat_eq, true, List, [], ◌∷◌, ◌++◌, Option, Some, None, Ok, Err, Result, IfOk, option_map, option_to_list}
-use Rattle.vt_spec.proofs.Common.{Among, Fresh, Here, IsWorld, Layer, LayerLocations, Location, MountFlags, MountOverlay, Overlay, OverlayWords, Permit, Stop, Task, TaskName, ToMountOverlay, World, among-append, among-append_left, among-append_right, among-from_map, and_then, each_walked, is_among, layer_at, layer_locations, layers_of, layers_walked, looks_of, members, mount_at, overfills, overlay_at, sealed, shown_layers, source_walk, used_directly, used_filesystems, walk_end, walked_if_given, work_walked}
+use Rattle.vt_spec.proofs.Common.{Among, Fresh, Here, Layer, LayerLocations, Location, MountFlags, MountOverlay, Overlay, OverlayWords, Permit, Stop, Task, TaskName, ToMountOverlay, World, among-append, among-append_left, among-append_right, among-from_map, and_then, each_walked, is_among, layer_at, layer_locations, layers_of, layers_walked, looks_of, members, mount_at, overfills, overlay_at, shown_layers, source_walk, used_directly, used_filesystems, walk_end, walked_if_given, work_walked}
 use Rattle.vt_spec.specs.declared.errors.Deny.{Deny}
+use Rattle.vt_laws_members.proofs.judging.TheirCalls.{IsMember}
 use Rattle.vt_laws_rules.specs.Granted.{IsGranted}
 use Rattle.vt_laws_rules.specs.Granted.IsGranted.{mounts_overlayfs}
 use Rattle.vt_laws_trees.specs.Layers.Layers.Mounted.{AreLayers}
@@ -25,8 +26,7 @@ end_ok : {A : Type 0} (Q : A → Type 0) (r : Result A (Stop ℕ)) → IfOk r Q 
 end_ok Q (Ok a) q = q
 end_ok Q (Err stop) q = tt
 
-module _ (world : World ℕ) (names : List TaskName) (is : IsWorld nat_eq world)
-    (sealed_off : sealed nat_eq world names ≡ true) (task : Task ℕ) (member : Among task (members world names)) where
+module _ {world : World ℕ} {names : List TaskName} {task : Task ℕ} (member : IsMember world names task) where
   abbrev At : Location ℕ → Type 0
   At l = is_theirs world names l.mount ≡ true
 
@@ -34,16 +34,15 @@ module _ (world : World ℕ) (names : List TaskName) (is : IsWorld nat_eq world)
   AreAt places = Each At (layer_locations places)
 
   abbrev StandsThere : Here ℕ → Type 0
-  StandsThere = StandsHere world names is sealed_off task member
+  StandsThere = StandsHere member
 
   -- Walks of the layers
   each_at : (paths : List (List ℕ)) → IfOk (each_walked nat_eq (looks_of nat_eq world) task paths) (Each At)
   each_at [] = λ l m. absurd m
   each_at (path ∷ paths) =
       then_ok StandsThere (Each At) (walk_end (source_walk nat_eq (looks_of nat_eq world) task path)) _
-      (end_ok StandsThere (source_walk nat_eq (looks_of nat_eq world) task path)
-      (at_source world names is sealed_off task member path)) (λ here on.
-      then_ok (Each At) (Each At) (each_walked nat_eq (looks_of nat_eq world) task paths) _ (each_at paths)
+      (end_ok StandsThere (source_walk nat_eq (looks_of nat_eq world) task path) (at_source member path))
+      (λ here on. then_ok (Each At) (Each At) (each_walked nat_eq (looks_of nat_eq world) task paths) _ (each_at paths)
       (λ rest all l m. ⊎_elim (λ same. subst At (sym same) on) (λ later. all l later) m))
 
   given_at : (path : Option (List ℕ))
@@ -51,8 +50,7 @@ module _ (world : World ℕ) (names : List TaskName) (is : IsWorld nat_eq world)
   given_at None = λ l m. absurd m
   given_at (Some path) = then_ok StandsThere (λ place. Each At (option_to_list place))
       (walk_end (source_walk nat_eq (looks_of nat_eq world) task path)) _
-      (end_ok StandsThere (source_walk nat_eq (looks_of nat_eq world) task path)
-      (at_source world names is sealed_off task member path))
+      (end_ok StandsThere (source_walk nat_eq (looks_of nat_eq world) task path) (at_source member path))
       (λ here on l m. ⊎_elim (λ same. subst At (sym same) on) (λ none. absurd none) m)
 
   layers_at : (words : OverlayWords) → IfOk (layers_walked nat_eq (looks_of nat_eq world) task words) AreAt
@@ -79,7 +77,7 @@ module _ (world : World ℕ) (names : List TaskName) (is : IsWorld nat_eq world)
     IsUsed layer = Among layer.filesystem (used_directly nat_eq world names)
 
     used_at : (l : Location ℕ) → At l → IsUsed (layer_there l)
-    used_at l on = theirs_directly world names is l (theirs_from world names is.mounts l.mount on)
+    used_at l on = theirs_directly world names member.is l (theirs_from world names member.is.mounts l.mount on)
 
     given_used : (o : Option (Location ℕ)) → Each At (option_to_list o)
         → Each IsUsed (option_to_list (option_map layer_there o))
@@ -132,8 +130,8 @@ module _ (world : World ℕ) (names : List TaskName) (is : IsWorld nat_eq world)
         here = here.location;
         places = places;
         is_so = refl;
-        on = subst (λ r. IfOk r StandsThere) end (at_destination world names is sealed_off task member path);
-        own = owned world names is sealed_off task member here.location passed.0;
+        on = subst (λ r. IfOk r StandsThere) end (at_destination member path);
+        own = owned member here.location passed.0;
         all = subst (λ r. IfOk r AreAt) walked (layers_at words);
         are_layers = (has_layers world task places are layered, shown_plain world task places are layered);
       }

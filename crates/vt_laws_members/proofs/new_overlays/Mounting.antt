@@ -1,11 +1,12 @@
 -- Each mount(2) of a new overlay ends in the part as in the world.
 use Rattle.std.proofs.Common.{◌≡◌, refl, sym, ap, subst, ◌∙◌, ℕ, nat_eq, true, List, [], Option, Some, None, Ok, Err, is_ok}
 use Rattle.vt_spec.proofs.Common.{Among, Call, Done, Filesystem, Fresh, Judgement, Layer, MountFlags, MountOverlay, Overlay, OverlayWords, Permit, Serves, Task, TaskName, ToMountOverlay, World, evens, evens-distinct, granted, judge_in, layers_of, looks_of, members, mounted, numbers_raised, odds, overfills, overlay_at, overlay_filesystem, part_of, policy, served-distinct, settled, task_called, used_directly}
+use Rattle.vt_laws_members.proofs.judging.TheirCalls.{a_member, caller_in, sealing_of}
 use Rattle.vt_laws_rules.proofs.given.Inversion.{calls_are_granted}
 use Rattle.vt_laws_mounts.specs.LettingGo.Keeping.{has_only_named}
 use Rattle.vt_laws_worlds.proofs.overlays_let_go.mounting.NewOverlays.{new_overlays_are_named}
 use Rattle.vt_laws_members.specs.Changes.Changes.{EndAlike, EndsAlike, IsCallOfTheirs, grown}
-use Rattle.vt_laws_members.proofs.changes.looks.Told.{member_called, ran, same_caller}
+use Rattle.vt_laws_members.proofs.changes.looks.Told.{ran, same_caller}
 use Rattle.vt_laws_members.proofs.changes.tasks.Denied.{denial_ends_alike, ran_there, run_by, unnamed_ends_alike}
 use Rattle.vt_laws_members.specs.NewOverlays.OverlayMounts.{OverlayMountsEndAlike}
 use Rattle.vt_laws_members.proofs.new_overlays.LayersTheirs.{MountsOverlay, all_used, mounts_overlay, shown_used}
@@ -16,9 +17,8 @@ use Rattle.vt_laws_members.proofs.new_overlays.SameOverlay.{same_overlay}
 module _ {world : World ℕ} {names : List TaskName} {name : TaskName} {path : List ℕ} {options : Option OverlayWords}
     {flags : MountFlags} (it : IsCallOfTheirs world names name (MountOverlay path options flags)) (task : Task ℕ)
     (member : Among task (members world names)) (called : task_called world name ≡ Some task) (fresh : Fresh ℕ)
-    (serves : Serves nat_eq world fresh) (permit : Permit ℕ)
-    (its : MountsOverlay world names it.is it.sealed_off task member flags permit)
-    (judged : judge_in nat_eq fresh world task (MountOverlay path options flags) ≡ Ok permit) where
+    (serves : Serves nat_eq world fresh) (permit : Permit ℕ) (its : MountsOverlay (a_member (sealing_of it) member)
+    flags permit) (judged : judge_in nat_eq fresh world task (MountOverlay path options flags) ≡ Ok permit) where
   abbrev part : World ℕ
   part = part_of nat_eq world names
 
@@ -37,43 +37,39 @@ module _ {world : World ℕ} {names : List TaskName} {name : TaskName} {path : L
 
   new_layers : (layer : Layer ℕ) → Among layer (layers_of overlay)
       → Among layer.filesystem (used_directly nat_eq world names)
-  new_layers = all_used world names it.is it.sealed_off task member its.places its.all
+  new_layers = all_used (a_member (sealing_of it) member) its.places its.all
 
   abbrev later : World ℕ
-  later = now world names it.is it.sealed_off fresh serves its.here its.on its.own new_one refl new_layers new_named
+  later = now (sealing_of it) fresh serves its.here its.on its.own new_one refl new_layers new_named
       flags
 
   abbrev later_there : World ℕ
   later_there =
-      now_there world names it.is it.sealed_off fresh serves its.here its.on its.own new_one refl new_layers new_named
-      flags
+      now_there (sealing_of it) fresh serves its.here its.on its.own new_one refl new_layers new_named flags
 
   granted_so : judge_in nat_eq fresh world task call ≡ Ok (ToMountOverlay its.here overlay flags)
   granted_so = judged ∙ ap Ok its.is_so
 
   first : policy nat_eq fresh world name call ≡ granted Done (numbers_raised nat_eq world name [] later)
   first = ap (ran name call world fresh) called ∙ ap (run_by it world fresh task) granted_so
-      ∙ ap (λ w. granted Done (numbers_raised nat_eq world name [] w))
-      (settled_here world names it.is it.sealed_off fresh serves its.here its.on its.own new_one refl new_layers
-      new_named flags)
+      ∙ ap (λ w. granted Done (numbers_raised nat_eq world name [] w)) (settled_here (sealing_of it) fresh serves
+      its.here its.on its.own new_one refl new_layers new_named flags)
 
   second : policy nat_eq fresh part name call ≡ granted Done (numbers_raised nat_eq part name [] later_there)
-  second = ap (ran name call part fresh) (same_caller world names it.is it.sealed_off name it.theirs ∙ called)
+  second = ap (ran name call part fresh) (same_caller (sealing_of it) name it.theirs ∙ called)
       ∙ ran_there it fresh fresh task called granted_so
       ∙ ap (λ f. granted Done (numbers_raised nat_eq part name []
       (settled nat_eq (mounted nat_eq (odds fresh) part its.here f flags))))
-      (same_overlay world names it.is overlay its.are_layers
-      (shown_used world names it.is it.sealed_off task member its.places its.all) (evens fresh))
-      ∙ ap (λ w. granted Done (numbers_raised nat_eq part name [] w))
-      (settled_there world names it.is it.sealed_off fresh serves its.here its.on its.own new_one refl new_layers
-      new_named flags)
+      (same_overlay world names it.is overlay its.are_layers (shown_used (a_member (sealing_of it) member) its.places
+      its.all) (evens fresh)) ∙ ap (λ w. granted Done (numbers_raised nat_eq part name [] w))
+      (settled_there (sealing_of it) fresh serves its.here its.on its.own new_one refl new_layers new_named flags)
 
   mount_alike : EndsAlike world names name call fresh fresh
   mount_alike = subst (λ p. EndAlike (grown names name call (policy nat_eq fresh world name call).answer)
       (policy nat_eq fresh world name call) p) (sym second) (subst (λ o. EndAlike (grown names name call o.answer) o
       (granted Done (numbers_raised nat_eq part name [] later_there))) (sym first) (record {
         answer = refl;
-        part = mounted_alike world names it.is it.sealed_off fresh serves its.here its.on its.own new_one refl
+        part = mounted_alike (sealing_of it) fresh serves its.here its.on its.own new_one refl
             new_layers new_named flags name;
       }))
 
@@ -84,9 +80,8 @@ overlay_mounts_end_alike world names name path options flags it fresh serves = b
         → (j : Judgement ℕ) → judge_in nat_eq fresh world task (MountOverlay path options flags) ≡ j
         → EndsAlike world names name (MountOverlay path options flags) fresh fresh
     judged_by task member e (Ok permit) judged =
-        mount_alike it task member e fresh serves permit
-        (mounts_overlay world names it.is it.sealed_off task member fresh path options flags permit
-        (calls_are_granted nat_eq (looks_of nat_eq world) (overfills nat_eq fresh world task) task
+        mount_alike it task member e fresh serves permit (mounts_overlay (a_member (sealing_of it) member) fresh path
+        options flags permit (calls_are_granted nat_eq (looks_of nat_eq world) (overfills nat_eq fresh world task) task
         (MountOverlay path options flags) permit judged)) judged
     judged_by task member e (Err deny) judged =
         denial_ends_alike it fresh fresh (ap (λ o. is_ok (ran name (MountOverlay path options flags) world fresh
@@ -95,5 +90,5 @@ overlay_mounts_end_alike world names name path options flags it fresh serves = b
     by : (o : Option (Task ℕ)) → task_called world name ≡ o
         → EndsAlike world names name (MountOverlay path options flags) fresh fresh
     by None e = unnamed_ends_alike it fresh fresh e
-    by (Some task) e = judged_by task (member_called world names it.is it.sealed_off name it.theirs task e) e
+    by (Some task) e = judged_by task (caller_in it e).among e
         (judge_in nat_eq fresh world task (MountOverlay path options flags)) refl

@@ -1,6 +1,6 @@
 -- A new filesystem, of which the layers lie in what a sealed set uses, is mounted in the part as in the world.
 use Rattle.std.proofs.Common.{◌≡◌, refl, sym, ap, subst, ◌∙◌, inl, inr, ⊎_elim, ℕ, nat_eq, true, false, List, [], ◌∷◌, Some, None, ◌||◌, eq-eqb}
-use Rattle.vt_spec.proofs.Common.{Among, Copies, Filesystem, Fresh, IsWorld, Layer, Location, Mount, MountFlags, Serves, TaskName, World, attached_by, copies_from, is_among, layers_of, list_any, members, mount_at, mounted, new_mount, none_is_some, numbers_raised, odds, of_overlay, part_of, sealed, settled, source_of, used_directly, used_filesystems}
+use Rattle.vt_spec.proofs.Common.{Among, Copies, Filesystem, Fresh, Layer, Location, Mount, MountFlags, Serves, TaskName, World, attached_by, copies_from, is_among, layers_of, list_any, members, mount_at, mounted, new_mount, none_is_some, numbers_raised, odds, of_overlay, part_of, settled, source_of, used_directly, used_filesystems}
 use Rattle.vt_laws_mounts.specs.LettingGo.Keeping.{has_only_named}
 use Rattle.vt_laws_mounts.proofs.letting_go.mounting.AttachedSwept.{new_filesystems_keep_all}
 use Rattle.vt_laws_mounts.proofs.letting_go.sweeps.OfWorlds.{all_in_use, locations_of_worlds_stand, mounts_of_worlds_stand}
@@ -13,9 +13,10 @@ use Rattle.vt_laws_members.proofs.attached.CopiesAlike.{AttachesTheirs, base_par
 use Rattle.vt_laws_members.proofs.attached.Destination.{locations_stand_there, mounts_stand_there, placed, placed_there, there}
 use Rattle.vt_laws_members.proofs.attached.PushedUp.{ShowTheirs}
 use Rattle.vt_laws_members.proofs.attached.Unused.{filesystem_unlike, group_new, used_unlike}
+use Rattle.vt_laws_sealed.proofs.part.seals.ByPart.{IsSealed}
 
-module _ (world : World ℕ) (names : List TaskName) (is : IsWorld nat_eq world)
-    (sealed_off : sealed nat_eq world names ≡ true) (fresh : Fresh ℕ) (serves : Serves nat_eq world fresh)
+module _ {world : World ℕ} {names : List TaskName} (sealing : IsSealed world names) (fresh : Fresh ℕ)
+    (serves : Serves nat_eq world fresh)
     (here : Location ℕ) (on : is_theirs world names here.mount ≡ true)
     (own : is_own world names (members world names) (mount_at nat_eq world here) ≡ true) (new_one : Filesystem ℕ)
     (number : new_one.number ≡ fresh 0) (layers : (layer : Layer ℕ) → Among layer (of_overlay [] layers_of new_one)
@@ -24,11 +25,11 @@ module _ (world : World ℕ) (names : List TaskName) (is : IsWorld nat_eq world)
   abbrev part : World ℕ
   part = part_of nat_eq world names
 
-  theirs : IsTheirs world names is.mounts here.mount
-  theirs = theirs_from world names is.mounts here.mount on
+  theirs : IsTheirs world names sealing.is.mounts here.mount
+  theirs = theirs_from world names sealing.is.mounts here.mount on
 
   pub here_there : Among (mount_at nat_eq world here) world.mounts
-  here_there = there world names is sealed_off here theirs own
+  here_there = there world names sealing.is sealing.sealed_off here theirs own
 
   abbrev mount : Mount ℕ
   mount = new_mount new_one.number new_one.files.tree.root flags
@@ -42,12 +43,11 @@ module _ (world : World ℕ) (names : List TaskName) (is : IsWorld nat_eq world)
 
   pub unused : (n : ℕ) → is_among nat_eq n (used_filesystems nat_eq world names) ≡ true
       → list_any (λ (f : Filesystem ℕ). nat_eq n f.number) (new_one ∷ []) ≡ false
-  unused n used = unlike n (used_unlike world names is fresh serves n used 0)
+  unused n used = unlike n (used_unlike world names sealing.is fresh serves n used 0)
 
   abbrev pub attaching : AttachesTheirs world names
   attaching = record {
-    is = is;
-    sealed_off = sealed_off;
+    sealing = sealing;
     new_ones = new_one ∷ [];
     unused = unused;
     place = here;
@@ -62,7 +62,7 @@ module _ (world : World ℕ) (names : List TaskName) (is : IsWorld nat_eq world)
   shows = record {
     shown = λ o m. inr (⊎_elim (λ same. ap (λ (x : Mount ℕ). nat_eq x.filesystem new_one.number || false) same
         ∙ ap (λ b. b || false) (eq-eqb new_one.number new_one.number refl)) (λ none. absurd none) m);
-    unlisted = λ f m. unlike f.number (filesystem_unlike world names is fresh serves f m 0);
+    unlisted = λ f m. unlike f.number (filesystem_unlike world names sealing.is fresh serves f m 0);
     layers = λ f m layer n. ⊎_elim
         (λ same. layers layer (subst (Among layer) (ap (of_overlay [] layers_of) same) n)) (λ none. absurd none) m;
     mounted = λ f m. (
@@ -78,7 +78,7 @@ module _ (world : World ℕ) (names : List TaskName) (is : IsWorld nat_eq world)
       (λ none. absurd none) m
 
   new_groups : (a b : ℕ) → world.master (new.image a b) ≡ None
-  new_groups a b = group_new world names is fresh serves _
+  new_groups a b = group_new world names sealing.is fresh serves _
 
   abbrev pub now : World ℕ
   now = mounted nat_eq (odds fresh) world here new_one flags
@@ -88,14 +88,14 @@ module _ (world : World ℕ) (names : List TaskName) (is : IsWorld nat_eq world)
 
   -- nothing goes
   pub settled_here : settled nat_eq now ≡ now
-  settled_here = new_filesystems_keep_all (odds fresh) world here new_one flags (all_in_use world is)
-      (mounts_of_worlds_stand world is) (locations_of_worlds_stand world is)
-      (placed world names is sealed_off here theirs own) named
+  settled_here = new_filesystems_keep_all (odds fresh) world here new_one flags (all_in_use world sealing.is)
+      (mounts_of_worlds_stand world sealing.is) (locations_of_worlds_stand world sealing.is)
+      (placed world names sealing.is sealing.sealed_off here theirs own) named
 
   pub settled_there : settled nat_eq now_there ≡ now_there
-  settled_there = new_filesystems_keep_all (odds fresh) part here new_one flags (part_in_use world names is sealed_off)
-      (mounts_stand_there world names is sealed_off) (locations_stand_there world names is)
-      (placed_there world names is sealed_off here theirs own) named
+  settled_there = new_filesystems_keep_all (odds fresh) part here new_one flags (part_in_use sealing)
+      (mounts_stand_there world names sealing.is sealing.sealed_off) (locations_stand_there world names sealing.is)
+      (placed_there world names sealing.is sealing.sealed_off here theirs own) named
 
   -- the numbers are handed out to the same parts
   same_numbers : now_there ≡ attached_by nat_eq

@@ -1,16 +1,14 @@
 -- The overlay that is made of layers which a sealed set uses is the same in the part of the set.
-use Rattle.std.proofs.Common.{◌≡◌, ◌≤◌, refl, sym, ap, subst, ◌∙◌, inl, inr, true≢false, arith, ℕ, zero, suc, ◌+◌, nat_eq, true, List, [], ◌∷◌, ◌++◌, flat_map, length, map, not, Bool, Option, Some, None, is_some, option_and_then, slice_get, filter_map, find, sum, option_map}
-use Rattle.vt_spec.proofs.Common.{Among, FileTree, Filesystem, Fresh, IsTree, IsWorld, Layer, ListsNumbers, OpenLayer, Overlay, Shown, TaskName, World, among_from_list_all, and_parts, common_steps, contains_from_among, entry_at, evens, filesystem_numbered, inode_count, is_among, is_directory_node, is_overlay, is_plain_layer, led, map_alike, merged_at, merged_inodes, merged_objects, names_shown, none_is_some, odds, open_layer, overlay_filesystem, part_of, paths_from, same_Some, shown, shown_layers, slice_get-map, sum_by-cons, used_filesystems}
+use Rattle.std.proofs.Common.{◌≡◌, ◌≤◌, refl, sym, ap, subst, ◌∙◌, inl, inr, true≢false, arith, ℕ, zero, suc, ◌+◌, nat_eq, true, List, [], ◌∷◌, ◌++◌, flat_map, length, map, not, Bool, Option, Some, None, is_some, slice_get, filter_map, find, sum, option_map}
+use Rattle.vt_spec.proofs.Common.{Among, Filesystem, Fresh, IsTree, IsWorld, Layer, ListsNumbers, OpenLayer, Overlay, Shown, TaskName, World, among_from_list_all, and_parts, common_steps, contains_from_among, evens, filesystem_numbered, inode_count, is_among, is_directory_node, is_overlay, is_plain_layer, led, map_alike, merged_at, merged_inodes, merged_objects, names_shown, none_is_some, odds, open_layer, overlay_filesystem, part_of, paths_from, same_Some, shown, shown_layers, slice_get-map, sum_by-cons, used_filesystems}
 use Rattle.vt_spec.specs.Machine.NewMounts.{overlay_of_inodes}
 use Rattle.vt_laws_mounts.proofs.letting_go.Lists.{flat_map_alike}
+use Rattle.vt_laws_trees.proofs.overlays.seen.Paths.{length-led}
 use Rattle.vt_laws_trees.specs.Layers.Layers.Mounted.{AreLayers}
 use Rattle.vt_laws_trees.proofs.layers.layers.ShownAtPath.{computed}
-use Rattle.vt_laws_trees.proofs.layers.layers.ShownDirectories.{last_of}
 use Rattle.vt_laws_trees.proofs.layers.layers.ShownMounted.{bounded}
-use Rattle.vt_laws_trees.proofs.layers.layers.ShownNames.{last_name, names_are_those_shown}
-use Rattle.vt_laws_trees.proofs.layers.layers.ShownPaths.{depth_of_led, length_longer, not_empty}
-use Rattle.vt_laws_trees.proofs.layers.layers.UpperChain.{depth_below}
-use Rattle.vt_laws_trees.proofs.layers.layers.UpperLine.{has_entries, is_reached_in}
+use Rattle.vt_laws_trees.proofs.layers.layers.ShownNames.{names_are_those_shown}
+use Rattle.vt_laws_trees.proofs.layers.layers.ShownPaths.{length_longer}
 use Rattle.vt_laws_trees.proofs.layers.layers.UpperWorld.{all_found}
 use Rattle.vt_laws_sealed.proofs.part.part.PartOfPart.{found}
 
@@ -18,34 +16,6 @@ slice_among : {A : Type 0} (xs : List A) (k : ℕ) (a : A) → slice_get xs k �
 slice_among [] k a e = none_is_some a e
 slice_among (x ∷ xs) zero a e = inl (sym (same_Some x a e))
 slice_among (x ∷ xs) (suc k) a e = inr (slice_among xs k a e)
-
--- a path in a tree is no longer than there are inodes
-led_bounded : (files : FileTree ℕ) → IsTree files.tree → ListsNumbers nat_eq files → (start object : ℕ)
-    (path : List (List ℕ)) → led files.tree start path ≡ Some object → length path ≤ length files.numbers
-led_bounded files tree listed start object [] e = omega arith
-led_bounded files tree listed start object (name ∷ path) e =
-    let last = last_of (name ∷ path) (not_empty name path) in
-    by last.0 last.1 (sym (length_longer last.0 last.1) ∙ ap length last.2) (led files.tree start last.0) refl
-    (sym (last_name files.tree start last.0 last.1) ∙ ap (led files.tree start) last.2 ∙ e)
-  where
-    deep : (front : List (List ℕ)) (last : List ℕ) (directory : ℕ) → led files.tree start front ≡ Some directory
-        → entry_at files.tree directory last ≡ Some object → suc (length front) ≤ length files.numbers
-    deep [] last directory l e =
-        let reached = is_reached_in files tree directory last object e in
-        let below = depth_below files tree listed reached.0 directory reached.1 in
-        omega arith
-    deep (first ∷ rest) last directory l e =
-        let reached = depth_of_led files.tree tree start (first ∷ rest) directory (not_empty first rest) l
-        (has_entries files.tree directory last object e) in
-        let below = depth_below files tree listed (reached.0 + length (first ∷ rest)) directory reached.2 in
-        omega arith
-
-    by : (front : List (List ℕ)) (last : List ℕ) → suc (length front) ≡ length (name ∷ path) → (o : Option ℕ)
-        → led files.tree start front ≡ o
-        → option_and_then (λ directory. entry_at files.tree directory last) o ≡ Some object
-        → length (name ∷ path) ≤ length files.numbers
-    by front last longer None l e = none_is_some object e
-    by front last longer (Some directory) l e = let h = deep front last directory l e in omega (arith, h, longer)
 
 -- a part of a sum is no more than the sum
 in_sum : (test : Filesystem ℕ → Bool) (list : List (Filesystem ℕ)) (filesystem : Filesystem ℕ)
@@ -130,11 +100,11 @@ module _ (world : World ℕ) (names : List TaskName) (is : IsWorld nat_eq world)
       (ap (λ (f : Filesystem ℕ). is_directory_node (f.files.tree.node layer.directory))
       (found world names n (used layer m)) ∙ directory) in
       let few : length path ≤ length (filesystem_numbered nat_eq world n).files.numbers =
-      led_bounded (filesystem_numbered nat_eq world n).files
+      length-led (filesystem_numbered nat_eq world n).files
       (all_found (λ f. IsTree f.files.tree) (λ (f : Filesystem ℕ). nat_eq n f.number) world.filesystems is.files.trees
       (filesystem_numbered nat_eq world n) here)
       (all_found (λ f. ListsNumbers nat_eq f.files) (λ (f : Filesystem ℕ). nat_eq n f.number) world.filesystems
-      is.files.numbers (filesystem_numbered nat_eq world n) here) layer.directory object path e in
+      is.files.numbers (filesystem_numbered nat_eq world n) here) layer.directory path object e in
       let some : length (filesystem_numbered nat_eq part n).files.numbers ≤ inode_count part =
       in_sum (λ (f : Filesystem ℕ). nat_eq n f.number) part.filesystems (filesystem_numbered nat_eq part n) there in
       let same : length (filesystem_numbered nat_eq part n).files.numbers

@@ -1,6 +1,6 @@
 -- Where mounts of a sealed set change their types, types and masters are left in the part as in the world.
 use Rattle.std.proofs.Common.{arith, ◌≡◌, refl, sym, ap, subst, ◌∙◌, ◌⊎◌, inl, inr, ⊎_elim, ℕ, zero, suc, nat_eq, Bool, true, false, cond, true≢false, List, [], ◌∷◌, Option, Some, None, find, length, eq-eqb, eqb-true, option_to_list}
-use Rattle.vt_spec.proofs.Common.{Among, Fresh, IsWorld, Mount, Private, Propagation, Serves, Shared, Slave, Task, TaskName, TypeWord, Unbindable, World, among-filter, among-from_filter, among-from_filter_map, among-from_map, among-map, among_from_list_all, and_parts, any_among, any_from_among, chain, chain_ends, chain_goes_on, common_steps, false_from_ne_true, found_among, found_passes, group_of, groups_up, has_members, heir, holds_of, index_of, inherited, is_among_numbers, is_member_of, is_own_mount, is_private, length-map, list_any, master_after, members, mount_numbered, none_is_some, numbers_by, numbers_in_use, own_mounts, part_of, retyped_mount, same_Some, same_truth, sealed, shares_no_events, slave_of_heir, source_of, type_after, with_master, with_new_groups}
+use Rattle.vt_spec.proofs.Common.{Among, Fresh, IsWorld, Mount, Private, Propagation, Serves, Shared, Slave, Task, TaskName, TypeWord, Unbindable, World, among-filter, among-from_filter, among-from_filter_map, among-from_map, among-map, among_from_list_all, and_parts, any_among, any_from_among, chain, chain_ends, chain_goes_on, common_steps, false_from_ne_true, found_among, found_passes, group_of, groups_up, has_members, heir, holds_of, index_of, inherited, is_among_numbers, is_member_of, is_own_mount, is_private, length-map, list_any, master_after, members, mount_numbered, none_is_some, numbers_by, numbers_in_use, own_mounts, part_of, retyped_mount, same_Some, same_truth, shares_no_events, slave_of_heir, source_of, type_after, with_master, with_new_groups}
 use Rattle.vt_laws_members.proofs.changes.letting_go.Regrouped.{find_alike}
 use Rattle.vt_laws_mounts.proofs.GroupsUp.{source_from_group}
 use Rattle.vt_laws_sealed.proofs.part.part.MountsOver.{numbered}
@@ -13,6 +13,7 @@ use Rattle.vt_laws_members.proofs.changes.letting_go.Heard.{IsHeard, above_heard
 use Rattle.vt_laws_members.specs.Types.TypeChanges.{takes_groups}
 use Rattle.vt_laws_members.proofs.types.Inherited.{between, kind_left, master_left, master_left_so}
 use Rattle.vt_laws_members.proofs.types.TypesLeft.{AreTypedAlike}
+use Rattle.vt_laws_sealed.proofs.part.seals.ByPart.{IsSealed}
 
 -- chains by steps that agree on the way
 chain_alike : (f g : ℕ → Option ℕ) (P : ℕ → Type 0) → ((a b : ℕ) → f a ≡ Some b → P a → P b)
@@ -107,11 +108,11 @@ new_none world is fresh serves k =
     true≢false (sym (eq-eqb (fresh k) (fresh k) refl) ∙ unlike world fresh serves y.0 y.1 (fresh k)
     (source_from_group y.0.propagation (fresh k) (member_group (fresh k) y.0 y.2)) k)))
 
-module _ (world : World ℕ) (names : List TaskName) (is : IsWorld nat_eq world)
-    (sealed_off : sealed nat_eq world names ≡ true) (fresh : Fresh ℕ) (serves : Serves nat_eq world fresh)
+module _ {world : World ℕ} {names : List TaskName} (sealing : IsSealed world names) (fresh : Fresh ℕ)
+    (serves : Serves nat_eq world fresh)
     (word : TypeWord) (named : List (Mount ℕ))
     (named_own : (m : Mount ℕ) → Among m named → Among m (own_mounts nat_eq world names)) (masters_there : ℕ → Option ℕ)
-    (kept_there : (g : ℕ) → IsHeard world names is sealed_off g
+    (kept_there : (g : ℕ) → IsHeard sealing g
     → masters_there g ≡ (part_of nat_eq world names).master g)
     (agree : (g : ℕ) → IsNewGroup fresh word g → masters_there g ≡ new_masters fresh word named world g) where
   abbrev part : World ℕ
@@ -124,10 +125,10 @@ module _ (world : World ℕ) (names : List TaskName) (is : IsWorld nat_eq world)
   owns = own_mounts nat_eq world names
 
   abbrev events : shares_no_events nat_eq world names ≡ true
-  events = (apart world names is sealed_off).events
+  events = (apart sealing).events
 
   abbrev Heard : ℕ → Type 0
-  Heard g = IsHeard world names is sealed_off g
+  Heard g = IsHeard sealing g
 
   abbrev kind : Mount ℕ → Propagation ℕ
   kind = new_kind fresh word named
@@ -152,9 +153,9 @@ module _ (world : World ℕ) (names : List TaskName) (is : IsWorld nat_eq world)
   own_named m n h =
       let other = any_among (λ (o : Mount ℕ). nat_eq m.number o.number) named h in
       let own = named_own other.0 other.1 in
-      let same : other.0 ≡ m = sym (numbered world names is.mounts other.0 (in_world other.0 own))
+      let same : other.0 ≡ m = sym (numbered world names sealing.is.mounts other.0 (in_world other.0 own))
       ∙ ap (mount_numbered nat_eq world) (sym (eqb-true m.number other.0.number other.2))
-      ∙ numbered world names is.mounts m n in
+      ∙ numbered world names sealing.is.mounts m n in
       subst (λ k. Among k owns) same own
 
   part_named : (m : Mount ℕ) → Among m part.mounts → is_named fresh word named m ≡ true → Among m owns
@@ -177,8 +178,8 @@ module _ (world : World ℕ) (names : List TaskName) (is : IsWorld nat_eq world)
       by : (b : Bool) → is_named fresh word named m ≡ b → Among m owns
       by true e = own_named m n e
       by false e = ⊎_elim (λ own. own)
-          (λ other. absurd (none_hears world names is.mounts events g m heard.0 other (member_was m g e h)))
-          (sides world names is.mounts events m g n (member_group g m (member_was m g e h)))
+          (λ other. absurd (none_hears world names sealing.is.mounts events g m heard.0 other (member_was m g e h)))
+          (sides world names sealing.is.mounts events m g n (member_group g m (member_was m g e h)))
 
   part_member_own : (m : Mount ℕ) → Among m part.mounts → (g : ℕ) → is_member_of nat_eq g (changed m) ≡ true
       → Among m owns
@@ -186,7 +187,7 @@ module _ (world : World ℕ) (names : List TaskName) (is : IsWorld nat_eq world)
     where
       by : (b : Bool) → is_named fresh word named m ≡ b → Among m owns
       by true e = part_named m n e
-      by false e = part_source world names is sealed_off m n g
+      by false e = part_source sealing m n g
           (source_from_group m.propagation g (member_group g m (member_was m g e h)))
 
   is_in : (m : Mount ℕ) → Among m owns → (g : ℕ) → is_member_of nat_eq g (changed m) ≡ true
@@ -194,7 +195,7 @@ module _ (world : World ℕ) (names : List TaskName) (is : IsWorld nat_eq world)
   is_in m own g h = (
     any_from_among (is_member_of nat_eq g) t.mounts (changed m) (among-map changed world.mounts m (in_world m own)) h,
     any_from_among (is_member_of nat_eq g) t_part.mounts (changed m)
-        (among-map changed part.mounts m (own_in_part world names is sealed_off m own)) h,
+        (among-map changed part.mounts m (own_in_part sealing m own)) h,
   )
 
   has_alike : (g : ℕ) → Heard g → has t_part g ≡ has t g
@@ -211,7 +212,7 @@ module _ (world : World ℕ) (names : List TaskName) (is : IsWorld nat_eq world)
   -- Groups of before and their masters
   heard_old : (g : ℕ) → Heard g → (k : ℕ) → nat_eq g (fresh k) ≡ false
   heard_old g heard =
-      let own = own_member world names is.mounts events g heard.0 heard.1 in
+      let own = own_member world names sealing.is.mounts events g heard.0 heard.1 in
       unlike world fresh serves own.0 (in_world own.0 own.1) g
       (source_from_group own.0.propagation g (member_group g own.0 own.2))
 
@@ -220,11 +221,11 @@ module _ (world : World ℕ) (names : List TaskName) (is : IsWorld nat_eq world)
   IsGroup g = Heard g ⊎ IsNewGroup fresh word g
 
   base_heard : (g above : ℕ) → IsGroup g → world.master g ≡ Some above → Heard above
-  base_heard g above group e = ⊎_elim (above_heard world names is sealed_off above g e) (λ new. none_is_some above
-      (sym (ap world.master (sym new.2) ∙ new_none world is fresh serves new.1) ∙ e)) group
+  base_heard g above group e = ⊎_elim (above_heard sealing above g e) (λ new. none_is_some above
+      (sym (ap world.master (sym new.2) ∙ new_none world sealing.is fresh serves new.1) ∙ e)) group
 
   masters_agree : (g : ℕ) → IsGroup g → masters_there g ≡ t.master g
-  masters_agree g group = ⊎_elim (λ heard. kept_there g heard ∙ master_same world names is sealed_off g heard
+  masters_agree g group = ⊎_elim (λ heard. kept_there g heard ∙ master_same sealing g heard
       ∙ sym (old_kept fresh word named world.master g (heard_old g heard) named)) (agree g) group
 
   -- the masters of groups after are heard
@@ -237,27 +238,25 @@ module _ (world : World ℕ) (names : List TaskName) (is : IsWorld nat_eq world)
       (by (nat_eq g (numbers_by nat_eq fresh named m.number))) rest (λ x n. own x (inr n)) e
     where
       by : (b : Bool) → cond b (master_after m.propagation) (a g) ≡ Some above → Heard above
-      by true f =
-          heard_by_own world names is sealed_off m (own m (inl refl)) above (master_source m.propagation above f)
+      by true f = heard_by_own sealing m (own m (inl refl)) above (master_source m.propagation above f)
       by false f = base f
 
   -- Heirs
   up_world : (g : ℕ) → Heard g → groups_up t g ≡ groups_up world g
   up_world g heard = ap (λ n. chain n t.master g) (length-map world.mounts changed)
-      ∙ chain_alike world.master t.master Heard (λ a b e. above_heard world names is sealed_off b a e)
+      ∙ chain_alike world.master t.master Heard (λ a b e. above_heard sealing b a e)
       (λ a p. old_kept fresh word named world.master a (heard_old a p) named) (length world.mounts) g heard
 
   up_part : (g : ℕ) → Heard g → groups_up t_part g ≡ groups_up world g
   up_part g heard = ap (λ n. chain n t_part.master g) (length-map part.mounts changed)
-      ∙ chain_alike part.master masters_there Heard
-      (λ a b e p. above_heard world names is sealed_off b a (sym (master_same world names is sealed_off a p) ∙ e) p)
-      kept_there (length part.mounts) g heard ∙ same_up world names is.mounts events g heard.0 heard.1
+      ∙ chain_alike part.master masters_there Heard (λ a b e p. above_heard sealing b a
+      (sym (master_same sealing a p) ∙ e) p) kept_there (length part.mounts) g heard ∙ same_up world names
+      sealing.is.mounts events g heard.0 heard.1
 
   heir_alike : (o : Option ℕ) → ((g : ℕ) → o ≡ Some g → Heard g) → heir nat_eq t_part o ≡ heir nat_eq t o
   heir_alike None heard = refl
   heir_alike (Some g) heard = ap (find (has t_part)) (up_part g (heard g refl))
-      ∙ find_alike (has t_part) (has t) (groups_up world g)
-      (λ x m. has_alike x (up_heard world names is sealed_off g x (heard g refl) m))
+      ∙ find_alike (has t_part) (has t) (groups_up world g) (λ x m. has_alike x (up_heard sealing g x (heard g refl) m))
       ∙ ap (find (has t)) (sym (up_world g (heard g refl)))
 
   -- Types after
@@ -265,9 +264,9 @@ module _ (world : World ℕ) (names : List TaskName) (is : IsWorld nat_eq world)
   slave_heard m own g = by (is_named fresh word named m)
     where
       by : (b : Bool) → master_after (kind_by fresh word named b m) ≡ Some g → Heard g
-      by true e = heard_by_own world names is sealed_off m own g
+      by true e = heard_by_own sealing m own g
           (slave_was (numbers_by nat_eq fresh named m.number) word m.propagation g e)
-      by false e = heard_by_own world names is sealed_off m own g (master_source m.propagation g e)
+      by false e = heard_by_own sealing m own g (master_source m.propagation g e)
 
   own_alike : (m : Mount ℕ) → Among m owns → inherited nat_eq t_part (kind m) ≡ inherited nat_eq t (kind m)
   own_alike m own = by (kind m) refl
@@ -291,10 +290,10 @@ module _ (world : World ℕ) (names : List TaskName) (is : IsWorld nat_eq world)
   shared_group m own g = by (is_named fresh word named m)
     where
       by : (b : Bool) → group_of (kind_by fresh word named b m) ≡ Some g → IsGroup g
-      by true e = ⊎_elim (λ was. inl (heard_by_own world names is sealed_off m own g was))
+      by true e = ⊎_elim (λ was. inl (heard_by_own sealing m own g was))
           (λ new. inr (new.0, index_of nat_eq named m.number, new.1))
           (shared_was (numbers_by nat_eq fresh named m.number) word m.propagation g e)
-      by false e = inl (heard_by_own world names is sealed_off m own g (source_from_group m.propagation g e))
+      by false e = inl (heard_by_own sealing m own g (source_from_group m.propagation g e))
 
   group_after : (m : Mount ℕ) → Among m owns → (g : ℕ) → source_of (inherited nat_eq t (kind m)) ≡ Some g → HasGroup g
   group_after m own g = by (kind m) refl
@@ -303,7 +302,7 @@ module _ (world : World ℕ) (names : List TaskName) (is : IsWorld nat_eq world)
           → source_of (slave_of_heir o) ≡ Some g → HasGroup g
       of_heir s heard None f e = none_is_some g e
       of_heir s heard (Some above) f e =
-          let its : Heard above = up_heard world names is sealed_off s above heard
+          let its : Heard above = up_heard sealing s above heard
           (subst (Among above) (up_world s heard) (found_among (has t) (groups_up t s) above f)) in
           let in_it = found_passes (has t) (groups_up t s) above f in
           subst HasGroup (same_Some above g e) (inl its, in_it, has_alike above its ∙ in_it)
@@ -317,7 +316,7 @@ module _ (world : World ℕ) (names : List TaskName) (is : IsWorld nat_eq world)
       by Private f e = none_is_some g e
       by Unbindable f e = none_is_some g e
 
-  pub retyped_alike : AreTypedAlike world names is sealed_off
+  pub retyped_alike : AreTypedAlike sealing
       (kind_left world kind (new_masters fresh word named world)) (kind_left part kind masters_there)
       (master_left world kind (new_masters fresh word named world)) (master_left part kind masters_there)
   retyped_alike = record {
@@ -333,8 +332,8 @@ module _ (world : World ℕ) (names : List TaskName) (is : IsWorld nat_eq world)
   }
 
 -- The numbers that are handed in
-module _ (world : World ℕ) (names : List TaskName) (is : IsWorld nat_eq world)
-    (sealed_off : sealed nat_eq world names ≡ true) (fresh : Fresh ℕ) (serves : Serves nat_eq world fresh)
+module _ {world : World ℕ} {names : List TaskName} (sealing : IsSealed world names) (fresh : Fresh ℕ)
+    (serves : Serves nat_eq world fresh)
     (word : TypeWord) (named : List (Mount ℕ))
     (named_own : (m : Mount ℕ) → Among m named → Among m (own_mounts nat_eq world names)) where
   abbrev there : World ℕ
@@ -345,9 +344,9 @@ module _ (world : World ℕ) (names : List TaskName) (is : IsWorld nat_eq world)
 
   old_there : (supply : Fresh ℕ) → ((m : Mount ℕ) → Among m (own_mounts nat_eq world names) → (g : ℕ)
       → source_of m.propagation ≡ Some g → (k : ℕ) → nat_eq g (supply k) ≡ false)
-      → (g : ℕ) → IsHeard world names is sealed_off g → new_masters supply word named there g ≡ there.master g
+      → (g : ℕ) → IsHeard sealing g → new_masters supply word named there g ≡ there.master g
   old_there supply unlike_own g heard =
-      let own = own_member world names is.mounts (apart world names is sealed_off).events g heard.0 heard.1 in
+      let own = own_member world names sealing.is.mounts (apart sealing).events g heard.0 heard.1 in
       old_kept supply word named there.master g
       (unlike_own own.0 own.1 g (source_from_group own.0.propagation g (member_group g own.0 own.2))) named
 
@@ -356,15 +355,15 @@ module _ (world : World ℕ) (names : List TaskName) (is : IsWorld nat_eq world)
       → new_masters fresh word named there g ≡ new_masters fresh word named world g
   new_agree g new = grind (arith, common_steps, new_alike, new_none)
 
-  pub alike_by_one : AreTypedAlike world names is sealed_off
+  pub alike_by_one : AreTypedAlike sealing
       (kind_left world taken (new_masters fresh word named world))
       (kind_left there taken (new_masters fresh word named there))
       (master_left world taken (new_masters fresh word named world))
       (master_left there taken (new_masters fresh word named there))
   alike_by_one =
-      retyped_alike world names is sealed_off fresh serves word named named_own (new_masters fresh word named there)
-      (old_there fresh (λ m own. unlike world fresh serves m
-      (among-from_filter (is_own_mount nat_eq world names) world.mounts m own).0)) new_agree
+      retyped_alike sealing fresh serves word named named_own (new_masters fresh word named there)
+      (old_there fresh (λ m own. unlike world fresh serves m (among-from_filter (is_own_mount nat_eq world names)
+      world.mounts m own).0)) new_agree
 
   -- two supplies, where no group is taken
   module _ (other : Fresh ℕ) (serves_there : Serves nat_eq (part_of nat_eq world names) other)
@@ -372,12 +371,12 @@ module _ (world : World ℕ) (names : List TaskName) (is : IsWorld nat_eq world)
     pub same_kind : (m : Mount ℕ) → new_kind other word named m ≡ taken m
     same_kind m = grind (arith, common_steps, same_after)
 
-    pub alike_by_any : AreTypedAlike world names is sealed_off
+    pub alike_by_any : AreTypedAlike sealing
         (kind_left world taken (new_masters fresh word named world))
         (kind_left there taken (new_masters other word named there))
         (master_left world taken (new_masters fresh word named world))
         (master_left there taken (new_masters other word named there))
     alike_by_any =
-        retyped_alike world names is sealed_off fresh serves word named named_own (new_masters other word named there)
-        (old_there other (λ m own. unlike there other serves_there m (own_in_part world names is sealed_off m own)))
+        retyped_alike sealing fresh serves word named named_own (new_masters other word named there)
+        (old_there other (λ m own. unlike there other serves_there m (own_in_part sealing m own)))
         (λ g new. absurd (true≢false (sym new.0 ∙ no_groups)))

@@ -1,6 +1,7 @@
 -- Each mount(2) that changes a propagation type ends in the part as in the world.
-use Rattle.std.proofs.Common.{◌≡◌, refl, sym, ap, subst, ◌∙◌, ⊎_elim, ℕ, zero, suc, nat_eq, Bool, true, false, List, [], ◌∷◌, Option, Some, None, Ok, Err, map, not, IfOk, is_ok}
-use Rattle.vt_spec.proofs.Common.{Among, Done, Fresh, IsWorld, Judgement, Location, Mount, Permit, Propagation, Serves, SetType, Task, TaskName, ToSetType, TypeWord, World, admin_rules, among-filter, among-from_filter, among-from_flat_map, children, directory_walk, granted, holds_of, is_own_mount, judge_in, members, mount_at, mount_numbered, mount_tree, named_mounts, number-mount_in, numbers_by, numbers_raised, own_mounts, part_of, policy, regrouped, retyped, sealed, settled, task_called, tree_from, type_permit, type_rules, unless}
+use Rattle.std.proofs.Common.{◌≡◌, refl, sym, ap, subst, ◌∙◌, ⊎_elim, ℕ, zero, suc, nat_eq, Bool, true, false, List, [], ◌∷◌, Option, Some, None, Ok, Err, map, IfOk, is_ok}
+use Rattle.vt_spec.proofs.Common.{Among, Done, Fresh, IsWorld, Judgement, Location, Mount, Permit, Propagation, Serves, SetType, Task, TaskName, ToSetType, TypeWord, World, admin_rules, among-filter, among-from_filter, among-from_flat_map, children, directory_walk, granted, holds_of, is_own_mount, judge_in, members, mount_at, mount_numbered, mount_tree, named_mounts, not-false, number-mount_in, numbers_by, numbers_raised, own_mounts, part_of, policy, regrouped, retyped, settled, task_called, tree_from, type_permit, type_rules, unless}
+use Rattle.vt_laws_members.proofs.judging.TheirCalls.{IsMember, caller_in, sealing_of}
 use Rattle.vt_laws_mounts.specs.LettingGo.Detaching.{with_changed}
 use Rattle.vt_laws_mounts.specs.LettingGo.InUse.{AllInUse}
 use Rattle.vt_laws_mounts.proofs.letting_go.sweeps.OfWorlds.{all_in_use}
@@ -11,7 +12,7 @@ use Rattle.vt_laws_members.proofs.judging.MountPoints.{in_own}
 use Rattle.vt_laws_members.proofs.judging.MountTrees.{children_own, own_theirs, tree_alike}
 use Rattle.vt_laws_members.specs.Changes.Changes.{EndAlike, EndsAlike, IsCallOfTheirs, grown}
 use Rattle.vt_laws_members.proofs.changes.looks.Granted.{of_rules, of_walk}
-use Rattle.vt_laws_members.proofs.changes.looks.Told.{member_called, ran, same_caller}
+use Rattle.vt_laws_members.proofs.changes.looks.Told.{ran, same_caller}
 use Rattle.vt_laws_members.proofs.changes.tasks.Denied.{denial_ends_alike, ran_there, run_by, unnamed_ends_alike}
 use Rattle.vt_laws_members.proofs.changes.letting_go.Moving.{StandsHere, at_directory, one}
 use Rattle.vt_laws_members.proofs.changes.letting_go.Umounting.{of_passed}
@@ -37,35 +38,29 @@ module _ (w : World ℕ) (all : AllInUse w) (fresh : Fresh ℕ) (word : TypeWord
   }))) ∙ settled_so w (new_kind fresh word named) masters all
 
 -- What a granted call sets
-module _ (world : World ℕ) (names : List TaskName) (is : IsWorld nat_eq world)
-    (sealed_off : sealed nat_eq world names ≡ true) (task : Task ℕ) (member : Among task (members world names))
+module _ {world : World ℕ} {names : List TaskName} {task : Task ℕ} (member : IsMember world names task)
     (word : TypeWord) (recursive : Bool) where
   abbrev On : ℕ → Type 0
   On number = is_theirs world names number ≡ true
 
-  abbrev SetsType : Permit ℕ → Type 0
+  abbrev pub SetsType : Permit ℕ → Type 0
   SetsType permit = (here : Location ℕ) × (permit ≡ ToSetType here.mount word recursive) × On here.mount
       × (is_own world names (members world names) (mount_at nat_eq world here) ≡ true)
 
-  is_so : (b : Bool) → not b ≡ false → b ≡ true
-  is_so true e = refl
-  is_so false e = sym e
-
-  sets_type : (path : List ℕ) → IfOk
-      (type_permit nat_eq (one world names is sealed_off task member) task path word recursive) SetsType
+  pub sets_type : (path : List ℕ) → IfOk
+      (type_permit nat_eq (one member) task path word recursive) SetsType
   unfolding type_permit
   sets_type path = of_rules SetsType (admin_rules task) _
-      (of_walk (StandsHere world names is sealed_off task member) SetsType
-      (directory_walk nat_eq (one world names is sealed_off task member) task path)
-      (λ here. unless (type_rules nat_eq (one world names is sealed_off task member) task here.location)
-      (Ok (ToSetType here.location.mount word recursive))) (at_directory world names is sealed_off task member path)
-      (λ here on. of_passed SetsType (type_rules nat_eq (one world names is sealed_off task member) task here.location)
+      (of_walk (StandsHere member) SetsType (directory_walk nat_eq (one member) task path)
+      (λ here. unless (type_rules nat_eq (one member) task here.location)
+      (Ok (ToSetType here.location.mount word recursive))) (at_directory member path)
+      (λ here on. of_passed SetsType (type_rules nat_eq (one member) task here.location)
       (Ok (ToSetType here.location.mount word recursive)) (λ passed. (
         here.location,
         refl,
         on,
-        in_own world names is task member (mount_at nat_eq world here.location)
-            (is_so (holds_of (nat_eq task.namespace) (mount_at nat_eq world here.location).namespace) passed.0),
+        in_own world names member.is task member.among (mount_at nat_eq world here.location)
+            (not-false (holds_of (nat_eq task.namespace) (mount_at nat_eq world here.location).namespace) passed.0),
       ))))
 
 -- The mounts named
@@ -135,7 +130,7 @@ module _ {world : World ℕ} {names : List TaskName} {name : TaskName} {path : L
   module _ (kind_there : Mount ℕ → Propagation ℕ) (masters_there : ℕ → Option ℕ)
       (settled_there : settled nat_eq (retyped nat_eq there (numbers_by nat_eq other named) word named)
       ≡ with_changed there (λ m. record m { propagation = kind_there m }) masters_there)
-      (typed : AreTypedAlike world names it.is it.sealed_off
+      (typed : AreTypedAlike (sealing_of it)
       (kind_left world kind (new_masters fresh word named world)) kind_there
       (master_left world kind (new_masters fresh word named world)) masters_there) where
     abbrev now_there : World ℕ
@@ -150,12 +145,10 @@ module _ {world : World ℕ} {names : List TaskName} {name : TaskName} {path : L
     second : policy nat_eq other there name (SetType path word recursive)
         ≡ granted Done (numbers_raised nat_eq there name [] now_there)
     second = ap (ran name (SetType path word recursive) there other)
-        (same_caller world names it.is it.sealed_off name it.theirs ∙ called)
-        ∙ ran_there it fresh other task called judged
-        ∙ ap (λ l. granted Done (numbers_raised nat_eq there name []
-        (settled nat_eq (retyped nat_eq there (numbers_by nat_eq other l) word l))))
-        (named_alike world names it.is here.mount theirs its_own recursive)
-        ∙ ap (λ w. granted Done (numbers_raised nat_eq there name [] w)) settled_there
+        (same_caller (sealing_of it) name it.theirs ∙ called) ∙ ran_there it fresh other task called judged ∙ ap
+        (λ l. granted Done (numbers_raised nat_eq there name [] (settled nat_eq
+        (retyped nat_eq there (numbers_by nat_eq other l) word l)))) (named_alike world names it.is here.mount theirs
+        its_own recursive) ∙ ap (λ w. granted Done (numbers_raised nat_eq there name [] w)) settled_there
 
     pub type_alike : EndsAlike world names name (SetType path word recursive) fresh other
     type_alike = subst (λ p. EndAlike (grown names name (SetType path word recursive)
@@ -164,7 +157,7 @@ module _ {world : World ℕ} {names : List TaskName} {name : TaskName} {path : L
         (subst (λ o. EndAlike (grown names name (SetType path word recursive) o.answer) o
         (granted Done (numbers_raised nat_eq there name [] now_there))) (sym first) (record {
           answer = refl;
-          part = types_left world names it.is it.sealed_off
+          part = types_left (sealing_of it)
               (kind_left world kind (new_masters fresh word named world)) kind_there
               (master_left world kind (new_masters fresh word named world)) masters_there typed name;
         }))
@@ -174,20 +167,22 @@ module _ {world : World ℕ} {names : List TaskName} {name : TaskName} {path : L
   by_one serves same = type_alike (kind_left there kind (new_masters fresh word named there))
       (master_left there kind (new_masters fresh word named there))
       (ap (λ supply. settled nat_eq (retyped nat_eq there (numbers_by nat_eq supply named) word named)) (sym same)
-      ∙ types_settled there (part_in_use world names it.is it.sealed_off) fresh word named)
-      (alike_by_one world names it.is it.sealed_off fresh serves word named all_own)
+      ∙ types_settled there (part_in_use (sealing_of it)) fresh word named)
+      (alike_by_one (sealing_of it) fresh serves word named all_own)
 
   pub by_any : Serves nat_eq world fresh → Serves nat_eq there other → takes_groups word ≡ false
       → EndsAlike world names name (SetType path word recursive) fresh other
   by_any serves serves_there no_groups = type_alike (kind_left there kind (new_masters other word named there))
-      (master_left there kind (new_masters other word named there))
-      (types_settled there (part_in_use world names it.is it.sealed_off) other word named ∙ (λ i. with_changed there
-      (λ m. record m { propagation = kind_left there (λ x. same x i) (new_masters other word named there) m })
-      (master_left there (λ x. same x i) (new_masters other word named there))))
-      (alike_by_any world names it.is it.sealed_off fresh serves word named all_own other serves_there no_groups)
+      (master_left there kind (new_masters other word named there)) (types_settled there (part_in_use (sealing_of it))
+      other word named ∙ (λ i. with_changed there (λ m. record m {
+        propagation = kind_left there (λ x. same x i)
+            (new_masters other word named there) m;
+      }) (master_left there (λ x. same x i)
+      (new_masters other word named there)))) (alike_by_any (sealing_of it) fresh serves word named all_own other
+      serves_there no_groups)
     where
       same : (m : Mount ℕ) → new_kind other word named m ≡ kind m
-      same = same_kind world names it.is it.sealed_off fresh serves word named all_own other serves_there no_groups
+      same = same_kind (sealing_of it) fresh serves word named all_own other serves_there no_groups
 
 -- A call, granted or refused
 module _ {world : World ℕ} {names : List TaskName} {name : TaskName} {path : List ℕ} {word : TypeWord}
@@ -197,9 +192,9 @@ module _ {world : World ℕ} {names : List TaskName} {name : TaskName} {path : L
     → is_own world names (members world names) (mount_at nat_eq world here) ≡ true
     → judge_in nat_eq fresh world task (SetType path word recursive) ≡ Ok (ToSetType here.mount word recursive)
     → EndsAlike world names name (SetType path word recursive) fresh other) where
-  judged_by : (task : Task ℕ) (member : Among task (members world names)) → task_called world name ≡ Some task
+  judged_by : (task : Task ℕ) (member : IsMember world names task) → task_called world name ≡ Some task
       → (j : Judgement ℕ) → judge_in nat_eq fresh world task (SetType path word recursive) ≡ j
-      → IfOk j (SetsType world names it.is it.sealed_off task member word recursive)
+      → IfOk j (SetsType member word recursive)
       → EndsAlike world names name (SetType path word recursive) fresh other
   judged_by task member e (Ok permit) judged its = ends task e its.0 its.2 its.3 (judged ∙ ap Ok its.1)
   judged_by task member e (Err deny) judged its =
@@ -210,9 +205,9 @@ module _ {world : World ℕ} {names : List TaskName} {name : TaskName} {path : L
       → EndsAlike world names name (SetType path word recursive) fresh other
   all_end None e = unnamed_ends_alike it fresh other e
   all_end (Some task) e =
-      let member = member_called world names it.is it.sealed_off name it.theirs task e in
+      let member = caller_in it e in
       judged_by task member e (judge_in nat_eq fresh world task (SetType path word recursive)) refl
-      (sets_type world names it.is it.sealed_off task member word recursive path)
+      (sets_type member word recursive path)
 
 pub types_end_alike : TypesEndAlike
 types_end_alike world names name path word recursive it fresh serves =

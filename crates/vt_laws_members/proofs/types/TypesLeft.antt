@@ -1,6 +1,6 @@
 -- Where mounts of theirs have other types, and their groups other masters: the world that a call leaves, and its part.
 use Rattle.std.proofs.Common.{arith, ◌≡◌, refl, sym, ap, subst, ◌∙◌, ◌⊎◌, inl, ⊎_elim, ℕ, nat_eq, Bool, true, false, cond, List, [], ◌∷◌, ◌++◌, Option, Some, None, filter, map, ◌||◌, filter_map}
-use Rattle.vt_spec.proofs.Common.{Among, IsWorld, Location, Mount, Propagation, Task, TaskName, World, among-filter, among-from_filter, among-from_map, any_among, common_steps, is_at, is_member_of, is_own_mount, list_any, locations, map_alike, map_twice, master_above, members, mount_in, numbers_raised, or_cases, or_parts, own_mounts, part_of, roots_and_directories, sealed, seen_by_descriptor, source_of, then_some, used_directly, when}
+use Rattle.vt_spec.proofs.Common.{Among, Location, Mount, Propagation, Task, TaskName, World, among-filter, among-from_filter, among-from_map, any_among, common_steps, is_at, is_member_of, is_own_mount, list_any, locations, map_alike, map_twice, master_above, members, mount_in, numbers_raised, or_cases, or_parts, own_mounts, part_of, roots_and_directories, seen_by_descriptor, source_of, then_some, used_directly, when}
 use Rattle.vt_laws_mounts.proofs.GroupsUp.{source_from_group}
 use Rattle.vt_laws_mounts.specs.LettingGo.Detaching.{with_changed}
 use Rattle.vt_laws_mounts.proofs.letting_go.Lists.{filter-map}
@@ -10,9 +10,9 @@ use Rattle.vt_laws_sealed.proofs.part.part.PartOfPart.{is_own, keep, same_member
 use Rattle.vt_laws_members.proofs.changes.letting_go.LessSeen.{AreLess, filter_map_then, one_part}
 use Rattle.vt_laws_members.proofs.changes.letting_go.NamespaceLess.{stands_on}
 use Rattle.vt_laws_members.proofs.attached.RaisedAlike.{parts_left, spaces}
+use Rattle.vt_laws_sealed.proofs.part.seals.ByPart.{IsSealed}
 
-module _ (world : World ℕ) (names : List TaskName) (is : IsWorld nat_eq world)
-    (sealed_off : sealed nat_eq world names ≡ true) where
+module _ {world : World ℕ} {names : List TaskName} (sealing : IsSealed world names) where
   abbrev part : World ℕ
   part = part_of nat_eq world names
 
@@ -73,8 +73,8 @@ module _ (world : World ℕ) (names : List TaskName) (is : IsWorld nat_eq world)
 
         by : (b : Bool) → (owned m || stood m) ≡ b → then_some (kept m) (λ y. kept (after_there y)) ≡ kept (after m)
         by true e = ap (λ c. then_some (kept_as c m) (λ y. kept (after_there y))) e
-            ∙ ap (λ k. kept (record m { propagation = k }))
-            (alike.types m n (⊎_elim inl (λ at. stands_on world names is m n at) (or_cases (owned m) (stood m) e)))
+            ∙ ap (λ k. kept (record m { propagation = k })) (alike.types m n
+            (⊎_elim inl (λ at. stands_on world names sealing.is m n at) (or_cases (owned m) (stood m) e)))
         by false e = ap (λ c. then_some (kept_as c m) (λ y. kept (after_there y))) e ∙ stub e (located m) refl
             ∙ sym (ap (λ c. cond c (Some (after m)) (when (located m) (seen_by_descriptor m))) e)
 
@@ -122,7 +122,7 @@ module _ (world : World ℕ) (names : List TaskName) (is : IsWorld nat_eq world)
     }
 
     parts_later : part_of nat_eq later_part names ≡ part_of nat_eq later names
-    parts_later = one_part world names is names later later_part less
+    parts_later = one_part world names sealing.is names later later_part less
 
     masters_later : (y : Mount ℕ) → Among y later.mounts → owned y ≡ true
         → master_above later_part y ≡ master_above later y
@@ -138,5 +138,5 @@ module _ (world : World ℕ) (names : List TaskName) (is : IsWorld nat_eq world)
 
     pub types_left : (name : TaskName) → part_of nat_eq (numbers_raised nat_eq world name [] later) names
         ≡ part_of nat_eq (numbers_raised nat_eq part name [] later_part) names
-    types_left = parts_left world names is sealed_off later.mounts later_part.mounts master master_there
+    types_left = parts_left sealing later.mounts later_part.mounts master master_there
         world.filesystems part.filesystems parts_later masters_later

@@ -29,7 +29,7 @@ OriginOf world fresh names origin =
     × (origin.filesystem ≡ other.filesystem))
     ⊎ ((origin.propagation ≡ Private) × (k : ℕ) × (origin.filesystem ≡ fresh k))
 
-module _ (world : World ℕ) (names : List TaskName) (apart : IsApart world names) (fresh : Fresh ℕ)
+module _ {world : World ℕ} {names : List TaskName} (apart : IsApart world names) (fresh : Fresh ℕ)
     (serves : Serves nat_eq world fresh) (filesystems : List (Filesystem ℕ))
     (supply : Fresh ℕ) (supplied : (k : ℕ) → (j : ℕ) × (supply k ≡ fresh j)) (place : Location ℕ)
     (mounts : List (Mount ℕ)) (origins : (origin : Mount ℕ) → Among origin mounts → OriginOf world fresh names origin)
@@ -57,7 +57,7 @@ module _ (world : World ℕ) (names : List TaskName) (apart : IsApart world name
   left = attach nat_eq base supply place moves mounts
 
   abbrev pub IsForeign : ℕ → Type 0
-  IsForeign = Foreign world names so_far
+  IsForeign = Foreign so_far
 
   -- numbers of new groups are new
   new_image : (group origin : ℕ) → (k : ℕ) × (new.image group origin ≡ fresh k)
@@ -66,11 +66,11 @@ module _ (world : World ℕ) (names : List TaskName) (apart : IsApart world name
 
   -- an origin hears groups of others alone
   origin_hears : (origin : Mount ℕ) → Among origin mounts → (kind : Propagation ℕ) → origin.propagation ≡ kind
-      → (group : ℕ) → HearsGroup world names so_far world kind group → IsForeign group
-  origin_hears origin m kind e group how = ⊎_elim (λ other. other_hears_foreign world names so_far other.0 other.1 group
-      (subst (λ k. HearsGroup world names so_far world k group) (sym e ∙ other.2) how))
+      → (group : ℕ) → HearsGroup so_far world kind group → IsForeign group
+  origin_hears origin m kind e group how = ⊎_elim (λ other. other_hears_foreign so_far other.0 other.1 group
+      (subst (λ k. HearsGroup so_far world k group) (sym e ∙ other.2) how))
       (λ private. ⊎_elim (λ f. none_is_some group f) (λ f. none_is_some group f)
-      (subst (λ k. HearsGroup world names so_far world k group) (sym e ∙ private.0) how)) (origins origin m)
+      (subst (λ k. HearsGroup so_far world k group) (sym e ∙ private.0) how)) (origins origin m)
 
   -- A copy is of a mount that is attached, at a part.
   abbrev pub copied_to : Mount ℕ → Mount ℕ → Mount ℕ
@@ -215,14 +215,13 @@ module _ (world : World ℕ) (names : List TaskName) (apart : IsApart world name
 
   foreign_master : (group above : ℕ) → IsForeign group → left.master group ≡ Some above → IsForeign above
   foreign_master group above foreign e = ⊎_elim
-      (λ same. foreign_above world names so_far group above foreign (sym same ∙ e))
-      (λ set. (made_foreign set.0 set.1).1 above (sym set.2 ∙ e))
-      (masters_from group (all_groups_made nat_eq base new tree parts) world.master)
+      (λ same. foreign_above so_far group above foreign (sym same ∙ e)) (λ set. (made_foreign set.0 set.1).1 above
+      (sym set.2 ∙ e)) (masters_from group (all_groups_made nat_eq base new tree parts) world.master)
 
   -- A type of which the group is one of others: then each group that it hears is.
   heard_foreign : (kind : Propagation ℕ) → ((group : ℕ) → group_of kind ≡ Some group → IsForeign group)
       → ((group : ℕ) → kind ≡ Slave group → IsForeign group)
-      → (group : ℕ) → HearsGroup world names so_far left kind group → IsForeign group
+      → (group : ℕ) → HearsGroup so_far left kind group → IsForeign group
   heard_foreign (Shared g) of_group of_slave group how =
       ⊎_elim (of_group group) (λ e. foreign_master g group (of_group g refl) e) how
   heard_foreign (Slave g) of_group of_slave group how =
@@ -233,42 +232,42 @@ module _ (world : World ℕ) (names : List TaskName) (apart : IsApart world name
 
   -- the type of a mount of others, as it was
   pub old_foreign : (other : Mount ℕ) → Among other (other_mounts nat_eq world names) → (group : ℕ)
-      → HearsGroup world names so_far left other.propagation group → IsForeign group
+      → HearsGroup so_far left other.propagation group → IsForeign group
   old_foreign other m = heard_foreign other.propagation
-      (λ group e. other_hears_foreign world names so_far other m group (inl e))
-      (λ group e. other_hears_foreign world names so_far other m group (inr (ap (master_of world) e)))
+      (λ group e. other_hears_foreign so_far other m group (inl e)) (λ group e. other_hears_foreign so_far other m group
+      (inr (ap (master_of world) e)))
 
   -- the type of a copy
-  twig_foreign : (origin : Mount ℕ) → Among origin mounts → (group : ℕ) → HearsGroup world names so_far left
+  twig_foreign : (origin : Mount ℕ) → Among origin mounts → (group : ℕ) → HearsGroup so_far left
       (type_at new (group_of destination.propagation) origin) group → IsForeign group
   twig_foreign origin m = by (group_of destination.propagation) origin.propagation refl
     where
-      old : (group : ℕ) → HearsGroup world names so_far left origin.propagation group → IsForeign group
+      old : (group : ℕ) → HearsGroup so_far left origin.propagation group → IsForeign group
       old = heard_foreign origin.propagation (λ group e. origin_hears origin m origin.propagation refl group (inl e))
           (λ group e. origin_hears origin m origin.propagation refl group (inr (ap (master_of world) e)))
 
       shared : (number : ℕ) → (k : ℕ) × (number ≡ fresh k) → (group : ℕ)
-          → HearsGroup world names so_far left (Shared number) group → IsForeign group
+          → HearsGroup so_far left (Shared number) group → IsForeign group
       shared number new_one = heard_foreign (Shared number)
           (λ group e. inr (new_one.0, sym (same_Some number group e) ∙ new_one.1))
           (λ group e. none_is_some number (sym (ap group_of e)))
 
       on : (g : ℕ) (kind : Propagation ℕ) → origin.propagation ≡ kind → (group : ℕ)
-          → HearsGroup world names so_far left (type_on_shared (new.image g origin.number) kind) group → IsForeign group
+          → HearsGroup so_far left (type_on_shared (new.image g origin.number) kind) group → IsForeign group
       on g kind e group how = search (arith, common_steps, old, shared, new_image)
 
       by : (o : Option ℕ) (kind : Propagation ℕ) → origin.propagation ≡ kind → (group : ℕ)
-          → HearsGroup world names so_far left (type_at new o origin) group → IsForeign group
+          → HearsGroup so_far left (type_at new o origin) group → IsForeign group
       by None kind e group how = old group how
-      by (Some g) kind e group how = on g kind e group (subst (λ x. HearsGroup world names so_far left
+      by (Some g) kind e group how = on g kind e group (subst (λ x. HearsGroup so_far left
           (type_on_shared (new.image g origin.number) x) group) e how)
 
   pub copy_foreign : (mount : Mount ℕ) → IsCopyOf mount → (group : ℕ)
-      → HearsGroup world names so_far left mount.propagation group → IsForeign group
+      → HearsGroup so_far left mount.propagation group → IsForeign group
   copy_foreign mount copy group how = by (is_destination nat_eq tree copy.0.number)
-      (subst (λ (m : Mount ℕ). HearsGroup world names so_far left m.propagation group) copy.4 how)
+      (subst (λ (m : Mount ℕ). HearsGroup so_far left m.propagation group) copy.4 how)
     where
-      elsewhere : (kind : Propagation ℕ) → HearsGroup world names so_far left
+      elsewhere : (kind : Propagation ℕ) → HearsGroup so_far left
           (copy_type nat_eq base new parts destination (twig_of new (group_of destination.propagation) copy.2) kind)
           group → IsForeign group
       elsewhere (Shared g) h = heard_foreign (Shared (image nat_eq new destination
@@ -283,14 +282,14 @@ module _ (world : World ℕ) (names : List TaskName) (apart : IsApart world name
         where
           heir : (o : Option ℕ) → nearest_image nat_eq base new parts destination
               (twig_of new (group_of destination.propagation) copy.2) (Some g) ≡ o
-              → HearsGroup world names so_far left (slave_of_heir o) group → IsForeign group
+              → HearsGroup so_far left (slave_of_heir o) group → IsForeign group
           heir None e k = ⊎_elim (λ f. none_is_some group f) (λ f. none_is_some group f) k
           heir (Some x) e k = ⊎_elim (λ f. none_is_some group f)
               (λ f. subst IsForeign (same_Some x group f) (nearest_foreign copy.2 copy.3 (Some g) x e)) k
       elsewhere Private h = ⊎_elim (λ f. none_is_some group f) (λ f. none_is_some group f) h
       elsewhere Unbindable h = ⊎_elim (λ f. none_is_some group f) (λ f. none_is_some group f) h
 
-      by : (b : Bool) → HearsGroup world names so_far left
+      by : (b : Bool) → HearsGroup so_far left
           (cond b (type_at new (group_of destination.propagation) copy.2)
           (copy_type nat_eq base new parts destination (twig_of new (group_of destination.propagation) copy.2)
           copy.0.propagation)) group → IsForeign group

@@ -40,7 +40,7 @@ found_first number (x ∷ xs) ys mount m e =
     by false f next = ⊎_elim
         (λ here. absurd (true≢false (sym e ∙ ap (λ (y : Mount ℕ). nat_eq number y.number) here ∙ f))) next m
 
-module _ (world : World ℕ) (names : List TaskName) (apart : IsApart world names) (fresh : Fresh ℕ)
+module _ {world : World ℕ} {names : List TaskName} (apart : IsApart world names) (fresh : Fresh ℕ)
     (serves : Serves nat_eq world fresh) (filesystems : List (Filesystem ℕ))
     (sees_base : SeesTheSame world (record world { filesystems = filesystems }) names) (more : List (Filesystem ℕ))
     (grown : overlays (record world { filesystems = filesystems }) ≡ overlays world ++ more)
@@ -81,7 +81,7 @@ module _ (world : World ℕ) (names : List TaskName) (apart : IsApart world name
   kept = keep world names theirs
 
   abbrev IsForeign : ℕ → Type 0
-  IsForeign = Foreign world names so_far
+  IsForeign = Foreign so_far
 
   -- numbers of copies and of groups are new
   new_copy : (part origin : ℕ) → (k : ℕ) × (new.copy part origin ≡ fresh k)
@@ -156,10 +156,10 @@ module _ (world : World ℕ) (names : List TaskName) (apart : IsApart world name
 
   -- A copy is of a mount that is attached, at a part.
   abbrev copied : Mount ℕ → Mount ℕ → Mount ℕ
-  copied = copied_to world names apart fresh serves filesystems supply supplied place mounts origins moves
+  copied = copied_to apart fresh serves filesystems supply supplied place mounts origins moves
 
   abbrev IsCopy : Mount ℕ → Type 0
-  IsCopy = IsCopyOf world names apart fresh serves filesystems supply supplied place mounts origins moves
+  IsCopy = IsCopyOf apart fresh serves filesystems supply supplied place mounts origins moves
 
   at_part : (part mount : Mount ℕ) → Among mount (copies_at nat_eq base new tree parts part)
       → (origin : Mount ℕ) × Among origin mounts × (mount ≡ copied part origin)
@@ -239,7 +239,7 @@ module _ (world : World ℕ) (names : List TaskName) (apart : IsApart world name
   new_not_located places all mount added =
       none_from_among (λ (l : Location ℕ). nat_eq l.mount mount.number) places (λ l m.
       false_from_ne_true (nat_eq l.mount mount.number) (λ e.
-      let there = located_there world names apart l (all l m) in
+      let there = located_there apart l (all l m) in
       let number = added.1 in
       number_not_new world fresh serves there.0 number.0 there.1
       (sym (eqb-true l.mount there.0.number there.2) ∙ eqb-true l.mount mount.number e ∙ number.1)))
@@ -436,15 +436,14 @@ module _ (world : World ℕ) (names : List TaskName) (apart : IsApart world name
 
   -- with the type that it had, or that of a copy
   changed_foreign : (old : Mount ℕ) → Among old (other_mounts nat_eq world names) → (group : ℕ)
-      → HearsGroup world names so_far left (change old).propagation group → IsForeign group
+      → HearsGroup so_far left (change old).propagation group → IsForeign group
   changed_foreign old m group how =
-      let unpushed : HearsGroup world names so_far left (relocated moves old).propagation group =
-      subst (λ kind. HearsGroup world names so_far left kind group)
+      let unpushed : HearsGroup so_far left (relocated moves old).propagation group =
+      subst (λ kind. HearsGroup so_far left kind group)
       (pushed_value (λ (x : Mount ℕ). x.propagation) (λ x at. refl) (relocated moves old)) how in
-      ⊎_elim
-      (λ same. old_foreign world names apart fresh serves filesystems supply supplied place mounts origins moves old m
-      group (subst (λ (x : Mount ℕ). HearsGroup world names so_far left x.propagation group) same unpushed))
-      (λ goes. copy_foreign world names apart fresh serves filesystems supply supplied place mounts origins moves
+      ⊎_elim (λ same. old_foreign apart fresh serves filesystems supply supplied place mounts origins moves old m group
+      (subst (λ (x : Mount ℕ). HearsGroup so_far left x.propagation group) same unpushed))
+      (λ goes. copy_foreign apart fresh serves filesystems supply supplied place mounts origins moves
       (relocated moves old) (destination, inl refl, old, goes.0, goes.2) group unpushed)
       (relocated_is old (other_there old m) moves refl)
 
@@ -457,7 +456,7 @@ module _ (world : World ℕ) (names : List TaskName) (apart : IsApart world name
     where
       by : (kind : Propagation ℕ) → own.propagation ≡ kind → master_of left kind ≡ master_of world kind
       by (Shared g) e =
-          own_master_stays world names apart fresh serves filesystems supply supplied place mounts origins moves g
+          own_master_stays apart fresh serves filesystems supply supplied place mounts origins moves g
           (any_from_among (is_member_of nat_eq g) (own_mounts nat_eq world names) own m
           (ap (λ kind. holds_of (nat_eq g) (group_of kind)) e ∙ eq-eqb g g refl))
       by (Slave g) e = refl
@@ -465,11 +464,11 @@ module _ (world : World ℕ) (names : List TaskName) (apart : IsApart world name
       by Unbindable e = refl
 
   events : shares_no_events nat_eq left names ≡ true
-  events = events_stay_apart world names so_far left (own_mounts_same world left names sees) own_masters
+  events = events_stay_apart so_far left (own_mounts_same world left names sees) own_masters
       (λ other m group how. ⊎_elim (λ old. changed_foreign old.0 old.1 group
-      (subst (λ (x : Mount ℕ). HearsGroup world names so_far left x.propagation group) old.2 how))
-      (λ copy. copy_foreign world names apart fresh serves filesystems supply supplied place mounts origins moves other
-      copy.0 group how) (others_from other m))
+      (subst (λ (x : Mount ℕ). HearsGroup so_far left x.propagation group) old.2 how))
+      (λ copy. copy_foreign apart fresh serves filesystems supply supplied place mounts origins moves other copy.0 group
+      how) (others_from other m))
 
   -- What is found at a location is as it was, but for where it stands, and for its type.
   found_left : {B : Type 0} (value : Mount ℕ → B) → ((mount : Mount ℕ) (at : Option (Location ℕ)) (kind : Propagation ℕ)
@@ -477,7 +476,7 @@ module _ (world : World ℕ) (names : List TaskName) (apart : IsApart world name
       → (location : Location ℕ) → Among location (all_locations world)
       → value (mount_at nat_eq left location) ≡ value (mount_at nat_eq world location)
   found_left value same location m =
-      let there = located_there world names apart location m in
+      let there = located_there apart location m in
       ap (λ ms. value (mount_in nat_eq ms location.mount)) left_mounts
       ∙ ap value (found_first location.mount (map change world.mounts) all_copies (change there.0)
       (among-map change world.mounts there.0 there.1)
@@ -527,12 +526,10 @@ module _ (world : World ℕ) (names : List TaskName) (apart : IsApart world name
       ∙ change_value (λ (x : Mount ℕ). x.filesystem) (λ x at kind. refl) old.0 (other_there old.0 old.1))
       ∙ none_shows old.0 old.1) (λ copy. ⊎_elim
       (λ old. ap (nat_eq number) (ap (λ (x : Mount ℕ). x.filesystem) copy.0.4 ∙ old.3) ∙ none_shows old.0 old.1)
-      (λ new_one. false_from_ne_true (nat_eq number other.filesystem) (λ e.
-      not_of_the_world world names apart fresh serves number new_one.1 of
-      (eqb-true number other.filesystem e ∙ ap (λ (x : Mount ℕ). x.filesystem) copy.0.4 ∙ new_one.2)))
-      (origins copy.0.2 copy.0.3)) (others_from other m))))
-      (ap not (none_from_among (λ location. nat_eq number (mount_at nat_eq left location).filesystem)
-      (locations (outsiders world names))
+      (λ new_one. false_from_ne_true (nat_eq number other.filesystem) (λ e. not_of_the_world apart fresh serves number
+      new_one.1 of (eqb-true number other.filesystem e ∙ ap (λ (x : Mount ℕ). x.filesystem) copy.0.4 ∙ new_one.2)))
+      (origins copy.0.2 copy.0.3)) (others_from other m)))) (ap not (none_from_among
+      (λ location. nat_eq number (mount_at nat_eq left location).filesystem) (locations (outsiders world names))
       (λ location m. ap (nat_eq number) (found_left (λ (x : Mount ℕ). x.filesystem) (λ x at kind. refl) location
       (of_outsiders location m)) ∙ none_among (λ location. nat_eq number (mount_at nat_eq world location).filesystem)
       (locations (outsiders world names)) (not-true _ parts_alone.1) location m)))

@@ -1,14 +1,13 @@
 -- Binds and new mounts of others: mount(2) with MS_BIND, and with MS_REC, and of a tmpfs.
 use Rattle.std.proofs.Common.{arith, ◌≡◌, refl, sym, ap, subst, ◌∙◌, inl, inr, ⊎_elim, ℕ, zero, suc, nat_eq, Bool, true, false, true≢false, List, [], ◌∷◌, ◌++◌, append-nil, ◌*◌, ◌+◌, Some, Ok, filter, length, not}
 use Rattle.vt_spec.proofs.Common.{Among, Call, Filesystem, Fresh, Location, Mount, MountFlags, Task, TaskName, ToBind, ToMountPlain, World, among-from_filter, among-from_flat_map, apply, bind_tree, bindable_children, bindable_tree, bound, children, common_steps, found_or_none, is_own_namespace, is_unbindable, judge_in, mount_at, new_mount, none_is_some, number-mount_in, odds, overlays, plain_filesystem, settled, stands_under, task_called}
+use Rattle.vt_laws_sealed.proofs.outsiders.OthersCalls.{IsOthersCall, apart_from}
 use Rattle.vt_laws_trees.specs.Trees.Calls.{mounts_overlay}
 use Rattle.vt_laws_rules.proofs.given.GivenPermits.{permits_are_for_their_calls}
 use Rattle.vt_laws_worlds.proofs.worlds.CallsKept.{name_found}
 use Rattle.vt_laws_worlds.proofs.worlds.FitPermitsNamed.{all_permits_fit}
 use Rattle.vt_laws_later_calls.specs.Ends.{sets_type, takes_uses}
 use Rattle.vt_laws_sealed.specs.Part.Seals.{IsApart}
-use Rattle.vt_laws_sealed.proofs.part.seals.ByPart.{apart_if_sealed}
-use Rattle.vt_laws_sealed.specs.Outsiders.{IsOutsidersCall}
 use Rattle.vt_laws_sealed.proofs.outsiders.AttachedGroups.{OriginOf}
 use Rattle.vt_laws_sealed.proofs.outsiders.Attaching.{attaching_leaves_apart}
 use Rattle.vt_laws_sealed.proofs.outsiders.Filesystems.{larger_overlays, larger_sees}
@@ -17,11 +16,11 @@ use Rattle.vt_laws_sealed.proofs.outsiders.OwnTasks.{caller_outside, nothing_is_
 use Rattle.vt_laws_sealed.proofs.outsiders.Refusals.{leaves_apart_itself}
 use Rattle.vt_laws_sealed.proofs.outsiders.Staying.{LeavesApart}
 
-module _ (world : World ℕ) (names : List TaskName) (apart : IsApart world names) (namespace : ℕ)
+module _ {world : World ℕ} {names : List TaskName} (apart : IsApart world names) (namespace : ℕ)
     (outside : is_own_namespace nat_eq world names namespace ≡ false) where
   bindable_in : (parent : Mount ℕ) → IsIn world namespace parent → (child : Mount ℕ)
       → Among child (bindable_children nat_eq world.mounts parent.number) → IsIn world namespace child
-  bindable_in parent is child m = child_in world names apart namespace parent is child
+  bindable_in parent is child m = child_in apart namespace parent is child
       (among-from_filter (λ (x : Mount ℕ). not (is_unbindable x.propagation))
       (children nat_eq world.mounts parent.number) child m).0
 
@@ -63,50 +62,45 @@ module _ (world : World ℕ) (names : List TaskName) (apart : IsApart world name
         (subst (λ n. Among from.0 (bindable_children nat_eq world.mounts n))
         (sym (number-mount_in world.mounts source.mount)) child)) origin from.2)) m
 
-pub bind_leaves : (world : World ℕ) (fresh : Fresh ℕ) (names : List TaskName) (name : TaskName) (call : Call)
-    (task : Task ℕ) → IsOutsidersCall world fresh names name call → task_called world name ≡ Some task
-    → (source place : Location ℕ) (recursive : Bool)
-    → judge_in nat_eq fresh world task call ≡ Ok (ToBind source place recursive)
-    → LeavesApart world (settled nat_eq (apply nat_eq fresh world task (ToBind source place recursive)).world) names []
-bind_leaves world fresh names name call task outsider called source place recursive judged =
-    let apart = apart_if_sealed world names outsider.is outsider.sealed_off in
-    let for = permits_are_for_their_calls fresh world task call (ToBind source place recursive) judged in
-    let named = (all_permits_fit world fresh task call (ToBind source place recursive) outsider.is outsider.serves
-    (ap (task_called world) (sym (name_found world name task called)) ∙ called)
-    (ap mounts_overlay for.2) judged).names in
-    let outside = namespace_outside world names apart task
-    (caller_outside world fresh names name call task outsider called) in
-    subst (λ w. LeavesApart world w names [])
-    (sym (nothing_is_swept world fresh names name call task (ToBind source place recursive) outsider called judged
-    (ap takes_uses for.2) (ap sets_type for.2) refl))
-    (attaching_leaves_apart world names apart fresh outsider.serves world.filesystems
-    (leaves_apart_itself world fresh names name call outsider).sees [] (sym (append-nil (overlays world)))
-    (λ merged m number free. absurd m) fresh (λ k. (k, refl)) place task.namespace outside named.2.own
-    (bind_tree nat_eq world source recursive)
-    (bind_origins world names apart task.namespace outside fresh source named.1 recursive) false
-    (λ moving. absurd (true≢false (sym moving))))
+module _ {world : World ℕ} {fresh : Fresh ℕ} {names : List TaskName} {name : TaskName} {call : Call}
+    {task : Task ℕ} (outsider : IsOthersCall world fresh names name call task) where
+  pub bind_leaves : (source place : Location ℕ) (recursive : Bool)
+      → judge_in nat_eq fresh world task call ≡ Ok (ToBind source place recursive)
+      → LeavesApart world (settled nat_eq (apply nat_eq fresh world task (ToBind source place recursive)).world) names
+      []
+  bind_leaves source place recursive judged =
+      let apart = apart_from outsider.it in
+      let for = permits_are_for_their_calls fresh world task call (ToBind source place recursive) judged in
+      let named = (all_permits_fit world fresh task call (ToBind source place recursive) outsider.is outsider.serves
+      (ap (task_called world) (sym (name_found world name task outsider.called)) ∙ outsider.called)
+      (ap mounts_overlay for.2) judged).names in
+      let outside = namespace_outside world names apart task
+      (caller_outside outsider) in
+      subst (λ w. LeavesApart world w names []) (sym (nothing_is_swept outsider (ToBind source place recursive) judged
+      (ap takes_uses for.2) (ap sets_type for.2) refl)) (attaching_leaves_apart apart fresh outsider.serves
+      world.filesystems (leaves_apart_itself outsider.it).sees [] (sym (append-nil (overlays world)))
+      (λ merged m number free. absurd m) fresh (λ k. (k, refl)) place task.namespace outside named.2.own
+      (bind_tree nat_eq world source recursive) (bind_origins apart task.namespace outside fresh source named.1
+      recursive) false (λ moving. absurd (true≢false (sym moving))))
 
--- A new mount: mount(2) of a tmpfs
-pub plain_leaves : (world : World ℕ) (fresh : Fresh ℕ) (names : List TaskName) (name : TaskName) (call : Call)
-    (task : Task ℕ) → IsOutsidersCall world fresh names name call → task_called world name ≡ Some task
-    → (place : Location ℕ) (flags : MountFlags) → judge_in nat_eq fresh world task call ≡ Ok (ToMountPlain place flags)
-    → LeavesApart world (settled nat_eq (apply nat_eq fresh world task (ToMountPlain place flags)).world) names []
-plain_leaves world fresh names name call task outsider called place flags judged =
-    let apart = apart_if_sealed world names outsider.is outsider.sealed_off in
-    let for = permits_are_for_their_calls fresh world task call (ToMountPlain place flags) judged in
-    let named = (all_permits_fit world fresh task call (ToMountPlain place flags) outsider.is outsider.serves
-    (ap (task_called world) (sym (name_found world name task called)) ∙ called)
-    (ap mounts_overlay for.1) judged).names in
-    let outside = namespace_outside world names apart task
-    (caller_outside world fresh names name call task outsider called) in
-    let added : Filesystem ℕ = plain_filesystem nat_eq fresh in
-    subst (λ w. LeavesApart world w names [])
-    (sym (nothing_is_swept world fresh names name call task (ToMountPlain place flags) outsider called judged
-    (ap takes_uses for.1) (ap sets_type for.1) refl))
-    (attaching_leaves_apart world names apart fresh outsider.serves (world.filesystems ++ added ∷ [])
-    (larger_sees world names apart fresh outsider.serves added 0 refl) []
-    (larger_overlays world names apart fresh outsider.serves added 0 refl refl ∙ sym (append-nil (overlays world)))
-    (λ merged m number free. absurd m) (odds fresh) (λ k. (2 * k + 1, refl)) place
-    task.namespace outside named.own (new_mount added.number added.files.tree.root flags ∷ []) (λ origin m. ⊎_elim
-    (λ e. inr (ap (λ (x : Mount ℕ). x.propagation) e, 0, ap (λ (x : Mount ℕ). x.filesystem) e))
-    (λ none. absurd none) m) false (λ moving. absurd (true≢false (sym moving))))
+  -- A new mount: mount(2) of a tmpfs
+  pub plain_leaves : (place : Location ℕ) (flags : MountFlags) → judge_in nat_eq fresh world task call ≡ Ok
+      (ToMountPlain place flags)
+      → LeavesApart world (settled nat_eq (apply nat_eq fresh world task (ToMountPlain place flags)).world) names []
+  plain_leaves place flags judged =
+      let apart = apart_from outsider.it in
+      let for = permits_are_for_their_calls fresh world task call (ToMountPlain place flags) judged in
+      let named = (all_permits_fit world fresh task call (ToMountPlain place flags) outsider.is outsider.serves
+      (ap (task_called world) (sym (name_found world name task outsider.called)) ∙ outsider.called)
+      (ap mounts_overlay for.1) judged).names in
+      let outside = namespace_outside world names apart task
+      (caller_outside outsider) in
+      let added : Filesystem ℕ = plain_filesystem nat_eq fresh in
+      subst (λ w. LeavesApart world w names []) (sym (nothing_is_swept outsider (ToMountPlain place flags) judged
+      (ap takes_uses for.1) (ap sets_type for.1) refl)) (attaching_leaves_apart apart fresh outsider.serves
+      (world.filesystems ++ added ∷ []) (larger_sees apart fresh outsider.serves added 0 refl) []
+      (larger_overlays apart fresh outsider.serves added 0 refl refl ∙ sym (append-nil (overlays world)))
+      (λ merged m number free. absurd m) (odds fresh) (λ k. (2 * k + 1, refl)) place task.namespace outside named.own
+      (new_mount added.number added.files.tree.root flags ∷ []) (λ origin m. ⊎_elim
+      (λ e. inr (ap (λ (x : Mount ℕ). x.propagation) e, 0, ap (λ (x : Mount ℕ). x.filesystem) e)) (λ none. absurd none)
+      m) false (λ moving. absurd (true≢false (sym moving))))

@@ -25,7 +25,7 @@ pub record OthersMove (world : World ℕ) (names : List TaskName) (tasks : List 
   pub listed : filter (λ (n : Namespace ℕ). is_own_namespace nat_eq world names n.number) namespaces
       ≡ filter (λ (n : Namespace ℕ). is_own_namespace nat_eq world names n.number) world.namespaces
 
-module _ (world : World ℕ) (names : List TaskName) {New : ℕ → Type 0} (apart : StandsApart world names New)
+module _ {world : World ℕ} {names : List TaskName} {New : ℕ → Type 0} (apart : StandsApart world names New)
     (change : Mount ℕ → Mount ℕ) (keeps : KeepsOrDetaches change)
     (kept_same : (mount : Mount ℕ) → Among mount world.mounts
     → keep world names (members world names) (change mount) ≡ keep world names (members world names) mount)

@@ -3,6 +3,7 @@ use Rattle.std.proofs.Common.{◌≡◌, sym, ap, subst, ◌∙◌, inr, ℕ, na
 use Rattle.vt_spec.proofs.Common.{Among, Call, Change, CopyUp, Descriptor, Fresh, Here, IsWorld, LastWord, Location, Permit, Place, SetMark, Task, TaskName, World, among-map, descriptor_found, directory_used, directory_walk, file_walk, files_at, found_among, is_copied_up, looks_of, none_is_some, object_walk, overfills, same_Some, task_called, when, words, ⊤}
 use Rattle.vt_laws_rules.specs.Granted.{IsGranted}
 use Rattle.vt_laws_rules.specs.Granted.IsGranted.{changes_mark, changes_mode, changes_owner, creates, creates_exclusively, makes_directory, makes_hard_link, makes_symlink, makes_whiteout, opens, opens_existing, overwrites_file, removes_directory, renames, unlinks, writes_new_file, writes_part}
+use Rattle.vt_laws_sealed.proofs.outsiders.OthersCalls.{IsOthersCall}
 use Rattle.vt_laws_trees.proofs.trees.TreesWalked.{at_end}
 use Rattle.vt_laws_trees.specs.Calls.Inodes.{written_if_some}
 use Rattle.vt_laws_trees.specs.Calls.Searched.{IsSearchedToFile, IsSearchedToName, WayToFile, WayToName}
@@ -15,7 +16,6 @@ use Rattle.vt_laws_worlds.proofs.worlds.CallsKept.{name_found}
 use Rattle.vt_laws_worlds.proofs.worlds.ReachedPlaces.{HereDirectory}
 use Rattle.vt_laws_worlds.proofs.worlds.ReachedWalks.{directory_walk_end}
 use Rattle.vt_laws_worlds.specs.OverlayPermits.Asked.{change_asked}
-use Rattle.vt_laws_sealed.specs.Outsiders.{IsOutsidersCall}
 use Rattle.vt_laws_sealed.proofs.outsiders.Entering.{ground_outside, old_outside, task_there}
 use Rattle.vt_laws_sealed.proofs.outsiders.Opening.{IsFileGround, file_walk_ground}
 use Rattle.vt_laws_sealed.proofs.outsiders.OwnTasks.{IsOutside}
@@ -58,11 +58,10 @@ module _ (world : World ℕ) (is : IsWorld nat_eq world) (task : Task ℕ) (ther
   file_ground path directory searched = file_way_ground _ directory (words path) searched.passed searched.way
       (start_ground world is task there task.directory path (directory_ground world is task there))
 
-module _ (world : World ℕ) (fresh : Fresh ℕ) (names : List TaskName) (name : TaskName) (call : Call)
-    (task : Task ℕ) (outsider : IsOutsidersCall world fresh names name call)
-    (called : task_called world name ≡ Some task) where
+module _ {world : World ℕ} {fresh : Fresh ℕ} {names : List TaskName} {name : TaskName} {call : Call}
+    {task : Task ℕ} (outsider : IsOthersCall world fresh names name call task) where
   abbrev there : Among task world.tasks
-  there = task_there world fresh names name call task outsider called
+  there = task_there outsider
 
   -- a change where others are
   abbrev pub IsTheirs : Location ℕ × Change ℕ → Type 0
@@ -72,7 +71,7 @@ module _ (world : World ℕ) (fresh : Fresh ℕ) (names : List TaskName) (name :
   AreTheirs asked = (made : Location ℕ × Change ℕ) → asked ≡ Some made → IsTheirs made
 
   at : (location : Location ℕ) → IsGround world outsider.is task there location.mount → IsOutside world names location
-  at = ground_outside world fresh names name call task outsider called
+  at = ground_outside outsider
 
   of : (location : Location ℕ) (change : Change ℕ) → IsTheirs (location, change) → AreTheirs (Some (location, change))
   of location change is made e = subst IsTheirs (same_Some (location, change) made e) is
@@ -145,7 +144,7 @@ module _ (world : World ℕ) (fresh : Fresh ℕ) (names : List TaskName) (name :
       )
     where
       itself : task_called world task.name ≡ Some task
-      itself = ap (task_called world) (sym (name_found world name task called)) ∙ called
+      itself = ap (task_called world) (sym (name_found world name task outsider.called)) ∙ outsider.called
   granted_theirs asked permit (opens path access here few walk passed) =
       opened here.location (object_at path here walk) (is_copied_up nat_eq world here.location access)
   granted_theirs asked permit (opens_existing path access mode place file few walk named is_there passed) =
@@ -155,8 +154,7 @@ module _ (world : World ℕ) (fresh : Fresh ℕ) (names : List TaskName) (name :
   granted_theirs asked permit (creates_exclusively path access mode place few walk named passed) = of place.parent _
       (named_at path place.parent place.last (new_name_ways_are_searched world task path place walk), tt)
   granted_theirs asked permit (writes_part number offset bytes descriptor found passed) = written descriptor.location
-      (old_outside world fresh names name call task outsider called descriptor.location
-      (inr (inr (among-map (λ (d : Descriptor ℕ). d.location) task.descriptors descriptor
-      (found_among (λ (d : Descriptor ℕ). number == d.number) task.descriptors descriptor
+      (old_outside outsider descriptor.location (inr (inr (among-map (λ (d : Descriptor ℕ). d.location) task.descriptors
+      descriptor (found_among (λ (d : Descriptor ℕ). number == d.number) task.descriptors descriptor
       (descriptor_found task number (λ d. d.writes) descriptor found).0))))) offset bytes
   granted_theirs asked permit granted = λ made e. none_is_some made e

@@ -5,6 +5,7 @@ use Rattle.vt_laws_rules.proofs.given.Inversion.{calls_are_granted}
 use Rattle.vt_laws_rules.proofs.judged.CallsJudged.{call_is_judged_then_applied}
 use Rattle.vt_laws_rules.specs.Granted.{IsGranted}
 use Rattle.vt_laws_rules.specs.Granted.IsGranted.{mounts_overlayfs}
+use Rattle.vt_laws_sealed.proofs.outsiders.OthersCalls.{IsOthersCall, apart_from}
 use Rattle.vt_laws_trees.specs.Trees.Calls.{mounts_overlay}
 use Rattle.vt_laws_trees.proofs.layers.layers.LowersWorld.{the_rest_stays}
 use Rattle.vt_laws_mounts.specs.Mounts.Invariants.{OneNumberEach}
@@ -12,8 +13,6 @@ use Rattle.vt_laws_worlds.proofs.worlds.CallsKept.{name_found}
 use Rattle.vt_laws_worlds.specs.OverlayPermits.Asked.{change_asked}
 use Rattle.vt_laws_worlds.proofs.overlay_permits.kept.KeptOverlays.{permits_make_their_change}
 use Rattle.vt_laws_worlds.proofs.overlay_permits.worlds.EveryCall.{overlays_kept, under}
-use Rattle.vt_laws_sealed.proofs.part.seals.ByPart.{apart_if_sealed}
-use Rattle.vt_laws_sealed.specs.Outsiders.{IsOutsidersCall}
 use Rattle.vt_laws_sealed.proofs.outsiders.ChangesGround.{granted_theirs}
 use Rattle.vt_laws_sealed.proofs.outsiders.FilesOfCalls.{changed_files_leave}
 use Rattle.vt_laws_sealed.proofs.outsiders.Opening.{descriptor_leaves, open_outside}
@@ -29,9 +28,8 @@ changes_mount_no_overlay world fresh task asked permit
     (mounts_overlayfs path words flags here layers admin end walked layered passed) made e = none_is_some made e
 changes_mount_no_overlay world fresh task asked permit granted made e = refl
 
-module _ (world : World ℕ) (fresh : Fresh ℕ) (names : List TaskName) (name : TaskName) (call : Call)
-    (task : Task ℕ) (outsider : IsOutsidersCall world fresh names name call)
-    (called : task_called world name ≡ Some task) (permit : Permit ℕ)
+module _ {world : World ℕ} {fresh : Fresh ℕ} {names : List TaskName} {name : TaskName} {call : Call}
+    {task : Task ℕ} (outsider : IsOthersCall world fresh names name call task) (permit : Permit ℕ)
     (judged : judge_in nat_eq fresh world task call ≡ Ok permit) where
   granted : IsGranted nat_eq (looks_of nat_eq world) (overfills nat_eq fresh world task) task call permit
   granted = calls_are_granted nat_eq (looks_of nat_eq world) (overfills nat_eq fresh world task) task call permit judged
@@ -41,16 +39,16 @@ module _ (world : World ℕ) (fresh : Fresh ℕ) (names : List TaskName) (name :
       → LeavesApart world (apply nat_eq fresh world task permit).world names changed
       → LeavesApart world (settled nat_eq (apply nat_eq fresh world task permit).world) names changed
   call_swept other changed leaves =
-      let itself = ap (task_called world) (sym (name_found world name task called)) ∙ called in
+      let itself = ap (task_called world) (sym (name_found world name task outsider.called)) ∙ outsider.called in
       let left : (call_outcome nat_eq fresh world task call).world ≡ (apply nat_eq fresh world task permit).world =
       ap (λ (o : Outcome ℕ). o.world) (call_is_judged_then_applied fresh world task call
       ∙ ap (λ j. after world j (apply nat_eq fresh world task)) judged) in
       let way = under world fresh task call permit outsider.is outsider.serves itself other outsider.few_groups judged
       in sweep_leaves_apart world (apply nat_eq fresh world task permit).world names
-      (apart_if_sealed world names outsider.is outsider.sealed_off) outsider.sealed_off
-      (subst (TreeInvariants nat_eq) left way.files) (subst (OverlayInvariants nat_eq) left
-      (overlays_kept world fresh task call permit outsider.is outsider.serves itself other outsider.few_groups judged))
-      (subst (MountInvariants nat_eq) left way.mounts).one_number changed leaves
+      (apart_from outsider.it) outsider.sealed_off (subst (TreeInvariants nat_eq) left way.files)
+      (subst (OverlayInvariants nat_eq) left (overlays_kept world fresh task call permit outsider.is outsider.serves
+      itself other outsider.few_groups judged)) (subst (MountInvariants nat_eq) left way.mounts).one_number changed
+      leaves
 
   -- A change, where others were moved before in a world of the same filesystems
   pub change_leaves : (location : Location ℕ) (change : Change ℕ)
@@ -64,9 +62,9 @@ module _ (world : World ℕ) (fresh : Fresh ℕ) (names : List TaskName) (name :
       call_swept (changes_mount_no_overlay world fresh task call permit granted (location, change) asks)
       (filesystems_changed nat_eq world permit)
       (subst (LeavesApart world (apply nat_eq fresh world task permit).world names) (sym raised)
-      (changed_files_leave world fresh names name call task outsider called permit judged location change asks base
-      (apply nat_eq fresh world task permit).world same (left ∙ ap (λ list. record base { filesystems = list })
-      (permits_make_their_change world fresh task permit location change asks)) leaves))
+      (changed_files_leave outsider permit judged location change asks base (apply nat_eq fresh world task permit).world
+      same (left ∙ ap (λ list. record base { filesystems = list }) (permits_make_their_change world fresh task permit
+      location change asks)) leaves))
 
   -- where the world stays but for its filesystems
   pub change_alone : (location : Location ℕ) (change : Change ℕ)
@@ -76,12 +74,11 @@ module _ (world : World ℕ) (fresh : Fresh ℕ) (names : List TaskName) (name :
       → LeavesApart world (settled nat_eq (apply nat_eq fresh world task permit).world) names
       (filesystems_changed nat_eq world permit)
   change_alone location change asks left raised = change_leaves location change asks world refl left raised
-      (leaves_apart_itself world fresh names name call outsider)
+      (leaves_apart_itself outsider.it)
 
 -- A descriptor on a file of others
-module _ (world : World ℕ) (fresh : Fresh ℕ) (names : List TaskName) (name : TaskName) (call : Call)
-    (task : Task ℕ) (outsider : IsOutsidersCall world fresh names name call)
-    (called : task_called world name ≡ Some task) where
+module _ {world : World ℕ} {fresh : Fresh ℕ} {names : List TaskName} {name : TaskName} {call : Call}
+    {task : Task ℕ} (outsider : IsOthersCall world fresh names name call task) where
   -- the world before the change
   abbrev with_open : Location ℕ → Access → World ℕ
   with_open file access = with_task world (with_descriptor task file access)
@@ -99,8 +96,8 @@ module _ (world : World ℕ) (fresh : Fresh ℕ) (names : List TaskName) (name :
   open_leaves file access judged = by (is_copied_up nat_eq world file access) refl
     where
       leaves : LeavesApart world (with_open file access) names []
-      leaves = descriptor_leaves world fresh names name call task outsider called file access
-          (open_outside world fresh names name call task outsider called file access judged)
+      leaves = descriptor_leaves outsider file access
+          (open_outside outsider file access judged)
 
       left : World ℕ
       left = (apply nat_eq fresh world task (ToOpen file access)).world
@@ -110,13 +107,12 @@ module _ (world : World ℕ) (fresh : Fresh ℕ) (names : List TaskName) (name :
 
       by : (b : Bool) → is_copied_up nat_eq world file access ≡ b
           → LeavesApart world (settled nat_eq left) names (filesystems_changed nat_eq world (ToOpen file access))
-      by true e = change_leaves world fresh names name call task outsider called (ToOpen file access) judged file
+      by true e = change_leaves outsider (ToOpen file access) judged file
           (CopyUp file.node) (ap (λ b. when b (file, CopyUp file.node)) e) (with_open file access) refl beside
           (ap (λ b. changed_if nat_eq b world file) e) leaves
       by false e = subst (LeavesApart world (settled nat_eq left) names)
-          (sym (ap (λ b. changed_if nat_eq b world file) e))
-          (sweeping_leaves_apart world left names (apart_if_sealed world names outsider.is outsider.sealed_off)
-          outsider.sealed_off (ap (λ b. (with_copy nat_eq b fresh world file).filesystems) e)
+          (sym (ap (λ b. changed_if nat_eq b world file) e)) (sweeping_leaves_apart world left names
+          (apart_from outsider.it) outsider.sealed_off (ap (λ b. (with_copy nat_eq b fresh world file).filesystems) e)
           (subst OneNumberEach (sym not_copied) outsider.is.mounts.one_number) []
           (subst (λ w. LeavesApart world w names []) (sym not_copied) leaves))
         where
@@ -130,49 +126,41 @@ module _ (world : World ℕ) (fresh : Fresh ℕ) (names : List TaskName) (name :
   new_leaves directory new_name node access judged =
       let file : Location ℕ = record { mount = directory.mount; node = evens fresh 0 } in
       let permit = ToOpenNew directory new_name node access in
-      let theirs = granted_theirs world fresh names name call task outsider called call permit
+      let theirs = granted_theirs outsider call permit
       (calls_are_granted nat_eq (looks_of nat_eq world) (overfills nat_eq fresh world task) task call permit judged)
       (directory, Make directory.node new_name (evens fresh 0) node) refl in
-      change_leaves world fresh names name call task outsider called permit judged directory
-      (Make directory.node new_name (evens fresh 0) node) refl (with_open file access) refl
-      (opened_beside (with_change nat_eq (odds fresh) world directory
-      (Make directory.node new_name (evens fresh 0) node))
-      (the_rest_stays (odds fresh) world directory (Make directory.node new_name (evens fresh 0) node)) file access)
-      refl (descriptor_leaves world fresh names name call task outsider called file access theirs.0)
+      change_leaves outsider permit judged directory (Make directory.node new_name (evens fresh 0) node) refl
+      (with_open file access) refl (opened_beside (with_change nat_eq (odds fresh) world directory
+      (Make directory.node new_name (evens fresh 0) node)) (the_rest_stays (odds fresh) world directory
+      (Make directory.node new_name (evens fresh 0) node)) file access) refl
+      (descriptor_leaves outsider file access theirs.0)
 
--- A change of attributes and bytes, a new name, and a write
-pub attributes_leave : (world : World ℕ) (fresh : Fresh ℕ) (names : List TaskName) (name : TaskName) (call : Call)
-    (task : Task ℕ) → IsOutsidersCall world fresh names name call → task_called world name ≡ Some task
-    → (location : Location ℕ) (change : Change ℕ)
-    → judge_in nat_eq fresh world task call ≡ Ok (ToChange location change)
-    → LeavesApart world (settled nat_eq (apply nat_eq fresh world task (ToChange location change)).world) names
-    (filesystems_changed nat_eq world (ToChange location change))
-attributes_leave world fresh names name call task outsider called location change judged =
-    change_alone world fresh names name call task outsider called (ToChange location change) judged location change refl
-    (the_rest_stays fresh world location change) refl
+  -- A change of attributes and bytes, a new name, and a write
+  pub attributes_leave : (location : Location ℕ) (change : Change ℕ)
+      → judge_in nat_eq fresh world task call ≡ Ok (ToChange location change)
+      → LeavesApart world (settled nat_eq (apply nat_eq fresh world task (ToChange location change)).world) names
+      (filesystems_changed nat_eq world (ToChange location change))
+  attributes_leave location change judged =
+      change_alone outsider (ToChange location change) judged location change refl
+      (the_rest_stays fresh world location change) refl
 
-pub making_leaves : (world : World ℕ) (fresh : Fresh ℕ) (names : List TaskName) (name : TaskName) (call : Call)
-    (task : Task ℕ) → IsOutsidersCall world fresh names name call → task_called world name ≡ Some task
-    → (directory : Location ℕ) (new_name : List ℕ) (node : Node ℕ)
-    → judge_in nat_eq fresh world task call ≡ Ok (ToMake directory new_name node)
-    → LeavesApart world (settled nat_eq (apply nat_eq fresh world task (ToMake directory new_name node)).world) names
-    (filesystems_changed nat_eq world (ToMake directory new_name node))
-making_leaves world fresh names name call task outsider called directory new_name node judged =
-    change_alone world fresh names name call task outsider called (ToMake directory new_name node) judged directory
-    (Make directory.node new_name (evens fresh 0) node) refl
-    (the_rest_stays (odds fresh) world directory (Make directory.node new_name (evens fresh 0) node)) refl
+  pub making_leaves : (directory : Location ℕ) (new_name : List ℕ) (node : Node ℕ)
+      → judge_in nat_eq fresh world task call ≡ Ok (ToMake directory new_name node)
+      → LeavesApart world (settled nat_eq (apply nat_eq fresh world task (ToMake directory new_name node)).world) names
+      (filesystems_changed nat_eq world (ToMake directory new_name node))
+  making_leaves directory new_name node judged =
+      change_alone outsider (ToMake directory new_name node) judged directory
+      (Make directory.node new_name (evens fresh 0) node) refl (the_rest_stays (odds fresh) world directory
+      (Make directory.node new_name (evens fresh 0) node)) refl
 
-pub writing_leaves : (world : World ℕ) (fresh : Fresh ℕ) (names : List TaskName) (name : TaskName) (call : Call)
-    (task : Task ℕ) → IsOutsidersCall world fresh names name call → task_called world name ≡ Some task
-    → (file : Location ℕ) (offset : ℕ) (bytes : List ℕ)
-    → judge_in nat_eq fresh world task call ≡ Ok (ToWritePart file offset bytes)
-    → LeavesApart world (settled nat_eq (apply nat_eq fresh world task (ToWritePart file offset bytes)).world) names
-    (filesystems_changed nat_eq world (ToWritePart file offset bytes))
-writing_leaves world fresh names name call task outsider called file offset [] judged =
-    subst (λ w. LeavesApart world w names []) (sym outsider.is.nothing_unused)
-    (leaves_apart_itself world fresh names name call outsider)
-writing_leaves world fresh names name call task outsider called file offset (byte ∷ bytes) judged =
-    change_alone world fresh names name call task outsider called (ToWritePart file offset (byte ∷ bytes)) judged file
-    (SetBytes file.node (overwritten offset (byte ∷ bytes) (bytes_in (node_at nat_eq world file)))) refl
-    (the_rest_stays fresh world file
-    (SetBytes file.node (overwritten offset (byte ∷ bytes) (bytes_in (node_at nat_eq world file))))) refl
+  pub writing_leaves : (file : Location ℕ) (offset : ℕ) (bytes : List ℕ)
+      → judge_in nat_eq fresh world task call ≡ Ok (ToWritePart file offset bytes)
+      → LeavesApart world (settled nat_eq (apply nat_eq fresh world task (ToWritePart file offset bytes)).world) names
+      (filesystems_changed nat_eq world (ToWritePart file offset bytes))
+  writing_leaves file offset [] judged =
+      subst (λ w. LeavesApart world w names []) (sym outsider.is.nothing_unused) (leaves_apart_itself outsider.it)
+  writing_leaves file offset (byte ∷ bytes) judged =
+      change_alone outsider (ToWritePart file offset (byte ∷ bytes)) judged file
+      (SetBytes file.node (overwritten offset (byte ∷ bytes) (bytes_in (node_at nat_eq world file)))) refl
+      (the_rest_stays fresh world file (SetBytes file.node (overwritten offset (byte ∷ bytes)
+      (bytes_in (node_at nat_eq world file))))) refl

@@ -1,12 +1,11 @@
 -- Namespaces of others that end with their last tasks: _exit(2).
 use Rattle.std.proofs.Common.{arith, ◌≡◌, refl, sym, ap, ◌∙◌, inl, ℕ, nat_eq, Bool, true, false, true≢false, List, [], Option, Some, filter, map, not, ◌&&◌, eqb-true}
-use Rattle.vt_spec.proofs.Common.{Among, Call, Fresh, Location, Mount, Namespace, Task, TaskName, ToExit, World, among-filter, among-flat_map, among-from_filter, among-from_flat_map, among-from_map, among_numbers, and_from, any_among, any_from_among, apply, common_steps, false_from_ne_true, has_tasks, holds_of, is_among, is_going, is_in_ended, is_listed, is_member_task, is_own_namespace, list_any, locations, locations_of, members, mount_numbered, namespaces_ended, not-false, outsiders, same_name, same_task_name, sealed, settled, task_called}
+use Rattle.vt_spec.proofs.Common.{Among, Call, Fresh, Location, Mount, Namespace, Task, TaskName, ToExit, World, among-filter, among-flat_map, among-from_filter, among-from_flat_map, among-from_map, among_numbers, and_from, any_among, any_from_among, apply, common_steps, false_from_ne_true, has_tasks, holds_of, is_among, is_going, is_in_ended, is_listed, is_member_task, is_own_namespace, list_any, locations, locations_of, members, mount_numbered, namespaces_ended, not-false, outsiders, same_name, same_task_name, sealed, settled}
 use Rattle.vt_laws_mounts.proofs.letting_go.Lists.{filter_less}
 use Rattle.vt_laws_mounts.proofs.mounts.MountsReplaced.{found_itself}
+use Rattle.vt_laws_sealed.proofs.outsiders.OthersCalls.{IsOthersCall, apart_from}
 use Rattle.vt_laws_worlds.proofs.worlds.CallsKept.{name_found}
 use Rattle.vt_laws_sealed.specs.Part.Seals.{IsApart}
-use Rattle.vt_laws_sealed.proofs.part.seals.ByPart.{apart_if_sealed}
-use Rattle.vt_laws_sealed.specs.Outsiders.{IsOutsidersCall}
 use Rattle.vt_laws_sealed.proofs.outsiders.ChangedWorlds.{OthersMove}
 use Rattle.vt_laws_sealed.proofs.outsiders.OtherMounts.{namespace_outside, standing_apart}
 use Rattle.vt_laws_sealed.proofs.outsiders.OwnTasks.{IsOutside}
@@ -15,7 +14,7 @@ use Rattle.vt_laws_sealed.proofs.outsiders.Staying.{LeavesApart}
 use Rattle.vt_laws_sealed.proofs.outsiders.TakingAway.{filesystems_taken, taken_leaves_apart, taking_leaves_apart}
 
 -- Other tasks, with the members as they were; then the namespaces without tasks end
-module _ (world : World ℕ) (names : List TaskName) {New : ℕ → Type 0} (apart : StandsApart world names New)
+module _ {world : World ℕ} {names : List TaskName} {New : ℕ → Type 0} (apart : StandsApart world names New)
     (tasks : List (Task ℕ)) (same : filter (is_member_task names) tasks ≡ members world names)
     (outside : (t : Task ℕ) → Among t (filter (λ (x : Task ℕ). not (is_member_task names x)) tasks)
     → is_own_namespace nat_eq world names t.namespace ≡ false) (located : (location : Location ℕ)
@@ -87,10 +86,10 @@ module _ (world : World ℕ) (names : List TaskName) {New : ℕ → Type 0} (apa
   }
 
   pub ended_leaves_apart : LeavesApart world (namespaces_ended nat_eq before) names []
-  ended_leaves_apart = taken_leaves_apart world names apart tasks namespaces_left moved gone others_go
+  ended_leaves_apart = taken_leaves_apart apart tasks namespaces_left moved gone others_go
 
   pub filesystems_ended : (namespaces_ended nat_eq before).filesystems ≡ world.filesystems
-  filesystems_ended = filesystems_taken world names apart tasks namespaces_left moved gone others_go
+  filesystems_ended = filesystems_taken apart tasks namespaces_left moved gone others_go
 
 -- So it is after the sweep.
 pub ending_leaves_apart : (world : World ℕ) (names : List TaskName) → IsApart world names
@@ -103,17 +102,15 @@ pub ending_leaves_apart : (world : World ℕ) (names : List TaskName) → IsApar
     → LeavesApart world (settled nat_eq (namespaces_ended nat_eq (record world { tasks = tasks }))) names []
 ending_leaves_apart world names apart sealed_off tasks same outside located =
     let so_far = standing_apart world names apart in
-    taking_leaves_apart world names apart sealed_off tasks
-    (namespaces_left world names so_far tasks same outside located)
-    (moved world names so_far tasks same outside located) (gone world names so_far tasks same outside located)
-    (others_go world names so_far tasks same outside located)
+    taking_leaves_apart world names apart sealed_off tasks (namespaces_left so_far tasks same outside located)
+    (moved so_far tasks same outside located) (gone so_far tasks same outside located)
+    (others_go so_far tasks same outside located)
 
 -- _exit(2)
-module _ (world : World ℕ) (fresh : Fresh ℕ) (names : List TaskName) (name : TaskName) (call : Call)
-    (task : Task ℕ) (outsider : IsOutsidersCall world fresh names name call)
-    (called : task_called world name ≡ Some task) where
+module _ {world : World ℕ} {fresh : Fresh ℕ} {names : List TaskName} {name : TaskName} {call : Call}
+    {task : Task ℕ} (outsider : IsOthersCall world fresh names name call task) where
   set_apart : IsApart world names
-  set_apart = apart_if_sealed world names outsider.is outsider.sealed_off
+  set_apart = apart_from outsider.it
 
   abbrev others : List (Task ℕ)
   others = filter (λ (t : Task ℕ). not (same_name task.name t.name)) world.tasks
@@ -121,8 +118,8 @@ module _ (world : World ℕ) (fresh : Fresh ℕ) (names : List TaskName) (name :
   members_there : filter (is_member_task names) others ≡ members world names
   members_there = filter_less (is_member_task names) (λ (t : Task ℕ). not (same_name task.name t.name)) world.tasks
       (λ t m gone. ap (λ n. is_among same_name n names)
-      (sym (same_task_name task.name t.name (not-false (same_name task.name t.name) gone))
-      ∙ sym (name_found world name task called)) ∙ outsider.outside)
+      (sym (same_task_name task.name t.name (not-false (same_name task.name t.name) gone)) ∙ sym
+      (name_found world name task outsider.called)) ∙ outsider.outside)
 
   out_before : (t : Task ℕ) → Among t (filter (λ (x : Task ℕ). not (is_member_task names x)) others)
       → Among t (outsiders world names)

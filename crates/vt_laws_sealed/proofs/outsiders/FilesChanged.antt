@@ -1,6 +1,6 @@
 -- What others change of filesystems is nothing that a sealed set uses, and nothing of its lower layers.
-use Rattle.std.proofs.Common.{arith, ◌≡◌, ◌≢◌, refl, sym, ap, subst, ◌∙◌, inl, inr, ℕ, nat_eq, Bool, true, false, cond, true≢false, List, [], ◌∷◌, Some, None, is_some, map, eqb-true, ne_eqb, option_map}
-use Rattle.vt_spec.proofs.Common.{AddName, Among, Change, CopyUp, FileTree, Filesystem, Layer, Location, Make, Merge, Move, Overlay, Remove, SetAttr, SetBytes, SetMark, TaskName, World, changed, common_steps, directory_used, false_from_ne_true, files_at, filesystem_numbered, has_layer_on, is_among, is_overlay, layers_of, list_any, map_twice, overlay_or, own_lowers, replaced_if_numbered, used_filesystems, with_files, ⊤}
+use Rattle.std.proofs.Common.{arith, ◌≡◌, ◌≢◌, refl, sym, ap, subst, ◌∙◌, ℕ, nat_eq, Bool, true, false, cond, true≢false, List, Some, None, is_some, map, eqb-true, ne_eqb, option_map}
+use Rattle.vt_spec.proofs.Common.{AddName, Among, Change, CopyUp, FileTree, Filesystem, Layer, Location, Make, Merge, Move, Overlay, Remove, SetAttr, SetBytes, SetMark, TaskName, World, changed, common_steps, directory_used, false_from_ne_true, files_at, filesystem_numbered, has_layer_on, is_among, is_overlay, layers_of, list_any, map_alike, map_twice, overlay_or, own_lowers, replaced_if_numbered, used_filesystems, with_files, ⊤}
 use Rattle.vt_laws_mounts.proofs.letting_go.sweeps.OfWorlds.{found_filesystem}
 use Rattle.vt_laws_trees.proofs.layers.layers.LowersKept.{kept_elsewhere}
 use Rattle.vt_laws_trees.proofs.layers.layers.LowersWorld.{number_of_filesystem}
@@ -81,13 +81,7 @@ remerged_layers : (layer number : ℕ) (merge : Merge ℕ) (x : Filesystem ℕ)
     → has_layer_on nat_eq layer (remerged number merge x) ≡ has_layer_on nat_eq layer x
 remerged_layers layer number merge x = grind (arith, common_steps)
 
--- lists that are changed alike
-map_alike : {A B : Type 0} (f g : A → B) (xs : List A) → ((x : A) → Among x xs → f x ≡ g x) → map f xs ≡ map g xs
-map_alike f g [] same = refl
-map_alike f g (x ∷ xs) same =
-    ap (λ y. y ∷ map f xs) (same x (inl refl)) ∙ ap (λ ys. g x ∷ ys) (map_alike f g xs (λ y m. same y (inr m)))
-
-module _ (world : World ℕ) (names : List TaskName) (apart : IsApart world names) where
+module _ {world : World ℕ} {names : List TaskName} (apart : IsApart world names) where
   found : (x : Filesystem ℕ) → Among x world.filesystems → (number : ℕ) → nat_eq number x.number ≡ true
       → filesystem_numbered nat_eq world number ≡ x
   found x m number e = ap (filesystem_numbered nat_eq world) (eqb-true number x.number e)

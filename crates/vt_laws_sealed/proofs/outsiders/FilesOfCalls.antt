@@ -5,6 +5,7 @@ use Rattle.vt_spec.specs.Machine.Filesystems.{numbers_over}
 use Rattle.vt_laws_rules.proofs.given.GivenPermits.{permits_are_for_their_calls}
 use Rattle.vt_laws_rules.proofs.given.Inversion.{calls_are_granted}
 use Rattle.vt_laws_rules.specs.Given.{IsFor}
+use Rattle.vt_laws_sealed.proofs.outsiders.OthersCalls.{IsOthersCall, apart_from}
 use Rattle.vt_laws_trees.specs.Trees.{IsFileTree, IsProper}
 use Rattle.vt_laws_trees.proofs.trees.ChangesKeepTrees.{changes_keep_numbers, changes_keep_own_parents, changes_keep_trees}
 use Rattle.vt_laws_trees.proofs.trees.TreesOfWorlds.{numbered_all, numbered_anyhow}
@@ -24,8 +25,7 @@ use Rattle.vt_laws_worlds.proofs.overlay_permits.changed.ChangedOverlays.{are_le
 use Rattle.vt_laws_worlds.proofs.worlds.CallsKept.{name_found}
 use Rattle.vt_laws_sealed.specs.Part.Seals.{IsApart}
 use Rattle.vt_laws_sealed.proofs.part.locks.LockedTrees.{all_locked}
-use Rattle.vt_laws_sealed.proofs.part.seals.ByPart.{apart_if_sealed, used_are_free}
-use Rattle.vt_laws_sealed.specs.Outsiders.{IsOutsidersCall}
+use Rattle.vt_laws_sealed.proofs.part.seals.ByPart.{used_are_free}
 use Rattle.vt_laws_sealed.proofs.outsiders.ChangesGround.{IsTheirs, granted_theirs}
 use Rattle.vt_laws_sealed.proofs.outsiders.FilesChanged.{IsCopy, made_was_not_there, merged_step, plain_step, replaced_is_remerged, replaced_is_rewritten, spared_stays, written_not_spared, written_there, written_to}
 use Rattle.vt_laws_sealed.proofs.outsiders.FilesStep.{stepping_leaves_apart}
@@ -63,22 +63,21 @@ copies_are_of_overlays world fresh task call permit for made asks copy =
         → change_asked fresh world permit ≡ Some one → is_some (filesystem_at nat_eq world one.0).overlay ≡ true
     by permit for copied one e = search (arith, common_steps, opened, layered, and_parts, none_is_some)
 
-module _ (world : World ℕ) (fresh : Fresh ℕ) (names : List TaskName) (name : TaskName) (call : Call)
-    (task : Task ℕ) (outsider : IsOutsidersCall world fresh names name call)
-    (called : task_called world name ≡ Some task) (permit : Permit ℕ)
+module _ {world : World ℕ} {fresh : Fresh ℕ} {names : List TaskName} {name : TaskName} {call : Call}
+    {task : Task ℕ} (outsider : IsOthersCall world fresh names name call task) (permit : Permit ℕ)
     (judged : judge_in nat_eq fresh world task call ≡ Ok permit) (location : Location ℕ) (change : Change ℕ)
     (asks : change_asked fresh world permit ≡ Some (location, change)) where
   abbrev supply : Fresh ℕ
   supply = numbers_left fresh permit
 
   set_apart : IsApart world names
-  set_apart = apart_if_sealed world names outsider.is outsider.sealed_off
+  set_apart = apart_from outsider.it
 
   itself : task_called world task.name ≡ Some task
-  itself = ap (task_called world) (sym (name_found world name task called)) ∙ called
+  itself = ap (task_called world) (sym (name_found world name task outsider.called)) ∙ outsider.called
 
-  theirs : IsTheirs world fresh names name call task outsider called (location, change)
-  theirs = granted_theirs world fresh names name call task outsider called call permit
+  theirs : IsTheirs outsider (location, change)
+  theirs = granted_theirs outsider call permit
       (calls_are_granted nat_eq (looks_of nat_eq world) (overfills nat_eq fresh world task) task call permit judged)
       (location, change) asks
 
@@ -243,12 +242,11 @@ module _ (world : World ℕ) (fresh : Fresh ℕ) (names : List TaskName) (name :
         → LeavesApart world base names [] → LeavesApart world left names (changed_at nat_eq world location)
     plain_leaves base left same left_is leaves =
         subst (LeavesApart world left names) (sym (ap (numbers_of_change nat_eq world there) plain))
-        (stepping_leaves_apart world base left names set_apart _
-        (plain_step world names set_apart number (changed nat_eq there.files change) plain_unused
-        (λ lower. keeps_below)) same (left_is ∙ ap (λ list. record base { filesystems = list })
-        (ap (λ o. (filesystem_changed nat_eq supply world there o change).filesystems) plain
-        ∙ replaced_is_rewritten world names set_apart number (changed nat_eq there.files change))) (there.number ∷ [])
-        (λ n m. unraised n m) leaves)
+        (stepping_leaves_apart world base left names set_apart _ (plain_step set_apart number
+        (changed nat_eq there.files change) plain_unused (λ lower. keeps_below)) same
+        (left_is ∙ ap (λ list. record base { filesystems = list }) (ap (λ o.
+        (filesystem_changed nat_eq supply world there o change).filesystems) plain ∙ replaced_is_rewritten set_apart
+        number (changed nat_eq there.files change))) (there.number ∷ []) (λ n m. unraised n m) leaves)
       where
         unraised : (n : ℕ) → Among n (used_filesystems nat_eq world names)
             → list_any (λ k. nat_eq k n) (there.number ∷ []) ≡ false
@@ -386,12 +384,12 @@ module _ (world : World ℕ) (fresh : Fresh ℕ) (names : List TaskName) (name :
           → LeavesApart world base names [] → LeavesApart world left names (changed_at nat_eq world location)
       merged_leaves base left same left_is leaves = subst (LeavesApart world left names)
           (sym (ap (numbers_of_change nat_eq world there) is ∙ ap (numbers_over nat_eq world there) has))
-          (stepping_leaves_apart world base left names set_apart _
-          (merged_step world names set_apart number upper.filesystem merge merged_unused upper_unused merged_no_lower
-          (λ lower. upper_keeps_below)) same (left_is ∙ ap (λ list. record base { filesystems = list })
-          (ap (λ o. (filesystem_changed nat_eq supply world there o change).filesystems) is
-          ∙ ap (λ o. (overlay_changed nat_eq supply world there overlay o change).filesystems) has
-          ∙ replaced_is_remerged world names set_apart number upper.filesystem overlay merge elsewhere is))
+          (stepping_leaves_apart world base left names set_apart _ (merged_step set_apart number upper.filesystem merge
+          merged_unused upper_unused merged_no_lower (λ lower. upper_keeps_below)) same
+          (left_is ∙ ap (λ list. record base { filesystems = list }) (ap
+          (λ o. (filesystem_changed nat_eq supply world there o change).filesystems) is ∙ ap
+          (λ o. (overlay_changed nat_eq supply world there overlay o change).filesystems) has ∙ replaced_is_remerged
+          set_apart number upper.filesystem overlay merge elsewhere is))
           (there.number ∷ (filesystem_numbered nat_eq world upper.filesystem).number ∷ []) unraised leaves)
         where
           differs : (k n : ℕ) → is_used k ≡ false → Among n (used_filesystems nat_eq world names)

@@ -6,7 +6,7 @@ use Rattle.vt_laws_sealed.specs.Part.Seals.{IsApart}
 use Rattle.vt_laws_sealed.proofs.part.Kept.{among-from_each_once, filter_map_same}
 use Rattle.vt_laws_sealed.proofs.outsiders.Staying.{IsOfTheWorld}
 
-module _ (world : World ℕ) (names : List TaskName) (apart : IsApart world names) where
+module _ {world : World ℕ} {names : List TaskName} (apart : IsApart world names) where
   abbrev numbers : List ℕ
   numbers = map (λ (filesystem : Filesystem ℕ). filesystem.number) world.filesystems
 

@@ -59,7 +59,7 @@ module _ (world before : World ℕ) (names : List TaskName) (apart : IsApart wor
       let at = among-from_map (λ (l : Location ℕ). (mount_at nat_eq world l).filesystem)
       (locations (members world names)) number located in
       let task = among-from_flat_map locations_of (members world names) at.0 at.1 in
-      let there = located_there world names apart at.0 (among-flat_map locations_of world.tasks task.0 at.0
+      let there = located_there apart at.0 (among-flat_map locations_of world.tasks task.0 at.0
       (among-from_filter (is_member_task names) world.tasks task.0 task.1).0 task.2) in
       let shown = shown_at world names there.0
       (any_from_among (λ (l : Location ℕ). nat_eq l.mount there.0.number) (locations (members world names)) at.0 at.1

@@ -2,6 +2,7 @@
 use Rattle.std.proofs.Common.{arith, ◌≡◌, refl, sym, ap, subst, ◌∙◌, inl, ℕ, nat_eq, Bool, true, false, cond, List, [], Some, Ok, filter, map, not, ◌||◌, eqb-true}
 use Rattle.vt_spec.proofs.Common.{Among, Call, Fresh, Mount, MountFlags, Propagation, Remount, Task, TaskName, ToSetFlags, World, apply, common_steps, holds_of, is_at, is_own_namespace, judge_in, locations, map_alike, members, mount_numbered, no_mount, number-mount_in, other_mounts, own_mounts, replaced_if_same, roots_and_directories, seen_by_descriptor, settled, share_events, shares_no_events, task_called, when, with_mounts}
 use Rattle.vt_laws_mounts.proofs.letting_go.Lists.{filter-map}
+use Rattle.vt_laws_sealed.proofs.outsiders.OthersCalls.{IsOthersCall, apart_from}
 use Rattle.vt_laws_trees.specs.Trees.Calls.{mounts_overlay}
 use Rattle.vt_laws_worlds.proofs.worlds.FitPermitsNamed.{all_permits_fit}
 use Rattle.vt_laws_later_calls.specs.Ends.{sets_type, takes_uses}
@@ -10,8 +11,6 @@ use Rattle.vt_laws_rules.proofs.given.GivenPermits.{permits_are_for_their_calls}
 use Rattle.vt_laws_worlds.proofs.worlds.CallsKept.{name_found}
 use Rattle.vt_laws_sealed.proofs.part.part.PartOfPart.{is_own, keep}
 use Rattle.vt_laws_sealed.specs.Part.Seals.{IsApart}
-use Rattle.vt_laws_sealed.proofs.part.seals.ByPart.{apart_if_sealed}
-use Rattle.vt_laws_sealed.specs.Outsiders.{IsOutsidersCall}
 use Rattle.vt_laws_sealed.proofs.outsiders.ChangedWorlds.{KeepsOrDetaches, changing_leaves_apart, others_rest}
 use Rattle.vt_laws_sealed.proofs.outsiders.StandingApart.{NothingNew, StandsApart}
 use Rattle.vt_laws_sealed.proofs.outsiders.OtherMounts.{namespace_outside, not_own, not_stood_on, standing_apart}
@@ -43,13 +42,12 @@ module _ (world : World ℕ) (number : ℕ) (flags : MountFlags) where
   type_kept : (mount : Mount ℕ) → (set mount).propagation ≡ mount.propagation
   type_kept mount = grind (arith, common_steps)
 
-module _ (world : World ℕ) (fresh : Fresh ℕ) (names : List TaskName) (name : TaskName) (call : Call)
-    (task : Task ℕ) (outsider : IsOutsidersCall world fresh names name call)
-    (called : task_called world name ≡ Some task)
-    (number : ℕ) (flags : MountFlags) (judged : judge_in nat_eq fresh world task call ≡ Ok (ToSetFlags number flags))
+module _ {world : World ℕ} {fresh : Fresh ℕ} {names : List TaskName} {name : TaskName} {call : Call}
+    {task : Task ℕ} (outsider : IsOthersCall world fresh names name call task) (number : ℕ) (flags : MountFlags)
+    (judged : judge_in nat_eq fresh world task call ≡ Ok (ToSetFlags number flags))
   where
     apart_before : IsApart world names
-    apart_before = apart_if_sealed world names outsider.is outsider.sealed_off
+    apart_before = apart_from outsider.it
 
     abbrev so_far : StandsApart world names NothingNew
     so_far = standing_apart world names apart_before
@@ -62,7 +60,7 @@ module _ (world : World ℕ) (fresh : Fresh ℕ) (names : List TaskName) (name :
 
     placed : old.namespace ≡ Some task.namespace
     placed = (all_permits_fit world fresh task call (ToSetFlags number flags) outsider.is outsider.serves
-        (ap (task_called world) (sym (name_found world name task called)) ∙ called)
+        (ap (task_called world) (sym (name_found world name task outsider.called)) ∙ outsider.called)
         (ap mounts_overlay for_remount.1) judged).names
 
     -- a mount of that number is the one
@@ -87,12 +85,12 @@ module _ (world : World ℕ) (fresh : Fresh ℕ) (names : List TaskName) (name :
             let at : mount.namespace ≡ Some task.namespace =
             ap (λ (x : Mount ℕ). x.namespace) (sym (is_old mount m e)) ∙ placed in
             let outside = namespace_outside world names apart_before task
-            (caller_outside world fresh names name call task outsider called) in
+            (caller_outside outsider) in
             let no : (is_own world names (members world names) mount
             || is_at nat_eq (roots_and_directories (members world names)) mount) ≡ false =
             ap (λ b. b || is_at nat_eq (roots_and_directories (members world names)) mount)
             (not_own world names task.namespace outside mount m at)
-            ∙ not_stood_on world names apart_before task.namespace outside mount m at in
+            ∙ not_stood_on apart_before task.namespace outside mount m at in
             ap (λ b. cond b (Some (record mount { flags = flags }))
             (when (is_at nat_eq (locations (members world names)) mount) (seen_by_descriptor mount))) no
             ∙ sym (ap (λ b. cond b (Some mount)
@@ -124,10 +122,9 @@ module _ (world : World ℕ) (fresh : Fresh ℕ) (names : List TaskName) (name :
     pub flags_leave : LeavesApart world
         (settled nat_eq (apply nat_eq fresh world task (ToSetFlags number flags)).world) names []
     flags_leave = subst (λ w. LeavesApart world w names [])
-        (sym (nothing_is_swept world fresh names name call task (ToSetFlags number flags) outsider called judged
-        (ap takes_uses for_remount.1) (ap sets_type for_remount.1) refl
-        ∙ ap (with_mounts world) (map_alike (replaced_if_same nat_eq (record old { flags = flags }))
-        (set world number flags) world.mounts same_set)))
-        (changing_leaves_apart world names so_far (set world number flags) (set_keeps world number flags)
-        kept_same world.master world.tasks world.namespaces (others_rest world names so_far) (λ group e. refl)
+        (sym (nothing_is_swept outsider (ToSetFlags number flags) judged (ap takes_uses for_remount.1)
+        (ap sets_type for_remount.1) refl ∙ ap (with_mounts world) (map_alike
+        (replaced_if_same nat_eq (record old { flags = flags })) (set world number flags) world.mounts same_set)))
+        (changing_leaves_apart so_far (set world number flags) (set_keeps world number flags) kept_same world.master
+        world.tasks world.namespaces (others_rest world names so_far) (λ group e. refl)
         (events_same ∙ apart_before.events))

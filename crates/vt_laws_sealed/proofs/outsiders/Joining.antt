@@ -6,18 +6,17 @@ use Rattle.vt_laws_mounts.proofs.mounts.MountsReplaced.{found_itself}
 use Rattle.vt_laws_rules.proofs.given.Inversion.{calls_are_granted}
 use Rattle.vt_laws_rules.specs.Granted.{IsGranted}
 use Rattle.vt_laws_rules.specs.Granted.IsGranted.{enters_namespace}
+use Rattle.vt_laws_sealed.proofs.outsiders.OthersCalls.{IsOthersCall}
+use Rattle.vt_laws_sealed.proofs.outsiders.Standing.{topmost_ground}
 use Rattle.vt_laws_worlds.proofs.worlds.CallsKept.{name_found}
-use Rattle.vt_laws_sealed.specs.Outsiders.{IsOutsidersCall}
 use Rattle.vt_laws_sealed.proofs.outsiders.Ending.{ending_leaves_apart}
 use Rattle.vt_laws_sealed.proofs.outsiders.Entering.{apart, ground_of_others, old_outside}
 use Rattle.vt_laws_sealed.proofs.outsiders.OtherMounts.{namespace_outside}
 use Rattle.vt_laws_sealed.proofs.outsiders.OwnTasks.{IsOutside, replaced_members}
-use Rattle.vt_laws_sealed.proofs.outsiders.Standing.{topmost_ground}
 use Rattle.vt_laws_sealed.proofs.outsiders.Staying.{LeavesApart}
 
-module _ (world : World ℕ) (fresh : Fresh ℕ) (names : List TaskName) (name : TaskName) (call : Call)
-    (task : Task ℕ) (outsider : IsOutsidersCall world fresh names name call)
-    (called : task_called world name ≡ Some task) (namespace : ℕ)
+module _ {world : World ℕ} {fresh : Fresh ℕ} {names : List TaskName} {name : TaskName} {call : Call}
+    {task : Task ℕ} (outsider : IsOthersCall world fresh names name call task) (namespace : ℕ)
     (judged : judge_in nat_eq fresh world task call ≡ Ok (ToEnterNamespace namespace)) where
   -- the task whose namespace it is
   abbrev Host : Type 0
@@ -53,17 +52,17 @@ module _ (world : World ℕ) (fresh : Fresh ℕ) (names : List TaskName) (name :
 
   namespace_of_others : is_own_namespace nat_eq world names namespace ≡ false
   namespace_of_others = ap (is_own_namespace nat_eq world names) (sym host.2)
-      ∙ namespace_outside world names (apart world fresh names name call task outsider called) host.0 host.1
+      ∙ namespace_outside world names (apart outsider) host.0 host.1
 
   -- its root
   root_outside : (o : Option (Mount ℕ)) → root_mount nat_eq world namespace ≡ o → IsOutside world names
       (unwrap_or (option_map (λ mount. topmost nat_eq world.mounts (root_of mount)) o) task.root)
-  root_outside None e = old_outside world fresh names name call task outsider called task.root (inl refl)
+  root_outside None e = old_outside outsider task.root (inl refl)
   root_outside (Some mount) e =
       let there = among-from_filter (λ (m : Mount ℕ). holds_of (nat_eq namespace) m.namespace) world.mounts mount
       (found_among (λ (m : Mount ℕ). not (is_some m.mount_point)) (mounts_of nat_eq world namespace) mount e) in
-      ground_of_others world names (apart world fresh names name call task outsider called) host.0 host.1 host_there
-      (topmost nat_eq world.mounts (root_of mount)) (topmost_ground world outsider.is host.0 host_there (root_of mount)
+      ground_of_others (apart outsider) host.0 host.1 host_there (topmost nat_eq world.mounts (root_of mount))
+      (topmost_ground world outsider.is host.0 host_there (root_of mount)
       (inl (ap (λ (m : Mount ℕ). m.namespace) (found_itself world.mounts outsider.is.mounts.one_number mount there.0)
       ∙ placed mount.namespace there.1 ∙ ap Some (sym host.2))))
     where
@@ -87,16 +86,15 @@ module _ (world : World ℕ) (fresh : Fresh ℕ) (names : List TaskName) (name :
   joined_outside : (location : Location ℕ) → Among location (locations_of joined) → IsOutside world names location
   joined_outside location m = ⊎_elim (λ root. subst (IsOutside world names) (sym root) at_root)
       (λ rest. ⊎_elim (λ directory. subst (IsOutside world names) (sym directory) at_root)
-      (λ open_ones. old_outside world fresh names name call task outsider called location (inr (inr open_ones))) rest) m
+      (λ open_ones. old_outside outsider location (inr (inr open_ones))) rest) m
 
   pub join_leaves : LeavesApart world (settled nat_eq
       (apply nat_eq fresh world task (ToEnterNamespace namespace)).world) names []
   join_leaves =
-      ending_leaves_apart world names (apart world fresh names name call task outsider called) outsider.sealed_off
-      tasks_left (replaced_members world fresh names name call task outsider called joined refl) (λ t m. ⊎_elim
-      (λ new. ap (λ (x : Task ℕ). is_own_namespace nat_eq world names x.namespace) new ∙ namespace_of_others)
-      (namespace_outside world names (apart world fresh names name call task outsider called) t) (joined_or_other t m))
-      (λ location m.
+      ending_leaves_apart world names (apart outsider) outsider.sealed_off tasks_left
+      (replaced_members outsider joined refl) (λ t m. ⊎_elim (λ new. ap (λ (x : Task ℕ). is_own_namespace nat_eq world
+      names x.namespace) new ∙ namespace_of_others) (namespace_outside world names (apart outsider) t)
+      (joined_or_other t m)) (λ location m.
       let of = among-from_flat_map locations_of (filter (λ (x : Task ℕ). not (is_member_task names x)) tasks_left)
       location m in
       ⊎_elim (λ new. joined_outside location (subst (λ (x : Task ℕ). Among location (locations_of x)) new of.2))

@@ -1,6 +1,7 @@
 -- Trees of mounts of others that are unmounted at once: umount2(2) with MNT_DETACH.
 use Rattle.std.proofs.Common.{◌≡◌, refl, sym, ap, subst, ◌∙◌, ⊎_elim, inl, inr, ℕ, nat_eq, Bool, true, false, cond, List, [], ◌∷◌, Option, Some, None, Ok, is_some, length}
 use Rattle.vt_spec.proofs.Common.{Among, Call, Fresh, Mount, MountInvariants, Task, TaskName, ToUnmountLazily, World, apply, folded, found_or_none, going, is_going, is_own_namespace, judge_in, lazily_unmounted, list_any, mount_numbered, none_is_some, number-mount_in, same_Some, settled, task_called, unmounted, unmounted_if_there}
+use Rattle.vt_laws_sealed.proofs.outsiders.OthersCalls.{IsOthersCall, apart_from}
 use Rattle.vt_laws_trees.specs.Trees.Calls.{mounts_overlay}
 use Rattle.vt_laws_rules.proofs.given.GivenPermits.{permits_are_for_their_calls}
 use Rattle.vt_laws_mounts.proofs.ends.EndingLazy.{IsUnderWay, begun, lazy_unmount_keeps_mounts, next}
@@ -9,8 +10,6 @@ use Rattle.vt_laws_mounts.proofs.mounts.MountsReplaced.{found_itself}
 use Rattle.vt_laws_worlds.proofs.worlds.CallsKept.{name_found}
 use Rattle.vt_laws_worlds.proofs.worlds.FitPermitsNamed.{all_permits_fit}
 use Rattle.vt_laws_sealed.specs.Part.Seals.{IsApart}
-use Rattle.vt_laws_sealed.proofs.part.seals.ByPart.{apart_if_sealed}
-use Rattle.vt_laws_sealed.specs.Outsiders.{IsOutsidersCall}
 use Rattle.vt_laws_sealed.proofs.outsiders.ChangedWorlds.{OthersMove, others_rest}
 use Rattle.vt_laws_sealed.proofs.outsiders.OtherMounts.{namespace_outside, standing_apart, tree_in}
 use Rattle.vt_laws_sealed.proofs.outsiders.OwnTasks.{caller_outside}
@@ -22,14 +21,14 @@ use Rattle.vt_laws_sealed.proofs.outsiders.Sweeping.{sweeping_leaves_apart}
 use Rattle.vt_laws_sealed.proofs.outsiders.TakingAway.{filesystems_taken, namespaces_taken_away, taken_from, taken_leaves_apart}
 use Rattle.vt_laws_sealed.proofs.outsiders.Unmounting.{others_go}
 
-module _ (world : World ℕ) (names : List TaskName) (apart : IsApart world names) (namespace : ℕ)
+module _ {world : World ℕ} {names : List TaskName} (apart : IsApart world names) (namespace : ℕ)
     (outside : is_own_namespace nat_eq world names namespace ≡ false) (one : ℕ)
     (placed : (mount_numbered nat_eq world one).namespace ≡ Some namespace) where
   -- each mount that has an event is in the namespace
   event_placed : (mount : Mount ℕ) → Among mount (taken_in_turn world one)
       → (mount_numbered nat_eq world mount.number).namespace ≡ Some namespace
   event_placed mount m =
-      let is_in = tree_in world names apart namespace (length world.mounts) (mount_numbered nat_eq world one) (
+      let is_in = tree_in apart namespace (length world.mounts) (mount_numbered nat_eq world one) (
         ⊎_elim (λ k. k) (λ none. none_is_some namespace (sym (ap (λ (x : Mount ℕ). x.namespace) none) ∙ placed))
             (found_or_none world.mounts one),
         placed,
@@ -63,18 +62,18 @@ module _ (world : World ℕ) (names : List TaskName) (apart : IsApart world name
 
     abbrev others_now : (k : ℕ) → is_going nat_eq gone k ≡ true
         → (n : ℕ) × ((mount_numbered nat_eq now k).namespace ≡ Some n) × (is_own_namespace nat_eq now names n ≡ false)
-    others_now = others_go now names gone_so_far.standing namespace outside_now number at
+    others_now = others_go gone_so_far.standing namespace outside_now number at
 
     abbrev later : World ℕ
     later = unmounted nat_eq now number
 
     step_leaves : LeavesApart now later names []
     step_leaves = subst (λ w. LeavesApart now w names []) (namespaces_taken_away now gone)
-        (taken_leaves_apart now names gone_so_far.standing now.tasks now.namespaces rest_now gone others_now)
+        (taken_leaves_apart gone_so_far.standing now.tasks now.namespaces rest_now gone others_now)
 
     from : (mount : Mount ℕ) → Among mount later.mounts → (n : ℕ) → mount.namespace ≡ Some n
         → (old : Mount ℕ) × Among old now.mounts × (old.number ≡ mount.number) × (old.namespace ≡ Some n)
-    from mount m n e = taken_from now names gone_so_far.standing now.tasks now.namespaces rest_now gone others_now mount
+    from mount m n e = taken_from gone_so_far.standing now.tasks now.namespaces rest_now gone others_now mount
         (subst (λ (w : World ℕ). Among mount w.mounts) (sym (namespaces_taken_away now gone)) m) n e
 
     goes_on : HasGone later
@@ -83,7 +82,7 @@ module _ (world : World ℕ) (names : List TaskName) (apart : IsApart world name
           (sym (ap (λ (w : World ℕ). w.namespaces) (namespaces_taken_away now gone))) from;
       leaves = leaves_on world now later names gone_so_far.same gone_so_far.leaves step_leaves;
       same = sym (ap (λ (w : World ℕ). w.filesystems) (namespaces_taken_away now gone))
-          ∙ filesystems_taken now names gone_so_far.standing now.tasks now.namespaces rest_now gone others_now
+          ∙ filesystems_taken gone_so_far.standing now.tasks now.namespaces rest_now gone others_now
           ∙ gone_so_far.same;
       was_in = λ k n e. ⊎_elim (λ there.
           let old = from (mount_numbered nat_eq later k) there n e in
@@ -127,18 +126,18 @@ module _ (world : World ℕ) (names : List TaskName) (apart : IsApart world name
       }) (λ mount m. m) in
       (all.leaves, all.same)
 
-pub lazy_leaves : (world : World ℕ) (fresh : Fresh ℕ) (names : List TaskName) (name : TaskName) (call : Call)
-    (task : Task ℕ) → IsOutsidersCall world fresh names name call → task_called world name ≡ Some task
-    → (number : ℕ) → judge_in nat_eq fresh world task call ≡ Ok (ToUnmountLazily number)
-    → LeavesApart world (settled nat_eq (apply nat_eq fresh world task (ToUnmountLazily number)).world) names []
-lazy_leaves world fresh names name call task outsider called number judged =
-    let set_apart = apart_if_sealed world names outsider.is outsider.sealed_off in
-    let for = permits_are_for_their_calls fresh world task call (ToUnmountLazily number) judged in
-    let placed = (all_permits_fit world fresh task call (ToUnmountLazily number) outsider.is outsider.serves
-    (ap (task_called world) (sym (name_found world name task called)) ∙ called)
-    (ap mounts_overlay for.1) judged).names.0 in
-    let left = lazily_leaves world names set_apart task.namespace
-    (namespace_outside world names set_apart task (caller_outside world fresh names name call task outsider called))
-    number placed (leaves_apart_itself world fresh names name call outsider) in
-    sweeping_leaves_apart world (lazily_unmounted nat_eq world number) names set_apart outsider.sealed_off left.1
-    (lazy_unmount_keeps_mounts world number outsider.is.mounts).one_number [] left.0
+module _ {world : World ℕ} {fresh : Fresh ℕ} {names : List TaskName} {name : TaskName} {call : Call}
+    {task : Task ℕ} (outsider : IsOthersCall world fresh names name call task) where
+  pub lazy_leaves : (number : ℕ) → judge_in nat_eq fresh world task call ≡ Ok (ToUnmountLazily number)
+      → LeavesApart world (settled nat_eq (apply nat_eq fresh world task (ToUnmountLazily number)).world) names []
+  lazy_leaves number judged =
+      let set_apart = apart_from outsider.it in
+      let for = permits_are_for_their_calls fresh world task call (ToUnmountLazily number) judged in
+      let placed = (all_permits_fit world fresh task call (ToUnmountLazily number) outsider.is outsider.serves
+      (ap (task_called world) (sym (name_found world name task outsider.called)) ∙ outsider.called)
+      (ap mounts_overlay for.1) judged).names.0 in
+      let left = lazily_leaves set_apart task.namespace
+      (namespace_outside world names set_apart task (caller_outside outsider))
+      number placed (leaves_apart_itself outsider.it) in
+      sweeping_leaves_apart world (lazily_unmounted nat_eq world number) names set_apart outsider.sealed_off left.1
+      (lazy_unmount_keeps_mounts world number outsider.is.mounts).one_number [] left.0

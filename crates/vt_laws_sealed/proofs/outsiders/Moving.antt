@@ -1,13 +1,12 @@
 -- Mounts of others that move, with what stands on them: mount(2) with MS_MOVE.
 use Rattle.std.proofs.Common.{◌≡◌, refl, sym, ap, ◌∙◌, inl, ⊎_elim, ℕ, nat_eq, true, false, List, [], append-nil, Some, Ok, length}
 use Rattle.vt_spec.proofs.Common.{Among, Call, Fresh, Location, Mount, Task, TaskName, ToMove, World, apply, found_or_none, judge_in, mount_numbered, moved_tree, none_is_some, overlays, settled, task_called}
+use Rattle.vt_laws_sealed.proofs.outsiders.OthersCalls.{IsOthersCall, apart_from}
 use Rattle.vt_laws_trees.specs.Trees.Calls.{mounts_overlay}
 use Rattle.vt_laws_rules.proofs.given.GivenPermits.{permits_are_for_their_calls}
 use Rattle.vt_laws_worlds.proofs.worlds.CallsKept.{name_found}
 use Rattle.vt_laws_worlds.proofs.worlds.FitPermitsNamed.{all_permits_fit}
 use Rattle.vt_laws_sealed.specs.Part.Seals.{IsApart}
-use Rattle.vt_laws_sealed.proofs.part.seals.ByPart.{apart_if_sealed}
-use Rattle.vt_laws_sealed.specs.Outsiders.{IsOutsidersCall}
 use Rattle.vt_laws_sealed.proofs.outsiders.Attaching.{attaching_leaves_apart}
 use Rattle.vt_laws_sealed.proofs.outsiders.ChangingFiles.{call_swept}
 use Rattle.vt_laws_sealed.proofs.outsiders.OtherMounts.{IsIn, is_other, namespace_outside, tree_in}
@@ -20,29 +19,29 @@ moved_in : (world : World ℕ) (names : List TaskName) → IsApart world names �
     → (mount_numbered nat_eq world number).namespace ≡ Some namespace → (origin : Mount ℕ)
     → Among origin (moved_tree nat_eq world number) → IsIn world namespace origin
 moved_in world names apart namespace number placed origin m =
-    tree_in world names apart namespace (length world.mounts) (mount_numbered nat_eq world number) (
+    tree_in apart namespace (length world.mounts) (mount_numbered nat_eq world number) (
       ⊎_elim (λ there. there) (λ none. none_is_some namespace (sym (ap (λ (x : Mount ℕ). x.namespace) none) ∙ placed))
           (found_or_none world.mounts number),
       placed,
     ) origin m
 
-pub move_leaves : (world : World ℕ) (fresh : Fresh ℕ) (names : List TaskName) (name : TaskName) (call : Call)
-    (task : Task ℕ) → IsOutsidersCall world fresh names name call → task_called world name ≡ Some task
-    → (number : ℕ) (place : Location ℕ) → judge_in nat_eq fresh world task call ≡ Ok (ToMove number place)
-    → LeavesApart world (settled nat_eq (apply nat_eq fresh world task (ToMove number place)).world) names []
-move_leaves world fresh names name call task outsider called number place judged =
-    let set_apart = apart_if_sealed world names outsider.is outsider.sealed_off in
-    let for = permits_are_for_their_calls fresh world task call (ToMove number place) judged in
-    let no_overlay : mounts_overlay call ≡ false = ap mounts_overlay for.2 in
-    let named = (all_permits_fit world fresh task call (ToMove number place) outsider.is outsider.serves
-    (ap (task_called world) (sym (name_found world name task called)) ∙ called) no_overlay judged).names in
-    let outside = namespace_outside world names set_apart task
-    (caller_outside world fresh names name call task outsider called) in
-    call_swept world fresh names name call task outsider called (ToMove number place) judged no_overlay []
-    (attaching_leaves_apart world names set_apart fresh outsider.serves world.filesystems
-    (leaves_apart_itself world fresh names name call outsider).sees [] (sym (append-nil (overlays world)))
-    (λ merged m n free. absurd m) fresh (λ k. (k, refl)) place task.namespace outside named.destination.own
-    (moved_tree nat_eq world number) (λ origin m.
-    let is = moved_in world names set_apart task.namespace number named.own origin m in
-    inl (origin, is_other world names task.namespace outside origin is.0 is.1, refl, refl)) true
-    (λ moving origin m. moved_in world names set_apart task.namespace number named.own origin m))
+module _ {world : World ℕ} {fresh : Fresh ℕ} {names : List TaskName} {name : TaskName} {call : Call}
+    {task : Task ℕ} (outsider : IsOthersCall world fresh names name call task) where
+  pub move_leaves : (number : ℕ) (place : Location ℕ) → judge_in nat_eq fresh world task call ≡ Ok (ToMove number place)
+      → LeavesApart world (settled nat_eq (apply nat_eq fresh world task (ToMove number place)).world) names []
+  move_leaves number place judged =
+      let set_apart = apart_from outsider.it in
+      let for = permits_are_for_their_calls fresh world task call (ToMove number place) judged in
+      let no_overlay : mounts_overlay call ≡ false = ap mounts_overlay for.2 in
+      let named = (all_permits_fit world fresh task call (ToMove number place) outsider.is outsider.serves
+      (ap (task_called world) (sym (name_found world name task outsider.called)) ∙ outsider.called) no_overlay
+      judged).names in
+      let outside = namespace_outside world names set_apart task
+      (caller_outside outsider) in
+      call_swept outsider (ToMove number place) judged no_overlay [] (attaching_leaves_apart set_apart fresh
+      outsider.serves world.filesystems (leaves_apart_itself outsider.it).sees [] (sym (append-nil (overlays world)))
+      (λ merged m n free. absurd m) fresh (λ k. (k, refl)) place task.namespace outside named.destination.own
+      (moved_tree nat_eq world number) (λ origin m.
+      let is = moved_in world names set_apart task.namespace number named.own origin m in
+      inl (origin, is_other world names task.namespace outside origin is.0 is.1, refl, refl)) true
+      (λ moving origin m. moved_in world names set_apart task.namespace number named.own origin m))

@@ -1,17 +1,17 @@
 -- Files that others open to read: open(2) with O_RDONLY.
 use Rattle.std.proofs.Common.{arith, ◌≡◌, refl, sym, subst, ◌∙◌, ◌⊎◌, inl, inr, ⊎_elim, ℕ, zero, suc, ◌+◌, nat_eq, Bool, false, ◌||◌, List, [], ◌∷◌, map, Option, Some, None, Ok, Err, Result, reverse, option_map}
-use Rattle.vt_spec.proofs.Common.{Access, Among, Call, Descriptor, Dot, DotDot, Fresh, Here, IsWorld, LastWord, Location, Named, NoWord, Permit, Place, Stop, Task, TaskName, ToOpen, World, and_then, common_steps, ends_in_slash, file_or_symlink, file_walked, final_word, followed, inserted, judge_in, looks_of, most_symlinks, new_name_rules, none_is_some, overfills, path_text, prefix_walked, same_Some, start_of, symlink_of, task_called, then_walk, topmost, walk_start, walk_unless, with_descriptor, with_task, words}
+use Rattle.vt_spec.proofs.Common.{Access, Among, Call, Descriptor, Dot, DotDot, Fresh, Here, IsWorld, LastWord, Location, Named, NoWord, Permit, Place, Stop, Task, TaskName, ToOpen, World, and_then, common_steps, ends_in_slash, file_or_symlink, file_walked, final_word, followed, inserted, judge_in, looks_of, most_symlinks, new_name_rules, none_is_some, overfills, path_text, prefix_walked, same_Some, start_of, symlink_of, then_walk, topmost, walk_start, walk_unless, with_descriptor, with_task, words}
 use Rattle.vt_spec.specs.declared.errors.Deny.{Deny}
 use Rattle.vt_spec.proofs.Walk.{entry_location, file_walk, follow_rules, object_named, placed, stepped, symlink_start, symlink_there}
 use Rattle.vt_laws_rules.proofs.given.Inversion.{calls_are_granted}
 use Rattle.vt_laws_rules.specs.Granted.{IsGranted}
 use Rattle.vt_laws_rules.specs.Granted.IsGranted.{opens, opens_existing}
+use Rattle.vt_laws_sealed.proofs.outsiders.OthersCalls.{IsOthersCall}
 use Rattle.vt_laws_trees.proofs.trees.TreesWalked.{Ends, at_end, ends_then, ends_unless}
 use Rattle.vt_laws_trees.proofs.calls.ways.WaysEnds.{object_ways_are_searched}
 use Rattle.vt_laws_trees.proofs.calls.ways.WaysNamed.{IsFront, prefix_searched}
 use Rattle.vt_laws_trees.proofs.calls.ways.WaysSearched.{IsNamedAt, placed_step}
 use Rattle.vt_laws_trees.proofs.calls.ways.WaysWalked.{path_text_same}
-use Rattle.vt_laws_sealed.specs.Outsiders.{IsOutsidersCall}
 use Rattle.vt_laws_sealed.proofs.outsiders.Entering.{ground_outside, old_outside, task_there}
 use Rattle.vt_laws_sealed.proofs.outsiders.OwnTasks.{IsOutside, replacing_leaves_apart}
 use Rattle.vt_laws_sealed.proofs.outsiders.Standing.{IsGround, directory_ground, searched_ground, start_ground, step_ground, topmost_ground, way_ground}
@@ -114,11 +114,10 @@ module _ (world : World ℕ) (is : IsWorld nat_eq world) (task : Task ℕ) (ther
       (start_ground world is task there task.directory text (directory_ground world is task there))) (λ place found.
       ends_unless IsFileGround place.steps (new_name_rules nat_eq world place) place (λ passed. found)))
 
-module _ (world : World ℕ) (fresh : Fresh ℕ) (names : List TaskName) (name : TaskName) (call : Call)
-    (task : Task ℕ) (outsider : IsOutsidersCall world fresh names name call)
-    (called : task_called world name ≡ Some task) where
+module _ {world : World ℕ} {fresh : Fresh ℕ} {names : List TaskName} {name : TaskName} {call : Call}
+    {task : Task ℕ} (outsider : IsOthersCall world fresh names name call task) where
   abbrev there : Among task world.tasks
-  there = task_there world fresh names name call task outsider called
+  there = task_there outsider
 
   abbrev OnGroundHere : Location ℕ → Type 0
   OnGroundHere location = IsGround world outsider.is task there location.mount
@@ -142,17 +141,16 @@ module _ (world : World ℕ) (fresh : Fresh ℕ) (names : List TaskName) (name :
   pub descriptor_leaves : (file : Location ℕ) (access : Access) → IsOutside world names file
       → LeavesApart world (with_task world (with_descriptor task file access)) names []
   descriptor_leaves file access outside =
-      replacing_leaves_apart world fresh names name call task outsider called (with_descriptor task file access)
-      refl refl (λ location m. ⊎_elim
-      (λ root. old_outside world fresh names name call task outsider called location (inl root)) (λ rest. ⊎_elim
-      (λ directory. old_outside world fresh names name call task outsider called location (inr (inl directory)))
+      replacing_leaves_apart outsider (with_descriptor task file access) refl refl
+      (λ location m. ⊎_elim (λ root. old_outside outsider location (inl root))
+      (λ rest. ⊎_elim (λ directory. old_outside outsider location (inr (inl directory)))
       (λ open_ones. ⊎_elim (λ new. subst (IsOutside world names) (sym new) outside)
-      (λ old. old_outside world fresh names name call task outsider called location (inr (inr old)))
-      (inserted_at _ task.descriptors location open_ones)) rest) m)
+      (λ old. old_outside outsider location (inr (inr old))) (inserted_at _ task.descriptors location open_ones)) rest)
+      m)
 
   pub open_outside : (file : Location ℕ) (access : Access)
       → judge_in nat_eq fresh world task call ≡ Ok (ToOpen file access) → IsOutside world names file
-  open_outside file access judged = ground_outside world fresh names name call task outsider called file
+  open_outside file access judged = ground_outside outsider file
       (file_reached call (ToOpen file access)
       (calls_are_granted nat_eq (looks_of nat_eq world) (overfills nat_eq fresh world task) task call
       (ToOpen file access) judged) file access refl)

@@ -1,6 +1,6 @@
 -- Mounts of others, and the groups that they hear.
 use Rattle.std.proofs.Common.{arith, ◌≡◌, refl, sym, ap, subst, ◌∙◌, ◌⊎◌, inl, inr, ⊎_elim, ℕ, zero, suc, nat_eq, true, false, true≢false, List, [], ◌∷◌, Option, Some, None, map, not, eq-eqb, eqb-true, option_to_list}
-use Rattle.vt_spec.proofs.Common.{Among, Fresh, HasLivingGroups, Location, Mount, MountInvariants, Propagation, Serves, Stands, Task, TaskName, World, all_locations, among-filter, among-flat_map, among-from_filter, among-from_flat_map, among-from_map, among_from_all, among_from_list_all, and_parts, any_among, any_from_among, children, common_steps, false_from_ne_true, group_of, holds_of, is_among, is_among_left, is_among_numbers, is_at, is_directory_seen_in, is_located_well, is_member_of, is_member_task, is_own_mount, is_own_namespace, is_there, list_all, list_all_from_among, master_of, members, mount_at, mount_numbered, none_is_some, not-true, numbers_in_use, or_cases, other_mounts, outsiders, own_mounts, receives_events_of, roots_and_directories, share_events, shares_no_events, source_of, stands_on, stands_on_directories, tree_from, used_by_mount}
+use Rattle.vt_spec.proofs.Common.{Among, Fresh, HasLivingGroups, Location, Mount, Propagation, Serves, Stands, Task, TaskName, World, all_locations, among-filter, among-flat_map, among-from_filter, among-from_flat_map, among-from_map, among_from_all, among_from_list_all, and_parts, any_among, any_from_among, children, common_steps, false_from_ne_true, group_of, holds_of, is_among, is_among_left, is_among_numbers, is_at, is_directory_seen_in, is_located_well, is_member_of, is_member_task, is_own_mount, is_own_namespace, is_there, list_all, list_all_from_among, master_of, members, mount_at, mount_numbered, none_is_some, not-true, numbers_in_use, or_cases, other_mounts, outsiders, own_mounts, receives_events_of, roots_and_directories, share_events, shares_no_events, source_of, stands_on, stands_on_directories, tree_from, used_by_mount}
 use Rattle.vt_laws_mounts.proofs.letting_go.sweeps.OfWorlds.{all_in_use}
 use Rattle.vt_laws_mounts.proofs.mounts.MountsReplaced.{found_itself}
 use Rattle.vt_laws_worlds.proofs.worlds.Reached.{namespace_below}
@@ -24,7 +24,7 @@ module _ (world : World ℕ) (names : List TaskName) (namespace : ℕ)
       (ap (holds_of (λ n. not (is_own_namespace nat_eq world names n))) placed ∙ ap not outside)
 
 -- and no root or working directory of theirs is on it.
-module _ (world : World ℕ) (names : List TaskName) (apart : IsApart world names) (namespace : ℕ)
+module _ {world : World ℕ} {names : List TaskName} (apart : IsApart world names) (namespace : ℕ)
     (outside : is_own_namespace nat_eq world names namespace ≡ false) (mount : Mount ℕ)
     (there : Among mount world.mounts) (placed : mount.namespace ≡ Some namespace) where
   pub not_stood_on : is_at nat_eq (roots_and_directories (members world names)) mount ≡ false
@@ -55,10 +55,10 @@ abbrev pub IsIn : World ℕ → ℕ → Mount ℕ → Type 0
 IsIn world namespace mount = Among mount world.mounts × (mount.namespace ≡ Some namespace)
 
 -- a child is in the namespace of its parent
-pub child_in : (world : World ℕ) (names : List TaskName) (apart : IsApart world names) (namespace : ℕ)
+pub child_in : {world : World ℕ} {names : List TaskName} (apart : IsApart world names) (namespace : ℕ)
     (parent : Mount ℕ) → IsIn world namespace parent → (child : Mount ℕ)
     → Among child (children nat_eq world.mounts parent.number) → IsIn world namespace child
-child_in world names apart namespace parent is child m =
+child_in {world} {names} apart namespace parent is child m =
     let at = among-from_filter (stands_on nat_eq parent.number) world.mounts child m in
     (at.0, by child.mount_point refl at.1 at.0)
   where
@@ -77,23 +77,22 @@ child_in world names apart namespace parent is child m =
         ∙ ap (λ (x : Mount ℕ). x.namespace) (itself parent is.0) ∙ is.1
 
 -- so is what stands on it
-pub tree_in : (world : World ℕ) (names : List TaskName) (apart : IsApart world names) (namespace depth : ℕ)
+pub tree_in : {world : World ℕ} {names : List TaskName} (apart : IsApart world names) (namespace depth : ℕ)
     (mount : Mount ℕ) → IsIn world namespace mount → (x : Mount ℕ) → Among x (tree_from nat_eq depth world.mounts mount)
     → IsIn world namespace x
-tree_in world names apart namespace zero mount is x m =
+tree_in {world} {names} apart namespace zero mount is x m =
     ⊎_elim (λ e. subst (IsIn world namespace) (sym e) is) (λ none. absurd none) m
-tree_in world names apart namespace (suc depth) mount is x m = ⊎_elim (λ e. subst (IsIn world namespace) (sym e) is)
+tree_in {world} {names} apart namespace (suc depth) mount is x m = ⊎_elim (λ e. subst (IsIn world namespace) (sym e) is)
     (λ later.
     let from = among-from_flat_map (tree_from nat_eq depth world.mounts) (children nat_eq world.mounts mount.number) x
     later in
-    tree_in world names apart namespace depth from.0
-    (child_in world names apart namespace mount is from.0 from.1) x from.2) m
+    tree_in apart namespace depth from.0 (child_in apart namespace mount is from.0 from.1) x from.2) m
 
 -- the mount of a location that a task uses is there
-pub located_there : (world : World ℕ) (names : List TaskName) (apart : IsApart world names) (location : Location ℕ)
+pub located_there : {world : World ℕ} {names : List TaskName} (apart : IsApart world names) (location : Location ℕ)
     → Among location (all_locations world)
     → (mount : Mount ℕ) × Among mount world.mounts × (nat_eq location.mount mount.number ≡ true)
-located_there world names apart location m =
+located_there {world} {names} apart location m =
     let well = and_parts (is_among nat_eq location.mount (map (λ (x : Mount ℕ). x.number) world.mounts))
     (is_there nat_eq world (mount_at nat_eq world location).filesystem location.node)
     (among_from_list_all (is_located_well nat_eq world) (all_locations world) apart.is.tasks.locations_live location
@@ -128,11 +127,6 @@ module _ (world : World ℕ) (fresh : Fresh ℕ) (serves : Serves nat_eq world f
       source : (kind : Propagation ℕ) → group_of kind ≡ Some group → source_of kind ≡ Some group
       source kind h = grind (arith, common_steps, none_is_some)
 
--- what is in no namespace has no mount point
-pub nowhere_unplaced : (world : World ℕ) → MountInvariants nat_eq world → (mount : Mount ℕ)
-    → Among mount world.mounts → mount.namespace ≡ None → (point : Location ℕ) → mount.mount_point ≡ Some point → ⊥
-nowhere_unplaced world is mount m none point e = grind (arith, common_steps, true≢false, and_parts, among_from_list_all)
-
 -- So it is in a world before a call of others.
 pub standing_apart_of : (world : World ℕ) (names : List TaskName) → IsApart world names → (New : ℕ → Type 0)
     → ((mount : Mount ℕ) (group : ℕ) → Among mount world.mounts
@@ -161,7 +155,7 @@ standing_apart_with world names apart fresh serves =
     member_not_new world fresh serves mount group new.0 m is_in new.1)
 
 -- Groups of others: a mount of others hears it, or its number is new.
-module _ (world : World ℕ) (names : List TaskName) {New : ℕ → Type 0} (apart : StandsApart world names New) where
+module _ {world : World ℕ} {names : List TaskName} {New : ℕ → Type 0} (apart : StandsApart world names New) where
   abbrev pub HearsGroup : World ℕ → Propagation ℕ → ℕ → Type 0
   HearsGroup in_world kind group = (group_of kind ≡ Some group) ⊎ (master_of in_world kind ≡ Some group)
 

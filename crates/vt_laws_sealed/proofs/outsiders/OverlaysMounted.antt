@@ -5,14 +5,13 @@ use Rattle.vt_laws_rules.proofs.given.GivenPermits.{permits_are_for_their_calls}
 use Rattle.vt_laws_rules.proofs.given.Inversion.{calls_are_granted}
 use Rattle.vt_laws_rules.specs.Granted.{IsGranted}
 use Rattle.vt_laws_rules.specs.Granted.IsGranted.{mounts_overlayfs}
+use Rattle.vt_laws_sealed.proofs.outsiders.OthersCalls.{IsOthersCall, apart_from}
 use Rattle.vt_laws_trees.proofs.trees.TreesWalked.{Ends}
 use Rattle.vt_laws_trees.proofs.layers.mounting.Walked.{gives_end, gives_then}
 use Rattle.vt_laws_trees.proofs.calls.ways.WaysEnds.{source_ways_are_searched}
 use Rattle.vt_laws_worlds.proofs.worlds.CallsKept.{name_found}
 use Rattle.vt_laws_worlds.proofs.worlds.FitPermits.{own_if}
 use Rattle.vt_laws_later_calls.specs.Ends.{sets_type, takes_uses}
-use Rattle.vt_laws_sealed.proofs.part.seals.ByPart.{apart_if_sealed}
-use Rattle.vt_laws_sealed.specs.Outsiders.{IsOutsidersCall}
 use Rattle.vt_laws_sealed.proofs.outsiders.Attaching.{attaching_leaves_apart}
 use Rattle.vt_laws_sealed.proofs.outsiders.Entering.{ground_outside, task_there}
 use Rattle.vt_laws_sealed.proofs.outsiders.Filesystems.{larger_sees, larger_with_overlay}
@@ -27,11 +26,10 @@ pub outside_uses : (world : World ℕ) (names : List TaskName) (location : Locat
 outside_uses world names location outside =
     grind (arith, common_steps, false_from_ne_true, and_parts, true≢false, any_from_among, eq-eqb, not-true)
 
-module _ (world : World ℕ) (fresh : Fresh ℕ) (names : List TaskName) (name : TaskName) (call : Call)
-    (task : Task ℕ) (outsider : IsOutsidersCall world fresh names name call)
-    (called : task_called world name ≡ Some task) where
+module _ {world : World ℕ} {fresh : Fresh ℕ} {names : List TaskName} {name : TaskName} {call : Call}
+    {task : Task ℕ} (outsider : IsOthersCall world fresh names name call task) where
   abbrev OnGround : Location ℕ → Type 0
-  OnGround location = IsGround world outsider.is task (task_there world fresh names name call task outsider called)
+  OnGround location = IsGround world outsider.is task (task_there outsider)
       location.mount
 
   abbrev AreOnGround : List (Location ℕ) → Type 0
@@ -44,8 +42,8 @@ module _ (world : World ℕ) (fresh : Fresh ℕ) (names : List TaskName) (name :
       by : (r : Result (Here ℕ) (Stop ℕ)) → source_walk nat_eq (looks_of nat_eq world) task path ≡ r → Ends
           (λ (here : Here ℕ). OnGround here.location) r
       by (Ok here) e =
-          searched_ground world outsider.is task (task_there world fresh names name call task outsider called) path
-          here.location (source_ways_are_searched world task path here e)
+          searched_ground world outsider.is task (task_there outsider) path here.location
+          (source_ways_are_searched world task path here e)
       by (Err stop) e = tt
 
   each_ground : (paths : List (List ℕ)) → Gives AreOnGround (each_walked nat_eq (looks_of nat_eq world) task paths)
@@ -121,13 +119,13 @@ module _ (world : World ℕ) (fresh : Fresh ℕ) (names : List TaskName) (name :
       let same_overlay : overlay_at (looks_of nat_eq world) task places ≡ overlay = cc in (
         subst (λ (l : Location ℕ). (mount_at nat_eq world l).namespace ≡ Some task.namespace) same_place
             (own_if world outsider.is task
-            (ap (task_called world) (sym (name_found world name task called)) ∙ called) here.location passed.0),
+            (ap (task_called world) (sym (name_found world name task outsider.called)) ∙ outsider.called) here.location
+            passed.0),
         subst (λ (o : Overlay ℕ). (layer : Layer ℕ) → Among layer (layers_of o)
             → no_outsider_on nat_eq world names layer.filesystem ≡ false) same_overlay (λ layer m.
             let from = layer_from places layer m in
-            ap (no_outsider_on nat_eq world names) from.2
-            ∙ outside_uses world names from.0 (ground_outside world fresh names name call task outsider called from.0
-            (given (λ there. AreOnGround (layer_locations there))
+            ap (no_outsider_on nat_eq world names) from.2 ∙ outside_uses world names from.0
+            (ground_outside outsider from.0 (given (λ there. AreOnGround (layer_locations there))
             (layers_walked nat_eq (looks_of nat_eq world) task words)
             places (layers_ground words) walked from.0 from.1))),
       )
@@ -138,25 +136,22 @@ module _ (world : World ℕ) (fresh : Fresh ℕ) (names : List TaskName) (name :
       → LeavesApart world (settled nat_eq (apply nat_eq fresh world task (ToMountOverlay place overlay flags)).world)
       names []
   overlay_leaves place overlay flags judged =
-      let set_apart = apart_if_sealed world names outsider.is outsider.sealed_off in
+      let set_apart = apart_from outsider.it in
       let for = permits_are_for_their_calls fresh world task call (ToMountOverlay place overlay flags) judged in
       let others = granted_of_others call (ToMountOverlay place overlay flags)
       (calls_are_granted nat_eq (looks_of nat_eq world) (overfills nat_eq fresh world task) task call
       (ToMountOverlay place overlay flags) judged) place overlay flags refl in
       let added : Filesystem ℕ = overlay_filesystem nat_eq (evens fresh) world overlay in
-      subst (λ w. LeavesApart world w names [])
-      (sym (nothing_is_swept world fresh names name call task (ToMountOverlay place overlay flags) outsider called
-      judged (ap takes_uses for.2) (ap sets_type for.2) refl))
-      (attaching_leaves_apart world names set_apart fresh outsider.serves (world.filesystems ++ added ∷ [])
-      (larger_sees world names set_apart fresh outsider.serves added 0 refl) (added ∷ [])
-      (larger_with_overlay world names set_apart fresh outsider.serves added 0 refl refl)
-      (λ merged m number free. ⊎_elim (λ e. ap (has_layer_on nat_eq number) e
-      ∙ none_from_among (λ (layer : Layer ℕ). nat_eq number layer.filesystem) (layers_of overlay) (λ layer n.
-      false_from_ne_true (nat_eq number layer.filesystem) (λ at.
-      true≢false (sym free ∙ ap (no_outsider_on nat_eq world names) (eqb-true number layer.filesystem at)
-      ∙ others.1 layer n)))) (λ none. absurd none) m) (odds fresh) (λ k. (2 * k + 1, refl)) place task.namespace
-      (namespace_outside world names set_apart task
-      (caller_outside world fresh names name call task outsider called)) others.0
+      subst (λ w. LeavesApart world w names []) (sym (nothing_is_swept outsider (ToMountOverlay place overlay flags)
+      judged (ap takes_uses for.2) (ap sets_type for.2) refl)) (attaching_leaves_apart set_apart fresh outsider.serves
+      (world.filesystems ++ added ∷ []) (larger_sees set_apart fresh outsider.serves added 0 refl) (added ∷ [])
+      (larger_with_overlay set_apart fresh outsider.serves added 0 refl refl)
+      (λ merged m number free. ⊎_elim (λ e. ap (has_layer_on nat_eq number) e ∙ none_from_among
+      (λ (layer : Layer ℕ). nat_eq number layer.filesystem) (layers_of overlay)
+      (λ layer n. false_from_ne_true (nat_eq number layer.filesystem) (λ at. true≢false
+      (sym free ∙ ap (no_outsider_on nat_eq world names) (eqb-true number layer.filesystem at) ∙ others.1 layer n))))
+      (λ none. absurd none) m) (odds fresh) (λ k. (2 * k + 1, refl)) place task.namespace
+      (namespace_outside world names set_apart task (caller_outside outsider)) others.0
       (new_mount added.number added.files.tree.root flags ∷ []) (λ origin m. ⊎_elim
-      (λ e. inr (ap (λ (x : Mount ℕ). x.propagation) e, 0, ap (λ (x : Mount ℕ). x.filesystem) e))
-      (λ none. absurd none) m) false (λ moving. absurd (true≢false (sym moving))))
+      (λ e. inr (ap (λ (x : Mount ℕ). x.propagation) e, 0, ap (λ (x : Mount ℕ). x.filesystem) e)) (λ none. absurd none)
+      m) false (λ moving. absurd (true≢false (sym moving))))

@@ -1,9 +1,10 @@
 -- Calls of others that set something of the task alone, or give it a child.
-use Rattle.std.proofs.Common.{◌≡◌, refl, sym, ap, subst, ◌∙◌, ◌⊎◌, inl, inr, ⊎_elim, ℕ, nat_eq, Bool, true, false, cond, true≢false, List, [], ◌∷◌, ◌++◌, ◌+◌, append-nil, Some, None, Ok, filter, is_some, map, not, arith, filter_map}
+use Rattle.std.proofs.Common.{◌≡◌, refl, sym, ap, subst, ◌∙◌, ◌⊎◌, inl, inr, ⊎_elim, ℕ, nat_eq, Bool, true, false, cond, true≢false, List, [], ◌∷◌, ◌++◌, ◌+◌, append-nil, None, Ok, filter, is_some, map, not, arith, filter_map}
 use Rattle.vt_spec.proofs.Common.{Among, Call, Credentials, Drop, Fork, Fresh, Location, Mount, Namespace, Outcome, Permit, Task, TaskName, ToFork, ToSetCredentials, ToSetUmask, Umask, World, after, among-append, among-filter, among-flat_map, among-from_filter, among-from_flat_map, among-from_map, among_from_list_all, and_from, and_parts, any_among, apply, call_outcome, child_name, child_of, common_steps, contains_from_among, false_from_ne_true, filter-append, found_among, holds_of, is_among, is_member_task, is_own_mount, judge_in, list_all, list_all_from_among, list_any, locations, locations_of, map_same, members, mount_at, mount_numbered, name-replaced_if_called, no_outsider_on, none_among, none_from_among, not-true, other_mounts, outsiders, replaced_if_called, same_name, same_task_name, settled, share_events, some_from_is_some, task_called}
 use Rattle.vt_laws_mounts.proofs.letting_go.Lists.{filter-map}
 use Rattle.vt_laws_rules.proofs.judged.CallsJudged.{call_is_judged_then_applied}
 use Rattle.vt_laws_rules.proofs.given.GivenPermits.{permits_are_for_their_calls}
+use Rattle.vt_laws_sealed.proofs.outsiders.OthersCalls.{IsOthersCall, apart_from}
 use Rattle.vt_laws_worlds.specs.OverlayPermits.Asked.{change_asked}
 use Rattle.vt_laws_worlds.proofs.worlds.CallsKept.{name_found}
 use Rattle.vt_laws_later_calls.proofs.ends.EndedBy.{other_calls_keep_all}
@@ -11,30 +12,25 @@ use Rattle.vt_laws_later_calls.specs.Ends.{sets_type, takes_uses}
 use Rattle.vt_laws_later_calls.specs.Whiteouts.{replaced_as, replaced_if}
 use Rattle.vt_laws_sealed.proofs.part.part.PartOfPart.{keep}
 use Rattle.vt_laws_sealed.specs.Part.Seals.{IsApart}
-use Rattle.vt_laws_sealed.proofs.part.seals.ByPart.{apart_if_sealed}
-use Rattle.vt_laws_sealed.specs.Outsiders.{IsOutsidersCall}
 use Rattle.vt_laws_sealed.proofs.outsiders.Staying.{LeavesApart, free_from}
 
--- The sweep takes nothing at the end of a call that takes no use away and asks for no change.
-pub nothing_is_swept : (world : World ℕ) (fresh : Fresh ℕ) (names : List TaskName) (name : TaskName) (call : Call)
-    (task : Task ℕ) (permit : Permit ℕ) → IsOutsidersCall world fresh names name call
-    → task_called world name ≡ Some task → judge_in nat_eq fresh world task call ≡ Ok permit
-    → takes_uses call ≡ false → sets_type call ≡ false → change_asked fresh world permit ≡ None
-    → settled nat_eq (apply nat_eq fresh world task permit).world ≡ (apply nat_eq fresh world task permit).world
-nothing_is_swept world fresh names name call task permit outsider called judged only no_type none =
-    let left : (call_outcome nat_eq fresh world task call).world ≡ (apply nat_eq fresh world task permit).world =
-    ap (λ (o : Outcome ℕ). o.world) (call_is_judged_then_applied fresh world task call
-    ∙ ap (λ j. after world j (apply nat_eq fresh world task)) judged) in
-    subst (λ w. settled nat_eq w ≡ w) left (other_calls_keep_all world fresh task call outsider.is outsider.serves
-    (ap (task_called world) (sym (name_found world name task called)) ∙ called) only no_type
-    (ap (replaced_as fresh world) judged ∙ ap (replaced_if world) none))
+module _ {world : World ℕ} {fresh : Fresh ℕ} {names : List TaskName} {name : TaskName} {call : Call}
+    {task : Task ℕ} (outsider : IsOthersCall world fresh names name call task) where
+  -- The sweep takes nothing at the end of a call that takes no use away and asks for no change.
+  pub nothing_is_swept : (permit : Permit ℕ) → judge_in nat_eq fresh world task call ≡ Ok permit
+      → takes_uses call ≡ false → sets_type call ≡ false → change_asked fresh world permit ≡ None
+      → settled nat_eq (apply nat_eq fresh world task permit).world ≡ (apply nat_eq fresh world task permit).world
+  nothing_is_swept permit judged only no_type none =
+      let left : (call_outcome nat_eq fresh world task call).world ≡ (apply nat_eq fresh world task permit).world =
+      ap (λ (o : Outcome ℕ). o.world) (call_is_judged_then_applied fresh world task call
+      ∙ ap (λ j. after world j (apply nat_eq fresh world task)) judged) in
+      subst (λ w. settled nat_eq w ≡ w) left (other_calls_keep_all world fresh task call outsider.is outsider.serves
+      (ap (task_called world) (sym (name_found world name task outsider.called)) ∙ outsider.called) only no_type
+      (ap (replaced_as fresh world) judged ∙ ap (replaced_if world) none))
 
--- the caller is one of the others
-pub caller_outside : (world : World ℕ) (fresh : Fresh ℕ) (names : List TaskName) (name : TaskName) (call : Call)
-    (task : Task ℕ) → IsOutsidersCall world fresh names name call → task_called world name ≡ Some task
-    → Among task (outsiders world names)
-caller_outside world fresh names name call task outsider called =
-    grind (arith, common_steps, among-filter, found_among, name_found)
+  -- the caller is one of the others
+  pub caller_outside : Among task (outsiders world names)
+  caller_outside = grind (arith, common_steps, among-filter, found_among, name_found)
 
 -- a location is on a mount on which one of the others was, or on a mount of another namespace
 abbrev pub IsOutside : World ℕ → List TaskName → Location ℕ → Type 0
@@ -43,18 +39,18 @@ IsOutside world names location =
     ⊎ Among (mount_at nat_eq world location) (other_mounts nat_eq world names)
 
 -- so are those of the caller
-pub callers_outside : (world : World ℕ) (fresh : Fresh ℕ) (names : List TaskName) (name : TaskName) (call : Call)
-    (task : Task ℕ) → IsOutsidersCall world fresh names name call → task_called world name ≡ Some task
-    → (location : Location ℕ) → Among location (locations_of task) → IsOutside world names location
-callers_outside world fresh names name call task outsider called location m = inl (
-  location,
-  among-flat_map locations_of (outsiders world names) task location
-      (caller_outside world fresh names name call task outsider called) m,
-  refl,
-)
+module _ {world : World ℕ} {fresh : Fresh ℕ} {names : List TaskName} {name : TaskName} {call : Call}
+    {task : Task ℕ} (outsider : IsOthersCall world fresh names name call task) where
+  pub callers_outside : (location : Location ℕ) → Among location (locations_of task) → IsOutside world names location
+  callers_outside location m = inl (
+    location,
+    among-flat_map locations_of (outsiders world names) task location
+        (caller_outside outsider) m,
+    refl,
+  )
 
 -- Other tasks, with the members as they were: each task of others is where one of others was
-module _ (world : World ℕ) (names : List TaskName) (apart : IsApart world names) (tasks : List (Task ℕ))
+module _ {world : World ℕ} {names : List TaskName} (apart : IsApart world names) (tasks : List (Task ℕ))
     (same : filter (is_member_task names) tasks ≡ members world names)
     (from : (task : Task ℕ) → Among task tasks → is_member_task names task ≡ false
     → (old : Task ℕ) × Among old (outsiders world names) × (task.namespace ≡ old.namespace)
@@ -137,15 +133,15 @@ module _ (world : World ℕ) (names : List TaskName) (apart : IsApart world name
   }
 
 -- One task of others is replaced by one of its name, in its namespace and at its locations
-module _ (world : World ℕ) (fresh : Fresh ℕ) (names : List TaskName) (name : TaskName) (call : Call) (task : Task ℕ)
-    (outsider : IsOutsidersCall world fresh names name call) (called : task_called world name ≡ Some task)
-    (new : Task ℕ) (same_called : new.name ≡ task.name) where
+module _ {world : World ℕ} {fresh : Fresh ℕ} {names : List TaskName} {name : TaskName} {call : Call}
+    {task : Task ℕ} (outsider : IsOthersCall world fresh names name call task) (new : Task ℕ)
+    (same_called : new.name ≡ task.name) where
   abbrev replaced : List (Task ℕ)
   replaced = map (replaced_if_called new) world.tasks
 
   not_member : (other : Task ℕ) → same_name new.name other.name ≡ true → is_member_task names other ≡ false
   not_member other e = ap (λ n. is_among same_name n names)
-      (sym (same_task_name new.name other.name e) ∙ same_called ∙ sym (name_found world name task called))
+      (sym (same_task_name new.name other.name e) ∙ same_called ∙ sym (name_found world name task outsider.called))
       ∙ outsider.outside
 
   pub replaced_members : filter (is_member_task names) replaced ≡ members world names
@@ -176,7 +172,7 @@ module _ (world : World ℕ) (fresh : Fresh ℕ) (names : List TaskName) (name :
         by old there e true f =
             let it : other ≡ new = e ∙ ap (λ b. cond b new old) f in (
               task,
-              caller_outside world fresh names name call task outsider called,
+              caller_outside outsider,
               ap (λ (t : Task ℕ). t.namespace) it ∙ same_place,
               λ location at. no_more location (subst (λ (t : Task ℕ). Among location (locations_of t)) it at),
             )
@@ -197,12 +193,11 @@ module _ (world : World ℕ) (fresh : Fresh ℕ) (names : List TaskName) (name :
 
     pub replacing_leaves_apart : LeavesApart world (record world { tasks = replaced }) names []
     replacing_leaves_apart =
-        tasks_leave_apart world names (apart_if_sealed world names outsider.is outsider.sealed_off) replaced
-        replaced_members replaced_from
+        tasks_leave_apart (apart_from outsider.it) replaced replaced_members replaced_from
 
 -- A child of one of others is none of the set's
-module _ (world : World ℕ) (fresh : Fresh ℕ) (names : List TaskName) (name : TaskName) (call : Call) (task : Task ℕ)
-    (outsider : IsOutsidersCall world fresh names name call) (called : task_called world name ≡ Some task) where
+module _ {world : World ℕ} {fresh : Fresh ℕ} {names : List TaskName} {name : TaskName} {call : Call}
+    {task : Task ℕ} (outsider : IsOthersCall world fresh names name call task) where
   child_outside : is_among same_name (child_name task) names ≡ false
   child_outside = false_from_ne_true (is_among same_name (child_name task) names) (λ h.
       let member = any_among (same_name (child_name task)) names h in
@@ -211,9 +206,8 @@ module _ (world : World ℕ) (fresh : Fresh ℕ) (names : List TaskName) (name :
       let its_name : found.0.name ≡ child_name task =
       sym (name_found world member.0 found.0 found.1) ∙ sym (same_task_name (child_name task) member.0 member.2) in
       let counted = outsider.is.tasks.forks_counted task found.0 (task.forks + 1) []
-      (contains_from_among world.tasks task
-      (found_among (λ (t : Task ℕ). same_name name t.name) world.tasks task called))
-      (contains_from_among world.tasks found.0
+      (contains_from_among world.tasks task (found_among (λ (t : Task ℕ). same_name name t.name) world.tasks task
+      outsider.called)) (contains_from_among world.tasks found.0
       (found_among (λ (t : Task ℕ). same_name member.0 t.name) world.tasks found.0 found.1)) its_name in
       omega (arith, counted))
 
@@ -230,16 +224,17 @@ module _ (world : World ℕ) (fresh : Fresh ℕ) (names : List TaskName) (name :
       child_is_none = ap (λ n. is_among same_name n names) named ∙ child_outside
 
       forked_members : filter (is_member_task names) forked ≡ members world names
-      forked_members = grind (arith, common_steps, filter-append, child_is_none, append-nil, replaced_members)
+      forked_members =
+          grind (arith, common_steps, filter-append, child_is_none, append-nil, replaced_members outsider parent refl)
 
       forked_from : (other : Task ℕ) → Among other forked → is_member_task names other ≡ false
           → (old : Task ℕ) × Among old (outsiders world names) × (other.namespace ≡ old.namespace)
           × ((location : Location ℕ) → Among location (locations_of other) → IsOutside world names location)
       forked_from other m outside = ⊎_elim
-          (λ old. replaced_from world fresh names name call task outsider called parent refl refl
-          (callers_outside world fresh names name call task outsider called) other old outside) (λ new. ⊎_elim (λ it. (
+          (λ old. replaced_from outsider parent refl refl (callers_outside outsider) other old outside)
+          (λ new. ⊎_elim (λ it. (
             task,
-            caller_outside world fresh names name call task outsider called,
+            caller_outside outsider,
             ap (λ (t : Task ℕ). t.namespace) it ∙ same_place,
             λ location at. no_more location (subst (λ (t : Task ℕ). Among location (locations_of t)) it at),
           )) (λ none. absurd none) new)
@@ -247,27 +242,21 @@ module _ (world : World ℕ) (fresh : Fresh ℕ) (names : List TaskName) (name :
 
       pub forking_leaves_apart : LeavesApart world (record world { tasks = forked }) names []
       forking_leaves_apart =
-          tasks_leave_apart world names (apart_if_sealed world names outsider.is outsider.sealed_off) forked
-          forked_members forked_from
+          tasks_leave_apart (apart_from outsider.it) forked forked_members forked_from
 
-module _ (world : World ℕ) (fresh : Fresh ℕ) (names : List TaskName) (name : TaskName) (call : Call)
-    (task : Task ℕ) (outsider : IsOutsidersCall world fresh names name call)
-    (called : task_called world name ≡ Some task) where
   unswept : (permit : Permit ℕ) → judge_in nat_eq fresh world task call ≡ Ok permit → (asked : Call) → call ≡ asked
       → takes_uses asked ≡ false → sets_type asked ≡ false → change_asked fresh world permit ≡ None
       → LeavesApart world (apply nat_eq fresh world task permit).world names []
       → LeavesApart world (settled nat_eq (apply nat_eq fresh world task permit).world) names []
   unswept permit judged asked e only no_type none leaves = subst (λ w. LeavesApart world w names [])
-      (sym (nothing_is_swept world fresh names name call task permit outsider called judged
-      (ap takes_uses e ∙ only) (ap sets_type e ∙ no_type) none)) leaves
+      (sym (nothing_is_swept outsider permit judged (ap takes_uses e ∙ only) (ap sets_type e ∙ no_type) none)) leaves
 
   pub umask_leaves : (umask : ℕ) → judge_in nat_eq fresh world task call ≡ Ok (ToSetUmask umask)
       → LeavesApart world (settled nat_eq (apply nat_eq fresh world task (ToSetUmask umask)).world) names []
   umask_leaves umask judged =
       let for = permits_are_for_their_calls fresh world task call (ToSetUmask umask) judged in
       unswept (ToSetUmask umask) judged (Umask for.0) for.1 refl refl refl
-      (replacing_leaves_apart world fresh names name call task outsider called (record task { umask = umask })
-      refl refl (callers_outside world fresh names name call task outsider called))
+      (replacing_leaves_apart outsider (record task { umask = umask }) refl refl (callers_outside outsider))
 
   pub credentials_leave : (credentials : Credentials)
       → judge_in nat_eq fresh world task call ≡ Ok (ToSetCredentials credentials)
@@ -275,15 +264,12 @@ module _ (world : World ℕ) (fresh : Fresh ℕ) (names : List TaskName) (name :
   credentials_leave credentials judged =
       let for = permits_are_for_their_calls fresh world task call (ToSetCredentials credentials) judged in
       unswept (ToSetCredentials credentials) judged (Drop for.0) for.1 refl refl refl
-      (replacing_leaves_apart world fresh names name call task outsider called
-      (record task { credentials = credentials })
-      refl refl (callers_outside world fresh names name call task outsider called))
+      (replacing_leaves_apart outsider (record task { credentials = credentials }) refl refl (callers_outside outsider))
 
   pub fork_leaves : (credentials : Credentials) → judge_in nat_eq fresh world task call ≡ Ok (ToFork credentials)
       → LeavesApart world (settled nat_eq (apply nat_eq fresh world task (ToFork credentials)).world) names []
   fork_leaves credentials judged =
       let for = permits_are_for_their_calls fresh world task call (ToFork credentials) judged in
       unswept (ToFork credentials) judged (Fork for.0) for.1 refl refl refl
-      (forking_leaves_apart world fresh names name call task outsider called (child_of task credentials) refl refl
-      (λ location m. callers_outside world fresh names name call task outsider called location
+      (forking_leaves_apart (child_of task credentials) refl refl (λ location m. callers_outside outsider location
       (⊎_elim inl (λ rest. inr (⊎_elim inl (λ none. absurd none) rest)) m)))

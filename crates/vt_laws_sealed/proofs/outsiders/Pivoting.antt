@@ -2,6 +2,7 @@
 use Rattle.std.proofs.Common.{arith, ◌≡◌, refl, sym, ap, subst, ◌∙◌, inl, inr, ⊎_elim, ℕ, nat_eq, Bool, true, false, cond, true≢false, List, [], Some, None, Ok, filter, map, not, eqb-true}
 use Rattle.vt_spec.proofs.Common.{Among, Call, Fresh, Location, Mount, PivotRoot, Propagation, Task, TaskName, ToPivot, World, among-filter, among-flat_map, among-from_filter, among-from_flat_map, among-from_map, among_from_list_all, any_from_among, apply, common_steps, found_or_none, is_among, is_member_task, is_own_namespace, judge_in, list_all, list_all_from_among, locations, locations_of, map_same, members, mount_at, mount_numbered, no_mount, none_is_some, number-mount_in, other_mounts, outsiders, own_mounts, pair-map, pivoted_location, pivoted_mount, pivoted_task, root_of, same_location, same_name, settled, share_events, shares_no_events, task_called}
 use Rattle.vt_laws_mounts.proofs.letting_go.Lists.{filter-map}
+use Rattle.vt_laws_sealed.proofs.outsiders.OthersCalls.{IsOthersCall, apart_from}
 use Rattle.vt_laws_trees.specs.Trees.Calls.{mounts_overlay}
 use Rattle.vt_laws_mounts.specs.Mounts.Invariants.{OneNumberEach}
 use Rattle.vt_laws_mounts.proofs.mounts.MountsReplaced.{found_itself}
@@ -12,8 +13,6 @@ use Rattle.vt_laws_worlds.specs.Worlds.Permits.{MayPivot}
 use Rattle.vt_laws_sealed.specs.Part.Seals.{IsApart}
 use Rattle.vt_laws_sealed.proofs.part.part.Observed.{own_mounts_same}
 use Rattle.vt_laws_sealed.proofs.part.part.PartOfPart.{keep}
-use Rattle.vt_laws_sealed.proofs.part.seals.ByPart.{apart_if_sealed}
-use Rattle.vt_laws_sealed.specs.Outsiders.{IsOutsidersCall}
 use Rattle.vt_laws_sealed.proofs.outsiders.ChangedWorlds.{KeepsOrDetaches, OthersMove, changing_leaves_apart, left, others_from, sees}
 use Rattle.vt_laws_sealed.proofs.outsiders.OtherMounts.{is_other, namespace_outside, standing_apart}
 use Rattle.vt_laws_sealed.proofs.outsiders.OwnTasks.{IsOutside, caller_outside}
@@ -22,12 +21,11 @@ use Rattle.vt_laws_sealed.proofs.outsiders.StandingApart.{NothingNew, StandsApar
 use Rattle.vt_laws_sealed.proofs.outsiders.Staying.{LeavesApart}
 use Rattle.vt_laws_sealed.proofs.outsiders.Sweeping.{sweeping_leaves_apart}
 
-module _ (world : World ℕ) (fresh : Fresh ℕ) (names : List TaskName) (name : TaskName) (call : Call)
-    (task : Task ℕ) (outsider : IsOutsidersCall world fresh names name call)
-    (called : task_called world name ≡ Some task) (new : ℕ) (put : Location ℕ)
+module _ {world : World ℕ} {fresh : Fresh ℕ} {names : List TaskName} {name : TaskName} {call : Call}
+    {task : Task ℕ} (outsider : IsOthersCall world fresh names name call task) (new : ℕ) (put : Location ℕ)
     (judged : judge_in nat_eq fresh world task call ≡ Ok (ToPivot new put)) where
   set_apart : IsApart world names
-  set_apart = apart_if_sealed world names outsider.is outsider.sealed_off
+  set_apart = apart_from outsider.it
 
   abbrev so_far : StandsApart world names NothingNew
   so_far = standing_apart world names set_apart
@@ -37,12 +35,11 @@ module _ (world : World ℕ) (fresh : Fresh ℕ) (names : List TaskName) (name :
 
   fits : MayPivot world task new put
   fits = (all_permits_fit world fresh task call (ToPivot new put) outsider.is outsider.serves
-      (ap (task_called world) (sym (name_found world name task called)) ∙ called)
+      (ap (task_called world) (sym (name_found world name task outsider.called)) ∙ outsider.called)
       (ap mounts_overlay for_pivot.2) judged).names
 
   outside : is_own_namespace nat_eq world names task.namespace ≡ false
-  outside =
-      namespace_outside world names set_apart task (caller_outside world fresh names name call task outsider called)
+  outside = namespace_outside world names set_apart task (caller_outside outsider)
 
   abbrev old_root : Mount ℕ
   old_root = mount_at nat_eq world task.root
@@ -177,8 +174,7 @@ module _ (world : World ℕ) (fresh : Fresh ℕ) (names : List TaskName) (name :
   }
 
   abbrev pivoted_world : World ℕ
-  pivoted_world =
-      left world names so_far change keeps kept_same world.master (map move world.tasks) world.namespaces moved
+  pivoted_world = left so_far change keeps kept_same world.master (map move world.tasks) world.namespaces moved
 
   -- events go by types alone
   abbrev share_by : Propagation ℕ → Propagation ℕ → Bool
@@ -188,13 +184,12 @@ module _ (world : World ℕ) (fresh : Fresh ℕ) (names : List TaskName) (name :
   events : shares_no_events nat_eq pivoted_world names ≡ true
   events = ap (λ owns. list_all (λ own. list_all (λ other. not (share_events nat_eq pivoted_world own other))
       (other_mounts nat_eq pivoted_world names)) owns) (own_mounts_same world pivoted_world names
-      (sees world names so_far change keeps kept_same world.master (map move world.tasks) world.namespaces moved
-      (λ group e. refl)))
+      (sees so_far change keeps kept_same world.master (map move world.tasks) world.namespaces moved (λ group e. refl)))
       ∙ list_all_from_among (λ own. list_all (λ other. not (share_events nat_eq pivoted_world own other))
       (other_mounts nat_eq pivoted_world names)) (own_mounts nat_eq world names)
       (λ own m. list_all_from_among (λ other. not (share_events nat_eq pivoted_world own other))
       (other_mounts nat_eq pivoted_world names) (λ other n.
-      let from = others_from world names so_far change keeps kept_same world.master (map move world.tasks)
+      let from = others_from so_far change keeps kept_same world.master (map move world.tasks)
       world.namespaces moved other n in
       ap (λ kind. not (share_by own.propagation kind)) (ap (λ (x : Mount ℕ). x.propagation) from.2 ∙ type_kept from.0)
       ∙ among_from_list_all (λ x. not (share_events nat_eq world own x)) (other_mounts nat_eq world names)
@@ -206,5 +201,5 @@ module _ (world : World ℕ) (fresh : Fresh ℕ) (names : List TaskName) (name :
 
   pub pivot_leaves : LeavesApart world (settled nat_eq (apply nat_eq fresh world task (ToPivot new put)).world) names []
   pivot_leaves = sweeping_leaves_apart world pivoted_world names set_apart outsider.sealed_off refl one_each []
-      (changing_leaves_apart world names so_far change keeps kept_same world.master (map move world.tasks)
-      world.namespaces moved (λ group e. refl) events)
+      (changing_leaves_apart so_far change keeps kept_same world.master (map move world.tasks) world.namespaces moved
+      (λ group e. refl) events)

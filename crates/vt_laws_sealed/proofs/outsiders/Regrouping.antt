@@ -10,36 +10,36 @@ use Rattle.vt_laws_sealed.proofs.outsiders.Reshaping.{IsReshaped, reshaped_twice
 use Rattle.vt_laws_sealed.proofs.outsiders.StandingApart.{StandsApart}
 use Rattle.vt_laws_sealed.proofs.outsiders.Staying.{LeavesApart}
 
-module _ (world : World ℕ) (names : List TaskName) {New : ℕ → Type 0} (apart : StandsApart world names New) where
+module _ {world : World ℕ} {names : List TaskName} {New : ℕ → Type 0} (apart : StandsApart world names New) where
   -- a type that only groups of others are in
   abbrev pub IsOfOthers : Propagation ℕ → Type 0
-  IsOfOthers kind = ((number : ℕ) → group_of kind ≡ Some number → Foreign world names apart number)
-      × ((number : ℕ) → kind ≡ Slave number → Foreign world names apart number)
+  IsOfOthers kind = ((number : ℕ) → group_of kind ≡ Some number → Foreign apart number)
+      × ((number : ℕ) → kind ≡ Slave number → Foreign apart number)
 
   pub of_nobody : IsOfOthers Private
   of_nobody = (λ number e. none_is_some number e, λ number e. none_is_some number (ap source_of e))
 
   pub old_type : (other : Mount ℕ) → Among other (other_mounts nat_eq world names) → IsOfOthers other.propagation
   old_type other m = (
-    λ number e. other_hears_foreign world names apart other m number (inl e),
-    λ number e. other_hears_foreign world names apart other m number (inr (ap (master_of world) e)),
+    λ number e. other_hears_foreign apart other m number (inl e),
+    λ number e. other_hears_foreign apart other m number (inr (ap (master_of world) e)),
   )
 
 -- A change of mounts of others, after which groups without members are gone
-module _ (world : World ℕ) (names : List TaskName) {New : ℕ → Type 0} (apart : StandsApart world names New)
+module _ {world : World ℕ} {names : List TaskName} {New : ℕ → Type 0} (apart : StandsApart world names New)
     (change : Mount ℕ → Mount ℕ) (shape : (mount : Mount ℕ) → IsReshaped mount (change mount))
     (own_same : (own : Mount ℕ) → Among own (own_mounts nat_eq world names) → change own ≡ own)
     (nowhere_same : (mount : Mount ℕ) → Among mount world.mounts → mount.namespace ≡ None → change mount ≡ mount)
     (kinds : (other : Mount ℕ) → Among other (other_mounts nat_eq world names)
-    → IsOfOthers world names apart (change other).propagation) (middle_master : ℕ → Option ℕ)
-    (middle_above : (number above : ℕ) → Foreign world names apart number
-    → middle_master number ≡ Some above → Foreign world names apart above)
-    (own_middle : (number : ℕ) → list_any (is_member_of nat_eq number) (own_mounts nat_eq world names) ≡ true
+    → IsOfOthers apart (change other).propagation) (middle_master : ℕ → Option ℕ)
+    (middle_above : (number above : ℕ) → Foreign apart number
+    → middle_master number ≡ Some above → Foreign apart above) (own_middle : (number : ℕ) → list_any
+    (is_member_of nat_eq number) (own_mounts nat_eq world names) ≡ true
     → middle_master number ≡ world.master number)
     (tasks : List (Task ℕ)) (namespaces : List (Namespace ℕ)) (moved : OthersMove world names tasks namespaces)
     (lost : Bool) where
   abbrev IsForeign : ℕ → Type 0
-  IsForeign = Foreign world names apart
+  IsForeign = Foreign apart
 
   abbrev pub middle : World ℕ
   middle = record world {
@@ -51,13 +51,13 @@ module _ (world : World ℕ) (names : List TaskName) {New : ℕ → Type 0} (apa
 
   -- a group that a mount of theirs hears has a member of theirs, also after the change
   members_stay : (own : Mount ℕ) → Among own (own_mounts nat_eq world names) → (number : ℕ)
-      → HearsGroup world names apart world own.propagation number → has_members nat_eq middle.mounts number ≡ true
+      → HearsGroup apart world own.propagation number → has_members nat_eq middle.mounts number ≡ true
   members_stay own m number how =
-      let member = member_of_heard world names apart own m number how in
+      let member = member_of_heard apart own m number how in
       grind (arith, common_steps, any_from_among, among-map, among-from_filter)
 
   heir_stays : (own : Mount ℕ) → Among own (own_mounts nat_eq world names) → (number : ℕ)
-      → HearsGroup world names apart world own.propagation number → heir nat_eq middle (Some number) ≡ Some number
+      → HearsGroup apart world own.propagation number → heir nat_eq middle (Some number) ≡ Some number
   heir_stays own m number how =
       find-chain_start (has_members nat_eq middle.mounts) middle.master (length middle.mounts) number
       (members_stay own m number how)
@@ -68,12 +68,12 @@ module _ (world : World ℕ) (names : List TaskName) {New : ℕ → Type 0} (apa
       (length middle.mounts) number found foreign (is_among_numbers (groups_up middle number) found
       (found_among (has_members nat_eq middle.mounts) (groups_up middle number) found e))
 
-  inherited_foreign : (kind : Propagation ℕ) → IsOfOthers world names apart kind
-      → IsOfOthers world names apart (inherited nat_eq middle kind)
+  inherited_foreign : (kind : Propagation ℕ) → IsOfOthers apart kind
+      → IsOfOthers apart (inherited nat_eq middle kind)
   inherited_foreign (Shared g) is = is
   inherited_foreign (Slave g) is = by (heir nat_eq middle (Some g)) refl
     where
-      by : (o : Option ℕ) → heir nat_eq middle (Some g) ≡ o → IsOfOthers world names apart (slave_of_heir o)
+      by : (o : Option ℕ) → heir nat_eq middle (Some g) ≡ o → IsOfOthers apart (slave_of_heir o)
       by None e = (λ number f. none_is_some number f, λ number f. none_is_some number (ap source_of f))
       by (Some found) e = (
         λ number f. none_is_some number f,
@@ -176,15 +176,15 @@ module _ (world : World ℕ) (names : List TaskName) {New : ℕ → Type 0} (apa
         ⊎_elim (λ same. after_above number above foreign (sym same ∙ e)) (λ none. none_is_some above (sym none ∙ e))
         (taken number)
 
-    heard_foreign : (kind : Propagation ℕ) → IsOfOthers world names apart kind → (number : ℕ)
-        → HearsGroup world names apart left kind number → IsForeign number
+    heard_foreign : (kind : Propagation ℕ) → IsOfOthers apart kind → (number : ℕ)
+        → HearsGroup apart left kind number → IsForeign number
     heard_foreign kind is number how = grind (arith, common_steps, left_above, none_is_some, same_Some)
 
     changed_foreign : (other : Mount ℕ) → Among other (other_mounts nat_eq world names)
-        → IsOfOthers world names apart (all_changed other).propagation
+        → IsOfOthers apart (all_changed other).propagation
     changed_foreign other m = by lost
       where
-        by : (b : Bool) → IsOfOthers world names apart
+        by : (b : Bool) → IsOfOthers apart
             (cond b (inheriting nat_eq middle (change other)) (change other)).propagation
         by true = inherited_foreign (change other).propagation (kinds other m)
         by false = kinds other m
@@ -198,15 +198,14 @@ module _ (world : World ℕ) (names : List TaskName) {New : ℕ → Type 0} (apa
     kept_same = reshaping_kept world names apart all_changed all_shape own_stays nowhere_stays
 
     events : shares_no_events nat_eq left names ≡ true
-    events = events_stay_apart world names apart left (own_mounts_same world left names
-        (sees world names apart all_changed (reshaping_keeps all_changed all_shape) kept_same master tasks namespaces
-        moved own_masters)) own_kinds (λ other m number how.
-        let from = others_from world names apart all_changed
+    events = events_stay_apart apart left (own_mounts_same world left names
+        (sees apart all_changed (reshaping_keeps all_changed all_shape) kept_same master tasks namespaces moved
+        own_masters)) own_kinds (λ other m number how.
+        let from = others_from apart all_changed
         (reshaping_keeps all_changed all_shape) kept_same master tasks namespaces moved other m in
         heard_foreign (all_changed from.0).propagation (changed_foreign from.0 from.1) number
-        (subst (λ kind. HearsGroup world names apart left kind number)
-        (ap (λ (x : Mount ℕ). x.propagation) from.2) how))
+        (subst (λ kind. HearsGroup apart left kind number) (ap (λ (x : Mount ℕ). x.propagation) from.2) how))
 
     pub regrouping_leaves_apart : LeavesApart world left names []
-    regrouping_leaves_apart = changing_leaves_apart world names apart all_changed
+    regrouping_leaves_apart = changing_leaves_apart apart all_changed
         (reshaping_keeps all_changed all_shape) kept_same master tasks namespaces moved own_masters events

@@ -1,10 +1,12 @@
 -- Directories that others remove, and files and directories that they rename: rmdir(2), rename(2). Mounts on what goes
 -- are of others, in whatever namespace.
 use Rattle.std.proofs.Common.{arith, ◌≡◌, refl, sym, ap, subst, ◌∙◌, ⊎_elim, ℕ, nat_eq, true, false, true≢false, List, [], Option, Some, None, Ok, flat_map, length, map, ◌&&◌, eqb-true, option_map}
-use Rattle.vt_spec.proofs.Common.{Among, Call, Change, Filesystem, Fresh, Location, Mount, Move, Permit, Remove, Stands, Task, TaskName, ToRemoveDirectory, ToRename, World, among-append_left, among-filter, among-from_filter, among-from_flat_map, among-from_map, among-map, among_from_all, among_numbers, and_parts, any_among, any_from_among, apply, changed_at, common_steps, entry_at, false_from_ne_true, files_at, filesystem_at, filesystem_numbered, filesystems_changed, found_or_none, holds_of, is_among, is_directory_there, is_going, is_own_mount, is_own_namespace, is_point, judge_in, list_any, looks_of, mount_at, mount_numbered, mount_tree, mounts_on, name_of, none_is_some, object_there, overfills, own_mounts, points_of, same_Some, settled, special_word, task_called, used_filesystems, with_change, without_mounts_on}
+use Rattle.vt_spec.proofs.Common.{Among, Call, Change, Filesystem, Fresh, Location, Mount, Move, Permit, Remove, Stands, Task, TaskName, ToRemoveDirectory, ToRename, World, among-append_left, among-filter, among-from_filter, among-from_flat_map, among-from_map, among-map, among_from_all, among_numbers, and_parts, any_among, any_from_among, apply, changed_at, common_steps, entry_at, false_from_ne_true, files_at, filesystem_at, filesystem_numbered, filesystems_changed, found_or_none, holds_of, is_among, is_directory_there, is_going, is_own_mount, is_own_namespace, is_point, judge_in, list_any, looks_of, mount_at, mount_numbered, mount_tree, mounts_on, name_of, none_is_some, object_there, overfills, own_mounts, points_of, same_Some, settled, special_word, used_filesystems, with_change, without_mounts_on}
+use Rattle.vt_laws_mounts.proofs.namespaces.Unsharing.{placed_inside}
 use Rattle.vt_laws_rules.proofs.given.Inversion.{calls_are_granted}
 use Rattle.vt_laws_rules.specs.Granted.{IsGranted}
 use Rattle.vt_laws_rules.specs.Granted.IsGranted.{removes_directory, renames}
+use Rattle.vt_laws_sealed.proofs.outsiders.OthersCalls.{IsOthersCall, apart_from}
 use Rattle.vt_laws_trees.proofs.trees.PlacesReached.{old_is, rename_new_is}
 use Rattle.vt_laws_trees.proofs.trees.TreesWalked.{not-false, place_named}
 use Rattle.vt_laws_mounts.proofs.mounts.MountsReplaced.{found_itself}
@@ -15,12 +17,10 @@ use Rattle.vt_laws_worlds.proofs.permits.sees.SeesNames.{old_mount}
 use Rattle.vt_laws_worlds.specs.OverlayPermits.Asked.{change_asked}
 use Rattle.vt_laws_sealed.specs.Part.Seals.{IsApart}
 use Rattle.vt_laws_sealed.proofs.part.part.PartOfPart.{used_directly_used}
-use Rattle.vt_laws_sealed.proofs.part.seals.ByPart.{apart_if_sealed}
-use Rattle.vt_laws_sealed.specs.Outsiders.{IsOutsidersCall}
 use Rattle.vt_laws_sealed.proofs.outsiders.ChangedWorlds.{others_rest}
 use Rattle.vt_laws_sealed.proofs.outsiders.ChangingFiles.{change_leaves, change_alone}
 use Rattle.vt_laws_sealed.proofs.outsiders.FilesOfCalls.{changed_is_unused, upper_is_unused}
-use Rattle.vt_laws_sealed.proofs.outsiders.OtherMounts.{nowhere_unplaced, standing_apart, tree_in}
+use Rattle.vt_laws_sealed.proofs.outsiders.OtherMounts.{standing_apart, tree_in}
 use Rattle.vt_laws_sealed.proofs.outsiders.Staying.{LeavesApart}
 use Rattle.vt_laws_sealed.proofs.outsiders.TakingAway.{namespaces_taken_away, taken_leaves_apart}
 
@@ -31,7 +31,7 @@ changed_at_same : (a b : World ℕ) (location : Location ℕ) → a.filesystems 
 changed_at_same a b location same mounted = grind (arith, common_steps)
 
 -- Mounts on a directory in a filesystem that the set does not use
-module _ (world : World ℕ) (names : List TaskName) (apart : IsApart world names) (directory : Location ℕ)
+module _ {world : World ℕ} {names : List TaskName} (apart : IsApart world names) (directory : Location ℕ)
     (unused : (n : ℕ) → list_any (λ (point : ℕ × ℕ). nat_eq n point.0) (points_of nat_eq world directory) ≡ true
     → is_among nat_eq n (used_filesystems nat_eq world names) ≡ false) where
   abbrev IsOfOthersAt : Mount ℕ → Type 0
@@ -47,7 +47,7 @@ module _ (world : World ℕ) (names : List TaskName) (apart : IsApart world name
   parent_not_own mount m point stands not_theirs = by mount.namespace refl
     where
       by : (o : Option ℕ) → mount.namespace ≡ o → IsOfOthersAt mount
-      by None e = absurd (nowhere_unplaced world apart.is.mounts mount m e point stands)
+      by None e = absurd (placed_inside world apart.is.mounts mount m point stands e)
       by (Some n) e = (
         n,
         e,
@@ -99,7 +99,7 @@ module _ (world : World ℕ) (names : List TaskName) (apart : IsApart world name
       let other = mount_on_other top.0 top.1 in
       let top_there = (among-from_filter (λ (x : Mount ℕ). list_any (λ (point : ℕ × ℕ).
       is_point nat_eq world point.0 point.1 x) (points_of nat_eq world directory)) world.mounts top.0 top.1).0 in
-      let is_in = tree_in world names apart other.0 (length world.mounts) top.0 (top_there, other.1) from.0 top.2 in (
+      let is_in = tree_in apart other.0 (length world.mounts) top.0 (top_there, other.1) from.0 top.2 in (
         other.0,
         ap (λ j. (mount_numbered nat_eq world j).namespace) from.2
             ∙ ap (λ (x : Mount ℕ). x.namespace) (itself from.0 is_in.0) ∙ is_in.1,
@@ -110,14 +110,12 @@ module _ (world : World ℕ) (names : List TaskName) (apart : IsApart world name
   unmounting_leaves_apart =
       let so_far = standing_apart world names apart in
       subst (λ w. LeavesApart world w names []) (namespaces_taken_away world gone)
-      (taken_leaves_apart world names so_far world.tasks world.namespaces (others_rest world names so_far) gone
-      others_go)
+      (taken_leaves_apart so_far world.tasks world.namespaces (others_rest world names so_far) gone others_go)
 
-module _ (world : World ℕ) (fresh : Fresh ℕ) (names : List TaskName) (name : TaskName) (call : Call)
-    (task : Task ℕ) (outsider : IsOutsidersCall world fresh names name call)
-    (called : task_called world name ≡ Some task) where
+module _ {world : World ℕ} {fresh : Fresh ℕ} {names : List TaskName} {name : TaskName} {call : Call}
+    {task : Task ℕ} (outsider : IsOthersCall world fresh names name call task) where
   set_apart : IsApart world names
-  set_apart = apart_if_sealed world names outsider.is outsider.sealed_off
+  set_apart = apart_from outsider.it
 
   -- what is removed or replaced is in the filesystem of its directory
   abbrev InOneFilesystem : Location ℕ → Location ℕ → Type 0
@@ -185,7 +183,7 @@ module _ (world : World ℕ) (fresh : Fresh ℕ) (names : List TaskName) (name :
     )
 
     mounts_leave : LeavesApart world (without_mounts_on nat_eq world directory) names []
-    mounts_leave = unmounting_leaves_apart world names set_apart directory points_unused
+    mounts_leave = unmounting_leaves_apart set_apart directory points_unused
 
     -- and then the change is made
     pub removal_leaves : (apply nat_eq fresh world task permit).world
@@ -195,40 +193,35 @@ module _ (world : World ℕ) (fresh : Fresh ℕ) (names : List TaskName) (name :
         → LeavesApart world (settled nat_eq (apply nat_eq fresh world task permit).world) names
         (filesystems_changed nat_eq world permit)
     removal_leaves left raised =
-        change_leaves world fresh names name call task outsider called permit judged location change asks
-        (without_mounts_on nat_eq world directory) (same_filesystems_without world directory)
-        (left ∙ the_rest_stays fresh (without_mounts_on nat_eq world directory) location change
-        ∙ ap (λ (w : World ℕ). record (without_mounts_on nat_eq world directory) { filesystems = w.filesystems })
-        (sym left)) (raised ∙ changed_at_same (without_mounts_on nat_eq world directory) world location
+        change_leaves outsider permit judged location change asks (without_mounts_on nat_eq world directory)
+        (same_filesystems_without world directory) (left ∙ the_rest_stays fresh
+        (without_mounts_on nat_eq world directory) location change ∙ ap (λ (w : World ℕ).
+        record (without_mounts_on nat_eq world directory) { filesystems = w.filesystems }) (sym left))
+        (raised ∙ changed_at_same (without_mounts_on nat_eq world directory) world location
         (same_filesystems_without world directory) (same_mounted_without world directory location)) mounts_leave
 
-pub directory_removal_leaves : (world : World ℕ) (fresh : Fresh ℕ) (names : List TaskName) (name : TaskName)
-    (call : Call) (task : Task ℕ) → IsOutsidersCall world fresh names name call → task_called world name ≡ Some task
-    → (parent : Location ℕ) (entry : List ℕ) (directory : Location ℕ)
-    → judge_in nat_eq fresh world task call ≡ Ok (ToRemoveDirectory parent entry directory) → LeavesApart world
-    (settled nat_eq (apply nat_eq fresh world task (ToRemoveDirectory parent entry directory)).world) names
-    (filesystems_changed nat_eq world (ToRemoveDirectory parent entry directory))
-directory_removal_leaves world fresh names name call task outsider called parent entry directory judged =
-    removal_leaves world fresh names name call task outsider called (ToRemoveDirectory parent entry directory) judged
-    parent (Remove parent.node entry directory.node) refl directory
-    (removed_in world fresh names name call task outsider called call (ToRemoveDirectory parent entry directory)
-    (calls_are_granted nat_eq (looks_of nat_eq world) (overfills nat_eq fresh world task) task call
-    (ToRemoveDirectory parent entry directory) judged) parent entry directory refl) refl refl
+  pub directory_removal_leaves : (parent : Location ℕ) (entry : List ℕ) (directory : Location ℕ)
+      → judge_in nat_eq fresh world task call ≡ Ok (ToRemoveDirectory parent entry directory) → LeavesApart world
+      (settled nat_eq (apply nat_eq fresh world task (ToRemoveDirectory parent entry directory)).world) names
+      (filesystems_changed nat_eq world (ToRemoveDirectory parent entry directory))
+  directory_removal_leaves parent entry directory judged =
+      removal_leaves (ToRemoveDirectory parent entry directory) judged parent (Remove parent.node entry directory.node)
+      refl directory (removed_in call (ToRemoveDirectory parent entry directory)
+      (calls_are_granted nat_eq (looks_of nat_eq world) (overfills nat_eq fresh world task) task call
+      (ToRemoveDirectory parent entry directory) judged) parent entry directory refl) refl refl
 
-pub renaming_leaves : (world : World ℕ) (fresh : Fresh ℕ) (names : List TaskName) (name : TaskName) (call : Call)
-    (task : Task ℕ) → IsOutsidersCall world fresh names name call → task_called world name ≡ Some task
-    → (from : Location ℕ) (old : List ℕ) (to : Location ℕ) (new : List ℕ) (object : Location ℕ)
-    (replaced : Option (Location ℕ))
-    → judge_in nat_eq fresh world task call ≡ Ok (ToRename from old to new object replaced) → LeavesApart world
-    (settled nat_eq (apply nat_eq fresh world task (ToRename from old to new object replaced)).world) names
-    (filesystems_changed nat_eq world (ToRename from old to new object replaced))
-renaming_leaves world fresh names name call task outsider called from old to new object None judged =
-    change_alone world fresh names name call task outsider called (ToRename from old to new object None) judged from
-    (Move from.node old to.node new object.node) refl
-    (the_rest_stays fresh world from (Move from.node old to.node new object.node)) refl
-renaming_leaves world fresh names name call task outsider called from old to new object (Some replaced) judged =
-    removal_leaves world fresh names name call task outsider called (ToRename from old to new object (Some replaced))
-    judged from (Move from.node old to.node new object.node) refl replaced
-    (replaced_in world fresh names name call task outsider called call (ToRename from old to new object (Some replaced))
-    (calls_are_granted nat_eq (looks_of nat_eq world) (overfills nat_eq fresh world task) task call
-    (ToRename from old to new object (Some replaced)) judged) from old to new object replaced refl) refl refl
+  pub renaming_leaves : (from : Location ℕ) (old : List ℕ) (to : Location ℕ) (new : List ℕ) (object : Location ℕ)
+      (replaced : Option (Location ℕ))
+      → judge_in nat_eq fresh world task call ≡ Ok (ToRename from old to new object replaced) → LeavesApart world
+      (settled nat_eq (apply nat_eq fresh world task (ToRename from old to new object replaced)).world) names
+      (filesystems_changed nat_eq world (ToRename from old to new object replaced))
+  renaming_leaves from old to new object None judged =
+      change_alone outsider (ToRename from old to new object None) judged from
+      (Move from.node old to.node new object.node) refl (the_rest_stays fresh world from
+      (Move from.node old to.node new object.node)) refl
+  renaming_leaves from old to new object (Some replaced) judged =
+      removal_leaves (ToRename from old to new object (Some replaced)) judged from
+      (Move from.node old to.node new object.node) refl replaced (replaced_in call
+      (ToRename from old to new object (Some replaced)) (calls_are_granted nat_eq (looks_of nat_eq world)
+      (overfills nat_eq fresh world task) task call (ToRename from old to new object (Some replaced)) judged) from old
+      to new object replaced refl) refl refl

@@ -1,6 +1,7 @@
 -- Types of mounts of others that are set: mount(2) with MS_SHARED, MS_SLAVE, MS_PRIVATE or MS_UNBINDABLE.
 use Rattle.std.proofs.Common.{arith, ◌≡◌, refl, sym, ap, subst, ◌∙◌, ◌⊎◌, inl, inr, ⊎_elim, ℕ, nat_eq, Bool, true, false, cond, true≢false, List, [], ◌∷◌, Option, Some, None, Ok, filter, is_some, length, map, eqb-true}
 use Rattle.vt_spec.proofs.Common.{Among, Call, Fresh, Mount, Private, Propagation, Serves, SetType, Shared, Slave, Task, TaskName, ToPrivate, ToSetType, ToShared, ToSlave, ToUnbindable, TypeWord, Unbindable, World, after, among-filter, among-from_filter, among-map, any_among, any_from_among, apply, call_outcome, common_steps, false_from_ne_true, found_or_none, group_of, holds_of, index_of, is_member_of, is_own_mount, is_own_namespace, judge_in, list_any, lost_a_group, master_after, master_of, mount_lives, mount_numbered, named_mounts, none_is_some, numbers_by, or_left, other_mounts, own_mounts, regrouped_by, retyped_mount, same_Some, settled, source_of, task_called, type_after, with_master, with_new_groups}
+use Rattle.vt_laws_sealed.proofs.outsiders.OthersCalls.{IsOthersCall, apart_from}
 use Rattle.vt_laws_trees.specs.Trees.Calls.{mounts_overlay}
 use Rattle.vt_laws_mounts.proofs.mounts.MountsReplaced.{found_itself}
 use Rattle.vt_laws_rules.proofs.given.GivenPermits.{permits_are_for_their_calls}
@@ -11,8 +12,6 @@ use Rattle.vt_laws_later_calls.specs.Ends.{KeepsAllButMasters}
 use Rattle.vt_laws_trees.specs.Layers.Layers.ChangesUpper.{IsNewBy}
 use Rattle.vt_laws_sealed.specs.Part.Seals.{IsApart}
 use Rattle.vt_laws_sealed.proofs.part.groups.ReceiversAlike.{member_group}
-use Rattle.vt_laws_sealed.proofs.part.seals.ByPart.{apart_if_sealed}
-use Rattle.vt_laws_sealed.specs.Outsiders.{IsOutsidersCall}
 use Rattle.vt_laws_sealed.proofs.outsiders.ChangedWorlds.{others_rest}
 use Rattle.vt_laws_sealed.proofs.outsiders.OtherMounts.{Foreign, HearsGroup, IsIn, tree_in, foreign_above, is_other, member_not_new, namespace_outside, other_hears_foreign, standing_apart_with}
 use Rattle.vt_laws_sealed.proofs.outsiders.OwnTasks.{caller_outside}
@@ -40,7 +39,7 @@ new_masters group number (mount ∷ rest) master = ⊎_elim (λ same. by (nat_eq
         × (with_new_groups nat_eq group master (mount ∷ rest) number ≡ master_after one.propagation))
     by b e same = grind (arith, common_steps, eqb-true)
 
-module _ (world : World ℕ) (names : List TaskName) (apart : IsApart world names) (fresh : Fresh ℕ)
+module _ {world : World ℕ} {names : List TaskName} (apart : IsApart world names) (fresh : Fresh ℕ)
     (serves : Serves nat_eq world fresh) (namespace : ℕ)
     (outside : is_own_namespace nat_eq world names namespace ≡ false)
     (group : ℕ → ℕ) (new_group : (number : ℕ) → (k : ℕ) × (group number ≡ fresh k)) (word : TypeWord)
@@ -49,7 +48,7 @@ module _ (world : World ℕ) (names : List TaskName) (apart : IsApart world name
   so_far = standing_apart_with world names apart fresh serves
 
   abbrev IsForeign : ℕ → Type 0
-  IsForeign = Foreign world names so_far
+  IsForeign = Foreign so_far
 
   abbrev is_named : Mount ℕ → Bool
   is_named mount = list_any (λ (other : Mount ℕ). nat_eq mount.number other.number) named
@@ -73,8 +72,8 @@ module _ (world : World ℕ) (names : List TaskName) (apart : IsApart world name
 
   -- Groups of others
   old_foreign : (other : Mount ℕ) → Among other (other_mounts nat_eq world names) → (number : ℕ)
-      → HearsGroup world names so_far world other.propagation number → IsForeign number
-  old_foreign = other_hears_foreign world names so_far
+      → HearsGroup so_far world other.propagation number → IsForeign number
+  old_foreign = other_hears_foreign so_far
 
   named_other : (mount : Mount ℕ) → Among mount named → Among mount (other_mounts nat_eq world names)
   named_other mount m =
@@ -86,7 +85,7 @@ module _ (world : World ℕ) (names : List TaskName) (apart : IsApart world name
 
   set_above : (number above : ℕ) → IsForeign number → set_master number ≡ Some above → IsForeign above
   set_above number above foreign e = ⊎_elim
-      (λ same. foreign_above world names so_far number above foreign (sym same ∙ e))
+      (λ same. foreign_above so_far number above foreign (sym same ∙ e))
       (λ made. after made.0 (named_other made.0 made.1) made.0.propagation refl (sym made.3 ∙ e))
       (new_masters group number named world.master)
     where
@@ -98,7 +97,7 @@ module _ (world : World ℕ) (names : List TaskName) (apart : IsApart world name
       after mount m Unbindable k h = none_is_some above h
 
   abbrev Others : Propagation ℕ → Type 0
-  Others = IsOfOthers world names so_far
+  Others = IsOfOthers so_far
 
   -- the type of a mount of others, once types are set
   retyped_foreign : (other : Mount ℕ) → Among other (other_mounts nat_eq world names)
@@ -106,7 +105,7 @@ module _ (world : World ℕ) (names : List TaskName) (apart : IsApart world name
   retyped_foreign other m = by (is_named other)
     where
       old : Others other.propagation
-      old = old_type world names so_far other m
+      old = old_type so_far other m
 
       made : (number : ℕ) → group other.number ≡ number → IsForeign number
       made number e = let new = new_group other.number in inr (new.0, sym e ∙ new.1)
@@ -128,9 +127,9 @@ module _ (world : World ℕ) (names : List TaskName) (apart : IsApart world name
         λ number e. old_foreign other m number (inl (ap group_of k ∙ ap source_of e)),
       )
       typed ToSlave (Slave g) k = subst Others k old
-      typed ToSlave Private k = of_nobody world names so_far
+      typed ToSlave Private k = of_nobody so_far
       typed ToSlave Unbindable k = unbindable
-      typed ToPrivate kind k = of_nobody world names so_far
+      typed ToPrivate kind k = of_nobody so_far
       typed ToUnbindable kind k = unbindable
 
       by : (b : Bool) → Others
@@ -171,19 +170,19 @@ module _ (world : World ℕ) (names : List TaskName) (apart : IsApart world name
   -- All of it, where some group lost its last member, or none did
   module _ (lost : Bool) where
     abbrev change : Mount ℕ → Mount ℕ
-    change = all_changed world names so_far retype retyped_shape own_same nowhere_same retyped_foreign set_master
+    change = all_changed so_far retype retyped_shape own_same nowhere_same retyped_foreign set_master
         set_above own_set world.tasks world.namespaces (others_rest world names so_far) lost
 
     abbrev retyped : World ℕ
-    retyped = after_all world names so_far retype retyped_shape own_same nowhere_same retyped_foreign set_master
+    retyped = after_all so_far retype retyped_shape own_same nowhere_same retyped_foreign set_master
         set_above own_set world.tasks world.namespaces (others_rest world names so_far) lost
 
     retyped_are : retyped.mounts ≡ map change world.mounts
-    retyped_are = mounts_are world names so_far retype retyped_shape own_same nowhere_same retyped_foreign set_master
+    retyped_are = mounts_are so_far retype retyped_shape own_same nowhere_same retyped_foreign set_master
         set_above own_set world.tasks world.namespaces (others_rest world names so_far) lost
 
     own_stay : (own : Mount ℕ) → Among own (own_mounts nat_eq world names) → change own ≡ own
-    own_stay = own_stays world names so_far retype retyped_shape own_same nowhere_same retyped_foreign set_master
+    own_stay = own_stays so_far retype retyped_shape own_same nowhere_same retyped_foreign set_master
         set_above own_set world.tasks world.namespaces (others_rest world names so_far) lost
 
     -- the sweep may take masters, but not those of groups of theirs
@@ -192,35 +191,33 @@ module _ (world : World ℕ) (names : List TaskName) (apart : IsApart world name
         → ((number : ℕ) → list_any (is_member_of nat_eq number) (own_mounts nat_eq world names) ≡ true
         → master number ≡ retyped.master number)
         → LeavesApart world (record world { mounts = map change world.mounts; master = master }) names []
-    retyping_leaves_apart = regrouping_leaves_apart world names so_far retype retyped_shape own_same nowhere_same
+    retyping_leaves_apart = regrouping_leaves_apart so_far retype retyped_shape own_same nowhere_same
         retyped_foreign set_master set_above own_set world.tasks world.namespaces (others_rest world names so_far) lost
 
 -- what a change of types names is in the namespace
-named_are_in : (world : World ℕ) (names : List TaskName) (apart : IsApart world names) (namespace number : ℕ)
+named_are_in : {world : World ℕ} {names : List TaskName} (apart : IsApart world names) (namespace number : ℕ)
     → (mount_numbered nat_eq world number).namespace ≡ Some namespace → (recursive : Bool) (mount : Mount ℕ)
     → Among mount (named_mounts nat_eq world number recursive) → IsIn world namespace mount
-named_are_in world names apart namespace number placed recursive mount m = by recursive m
+named_are_in {world} {names} apart namespace number placed recursive mount m = by recursive m
   where
     first : IsIn world namespace (mount_numbered nat_eq world number)
     first = grind (arith, common_steps, placed, found_or_none world.mounts number)
 
     by : (recursive : Bool) → Among mount (named_mounts nat_eq world number recursive) → IsIn world namespace mount
-    by true n =
-        tree_in world names apart namespace (length world.mounts) (mount_numbered nat_eq world number) first mount n
+    by true n = tree_in apart namespace (length world.mounts) (mount_numbered nat_eq world number) first mount n
     by false n = ⊎_elim (λ e. subst (IsIn world namespace) (sym e) first) (λ none. absurd none) n
 
-module _ (world : World ℕ) (fresh : Fresh ℕ) (names : List TaskName) (name : TaskName) (call : Call)
-    (task : Task ℕ) (outsider : IsOutsidersCall world fresh names name call)
-    (called : task_called world name ≡ Some task) (number : ℕ) (word : TypeWord) (recursive : Bool)
-    (judged : judge_in nat_eq fresh world task call ≡ Ok (ToSetType number word recursive)) where
+module _ {world : World ℕ} {fresh : Fresh ℕ} {names : List TaskName} {name : TaskName} {call : Call}
+    {task : Task ℕ} (outsider : IsOthersCall world fresh names name call task) (number : ℕ) (word : TypeWord)
+    (recursive : Bool) (judged : judge_in nat_eq fresh world task call ≡ Ok (ToSetType number word recursive)) where
   apart_before : IsApart world names
-  apart_before = apart_if_sealed world names outsider.is outsider.sealed_off
+  apart_before = apart_from outsider.it
 
   for_type : (path : List ℕ) × (call ≡ SetType path word recursive)
   for_type = permits_are_for_their_calls fresh world task call (ToSetType number word recursive) judged
 
   called_so : task_called world task.name ≡ Some task
-  called_so = ap (task_called world) (sym (name_found world name task called)) ∙ called
+  called_so = ap (task_called world) (sym (name_found world name task outsider.called)) ∙ outsider.called
 
   placed : (mount_numbered nat_eq world number).namespace ≡ Some task.namespace
   placed =
@@ -228,8 +225,7 @@ module _ (world : World ℕ) (fresh : Fresh ℕ) (names : List TaskName) (name :
       (ap mounts_overlay for_type.1) judged).names
 
   outside : is_own_namespace nat_eq world names task.namespace ≡ false
-  outside =
-      namespace_outside world names apart_before task (caller_outside world fresh names name call task outsider called)
+  outside = namespace_outside world names apart_before task (caller_outside outsider)
 
   abbrev its_named : List (Mount ℕ)
   its_named = named_mounts nat_eq world number recursive
@@ -241,7 +237,7 @@ module _ (world : World ℕ) (fresh : Fresh ℕ) (names : List TaskName) (name :
   its_new n = (index_of nat_eq its_named n, refl)
 
   its_named_in : (mount : Mount ℕ) → Among mount its_named → IsIn world task.namespace mount
-  its_named_in = named_are_in world names apart_before task.namespace number placed recursive
+  its_named_in = named_are_in apart_before task.namespace number placed recursive
 
   abbrev halfway : World ℕ
   halfway = record world {
@@ -260,12 +256,12 @@ module _ (world : World ℕ) (fresh : Fresh ℕ) (names : List TaskName) (name :
 
   abbrev changes : Mount ℕ → Mount ℕ
   changes =
-      change world names apart_before fresh outsider.serves task.namespace outside its_group its_new word its_named
-      its_named_in has_lost
+      change apart_before fresh outsider.serves task.namespace outside its_group its_new word its_named its_named_in
+      has_lost
 
   done_mounts : done.mounts ≡ map changes world.mounts
   done_mounts =
-      retyped_are world names apart_before fresh outsider.serves task.namespace outside its_group its_new word its_named
+      retyped_are apart_before fresh outsider.serves task.namespace outside its_group its_new word its_named
       its_named_in has_lost
 
   swept : settled nat_eq done ≡ record world { mounts = map changes world.mounts; master = last_master }
@@ -290,10 +286,10 @@ module _ (world : World ℕ) (fresh : Fresh ℕ) (names : List TaskName) (name :
       ap (λ b. cond b (done.master n) None)
       (any_from_among (is_member_of nat_eq n) (filter (mount_lives nat_eq done) done.mounts) own.0
       (among-filter (mount_lives nat_eq done) done.mounts own.0 (subst (Among own.0) (sym done_mounts)
-      (subst (λ x. Among x (map changes world.mounts))
-      (own_stay world names apart_before fresh outsider.serves task.namespace outside its_group its_new word its_named
-      its_named_in has_lost own.0 own.1) (among-map changes world.mounts own.0 at.0)))
-      (or_left (is_some own.0.namespace) _ (lives own.0.namespace at.1))) own.2)
+      (subst (λ x. Among x (map changes world.mounts)) (own_stay apart_before fresh outsider.serves task.namespace
+      outside its_group its_new word its_named its_named_in has_lost own.0 own.1)
+      (among-map changes world.mounts own.0 at.0))) (or_left (is_some own.0.namespace) _ (lives own.0.namespace at.1)))
+      own.2)
     where
       lives : (o : Option ℕ) → holds_of (is_own_namespace nat_eq world names) o ≡ true → is_some o ≡ true
       lives None f = f
@@ -301,5 +297,5 @@ module _ (world : World ℕ) (fresh : Fresh ℕ) (names : List TaskName) (name :
 
   pub type_leaves : LeavesApart world (settled nat_eq done) names []
   type_leaves = subst (λ w. LeavesApart world w names []) (sym swept)
-      (retyping_leaves_apart world names apart_before fresh outsider.serves task.namespace outside its_group its_new
-      word its_named its_named_in has_lost last_master taken_or_not theirs_stay_there)
+      (retyping_leaves_apart apart_before fresh outsider.serves task.namespace outside its_group its_new word its_named
+      its_named_in has_lost last_master taken_or_not theirs_stay_there)

@@ -4,12 +4,12 @@ use Rattle.vt_spec.proofs.Common.{Among, Dot, DotDot, IsWorld, LastWord, Locatio
 use Rattle.vt_spec.specs.declared.errors.Deny.{Deny}
 use Rattle.vt_spec.specs.declared.errors.Rule.TheVariants.{W6}
 use Rattle.vt_spec.specs.Machine.Walking.{hop}
+use Rattle.vt_laws_mounts.proofs.namespaces.Unsharing.{placed_inside}
 use Rattle.vt_laws_trees.proofs.trees.TreesEntered.{chain_ends_at}
 use Rattle.vt_laws_mounts.proofs.mounts.MountsPlaces.{stands_there}
 use Rattle.vt_laws_mounts.proofs.mounts.MountsReplaced.{found_itself}
 use Rattle.vt_laws_worlds.proofs.worlds.Reached.{namespace_below}
 use Rattle.vt_laws_trees.specs.Calls.Searched.{IsSearchedTo, Way}
-use Rattle.vt_laws_sealed.proofs.outsiders.OtherMounts.{nowhere_unplaced}
 use Rattle.vt_laws_trees.specs.Calls.Searched.Way.{arrives, follows, goes_on}
 
 module _ (world : World ℕ) (is : IsWorld nat_eq world) (task : Task ℕ) (there : Among task world.tasks) where
@@ -58,8 +58,8 @@ module _ (world : World ℕ) (is : IsWorld nat_eq world) (task : Task ℕ) (ther
           (among_from_all (λ (x : Mount ℕ). Stands nat_eq world x.number) world.mounts is.mounts.standing child m)
           (ap (λ (x : Mount ℕ). x.mount_point) itself ∙ point) in
           subst OnGround (same_Some (root_of child) b h) (⊎_elim (λ own. inl (same ∙ own))
-          (λ none. absurd (nowhere_unplaced world is.mounts child m
-          (ap (λ (x : Mount ℕ). x.namespace) (sym itself) ∙ same ∙ none.0) a point)) ground)
+          (λ none. absurd (placed_inside world is.mounts child m a point
+          (ap (λ (x : Mount ℕ). x.namespace) (sym itself) ∙ same ∙ none.0))) ground)
 
   pub topmost_ground : (location : Location ℕ) → OnGround location → OnGround (topmost nat_eq world.mounts location)
   topmost_ground location ground =
@@ -74,7 +74,7 @@ module _ (world : World ℕ) (is : IsWorld nat_eq world) (task : Task ℕ) (ther
       inl (sym (namespace_below world number point (subst (Stands nat_eq world) (number-mount_in world.mounts number)
       (among_from_all (λ (x : Mount ℕ). Stands nat_eq world x.number) world.mounts is.mounts.standing
       (mount_numbered nat_eq world number) m)) e) ∙ own)) (λ none. ⊎_elim
-      (λ m. absurd (nowhere_unplaced world is.mounts (mount_numbered nat_eq world number) m none.0 point e))
+      (λ m. absurd (placed_inside world is.mounts (mount_numbered nat_eq world number) m point e none.0))
       (λ missing. none_is_some point (sym (ap (λ (x : Mount ℕ). x.mount_point) missing) ∙ e))
       (found_or_none world.mounts number)) ground
     where

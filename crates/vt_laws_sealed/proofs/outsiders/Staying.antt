@@ -1,15 +1,16 @@
 -- A call of a task outside a sealed set leaves it sealed, if the set sees the same and others stay outside.
-use Rattle.std.proofs.Common.{arith, ◌≡◌, refl, sym, ap, subst, ◌∙◌, ◌⊎◌, inl, inr, ⊎_elim, ℕ, nat_eq, Bool, true, false, List, [], ◌++◌, append-nil, Some, Result, Ok, Err, map, not, ◌||◌}
-use Rattle.vt_spec.proofs.Common.{Among, Answer, Call, Filesystem, Fresh, IsWorld, Permit, Task, TaskName, World, among-append, among-from_filter, among-map, among_from_contains, among_from_list_all, and_from, and_parts, apply, common_steps, filesystems_changed, has_layer_on, holds_all_tasks, is_among, is_among_numbers, is_overlay, judge_in, list_all, list_all_from_among, list_any, no_outsider_on, no_outsider_on_mounts, numbers_raised, only_looks, or_cases, or_left, or_right, overlays, policy, settled, shares_no_events, task_called, used_alone, used_filesystems}
+use Rattle.std.proofs.Common.{arith, ◌≡◌, refl, sym, ap, subst, ◌∙◌, ◌⊎◌, inl, inr, ⊎_elim, ℕ, nat_eq, Bool, true, false, List, [], ◌++◌, append-nil, Result, Ok, Err, map, not, ◌||◌}
+use Rattle.vt_spec.proofs.Common.{Among, Answer, Call, Filesystem, Fresh, IsWorld, Permit, Task, TaskName, World, among-append, among-from_filter, among-map, among_from_contains, among_from_list_all, and_from, and_parts, apply, common_steps, filesystems_changed, has_layer_on, holds_all_tasks, is_among, is_among_numbers, is_overlay, judge_in, list_all, list_all_from_among, list_any, no_outsider_on, no_outsider_on_mounts, numbers_raised, only_looks, or_cases, or_left, or_right, overlays, policy, settled, shares_no_events, used_alone, used_filesystems}
 use Rattle.vt_spec.specs.declared.errors.Deny.{Deny}
 use Rattle.vt_laws_rules.proofs.denials.Unchanged.{look_changes_nothing}
 use Rattle.vt_laws_rules.proofs.rules.OwnRules.{denial_changes_nothing}
+use Rattle.vt_laws_sealed.proofs.outsiders.OthersCalls.{IsOthersCall, apart_from}
 use Rattle.vt_laws_worlds.proofs.overlay_permits.worlds.EveryCall.{every_call_keeps_worlds}
 use Rattle.vt_laws_later_calls.proofs.Granted.{permitted}
 use Rattle.vt_laws_sealed.specs.Part.Parts.{SeesTheSame}
 use Rattle.vt_laws_sealed.specs.Part.Seals.{IsApart}
 use Rattle.vt_laws_sealed.proofs.part.part.Observed.{part_same, used_same}
-use Rattle.vt_laws_sealed.proofs.part.seals.ByPart.{apart_if_sealed, fewer_footholds_seal_too}
+use Rattle.vt_laws_sealed.proofs.part.seals.ByPart.{fewer_footholds_seal_too}
 use Rattle.vt_laws_sealed.specs.Outsiders.{IsOutsidersCall, LeavesItSealed, OutsidersLeaveASealedSet}
 use Rattle.vt_laws_sealed.proofs.outsiders.Raising.{events_raised, on_mounts_raised, sees_raised, tasks_raised, used_alone_raised}
 
@@ -35,15 +36,11 @@ pub record LeavesApart (world left : World ℕ) (names : List TaskName) (changed
   pub unraised : (number : ℕ) → Among number (used_filesystems nat_eq world names)
       → list_any (λ n. nat_eq n number) changed ≡ false
 
--- what leaves the world leaves the set
-pub leaves_itself : (world later : World ℕ) (fresh : Fresh ℕ) (names : List TaskName) (name : TaskName) (call : Call)
-    → IsOutsidersCall world fresh names name call → later ≡ world → LeavesItSealed world later names
-leaves_itself world later fresh names name call outsider same = grind (arith, common_steps)
-
-module _ (world : World ℕ) (fresh : Fresh ℕ) (names : List TaskName) (name : TaskName) (call : Call)
+module _ {world : World ℕ} {fresh : Fresh ℕ} {names : List TaskName} {name : TaskName} {call : Call}
     (outsider : IsOutsidersCall world fresh names name call) where
-  apart : IsApart world names
-  apart = apart_if_sealed world names outsider.is outsider.sealed_off
+  -- what leaves the world leaves the set
+  pub leaves_itself : (later : World ℕ) → later ≡ world → LeavesItSealed world later names
+  leaves_itself later same = grind (arith, common_steps)
 
   module _ (left : World ℕ) (changed : List ℕ)
       (policy_left : (policy nat_eq fresh world name call).world ≡ numbers_raised nat_eq world name changed left)
@@ -52,8 +49,8 @@ module _ (world : World ℕ) (fresh : Fresh ℕ) (names : List TaskName) (name :
     later = numbers_raised nat_eq world name changed left
 
     later_sees : SeesTheSame world later names
-    later_sees = sees_raised world left names name changed outsider.outside leaves.sees outsider.is.mounts apart.events
-        leaves.unraised
+    later_sees = sees_raised world left names name changed outsider.outside leaves.sees outsider.is.mounts
+        (apart_from outsider).events leaves.unraised
 
     later_is : IsWorld nat_eq later
     later_is = subst (IsWorld nat_eq) policy_left
@@ -85,7 +82,7 @@ module _ (world : World ℕ) (fresh : Fresh ℕ) (names : List TaskName) (name :
 
 -- by the permit of the call, if it is granted
 pub by_permit : ((world : World ℕ) (fresh : Fresh ℕ) (names : List TaskName) (name : TaskName) (call : Call)
-    (task : Task ℕ) → IsOutsidersCall world fresh names name call → task_called world name ≡ Some task
+    (task : Task ℕ) → IsOthersCall world fresh names name call task
     → (permit : Permit ℕ) → judge_in nat_eq fresh world task call ≡ Ok permit
     → LeavesApart world (settled nat_eq (apply nat_eq fresh world task permit).world) names
     (filesystems_changed nat_eq world permit)) → OutsidersLeaveASealedSet
@@ -93,19 +90,17 @@ by_permit leaves world fresh names name call outsider = by (policy nat_eq fresh 
   where
     granted : (answer : Answer) → (policy nat_eq fresh world name call).answer ≡ Ok answer → (b : Bool)
         → only_looks call ≡ b → LeavesItSealed world (policy nat_eq fresh world name call).world names
-    granted answer e true looks =
-        leaves_itself world (policy nat_eq fresh world name call).world fresh names name call outsider
+    granted answer e true looks = leaves_itself outsider (policy nat_eq fresh world name call).world
         (look_changes_nothing fresh world name call looks)
     granted answer e false changes =
         let did = permitted world fresh name call answer changes e in
-        leaves_it_sealed world fresh names name call outsider
-        (settled nat_eq (apply nat_eq fresh world did.task did.permit).world)
-        (filesystems_changed nat_eq world did.permit) did.left
-        (leaves world fresh names name call did.task outsider did.called did.permit did.judged)
+        leaves_it_sealed outsider (settled nat_eq (apply nat_eq fresh world did.task did.permit).world)
+        (filesystems_changed nat_eq world did.permit) did.left (leaves world fresh names name call did.task
+        (record { it = outsider; called = did.called }) did.permit did.judged)
 
     by : (answer : Result Answer Deny) → (policy nat_eq fresh world name call).answer ≡ answer
         → LeavesItSealed world (policy nat_eq fresh world name call).world names
-    by (Err deny) e = leaves_itself world (policy nat_eq fresh world name call).world fresh names name call outsider
+    by (Err deny) e = leaves_itself outsider (policy nat_eq fresh world name call).world
         (denial_changes_nothing fresh world name call deny e)
     by (Ok answer) e = granted answer e (only_looks call) refl
 

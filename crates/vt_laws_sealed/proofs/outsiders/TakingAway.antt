@@ -1,13 +1,14 @@
 -- Mounts of others that are taken away: what is left for the set.
 use Rattle.std.proofs.Common.{arith, ◌≡◌, refl, sym, ap, subst, ◌∙◌, ⊎_elim, inl, inr, ℕ, nat_eq, Bool, true, false, cond, true≢false, List, [], Option, Some, None, length, map, option_map}
 use Rattle.vt_spec.proofs.Common.{Among, Location, Mount, Namespace, Private, Stands, Task, TaskName, World, after_going, among-from_filter, among-from_map, among_from_all, common_steps, detached, false_from_ne_true, holds_of, is_going, is_own_mount, is_own_namespace, list_any, lost_a_group, mount_at, mount_numbered, mount_point_left, mount_point_of_parent, none_is_some, other_mounts, own_mounts, pair-map, regrouped_by, same_Some, sealed, settled, taken_away, with_mounts}
+use Rattle.vt_laws_mounts.proofs.namespaces.Unsharing.{placed_inside}
 use Rattle.vt_laws_trees.proofs.trees.TreesEntered.{chain_ends_at}
 use Rattle.vt_laws_mounts.specs.Mounts.Invariants.{OneNumberEach}
 use Rattle.vt_laws_mounts.proofs.mounts.MountsReplaced.{found_itself}
 use Rattle.vt_laws_worlds.proofs.worlds.Reached.{namespace_below}
 use Rattle.vt_laws_sealed.specs.Part.Seals.{IsApart}
 use Rattle.vt_laws_sealed.proofs.outsiders.ChangedWorlds.{OthersMove}
-use Rattle.vt_laws_sealed.proofs.outsiders.OtherMounts.{foreign_above, nowhere_unplaced, standing_apart}
+use Rattle.vt_laws_sealed.proofs.outsiders.OtherMounts.{foreign_above, standing_apart}
 use Rattle.vt_laws_sealed.proofs.outsiders.Regrouping.{IsOfOthers, after_all, all_changed, all_shape, mounts_are, old_type, regrouping_leaves_apart}
 use Rattle.vt_laws_sealed.proofs.outsiders.Reshaping.{IsReshaped, reshaping_keeps}
 use Rattle.vt_laws_sealed.proofs.outsiders.StandingApart.{StandsApart}
@@ -20,7 +21,7 @@ pub namespaces_taken_away : (world : World ℕ) (gone : List ℕ)
 namespaces_taken_away world gone = grind (arith, common_steps)
 
 -- Mounts of others go, and others may be elsewhere. Each mount that goes is in a namespace of others.
-module _ (world : World ℕ) (names : List TaskName) {New : ℕ → Type 0} (apart : StandsApart world names New)
+module _ {world : World ℕ} {names : List TaskName} {New : ℕ → Type 0} (apart : StandsApart world names New)
     (tasks : List (Task ℕ)) (namespaces : List (Namespace ℕ)) (moved : OthersMove world names tasks namespaces)
     (gone : List ℕ) (others_go : (number : ℕ) → is_going nat_eq gone number ≡ true
     → (namespace : ℕ) × ((mount_numbered nat_eq world number).namespace ≡ Some namespace)
@@ -89,11 +90,11 @@ module _ (world : World ℕ) (names : List TaskName) {New : ℕ → Type 0} (apa
   nowhere_same : (mount : Mount ℕ) → Among mount world.mounts → mount.namespace ≡ None → change mount ≡ mount
   nowhere_same mount at none =
       stays mount (nowhere_not_going mount.number (ap (λ (x : Mount ℕ). x.namespace) (itself mount at) ∙ none))
-      (λ point p. absurd (nowhere_unplaced world apart.mounts mount at none point p))
+      (λ point p. absurd (placed_inside world apart.mounts mount at point p none))
 
   kinds : (other : Mount ℕ) → Among other (other_mounts nat_eq world names)
-      → IsOfOthers world names apart (change other).propagation
-  kinds other m = grind (arith, common_steps, old_type world names apart other m)
+      → IsOfOthers apart (change other).propagation
+  kinds other m = grind (arith, common_steps, old_type apart other m)
 
   abbrev halfway : World ℕ
   halfway = with_mounts before (map change world.mounts)
@@ -102,12 +103,12 @@ module _ (world : World ℕ) (names : List TaskName) {New : ℕ → Type 0} (apa
   lost = list_any (lost_a_group nat_eq halfway) halfway.mounts
 
   abbrev regrouped_world : World ℕ
-  regrouped_world = after_all world names apart change shape own_same nowhere_same kinds world.master
-      (foreign_above world names apart) (λ number h. refl) tasks namespaces moved lost
+  regrouped_world = after_all apart change shape own_same nowhere_same kinds world.master
+      (foreign_above apart) (λ number h. refl) tasks namespaces moved lost
 
   abbrev all_change : Mount ℕ → Mount ℕ
-  all_change = all_changed world names apart change shape own_same nowhere_same kinds world.master
-      (foreign_above world names apart) (λ number h. refl) tasks namespaces moved lost
+  all_change = all_changed apart change shape own_same nowhere_same kinds world.master
+      (foreign_above apart) (λ number h. refl) tasks namespaces moved lost
 
   abbrev left : World ℕ
   left = record world {
@@ -123,8 +124,8 @@ module _ (world : World ℕ) (names : List TaskName) {New : ℕ → Type 0} (apa
     master = regrouped_world.master;
     namespaces = namespaces;
     tasks = tasks;
-  }) (mounts_are world names apart change shape own_same nowhere_same kinds world.master
-      (foreign_above world names apart) (λ number h. refl) tasks namespaces moved lost)
+  }) (mounts_are apart change shape own_same nowhere_same kinds world.master
+      (foreign_above apart) (λ number h. refl) tasks namespaces moved lost)
     where
       with_names : World ℕ
       with_names = record halfway { namespaces = namespaces }
@@ -141,17 +142,17 @@ module _ (world : World ℕ) (names : List TaskName) {New : ℕ → Type 0} (apa
   one_each : OneNumberEach left
   one_each =
       let keeps = reshaping_keeps all_change
-      (all_shape world names apart change shape own_same nowhere_same kinds world.master
-      (foreign_above world names apart) (λ number h. refl) tasks namespaces moved lost) in
+      (all_shape apart change shape own_same nowhere_same kinds world.master
+      (foreign_above apart) (λ number h. refl) tasks namespaces moved lost) in
       grind (arith, common_steps, pair-map)
 
   abbrev pub taken : World ℕ
   taken = record (taken_away nat_eq before gone) { namespaces = namespaces }
 
   left_leaves_apart : LeavesApart world left names []
-  left_leaves_apart = regrouping_leaves_apart world names apart change shape own_same nowhere_same kinds world.master
-      (foreign_above world names apart) (λ number h. refl) tasks namespaces moved lost
-      regrouped_world.master (λ number. inl refl) (λ number h. refl)
+  left_leaves_apart = regrouping_leaves_apart apart change shape own_same nowhere_same kinds world.master
+      (foreign_above apart) (λ number h. refl) tasks namespaces moved lost regrouped_world.master (λ number. inl refl)
+      (λ number h. refl)
 
   pub taken_leaves_apart : LeavesApart world taken names []
   taken_leaves_apart = subst (λ w. LeavesApart world w names []) (sym world_left) left_leaves_apart
@@ -169,8 +170,8 @@ module _ (world : World ℕ) (names : List TaskName) {New : ℕ → Type 0} (apa
       let from = among-from_map all_change world.mounts mount
       (subst (λ (w : World ℕ). Among mount w.mounts) world_left m) in
       let keeps = reshaping_keeps all_change
-      (all_shape world names apart change shape own_same nowhere_same kinds world.master
-      (foreign_above world names apart) (λ number h. refl) tasks namespaces moved lost) in (
+      (all_shape apart change shape own_same nowhere_same kinds world.master
+      (foreign_above apart) (λ number h. refl) tasks namespaces moved lost) in (
         from.0,
         from.1,
         sym (keeps.number from.0) ∙ sym (ap (λ (x : Mount ℕ). x.number) from.2),
@@ -189,7 +190,6 @@ pub taking_leaves_apart : (world : World ℕ) (names : List TaskName) → IsApar
     names []
 taking_leaves_apart world names apart sealed_off tasks namespaces moved gone others_go =
     let so_far = standing_apart world names apart in
-    sweeping_leaves_apart world (taken world names so_far tasks namespaces moved gone others_go) names apart sealed_off
-    (filesystems_taken world names so_far tasks namespaces moved gone others_go)
-    (one_taken world names so_far tasks namespaces moved gone others_go) []
-    (taken_leaves_apart world names so_far tasks namespaces moved gone others_go)
+    sweeping_leaves_apart world (taken so_far tasks namespaces moved gone others_go) names apart sealed_off
+    (filesystems_taken so_far tasks namespaces moved gone others_go) (one_taken so_far tasks namespaces moved gone
+    others_go) [] (taken_leaves_apart so_far tasks namespaces moved gone others_go)

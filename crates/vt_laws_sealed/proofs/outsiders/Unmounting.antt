@@ -1,6 +1,8 @@
 -- Mounts of others that are unmounted, with those that an event takes away: umount(2).
 use Rattle.std.proofs.Common.{arith, ◌≡◌, refl, sym, ap, subst, ◌∙◌, ⊎_elim, ℕ, nat_eq, Bool, true, false, true≢false, List, [], ◌∷◌, Option, Some, None, Ok, map, option_map, unwrap_or, filter_map}
 use Rattle.vt_spec.proofs.Common.{Among, Call, Fresh, Location, Mount, Stands, Task, TaskName, ToUnmount, Umount, World, among-filter, among-from_filter, among-from_filter_map, among-from_map, among_from_all, among_numbers, apply, child_at, common_steps, contains_from_among, false_from_ne_true, found_among, found_or_none, found_passes, goes_at, going, going_at, going_from, group_of, holds_of, is_going, is_own_mount, is_own_namespace, is_shared, judge_in, mount_at, mount_numbered, none_is_some, number-mount_in, other_mounts, own_mounts, receivers, receivers_of, receives, settled, stands_at, task_called}
+use Rattle.vt_laws_mounts.proofs.namespaces.Unsharing.{placed_inside}
+use Rattle.vt_laws_sealed.proofs.outsiders.OthersCalls.{IsOthersCall, apart_from}
 use Rattle.vt_laws_trees.specs.Trees.Calls.{mounts_overlay}
 use Rattle.vt_laws_mounts.proofs.mounts.MountsPlaces.{stands_there}
 use Rattle.vt_laws_mounts.proofs.mounts.MountsReplaced.{found_itself}
@@ -10,17 +12,15 @@ use Rattle.vt_laws_worlds.proofs.worlds.FitPermitsNamed.{all_permits_fit}
 use Rattle.vt_laws_worlds.proofs.worlds.Reached.{namespace_below}
 use Rattle.vt_laws_sealed.specs.Part.Seals.{IsApart}
 use Rattle.vt_laws_sealed.proofs.part.groups.EventsApart.{no_event_of_others_reaches_them}
-use Rattle.vt_laws_sealed.proofs.part.seals.ByPart.{apart_if_sealed}
-use Rattle.vt_laws_sealed.specs.Outsiders.{IsOutsidersCall}
 use Rattle.vt_laws_sealed.proofs.outsiders.ChangedWorlds.{others_rest}
-use Rattle.vt_laws_sealed.proofs.outsiders.OtherMounts.{is_other, namespace_outside, nowhere_unplaced, standing_apart}
+use Rattle.vt_laws_sealed.proofs.outsiders.OtherMounts.{is_other, namespace_outside, standing_apart}
 use Rattle.vt_laws_sealed.proofs.outsiders.OwnTasks.{caller_outside}
 use Rattle.vt_laws_sealed.proofs.outsiders.StandingApart.{NothingNew, StandsApart}
 use Rattle.vt_laws_sealed.proofs.outsiders.Staying.{LeavesApart}
 use Rattle.vt_laws_sealed.proofs.outsiders.TakingAway.{namespaces_taken_away, taking_leaves_apart}
 
 -- The mounts that the unmount event of a mount of others takes away are of others.
-module _ (world : World ℕ) (names : List TaskName) {New : ℕ → Type 0} (apart : StandsApart world names New)
+module _ {world : World ℕ} {names : List TaskName} {New : ℕ → Type 0} (apart : StandsApart world names New)
     (namespace : ℕ) (outside : is_own_namespace nat_eq world names namespace ≡ false)
     (number : ℕ) (placed : (mount_numbered nat_eq world number).namespace ≡ Some namespace) where
   abbrev IsOfOthersAt : ℕ → Type 0
@@ -107,7 +107,7 @@ module _ (world : World ℕ) (names : List TaskName) {New : ℕ → Type 0} (apa
             → (o : Option ℕ) → child.namespace ≡ o
             → ((n : ℕ) → child.namespace ≡ Some n → is_own_namespace nat_eq world names n ≡ true → ⊥)
             → mount_numbered nat_eq world k ≡ child → IsOfOthersAt k
-        by child m place stands None e no_own it = absurd (nowhere_unplaced world apart.mounts child m e place stands)
+        by child m place stands None e no_own it = absurd (placed_inside world apart.mounts child m place stands e)
         by child m place stands (Some n) e no_own it = (
           n,
           ap (λ (x : Mount ℕ). x.namespace) it ∙ e,
@@ -127,12 +127,11 @@ module _ (world : World ℕ) (names : List TaskName) {New : ℕ → Type 0} (apa
       by None e m = its_own k m
       by (Some point) e m = shared point e (is_shared (mount_at nat_eq world point).propagation) m
 
-module _ (world : World ℕ) (fresh : Fresh ℕ) (names : List TaskName) (name : TaskName) (call : Call)
-    (task : Task ℕ) (outsider : IsOutsidersCall world fresh names name call)
-    (called : task_called world name ≡ Some task) (number : ℕ)
+module _ {world : World ℕ} {fresh : Fresh ℕ} {names : List TaskName} {name : TaskName} {call : Call}
+    {task : Task ℕ} (outsider : IsOthersCall world fresh names name call task) (number : ℕ)
     (judged : judge_in nat_eq fresh world task call ≡ Ok (ToUnmount number)) where
   set_apart : IsApart world names
-  set_apart = apart_if_sealed world names outsider.is outsider.sealed_off
+  set_apart = apart_from outsider.it
 
   abbrev so_far : StandsApart world names NothingNew
   so_far = standing_apart world names set_apart
@@ -142,7 +141,7 @@ module _ (world : World ℕ) (fresh : Fresh ℕ) (names : List TaskName) (name :
 
   placed_in : (mount_numbered nat_eq world number).namespace ≡ Some task.namespace
   placed_in = (all_permits_fit world fresh task call (ToUnmount number) outsider.is outsider.serves
-      (ap (task_called world) (sym (name_found world name task called)) ∙ called)
+      (ap (task_called world) (sym (name_found world name task outsider.called)) ∙ outsider.called)
       (ap mounts_overlay for_umount.1) judged).names.0
 
   abbrev gone : List ℕ
@@ -152,6 +151,5 @@ module _ (world : World ℕ) (fresh : Fresh ℕ) (names : List TaskName) (name :
       names []
   unmount_leaves = subst (λ w. LeavesApart world (settled nat_eq w) names []) (namespaces_taken_away world gone)
       (taking_leaves_apart world names set_apart outsider.sealed_off world.tasks world.namespaces
-      (others_rest world names so_far) gone (others_go world names so_far task.namespace
-      (namespace_outside world names set_apart task (caller_outside world fresh names name call task outsider called))
-      number placed_in))
+      (others_rest world names so_far) gone (others_go so_far task.namespace
+      (namespace_outside world names set_apart task (caller_outside outsider)) number placed_in))

@@ -1,15 +1,14 @@
 -- Others that get a namespace of their own, with copies of the mounts of theirs: unshare(2) with CLONE_NEWNS.
 use Rattle.std.proofs.Common.{arith, ◌≡◌, refl, sym, ap, subst, ◌∙◌, ◌⊎◌, inl, inr, ⊎_elim, ℕ, nat_eq, Bool, true, false, cond, true≢false, List, [], ◌∷◌, ◌++◌, append-nil, Option, Some, None, filter, flat_map, map, ◌+◌, ◌*◌, not, eqb-true, filter_map}
-use Rattle.vt_spec.proofs.Common.{Among, Call, Fresh, Location, Mount, Namespace, Propagation, Serves, Task, TaskName, ToUnshare, World, all_locations, among-append, among-append_left, among-filter, among-flat_map, among-from_filter, among-from_flat_map, among-from_map, among-map, among_from_list_all, among_numbers, and_from, and_parts, any_among, apply, common_steps, copied_mount, evens, false_from_ne_true, filter-append, filter_map-append, holds_of, index_of, is_among_numbers, is_among_right, is_at, is_copied, is_listed, is_member_task, is_own_mount, is_own_namespace, list_all, list_all_from_among, list_any, location_on_copy, locations, locations_of, master_of, members, mount_at, mount_numbered, mounts_of, namespaces_ended, no_outsider_on, none_among, none_from_among, not-true, numbers_by, odds, other_mounts, outsiders, roots_and_directories, settled, task_called, unshared, unshared_task, used_by_filesystem, used_by_mount}
+use Rattle.vt_spec.proofs.Common.{Among, Call, Fresh, Location, Mount, Namespace, Propagation, Serves, Task, TaskName, ToUnshare, World, all_locations, among-append, among-append_left, among-filter, among-flat_map, among-from_filter, among-from_flat_map, among-from_map, among-map, among_from_list_all, among_numbers, and_from, and_parts, any_among, apply, common_steps, copied_mount, evens, false_from_ne_true, filter-append, filter_map-append, holds_of, index_of, is_among_numbers, is_among_right, is_at, is_copied, is_listed, is_member_task, is_own_mount, is_own_namespace, list_all, list_all_from_among, list_any, location_on_copy, locations, locations_of, master_of, members, mount_at, mount_numbered, mounts_of, namespaces_ended, no_outsider_on, none_among, none_from_among, not-true, numbers_by, odds, other_mounts, outsiders, roots_and_directories, settled, unshared, unshared_task, used_by_filesystem, used_by_mount}
 use Rattle.vt_laws_mounts.proofs.ends.Ending.{ended_namespaces_keep_mounts}
 use Rattle.vt_laws_mounts.proofs.namespaces.Unsharing.{unshare_keeps_mounts}
+use Rattle.vt_laws_sealed.proofs.outsiders.OthersCalls.{IsOthersCall, apart_from}
 use Rattle.vt_laws_worlds.proofs.worlds.Roots.{found_copy}
 use Rattle.vt_laws_sealed.specs.Part.Parts.{SeesTheSame}
 use Rattle.vt_laws_sealed.specs.Part.Seals.{IsApart}
 use Rattle.vt_laws_sealed.proofs.part.part.Observed.{own_mounts_same}
 use Rattle.vt_laws_sealed.proofs.part.part.PartOfPart.{keep}
-use Rattle.vt_laws_sealed.proofs.part.seals.ByPart.{apart_if_sealed}
-use Rattle.vt_laws_sealed.specs.Outsiders.{IsOutsidersCall}
 use Rattle.vt_laws_sealed.proofs.outsiders.Attaching.{found_first, none_kept}
 use Rattle.vt_laws_sealed.proofs.outsiders.Ending.{ended_leaves_apart, filesystems_ended}
 use Rattle.vt_laws_sealed.proofs.outsiders.OtherMounts.{HearsGroup, events_stay_apart, is_other, located_there, namespace_outside, not_stood_on, number_not_new, other_hears_foreign, standing_apart}
@@ -19,7 +18,7 @@ use Rattle.vt_laws_sealed.proofs.outsiders.Staying.{IsOfTheWorld, LeavesApart, f
 use Rattle.vt_laws_sealed.proofs.outsiders.Steps.{leaves_on}
 use Rattle.vt_laws_sealed.proofs.outsiders.Sweeping.{sweeping_leaves_apart}
 
-module _ (world : World ℕ) (names : List TaskName) (apart : IsApart world names) (fresh : Fresh ℕ)
+module _ {world : World ℕ} {names : List TaskName} (apart : IsApart world names) (fresh : Fresh ℕ)
     (serves : Serves nat_eq world fresh) (task : Task ℕ) (caller : Among task (outsiders world names)) where
   abbrev copied : List (Mount ℕ)
   copied = mounts_of nat_eq world task.namespace
@@ -94,7 +93,7 @@ module _ (world : World ℕ) (names : List TaskName) (apart : IsApart world name
   not_located places all mount is_copy =
       none_from_among (λ (l : Location ℕ). nat_eq l.mount mount.number) places (λ l m.
       false_from_ne_true (nat_eq l.mount mount.number) (λ e.
-      let there = located_there world names apart l (all l m) in
+      let there = located_there apart l (all l m) in
       number_not_new world fresh serves there.0 (2 * index_of nat_eq copied is_copy.0.number + 1) there.1
       (sym (eqb-true l.mount there.0.number there.2) ∙ eqb-true l.mount mount.number e
       ∙ ap (λ (x : Mount ℕ). x.number) is_copy.2)))
@@ -192,7 +191,7 @@ module _ (world : World ℕ) (names : List TaskName) (apart : IsApart world name
     old_at : (location : Location ℕ) → Among location (locations (outsiders world names))
         → mount_at nat_eq left location ≡ mount_at nat_eq world location
     old_at location m =
-        let there = located_there world names apart location (of_others location m) in
+        let there = located_there apart location (of_others location m) in
         found_first location.mount world.mounts copies there.0 there.1 there.2
 
     -- a mount of others was one, or is a copy
@@ -209,8 +208,8 @@ module _ (world : World ℕ) (names : List TaskName) (apart : IsApart world name
     masters_are : (kind : Propagation ℕ) → master_of left kind ≡ master_of world kind
     masters_are kind = grind (arith, common_steps)
 
-    hears : (kind : Propagation ℕ) (group : ℕ) → HearsGroup world names so_far left kind group
-        → HearsGroup world names so_far world kind group
+    hears : (kind : Propagation ℕ) (group : ℕ) → HearsGroup so_far left kind group
+        → HearsGroup so_far world kind group
     hears kind group how = ⊎_elim inl (λ e. inr (sym (masters_are kind) ∙ e)) how
 
     fewer : (n : ℕ) → IsOfTheWorld world names n → no_outsider_on nat_eq world names n ≡ true
@@ -236,12 +235,12 @@ module _ (world : World ℕ) (names : List TaskName) (apart : IsApart world name
         tasks = ap (λ some. list_all (λ (t : Task ℕ). not (own_by some t.namespace)) (outsiders left names)) same
             ∙ list_all_from_among (λ (t : Task ℕ). not (is_own t.namespace)) (outsiders left names)
             (λ t m. ap not (out_placed t m));
-        events = events_stay_apart world names so_far left (own_mounts_same world left names sees)
+        events = events_stay_apart so_far left (own_mounts_same world left names sees)
             (λ own m. masters_are own.propagation) (λ other m group how. ⊎_elim
-            (λ old. other_hears_foreign world names so_far other old group (hears other.propagation group how))
-            (λ is_copy. other_hears_foreign world names so_far is_copy.0 (old_other is_copy.0 is_copy.1) group
-            (hears is_copy.0.propagation group
-            (subst (λ (x : Mount ℕ). HearsGroup world names so_far left x.propagation group) is_copy.2 how)))
+            (λ old. other_hears_foreign so_far other old group (hears other.propagation group how))
+            (λ is_copy. other_hears_foreign so_far is_copy.0 (old_other is_copy.0 is_copy.1) group
+            (hears is_copy.0.propagation group (subst (λ (x : Mount ℕ). HearsGroup so_far left x.propagation group)
+            is_copy.2 how)))
             (others_from other m));
         locations =
             ap (λ some. list_all (λ location. not (holds_of (own_by some) (mount_at nat_eq left location).namespace))
@@ -269,7 +268,7 @@ module _ (world : World ℕ) (names : List TaskName) (apart : IsApart world name
       locations = copied_leaves_apart.others.locations;
       not_stood = λ namespace outside mount there placed.
           ap (λ some. is_at nat_eq (roots_and_directories some) mount) same ∙ ⊎_elim
-          (λ old. not_stood_on world names apart namespace (sym (own_left namespace) ∙ outside) mount old placed)
+          (λ old. not_stood_on apart namespace (sym (own_left namespace) ∙ outside) mount old placed)
           (λ new. not_located (roots_and_directories theirs) roots_located mount (copies_are mount new))
           (among-append world.mounts copies mount there);
       own_listed = λ n own.
@@ -290,24 +289,23 @@ module _ (world : World ℕ) (names : List TaskName) (apart : IsApart world name
 
     pub unsharing_leaves_apart : LeavesApart world (namespaces_ended nat_eq left) names []
     unsharing_leaves_apart = leaves_on world left (namespaces_ended nat_eq left) names refl copied_leaves_apart
-        (ended_leaves_apart left names copied_standing left.tasks refl left_placed
-        (λ location m. inl (location, m, refl)))
+        (ended_leaves_apart copied_standing left.tasks refl left_placed (λ location m. inl (location, m, refl)))
 
     pub filesystems_unshared : (namespaces_ended nat_eq left).filesystems ≡ world.filesystems
     filesystems_unshared =
-        filesystems_ended left names copied_standing left.tasks refl left_placed (λ location m. inl (location, m, refl))
+        filesystems_ended copied_standing left.tasks refl left_placed (λ location m. inl (location, m, refl))
 
-pub unshare_leaves : (world : World ℕ) (fresh : Fresh ℕ) (names : List TaskName) (name : TaskName) (call : Call)
-    (task : Task ℕ) → IsOutsidersCall world fresh names name call → task_called world name ≡ Some task
-    → LeavesApart world (settled nat_eq (apply nat_eq fresh world task ToUnshare).world) names []
-unshare_leaves world fresh names name call task outsider called =
-    let set_apart = apart_if_sealed world names outsider.is outsider.sealed_off in
-    let caller = caller_outside world fresh names name call task outsider called in
-    let moved_task = unshared_task nat_eq (mounts_of nat_eq world task.namespace)
-    (numbers_by nat_eq (odds fresh) (mounts_of nat_eq world task.namespace)) (evens fresh 0) task in
-    let same = replaced_members world fresh names name call task outsider called moved_task refl in
-    sweeping_leaves_apart world (namespaces_ended nat_eq (unshared nat_eq world fresh task)) names set_apart
-    outsider.sealed_off (filesystems_unshared world names set_apart fresh outsider.serves task caller same)
-    (ended_namespaces_keep_mounts (unshared nat_eq world fresh task)
-    (unshare_keeps_mounts world fresh task outsider.serves outsider.is.mounts)).one_number []
-    (unsharing_leaves_apart world names set_apart fresh outsider.serves task caller same)
+module _ {world : World ℕ} {fresh : Fresh ℕ} {names : List TaskName} {name : TaskName} {call : Call}
+    {task : Task ℕ} (outsider : IsOthersCall world fresh names name call task) where
+  pub unshare_leaves : LeavesApart world (settled nat_eq (apply nat_eq fresh world task ToUnshare).world) names []
+  unshare_leaves =
+      let set_apart = apart_from outsider.it in
+      let caller = caller_outside outsider in
+      let moved_task = unshared_task nat_eq (mounts_of nat_eq world task.namespace)
+      (numbers_by nat_eq (odds fresh) (mounts_of nat_eq world task.namespace)) (evens fresh 0) task in
+      let same = replaced_members outsider moved_task refl in
+      sweeping_leaves_apart world (namespaces_ended nat_eq (unshared nat_eq world fresh task)) names set_apart
+      outsider.sealed_off (filesystems_unshared set_apart fresh outsider.serves task caller same)
+      (ended_namespaces_keep_mounts (unshared nat_eq world fresh task) (unshare_keeps_mounts world fresh task
+      outsider.serves outsider.is.mounts)).one_number [] (unsharing_leaves_apart set_apart fresh outsider.serves task
+      caller same)

@@ -1,27 +1,17 @@
 -- Where a task gets: to mounts of its namespace, or where it stands. These show what it sees.
 use Rattle.std.proofs.Common.{arith, ◌≡◌, refl, sym, ap, subst, ◌∙◌, ◌⊎◌, inl, inr, ⊎_elim, ℕ, nat_eq, Bool, true, false, List, [], ◌∷◌, ◌++◌, ◌||◌, Option, Some, None, Ok, Err, Result, flat_map, length, eqb-true, ok_or, option_map, option_to_list}
-use Rattle.vt_spec.proofs.Common.{Among, Dot, DotDot, IsWorld, LastWord, Location, Looks, Mount, Named, NoWord, Stands, Task, World, among-append, among-filter, among-from_map, among_from_all, among_from_list_all, and_parts, and_then, any_from_among, chain, child_at, common_steps, denial, entered_upward, entry_location, filesystems_of, found_among, found_or_none, found_passes, holds_of, hops, is_directory_seen_in, last_or, list_any, looks_of, met_at, met_by, mount_at, mount_numbered, mounts_of, nat_eq_itself, none_is_some, number-mount_in, object_named, root_of, same_Some, stands_at, stands_on_directories, start_of, stepped, task_called, up_from}
+use Rattle.vt_spec.proofs.Common.{Among, Dot, DotDot, IsWorld, LastWord, Location, Looks, Mount, Named, NoWord, Stands, Task, World, among-append, among-filter, among-from_map, among_from_list_all, and_parts, and_then, any_from_among, child_at, common_steps, denial, entered_upward, entry_location, filesystems_of, found_among, found_or_none, found_passes, holds_of, hops, is_directory_seen_in, last_or, list_any, looks_of, met_at, met_by, mount_at, mount_numbered, mounts_of, nat_eq_itself, none_is_some, number-mount_in, object_named, root_of, same_Some, stands_at, stands_on_directories, start_of, stepped, task_called, up_from}
 use Rattle.vt_spec.specs.declared.errors.Deny.{Deny}
 use Rattle.vt_spec.specs.declared.errors.Rule.TheVariants.{W6}
 use Rattle.vt_spec.specs.Machine.Looks.{topmost}
 use Rattle.vt_spec.specs.Machine.Walking.{hop}
 use Rattle.vt_laws_mounts.proofs.mounts.MountsPlaces.{stands_there}
 use Rattle.vt_laws_mounts.proofs.mounts.MountsReplaced.{found_itself}
+use Rattle.vt_laws_mounts.proofs.namespaces.Unsharing.{placed_inside, stands_itself}
+use Rattle.vt_laws_turns.proofs.walks.alike.StepsAlike.{chain_start, last_among}
 use Rattle.vt_laws_worlds.proofs.worlds.Reached.{namespace_below}
-use Rattle.vt_laws_turns.proofs.walks.alike.MountsAlike.{chain_each, nowhere_unplaced}
+use Rattle.vt_laws_turns.proofs.walks.alike.MountsAlike.{chain_each}
 use Rattle.vt_laws_turns.specs.Holds.Held.{is_seen_by}
-
--- a chain ends with one of its own
-last_among : {A : Type 0} (list : List A) (a : A) → Among a list → Among (last_or a list) list
-last_among [] a m = absurd m
-last_among {A} (b ∷ list) a m = by list b
-  where
-    by : (rest : List A) (b : A) → Among (last_or b rest) (b ∷ rest)
-    by [] b = inl refl
-    by (c ∷ rest) b = inr (by rest c)
-
-chain_start : {A : Type 0} (next : A → Option A) (n : ℕ) (a : A) → Among a (chain n next a)
-chain_start next n a = grind (arith, common_steps)
 
 module _ (world : World ℕ) (is : IsWorld nat_eq world) (task : Task ℕ)
     (called : task_called world task.name ≡ Some task) where
@@ -104,10 +94,6 @@ module _ (world : World ℕ) (is : IsWorld nat_eq world) (task : Task ℕ)
       → OnGround (start_of task directory text)
   start_ground directory text ground = grind (arith, common_steps, root_ground)
 
-  standing : (mount : Mount ℕ) → Among mount world.mounts → Stands nat_eq world mount.number
-  standing mount m =
-      among_from_all (λ (x : Mount ℕ). Stands nat_eq world x.number) world.mounts is.mounts.standing mount m
-
   -- a child is on the same ground
   child_ground : (a b : Location ℕ) → OnGround a → option_map root_of (child_at nat_eq world.mounts a) ≡ Some b
       → OnGround b
@@ -119,11 +105,11 @@ module _ (world : World ℕ) (is : IsWorld nat_eq world) (task : Task ℕ)
           let m = found_among (stands_at nat_eq a) world.mounts child f in
           let itself = found_itself world.mounts is.mounts.one_number child m in
           let point = stands_there a child (found_passes (stands_at nat_eq a) world.mounts child f) in
-          let same = namespace_below world child.number a (standing child m)
+          let same = namespace_below world child.number a (stands_itself world is.mounts child m)
           (ap (λ (x : Mount ℕ). x.mount_point) itself ∙ point) in
           subst OnGround (same_Some (root_of child) b h) (⊎_elim (λ own. inl (same ∙ own))
-          (λ none. absurd (nowhere_unplaced world is.mounts child a m
-          (ap (λ (x : Mount ℕ). x.namespace) (sym itself) ∙ same ∙ none.0) point)) ground)
+          (λ none. absurd (placed_inside world is.mounts child m a point
+          (ap (λ (x : Mount ℕ). x.namespace) (sym itself) ∙ same ∙ none.0))) ground)
 
   -- so are the mounts over a location
   pub over_ground : (here : Location ℕ) → OnGround here → (l : Location ℕ) → Among l (looks.mounts_over here)
@@ -141,8 +127,9 @@ module _ (world : World ℕ) (is : IsWorld nat_eq world) (task : Task ℕ)
       → (mount_numbered nat_eq world number).mount_point ≡ Some point → OnGround point
   parent_ground number point ground e = ⊎_elim (λ own.
       inl (sym (namespace_below world number point (subst (Stands nat_eq world) (number-mount_in world.mounts number)
-      (standing (mount_numbered nat_eq world number) (own_there number own))) e) ∙ own)) (λ none. ⊎_elim
-      (λ m. absurd (nowhere_unplaced world is.mounts (mount_numbered nat_eq world number) point m none.0 e))
+      (stands_itself world is.mounts (mount_numbered nat_eq world number) (own_there number own))) e) ∙ own))
+      (λ none. ⊎_elim
+      (λ m. absurd (placed_inside world is.mounts (mount_numbered nat_eq world number) m point e none.0))
       (λ missing. none_is_some point (sym (ap (λ (x : Mount ℕ). x.mount_point) missing) ∙ e))
       (found_or_none world.mounts number)) ground
 

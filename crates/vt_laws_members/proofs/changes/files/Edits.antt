@@ -1,8 +1,9 @@
 -- What calls that write and that set attributes are granted: an edit of a file on a mount of theirs.
 use Rattle.std.proofs.Common.{arith, ◌≡◌, refl, ℕ, nat_eq, eqb-true, Bool, true, List, [], ◌∷◌, Option, Some, None, Ok, flat_map, length, IfOk, nat_lt}
-use Rattle.vt_spec.proofs.Common.{Among, Change, FileTree, Here, IsWorld, Location, Looks, Node, Permit, Place, SetAttr, SetBytes, SetMark, Task, TaskName, ToChange, World, admin_rules, and_then, attr_at, attr_permit, attr_rules, attr_with_mode, attr_with_owner, changed, changed_node, chmod_permit, chown_permit, common_steps, directory_walk, entries-node_with_attr, entries-node_with_bytes, entries-node_with_mark, entries_in, file_mode, file_walk, file_word_rules, is_among, largest_file, looks_of, make_permit, make_rules, may_chown, members, named_in, new_file, object_walk, opaque_permit, opaque_rules, owns, part_of, rewrite_rules, sealed, targets_in, unless, unnumbered, used_filesystems, walk_end, write_permit, written_permit, ⊤}
+use Rattle.vt_spec.proofs.Common.{Change, FileTree, Here, Location, Looks, Node, Permit, Place, SetAttr, SetBytes, SetMark, Task, TaskName, ToChange, World, admin_rules, and_then, attr_at, attr_permit, attr_rules, attr_with_mode, attr_with_owner, changed, changed_node, chmod_permit, chown_permit, common_steps, directory_walk, entries-node_with_attr, entries-node_with_bytes, entries-node_with_mark, entries_in, file_mode, file_walk, file_word_rules, is_among, largest_file, looks_of, make_permit, make_rules, may_chown, named_in, new_file, object_walk, opaque_permit, opaque_rules, owns, part_of, rewrite_rules, targets_in, unless, unnumbered, used_filesystems, walk_end, write_permit, written_permit, ⊤}
 use Rattle.vt_spec.specs.declared.attributes.Attr.{Attr}
 use Rattle.vt_spec.specs.declared.errors.Rule.TheVariants.{E6}
+use Rattle.vt_laws_members.proofs.judging.TheirCalls.{IsMember}
 use Rattle.vt_laws_members.specs.Judging.{is_theirs}
 use Rattle.vt_laws_members.proofs.judging.AllJudged.{judges}
 use Rattle.vt_laws_members.proofs.judging.Judged.{JudgesAlike}
@@ -39,8 +40,7 @@ abbrev pub Edits : (own : ℕ → Bool) → Permit ℕ → Type 0
 Edits own (ToChange location change) = (own location.mount ≡ true) × IsEdit change
 Edits own permit = ⊤
 
-module _ (world : World ℕ) (names : List TaskName) (is : IsWorld nat_eq world)
-    (sealed_off : sealed nat_eq world names ≡ true) (task : Task ℕ) (member : Among task (members world names)) where
+module _ {world : World ℕ} {names : List TaskName} {task : Task ℕ} (member : IsMember world names task) where
   abbrev one : Looks ℕ
   one = looks_of nat_eq world
 
@@ -55,7 +55,7 @@ module _ (world : World ℕ) (names : List TaskName) (is : IsWorld nat_eq world)
 
   alike : JudgesAlike one other task (is_theirs world names)
       (λ number. is_among nat_eq number (used_filesystems nat_eq world names))
-  alike = judges world names is sealed_off task member
+  alike = judges member
 
   abbrev StandsHere : Here ℕ → Type 0
   StandsHere = HereAt one other task On alike.walks alike.directory alike.rules.removed

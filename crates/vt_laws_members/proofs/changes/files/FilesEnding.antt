@@ -2,6 +2,7 @@
 use Rattle.std.proofs.Common.{arith, ◌≡◌, refl, sym, ap, subst, ◌∙◌, ℕ, nat_eq, true, false, true≢false, List, [], ◌∷◌, Option, Some, None, Ok, filter, is_some, map, ◌||◌, IfOk}
 use Rattle.vt_spec.proofs.Common.{Among, Call, Change, Done, FileTree, Filesystem, Fresh, Location, Overlay, Task, TaskName, ToChange, World, changed_at, common_steps, filesystem_at, filesystem_changed, finished_by, granted, is_among, is_member_task, is_overlay, judge_in, mount_at, numbers_of_change, numbers_raised, only_looks, part_of, policy, raised_task, settled, task_called, used_filesystems, with_change}
 use Rattle.vt_spec.specs.Language.Changes
+use Rattle.vt_laws_members.proofs.judging.TheirCalls.{caller_in, sealing_of}
 use Rattle.vt_laws_mounts.specs.LettingGo.InUse.{AllInUse}
 use Rattle.vt_laws_mounts.specs.LettingGo.TreesOverlays.{with_filesystems}
 use Rattle.vt_laws_mounts.proofs.letting_go.Lists.{filter-map}
@@ -15,7 +16,7 @@ use Rattle.vt_laws_members.proofs.changes.files.Edits.{Edits, IsEdit, chmods_edi
 use Rattle.vt_laws_members.proofs.changes.files.FilesInUse.{in_use_changed, tree_changes}
 use Rattle.vt_laws_members.proofs.changes.files.OneFilesystem.{old_used, one_in_part, one_in_world}
 use Rattle.vt_laws_members.proofs.changes.files.FilesRaised.{both, left, left_so, part_left, raised_is, swap}
-use Rattle.vt_laws_members.proofs.changes.looks.Told.{member_called, ran, same_caller}
+use Rattle.vt_laws_members.proofs.changes.looks.Told.{ran, same_caller}
 use Rattle.vt_laws_members.proofs.changes.part.PartAgain.{part_again}
 use Rattle.vt_laws_members.proofs.changes.part.SettledPart.{part_in_use}
 use Rattle.vt_laws_members.proofs.changes.tasks.Denied.{ran_there, run_by}
@@ -93,9 +94,8 @@ module _ {world : World ℕ} {names : List TaskName} {name : TaskName} {call : C
       ∙ ap (granted Done) (left_so old files world name
       (in_use world (all_in_use world it.is) (one_in_world world names it.is number used))) in
       let second : policy nat_eq other part name call ≡ granted Done left_there =
-      ap (ran name call part other) (same_caller world names it.is it.sealed_off name it.theirs ∙ found) ∙ two
-      ∙ changes_so part other (sym alike) ∙ ap (granted Done)
-      (left_so old files part name (in_use part (part_in_use world names it.is it.sealed_off)
+      ap (ran name call part other) (same_caller (sealing_of it) name it.theirs ∙ found) ∙ two ∙ changes_so part other
+      (sym alike) ∙ ap (granted Done) (left_so old files part name (in_use part (part_in_use (sealing_of it))
       (one_in_part world names it.is number used))) in
       subst (λ p. EndAlike (grown names name call (policy nat_eq fresh world name call).answer)
       (policy nat_eq fresh world name call) p) (sym second)
@@ -124,23 +124,19 @@ module _ {world : World ℕ} {names : List TaskName} {name : TaskName} {call : C
 pub writes_end_alike : WritesEndAlike
 writes_end_alike world names name path bytes it task found fresh other location change granted_so plain =
     walked_edit_ends it task found fresh other location change granted_so plain refl refl
-    (writes_edit world names it.is it.sealed_off task
-    (member_called world names it.is it.sealed_off name it.theirs task found) path bytes)
+    (writes_edit (caller_in it found) path bytes)
 
 pub chmods_end_alike : ChmodsEndAlike
 chmods_end_alike world names name path mode it task found fresh other location change granted_so plain =
     walked_edit_ends it task found fresh other location change granted_so plain refl refl
-    (chmods_edit world names it.is it.sealed_off task
-    (member_called world names it.is it.sealed_off name it.theirs task found) path mode)
+    (chmods_edit (caller_in it found) path mode)
 
 pub chowns_end_alike : ChownsEndAlike
 chowns_end_alike world names name path uid gid it task found fresh other location change granted_so plain =
     walked_edit_ends it task found fresh other location change granted_so plain refl refl
-    (chowns_edit world names it.is it.sealed_off task
-    (member_called world names it.is it.sealed_off name it.theirs task found) path uid gid)
+    (chowns_edit (caller_in it found) path uid gid)
 
 pub opaques_end_alike : OpaquesEndAlike
 opaques_end_alike world names name path mark it task found fresh other location change granted_so plain =
     walked_edit_ends it task found fresh other location change granted_so plain refl refl
-    (opaques_edit world names it.is it.sealed_off task
-    (member_called world names it.is it.sealed_off name it.theirs task found) path mark)
+    (opaques_edit (caller_in it found) path mark)

@@ -1,13 +1,14 @@
 -- A write of bytes at an offset of an open file ends in the part as in the world.
 use Rattle.std.proofs.Common.{◌≡◌, refl, sym, ap, subst, ◌∙◌, ℕ, nat_eq, Bool, true, false, cond, find, List, ◌∷◌, Option, Some, None, Ok, IfOk, ok_or, option_to_list, ◌==◌}
-use Rattle.vt_spec.proofs.Common.{Among, Call, Descriptor, IsWorld, Location, Looks, Permit, Pwrite, SetBytes, Task, TaskName, ToChange, ToWritePart, World, and_then, bytes_in, denial, descriptor_numbered, filesystem_numbered, found_among, judge_in, locations, looks_of, members, mount_at, node_at, overwritten, part_of, pwrite_permit, pwrite_rules, sealed, unless, ⊤}
+use Rattle.vt_spec.proofs.Common.{Among, Call, Descriptor, Location, Looks, Permit, Pwrite, SetBytes, Task, TaskName, ToChange, ToWritePart, World, and_then, bytes_in, denial, descriptor_numbered, filesystem_numbered, found_among, judge_in, locations, looks_of, members, mount_at, node_at, overwritten, part_of, pwrite_permit, pwrite_rules, unless, ⊤}
 use Rattle.vt_spec.specs.declared.errors.Rule.TheVariants.{S4}
+use Rattle.vt_laws_members.proofs.judging.TheirCalls.{IsMember, caller_in, sealing_of}
 use Rattle.vt_laws_sealed.proofs.part.part.PartOfPart.{found, located}
 use Rattle.vt_laws_members.proofs.judging.SeenInPart.{located_used}
 use Rattle.vt_laws_members.specs.Changes.Changes.{PartWritesEndAlike}
 use Rattle.vt_laws_members.proofs.changes.files.FilesEnding.{edit_ends}
 use Rattle.vt_laws_members.proofs.changes.looks.Granted.{of_rules, opened_theirs}
-use Rattle.vt_laws_members.proofs.changes.looks.Told.{member_called, open_file}
+use Rattle.vt_laws_members.proofs.changes.looks.Told.{open_file}
 use Rattle.vt_laws_members.proofs.changes.tasks.Denied.{ran_there, run_by}
 
 -- these bytes to one of these files, if it is a write at an offset
@@ -15,8 +16,7 @@ abbrev pub Writes : (files : List (Location ℕ)) (bytes : List ℕ) → Permit 
 Writes files bytes (ToWritePart file at written) = Among file files × (written ≡ bytes)
 Writes files bytes permit = ⊤
 
-module _ (world : World ℕ) (names : List TaskName) (is : IsWorld nat_eq world)
-    (sealed_off : sealed nat_eq world names ≡ true) (task : Task ℕ) (member : Among task (members world names))
+module _ {world : World ℕ} {names : List TaskName} {task : Task ℕ} (member : IsMember world names task)
     (bytes : List ℕ) where
   abbrev one : Looks ℕ
   one = looks_of nat_eq world
@@ -33,8 +33,7 @@ module _ (world : World ℕ) (names : List TaskName) (is : IsWorld nat_eq world)
           (λ d. unless (pwrite_rules one d.location offset bytes) (Ok (ToWritePart d.location offset bytes)))) Written
       which descriptor m false = tt
       which descriptor m true = of_rules Written (pwrite_rules one descriptor.location offset bytes)
-          (Ok (ToWritePart descriptor.location offset bytes))
-          (opened_theirs world names is sealed_off task member descriptor m, refl)
+          (Ok (ToWritePart descriptor.location offset bytes)) (opened_theirs member descriptor m, refl)
 
       by : (o : Option (Descriptor ℕ)) → descriptor_numbered task number ≡ o
           → IfOk (and_then (ok_or (find (λ (d : Descriptor ℕ). d.writes) (option_to_list o)) (denial S4))
@@ -53,7 +52,7 @@ part_writes_end_alike world names name descriptor offset byte bytes it task call
     (ap (run_by it world fresh task) judged) (ran_there it fresh other task called judged
     ∙ ap (λ node. run_by it part other task (Ok (ToChange file
     (SetBytes file.node (overwritten at (byte ∷ bytes) (bytes_in node))))))
-    (sym (open_file world names it.is it.sealed_off file theirs.0)))
+    (sym (open_file (sealing_of it) file theirs.0)))
   where
     call : Call
     call = Pwrite descriptor offset (byte ∷ bytes)
@@ -63,8 +62,7 @@ part_writes_end_alike world names name descriptor offset byte bytes it task call
 
     theirs : Among file (locations (members world names)) × (written ≡ byte ∷ bytes)
     theirs = subst (λ j. IfOk j (Writes (locations (members world names)) (byte ∷ bytes))) granted_so
-        (writes_theirs world names it.is it.sealed_off task
-        (member_called world names it.is it.sealed_off name it.theirs task called) (byte ∷ bytes) descriptor offset)
+        (writes_theirs (caller_in it called) (byte ∷ bytes) descriptor offset)
 
     judged : judge_in nat_eq fresh world task call ≡ Ok (ToWritePart file at (byte ∷ bytes))
     judged = granted_so ∙ ap (λ w. Ok (ToWritePart file at w)) theirs.1

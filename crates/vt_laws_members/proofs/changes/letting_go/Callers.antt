@@ -1,12 +1,13 @@
 -- The caller gets other locations: some that it had, and others where members get.
 use Rattle.std.proofs.Common.{◌≡◌, refl, sym, ap, subst, ◌∙◌, ◌⊎◌, inl, inr, ⊎_elim, ℕ, nat_eq, Bool, true, false, cond, true≢false, List, [], ◌∷◌, Some, Ok, filter, map, not}
 use Rattle.vt_spec.proofs.Common.{Among, Call, Done, Fresh, Location, Task, TaskName, World, among-flat_map, among-from_filter, among-from_flat_map, among-from_map, found_among, is_among, is_member_task, list_any, locations, locations_of, members, name-replaced_if_called, outsiders, part_of, replaced_if_called, roots_and_directories, same_name, same_task_name, task_called}
+use Rattle.vt_laws_members.proofs.judging.TheirCalls.{IsMember, caller_in}
 use Rattle.vt_laws_mounts.proofs.letting_go.Lists.{filter-map}
 use Rattle.vt_laws_sealed.proofs.part.part.PartOfPart.{same_members}
 use Rattle.vt_laws_members.proofs.judging.Grounds.{IsTheirs}
 use Rattle.vt_laws_members.proofs.judging.SeenInPart.{directory_theirs, root_theirs}
 use Rattle.vt_laws_members.specs.Changes.Changes.{EndsAlike, IsCallOfTheirs, grown}
-use Rattle.vt_laws_members.proofs.changes.looks.Told.{member_called, ran}
+use Rattle.vt_laws_members.proofs.changes.looks.Told.{ran}
 use Rattle.vt_laws_members.proofs.changes.tasks.Ending.{with_tasks}
 use Rattle.vt_laws_members.proofs.changes.tasks.Rights.{any_mapped, only_task}
 use Rattle.vt_laws_members.proofs.changes.letting_go.Ends.{let_go_alike}
@@ -72,8 +73,8 @@ module _ {world : World ℕ} {names : List TaskName} {name : TaskName} {call : C
   there : (t : Task ℕ) → Among t theirs → Among t world.tasks
   there t m = (among-from_filter (is_member_task names) world.tasks t m).0
 
-  member : Among task theirs
-  member = member_called world names it.is it.sealed_off name it.theirs task called
+  member : IsMember world names task
+  member = caller_in it called
 
   how : (t : Task ℕ) → Among t world.tasks → ((replaced t ≡ mine) × (task ≡ t)) ⊎ (replaced t ≡ t)
   how = replaced_how it task called mine stands.named
@@ -101,7 +102,8 @@ module _ {world : World ℕ} {names : List TaskName} {name : TaskName} {call : C
 
   place_its : (t : Task ℕ) → Among t theirs → (l : Location ℕ) → Among l (locations_of (replaced t))
       → Among l (locations theirs) ⊎ OnTheirs l
-  place_its t m l at = ⊎_elim (λ its. ⊎_elim (λ old. inl (among-flat_map locations_of theirs task l member old)) inr
+  place_its t m l at = ⊎_elim (λ its. ⊎_elim (λ old. inl (among-flat_map locations_of theirs task l member.among old))
+      inr
       (stands.places l (subst (λ x. Among l (locations_of x)) its.0 at)))
       (λ same. inl (among-flat_map locations_of theirs t l m (subst (λ x. Among l (locations_of x)) same at)))
       (how t (there t m))
@@ -111,7 +113,7 @@ module _ {world : World ℕ} {names : List TaskName} {name : TaskName} {call : C
   other_its t m l at =
       let from = among-from_filter (λ x. not (is_member_task names x)) world.tasks t m in
       ⊎_elim (λ its. absurd (true≢false (sym from.1 ∙ ap not (ap (is_member_task names) (sym its.1)
-      ∙ (among-from_filter (is_member_task names) world.tasks task member).1))))
+      ∙ (among-from_filter (is_member_task names) world.tasks task member.among).1))))
       (λ same. among-flat_map locations_of (outsiders world names) t l m
       (subst (λ x. Among l (locations_of x)) same at)) (how t from.0)
 

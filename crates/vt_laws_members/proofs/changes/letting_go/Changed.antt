@@ -1,23 +1,23 @@
 -- Where tasks of a set let locations go, the world and the part are ready to be swept.
 use Rattle.std.proofs.Common.{arith, ◌≡◌, refl, sym, ap, subst, ◌∙◌, ◌⊎◌, inl, inr, ⊎_elim, ℕ, nat_eq, Bool, true, true≢false, List, [], Option, Some, None, filter, map, not, ◌||◌, eqb-true}
-use Rattle.vt_spec.proofs.Common.{Among, IsWorld, Location, Mount, MountInvariants, Stands, Task, TaskName, World, all_locations, among-append, among-append_left, among-append_right, among-flat_map, among-from_filter, among-from_flat_map, among-from_map, among-map, among_from_all, any_among, any_from_among, common_steps, found_or_none, holds_of, is_at, is_member_task, list_any, locations, locations_of, members, mount_at, mount_numbered, none_is_some, number-mount_in, or_cases, or_left, or_parts, or_right, outsiders, roots_and_directories, sealed, seen_by_descriptor, then_some, used_directly}
+use Rattle.vt_spec.proofs.Common.{Among, Location, Mount, MountInvariants, Stands, Task, TaskName, World, all_locations, among-append, among-append_left, among-append_right, among-flat_map, among-from_filter, among-from_flat_map, among-from_map, among-map, among_from_all, any_among, any_from_among, common_steps, found_or_none, holds_of, is_at, is_member_task, list_any, locations, locations_of, members, mount_at, mount_numbered, none_is_some, number-mount_in, or_cases, or_left, or_parts, or_right, outsiders, roots_and_directories, seen_by_descriptor, then_some, used_directly}
 use Rattle.vt_laws_sealed.proofs.part.part.MountsOver.{nowhere_stands, numbered}
 use Rattle.vt_laws_mounts.proofs.mounts.MountsReplaced.{found_itself}
 use Rattle.vt_laws_worlds.proofs.worlds.Reached.{namespace_below}
 use Rattle.vt_laws_sealed.proofs.part.part.PartOfPart.{is_own, keep, located}
-use Rattle.vt_laws_sealed.proofs.part.seals.ByPart.{apart_if_sealed}
+use Rattle.vt_laws_sealed.proofs.part.seals.ByPart.{IsSealed, apart_if_sealed}
 use Rattle.vt_laws_sealed.proofs.outsiders.OtherMounts.{located_there}
 use Rattle.vt_laws_members.proofs.judging.Grounds.{IsTheirs, same_mount}
 use Rattle.vt_laws_members.proofs.judging.SeenInPart.{theirs_directly}
 use Rattle.vt_laws_members.proofs.changes.letting_go.SeeLess.{SeeLess}
 
 -- a location of all tasks is on a mount that is there
-pub mount_under : (world : World ℕ) (names : List TaskName) (is : IsWorld nat_eq world)
-    → sealed nat_eq world names ≡ true → (l : Location ℕ) → Among l (all_locations world)
-    → (m : Mount ℕ) × Among m world.mounts × (l.mount ≡ m.number)
-mount_under world names is sealed_off l m =
-    let at = located_there world names (apart_if_sealed world names is sealed_off) l m in
-    (at.0, at.1, eqb-true l.mount at.0.number at.2)
+module _ {world : World ℕ} {names : List TaskName} (sealing : IsSealed world names) where
+  pub mount_under : (l : Location ℕ) → Among l (all_locations world)
+      → (m : Mount ℕ) × Among m world.mounts × (l.mount ≡ m.number)
+  mount_under l m =
+      let at = located_there (apart_if_sealed sealing) l m in
+      (at.0, at.1, eqb-true l.mount at.0.number at.2)
 
 -- a mount point is on a mount of the same namespace
 pub mount_parent : (b : World ℕ) → MountInvariants nat_eq b → (m : Mount ℕ) (l : Location ℕ)
@@ -44,8 +44,7 @@ mount_parent b kept m l at point = by m.namespace refl
         (λ none. none_is_some n (sym (ap (λ (y : Mount ℕ). y.namespace) none) ∙ up)) (found_or_none b.mounts l.mount)
 
 -- The tasks of a set let locations go.
-module _ (world : World ℕ) (names : List TaskName) (is : IsWorld nat_eq world)
-    (sealed_off : sealed nat_eq world names ≡ true) (set : List TaskName) where
+module _ {world : World ℕ} {names : List TaskName} (sealing : IsSealed world names) (set : List TaskName) where
   abbrev old : List (Task ℕ)
   old = members world names
 
@@ -57,9 +56,9 @@ module _ (world : World ℕ) (names : List TaskName) (is : IsWorld nat_eq world)
     pub own : (n : ℕ) → list_any (λ (t : Task ℕ). nat_eq n t.namespace) (of_set tasks)
         ≡ list_any (λ (t : Task ℕ). nat_eq n t.namespace) old
     pub roots : (l : Location ℕ) → Among l (roots_and_directories (of_set tasks))
-        → IsTheirs world names is.mounts l.mount
+        → IsTheirs world names sealing.is.mounts l.mount
     pub places : (l : Location ℕ) → Among l (locations (of_set tasks))
-        → Among l (locations old) ⊎ IsTheirs world names is.mounts l.mount
+        → Among l (locations old) ⊎ IsTheirs world names sealing.is.mounts l.mount
     pub others : (l : Location ℕ) → Among l (locations (filter (λ t. not (is_member_task set t)) tasks))
         → Among l (locations (outsiders world names))
 
@@ -86,10 +85,10 @@ module _ (world : World ℕ) (names : List TaskName) (is : IsWorld nat_eq world)
     IsGround m = (owns old m ≡ true) ⊎ ((m.namespace ≡ None) × (stands old m ≡ true))
 
     pub ground_is : (m : Mount ℕ) → Among m world.mounts → (number : ℕ) → number ≡ m.number
-        → IsTheirs world names is.mounts number → IsGround m
+        → IsTheirs world names sealing.is.mounts number → IsGround m
     ground_is m n number e theirs =
-        let same : theirs.0 ≡ m = sym (numbered world names is.mounts theirs.0 theirs.1)
-        ∙ ap (mount_numbered nat_eq world) (theirs.2 ∙ e) ∙ numbered world names is.mounts m n in
+        let same : theirs.0 ≡ m = sym (numbered world names sealing.is.mounts theirs.0 theirs.1)
+        ∙ ap (mount_numbered nat_eq world) (theirs.2 ∙ e) ∙ numbered world names sealing.is.mounts m n in
         subst IsGround same theirs.3
 
     -- a mount where they stand
@@ -137,7 +136,7 @@ module _ (world : World ℕ) (names : List TaskName) (is : IsWorld nat_eq world)
         ⊎_elim (λ was. among-append_right (mounted old) (map shows (locations old)) n
         (subst (λ k. Among k (map shows (locations old))) (sym l.2) (among-map shows (locations old) l.0 was)))
         (λ theirs. subst (λ k. Among k (used_directly nat_eq world names)) (sym l.2)
-        (theirs_directly world names is l.0 theirs)) (it.places l.0 l.1))
+        (theirs_directly world names sealing.is l.0 theirs)) (it.places l.0 l.1))
         (among-append (mounted new) (map shows (locations new)) n m)
 
     pub sees_less : SeeLess world names set tasks change
@@ -145,7 +144,7 @@ module _ (world : World ℕ) (names : List TaskName) (is : IsWorld nat_eq world)
       own = λ n h. sym (it.own n) ∙ h;
       mounts = kept_by;
       located = λ l m. ⊎_elim (located world names l)
-          (λ theirs. ap (λ (k : Mount ℕ). k.filesystem) (same_mount world names is.mounts l.mount theirs))
+          (λ theirs. ap (λ (k : Mount ℕ). k.filesystem) (same_mount world names sealing.is.mounts l.mount theirs))
           (it.places l m);
       direct = direct_was;
     }
@@ -158,22 +157,22 @@ module _ (world : World ℕ) (names : List TaskName) (is : IsWorld nat_eq world)
       where
         nowhere : m.namespace ≡ None → (o : Option (Location ℕ)) → m.mount_point ≡ o → m.mount_point ≡ None
         nowhere none None e = e
-        nowhere none (Some l) e = absurd (nowhere_stands world names is.mounts m l n none e)
+        nowhere none (Some l) e = absurd (nowhere_stands world names sealing.is.mounts m l n none e)
 
     -- the locations of the set are on mounts that are there
     pub placed_on : (l : Location ℕ) → Among l (locations new)
         → (m : Mount ℕ) × Among m world.mounts × (l.mount ≡ m.number)
-    placed_on l m = ⊎_elim (λ was. let t = among-from_flat_map locations_of old l was in mount_under world names is
-        sealed_off l (among-flat_map locations_of world.tasks t.0 l
+    placed_on l m = ⊎_elim (λ was. let t = among-from_flat_map locations_of old l was in mount_under sealing l
+        (among-flat_map locations_of world.tasks t.0 l
         (among-from_filter (is_member_task names) world.tasks t.0 t.1).0 t.2))
         (λ theirs. (theirs.0, theirs.1, sym theirs.2)) (it.places l m)
 
 -- These tasks are left to a set in the world, and in the part.
 pub record Retasks (world : World ℕ) (names set : List TaskName) : Type 0 where
-  pub is : IsWorld nat_eq world
-  pub sealed_off : sealed nat_eq world names ≡ true
+  pub sealing : IsSealed world names
+  pub open sealing use {is, sealed_off}
   pub tasks : List (Task ℕ)
   pub tasks_too : List (Task ℕ)
-  pub lets : LetsGo world names is sealed_off set tasks
+  pub lets : LetsGo sealing set tasks
   pub same : filter (is_member_task set) tasks_too ≡ filter (is_member_task set) tasks
   pub all : (t : Task ℕ) → Among t tasks_too → is_member_task set t ≡ true

@@ -95,7 +95,7 @@ module _ {world : World ℕ} {names set : List TaskName} {gone : List ℕ} (it :
   u_part = settled nat_eq v_part
 
   abbrev Heard : ℕ → Type 0
-  Heard g = IsHeard world names it.is it.sealed_off g
+  Heard g = IsHeard it.sealing g
 
   abbrev its_in : ℕ → Mount ℕ → Bool
   its_in n m = holds_of (nat_eq n) m.namespace
@@ -121,8 +121,8 @@ module _ {world : World ℕ} {names set : List TaskName} {gone : List ℕ} (it :
 
   mounts_after : (n : ℕ) → is_theirs n ≡ true → mounts_of nat_eq u_part n ≡ mounts_of nat_eq u n
   mounts_after n own = settled_mounts v_part n ∙ kept_alike (its_in n) after after_part kept world.mounts
-      (λ m at h. let own_one = own_in world names it.is it.sealed_off n own m (after_in n m h).0 in (
-        own_kept world names it.is it.sealed_off m own_one,
+      (λ m at h. let own_one = own_in it.sealing n own m (after_in n m h).0 in (
+        own_kept it.sealing m own_one,
         mount_alike it.go it.regroups m (mine m at own_one),
       )) (λ m y at h e. ⊎_elim (λ whole. ap (λ (q : Mount ℕ). its_in n (after_part q)) (sym whole)
       ∙ ap (holds_of (nat_eq n)) (space_same it.regroups t_part t_world part world gone m) ∙ h)
@@ -136,8 +136,8 @@ module _ {world : World ℕ} {names set : List TaskName} {gone : List ℕ} (it :
     where
       by : (o : Option ℕ) → source_of m.propagation ≡ o → then_some o part.master ≡ then_some o world.master
       by None e = refl
-      by (Some g) e = master_same world names it.is it.sealed_off g
-          (heard_by_own world names it.is it.sealed_off m n g e)
+      by (Some g) e = master_same it.sealing g
+          (heard_by_own it.sealing m n g e)
 
   -- the source of a mount of theirs after is heard
   heard_after : (m : Mount ℕ) → Among m owns → is_going nat_eq gone m.number ≡ false → (g : ℕ)
@@ -149,16 +149,16 @@ module _ {world : World ℕ} {names set : List TaskName} {gone : List ℕ} (it :
           → source_of (slave_of_heir o) ≡ Some g → Heard g
       from_heir s heard None f h = none_is_some g h
       from_heir s heard (Some above) f h = subst Heard (same_Some above g h)
-          (up_heard world names it.is it.sealed_off s above heard (subst (Among above) (ap (λ i. chain i world.master s)
-          (length-map world.mounts (after_going nat_eq world gone)))
-          (found_among (has_members nat_eq t_world.mounts) (groups_up t_world s) above f)))
+          (up_heard it.sealing s above heard (subst (Among above) (ap (λ i. chain i world.master s)
+          (length-map world.mounts (after_going nat_eq world gone))) (found_among (has_members nat_eq t_world.mounts)
+          (groups_up t_world s) above f)))
 
       by : (c : Bool) (kind : Propagation ℕ) → m.propagation ≡ kind
           → source_of (cond c (inherited nat_eq t_world m.propagation) m.propagation) ≡ Some g → Heard g
-      by false kind f h = heard_by_own world names it.is it.sealed_off m n g h
-      by true (Shared s) f h = heard_by_own world names it.is it.sealed_off m n g
+      by false kind f h = heard_by_own it.sealing m n g h
+      by true (Shared s) f h = heard_by_own it.sealing m n g
           (ap source_of f ∙ sym (ap (λ q. source_of (inherited nat_eq t_world q)) f) ∙ h)
-      by true (Slave s) f h = from_heir s (heard_by_own world names it.is it.sealed_off m n s (ap source_of f))
+      by true (Slave s) f h = from_heir s (heard_by_own it.sealing m n s (ap source_of f))
           (heir nat_eq t_world (Some s)) refl (sym (ap (λ q. source_of (inherited nat_eq t_world q)) f) ∙ h)
       by true Private f h = none_is_some g (sym (ap (λ q. source_of (inherited nat_eq t_world q)) f) ∙ h)
       by true Unbindable f h = none_is_some g (sym (ap (λ q. source_of (inherited nat_eq t_world q)) f) ∙ h)
@@ -179,7 +179,7 @@ module _ {world : World ℕ} {names set : List TaskName} {gone : List ℕ} (it :
       let z = among-from_map after_part part.mounts y.0 lives.0 in
       let is_in = ap (is_member_of nat_eq g) (sym z.2) ∙ y.2 in
       let was = member_was it.regroups t_part part gone g z.0 is_in in
-      let own = part_source world names it.is it.sealed_off z.0 z.1 g
+      let own = part_source it.sealing z.0 z.1 g
       (source_from_group z.0.propagation g (member_group g z.0 was)) in
       let from = among-from_filter (is_own_mount nat_eq world names) world.mounts z.0 own in
       let alike = mount_alike it.go it.regroups z.0 own in
@@ -194,14 +194,13 @@ module _ {world : World ℕ} {names set : List TaskName} {gone : List ℕ} (it :
       let from = among-from_filter (is_own_mount nat_eq world names) world.mounts z.0 own in
       let alike = mount_alike it.go it.regroups z.0 own in
       lives_on v_part t_part part z.0 (among-map after_part part.mounts z.0
-      (among-filter_map kept world.mounts z.0 z.0 from.0 (own_kept world names it.is it.sealed_off z.0 from.1)))
+      (among-filter_map kept world.mounts z.0 z.0 from.0 (own_kept it.sealing z.0 from.1)))
       (ap (is_member_of nat_eq g) alike ∙ is_in) from.1)
     where
       its_own : (m : Mount ℕ) → Among m world.mounts → is_member_of nat_eq g m ≡ true → Among m owns
       its_own m n was = ⊎_elim (λ own. own) (λ other.
-          absurd (none_hears world names it.is.mounts (apart world names it.is it.sealed_off).events g m heard.0 other
-          was)) (sides world names it.is.mounts (apart world names it.is it.sealed_off).events m g n
-          (member_group g m was))
+          absurd (none_hears world names it.is.mounts (apart it.sealing).events g m heard.0 other was))
+          (sides world names it.is.mounts (apart it.sealing).events m g n (member_group g m was))
 
       lives_on : (w t x : World ℕ) (m : Mount ℕ) → Among (ended_mount it.regroups t x gone m) w.mounts
           → is_member_of nat_eq g (ended_mount it.regroups t x gone m) ≡ true → is_own world names old m ≡ true
@@ -224,16 +223,16 @@ module _ {world : World ℕ} {names set : List TaskName} {gone : List ℕ} (it :
   -- the mounts of a namespace of theirs changed in both, or in none
   spaces_alike : (n : ℕ) → is_theirs n ≡ true → same_mounts_in nat_eq part u_part n ≡ same_mounts_in nat_eq world u n
   spaces_alike n own = cc (
-    space_in_part world names it.is it.sealed_off n own,
+    space_in_part it.sealing n own,
     mounts_after n own,
     same_list_alike (same_mount nat_eq part u_part) (same_mount nat_eq world u) (mounts_of nat_eq world n)
         (mounts_of nat_eq u n) (λ x y m l. let first = among-from_filter (its_in n) world.mounts x m in let second =
         among-from_filter (its_in n) v.mounts y (subst (Among y) (settled_mounts v n) l) in let from = among-from_map
         after world.mounts y second.0 in let its = after_in n from.0 (ap (its_in n) (sym from.2) ∙ second.1) in
-        compared x y (above_before x (mine x first.0 (own_in world names it.is it.sealed_off n own x first.1)))
+        compared x y (above_before x (mine x first.0 (own_in it.sealing n own x first.1)))
         (subst (λ (q : Mount ℕ). master_above u_part q ≡ master_above u q) (sym from.2)
         (above_after from.0 (mine from.0 from.1
-        (own_in world names it.is it.sealed_off n own from.0 its.0)) its.1))),
+        (own_in it.sealing n own from.0 its.0)) its.1))),
   )
     where
       same_ones : Mount ℕ → Mount ℕ → Bool

@@ -102,7 +102,7 @@ module _ {world : World ℕ} {names set : List TaskName} {gone : List ℕ} (it :
             let out = leaves.others l (among-flat_map locations_of (filter (λ y. not (is_member_task set y)) it.tasks)
             t l (among-filter (λ y. not (is_member_task set y)) it.tasks t n (ap not other)) at) in
             let from = among-from_flat_map locations_of (outsiders world names) l out in
-            let under = mount_under world names it.is it.sealed_off l (among-flat_map locations_of world.tasks from.0 l
+            let under = mount_under it.sealing l (among-flat_map locations_of world.tasks from.0 l
             (among-from_filter (λ y. not (is_member_task names y)) world.tasks from.0 from.1).0 from.2) in
             let alive = located_lives under.0 l under.1 m under.2 in
             let shows : (mount_at nat_eq living l).filesystem ≡ (mount_at nat_eq world l).filesystem =

@@ -1,6 +1,7 @@
 -- A call by which tasks of a sealed set let locations go ends in the part as in the world.
 use Rattle.std.proofs.Common.{◌≡◌, refl, sym, ap, subst, ◌∙◌, ⊎_elim, ℕ, nat_eq, true, List, [], ◌∷◌, Some, Ok, filter, is_some, map, not, ◌&&◌, ◌||◌}
 use Rattle.vt_spec.proofs.Common.{Among, Answer, Call, Fresh, IsWorld, Mount, Task, TaskName, World, among-from_filter_map, among_from_list_all, and_parts, granted, is_among, is_member_task, is_nowhere_or_attached, is_private, locations_of, members, part_of, policy, raised, raised_task, same_name, settled, task_called}
+use Rattle.vt_laws_members.proofs.judging.TheirCalls.{sealing_of}
 use Rattle.vt_laws_mounts.specs.LettingGo.InUse.{AllInUse}
 use Rattle.vt_laws_mounts.proofs.letting_go.Lists.{filter-map}
 use Rattle.vt_laws_mounts.proofs.letting_go.sweeps.OfWorlds.{all_in_use}
@@ -68,8 +69,8 @@ pub let_go_alike : (world : World ℕ) (names set : List TaskName) (name : TaskN
     → (it : IsCallOfTheirs world names name call) (task : Task ℕ) → task_called world name ≡ Some task
     → (fresh other : Fresh ℕ) (answer : Answer) → grown names name call (Ok answer) ≡ set
     → (tasks tasks_too : List (Task ℕ)) → ran name call world fresh (Some task) ≡ with_tasks world name answer tasks
-    → ran name call (part_of nat_eq world names) other (Some task)
-    ≡ with_tasks (part_of nat_eq world names) name answer tasks_too → LetsGo world names it.is it.sealed_off set tasks
+    → ran name call (part_of nat_eq world names) other (Some task) ≡ with_tasks (part_of nat_eq world names) name answer
+    tasks_too → LetsGo (sealing_of it) set tasks
     → filter (is_member_task set) tasks_too ≡ filter (is_member_task set) tasks
     → ((t : Task ℕ) → Among t tasks_too → is_member_task set t ≡ true) → EndsAlike world names name call fresh other
 let_go_alike world names set name call it task called fresh other answer stays tasks tasks_too one two lets same all =
@@ -86,7 +87,7 @@ let_go_alike world names set name call it task called fresh other answer stays t
     in_world = all_in_use world it.is
 
     in_part : AllInUse part
-    in_part = part_in_use world names it.is it.sealed_off
+    in_part = part_in_use (sealing_of it)
 
     left : World ℕ
     left = ended world in_world (private_in_world world it.is) name set tasks answer
@@ -99,13 +100,12 @@ let_go_alike world names set name call it task called fresh other answer stays t
         ∙ ends_so world in_world (private_in_world world it.is) name set tasks answer
 
     second : policy nat_eq other part name call ≡ granted answer left_too
-    second = ap (ran name call part other) (same_caller world names it.is it.sealed_off name it.theirs ∙ called) ∙ two
+    second = ap (ran name call part other) (same_caller (sealing_of it) name it.theirs ∙ called) ∙ two
         ∙ ends_so part in_part (private_in_part world names it.is) name set tasks_too answer
 
     retasks : Retasks world names set
     retasks = record {
-      is = it.is;
-      sealed_off = it.sealed_off;
+      sealing = sealing_of it;
       tasks = tasks;
       tasks_too = tasks_too;
       lets = lets;

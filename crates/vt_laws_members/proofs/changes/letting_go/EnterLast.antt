@@ -1,12 +1,13 @@
 -- Each setns(2) ends in the part as in the world: where the caller was the last task of its namespace, that one ends.
 use Rattle.std.proofs.Common.{◌≡◌, refl, sym, ap, subst, ◌∙◌, ◌⊎◌, ⊎_elim, ℕ, nat_eq, Bool, true, false, true≢false, List, [], Option, Some, None, Ok, Err, filter, map, not, ◌||◌, eq-eqb, eqb-true, IfOk, is_ok, unwrap_or}
 use Rattle.vt_spec.proofs.Common.{Among, Done, Exit, Fresh, Judgement, Mount, MountInvariants, Namespace, Setns, Task, TaskName, ToEnterNamespace, World, among-filter, among-from_filter, among-from_map, among-map, among_from_list_all, any_among, any_from_among, entered_at, granted, has_tasks, holds_of, is_going, is_member_task, is_own_namespace, judge_in, list_all, list_all_from_among, list_any, members, namespaces_ended, none_among, none_from_among, not-true, numbers_raised, or_left, or_right, part_of, policy, replaced_if_called, same_name, settled, task_called}
+use Rattle.vt_laws_members.proofs.judging.TheirCalls.{a_member, caller_in, sealing_of}
 use Rattle.vt_laws_mounts.proofs.ends.Ending.{ended_namespaces_keep_mounts}
 use Rattle.vt_laws_worlds.proofs.kept.MountsAlike.{same_mounts}
 use Rattle.vt_laws_sealed.proofs.part.part.PartOfPart.{is_own}
 use Rattle.vt_laws_members.specs.Changes.Changes.{EndAlike, EndsAlike, IsCallOfTheirs, grown}
 use Rattle.vt_laws_members.specs.Changes.LettingGo.{SetnsEndsAlike}
-use Rattle.vt_laws_members.proofs.changes.looks.Told.{member_called, ran, same_caller}
+use Rattle.vt_laws_members.proofs.changes.looks.Told.{ran, same_caller}
 use Rattle.vt_laws_members.proofs.changes.tasks.Denied.{denial_ends_alike, ran_there, run_by, unnamed_ends_alike}
 use Rattle.vt_laws_members.proofs.changes.letting_go.Callers.{all_in_set, of_set, others_left, places_left, replaced_apart, roots_left, same_set}
 use Rattle.vt_laws_members.proofs.changes.letting_go.CutNamespace.{in_same, in_space, numbers_in}
@@ -75,9 +76,7 @@ module _ {world : World ℕ} {names : List TaskName} {name called_so : TaskName}
   }
 
   theirs_ends : is_own_namespace nat_eq world names k ≡ true
-  theirs_ends =
-      any_from_among (in_space_of k) old task (member_called world names it.is it.sealed_off name it.theirs task called)
-      (eq-eqb k k refl)
+  theirs_ends = any_from_among (in_space_of k) old task (caller_in it called).among (eq-eqb k k refl)
 
   abbrev gone : List ℕ
   gone = numbers_in world k
@@ -86,7 +85,7 @@ module _ {world : World ℕ} {names : List TaskName} {name called_so : TaskName}
   gone_same m n = in_same world k it.is.mounts.one_number m n
 
   own_go : (m : Mount ℕ) → Among m world.mounts → is_going nat_eq gone m.number ≡ true → is_own world names old m ≡ true
-  own_go m there h = own_in world names it.is it.sealed_off k theirs_ends m (sym (gone_same m there) ∙ h)
+  own_go m there h = own_in (sealing_of it) k theirs_ends m (sym (gone_same m there) ∙ h)
 
   abbrev lasts : ℕ → Bool
   lasts n = not (nat_eq k n)
@@ -128,7 +127,7 @@ module _ {world : World ℕ} {names : List TaskName} {name called_so : TaskName}
 
   abbrev ends : Detaches world names names gone
   ends = record {
-    go = record { is = it.is; sealed_off = it.sealed_off; own_go = own_go };
+    go = record { sealing = sealing_of it; own_go = own_go };
     lasts = lasts;
     tasks = rest;
     tasks_too = rest_too;
@@ -165,10 +164,10 @@ module _ {world : World ℕ} {names : List TaskName} {name called_so : TaskName}
 
   part_ends : namespaces_ended nat_eq (record part { tasks = rest_too }) ≡ v_part
   part_ends = ends_so (record part { tasks = rest_too }) k gone
-      (ap (map (λ (m : Mount ℕ). m.number)) (space_in_part world names it.is it.sealed_off k theirs_ends))
-      (part_listed exits task called) (none_in part.tasks known)
-      (others_live part part.tasks known (λ n m. (among-from_filter (λ (s : Namespace ℕ).
-      list_any (in_space_of s.number) old) world.namespaces n m).1)) flag (sym (flags_same ends.go))
+      (ap (map (λ (m : Mount ℕ). m.number)) (space_in_part (sealing_of it) k theirs_ends))
+      (part_listed exits task called) (none_in part.tasks known) (others_live part part.tasks known
+      (λ n m. (among-from_filter (λ (s : Namespace ℕ). list_any (in_space_of s.number) old) world.namespaces n m).1))
+      flag (sym (flags_same ends.go))
 
   kept : MountInvariants nat_eq v
   kept = subst (MountInvariants nat_eq) world_ends (ended_namespaces_keep_mounts (record world { tasks = rest })
@@ -176,7 +175,7 @@ module _ {world : World ℕ} {names : List TaskName} {name called_so : TaskName}
 
   kept_there : MountInvariants nat_eq v_part
   kept_there = subst (MountInvariants nat_eq) part_ends (ended_namespaces_keep_mounts (record part { tasks = rest_too })
-      (same_mounts part (record part { tasks = rest_too }) refl refl (part_mounts world names it.is it.sealed_off)))
+      (same_mounts part (record part { tasks = rest_too }) refl refl (part_mounts (sealing_of it))))
 
   abbrev left_one : World ℕ
   left_one = numbers_raised nat_eq world name [] (settled nat_eq v)
@@ -201,10 +200,9 @@ module _ {world : World ℕ} {names : List TaskName} {name called_so : TaskName}
       ap (ran name (Setns called_so) world fresh) called ∙ ap (run_by it world fresh task) judged
       ∙ ap (λ w. granted Done (numbers_raised nat_eq world name [] (settled nat_eq w))) world_ends in
       let second : policy nat_eq supply part name (Setns called_so) ≡ granted Done left_too =
-      ap (ran name (Setns called_so) part supply) (same_caller world names it.is it.sealed_off name it.theirs ∙ called)
-      ∙ ran_there it fresh supply task called judged
-      ∙ ap (λ o. granted Done (numbers_raised nat_eq part name [] (settled nat_eq (namespaces_ended nat_eq
-      (record part {
+      ap (ran name (Setns called_so) part supply) (same_caller (sealing_of it) name it.theirs ∙ called) ∙ ran_there it
+      fresh supply task called judged ∙ ap (λ o. granted Done (numbers_raised nat_eq part name []
+      (settled nat_eq (namespaces_ended nat_eq (record part {
         tasks = map (replaced_if_called (entered_at task target.namespace (unwrap_or o task.root))) part.tasks;
       }))))) (root_alike it task called target target_in)
       ∙ ap (λ w. granted Done (numbers_raised nat_eq part name [] (settled nat_eq w))) part_ends in
@@ -241,7 +239,7 @@ module _ {world : World ℕ} {names : List TaskName} {name called_so : TaskName}
 
   judged_by : (member : Among task (members world names)) (j : Judgement ℕ)
       → judge_in nat_eq fresh world task (Setns called_so) ≡ j
-      → IfOk j (Enters world names it.is it.sealed_off task member)
+      → IfOk j (Enters (a_member (sealing_of it) member))
       → EndsAlike world names name (Setns called_so) fresh supply
   judged_by member (Ok permit) judged its =
       granted_alike its.0 its.1 (judged ∙ ap Ok its.2) (nat_eq task.namespace its.0.namespace)
@@ -256,6 +254,6 @@ setns_ends_alike world names name called_so it fresh supply = by (task_called wo
     by : (o : Option (Task ℕ)) → task_called world name ≡ o → EndsAlike world names name (Setns called_so) fresh supply
     by None e = unnamed_ends_alike it fresh supply e
     by (Some task) e =
-        let member = member_called world names it.is it.sealed_off name it.theirs task e in
-        judged_by it task e fresh supply member (judge_in nat_eq fresh world task (Setns called_so)) refl
-        (enters world names it.is it.sealed_off task member called_so (it.among_them called_so refl))
+        let member = caller_in it e in
+        judged_by it task e fresh supply member.among (judge_in nat_eq fresh world task (Setns called_so)) refl
+        (enters member called_so (it.among_them called_so refl))

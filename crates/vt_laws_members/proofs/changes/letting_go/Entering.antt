@@ -1,11 +1,12 @@
 -- A setns(2) that ends no namespace ends in the part as in the world.
 use Rattle.std.proofs.Common.{arith, ◌≡◌, refl, sym, ap, ◌∙◌, ⊎_elim, ℕ, nat_eq, Bool, true, false, true≢false, List, [], ◌∷◌, Option, Some, None, Ok, map, not, ◌||◌, eq-eqb, IfOk, is_some, ok_or, option_map, unwrap_or}
-use Rattle.vt_spec.proofs.Common.{Among, Call, Done, Exit, Fresh, IsWorld, Location, Mount, Namespace, Permit, Setns, Task, TaskName, ToEnterNamespace, World, among-from_filter, among-from_map, among-map, among_from_list_all, and_then, any_among, any_from_among, cap_sys_admin, cap_sys_chroot, common_steps, denial, entered_at, found_among, granted, has_tasks, holds_of, is_among, is_own_namespace, judge_in, lacks, list_all_from_among, list_any, members, mounts_of, namespace_root, namespaces_ended, numbers_raised, part_of, replaced_if_called, root_mount, root_of, same_name, same_truth, sealed, setns_permit, settled, task_called, topmost, unless}
+use Rattle.vt_spec.proofs.Common.{Among, Call, Done, Exit, Fresh, Location, Mount, Namespace, Permit, Setns, Task, TaskName, ToEnterNamespace, World, among-from_filter, among-from_map, among-map, among_from_list_all, and_then, any_among, any_from_among, cap_sys_admin, cap_sys_chroot, common_steps, denial, entered_at, found_among, granted, has_tasks, holds_of, is_among, is_own_namespace, judge_in, lacks, list_all_from_among, list_any, members, mounts_of, namespace_root, namespaces_ended, numbers_raised, part_of, replaced_if_called, root_mount, root_of, same_name, same_truth, setns_permit, settled, task_called, topmost, unless}
 use Rattle.vt_spec.specs.declared.errors.Rule.TheVariants.{K1, S2}
 use Rattle.vt_laws_later_calls.proofs.last_use.Groups.{none_lost}
 use Rattle.vt_laws_members.proofs.judging.Grounds.{IsTheirs, theirs_from, theirs_test}
 use Rattle.vt_laws_members.proofs.judging.MountTrees.{own_theirs}
 use Rattle.vt_laws_members.proofs.judging.SeenInPart.{root_theirs}
+use Rattle.vt_laws_members.proofs.judging.TheirCalls.{IsMember, caller_in, member_called, sealing_of}
 use Rattle.vt_laws_sealed.proofs.part.walks.WalksAgree.{own_topmost, same_topmost}
 use Rattle.vt_laws_members.specs.Changes.Changes.{EndsAlike, IsCallOfTheirs}
 use Rattle.vt_laws_members.proofs.changes.letting_go.Callers.{StandsOnTheirs, moved_alike, replaced_how}
@@ -14,12 +15,10 @@ use Rattle.vt_laws_members.proofs.changes.letting_go.Heard.{own_in, space_in_par
 use Rattle.vt_laws_members.proofs.changes.letting_go.Leaving.{in_world, its_name, part_listed}
 use Rattle.vt_laws_members.proofs.changes.letting_go.Moving.{On, alike, one, other}
 use Rattle.vt_laws_members.proofs.changes.looks.Granted.{of_rules}
-use Rattle.vt_laws_members.proofs.changes.looks.Told.{member_called}
 use Rattle.vt_laws_members.proofs.changes.tasks.Denied.{ran_there, run_by}
 
 -- The permit of setns(2)
-module _ (world : World ℕ) (names : List TaskName) (is : IsWorld nat_eq world)
-    (sealed_off : sealed nat_eq world names ≡ true) (task : Task ℕ) (member : Among task (members world names)) where
+module _ {world : World ℕ} {names : List TaskName} {task : Task ℕ} (member : IsMember world names task) where
   abbrev pub Enters : Permit ℕ → Type 0
   Enters permit = (target : Task ℕ) × Among target (members world names) × (permit ≡ ToEnterNamespace target.namespace)
 
@@ -31,11 +30,14 @@ module _ (world : World ℕ) (names : List TaskName) (is : IsWorld nat_eq world)
   enters_by called theirs None e = tt
   enters_by called theirs (Some target) e =
       of_rules Enters ((lacks task cap_sys_admin || lacks task cap_sys_chroot, K1) ∷ [])
-      (Ok (ToEnterNamespace target.namespace))
-      (target, member_called world names is sealed_off called theirs target e, refl)
+      (Ok (ToEnterNamespace target.namespace)) (
+        target,
+        (member_called member.sealing called theirs target e).among,
+        refl,
+      )
 
   pub enters : (called : TaskName) → is_among same_name called names ≡ true → IfOk
-      (setns_permit (one world names is sealed_off task member) task called) Enters
+      (setns_permit (one member) task called) Enters
   unfolding setns_permit
   enters called theirs = enters_by called theirs (task_called world called) refl
 
@@ -65,8 +67,8 @@ module _ {world : World ℕ} {names : List TaskName} {name called_so : TaskName}
     among_them = λ member e. absurd (true≢false (ap is_exit e));
   }
 
-  member : Among task theirs
-  member = member_called world names it.is it.sealed_off name it.theirs task called
+  member : IsMember world names task
+  member = caller_in it called
 
   pub space_own : is_own_namespace nat_eq world names space ≡ true
   space_own =
@@ -77,24 +79,23 @@ module _ {world : World ℕ} {names : List TaskName} {name called_so : TaskName}
   is_root m = not (is_some m.mount_point)
 
   on_root : (m : Mount ℕ) → root_mount nat_eq world space ≡ Some m
-      → On world names it.is it.sealed_off task member m.number
+      → On member m.number
   on_root m e =
       let from = among-from_filter (λ (x : Mount ℕ). holds_of (nat_eq space) x.namespace) world.mounts m
       (found_among is_root (mounts_of nat_eq world space) m e) in
-      theirs_test world names it.is.mounts m.number
-      (own_theirs world names it.is m from.0 (own_in world names it.is it.sealed_off space space_own m from.1))
+      theirs_test world names it.is.mounts m.number (own_theirs world names it.is m from.0
+      (own_in (sealing_of it) space space_own m from.1))
 
   pub root_alike : namespace_root nat_eq part space ≡ namespace_root nat_eq world space
   root_alike =
-      cc (space_in_part world names it.is it.sealed_off space space_own, by (root_mount nat_eq world space) refl)
+      cc (space_in_part (sealing_of it) space space_own, by (root_mount nat_eq world space) refl)
     where
       by : (o : Option (Mount ℕ)) → root_mount nat_eq world space ≡ o
           → option_map (λ m. topmost nat_eq part.mounts (root_of m)) o
           ≡ option_map (λ m. topmost nat_eq world.mounts (root_of m)) o
       by None e = refl
-      by (Some m) e = ap Some (sym (same_topmost (one world names it.is it.sealed_off task member)
-          (other world names it.is it.sealed_off task member) task (On world names it.is it.sealed_off task member)
-          (alike world names it.is it.sealed_off task member).walks (root_of m) (on_root m e)))
+      by (Some m) e = ap Some (sym (same_topmost (one member)
+          (other member) task (On member) (alike member).walks (root_of m) (on_root m e)))
 
   abbrev pub root : Location ℕ
   root = unwrap_or (namespace_root nat_eq world space) task.root
@@ -104,11 +105,9 @@ module _ {world : World ℕ} {names : List TaskName} {name called_so : TaskName}
     where
       by : (o : Option (Mount ℕ)) → root_mount nat_eq world space ≡ o → IsTheirs world names it.is.mounts
           (unwrap_or (option_map (λ m. topmost nat_eq world.mounts (root_of m)) o) task.root).mount
-      by None e = root_theirs world names it.is task member
+      by None e = root_theirs world names it.is task member.among
       by (Some m) e = theirs_from world names it.is.mounts (topmost nat_eq world.mounts (root_of m)).mount
-          (own_topmost (one world names it.is it.sealed_off task member)
-          (other world names it.is it.sealed_off task member) task (On world names it.is it.sealed_off task member)
-          (alike world names it.is it.sealed_off task member).walks (root_of m) (on_root m e))
+          (own_topmost (one member) (other member) task (On member) (alike member).walks (root_of m) (on_root m e))
 
   -- The caller in it
   abbrev pub mine : Task ℕ

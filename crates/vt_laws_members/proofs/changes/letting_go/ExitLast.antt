@@ -1,6 +1,7 @@
 -- An exit of the last task of its namespace ends in the part as in the world: the mounts of the namespace are detached.
 use Rattle.std.proofs.Common.{arith, ◌≡◌, refl, sym, ap, subst, ◌∙◌, ℕ, nat_eq, Bool, true, false, true≢false, List, [], Option, Some, None, filter, map, not, ◌||◌, eq-eqb, eqb-true}
 use Rattle.vt_spec.proofs.Common.{Among, Done, Exit, Fresh, Mount, MountInvariants, Namespace, Task, TaskName, World, after_going, among-filter, among-from_filter, among_from_list_all, any_among, any_from_among, common_steps, granted, has_tasks, holds_of, is_going, is_member_task, is_own_namespace, list_all, list_all_from_among, list_any, lost_a_group, map_twice, members, namespaces_ended, none_among, none_from_among, numbers_raised, or_left, or_right, part_of, policy, regrouped_by, same_name, settled, taken_away, task_called}
+use Rattle.vt_laws_members.proofs.judging.TheirCalls.{sealing_of}
 use Rattle.vt_laws_mounts.specs.LettingGo.Ends.{MountsAreListed}
 use Rattle.vt_laws_mounts.proofs.letting_go.ends.NamespacesEnd.{one_namespace_ends}
 use Rattle.vt_laws_mounts.proofs.ends.Ending.{ended_namespaces_keep_mounts}
@@ -67,7 +68,8 @@ module _ {world : World ℕ} {names : List TaskName} {name : TaskName} (it : IsC
   stays_on = stays it task called
 
   theirs_ends : is_own_namespace nat_eq world names k ≡ true
-  theirs_ends = any_from_among (λ (t : Task ℕ). nat_eq k t.namespace) old task (member it task called) (eq-eqb k k refl)
+  theirs_ends =
+      any_from_among (λ (t : Task ℕ). nat_eq k t.namespace) old task (member it task called).among (eq-eqb k k refl)
 
   abbrev gone : List ℕ
   gone = numbers_in world k
@@ -76,7 +78,7 @@ module _ {world : World ℕ} {names : List TaskName} {name : TaskName} (it : IsC
   gone_same m n = in_same world k it.is.mounts.one_number m n
 
   own_go : (m : Mount ℕ) → Among m world.mounts → is_going nat_eq gone m.number ≡ true → is_own world names old m ≡ true
-  own_go m there h = own_in world names it.is it.sealed_off k theirs_ends m (sym (gone_same m there) ∙ h)
+  own_go m there h = own_in (sealing_of it) k theirs_ends m (sym (gone_same m there) ∙ h)
 
   abbrev lasts : ℕ → Bool
   lasts n = not (nat_eq k n)
@@ -110,7 +112,7 @@ module _ {world : World ℕ} {names : List TaskName} {name : TaskName} (it : IsC
 
   abbrev ends : Detaches world names set gone
   ends = record {
-    go = record { is = it.is; sealed_off = it.sealed_off; own_go = own_go };
+    go = record { sealing = sealing_of it; own_go = own_go };
     lasts = lasts;
     tasks = rest;
     tasks_too = rest_too;
@@ -140,8 +142,8 @@ module _ {world : World ℕ} {names : List TaskName} {name : TaskName} (it : IsC
 
   part_ends : namespaces_ended nat_eq (record part { tasks = rest_too }) ≡ v_part
   part_ends = ends_so (record part { tasks = rest_too }) k gone
-      (ap (map (λ (m : Mount ℕ). m.number)) (space_in_part world names it.is it.sealed_off k theirs_ends))
-      (part_listed it task called) (none_from_among (λ (t : Task ℕ). nat_eq k t.namespace) rest_too (λ t m.
+      (ap (map (λ (m : Mount ℕ). m.number)) (space_in_part (sealing_of it) k theirs_ends)) (part_listed it task called)
+      (none_from_among (λ (t : Task ℕ). nat_eq k t.namespace) rest_too (λ t m.
       let from = among-from_filter stays_on part.tasks t m in
       none_among (λ (t : Task ℕ). nat_eq k t.namespace) rest empty t
       (among-filter stays_on world.tasks t (in_world it task called t from.0) from.1)))
@@ -163,7 +165,7 @@ module _ {world : World ℕ} {names : List TaskName} {name : TaskName} (it : IsC
 
   kept_there : MountInvariants nat_eq v_part
   kept_there = subst (MountInvariants nat_eq) part_ends (ended_namespaces_keep_mounts (record part { tasks = rest_too })
-      (same_mounts part (record part { tasks = rest_too }) refl refl (part_mounts world names it.is it.sealed_off)))
+      (same_mounts part (record part { tasks = rest_too }) refl refl (part_mounts (sealing_of it))))
 
   parts : part_of nat_eq (numbers_raised nat_eq world name [] (settled nat_eq v)) set
       ≡ part_of nat_eq (numbers_raised nat_eq part name [] (settled nat_eq v_part)) set
@@ -189,7 +191,7 @@ module _ {world : World ℕ} {names : List TaskName} {name : TaskName} (it : IsC
       ∙ ap (λ w. granted Done (numbers_raised nat_eq world name [] (settled nat_eq w))) world_ends
 
   second : (other : Fresh ℕ) → policy nat_eq other part name Exit ≡ granted Done left_too
-  second other = ap (ran name Exit part other) (same_caller world names it.is it.sealed_off name it.theirs ∙ called)
+  second other = ap (ran name Exit part other) (same_caller (sealing_of it) name it.theirs ∙ called)
       ∙ ap (λ n. granted Done (numbers_raised nat_eq part name []
       (settled nat_eq (namespaces_ended nat_eq (record part
       { tasks = filter (λ (t : Task ℕ). not (same_name n t.name)) part.tasks }))))) (sym (its_name it task called))

@@ -1,6 +1,7 @@
 -- Each exit ends in the part as in the world.
 use Rattle.std.proofs.Common.{arith, ◌≡◌, refl, sym, ap, subst, ◌∙◌, inl, ⊎_elim, ℕ, nat_eq, Bool, true, false, cond, true≢false, List, [], ◌∷◌, Option, Some, None, filter, not, ◌||◌, eq-eqb, eqb-true}
 use Rattle.vt_spec.proofs.Common.{Among, Done, Exit, Fresh, HasLivingGroups, Location, Mount, Namespace, Propagation, Task, TaskName, World, among-filter, among-filter_map, among-flat_map, among-from_filter, among-from_flat_map, among_from_all, among_from_list_all, any_among, any_from_among, common_steps, granted, has_members, has_tasks, is_lost_group, is_member_of, is_member_task, is_own_mount, is_private, list_all, list_all_from_among, list_any, locations_of, lost_a_group, members, namespaces_ended, none_from_among, none_is_some, not-true, numbers_raised, own_mounts, part_of, same_name, same_truth, settled, source_of, task_called, then_some}
+use Rattle.vt_laws_members.proofs.judging.TheirCalls.{sealing_of}
 use Rattle.vt_laws_mounts.specs.LettingGo.Ends.{MountsAreListed}
 use Rattle.vt_laws_mounts.proofs.letting_go.ends.NamespacesEnd.{no_namespace_ends}
 use Rattle.vt_laws_later_calls.proofs.last_use.Groups.{none_lost}
@@ -38,7 +39,7 @@ module _ {world : World ℕ} {names : List TaskName} {name : TaskName} (it : IsC
   its_rest = tasks_too it task called
 
   apart : IsApart world names
-  apart = apart_if_sealed world names it.is it.sealed_off
+  apart = apart_if_sealed (sealing_of it)
 
   -- each group that a mount of the part receives from has a member there
   heard_there : (g : ℕ) → Hears world names it.is.mounts apart.events g → Living world names it.is.mounts apart.events g
@@ -115,7 +116,7 @@ module _ {world : World ℕ} {names : List TaskName} {name : TaskName} (it : IsC
       by : (b : Bool) → is_member_task names other ≡ b → b ≡ true
       by true e = refl
       by false e = absurd (true≢false (sym (any_from_among (λ (t : Task ℕ). nat_eq other.namespace t.namespace) old task
-          (member it task called) (eq-eqb other.namespace task.namespace together))
+          (member it task called).among (eq-eqb other.namespace task.namespace together))
           ∙ namespace_outside world names (apart it task called) other
           (among-filter (λ t. not (is_member_task names t)) world.tasks other there (ap not e))))
 
@@ -131,7 +132,7 @@ module _ {world : World ℕ} {names : List TaskName} {name : TaskName} (it : IsC
   pub in_old : Among other old
   in_old = among-filter (is_member_task names) world.tasks other there other_member
 
-  lets_go : LetsGo world names it.is it.sealed_off set rest
+  lets_go : LetsGo (sealing_of it) set rest
   lets_go = record {
     own = λ n. same_truth (list_any (λ (t : Task ℕ). nat_eq n t.namespace) new)
         (list_any (λ (t : Task ℕ). nat_eq n t.namespace) old)

@@ -1,8 +1,9 @@
 -- Calls of close(2), chdir(2) and chroot(2) end in the part as in the world.
 use Rattle.std.proofs.Common.{◌≡◌, refl, sym, ap, subst, ◌∙◌, inl, inr, ⊎_elim, ℕ, nat_eq, true, List, [], ◌∷◌, Option, Some, None, Ok, Err, Result, filter, map, not, IfOk, is_ok, ◌==◌}
-use Rattle.vt_spec.proofs.Common.{Among, Chdir, Chroot, Close, Descriptor, Here, IsWorld, Judgement, Location, Looks, Permit, Task, TaskName, ToClose, ToSetDirectory, ToSetRoot, World, among-from_filter, among-from_map, among-map, and_then, cap_sys_chroot, chdir_permit, chroot_permit, close_permit, descriptor_at, directory_walk, enter_rules, is_among, judge_in, lacks, looks_of, members, part_of, sealed, task_called, unless, used_filesystems}
+use Rattle.vt_spec.proofs.Common.{Among, Chdir, Chroot, Close, Descriptor, Here, Judgement, Location, Looks, Permit, Task, TaskName, ToClose, ToSetDirectory, ToSetRoot, World, among-from_filter, among-from_map, among-map, and_then, cap_sys_chroot, chdir_permit, chroot_permit, close_permit, descriptor_at, directory_walk, enter_rules, is_among, judge_in, lacks, looks_of, part_of, task_called, unless, used_filesystems}
 use Rattle.vt_spec.specs.declared.errors.Deny.{Deny}
 use Rattle.vt_spec.specs.declared.errors.Rule.TheVariants.{K1}
+use Rattle.vt_laws_members.proofs.judging.TheirCalls.{IsMember, caller_in}
 use Rattle.vt_laws_members.specs.Judging.{is_theirs}
 use Rattle.vt_laws_members.proofs.judging.AllJudged.{judges}
 use Rattle.vt_laws_members.proofs.judging.Grounds.{IsTheirs, theirs_from}
@@ -12,7 +13,7 @@ use Rattle.vt_laws_members.proofs.judging.WalksLead.{HereAt, directory_agrees}
 use Rattle.vt_laws_members.specs.Changes.Changes.{EndsAlike}
 use Rattle.vt_laws_members.specs.Changes.LettingGo.{ChdirsEndAlike, ChrootsEndAlike, ClosesEndAlike}
 use Rattle.vt_laws_members.proofs.changes.looks.Granted.{of_rules, of_walk}
-use Rattle.vt_laws_members.proofs.changes.looks.Told.{member_called, ran}
+use Rattle.vt_laws_members.proofs.changes.looks.Told.{ran}
 use Rattle.vt_laws_members.proofs.changes.tasks.Denied.{denial_ends_alike, ran_there, run_by, unnamed_ends_alike}
 use Rattle.vt_laws_members.proofs.changes.letting_go.Callers.{moved_alike, spaces_kept}
 
@@ -29,8 +30,7 @@ closes : (task : Task ℕ) (number : ℕ) → IfOk (close_permit task number) (C
 unfolding close_permit
 closes task number = closes_after number (descriptor_at task number (λ descriptor. true))
 
-module _ (world : World ℕ) (names : List TaskName) (is : IsWorld nat_eq world)
-    (sealed_off : sealed nat_eq world names ≡ true) (task : Task ℕ) (member : Among task (members world names)) where
+module _ {world : World ℕ} {names : List TaskName} {task : Task ℕ} (member : IsMember world names task) where
   abbrev pub one : Looks ℕ
   one = looks_of nat_eq world
 
@@ -42,7 +42,7 @@ module _ (world : World ℕ) (names : List TaskName) (is : IsWorld nat_eq world)
 
   pub alike : JudgesAlike one other task (is_theirs world names)
       (λ number. is_among nat_eq number (used_filesystems nat_eq world names))
-  alike = judges world names is sealed_off task member
+  alike = judges member
 
   abbrev pub StandsHere : Here ℕ → Type 0
   StandsHere = HereAt one other task On alike.walks alike.directory alike.rules.removed
@@ -82,15 +82,15 @@ closes_end_alike world names name number it fresh other = by (task_called world 
         → judge_in nat_eq fresh world task (Close number) ≡ Ok (ToClose number)
         → EndsAlike world names name (Close number) fresh other
     granted_so task e judged =
-        let member = member_called world names it.is it.sealed_off name it.theirs task e in
+        let member = caller_in it e in
         moved_alike it task e (record task {
           descriptors = filter (λ (d : Descriptor ℕ). not (number == d.number))
               task.descriptors;
         })
         (record {
           named = refl;
-          root = root_theirs world names it.is task member;
-          directory = directory_theirs world names it.is task member;
+          root = root_theirs world names it.is task member.among;
+          directory = directory_theirs world names it.is task member.among;
           places = λ l m. inl (⊎_elim inl (λ rest. inr (⊎_elim inl (λ open_file.
               let d = among-from_map (λ (d : Descriptor ℕ). d.location)
               (filter (λ (d : Descriptor ℕ). not (number == d.number)) task.descriptors) l open_file in
@@ -120,14 +120,14 @@ chdirs_end_alike world names name path it fresh other = by (task_called world na
     part : World ℕ
     part = part_of nat_eq world names
 
-    granted_so : (task : Task ℕ) (member : Among task (members world names)) → task_called world name ≡ Some task
+    granted_so : (task : Task ℕ) (member : IsMember world names task) → task_called world name ≡ Some task
         → (l : Location ℕ) → IsTheirs world names it.is.mounts l.mount
         → judge_in nat_eq fresh world task (Chdir path) ≡ Ok (ToSetDirectory l)
         → EndsAlike world names name (Chdir path) fresh other
     granted_so task member e l on judged =
         moved_alike it task e (record task { directory = l }) (record {
           named = refl;
-          root = root_theirs world names it.is task member;
+          root = root_theirs world names it.is task member.among;
           directory = on;
           places = λ k m. ⊎_elim (λ root. inl (inl root)) (λ rest. ⊎_elim
               (λ here. inr (subst (λ (q : Location ℕ). IsTheirs world names it.is.mounts q.mount) (sym here) on))
@@ -136,12 +136,13 @@ chdirs_end_alike world names name path it fresh other = by (task_called world na
         (record task { directory = l }) refl refl) (ap (run_by it world fresh task) judged)
         (ran_there it fresh other task e judged)
 
-    judged_by : (task : Task ℕ) (member : Among task (members world names)) → task_called world name ≡ Some task
+    judged_by : (task : Task ℕ) (member : IsMember world names task) → task_called world name ≡ Some task
         → (j : Judgement ℕ) → judge_in nat_eq fresh world task (Chdir path) ≡ j
-        → IfOk j (SetsDirectory world names it.is it.sealed_off task member)
+        → IfOk j (SetsDirectory member)
         → EndsAlike world names name (Chdir path) fresh other
     judged_by task member e (Ok permit) judged its =
-        granted_so task member e its.0 (theirs_from world names it.is.mounts its.0.mount its.2) (judged ∙ ap Ok its.1)
+        granted_so task member e its.0 (theirs_from world names it.is.mounts its.0.mount its.2)
+        (judged ∙ ap Ok its.1)
     judged_by task member e (Err deny) judged its = denial_ends_alike it fresh other
         (ap (λ o. is_ok (ran name (Chdir path) world fresh o).answer) e
         ∙ ap (λ j. is_ok (run_by it world fresh task j).answer) judged)
@@ -149,9 +150,8 @@ chdirs_end_alike world names name path it fresh other = by (task_called world na
     by : (o : Option (Task ℕ)) → task_called world name ≡ o → EndsAlike world names name (Chdir path) fresh other
     by None e = unnamed_ends_alike it fresh other e
     by (Some task) e =
-        let member = member_called world names it.is it.sealed_off name it.theirs task e in
-        judged_by task member e (judge_in nat_eq fresh world task (Chdir path)) refl
-        (sets_directory world names it.is it.sealed_off task member path)
+        let member = caller_in it e in
+        judged_by task member e (judge_in nat_eq fresh world task (Chdir path)) refl (sets_directory member path)
 
 pub chroots_end_alike : ChrootsEndAlike
 chroots_end_alike world names name path it fresh other = by (task_called world name) refl
@@ -159,7 +159,7 @@ chroots_end_alike world names name path it fresh other = by (task_called world n
     part : World ℕ
     part = part_of nat_eq world names
 
-    granted_so : (task : Task ℕ) (member : Among task (members world names)) → task_called world name ≡ Some task
+    granted_so : (task : Task ℕ) (member : IsMember world names task) → task_called world name ≡ Some task
         → (l : Location ℕ) → IsTheirs world names it.is.mounts l.mount
         → judge_in nat_eq fresh world task (Chroot path) ≡ Ok (ToSetRoot l)
         → EndsAlike world names name (Chroot path) fresh other
@@ -167,19 +167,20 @@ chroots_end_alike world names name path it fresh other = by (task_called world n
         moved_alike it task e (record task { root = l }) (record {
           named = refl;
           root = on;
-          directory = directory_theirs world names it.is task member;
+          directory = directory_theirs world names it.is task member.among;
           places = λ k m. ⊎_elim
               (λ here. inr (subst (λ (q : Location ℕ). IsTheirs world names it.is.mounts q.mount) (sym here) on))
               (λ rest. inl (inr rest)) m;
         }) fresh other refl (spaces_kept it task e (record task { root = l }) refl refl)
         (ap (run_by it world fresh task) judged) (ran_there it fresh other task e judged)
 
-    judged_by : (task : Task ℕ) (member : Among task (members world names)) → task_called world name ≡ Some task
+    judged_by : (task : Task ℕ) (member : IsMember world names task) → task_called world name ≡ Some task
         → (j : Judgement ℕ) → judge_in nat_eq fresh world task (Chroot path) ≡ j
-        → IfOk j (SetsRoot world names it.is it.sealed_off task member)
+        → IfOk j (SetsRoot member)
         → EndsAlike world names name (Chroot path) fresh other
     judged_by task member e (Ok permit) judged its =
-        granted_so task member e its.0 (theirs_from world names it.is.mounts its.0.mount its.2) (judged ∙ ap Ok its.1)
+        granted_so task member e its.0 (theirs_from world names it.is.mounts its.0.mount its.2)
+        (judged ∙ ap Ok its.1)
     judged_by task member e (Err deny) judged its = denial_ends_alike it fresh other
         (ap (λ o. is_ok (ran name (Chroot path) world fresh o).answer) e
         ∙ ap (λ j. is_ok (run_by it world fresh task j).answer) judged)
@@ -187,6 +188,5 @@ chroots_end_alike world names name path it fresh other = by (task_called world n
     by : (o : Option (Task ℕ)) → task_called world name ≡ o → EndsAlike world names name (Chroot path) fresh other
     by None e = unnamed_ends_alike it fresh other e
     by (Some task) e =
-        let member = member_called world names it.is it.sealed_off name it.theirs task e in
-        judged_by task member e (judge_in nat_eq fresh world task (Chroot path)) refl
-        (sets_root world names it.is it.sealed_off task member path)
+        let member = caller_in it e in
+        judged_by task member e (judge_in nat_eq fresh world task (Chroot path)) refl (sets_root member path)

@@ -320,7 +320,7 @@ module _ {world : World ℕ} {names set : List TaskName} {gone : List ℕ} (it :
       × (l.mount ≡ m.number)
   placed_old l m =
       let t = among-from_flat_map locations_of old l m in
-      mount_under world names it.is it.sealed_off l (among-flat_map locations_of world.tasks t.0 l
+      mount_under it.sealing l (among-flat_map locations_of world.tasks t.0 l
       (among-from_filter (is_member_task names) world.tasks t.0 t.1).0 t.2)
 
   -- a location of the set that is left is on a mount of the part
@@ -373,7 +373,7 @@ module _ {world : World ℕ} {names set : List TaskName} {gone : List ℕ} (it :
       let was = own_before from.0 (ap (owns new) (sym from.2) ∙ own.1) in
       let is_in = member_was it.regroups t_world world gone group from.0
       (ap (is_member_of nat_eq group) (sym from.2) ∙ y.2) in
-      master_alike it.go it.regroups group (heard_by_own world names it.is it.sealed_off from.0
+      master_alike it.go it.regroups group (heard_by_own it.sealing from.0
       (among-filter (is_own_mount nat_eq world names) world.mounts from.0 from.1 was.1) group
       (source_from_group from.0.propagation group (member_group group from.0 is_in)))
 

@@ -40,7 +40,7 @@ module _ {world : World ℕ} {names set : List TaskName} (left : Retasks world n
   kept = keep world names old
 
   less : SeeLess world names set left.tasks change
-  less = sees_less world names left.is left.sealed_off set left.tasks change left.lets
+  less = sees_less left.sealing set left.tasks change left.lets
 
   there : (y : Mount ℕ) → Among y living.mounts → Among y part.mounts
   there y n = (among-from_filter (mount_lives nat_eq later_part) part.mounts y n).0
@@ -66,7 +66,7 @@ module _ {world : World ℕ} {names set : List TaskName} (left : Retasks world n
       → (y : Mount ℕ) × Among y living.mounts × (l.mount ≡ y.number)
   located_so l m =
       let theirs : Among l (locations new) = subst (λ ts. Among l (locations ts)) left.same m in
-      let on = placed_on world names left.is left.sealed_off set left.tasks change left.lets l theirs in
+      let on = placed_on left.sealing set left.tasks change left.lets l theirs in
       let shows = by on.0 on.1 (left.lets.places l theirs) on.2 in
       let there_too = among-filter_map kept world.mounts on.0 shows.0 on.1 shows.1 in
       let t = among-from_flat_map locations_of (filter (is_member_task set) left.tasks_too) l m in
@@ -84,8 +84,8 @@ module _ {world : World ℕ} {names set : List TaskName} (left : Retasks world n
           (eq-eqb l.mount m.number e))
       by m n (inr theirs) e = (
         m,
-        kept_whole world names old m (ground_whole world names left.is left.sealed_off set left.tasks change left.lets m
-            (ground_is world names left.is left.sealed_off set left.tasks change left.lets m n l.mount e theirs)),
+        kept_whole world names old m (ground_whole left.sealing set left.tasks change left.lets m
+            (ground_is left.sealing set left.tasks change left.lets m n l.mount e theirs)),
       )
 
   -- a mount of the part with a mount point is theirs, and whole
@@ -115,7 +115,7 @@ module _ {world : World ℕ} {names set : List TaskName} (left : Retasks world n
   -- owned by the set of before, so by that of now
   owned_now : (y : Mount ℕ) → is_own world names old y ≡ true
       → is_own world names (filter (is_member_task set) left.tasks_too) y ≡ true
-  owned_now y own = cc (left.same, owned_same world names left.is left.sealed_off set left.tasks change left.lets y)
+  owned_now y own = cc (left.same, owned_same left.sealing set left.tasks change left.lets y)
 
   stood_there : (y : Mount ℕ) → Among y living.mounts
       → is_at nat_eq (roots_and_directories (filter (is_member_task set) left.tasks_too)) y ≡ true

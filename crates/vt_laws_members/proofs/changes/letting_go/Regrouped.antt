@@ -1,6 +1,6 @@
 -- Where mounts of a sealed set are detached, groups and masters are left in the part as in the world.
 use Rattle.std.proofs.Common.{arith, ◌≡◌, refl, sym, ap, ◌∙◌, inl, inr, ⊎_elim, ℕ, nat_eq, Bool, true, false, cond, true≢false, List, [], ◌∷◌, Option, Some, None, find, is_some, map, not, ◌||◌, ◌&&◌, option_map}
-use Rattle.vt_spec.proofs.Common.{Among, HasLivingGroups, IsWorld, Location, Mount, Private, Propagation, Shared, Slave, TaskName, Unbindable, World, after_going, among-filter, among-from_filter, among-from_map, among-map, among_from_all, among_from_list_all, and_parts, any_among, any_from_among, common_steps, detached, false_from_ne_true, groups_up, has_members, heir, holds_of, inherited, inheriting, is_going, is_lost_group, is_member_of, is_nowhere_or_attached, is_own_mount, is_own_namespace, is_private, length-map, list_any, lost_a_group, members, mount_numbered, mount_point_left, mount_point_of_parent, none_is_some, other_mounts, own_mounts, part_of, regrouped_by, same_truth, sealed, shares_no_events, source_of, then_some}
+use Rattle.vt_spec.proofs.Common.{Among, HasLivingGroups, Location, Mount, Private, Propagation, Shared, Slave, TaskName, Unbindable, World, after_going, among-filter, among-from_filter, among-from_map, among-map, among_from_all, among_from_list_all, and_parts, any_among, any_from_among, common_steps, detached, false_from_ne_true, groups_up, has_members, heir, holds_of, inherited, inheriting, is_going, is_lost_group, is_member_of, is_nowhere_or_attached, is_own_mount, is_own_namespace, is_private, length-map, list_any, lost_a_group, members, mount_numbered, mount_point_left, mount_point_of_parent, none_is_some, other_mounts, own_mounts, part_of, regrouped_by, same_truth, shares_no_events, source_of, then_some}
 use Rattle.vt_laws_mounts.proofs.GroupsUp.{source_from_group}
 use Rattle.vt_laws_sealed.proofs.part.part.MountsOver.{numbered}
 use Rattle.vt_laws_sealed.proofs.part.groups.EventsApart.{members_of, none_hears, sides}
@@ -9,6 +9,7 @@ use Rattle.vt_laws_sealed.proofs.part.part.PartOfPart.{is_own}
 use Rattle.vt_laws_members.proofs.judging.Grounds.{IsTheirs, parent_theirs, same_mount, up_alike}
 use Rattle.vt_laws_members.proofs.judging.MountTrees.{own_theirs}
 use Rattle.vt_laws_members.proofs.changes.letting_go.Heard.{IsHeard, above_heard, apart, heard_by_own, master_same, own_in_part, part_source, private_source, up_heard}
+use Rattle.vt_laws_sealed.proofs.part.seals.ByPart.{IsSealed}
 
 -- a search by tests that agree
 pub find_alike : (p q : ℕ → Bool) (xs : List ℕ) → ((x : ℕ) → Among x xs → p x ≡ q x) → find p xs ≡ find q xs
@@ -44,8 +45,8 @@ unlost_none t m e = ap (λ o. is_lost_group nat_eq t o || is_lost_group nat_eq t
 
 -- mounts of theirs that go from a world where they are sealed
 pub record TheirsGo (world : World ℕ) (names : List TaskName) (gone : List ℕ) : Type 0 where
-  pub is : IsWorld nat_eq world
-  pub sealed_off : sealed nat_eq world names ≡ true
+  pub sealing : IsSealed world names
+  pub open sealing use {is, sealed_off}
   pub own_go : (m : Mount ℕ) → Among m world.mounts → is_going nat_eq gone m.number ≡ true
       → is_own world names (members world names) m ≡ true
 
@@ -77,10 +78,10 @@ module _ {world : World ℕ} {names : List TaskName} {gone : List ℕ} (go : The
   left_part = left_by part gone
 
   abbrev Heard : ℕ → Type 0
-  Heard g = IsHeard world names go.is go.sealed_off g
+  Heard g = IsHeard go.sealing g
 
   abbrev events : shares_no_events nat_eq world names ≡ true
-  events = (apart world names go.is go.sealed_off).events
+  events = (apart go.sealing).events
 
   -- members that stay
   cut_member : (w : World ℕ) (g : ℕ) (m : Mount ℕ) → is_member_of nat_eq g (after_going nat_eq w gone m) ≡ true
@@ -97,14 +98,14 @@ module _ {world : World ℕ} {names : List TaskName} {gone : List ℕ} (go : The
       let from = among-from_map cut world.mounts at.0 at.1 in
       let its = cut_member world g from.0 (ap (is_member_of nat_eq g) (sym from.2) ∙ at.2) in
       ⊎_elim (λ own. any_from_among (is_member_of nat_eq g) left_part.mounts (cut_there from.0)
-      (among-map cut_there part.mounts from.0 (own_in_part world names go.is go.sealed_off from.0 own))
+      (among-map cut_there part.mounts from.0 (own_in_part go.sealing from.0 own))
       (stays_member part g from.0 its.1 its.0)) (λ other.
       absurd (none_hears world names go.is.mounts events g from.0 heard.0 other its.0))
       (sides world names go.is.mounts events from.0 g from.1 (member_group g from.0 its.0)))
       (λ h. let at = any_among (is_member_of nat_eq g) left_part.mounts h in
       let from = among-from_map cut_there part.mounts at.0 at.1 in
       let its = cut_member part g from.0 (ap (is_member_of nat_eq g) (sym from.2) ∙ at.2) in
-      let own = part_source world names go.is go.sealed_off from.0 from.1 g
+      let own = part_source go.sealing from.0 from.1 g
       (source_from_group from.0.propagation g (member_group g from.0 its.0)) in
       any_from_among (is_member_of nat_eq g) left.mounts (cut from.0) (among-map cut world.mounts from.0
       (among-from_filter (is_own_mount nat_eq world names) world.mounts from.0 own).0)
@@ -115,7 +116,7 @@ module _ {world : World ℕ} {names : List TaskName} {gone : List ℕ} (go : The
   heir_same (Some g) heard = cc (
     length-map world.mounts cut,
     find_alike (has_members nat_eq left.mounts) (has_members nat_eq left_part.mounts) (groups_up world g) (λ x m.
-        has_same x (up_heard world names go.is go.sealed_off g x (heard g refl) m)),
+        has_same x (up_heard go.sealing g x (heard g refl) m)),
     same_up world names go.is.mounts events g (heard g refl).0 (heard g refl).1,
     length-map part.mounts cut_there,
   )
@@ -126,8 +127,7 @@ module _ {world : World ℕ} {names : List TaskName} {gone : List ℕ} (go : The
     where
       by : (kind : Propagation ℕ) → m.propagation ≡ kind → inherited nat_eq left kind ≡ inherited nat_eq left_part kind
       by (Shared g) e = refl
-      by (Slave g) e =
-          cc (heir_same (Some g) (λ h f. heard_by_own world names go.is go.sealed_off m n h (ap source_of e ∙ f)))
+      by (Slave g) e = cc (heir_same (Some g) (λ h f. heard_by_own go.sealing m n h (ap source_of e ∙ f)))
       by Private e = refl
       by Unbindable e = refl
 
@@ -138,15 +138,15 @@ module _ {world : World ℕ} {names : List TaskName} {gone : List ℕ} (go : The
       up : (g : ℕ) → Heard g → (o : Option ℕ) → world.master g ≡ o
           → is_lost_group nat_eq left o ≡ is_lost_group nat_eq left_part o
       up g heard None e = refl
-      up g heard (Some above) e = ap not (has_same above (above_heard world names go.is go.sealed_off above g e heard))
+      up g heard (Some above) e = ap not (has_same above (above_heard go.sealing above g e heard))
 
       by : (o : Option ℕ) → source_of m.propagation ≡ o
           → (is_lost_group nat_eq left o || is_lost_group nat_eq left (then_some o world.master))
           ≡ (is_lost_group nat_eq left_part o || is_lost_group nat_eq left_part (then_some o part.master))
       by None e = refl
       by (Some g) e =
-          let heard = heard_by_own world names go.is go.sealed_off m n g e in
-          cc (has_same g heard, up g heard (world.master g) refl, master_same world names go.is go.sealed_off g heard)
+          let heard = heard_by_own go.sealing m n g e in
+          cc (has_same g heard, up g heard (world.master g) refl, master_same go.sealing g heard)
 
   -- a mount of others loses none
   other_stays : (m : Mount ℕ) → Among m (other_mounts nat_eq world names) → Among m world.mounts
@@ -217,7 +217,7 @@ module _ {world : World ℕ} {names : List TaskName} {gone : List ℕ} (go : The
               let mine = among-filter (is_own_mount nat_eq world names) world.mounts m n
               (ap (holds_of (is_own_namespace nat_eq world names)) e ∙ own) in
               any_from_among (lost_a_group nat_eq left_part) left_part.mounts (cut_there m)
-              (among-map cut_there part.mounts m (own_in_part world names go.is go.sealed_off m mine))
+              (among-map cut_there part.mounts m (own_in_part go.sealing m mine))
               (stays_lost left_part part m same (sym (lost_same m mine) ∙ lost))
           which false other = absurd (true≢false (sym lost ∙ other_stays m
               (among-filter (λ (x : Mount ℕ). holds_of (λ i. not (is_own_namespace nat_eq world names i)) x.namespace)
@@ -227,7 +227,7 @@ module _ {world : World ℕ} {names : List TaskName} {gone : List ℕ} (go : The
           → (o : Option ℕ) → source_of y.propagation ≡ o → list_any (lost_a_group nat_eq left) left.mounts ≡ true
       back y n same lost None e = absurd (true≢false (sym lost ∙ unlost_none left_part y e))
       back y n same lost (Some g) e =
-          let mine = part_source world names go.is go.sealed_off y n g e in
+          let mine = part_source go.sealing y n g e in
           any_from_among (lost_a_group nat_eq left) left.mounts (cut y)
           (among-map cut world.mounts y (among-from_filter (is_own_mount nat_eq world names) world.mounts y mine).0)
           (stays_lost left world y same (lost_same y mine ∙ lost))
@@ -235,8 +235,8 @@ module _ {world : World ℕ} {names : List TaskName} {gone : List ℕ} (go : The
   -- Masters after
   pub master_alike : (b : Bool) (g : ℕ) → Heard g → master_after b left_part g ≡ master_after b left g
   master_alike b g heard = cc (
-    master_same world names go.is go.sealed_off g heard,
-    heir_same (world.master g) (λ above e. above_heard world names go.is go.sealed_off above g e heard),
+    master_same go.sealing g heard,
+    heir_same (world.master g) (λ above e. above_heard go.sealing above g e heard),
   )
 
   -- where a mount of theirs stands after

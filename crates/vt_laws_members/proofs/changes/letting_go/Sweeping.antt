@@ -1,6 +1,6 @@
 -- The sweep of a part is the part of the sweep, where the tasks of a sealed set use no more than before.
-use Rattle.std.proofs.Common.{◌≡◌, sym, subst, inl, ⊎_elim, ℕ, nat_eq, true, List, [], ◌∷◌, filter, not}
-use Rattle.vt_spec.proofs.Common.{Among, IsWorld, Location, Task, TaskName, World, among-from_filter, among-from_flat_map, among_from_contains, contains_from_among, is_member_task, locations, members, outsiders, part_of, roots_and_directories, sealed}
+use Rattle.std.proofs.Common.{sym, subst, inl, ⊎_elim, ℕ, nat_eq, List, [], ◌∷◌, filter, not}
+use Rattle.vt_spec.proofs.Common.{Among, Location, Task, TaskName, World, among-from_filter, among-from_flat_map, among_from_contains, contains_from_among, is_member_task, locations, members, outsiders, part_of, roots_and_directories}
 use Rattle.vt_laws_sealed.proofs.part.Kept.{filter_again}
 use Rattle.vt_laws_members.proofs.judging.Grounds.{IsTheirs}
 use Rattle.vt_laws_members.proofs.judging.SeenInPart.{directory_theirs, root_theirs}
@@ -8,9 +8,10 @@ use Rattle.vt_laws_members.specs.Changes.LettingGo.{LessIsSeenAlike, SweepsAlike
 use Rattle.vt_laws_members.proofs.changes.letting_go.Changed.{LetsGo, Retasks, sees_less}
 use Rattle.vt_laws_members.proofs.changes.letting_go.SeeLess.{part_of_less}
 use Rattle.vt_laws_members.proofs.changes.letting_go.SweptAlike.{swept_alike}
+use Rattle.vt_laws_sealed.proofs.part.seals.ByPart.{IsSealed, sealed_by}
 
-module _ (world : World ℕ) (names set : List TaskName) (is : IsWorld nat_eq world)
-    (sealed_off : sealed nat_eq world names ≡ true) (tasks : List (Task ℕ))
+module _ {world : World ℕ} {names : List TaskName} (set : List TaskName) (sealing : IsSealed world names)
+    (tasks : List (Task ℕ))
     (uses : UsesNoMore world names set tasks) where
   abbrev old : List (Task ℕ)
   old = members world names
@@ -19,15 +20,15 @@ module _ (world : World ℕ) (names set : List TaskName) (is : IsWorld nat_eq wo
   new = filter (is_member_task set) tasks
 
   -- a root or working directory of theirs
-  stood : (l : Location ℕ) → Among l (roots_and_directories old) → IsTheirs world names is.mounts l.mount
+  stood : (l : Location ℕ) → Among l (roots_and_directories old) → IsTheirs world names sealing.is.mounts l.mount
   stood l m =
       let from = among-from_flat_map (λ (t : Task ℕ). t.root ∷ t.directory ∷ []) old l m in
-      ⊎_elim (λ e. subst (λ (k : Location ℕ). IsTheirs world names is.mounts k.mount) (sym e)
-      (root_theirs world names is from.0 from.1)) (λ rest. ⊎_elim
-      (λ e. subst (λ (k : Location ℕ). IsTheirs world names is.mounts k.mount) (sym e)
-      (directory_theirs world names is from.0 from.1)) (λ none. absurd none) rest) from.2
+      ⊎_elim (λ e. subst (λ (k : Location ℕ). IsTheirs world names sealing.is.mounts k.mount) (sym e)
+      (root_theirs world names sealing.is from.0 from.1)) (λ rest. ⊎_elim
+      (λ e. subst (λ (k : Location ℕ). IsTheirs world names sealing.is.mounts k.mount) (sym e)
+      (directory_theirs world names sealing.is from.0 from.1)) (λ none. absurd none) rest) from.2
 
-  lets_go : LetsGo world names is sealed_off set tasks
+  lets_go : LetsGo sealing set tasks
   lets_go = record {
     own = uses.namespaces;
     roots = λ l m. stood l (among_from_contains (roots_and_directories old) l
@@ -40,19 +41,18 @@ module _ (world : World ℕ) (names set : List TaskName) (is : IsWorld nat_eq wo
 
 pub less_is_seen_alike : LessIsSeenAlike
 less_is_seen_alike world names set is sealed_off tasks uses =
-    let lets = lets_go world names set is sealed_off tasks uses in
+    let lets = lets_go set (sealed_by is sealed_off) tasks uses in
     sym (part_of_less world names is set tasks (filter (is_member_task set) tasks) world.change
-    (part_of nat_eq world names).change (sees_less world names is sealed_off set tasks world.change lets)
+    (part_of nat_eq world names).change (sees_less (sealed_by is sealed_off) set tasks world.change lets)
     (filter_again (is_member_task set) tasks))
 
 pub sweeps_alike : SweepsAlike
 sweeps_alike world names set is sealed_off tasks uses =
     let retasks : Retasks world names set = record {
-      is = is;
-      sealed_off = sealed_off;
+      sealing = sealed_by is sealed_off;
       tasks = tasks;
       tasks_too = filter (is_member_task set) tasks;
-      lets = lets_go world names set is sealed_off tasks uses;
+      lets = lets_go set (sealed_by is sealed_off) tasks uses;
       same = filter_again (is_member_task set) tasks;
       all = λ t m. (among-from_filter (is_member_task set) tasks t m).1;
     } in

@@ -1,7 +1,8 @@
 -- Each umount(2) ends in the part as in the world.
-use Rattle.std.proofs.Common.{arith, ◌≡◌, refl, sym, ap, subst, ◌∙◌, ⊎_elim, ℕ, nat_eq, Bool, true, false, true≢false, List, [], ◌∷◌, Option, Some, None, Ok, Err, is_some, not, IfOk, is_ok}
-use Rattle.vt_spec.proofs.Common.{Among, Call, Done, Fresh, IsWorld, Judgement, Location, Mount, MountInvariants, Outcome, Permit, Rules, Task, TaskName, ToUnmount, Umount, World, admin_rules, among-from_filter_map, among_numbers, common_steps, directory_walk, going, granted, has_child, judge_in, members, mount_at, mount_numbered, none_among, none_from_among, numbers_raised, or_parts, part_of, policy, sealed, settled, stands_on, taken_away, task_called, umount_permit, umount_rules, unless, unmounted, ⊤}
+use Rattle.std.proofs.Common.{arith, ◌≡◌, refl, sym, ap, subst, ◌∙◌, ⊎_elim, ℕ, nat_eq, true, false, true≢false, List, [], ◌∷◌, Option, Some, None, Ok, Err, is_some, IfOk, is_ok}
+use Rattle.vt_spec.proofs.Common.{Among, Call, Done, Fresh, Judgement, Location, Mount, MountInvariants, Outcome, Permit, Rules, Task, TaskName, ToUnmount, Umount, World, admin_rules, among-from_filter_map, among_numbers, common_steps, directory_walk, going, granted, has_child, judge_in, members, mount_at, mount_numbered, none_among, none_from_among, not-false, numbers_raised, or_parts, part_of, policy, settled, stands_on, taken_away, task_called, umount_permit, umount_rules, unless, unmounted, ⊤}
 use Rattle.vt_laws_members.proofs.detached.lazily.GoingAlike.{going_alike, going_own}
+use Rattle.vt_laws_members.proofs.judging.TheirCalls.{IsMember, caller_in, sealing_of}
 use Rattle.vt_laws_sealed.proofs.part.part.MountsOver.{nowhere_stands, numbered}
 use Rattle.vt_laws_mounts.proofs.ends.Ending.{unmount_keeps_mounts}
 use Rattle.vt_laws_sealed.proofs.part.part.PartOfPart.{is_own, keep, kept_how}
@@ -11,12 +12,13 @@ use Rattle.vt_laws_members.proofs.judging.Grounds.{IsTheirs, same_mount, theirs_
 use Rattle.vt_laws_members.specs.Changes.Changes.{EndAlike, EndsAlike, IsCallOfTheirs, grown}
 use Rattle.vt_laws_members.specs.Changes.LettingGo.{UmountsEndAlike}
 use Rattle.vt_laws_members.proofs.changes.looks.Granted.{of_rules, of_walk}
-use Rattle.vt_laws_members.proofs.changes.looks.Told.{member_called, ran, same_caller}
+use Rattle.vt_laws_members.proofs.changes.looks.Told.{ran, same_caller}
 use Rattle.vt_laws_members.proofs.changes.tasks.Denied.{denial_ends_alike, ran_there, run_by, unnamed_ends_alike}
 use Rattle.vt_laws_members.proofs.changes.letting_go.Moving.{StandsHere, at_directory, one}
 use Rattle.vt_laws_members.proofs.changes.letting_go.PartMounts.{part_mounts}
 use Rattle.vt_laws_members.proofs.changes.letting_go.Taken.{taken_parts}
 use Rattle.vt_laws_members.proofs.changes.letting_go.Regrouped.{TheirsGo}
+use Rattle.vt_laws_sealed.proofs.part.seals.ByPart.{IsSealed}
 
 -- What is granted has passed all rules.
 abbrev pub Passed : Rules → Type 0
@@ -30,8 +32,7 @@ of_passed P ((true, rule) ∷ rules) r next = tt
 of_passed P ((false, rule) ∷ rules) r next = of_passed P rules r (λ passed. next (refl, passed))
 
 -- What a granted umount takes away
-module _ (world : World ℕ) (names : List TaskName) (is : IsWorld nat_eq world)
-    (sealed_off : sealed nat_eq world names ≡ true) (task : Task ℕ) (member : Among task (members world names)) where
+module _ {world : World ℕ} {names : List TaskName} {task : Task ℕ} (member : IsMember world names task) where
   abbrev On : ℕ → Type 0
   On number = is_theirs world names number ≡ true
 
@@ -39,42 +40,35 @@ module _ (world : World ℕ) (names : List TaskName) (is : IsWorld nat_eq world)
   Unmounts permit = (here : Location ℕ) × (permit ≡ ToUnmount here.mount) × On here.mount
       × (is_some (mount_at nat_eq world here).mount_point ≡ true) × (has_child nat_eq world here.mount ≡ false)
 
-  pointed : (b : Bool) → not b ≡ false → b ≡ true
-  pointed true e = refl
-  pointed false e = sym e
-
   unmounts : (path : List ℕ) → IfOk
-      (umount_permit nat_eq (one world names is sealed_off task member) task path) Unmounts
+      (umount_permit nat_eq (one member) task path) Unmounts
   unfolding umount_permit
   unmounts path = of_rules Unmounts (admin_rules task) _
-      (of_walk (StandsHere world names is sealed_off task member) Unmounts
-      (directory_walk nat_eq (one world names is sealed_off task member) task path)
-      (λ here. unless (umount_rules nat_eq (one world names is sealed_off task member) task here.location)
-      (Ok (ToUnmount here.location.mount))) (at_directory world names is sealed_off task member path)
-      (λ here on. of_passed Unmounts
-      (umount_rules nat_eq (one world names is sealed_off task member) task here.location)
+      (of_walk (StandsHere member) Unmounts (directory_walk nat_eq (one member) task path)
+      (λ here. unless (umount_rules nat_eq (one member) task here.location) (Ok (ToUnmount here.location.mount)))
+      (at_directory member path) (λ here on. of_passed Unmounts (umount_rules nat_eq (one member) task here.location)
       (Ok (ToUnmount here.location.mount)) (λ passed. (
         here.location,
         refl,
         on,
-        pointed (is_some (mount_at nat_eq world here.location).mount_point) passed.1.1.1.0,
+        not-false (is_some (mount_at nat_eq world here.location).mount_point) passed.1.1.1.0,
         (or_parts (has_child nat_eq world here.location.mount) _ passed.1.1.0).0,
       ))))
 
 -- what goes with a mount of theirs is theirs
-theirs_go : (world : World ℕ) (names : List TaskName) (is : IsWorld nat_eq world)
-    (sealed_off : sealed nat_eq world names ≡ true) (mount : Mount ℕ) → Among mount world.mounts
-    → is_own world names (members world names) mount ≡ true → TheirsGo world names (going nat_eq world mount)
-theirs_go world names is sealed_off mount there own = record {
-  is = is;
-  sealed_off = sealed_off;
-  own_go = λ m n h.
-      let its = going_own world names is.mounts (no_events world names is sealed_off) mount m.number there own
-      (among_numbers (going nat_eq world mount) m.number h) in
-      let same : its.0 ≡ m = sym (numbered world names is.mounts its.0 its.1) ∙ ap (mount_numbered nat_eq world) its.3
-      ∙ numbered world names is.mounts m n in
-      ap (is_own world names (members world names)) (sym same) ∙ its.2;
-}
+module _ {world : World ℕ} {names : List TaskName} (sealing : IsSealed world names) where
+  theirs_go : (mount : Mount ℕ) → Among mount world.mounts
+      → is_own world names (members world names) mount ≡ true → TheirsGo world names (going nat_eq world mount)
+  theirs_go mount there own = record {
+    sealing = sealing;
+    own_go = λ m n h.
+        let its = going_own world names sealing.is.mounts (no_events sealing) mount m.number there own
+        (among_numbers (going nat_eq world mount) m.number h) in
+        let same : its.0 ≡ m = sym (numbered world names sealing.is.mounts its.0 its.1) ∙ ap
+        (mount_numbered nat_eq world) its.3
+        ∙ numbered world names sealing.is.mounts m n in
+        ap (is_own world names (members world names)) (sym same) ∙ its.2;
+  }
 
 -- A call that detaches a mount of theirs without children
 module _ {world : World ℕ} {names : List TaskName} {name : TaskName} {call : Call}
@@ -113,7 +107,7 @@ module _ {world : World ℕ} {names : List TaskName} {name : TaskName} {call : C
     same_mount,
     theirs,
     going_alike world names it.is.mounts
-        (no_events world names it.is it.sealed_off),
+        (no_events (sealing_of it)),
     mount_there,
     mount_own,
   )
@@ -131,7 +125,7 @@ module _ {world : World ℕ} {names : List TaskName} {name : TaskName} {call : C
 
   kept_part : MountInvariants nat_eq (taken_away nat_eq there (going nat_eq world mount_of))
   kept_part = subst (λ l. MountInvariants nat_eq (taken_away nat_eq there l)) same_going
-      (unmount_keeps_mounts there number (part_mounts world names it.is it.sealed_off) alone_there)
+      (unmount_keeps_mounts there number (part_mounts (sealing_of it)) alone_there)
 
   -- the outcome
   abbrev pub detaches : World ℕ → Outcome ℕ
@@ -144,8 +138,7 @@ module _ {world : World ℕ} {names : List TaskName} {name : TaskName} {call : C
       let first : policy nat_eq fresh world name call ≡ detaches world = ap (ran name call world fresh) called ∙ one in
       let second : policy nat_eq other there name call ≡ granted Done (numbers_raised nat_eq there name []
       (settled nat_eq (taken_away nat_eq there (going nat_eq world mount_of)))) =
-      ap (ran name call there other) (same_caller world names it.is it.sealed_off name it.theirs ∙ called) ∙ two
-      ∙ ap (λ l. granted Done
+      ap (ran name call there other) (same_caller (sealing_of it) name it.theirs ∙ called) ∙ two ∙ ap (λ l. granted Done
       (numbers_raised nat_eq there name [] (settled nat_eq (taken_away nat_eq there l)))) same_going in
       subst (λ p. EndAlike (grown names name call (policy nat_eq fresh world name call).answer)
       (policy nat_eq fresh world name call) p) (sym second)
@@ -154,16 +147,16 @@ module _ {world : World ℕ} {names : List TaskName} {name : TaskName} {call : C
       (subst (λ s. EndAlike s (detaches world) (granted Done (numbers_raised nat_eq there name []
       (settled nat_eq (taken_away nat_eq there (going nat_eq world mount_of)))))) (sym stays) (record {
         answer = refl;
-        part = taken_parts (theirs_go world names it.is it.sealed_off mount_of mount_there mount_own) kept_world
+        part = taken_parts (theirs_go (sealing_of it) mount_of mount_there mount_own) kept_world
             kept_part name;
       })))
 
 pub umounts_end_alike : UmountsEndAlike
 umounts_end_alike world names name path it fresh other = by (task_called world name) refl
   where
-    judged_by : (task : Task ℕ) (member : Among task (members world names)) → task_called world name ≡ Some task
+    judged_by : (task : Task ℕ) (member : IsMember world names task) → task_called world name ≡ Some task
         → (j : Judgement ℕ) → judge_in nat_eq fresh world task (Umount path) ≡ j
-        → IfOk j (Unmounts world names it.is it.sealed_off task member)
+        → IfOk j (Unmounts member)
         → EndsAlike world names name (Umount path) fresh other
     judged_by task member e (Ok permit) judged its =
         detached_alike it task e its.0.mount its.2 its.3 its.4 fresh other refl
@@ -176,6 +169,5 @@ umounts_end_alike world names name path it fresh other = by (task_called world n
     by : (o : Option (Task ℕ)) → task_called world name ≡ o → EndsAlike world names name (Umount path) fresh other
     by None e = unnamed_ends_alike it fresh other e
     by (Some task) e =
-        let member = member_called world names it.is it.sealed_off name it.theirs task e in
-        judged_by task member e (judge_in nat_eq fresh world task (Umount path)) refl
-        (unmounts world names it.is it.sealed_off task member path)
+        let member = caller_in it e in
+        judged_by task member e (judge_in nat_eq fresh world task (Umount path)) refl (unmounts member path)

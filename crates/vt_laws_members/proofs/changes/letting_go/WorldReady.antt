@@ -1,13 +1,13 @@
 -- A world in which tasks of a sealed set let locations go is ready to be swept.
 use Rattle.std.proofs.Common.{arith, ◌≡◌, refl, sym, ap, subst, ◌∙◌, ◌⊎◌, inl, inr, ⊎_elim, ℕ, nat_eq, Bool, true, false, true≢false, List, [], Option, Some, None, filter, is_some, not, eq-eqb, eqb-true}
-use Rattle.vt_spec.proofs.Common.{Among, Filesystem, IsTree, IsWorld, Layer, ListsNumbers, Location, Mount, Overlay, Task, TaskName, World, all_locations, among-filter, among-flat_map, among-from_filter, among-from_flat_map, among_from_all, among_from_list_all, among_numbers, and_parts, any_among, any_from_among, common_steps, filesystem_numbered, has_layer_on, holds_of, is_among_numbers, is_located, is_member_task, is_overlay, is_own_namespace, layers_of, list_any, locations, locations_of, members, mount_at, mount_lives, mount_numbered, no_outsider_on, none_among, none_from_not_some, not-true, or_cases, or_left, or_right, other_mounts, outsiders, overlay_or, own_lowers, pair-filter, part_of, sealed, used_alone, used_filesystems, wholly_locked, without_dead_mounts}
+use Rattle.vt_spec.proofs.Common.{Among, Filesystem, IsTree, IsWorld, Layer, ListsNumbers, Location, Mount, Overlay, Task, TaskName, World, all_locations, among-filter, among-flat_map, among-from_filter, among-from_flat_map, among_from_all, among_from_list_all, among_numbers, and_parts, any_among, any_from_among, common_steps, filesystem_numbered, has_layer_on, holds_of, is_among_numbers, is_located, is_member_task, is_overlay, is_own_namespace, layers_of, list_any, locations, locations_of, members, mount_at, mount_lives, mount_numbered, no_outsider_on, none_among, none_from_not_some, not-true, or_cases, or_left, or_right, other_mounts, outsiders, overlay_or, own_lowers, pair-filter, part_of, used_alone, used_filesystems, wholly_locked, without_dead_mounts}
 use Rattle.vt_laws_mounts.proofs.letting_go.sweeps.OfWorlds.{found_filesystem}
 use Rattle.vt_laws_mounts.proofs.mounts.MountsReplaced.{found_itself}
 use Rattle.vt_laws_sealed.specs.Part.Parts.{SeesTheSame}
 use Rattle.vt_laws_sealed.proofs.part.part.DeadMounts.{mounts_kept}
 use Rattle.vt_laws_sealed.proofs.part.part.PartOfPart.{is_own}
 use Rattle.vt_laws_sealed.proofs.part.part.Observed.{lowers_same, used_same}
-use Rattle.vt_laws_sealed.proofs.part.seals.ByPart.{layer_plain, used_are_free}
+use Rattle.vt_laws_sealed.proofs.part.seals.ByPart.{IsSealed, layer_plain, used_are_free}
 use Rattle.vt_laws_members.proofs.changes.letting_go.Changed.{LetsGo, mount_under, owned_same, mount_parent, placed_on, sees_less, stood_so}
 use Rattle.vt_laws_members.proofs.changes.letting_go.CutAgain.{uncut}
 use Rattle.vt_laws_members.proofs.changes.letting_go.Ready.{AllNamed, Alone, IsCut, NoOthers, Ready, layered_overlay}
@@ -65,9 +65,9 @@ pub all_named_there : (world : World ℕ) (names : List TaskName) (is : IsWorld 
 all_named_there world names is x m locked object n =
     grind (arith, common_steps, found_filesystem, and_parts, eqb-true, among_numbers, or_cases, among_from_list_all)
 
-module _ (world : World ℕ) (names : List TaskName) (is : IsWorld nat_eq world)
-    (sealed_off : sealed nat_eq world names ≡ true) (set : List TaskName) (tasks : List (Task ℕ)) (change : ℕ)
-    (it : LetsGo world names is sealed_off set tasks) where
+module _ {world : World ℕ} {names : List TaskName} (sealing : IsSealed world names) (set : List TaskName)
+    (tasks : List (Task ℕ)) (change : ℕ)
+    (it : LetsGo sealing set tasks) where
   abbrev later : World ℕ
   later = record world { tasks = tasks; change = change }
 
@@ -115,7 +115,7 @@ module _ (world : World ℕ) (names : List TaskName) (is : IsWorld nat_eq world)
           where
             which : (b : Bool) → is_own_namespace nat_eq world names k ≡ b
                 → (is_own world names new m ≡ true) ⊎ (m.namespace ≡ None)
-            which true own = inl (owned_same world names is sealed_off set tasks change it m
+            which true own = inl (owned_same sealing set tasks change it m
                 ∙ ap (holds_of (is_own_namespace nat_eq world names)) f ∙ own)
             which false other = absurd (true≢false (sym (eq-eqb number m.filesystem (sym e))
                 ∙ none_among (λ (y : Mount ℕ). nat_eq number y.filesystem) (other_mounts nat_eq world names) nobody.0 m
@@ -137,13 +137,14 @@ module _ (world : World ℕ) (names : List TaskName) (is : IsWorld nat_eq world)
             let out = it.others l (among-flat_map locations_of (filter (λ y. not (is_member_task set y)) tasks) t l
             (among-filter (λ y. not (is_member_task set y)) tasks t n (ap not other)) at) in
             let from = among-from_flat_map locations_of (outsiders world names) l out in
-            let under = mount_under world names is sealed_off l (among-flat_map locations_of world.tasks from.0 l
+            let under = mount_under sealing l (among-flat_map locations_of world.tasks from.0 l
             (among-from_filter (λ y. not (is_member_task names y)) world.tasks from.0 from.1).0 from.2) in
             let alive = located_lives under.0 l under.1 m under.2 in
             let same : mount_at nat_eq living l ≡ mount_at nat_eq world l = ap (mount_numbered nat_eq living) under.2
             ∙ found_itself living.mounts
             (pair-filter (λ (p q : Mount ℕ). nat_eq p.number q.number) (mount_lives nat_eq later) world.mounts
-            is.mounts.one_number) under.0 alive ∙ sym (found_itself world.mounts is.mounts.one_number under.0 under.1)
+            sealing.is.mounts.one_number) under.0 alive ∙ sym (found_itself world.mounts sealing.is.mounts.one_number
+            under.0 under.1)
             ∙ sym (ap (mount_numbered nat_eq world) under.2) in
             absurd (true≢false (sym (eq-eqb number (mount_at nat_eq world l).filesystem
             (sym (ap (λ (k : Mount ℕ). k.filesystem) (sym same) ∙ e)))
@@ -172,20 +173,21 @@ module _ (world : World ℕ) (names : List TaskName) (is : IsWorld nat_eq world)
     used_are = used_same later living set (sees_living later set);
     lowers_are = lowers_same later living set (sees_living later set);
     one = pair-filter (λ (p q : Mount ℕ). nat_eq p.number q.number) (mount_lives nat_eq later) world.mounts
-        is.mounts.one_number;
+        sealing.is.mounts.one_number;
     lives = λ m n. (among-from_filter (mount_lives nat_eq later) world.mounts m n).1;
-    located = λ l m. let on = placed_on world names is sealed_off set tasks change it l m in
+    located = λ l m. let on = placed_on sealing set tasks change it l m in
         (on.0, located_lives on.0 l on.1 (of_all l m) on.2, on.2);
-    parents = λ m l n point. let up = mount_parent world is.mounts m l (there m n) point in
+    parents = λ m l n point. let up = mount_parent world sealing.is.mounts m l (there m n) point in
         (up.0, up.1, up.2, attached_lives up.2 up.0 up.3 up.5, up.4, up.5);
-    stood = λ m n h. stood_so world names is sealed_off set tasks change it m (there m n) h;
-    one_filesystem = is.files.one_filesystem;
-    plain = plain_in world names is;
-    free = λ x m u. ⊎_elim (λ h. inl (alone x.number h)) (λ h. inr (all_named_there world names is x m h))
+    stood = λ m n h. stood_so sealing set tasks change it m (there m n) h;
+    one_filesystem = sealing.is.files.one_filesystem;
+    plain = plain_in world names sealing.is;
+    free = λ x m u. ⊎_elim (λ h. inl (alone x.number h)) (λ h. inr (all_named_there world names sealing.is x m h))
         (or_cases (used_alone nat_eq world names x.number) (wholly_locked nat_eq world names x.number)
-        (used_are_free world names sealed_off x.number (among_numbers (used_filesystems nat_eq world names) x.number
-        (used_was world names is set later (record (part_of nat_eq world names) { tasks = tasks; change = change })
-        (now_less world names is set tasks tasks change change (sees_less world names is sealed_off set tasks change it)
+        (used_are_free world names sealing.sealed_off x.number (among_numbers (used_filesystems nat_eq world names)
+        x.number (used_was world names sealing.is set later (record (part_of nat_eq world names)
+        { tasks = tasks; change = change }) (now_less world names sealing.is set tasks tasks change change
+        (sees_less sealing set tasks change it)
         refl) x.number u))));
-    cut = λ x m unused low. whole_cut world is (own_lowers nat_eq later set) x m;
+    cut = λ x m unused low. whole_cut world sealing.is (own_lowers nat_eq later set) x m;
   }

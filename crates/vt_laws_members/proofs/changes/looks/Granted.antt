@@ -1,7 +1,8 @@
 -- What a call of theirs that only looks is granted: to look at what is on mounts of theirs, or at an open file.
 use Rattle.std.proofs.Common.{◌≡◌, refl, sym, inr, ℕ, nat_eq, Bool, true, false, cond, find, true≢false, List, [], ◌∷◌, Option, Some, None, Ok, Err, Result, IfOk, ok_or, option_to_list, ◌==◌}
-use Rattle.vt_spec.proofs.Common.{Allowed, Among, Bind, Call, Chdir, Chmod, Chown, Chroot, Close, Descriptor, Drop, Exec, Exit, Fork, Here, IsWorld, Judgement, Lazy, LinkTo, ListMounts, Location, Looks, Ls, Lstat, MakeWhiteout, Mkdir, MountOverlay, MountPlain, MoveMount, Opaque, OpenFile, Permit, PivotRoot, Pread, Pwrite, Read, Readlink, Remount, Rename, Rmdir, Rules, SetType, Setns, Stat, Stop, SymlinkAt, Task, TaskName, ToList, ToListMounts, ToRead, ToReadPart, ToStat, Umask, Umount, Unlink, Unshare, World, Write, among-flat_map, among-map, and_then, denial, descriptor_numbered, directory_walk, exec_permit, exec_rules, found_among, is_among, judge, list_permit, list_rules, locations, locations_of, looks_of, lstat_permit, members, object_walk, only_looks, part_of, pread_permit, read_permit, read_rules, readlink_permit, readlink_rules, sealed, stat_permit, symlink_walk, unless, used_filesystems, walk_end, ⊤}
+use Rattle.vt_spec.proofs.Common.{Allowed, Among, Bind, Call, Chdir, Chmod, Chown, Chroot, Close, Descriptor, Drop, Exec, Exit, Fork, Here, Judgement, Lazy, LinkTo, ListMounts, Location, Looks, Ls, Lstat, MakeWhiteout, Mkdir, MountOverlay, MountPlain, MoveMount, Opaque, OpenFile, Permit, PivotRoot, Pread, Pwrite, Read, Readlink, Remount, Rename, Rmdir, Rules, SetType, Setns, Stat, Stop, SymlinkAt, Task, TaskName, ToList, ToListMounts, ToRead, ToReadPart, ToStat, Umask, Umount, Unlink, Unshare, World, Write, among-flat_map, among-map, and_then, denial, descriptor_numbered, directory_walk, exec_permit, exec_rules, found_among, is_among, judge, list_permit, list_rules, locations, locations_of, looks_of, lstat_permit, members, object_walk, only_looks, part_of, pread_permit, read_permit, read_rules, readlink_permit, readlink_rules, stat_permit, symlink_walk, unless, used_filesystems, walk_end, ⊤}
 use Rattle.vt_spec.specs.declared.errors.Rule.TheVariants.{S4}
+use Rattle.vt_laws_members.proofs.judging.TheirCalls.{IsMember}
 use Rattle.vt_laws_members.specs.Changes.Changes.{left}
 use Rattle.vt_laws_members.specs.Judging.{is_theirs}
 use Rattle.vt_laws_members.proofs.judging.AllJudged.{judges}
@@ -29,8 +30,7 @@ IsLook own files (ToReadPart file offset size) = Among file files
 IsLook own files ToListMounts = ⊤
 IsLook own files permit = ⊥
 
-module _ (world : World ℕ) (names : List TaskName) (is : IsWorld nat_eq world)
-    (sealed_off : sealed nat_eq world names ≡ true) (task : Task ℕ) (member : Among task (members world names)) where
+module _ {world : World ℕ} {names : List TaskName} {task : Task ℕ} (member : IsMember world names task) where
   abbrev one : Looks ℕ
   one = looks_of nat_eq world
 
@@ -45,7 +45,7 @@ module _ (world : World ℕ) (names : List TaskName) (is : IsWorld nat_eq world)
 
   alike : JudgesAlike one other task (is_theirs world names) (λ number. is_among nat_eq number
       (used_filesystems nat_eq world names))
-  alike = judges world names is sealed_off task member
+  alike = judges member
 
   abbrev StandsHere : Here ℕ → Type 0
   StandsHere = HereAt one other task On alike.walks alike.directory alike.rules.removed
@@ -62,7 +62,7 @@ module _ (world : World ℕ) (names : List TaskName) (is : IsWorld nat_eq world)
   -- an open file of theirs
   pub opened_theirs : (descriptor : Descriptor ℕ) → Among descriptor task.descriptors
       → Among descriptor.location (locations (members world names))
-  opened_theirs descriptor m = among-flat_map locations_of (members world names) task descriptor.location member
+  opened_theirs descriptor m = among-flat_map locations_of (members world names) task descriptor.location member.among
       (inr (inr (among-map (λ (d : Descriptor ℕ). d.location) task.descriptors descriptor m)))
 
   pread_looks : (number offset size : ℕ) → IfOk (pread_permit task number offset size) Looked

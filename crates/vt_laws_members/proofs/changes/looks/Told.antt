@@ -1,7 +1,8 @@
 -- Calls of theirs that only look are answered in the part as in the world.
 use Rattle.std.proofs.Common.{arith, ◌≡◌, refl, sym, ap, subst, ◌∙◌, ℕ, nat_eq, true, List, Option, Some, None, Ok, Err, not, drop, ◌||◌, IfOk, is_ok, ok_or, take}
-use Rattle.vt_spec.proofs.Common.{Allowed, Among, Bytes, Call, Fresh, IsWorld, Judgement, Location, MountList, Names, Outcome, Permit, Task, TaskName, ToList, ToListMounts, ToRead, ToReadPart, ToStat, Told, World, after, among-filter, apply, bytes_in, call_outcome, common_steps, contains_from_among, denial, filesystems_changed_by, finished, finished_by, found_among, found_passes, is_among, is_member_task, judge_in, locations, members, mount_at, names_in, node_at, overfills, part_of, policy, same_name, same_task_name, sealed, stat_line, task_called}
+use Rattle.vt_spec.proofs.Common.{Allowed, Among, Bytes, Call, Fresh, Judgement, Location, MountList, Names, Outcome, Permit, Task, TaskName, ToList, ToListMounts, ToRead, ToReadPart, ToStat, Told, World, after, apply, bytes_in, call_outcome, common_steps, contains_from_among, denial, filesystems_changed_by, finished, finished_by, is_among, judge_in, locations, members, mount_at, names_in, node_at, overfills, part_of, policy, same_name, stat_line, task_called}
 use Rattle.vt_spec.specs.declared.errors.Rule.TheVariants.{S2}
+use Rattle.vt_laws_members.proofs.judging.TheirCalls.{a_member, caller_in, sealing_of}
 use Rattle.vt_laws_sealed.proofs.part.part.PartOfPart.{found, located}
 use Rattle.vt_laws_members.specs.Judging.{is_theirs}
 use Rattle.vt_laws_members.proofs.judging.AllJudged.{called_alike, walks}
@@ -11,9 +12,9 @@ use Rattle.vt_laws_members.specs.Changes.Changes.{EndAlike, LooksEndAlike, grown
 use Rattle.vt_laws_members.proofs.changes.looks.Granted.{IsLook, looked}
 use Rattle.vt_laws_members.proofs.changes.looks.Listed.{lines_alike}
 use Rattle.vt_laws_members.proofs.changes.part.PartAgain.{part_again}
+use Rattle.vt_laws_sealed.proofs.part.seals.ByPart.{IsSealed}
 
-module _ (world : World ℕ) (names : List TaskName) (is : IsWorld nat_eq world)
-    (sealed_off : sealed nat_eq world names ≡ true) where
+module _ {world : World ℕ} {names : List TaskName} (sealing : IsSealed world names) where
   abbrev part : World ℕ
   part = part_of nat_eq world names
 
@@ -22,18 +23,11 @@ module _ (world : World ℕ) (names : List TaskName) (is : IsWorld nat_eq world)
       → task_called part name ≡ task_called world name
   same_caller name theirs = called_alike names name theirs world.tasks
 
-  pub member_called : (name : TaskName) → is_among same_name name names ≡ true → (task : Task ℕ)
-      → task_called world name ≡ Some task → Among task (members world names)
-  member_called name theirs task e = among-filter (is_member_task names) world.tasks task
-      (found_among (λ (t : Task ℕ). same_name name t.name) world.tasks task e) (ap (λ n. is_among same_name n names)
-      (sym (same_task_name name task.name (found_passes (λ (t : Task ℕ). same_name name t.name) world.tasks task e)))
-      ∙ theirs)
-
   -- an open file of theirs
   pub open_file : (file : Location ℕ) → Among file (locations (members world names))
       → node_at nat_eq world file ≡ node_at nat_eq part file
   open_file file m = cc (
-    found world names (mount_at nat_eq world file).filesystem (located_used world names is file m),
+    found world names (mount_at nat_eq world file).filesystem (located_used world names sealing.is file m),
     located world names file m,
   )
 
@@ -49,17 +43,18 @@ module _ (world : World ℕ) (names : List TaskName) (is : IsWorld nat_eq world)
     told : (permit : Permit ℕ) → Looked permit → ToldAlike permit
     told Allowed on = (refl, refl, refl)
     told (ToList directory) on = (
-      ap (λ n. Ok (Names (names_in n))) ((walks world names is sealed_off task member).node directory on),
+      ap (λ n. Ok (Names (names_in n))) ((walks (a_member sealing member)).node directory on),
       refl,
       refl,
     )
     told (ToStat object) on =
-        (ap (λ n. Ok (Told (stat_line n))) ((walks world names is sealed_off task member).node object on), refl, refl)
+        (ap (λ n. Ok (Told (stat_line n))) ((walks (a_member sealing member)).node object on), refl, refl)
     told (ToRead file) on =
-        (ap (λ n. Ok (Bytes (bytes_in n))) ((walks world names is sealed_off task member).node file on), refl, refl)
+        (ap (λ n. Ok (Bytes (bytes_in n))) ((walks (a_member sealing member)).node file on), refl, refl)
     told (ToReadPart file offset size) on =
         (ap (λ n. Ok (Bytes (take size (drop offset (bytes_in n))))) (open_file file on), refl, refl)
-    told ToListMounts on = (ap (λ l. Ok (MountList l)) (sym (lines_alike world names is task member)), refl, refl)
+    told ToListMounts on =
+        (ap (λ l. Ok (MountList l)) (sym (lines_alike world names sealing.is task member)), refl, refl)
     told permit on = absurd on
 
     -- an answer that leaves the set
@@ -71,7 +66,7 @@ module _ (world : World ℕ) (names : List TaskName) (is : IsWorld nat_eq world)
         → EndAlike (grown names name call (after world j (apply nat_eq fresh world task)).answer)
         (after world j (apply nat_eq fresh world task)) (after part j (apply nat_eq other part task))
     looks_by name call same (Ok permit) on = grind (arith, common_steps, told, stays, part_again)
-    looks_by name call same (Err deny) on = record { answer = refl; part = sym (part_again world names is) }
+    looks_by name call same (Err deny) on = record { answer = refl; part = sym (part_again world names sealing.is) }
 
 -- a call by the task that is found
 abbrev pub ran : TaskName → Call → World ℕ → Fresh ℕ → Option (Task ℕ) → Outcome ℕ
@@ -90,10 +85,9 @@ looks_end_alike world names name call it looks fresh other = by (task_called wor
         (ran name call part other found) → EndAlike (grown names name call (policy nat_eq fresh world name call).answer)
         (policy nat_eq fresh world name call) (policy nat_eq other part name call)
     also found e alike = subst (λ p. EndAlike (grown names name call (policy nat_eq fresh world name call).answer)
-        (policy nat_eq fresh world name call) p)
-        (sym (ap (ran name call part other) (same_caller world names it.is it.sealed_off name it.theirs ∙ e)))
-        (subst (λ o. EndAlike (grown names name call o.answer) o (ran name call part other found))
-        (sym (ap (ran name call world fresh) e)) alike)
+        (policy nat_eq fresh world name call) p) (sym (ap (ran name call part other)
+        (same_caller (sealing_of it) name it.theirs ∙ e))) (subst (λ o. EndAlike (grown names name call o.answer) o
+        (ran name call part other found)) (sym (ap (ran name call world fresh) e)) alike)
 
     looking : (w : World ℕ) (fr : Fresh ℕ) (task : Task ℕ)
         → ran name call w fr (Some task) ≡ call_outcome nat_eq fr w task call
@@ -106,14 +100,14 @@ looks_end_alike world names name call it looks fresh other = by (task_called wor
         (policy nat_eq fresh world name call) (policy nat_eq other part name call)
     by None e = also None e (record { answer = refl; part = sym (part_again world names it.is) })
     by (Some task) e =
-        let member = member_called world names it.is it.sealed_off name it.theirs task e in
-        let granted = looked world names it.is it.sealed_off task member
+        let member = caller_in it e in
+        let granted = looked member
         (overfills nat_eq fresh world task) names name call looks in
         let judged : judge_in nat_eq fresh world task call ≡ judge_in nat_eq other part task call =
         members_are_judged_by_their_part world names task call (record {
           is = it.is;
           sealed_off = it.sealed_off;
-          member = contains_from_among (members world names) task member;
+          member = contains_from_among (members world names) task member.among;
           among_them = it.among_them;
         }) fresh other in
         also (Some task) e (subst (λ p. EndAlike (grown names name call (ran name call world fresh (Some task)).answer)
@@ -121,6 +115,5 @@ looks_end_alike world names name call it looks fresh other = by (task_called wor
         (sym (looking part other task ∙ ap (λ j. after part j (apply nat_eq other part task)) (sym judged)))
         (subst (λ o. EndAlike (grown names name call o.answer) o
         (after part (judge_in nat_eq fresh world task call) (apply nat_eq other part task)))
-        (sym (looking world fresh task))
-        (looks_by world names it.is it.sealed_off task member fresh other name call granted.1
+        (sym (looking world fresh task)) (looks_by (sealing_of it) task member.among fresh other name call granted.1
         (judge_in nat_eq fresh world task call) granted.0)))

@@ -1,6 +1,7 @@
 -- Each mount(2) with MS_REMOUNT and MS_BIND ends in the part as in the world.
 use Rattle.std.proofs.Common.{◌≡◌, refl, sym, ap, subst, ◌∙◌, ℕ, nat_eq, Bool, true, false, List, [], Option, Some, None, Ok, Err, not, IfOk, is_ok}
-use Rattle.vt_spec.proofs.Common.{Among, Done, Fresh, IsWorld, Judgement, Location, Mount, MountFlags, Permit, Remount, Task, TaskName, ToSetFlags, World, admin_rules, directory_walk, granted, holds_of, judge_in, members, mount_at, mount_numbered, numbers_raised, part_of, policy, remount_permit, remount_rules, sealed, task_called, unless, with_mount, with_mounts}
+use Rattle.vt_spec.proofs.Common.{Among, Done, Fresh, Judgement, Location, Mount, MountFlags, Permit, Remount, Task, TaskName, ToSetFlags, World, admin_rules, directory_walk, granted, holds_of, judge_in, members, mount_at, mount_numbered, numbers_raised, part_of, policy, remount_permit, remount_rules, task_called, unless, with_mount, with_mounts}
+use Rattle.vt_laws_members.proofs.judging.TheirCalls.{IsMember, caller_in, sealing_of}
 use Rattle.vt_laws_mounts.proofs.letting_go.leaving.UsesKept.{set_flags_keep_all}
 use Rattle.vt_laws_mounts.proofs.letting_go.sweeps.OfWorlds.{all_in_use}
 use Rattle.vt_laws_sealed.proofs.part.part.PartOfPart.{is_own}
@@ -10,7 +11,7 @@ use Rattle.vt_laws_members.proofs.judging.MountPoints.{in_own}
 use Rattle.vt_laws_members.specs.Changes.Changes.{EndAlike, EndsAlike, IsCallOfTheirs, grown}
 use Rattle.vt_laws_members.specs.Changes.MountChanges.{RemountsEndAlike}
 use Rattle.vt_laws_members.proofs.changes.looks.Granted.{of_rules, of_walk}
-use Rattle.vt_laws_members.proofs.changes.looks.Told.{member_called, ran, same_caller}
+use Rattle.vt_laws_members.proofs.changes.looks.Told.{ran, same_caller}
 use Rattle.vt_laws_members.proofs.changes.tasks.Denied.{denial_ends_alike, ran_there, run_by, unnamed_ends_alike}
 use Rattle.vt_laws_members.proofs.changes.letting_go.Moving.{StandsHere, at_directory, one}
 use Rattle.vt_laws_members.proofs.changes.letting_go.PartMounts.{part_mounts}
@@ -19,8 +20,7 @@ use Rattle.vt_laws_members.proofs.changes.mounts.FlagsLeft.{flags_left, later, l
 use Rattle.vt_laws_members.proofs.changes.part.SettledPart.{part_in_use}
 
 -- What a granted remount sets
-module _ (world : World ℕ) (names : List TaskName) (is : IsWorld nat_eq world)
-    (sealed_off : sealed nat_eq world names ≡ true) (task : Task ℕ) (member : Among task (members world names))
+module _ {world : World ℕ} {names : List TaskName} {task : Task ℕ} (member : IsMember world names task)
     (flags : MountFlags) where
   abbrev On : ℕ → Type 0
   On number = is_theirs world names number ≡ true
@@ -34,20 +34,18 @@ module _ (world : World ℕ) (names : List TaskName) (is : IsWorld nat_eq world)
   is_so false e = sym e
 
   sets_flags : (path : List ℕ) → IfOk
-      (remount_permit nat_eq (one world names is sealed_off task member) task path flags) SetsFlags
+      (remount_permit nat_eq (one member) task path flags) SetsFlags
   unfolding remount_permit
   sets_flags path = of_rules SetsFlags (admin_rules task) _
-      (of_walk (StandsHere world names is sealed_off task member) SetsFlags
-      (directory_walk nat_eq (one world names is sealed_off task member) task path)
-      (λ here. unless (remount_rules nat_eq (one world names is sealed_off task member) task here.location flags)
-      (Ok (ToSetFlags here.location.mount flags))) (at_directory world names is sealed_off task member path)
-      (λ here on. of_passed SetsFlags
-      (remount_rules nat_eq (one world names is sealed_off task member) task here.location flags)
+      (of_walk (StandsHere member) SetsFlags (directory_walk nat_eq (one member) task path)
+      (λ here. unless (remount_rules nat_eq (one member) task here.location flags)
+      (Ok (ToSetFlags here.location.mount flags))) (at_directory member path)
+      (λ here on. of_passed SetsFlags (remount_rules nat_eq (one member) task here.location flags)
       (Ok (ToSetFlags here.location.mount flags)) (λ passed. (
         here.location,
         refl,
         on,
-        in_own world names is task member (mount_at nat_eq world here.location)
+        in_own world names member.is task member.among (mount_at nat_eq world here.location)
             (is_so (holds_of (nat_eq task.namespace) (mount_at nat_eq world here.location).namespace) passed.0),
       ))))
 
@@ -71,10 +69,10 @@ module _ {world : World ℕ} {names : List TaskName} {name : TaskName} {path : L
   mount_there = subst (λ m. Among m world.mounts) (sym (its_mount world names it.is.mounts here.mount theirs)) theirs.1
 
   abbrev now : World ℕ
-  now = later world names it.is it.sealed_off mount_of mount_there own flags
+  now = later (sealing_of it) mount_of mount_there own flags
 
   abbrev now_there : World ℕ
-  now_there = later_part world names it.is it.sealed_off mount_of mount_there own flags
+  now_there = later_part (sealing_of it) mount_of mount_there own flags
 
   first : policy nat_eq fresh world name (Remount path flags) ≡ granted Done (numbers_raised nat_eq world name [] now)
   first = ap (ran name (Remount path flags) world fresh) called ∙ ap (run_by it world fresh task) judged
@@ -84,12 +82,10 @@ module _ {world : World ℕ} {names : List TaskName} {name : TaskName} {path : L
   second : policy nat_eq other there name (Remount path flags)
       ≡ granted Done (numbers_raised nat_eq there name [] now_there)
   second = ap (ran name (Remount path flags) there other)
-      (same_caller world names it.is it.sealed_off name it.theirs ∙ called)
-      ∙ ran_there it fresh other task called judged
-      ∙ ap (λ w. granted Done (numbers_raised nat_eq there name [] w))
-      (set_flags_keep_all other there task here.mount flags (part_mounts world names it.is it.sealed_off).one_number
-      (part_in_use world names it.is it.sealed_off)
-      ∙ ap (λ (m : Mount ℕ). with_mounts there (with_mount nat_eq there.mounts (record m { flags = flags })))
+      (same_caller (sealing_of it) name it.theirs ∙ called) ∙ ran_there it fresh other task called judged ∙ ap
+      (λ w. granted Done (numbers_raised nat_eq there name [] w)) (set_flags_keep_all other there task here.mount flags
+      (part_mounts (sealing_of it)).one_number (part_in_use (sealing_of it)) ∙ ap
+      (λ (m : Mount ℕ). with_mounts there (with_mount nat_eq there.mounts (record m { flags = flags })))
       (same_mount world names it.is.mounts here.mount theirs))
 
   remount_alike : EndsAlike world names name (Remount path flags) fresh other
@@ -99,15 +95,15 @@ module _ {world : World ℕ} {names : List TaskName} {name : TaskName} {path : L
       (subst (λ o. EndAlike (grown names name (Remount path flags) o.answer) o
       (granted Done (numbers_raised nat_eq there name [] now_there))) (sym first) (record {
         answer = refl;
-        part = flags_left world names it.is it.sealed_off mount_of mount_there own flags name;
+        part = flags_left (sealing_of it) mount_of mount_there own flags name;
       }))
 
 pub remounts_end_alike : RemountsEndAlike
 remounts_end_alike world names name path flags it fresh other = by (task_called world name) refl
   where
-    judged_by : (task : Task ℕ) (member : Among task (members world names)) → task_called world name ≡ Some task
+    judged_by : (task : Task ℕ) (member : IsMember world names task) → task_called world name ≡ Some task
         → (j : Judgement ℕ) → judge_in nat_eq fresh world task (Remount path flags) ≡ j
-        → IfOk j (SetsFlags world names it.is it.sealed_off task member flags)
+        → IfOk j (SetsFlags member flags)
         → EndsAlike world names name (Remount path flags) fresh other
     judged_by task member e (Ok permit) judged its =
         remount_alike it task e fresh other its.0 its.2 its.3 (judged ∙ ap Ok its.1)
@@ -119,6 +115,6 @@ remounts_end_alike world names name path flags it fresh other = by (task_called 
         → EndsAlike world names name (Remount path flags) fresh other
     by None e = unnamed_ends_alike it fresh other e
     by (Some task) e =
-        let member = member_called world names it.is it.sealed_off name it.theirs task e in
+        let member = caller_in it e in
         judged_by task member e (judge_in nat_eq fresh world task (Remount path flags)) refl
-        (sets_flags world names it.is it.sealed_off task member flags path)
+        (sets_flags member flags path)

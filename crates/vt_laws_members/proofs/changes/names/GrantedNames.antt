@@ -1,6 +1,7 @@
 -- Where a granted call of theirs makes, gives or takes a name: in a directory on a mount of theirs.
 use Rattle.std.proofs.Common.{◌≡◌, subst, ℕ, nat_eq, Bool, true, false, ◌∷◌, [], List, Option, Some, Ok, Result, IfOk}
-use Rattle.vt_spec.proofs.Common.{AddName, Among, Call, Change, CopyUp, Fresh, IsWorld, Location, Looks, Make, Move, Permit, Place, Remove, SetAttr, SetBytes, SetMark, Stop, Task, TaskName, World, is_among, is_copied_up, judge_in, looks_of, members, none_is_some, overfills, part_of, same_Some, sealed, used_filesystems, when, ⊤, Serves, task_called}
+use Rattle.vt_spec.proofs.Common.{AddName, Call, Change, CopyUp, Fresh, Location, Looks, Make, Move, Permit, Place, Remove, SetAttr, SetBytes, SetMark, Stop, Task, TaskName, World, is_among, is_copied_up, judge_in, looks_of, none_is_some, overfills, part_of, same_Some, used_filesystems, when, ⊤, Serves, task_called}
+use Rattle.vt_laws_members.proofs.judging.TheirCalls.{IsMember, caller_in}
 use Rattle.vt_laws_rules.specs.Granted.{IsGranted}
 use Rattle.vt_laws_rules.specs.Granted.IsGranted.{changes_mark, changes_mode, changes_owner, creates, creates_exclusively, makes_directory, makes_hard_link, makes_symlink, makes_whiteout, opens, opens_existing, overwrites_file, removes_directory, renames, unlinks, writes_new_file, writes_part}
 use Rattle.vt_laws_rules.proofs.given.Inversion.{calls_are_granted}
@@ -11,7 +12,6 @@ use Rattle.vt_laws_members.proofs.judging.AllJudged.{judges}
 use Rattle.vt_laws_members.proofs.judging.Judged.{JudgesAlike}
 use Rattle.vt_laws_members.proofs.judging.WalksLead.{PlaceAt, file_agrees, new_agrees, new_leaf_agrees, old_agrees, old_leaf_agrees}
 use Rattle.vt_laws_members.proofs.judging.Grounds.{IsTheirs, theirs_from}
-use Rattle.vt_laws_members.proofs.changes.looks.Told.{member_called}
 use Rattle.vt_laws_members.specs.Changes.Changes.{IsCallOfTheirs}
 
 -- a change by which a name comes or goes
@@ -40,8 +40,7 @@ pub record NamingCall (world : World ℕ) (names : List TaskName) (name : TaskNa
   pub asks : change_asked fresh world permit ≡ Some (location, change)
   pub comes : Names change
 
-module _ (world : World ℕ) (names : List TaskName) (is : IsWorld nat_eq world)
-    (sealed_off : sealed nat_eq world names ≡ true) (task : Task ℕ) (member : Among task (members world names))
+module _ {world : World ℕ} {names : List TaskName} {task : Task ℕ} (member : IsMember world names task)
     (fresh : Fresh ℕ) where
   abbrev one : Looks ℕ
   one = looks_of nat_eq world
@@ -54,7 +53,7 @@ module _ (world : World ℕ) (names : List TaskName) (is : IsWorld nat_eq world)
 
   alike : JudgesAlike one other task (is_theirs world names)
       (λ number. is_among nat_eq number (used_filesystems nat_eq world names))
-  alike = judges world names is sealed_off task member
+  alike = judges member
 
   abbrev IsPlaced : Place ℕ → Type 0
   IsPlaced = PlaceAt one other task On alike.walks alike.directory alike.rules.removed
@@ -148,7 +147,6 @@ naming_of it task found fresh serves permit judged location change asks comes = 
 pub naming_theirs : {world : World ℕ} {names : List TaskName} {name : TaskName} {call : Call}
     (naming : NamingCall world names name call) → IsTheirs world names naming.is.mounts naming.location.mount
 naming_theirs {world} {names} {name} {call} naming =
-    theirs_from world names naming.is.mounts naming.location.mount
-    (granted_theirs world names naming.is naming.sealed_off naming.task
-    (member_called world names naming.is naming.sealed_off name naming.theirs naming.task naming.found) naming.fresh
-    call naming.permit naming.judged naming.location naming.change naming.asks naming.comes)
+    theirs_from world names naming.is.mounts naming.location.mount (granted_theirs
+    (caller_in naming.it naming.found) naming.fresh call naming.permit naming.judged naming.location naming.change
+    naming.asks naming.comes)

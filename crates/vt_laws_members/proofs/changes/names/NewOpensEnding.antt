@@ -1,6 +1,7 @@
 -- An open of theirs that makes the file, on a plain filesystem, ends in the part as in the world.
 use Rattle.std.proofs.Common.{◌≡◌, refl, sym, ap, subst, ◌∙◌, ℕ, nat_eq, eqb-true, Bool, true, false, true≢false, List, [], ◌∷◌, option_to_list}
 use Rattle.vt_spec.proofs.Common.{Access, Among, Call, Change, Creation, FileTree, Filesystem, Fresh, Location, Make, OpenFile, Opened, Task, TaskName, ToOpenNew, World, changed, changed_at, evens, filesystem_at, filesystem_changed, finished, free_number, granted, is_among, is_overlay, mount_at, numbers_of_change, numbers_raised, odds, opened, part_of, settled, used_filesystems, with_change, with_descriptor, with_task}
+use Rattle.vt_laws_members.proofs.judging.TheirCalls.{sealing_of}
 use Rattle.vt_laws_mounts.specs.LettingGo.InUse.{AllInUse}
 use Rattle.vt_laws_mounts.specs.LettingGo.TreeChanges.{ChangesTree}
 use Rattle.vt_laws_mounts.proofs.letting_go.sweeps.OfWorlds.{all_in_use}
@@ -39,12 +40,12 @@ pub new_opens_end_alike : NewOpensEndAlike
 new_opens_end_alike world names name path access how it task found fresh serves directory entry node wanted judged
     plain = opened_ends it fresh task found file ground wanted (swap old files)
     (old.number ∷ []) (moves world (all_in_use world it.is) (one_in_world world names it.is number used)
-    (old_used world names it.is number used)) (moves part (part_in_use world names it.is it.sealed_off)
-    (one_in_part world names it.is number used) (ap (is_among nat_eq old.number) (same_used world names)
-    ∙ old_used world names it.is number used)) (ap (run_by it world fresh task) judged
-    ∙ new_run world name path access how (odds fresh) directory change old task file wanted refl plain)
-    (ran_there it fresh fresh task found judged ∙ new_run part name path access how (odds fresh) directory change old
-    task file wanted (sym (filesystem_alike world names it.is directory ground)) plain)
+    (old_used world names it.is number used)) (moves part (part_in_use (sealing_of it))
+    (one_in_part world names it.is number used) (ap (is_among nat_eq old.number) (same_used world names) ∙ old_used
+    world names it.is number used)) (ap (run_by it world fresh task) judged ∙ new_run world name path access how
+    (odds fresh) directory change old task file wanted refl plain) (ran_there it fresh fresh task found judged ∙ new_run
+    part name path access how (odds fresh) directory change old task file wanted
+    (sym (filesystem_alike world names it.is directory ground)) plain)
   where
     call : Call
     call = OpenFile path access how

@@ -1,7 +1,8 @@
 -- A call of theirs that removes a directory, or that renames, ends in the part as in the world, if no mount of another
 -- namespace of theirs is on what goes.
 use Rattle.std.proofs.Common.{arith, ◌≡◌, refl, sym, ap, subst, ◌∙◌, ℕ, nat_eq, eqb-true, true, false, List, Option, Some, None, Ok, IfOk, option_map, option_to_list}
-use Rattle.vt_spec.proofs.Common.{Among, Call, Done, Fresh, IsWorld, Location, Looks, Move, Permit, Place, Remove, Rename, Rmdir, Serves, Task, TaskName, ToRemoveDirectory, ToRename, World, common_steps, entry_at, files_at, filesystem_at, holds_of, is_among, is_directory_there, is_locked_at, is_mount_point_anywhere, is_mount_point_in, is_overlay, judge_in, list_any, looks_of, members, name_of, none_is_some, object_there, only_looks, or_parts, overfills, part_of, same_Some, sealed, special_word, task_called, used_filesystems}
+use Rattle.vt_spec.proofs.Common.{Call, Done, Fresh, Location, Looks, Move, Permit, Place, Remove, Rename, Rmdir, Serves, Task, TaskName, ToRemoveDirectory, ToRename, World, common_steps, entry_at, files_at, filesystem_at, holds_of, is_among, is_directory_there, is_locked_at, is_mount_point_anywhere, is_mount_point_in, is_overlay, judge_in, list_any, looks_of, name_of, none_is_some, object_there, only_looks, or_parts, overfills, part_of, same_Some, special_word, task_called, used_filesystems}
+use Rattle.vt_laws_members.proofs.judging.TheirCalls.{IsMember, caller_in}
 use Rattle.vt_laws_rules.specs.Granted.{IsGranted}
 use Rattle.vt_laws_rules.specs.Granted.IsGranted.{removes_directory, renames}
 use Rattle.vt_laws_trees.proofs.trees.PlacesReached.{old_is, rename_new_is}
@@ -19,7 +20,6 @@ use Rattle.vt_laws_worlds.proofs.worlds.CallsKept.{name_found}
 use Rattle.vt_laws_worlds.proofs.worlds.FitPermitsNamed.{all_permits_fit}
 use Rattle.vt_laws_trees.specs.Trees.Calls.{mounts_overlay}
 use Rattle.vt_laws_rules.proofs.given.Inversion.{calls_are_granted}
-use Rattle.vt_laws_members.proofs.changes.looks.Told.{member_called}
 
 -- What goes is on the mount of the directory, which is theirs, not locked, and no mount of the caller's namespace is on
 -- it.
@@ -30,8 +30,7 @@ pub record IsFree (world : World ℕ) (names : List TaskName) (task : Task ℕ) 
   pub beside : object.mount ≡ parent.mount
 
 -- What is removed or replaced is on a mount of theirs, and not locked.
-module _ (world : World ℕ) (names : List TaskName) (is : IsWorld nat_eq world)
-    (sealed_off : sealed nat_eq world names ≡ true) (task : Task ℕ) (member : Among task (members world names))
+module _ {world : World ℕ} {names : List TaskName} {task : Task ℕ} (member : IsMember world names task)
     (fresh : Fresh ℕ) where
   abbrev one : Looks ℕ
   one = looks_of nat_eq world
@@ -44,7 +43,7 @@ module _ (world : World ℕ) (names : List TaskName) (is : IsWorld nat_eq world)
 
   judged_alike : JudgesAlike one other_looks task (is_theirs world names)
       (λ number. is_among nat_eq number (used_filesystems nat_eq world names))
-  judged_alike = judges world names is sealed_off task member
+  judged_alike = judges member
 
   abbrev IsPlaced : Place ℕ → Type 0
   IsPlaced = PlaceAt one other_looks task On judged_alike.walks judged_alike.directory judged_alike.rules.removed
@@ -138,8 +137,7 @@ module _ {world : World ℕ} {names : List TaskName} {name : TaskName} (task : T
     stays = refl;
     gone = directory;
     reached = (reached_from it task found (ToRemoveDirectory parent entry directory) refl judged).0.reached;
-    free = removed_free world names it.is it.sealed_off task
-        (member_called world names it.is it.sealed_off name it.theirs task found) fresh (Rmdir path)
+    free = removed_free (caller_in it found) fresh (Rmdir path)
         (ToRemoveDirectory parent entry directory) (calls_are_granted nat_eq (looks_of nat_eq world)
         (overfills nat_eq fresh world task) task (Rmdir path)
         (ToRemoveDirectory parent entry directory) judged) parent entry directory refl;
@@ -156,8 +154,7 @@ module _ {world : World ℕ} {names : List TaskName} {name : TaskName} (task : T
     stays = refl;
     gone = gone;
     reached = (reached_from it task found (ToRename from old to new object (Some gone)) refl judged).0.reached;
-    free = replaced_free world names it.is it.sealed_off task
-        (member_called world names it.is it.sealed_off name it.theirs task found) fresh (Rename first second)
+    free = replaced_free (caller_in it found) fresh (Rename first second)
         (ToRename from old to new object (Some gone))
         (calls_are_granted nat_eq (looks_of nat_eq world) (overfills nat_eq fresh world task) task
         (Rename first second) (ToRename from old to new object (Some gone)) judged) from old to new object gone refl;

@@ -2,6 +2,7 @@
 use Rattle.std.proofs.Common.{◌≡◌, ap, ◌∙◌, ⊎_elim, ℕ, nat_eq, false, true, List, [], ◌∷◌, Some, Ok, ◌||◌}
 use Rattle.vt_spec.proofs.Common.{Call, Change, Done, FileTree, Filesystem, Fresh, Location, Outcome, Task, TaskName, World, changed_at, filesystem_at, filesystem_changed, finished, finished_by, granted, is_among, is_overlay, mount_at, numbers_of_change, numbers_raised, only_looks, part_of, settled, task_called, used_alone, used_filesystems, with_change}
 use Rattle.vt_spec.specs.Language.Changes
+use Rattle.vt_laws_members.proofs.judging.TheirCalls.{sealing_of}
 use Rattle.vt_laws_mounts.specs.LettingGo.TreesOverlays.{with_filesystems}
 use Rattle.vt_laws_members.specs.Changes.Changes.{EndsAlike, IsCallOfTheirs, grown}
 use Rattle.vt_laws_members.proofs.changes.files.FilesEnding.{no_overlay}
@@ -58,11 +59,11 @@ module _ {world : World ℕ} {names : List TaskName} {name : TaskName} {call : C
   is_used = old_used world names it.is number used
 
   abbrev left : Retasks world names names
-  left = tasks_stay world names it.is it.sealed_off
+  left = tasks_stay (sealing_of it)
 
   -- others have no foothold on it, in the world and in the part
   alone_here : Alone (living it left (swap old files)) names old.number
-  alone_here = alone world names it.is it.sealed_off names world.tasks world.change left.lets old.number
+  alone_here = alone (sealing_of it) names world.tasks world.change left.lets old.number
       (ap (used_alone nat_eq world names) (old_number world names it.is number used) ∙ alone_before)
 
   alone_there : Alone (living_part it left (swap old files)) names old.number

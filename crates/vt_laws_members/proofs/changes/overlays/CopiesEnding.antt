@@ -1,6 +1,7 @@
 -- A call of theirs that edits a file through an overlay with an upper layer ends in the part as in the world.
 use Rattle.std.proofs.Common.{arith, ◌≡◌, refl, sym, ap, subst, ◌∙◌, ℕ, nat_eq, false, List, [], ◌∷◌, Some, Ok, filter, map}
 use Rattle.vt_spec.proofs.Common.{Among, Call, Done, Filesystem, Task, TaskName, World, changed_at, common_steps, finished, granted, is_among, is_member_task, locations_of, map_twice, numbers_raised, only_looks, part_of, policy, raised, raised_if_changed, raised_task, same_name, task_called, used_filesystems, with_change}
+use Rattle.vt_laws_members.proofs.judging.TheirCalls.{sealing_of}
 use Rattle.vt_laws_mounts.specs.LettingGo.InUse.{AllInUse}
 use Rattle.vt_laws_mounts.specs.LettingGo.TreesOverlays.{ChangesFilesystem, with_filesystems}
 use Rattle.vt_laws_mounts.proofs.letting_go.Lists.{filter-map}
@@ -105,8 +106,8 @@ module _ {world : World ℕ} {names : List TaskName} {name : TaskName} {call : C
       ∙ runs ∙ ends_so world (all_in_use world it.is) (changes_in_world through copies) (stepped_in_world through)
       (numbers_in_world through) in
       let second : policy nat_eq through.supply part name call ≡ granted Done (left part) =
-      ap (ran name call part through.supply) (same_caller world names it.is it.sealed_off name it.theirs ∙ found)
-      ∙ runs_there ∙ ends_so part (part_in_use world names it.is it.sealed_off) (changes_in_part through copies)
+      ap (ran name call part through.supply) (same_caller (sealing_of it) name it.theirs ∙ found) ∙ runs_there ∙ ends_so
+      part (part_in_use (sealing_of it)) (changes_in_part through copies)
       (stepped_in_part through copies) (numbers_in_part through) in
       subst (λ p. EndAlike (grown names name call (policy nat_eq through.supply world name call).answer)
       (policy nat_eq through.supply world name call) p) (sym second)

@@ -1,6 +1,7 @@
 -- Calls of theirs that edit a file through an overlay: write(2), chmod(2), chown(2), pwrite(2).
 use Rattle.std.proofs.Common.{arith, ◌≡◌, refl, sym, ap, subst, ◌∙◌, ℕ, nat_eq, true, false, true≢false, List, ◌∷◌, Option, Some, None, Ok, is_some, IfOk}
 use Rattle.vt_spec.proofs.Common.{AddName, Among, Call, Change, CopyUp, Done, Filesystem, Fresh, Layer, Location, Make, Move, Overlay, Pwrite, Remove, Serves, SetAttr, SetBytes, SetMark, Task, TaskName, ToChange, ToWritePart, World, among-append_right, among-map, bytes_in, changed_at, common_steps, filesystem_at, filesystem_numbered, finished, granted, is_overlay, judge_in, locations, members, mount_at, node_at, only_looks, overwritten, part_of, task_called, used_directly, with_change}
+use Rattle.vt_laws_members.proofs.judging.TheirCalls.{caller_in, sealing_of}
 use Rattle.vt_laws_worlds.proofs.worlds.CallsKept.{name_found}
 use Rattle.vt_laws_worlds.specs.OverlayPermits.Asked.{AsksWell}
 use Rattle.vt_laws_worlds.proofs.overlay_permits.asked.Asked.{permits_ask_well}
@@ -14,7 +15,7 @@ use Rattle.vt_laws_members.specs.Changes.Changes.{EndsAlike, IsCallOfTheirs, gro
 use Rattle.vt_laws_members.specs.Changes.OverlayEdits.{OverlayChmodsEndAlike, OverlayChownsEndAlike, OverlayPartWritesEndAlike, OverlayWritesEndAlike}
 use Rattle.vt_laws_members.proofs.changes.files.Edits.{Edits, IsEdit, chmods_edit, chowns_edit, writes_edit}
 use Rattle.vt_laws_members.proofs.changes.files.PartWritten.{Writes, writes_theirs}
-use Rattle.vt_laws_members.proofs.changes.looks.Told.{member_called, open_file, ran}
+use Rattle.vt_laws_members.proofs.changes.looks.Told.{open_file, ran}
 use Rattle.vt_laws_members.proofs.changes.overlays.CopiesEnding.{copy_ends}
 use Rattle.vt_laws_members.proofs.changes.overlays.Copying.{Copies}
 use Rattle.vt_laws_members.proofs.changes.tasks.Denied.{ran_there, run_by}
@@ -116,20 +117,17 @@ module _ {world : World ℕ} {names : List TaskName} {name : TaskName} {call : C
 pub overlay_writes_end_alike : OverlayWritesEndAlike
 overlay_writes_end_alike world names name path bytes it task called fresh serves location change judged is =
     walked_copy_ends it task called fresh serves location change judged is refl refl
-    (writes_edit world names it.is it.sealed_off task
-    (member_called world names it.is it.sealed_off name it.theirs task called) path bytes)
+    (writes_edit (caller_in it called) path bytes)
 
 pub overlay_chmods_end_alike : OverlayChmodsEndAlike
 overlay_chmods_end_alike world names name path mode it task called fresh serves location change judged is =
     walked_copy_ends it task called fresh serves location change judged is refl refl
-    (chmods_edit world names it.is it.sealed_off task
-    (member_called world names it.is it.sealed_off name it.theirs task called) path mode)
+    (chmods_edit (caller_in it called) path mode)
 
 pub overlay_chowns_end_alike : OverlayChownsEndAlike
 overlay_chowns_end_alike world names name path uid gid it task called fresh serves location change judged is =
     walked_copy_ends it task called fresh serves location change judged is refl refl
-    (chowns_edit world names it.is it.sealed_off task
-    (member_called world names it.is it.sealed_off name it.theirs task called) path uid gid)
+    (chowns_edit (caller_in it called) path uid gid)
 
 pub overlay_part_writes_end_alike : OverlayPartWritesEndAlike
 overlay_part_writes_end_alike world names name descriptor offset byte bytes it task called fresh serves file at written
@@ -140,7 +138,7 @@ overlay_part_writes_end_alike world names name descriptor offset byte bytes it t
     serves itself judged refl overlaid has) (ap (run_by it world fresh task) judged)
     (ran_there it fresh fresh task called judged ∙ ap (λ node. run_by it part fresh task
     (Ok (ToChange file (SetBytes file.node (overwritten at (byte ∷ bytes) (bytes_in node))))))
-    (sym (open_file world names it.is it.sealed_off file theirs.0)))
+    (sym (open_file (sealing_of it) file theirs.0)))
   where
     call : Call
     call = Pwrite descriptor offset (byte ∷ bytes)
@@ -150,8 +148,7 @@ overlay_part_writes_end_alike world names name descriptor offset byte bytes it t
 
     theirs : Among file (locations (members world names)) × (written ≡ byte ∷ bytes)
     theirs = subst (λ j. IfOk j (Writes (locations (members world names)) (byte ∷ bytes))) granted_so
-        (writes_theirs world names it.is it.sealed_off task
-        (member_called world names it.is it.sealed_off name it.theirs task called) (byte ∷ bytes) descriptor offset)
+        (writes_theirs (caller_in it called) (byte ∷ bytes) descriptor offset)
 
     judged : judge_in nat_eq fresh world task call ≡ Ok (ToWritePart file at (byte ∷ bytes))
     judged = granted_so ∙ ap (λ w. Ok (ToWritePart file at w)) theirs.1

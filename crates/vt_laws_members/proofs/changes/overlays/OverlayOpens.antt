@@ -1,6 +1,7 @@
 -- An open of theirs that copies the file up ends in the part as in the world.
 use Rattle.std.proofs.Common.{◌≡◌, refl, sym, ap, subst, ◌∙◌, ℕ, nat_eq, Bool, true, false, true≢false, List, Option, Some, None, Ok, is_some, not, ◌&&◌, IfOk}
 use Rattle.vt_spec.proofs.Common.{Access, Among, Call, CopyUp, Creation, Filesystem, Fresh, Layer, Location, OpenFile, Opened, Outcome, Overlay, Permit, Task, TaskName, ToOpen, World, and_parts, changed_at, changed_if, filesystem_at, finished, free_number, granted, has_no_upper, is_among, is_copied_up, judge_in, lies_only_in_lowers, looks_of, mount_at, numbers_raised, opened, opens_for_writing, overfills, overlay_or, part_of, settled, task_called, used_directly, when, with_change, with_copy, with_descriptor, with_task}
+use Rattle.vt_laws_members.proofs.judging.TheirCalls.{caller_in, sealing_of}
 use Rattle.vt_laws_rules.specs.Granted.{IsGranted}
 use Rattle.vt_laws_rules.specs.Granted.IsGranted.{opens, opens_existing}
 use Rattle.vt_laws_rules.proofs.given.Inversion.{calls_are_granted}
@@ -17,7 +18,6 @@ use Rattle.vt_laws_members.proofs.judging.SeenInPart.{filesystem_alike, theirs_d
 use Rattle.vt_laws_members.specs.Changes.Changes.{EndsAlike, IsCallOfTheirs}
 use Rattle.vt_laws_members.specs.Changes.OverlayEdits.{OverlayOpensEndAlike}
 use Rattle.vt_laws_members.proofs.changes.files.StepsInUse.{in_use_stepped}
-use Rattle.vt_laws_members.proofs.changes.looks.Told.{member_called}
 use Rattle.vt_laws_members.proofs.changes.overlays.Copying.{OverlayChange, both_numbers, changes_in_part, changes_in_world, kept_on, numbers_in_part, numbers_in_world, ones_in_part, ones_in_world, part_moved, step, stepped_in_part, stepped_in_world}
 use Rattle.vt_laws_members.proofs.changes.part.SettledPart.{part_in_use}
 use Rattle.vt_laws_members.proofs.changes.tasks.Denied.{ran_there, run_by}
@@ -105,7 +105,7 @@ module _ {world : World ℕ} {names : List TaskName} {name : TaskName} {path : L
         part_moved = part_moved through world (ones_in_world through)
             (kept_on through);
       }) (record {
-        in_use = in_use_stepped part (part_in_use world names it.is it.sealed_off) moved
+        in_use = in_use_stepped part (part_in_use (sealing_of it)) moved
             (changes_in_part through tt);
         part_moved = part_moved through part (ones_in_part through) (λ x e. kept_on through x
             (sym (ap (is_among nat_eq x.number) (same_used world names)) ∙ e));
@@ -136,8 +136,8 @@ overlay_opens_end_alike world names name path access how it task called fresh se
 
     ground : IsTheirs world names it.is.mounts file.mount
     ground = theirs_from world names it.is.mounts file.mount
-        (subst (λ j. IfOk j (OpensOn (is_theirs world names))) given (opens_theirs world names it.is it.sealed_off task
-        (member_called world names it.is it.sealed_off name it.theirs task called) path access how))
+        (subst (λ j. IfOk j (OpensOn (is_theirs world names))) given (opens_theirs (caller_in it called) path
+        access how))
 
     asks : change_asked fresh world (ToOpen file wanted) ≡ Some (file, CopyUp file.node)
     asks = ap (λ b. when b (file, CopyUp file.node)) copied

@@ -1,13 +1,13 @@
 -- Nothing of the part of a sealed set is unused in it.
 use Rattle.std.proofs.Common.{◌≡◌, refl, sym, ap, subst, ◌∙◌, inr, ⊎_elim, ℕ, nat_eq, Bool, true, false, cond, true≢false, List, [], ◌∷◌, ◌++◌, Option, None, filter, flat_map, length, ◌≤◌, arith, eqb-true, filter_map}
-use Rattle.vt_spec.proofs.Common.{Among, Filesystem, IsWorld, Layer, TaskName, World, all_from_among, among-append_left, among-filter, among-filter_map, among-flat_map, among-from_filter, among-from_filter_map, among-map, among_from_contains, among_numbers, and_parts, any_among, any_from_among, common_steps, filesystem_lives, filesystem_numbered, has_members, is_among, is_among_numbers, is_member_of, is_own_mount, is_under, layers_in, layers_of, lies_in_layer, lies_in_own_lower, list_all, list_all_from_among, list_any, located_in, map_same, members, mount_lives, named_in, objects_of_overlay, of_overlay, only_used, only_used_of, own_lowers, own_mounts, part_of, part_of_filesystem, part_of_lower, part_of_mount, sealed, settled, used_directly, used_filesystems, used_in, without_dead_filesystems, without_dead_groups, without_dead_in, without_dead_mounts}
+use Rattle.vt_spec.proofs.Common.{Among, Filesystem, Layer, TaskName, World, all_from_among, among-append_left, among-filter, among-filter_map, among-flat_map, among-from_filter, among-from_filter_map, among-map, among_from_contains, among_numbers, and_parts, any_among, any_from_among, common_steps, filesystem_lives, filesystem_numbered, has_members, is_among, is_among_numbers, is_member_of, is_own_mount, is_under, layers_in, layers_of, lies_in_layer, lies_in_own_lower, list_all, list_all_from_among, list_any, located_in, map_same, members, mount_lives, named_in, objects_of_overlay, of_overlay, only_used, only_used_of, own_lowers, own_mounts, part_of, part_of_filesystem, part_of_lower, part_of_mount, settled, used_directly, used_filesystems, used_in, without_dead_filesystems, without_dead_groups, without_dead_in, without_dead_mounts}
 use Rattle.vt_laws_mounts.specs.LettingGo.InUse.{AllInUse, is_inode_used}
 use Rattle.vt_laws_sealed.specs.Part.Parts.{SeesTheSame, shown_of}
 use Rattle.vt_laws_sealed.specs.Part.Seals.{IsApart}
 use Rattle.vt_laws_sealed.proofs.part.Kept.{length-filter_map}
 use Rattle.vt_laws_sealed.proofs.part.part.DeadMounts.{dead_mounts_are_in_no_part}
 use Rattle.vt_laws_sealed.proofs.part.part.PartOfPart.{found, keep, same_lowers, same_members, same_used, shown_how, used_directly_used}
-use Rattle.vt_laws_sealed.proofs.part.seals.ByPart.{apart_if_sealed}
+use Rattle.vt_laws_sealed.proofs.part.seals.ByPart.{IsSealed, apart_if_sealed, sealed_by}
 use Rattle.vt_laws_sealed.proofs.outsiders.FilesystemsSwept.{filesystems_swept}
 use Rattle.vt_laws_sealed.proofs.outsiders.InodesUsed.{in_first, in_third, used_whole}
 use Rattle.vt_laws_sealed.proofs.outsiders.SeenLater.{lower_of, used_later}
@@ -25,8 +25,7 @@ keeps_all : {A : Type 0} (p : A → Bool) (xs : List A) → length xs ≤ length
 keeps_all p [] l = refl
 keeps_all {A} p (x ∷ xs) l = grind (arith, common_steps, filter_few, keeps_all p xs)
 
-module _ (world : World ℕ) (names : List TaskName) (is : IsWorld nat_eq world)
-    (sealed_off : sealed nat_eq world names ≡ true) where
+module _ {world : World ℕ} {names : List TaskName} (sealing : IsSealed world names) where
   abbrev part : World ℕ
   part = part_of nat_eq world names
 
@@ -37,25 +36,26 @@ module _ (world : World ℕ) (names : List TaskName) (is : IsWorld nat_eq world)
   lowers = own_lowers nat_eq world names
 
   apart : IsApart world names
-  apart = apart_if_sealed world names is sealed_off
+  apart = apart_if_sealed sealing
 
   pub sees : SeesTheSame world part names
   sees = record {
     tasks = same_members world names;
-    mounts = same_mounts world names is;
+    mounts = same_mounts world names sealing.is;
     masters = λ group h. ap (λ b. cond b (world.master group) None) h;
     direct = λ number m. found world names number (used_directly_used world names number
         (among_from_contains (used_directly nat_eq world names) number m));
     filesystems = ap (λ u. filter_map (shown_of part u lowers) part.filesystems) (sym (same_used world names))
         ∙ ap (λ l. filter_map (shown_of part (used_filesystems nat_eq part names) l) part.filesystems)
-        (sym (same_lowers world names)) ∙ same_shown world names is;
-    namespaces = same_namespaces world names is;
+        (sym (same_lowers world names)) ∙ same_shown world names sealing.is;
+    namespaces = same_namespaces world names sealing.is;
   }
 
   mounts_live : filter (mount_lives nat_eq part) part.mounts ≡ part.mounts
   mounts_live =
       let same : length (part_of nat_eq (without_dead_mounts nat_eq part) names).mounts ≡ length part.mounts =
-      ap (λ (w : World ℕ). length w.mounts) (dead_mounts_are_in_no_part part names ∙ part_again world names is) in
+      ap (λ (w : World ℕ). length w.mounts) (dead_mounts_are_in_no_part part names ∙ part_again world names sealing.is)
+      in
       let few = length-filter_map (part_of_mount nat_eq (without_dead_mounts nat_eq part) names)
       (filter (mount_lives nat_eq part) part.mounts) in
       keeps_all (mount_lives nat_eq part) part.mounts (omega (arith, same, few))
@@ -104,7 +104,7 @@ module _ (world : World ℕ) (names : List TaskName) (is : IsWorld nat_eq world)
         (is_under nat_eq (filesystem_numbered nat_eq world x.number).files at.0.directory object) at.2 in
         let under : is_under nat_eq x.files at.0.directory object ≡ true =
         sym (ap (λ (f : Filesystem ℕ). is_under nat_eq f.files at.0.directory object)
-        (itself world names is x m unused low)) ∙ both.1 in
+        (itself world names sealing.is x m unused low)) ∙ both.1 in
         by at.0 at.1 both.0 under (nat_eq at.0.directory object) refl
       where
         by : (layer : Layer ℕ) → Among layer lowers → nat_eq x.number layer.filesystem ≡ true
@@ -117,8 +117,8 @@ module _ (world : World ℕ) (names : List TaskName) (is : IsWorld nat_eq world)
             x.number) of_overlays object
             (in_first (named_in y.files) (located_in nat_eq part x.number) (layers_in nat_eq part x.number) object
             (named_in_cut x.files (filter (lies_in_own_lower nat_eq world names x.number) x.files.numbers)
-            (tree world names is x m unused low) (listed world names is x m unused low) layer.directory
-            (in_chosen world names is x m unused low layer at on) object e under)))
+            (tree world names sealing.is x m unused low) (listed world names sealing.is x m unused low) layer.directory
+            (in_chosen world names sealing.is x m unused low layer at on) object e under)))
 
     lower_whole : (chosen : Bool) → only_used nat_eq part chosen y ≡ y
     lower_whole true =
@@ -130,8 +130,8 @@ module _ (world : World ℕ) (names : List TaskName) (is : IsWorld nat_eq world)
   whole chosen y n =
       let from = among-from_filter_map (part_of_filesystem nat_eq world names) world.filesystems y n in
       ⊎_elim (λ same. subst (λ (f : Filesystem ℕ). only_used nat_eq part chosen f ≡ f) same.0
-      (used_whole world part names apart sealed_off sees (part_one_number world names is) from.0 from.1 same.1 chosen))
-      (λ low. subst (λ (f : Filesystem ℕ). only_used nat_eq part chosen f ≡ f) low.0
+      (used_whole world part names apart sealing.sealed_off sees (part_one_number world names sealing.is) from.0 from.1
+      same.1 chosen)) (λ low. subst (λ (f : Filesystem ℕ). only_used nat_eq part chosen f ≡ f) low.0
       (lower_whole from.0 from.1 low.1 low.2 chosen)) (shown_how world names from.0 y from.2)
 
   inodes_live : (chosen : Filesystem ℕ → Bool) → without_dead_in nat_eq chosen part ≡ part
@@ -152,8 +152,9 @@ module _ (world : World ℕ) (names : List TaskName) (is : IsWorld nat_eq world)
       same group true e =
           let own = any_among (is_member_of nat_eq group) (own_mounts nat_eq world names) e in
           let from = among-from_filter (is_own_mount nat_eq world names) world.mounts own.0 own.1 in
-          cc (any_from_among (is_member_of nat_eq group) part.mounts own.0 (among-filter_map (keep world names
-          (members world names)) world.mounts own.0 own.0 from.0 (own_whole world names is own.0 from.1)) own.2)
+          cc (any_from_among (is_member_of nat_eq group) part.mounts own.0
+          (among-filter_map (keep world names (members world names)) world.mounts own.0 own.0 from.0
+          (own_whole world names sealing.is own.0 from.1)) own.2)
       same group false e =
           none (has_members nat_eq part.mounts group) (part.master group) (ap (λ b. cond b (world.master group) None) e)
 
@@ -168,31 +169,30 @@ all_used : (used : List ℕ) (y : Filesystem ℕ) → only_used_of nat_eq used y
     → list_all (λ n. is_among nat_eq n used) y.files.numbers ≡ true
 all_used used y e = grind (arith, common_steps, all_left)
 
-pub part_in_use : (world : World ℕ) (names : List TaskName) → IsWorld nat_eq world → sealed nat_eq world names ≡ true
-    → AllInUse (part_of nat_eq world names)
-part_in_use world names is sealed_off = record {
-  mounts = all_left (mount_lives nat_eq (part world names is sealed_off)) (part world names is sealed_off).mounts
-      (mounts_live world names is sealed_off);
-  filesystems = all_left (filesystem_lives nat_eq (part world names is sealed_off))
-      (part world names is sealed_off).filesystems (filesystems_live world names is sealed_off);
-  inodes =
-      all_from_among (λ (f : Filesystem ℕ). list_all (is_inode_used (part world names is sealed_off) f) f.files.numbers
-      ≡ true) (part world names is sealed_off).filesystems
-      (λ y n. all_used (used_in nat_eq (part world names is sealed_off) y) y
-      (whole world names is sealed_off true y n));
-  groups = λ group none. by group none (list_any (is_member_of nat_eq group) (own_mounts nat_eq world names)) refl;
-}
-  where
-    by : (group : ℕ) → has_members nat_eq (part_of nat_eq world names).mounts group ≡ false → (b : Bool)
-        → list_any (is_member_of nat_eq group) (own_mounts nat_eq world names) ≡ b
-        → (part_of nat_eq world names).master group ≡ None
-    by group none true e =
-        let own = any_among (is_member_of nat_eq group) (own_mounts nat_eq world names) e in
-        let from = among-from_filter (is_own_mount nat_eq world names) world.mounts own.0 own.1 in
-        absurd (true≢false (sym (any_from_among (is_member_of nat_eq group) (part_of nat_eq world names).mounts own.0
-        (among-filter_map (keep world names (members world names)) world.mounts own.0 own.0 from.0
-        (own_whole world names is own.0 from.1)) own.2) ∙ none))
-    by group none false e = ap (λ b. cond b (world.master group) None) e
+module _ {world : World ℕ} {names : List TaskName} (sealing : IsSealed world names) where
+  pub part_in_use : AllInUse (part_of nat_eq world names)
+  part_in_use = record {
+    mounts = all_left (mount_lives nat_eq (part sealing)) (part sealing).mounts
+        (mounts_live sealing);
+    filesystems = all_left (filesystem_lives nat_eq (part sealing))
+        (part sealing).filesystems (filesystems_live sealing);
+    inodes =
+        all_from_among (λ (f : Filesystem ℕ). list_all (is_inode_used (part sealing) f) f.files.numbers ≡ true)
+        (part sealing).filesystems (λ y n. all_used (used_in nat_eq (part sealing) y) y
+        (whole sealing true y n));
+    groups = λ group none. by group none (list_any (is_member_of nat_eq group) (own_mounts nat_eq world names)) refl;
+  }
+    where
+      by : (group : ℕ) → has_members nat_eq (part_of nat_eq world names).mounts group ≡ false → (b : Bool)
+          → list_any (is_member_of nat_eq group) (own_mounts nat_eq world names) ≡ b
+          → (part_of nat_eq world names).master group ≡ None
+      by group none true e =
+          let own = any_among (is_member_of nat_eq group) (own_mounts nat_eq world names) e in
+          let from = among-from_filter (is_own_mount nat_eq world names) world.mounts own.0 own.1 in
+          absurd (true≢false (sym (any_from_among (is_member_of nat_eq group) (part_of nat_eq world names).mounts own.0
+          (among-filter_map (keep world names (members world names)) world.mounts own.0 own.0 from.0
+          (own_whole world names sealing.is own.0 from.1)) own.2) ∙ none))
+      by group none false e = ap (λ b. cond b (world.master group) None) e
 
 pub part_is_settled : PartIsSettled
-part_is_settled world names is sealed_off = part_settled world names is sealed_off
+part_is_settled world names is sealed_off = part_settled (sealed_by is sealed_off)

@@ -3,8 +3,9 @@ use Rattle.std.proofs.Common.{arith, ◌≡◌, refl, sym, ap, subst, ◌∙◌,
 use Rattle.vt_spec.proofs.Common.{Call, Fresh, Judgement, Outcome, Permit, Task, TaskName, World, after, apply, common_steps, contains_from_among, denied, filesystems_changed_by, finished, finished_by, judge_in, members, only_looks, part_of, policy, task_called}
 use Rattle.vt_spec.specs.declared.errors.Deny.{Deny}
 use Rattle.vt_laws_members.proofs.judging.ByPart.{members_are_judged_by_their_part}
+use Rattle.vt_laws_members.proofs.judging.TheirCalls.{caller_in, sealing_of}
 use Rattle.vt_laws_members.specs.Changes.Changes.{DenialsEndAlike, EndAlike, EndsAlike, IsCallOfTheirs, grown}
-use Rattle.vt_laws_members.proofs.changes.looks.Told.{member_called, ran, same_caller}
+use Rattle.vt_laws_members.proofs.changes.looks.Told.{ran, same_caller}
 use Rattle.vt_laws_members.proofs.changes.part.PartAgain.{part_again}
 
 -- what is permitted is answered
@@ -29,10 +30,9 @@ module _ {world : World ℕ} {names : List TaskName} {name : TaskName} {call : C
       → EndAlike (grown names name call (ran name call world fresh found).answer) (ran name call world fresh found)
       (ran name call part other found) → EndsAlike world names name call fresh other
   by_runs found e alike = subst (λ p. EndAlike (grown names name call (policy nat_eq fresh world name call).answer)
-      (policy nat_eq fresh world name call) p)
-      (sym (ap (ran name call part other) (same_caller world names it.is it.sealed_off name it.theirs ∙ e)))
-      (subst (λ o. EndAlike (grown names name call o.answer) o (ran name call part other found))
-      (sym (ap (ran name call world fresh) e)) alike)
+      (policy nat_eq fresh world name call) p) (sym (ap (ran name call part other)
+      (same_caller (sealing_of it) name it.theirs ∙ e))) (subst (λ o. EndAlike (grown names name call o.answer) o
+      (ran name call part other found)) (sym (ap (ran name call world fresh) e)) alike)
 
   pub unnamed_ends_alike : task_called world name ≡ None → EndsAlike world names name call fresh other
   unnamed_ends_alike e = by_runs None e (record { answer = refl; part = sym (part_again world names it.is) })
@@ -44,7 +44,7 @@ module _ {world : World ℕ} {names : List TaskName} {name : TaskName} {call : C
     is = it.is;
     sealed_off = it.sealed_off;
     member = contains_from_among (members world names) task
-        (member_called world names it.is it.sealed_off name it.theirs task e);
+        (caller_in it e).among;
     among_them = it.among_them;
   }) fresh other
 

@@ -1,6 +1,7 @@
 -- A call that changes tasks alone, and lets nothing go, ends in the part as in the world.
 use Rattle.std.proofs.Common.{◌≡◌, refl, sym, ap, subst, ◌∙◌, ℕ, nat_eq, List, [], Some, Ok, filter, flat_map, map}
 use Rattle.vt_spec.proofs.Common.{Among, Answer, Call, Fresh, Location, Outcome, Task, TaskName, World, all_locations, granted, is_member_task, locations_of, numbers_raised, part_of, policy, raised, raised_task, settled, task_called}
+use Rattle.vt_laws_members.proofs.judging.TheirCalls.{sealing_of}
 use Rattle.vt_laws_mounts.specs.LettingGo.InUse.{AllInUse}
 use Rattle.vt_laws_mounts.proofs.letting_go.sweeps.InUse.{nothing_goes}
 use Rattle.vt_laws_mounts.proofs.letting_go.sweeps.OfWorlds.{all_in_use}
@@ -51,13 +52,13 @@ tasks_end_alike world names set name call it task found fresh other answer stays
     leaves_too same =
     let part : World ℕ = part_of nat_eq world names in
     let in_world : AllInUse world = all_in_use world it.is in
-    let in_part : AllInUse part = part_in_use world names it.is it.sealed_off in
+    let in_part : AllInUse part = part_in_use (sealing_of it) in
     let left : World ℕ = record world { tasks = map (raised_task name) tasks; change = raised world.change } in
     let left_too : World ℕ = record part { tasks = map (raised_task name) tasks_too; change = raised part.change } in
     let first : policy nat_eq fresh world name call ≡ granted answer left =
     ap (ran name call world fresh) found ∙ one ∙ ends_so world name answer in_world names set tasks leaves in
     let second : policy nat_eq other part name call ≡ granted answer left_too =
-    ap (ran name call part other) (same_caller world names it.is it.sealed_off name it.theirs ∙ found) ∙ two
+    ap (ran name call part other) (same_caller (sealing_of it) name it.theirs ∙ found) ∙ two
     ∙ ends_so part name answer in_part names set tasks_too leaves_too in
     let parts : part_of nat_eq left set ≡ part_of nat_eq left_too set =
     part_of_ended world name answer in_world names set tasks leaves

@@ -1,9 +1,9 @@
 -- A fork ends in the part as in the world, of the set with the child.
 use Rattle.std.proofs.Common.{◌≡◌, refl, sym, ap, subst, ◌∙◌, inl, inr, ℕ, nat_eq, Bool, true, false, cond, true≢false, List, [], ◌∷◌, ◌++◌, Some, filter, map, ◌||◌, ◌+◌, arith}
 use Rattle.vt_spec.proofs.Common.{Among, Child, Credentials, Fork, IsWorld, Location, Mount, Task, TaskName, World, among-append_left, among-flat_map, among-from_filter, among-from_flat_map, among-map, any_from_among, child_name, child_of, common_steps, contains_from_among, false_from_ne_true, found_among, holds_of, is_among, is_member_task, list_any, locations, locations_of, members, mount_at, name-replaced_if_called, part_of, raised, raised_task, replaced_if_called, roots_and_directories, same_name, same_name_itself, same_task_name, seen_by_descriptor, task_called, used_directly, when}
+use Rattle.vt_laws_members.proofs.judging.TheirCalls.{IsMember, caller_in}
 use Rattle.vt_laws_sealed.proofs.part.part.PartOfPart.{is_own, keep, same_members}
 use Rattle.vt_laws_members.specs.Changes.Changes.{ForksEndAlike}
-use Rattle.vt_laws_members.proofs.changes.looks.Told.{member_called}
 use Rattle.vt_laws_members.proofs.changes.tasks.Denied.{ran_there, run_by}
 use Rattle.vt_laws_members.proofs.changes.tasks.Ending.{LeavesTasks, tasks_end_alike}
 use Rattle.vt_laws_members.proofs.changes.tasks.Retasked.{SeeAlike, any_both, any_of_each}
@@ -192,13 +192,11 @@ pub forks_end_alike : ForksEndAlike
 forks_end_alike world names name words it task called fresh other credentials granted_so =
     tasks_end_alike world names (child_name task ∷ names) name (Fork words) it task called fresh other
     (Child (child_name task)) refl (made world.tasks) (made part.tasks) (ap (run_by it world fresh task) granted_so)
-    (ran_there it fresh other task called granted_so)
-    (leaves world names name it.is task called credentials world (λ t m. m) member)
-    (leaves world names name it.is task called credentials part in_world
-    (subst (Among task) (sym (same_members world names)) member))
-    (alike world.tasks (λ t m. m) ∙ sym (alike part.tasks in_world
-    ∙ ap (λ l. map (both world names name it.is task called credentials) l ++ kid world names name it.is task called
-    credentials ∷ []) (same_members world names)))
+    (ran_there it fresh other task called granted_so) (leaves world names name it.is task called credentials world
+    (λ t m. m) member.among) (leaves world names name it.is task called credentials part in_world
+    (subst (Among task) (sym (same_members world names)) member.among)) (alike world.tasks (λ t m. m) ∙ sym
+    (alike part.tasks in_world ∙ ap (λ l. map (both world names name it.is task called credentials) l ++ kid world names
+    name it.is task called credentials ∷ []) (same_members world names)))
   where
     part : World ℕ
     part = part_of nat_eq world names
@@ -207,8 +205,8 @@ forks_end_alike world names name words it task called fresh other credentials gr
     made tasks =
         map (replaced_if_called (record task { forks = task.forks + 1 })) tasks ++ (child_of task credentials ∷ [])
 
-    member : Among task (members world names)
-    member = member_called world names it.is it.sealed_off name it.theirs task called
+    member : IsMember world names task
+    member = caller_in it called
 
     in_world : (t : Task ℕ) → Among t part.tasks → Among t world.tasks
     in_world t m = (among-from_filter (is_member_task names) world.tasks t m).0

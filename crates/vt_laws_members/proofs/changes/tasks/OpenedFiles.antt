@@ -1,6 +1,7 @@
 -- An open of theirs by which filesystems change, and nothing goes, ends in the part as in the world.
 use Rattle.std.proofs.Common.{◌≡◌, refl, sym, ap, subst, ◌∙◌, ℕ, nat_eq, true, List, Some, filter, map, ◌||◌}
 use Rattle.vt_spec.proofs.Common.{Access, Among, Call, Creation, Filesystem, Fresh, Location, Mount, OpenFile, Opened, Outcome, Task, TaskName, World, among-from_filter, free_number, granted, is_among, is_at, is_member_task, map_twice, members, mount_at, numbers_raised, part_of, policy, raised, raised_if_changed, raised_task, replaced_if_called, roots_and_directories, same_name, settled, task_called, used_directly, with_descriptor, with_task}
+use Rattle.vt_laws_members.proofs.judging.TheirCalls.{sealing_of}
 use Rattle.vt_laws_mounts.specs.LettingGo.InUse.{AllInUse}
 use Rattle.vt_laws_mounts.specs.LettingGo.TreesOverlays.{with_filesystems}
 use Rattle.vt_laws_mounts.proofs.letting_go.Lists.{filter-map}
@@ -124,8 +125,8 @@ module _ {world : World ℕ} {names : List TaskName} {name : TaskName} {path : L
         ∙ ends_so world in_world (λ t m. m) (whole_in_world world names it.is file ground)
         (theirs_directly world names it.is file ground) in
         let second : policy nat_eq fresh part name call ≡ granted (Opened (free_number task)) (later part) =
-        ap (ran name call part fresh) (same_caller world names it.is it.sealed_off name it.theirs ∙ found) ∙ two
-        ∙ ends_so part in_part its (whole_in_part world names it.is file ground)
+        ap (ran name call part fresh) (same_caller (sealing_of it) name it.theirs ∙ found) ∙ two ∙ ends_so part in_part
+        its (whole_in_part world names it.is file ground)
         (used_in_part world names it.is file ground) in
         subst (λ p. EndAlike (grown names name call (policy nat_eq fresh world name call).answer)
         (policy nat_eq fresh world name call) p) (sym second)

@@ -1,6 +1,7 @@
 -- An open of a file that is there, and is not copied up, ends in the part as in the world.
 use Rattle.std.proofs.Common.{arith, ◌≡◌, refl, sym, ap, subst, ◌∙◌, ◌⊎◌, inl, inr, ⊎_elim, ℕ, nat_eq, Bool, true, false, cond, true≢false, List, [], ◌∷◌, ◌++◌, Option, Some, None, Ok, filter, map, ◌||◌, IfOk}
-use Rattle.vt_spec.proofs.Common.{Access, Among, Creation, Descriptor, Exclusive, Fresh, Here, IsWorld, Location, Looks, Mount, NoCreation, OpenFile, Opened, OrCreate, Outcome, Permit, Place, Task, TaskName, ToOpen, World, among-append, among-append_left, among-append_right, among-flat_map, among-from_filter, among-from_flat_map, among-from_map, among-map, any_among, any_from_among, changed_if, common_steps, create_file_permit, descriptor_rules, exclusive_word_rules, file_walk, file_word_rules, finished, found_among, free_number, holds_of, inserted, is_among, is_at, is_copied_up, is_member_task, list_any, locations, locations_of, looks_of, make_rules, map_twice, members, mount_at, name-replaced_if_called, new_file, new_walk, object_walk, open_by_permit, open_file_permit, open_new_permit, open_permit, open_rules, opened, opened_or_created_permit, opens_for_reading, opens_for_writing, part_of, raised, raised_task, replaced_if_called, roots_and_directories, same_name, same_task_name, same_truth, sealed, seen_by_descriptor, task_called, unless, unnumbered, used_directly, used_filesystems, when, with_copy, with_descriptor, ⊤}
+use Rattle.vt_spec.proofs.Common.{Access, Among, Creation, Descriptor, Exclusive, Fresh, Here, IsWorld, Location, Looks, Mount, NoCreation, OpenFile, Opened, OrCreate, Outcome, Permit, Place, Task, TaskName, ToOpen, World, among-append, among-append_left, among-append_right, among-flat_map, among-from_filter, among-from_flat_map, among-from_map, among-map, any_among, any_from_among, changed_if, common_steps, create_file_permit, descriptor_rules, exclusive_word_rules, file_walk, file_word_rules, finished, found_among, free_number, holds_of, inserted, is_among, is_at, is_copied_up, is_member_task, list_any, locations, locations_of, looks_of, make_rules, map_twice, members, mount_at, name-replaced_if_called, new_file, new_walk, object_walk, open_by_permit, open_file_permit, open_new_permit, open_permit, open_rules, opened, opened_or_created_permit, opens_for_reading, opens_for_writing, part_of, raised, raised_task, replaced_if_called, roots_and_directories, same_name, same_task_name, same_truth, seen_by_descriptor, task_called, unless, unnumbered, used_directly, used_filesystems, when, with_copy, with_descriptor, ⊤}
+use Rattle.vt_laws_members.proofs.judging.TheirCalls.{IsMember, caller_in}
 use Rattle.vt_laws_mounts.proofs.letting_go.Lists.{filter-map}
 use Rattle.vt_laws_sealed.proofs.part.part.PartOfPart.{is_own, keep, same_members}
 use Rattle.vt_laws_members.specs.Judging.{is_theirs}
@@ -11,7 +12,6 @@ use Rattle.vt_laws_members.proofs.judging.SeenInPart.{filesystem_alike, theirs_d
 use Rattle.vt_laws_members.proofs.judging.WalksLead.{FoundAt, HereAt, PlaceAt, file_agrees, new_agrees, object_agrees}
 use Rattle.vt_laws_members.specs.Changes.Changes.{OpensEndAlike}
 use Rattle.vt_laws_members.proofs.changes.looks.Granted.{of_rules, of_walk}
-use Rattle.vt_laws_members.proofs.changes.looks.Told.{member_called}
 use Rattle.vt_laws_members.proofs.changes.tasks.Denied.{ran_there, run_by}
 use Rattle.vt_laws_members.proofs.changes.tasks.Ending.{LeavesTasks, tasks_end_alike}
 use Rattle.vt_laws_members.proofs.changes.tasks.Retasked.{SeeAlike}
@@ -23,8 +23,7 @@ abbrev pub OpensOn : (own : ℕ → Bool) → Permit ℕ → Type 0
 OpensOn own (ToOpen file access) = own file.mount ≡ true
 OpensOn own permit = ⊤
 
-module _ (world : World ℕ) (names : List TaskName) (is : IsWorld nat_eq world)
-    (sealed_off : sealed nat_eq world names ≡ true) (task : Task ℕ) (member : Among task (members world names)) where
+module _ {world : World ℕ} {names : List TaskName} {task : Task ℕ} (member : IsMember world names task) where
   abbrev one : Looks ℕ
   one = looks_of nat_eq world
 
@@ -39,7 +38,7 @@ module _ (world : World ℕ) (names : List TaskName) (is : IsWorld nat_eq world)
 
   alike : JudgesAlike one other task (is_theirs world names)
       (λ number. is_among nat_eq number (used_filesystems nat_eq world names))
-  alike = judges world names is sealed_off task member
+  alike = judges member
 
   abbrev StandsHere : Here ℕ → Type 0
   StandsHere = HereAt one other task On alike.walks alike.directory alike.rules.removed
@@ -323,8 +322,8 @@ opens_end_alike world names name path access how it task called fresh other file
     part : World ℕ
     part = part_of nat_eq world names
 
-    member : Among task (members world names)
-    member = member_called world names it.is it.sealed_off name it.theirs task called
+    member : IsMember world names task
+    member = caller_in it called
 
     changed : Task ℕ → Task ℕ
     changed = replaced_if_called (with_descriptor task file wanted)
@@ -335,8 +334,7 @@ opens_end_alike world names name path access how it task called fresh other file
 
     ground : IsTheirs world names it.is.mounts file.mount
     ground = theirs_from world names it.is.mounts file.mount
-        (subst (λ j. IfOk j (OpensOn (is_theirs world names))) granted_so
-        (opens_theirs world names it.is it.sealed_off task member path access how))
+        (subst (λ j. IfOk j (OpensOn (is_theirs world names))) granted_so (opens_theirs member path access how))
 
     copied_alike : is_copied_up nat_eq part file wanted ≡ false
     copied_alike = cc (filesystem_alike world names it.is file ground, not_copied)

@@ -37,7 +37,7 @@ module _ {world : World ℕ} {names : List TaskName} {gone : List ℕ} (go : The
   after_part = ended_mount b (left_by part gone) part gone
 
   abbrev events : shares_no_events nat_eq world names ≡ true
-  events = (apart world names go.is go.sealed_off).events
+  events = (apart go.sealing).events
 
   -- Masters after
 
@@ -129,18 +129,17 @@ module _ {world : World ℕ} {names : List TaskName} {gone : List ℕ} (go : The
       let other : Among u.0 (other_mounts nat_eq world names) =
       among-filter (λ (q : Mount ℕ). holds_of IsOther q.namespace) world.mounts u.0 u.1 u.4 in
       or_from (receives_events_of nat_eq here y z) (receives_events_of nat_eq here z y)
-      (hears_not (IsHeard world names go.is go.sealed_off) y z (λ g e. heard_by_own world names go.is go.sealed_off x.0
-      mine g (source_from_group x.0.propagation g (group_was x.0 g (ap (λ (q : Mount ℕ). group_of q.propagation)
-      (sym x.2) ∙ e)))) (λ g e. master_reached (IsHeard world names go.is go.sealed_off)
-      (above_heard world names go.is go.sealed_off) x.0 x.3 (heard_by_own world names go.is go.sealed_off x.0 mine) g
-      (ap (λ (q : Mount ℕ). master_of here q.propagation) (sym x.2) ∙ e))
+      (hears_not (IsHeard go.sealing) y z (λ g e. heard_by_own go.sealing x.0 mine g
+      (source_from_group x.0.propagation g (group_was x.0 g (ap (λ (q : Mount ℕ). group_of q.propagation) (sym x.2)
+      ∙ e)))) (λ g e. master_reached (IsHeard go.sealing) (above_heard go.sealing) x.0 x.3
+      (heard_by_own go.sealing x.0 mine) g (ap (λ (q : Mount ℕ). master_of here q.propagation) (sym x.2) ∙ e))
       (λ g heard h. none_hears world names go.is.mounts events g u.0 heard.0 other
       (member_was b t world gone g u.0 (ap (is_member_of nat_eq g) (sym u.2) ∙ h))))
       (hears_not (OtherLives world names go.is.mounts events) z y (λ g e. start u.0 u.1 other g
       (source_from_group u.0.propagation g (group_was u.0 g (ap (λ (q : Mount ℕ). group_of q.propagation) (sym u.2)
       ∙ e)))) (λ g e. master_reached (OtherLives world names go.is.mounts events)
-      (other_above world names go.is.mounts events) u.0 u.3
-      (start u.0 u.1 other) g (ap (λ (q : Mount ℕ). master_of here q.propagation) (sym u.2) ∙ e))
+      (other_above world names go.is.mounts events) u.0 u.3 (start u.0 u.1 other) g
+      (ap (λ (q : Mount ℕ). master_of here q.propagation) (sym u.2) ∙ e))
       (λ g lives h. none_other world names go.is.mounts events g x.0 lives.0 mine
       (member_was b t world gone g x.0 (ap (is_member_of nat_eq g) (sym x.2) ∙ h))))
     where

@@ -1,12 +1,14 @@
 -- Each umount(2) with MNT_DETACH ends in the part as in the world.
 use Rattle.std.proofs.Common.{◌≡◌, refl, sym, ap, subst, ◌∙◌, ⊎_elim, ℕ, nat_eq, eq-eqb, true, true≢false, List, [], Option, Some, None, Ok, Err, is_ok}
-use Rattle.vt_spec.proofs.Common.{Among, Call, Done, Fresh, IsWorld, Judgement, Lazy, Mount, MountInvariants, Outcome, Permit, Task, TaskName, ToUnmountLazily, World, folded, found_or_none, granted, holds_of, judge_in, lazily_unmounted, looks_of, members, mount_numbered, none_is_some, numbers_raised, overfills, part_of, policy, sealed, settled, taken_away, task_called, unmounted_if_there}
+use Rattle.vt_spec.proofs.Common.{Among, Call, Done, Fresh, Judgement, Lazy, Mount, MountInvariants, Outcome, Permit, Task, TaskName, ToUnmountLazily, World, folded, found_or_none, granted, holds_of, judge_in, lazily_unmounted, looks_of, members, mount_numbered, none_is_some, numbers_raised, overfills, part_of, policy, settled, taken_away, task_called, unmounted_if_there}
+use Rattle.vt_laws_members.proofs.judging.TheirCalls.{caller_in, sealing_of}
 use Rattle.vt_laws_rules.specs.Granted.{IsGranted}
 use Rattle.vt_laws_rules.specs.Granted.IsGranted.{unmounts_lazily}
 use Rattle.vt_laws_rules.proofs.given.Inversion.{calls_are_granted}
 use Rattle.vt_laws_mounts.proofs.letting_go.SweptBetween.{settled_without_groups}
 use Rattle.vt_laws_mounts.proofs.ends.EndingLazy.{IsUnderWay, begun}
 use Rattle.vt_laws_mounts.proofs.ends.EndingOrder.{taken_in_turn}
+use Rattle.vt_laws_sealed.proofs.part.seals.ByPart.{IsSealed}
 use Rattle.vt_laws_worlds.proofs.worlds.CallsKept.{name_found}
 use Rattle.vt_laws_worlds.proofs.worlds.FitPermitsNamed.{all_permits_fit}
 use Rattle.vt_laws_sealed.proofs.part.part.PartOfPart.{is_own}
@@ -14,7 +16,7 @@ use Rattle.vt_laws_members.proofs.judging.MountPoints.{in_own}
 use Rattle.vt_laws_members.specs.Changes.Changes.{EndAlike, EndsAlike, IsCallOfTheirs, grown}
 use Rattle.vt_laws_members.proofs.changes.letting_go.PartMounts.{part_mounts}
 use Rattle.vt_laws_members.proofs.changes.letting_go.Taken.{taken_parts}
-use Rattle.vt_laws_members.proofs.changes.looks.Told.{member_called, ran, same_caller}
+use Rattle.vt_laws_members.proofs.changes.looks.Told.{ran, same_caller}
 use Rattle.vt_laws_members.proofs.changes.names.NamesEnding.{unused_numbers, unused_serve}
 use Rattle.vt_laws_members.proofs.changes.tasks.Denied.{denial_ends_alike, ran_there, run_by, unnamed_ends_alike}
 use Rattle.vt_laws_members.specs.Detached.Lazily.{LazyUmountsDetachAlike}
@@ -27,21 +29,20 @@ settled_but_groups : (one other : World ℕ) → SameButGroups one other → set
 settled_but_groups one other same =
     sym (settled_without_groups one) ∙ ap (settled nat_eq) same ∙ settled_without_groups other
 
-module _ (world : World ℕ) (names : List TaskName) (is : IsWorld nat_eq world)
-    (sealed_off : sealed nat_eq world names ≡ true) (name : TaskName) (number : ℕ)
+module _ {world : World ℕ} {names : List TaskName} (sealing : IsSealed world names) (name : TaskName) (number : ℕ)
     (there : Among (mount_numbered nat_eq world number) world.mounts)
     (own : is_own world names (members world names) (mount_numbered nat_eq world number) ≡ true) where
   abbrev part : World ℕ
   part = part_of nat_eq world names
 
   abbrev in_part : MountInvariants nat_eq part
-  in_part = part_mounts world names is sealed_off
+  in_part = part_mounts sealing
 
   abbrev turns : List (Mount ℕ)
   turns = taken_in_turn world number
 
   same : taken_in_turn part number ≡ turns
-  same = same_turns world names is sealed_off number there own
+  same = same_turns sealing number there own
 
   abbrev left_there : World ℕ
   left_there = folded (unmounted_if_there nat_eq) part turns
@@ -49,10 +50,10 @@ module _ (world : World ℕ) (names : List TaskName) (is : IsWorld nat_eq world)
   -- all that goes, in both
   all_gone : (gone : List ℕ) × TheirsGo world names gone
       × TookAway world (lazily_unmounted nat_eq world number) gone × TookAway part left_there gone
-  all_gone = events_alike world names is sealed_off number turns world part [] (begun world is.mounts number)
+  all_gone = events_alike sealing number turns world part [] (begun world sealing.is.mounts number)
       (subst (IsUnderWay part in_part number part) same (begun part in_part number))
-      (record { is = is; sealed_off = sealed_off; own_go = λ m n none. absurd (true≢false (sym none)) })
-      (took_none world is.mounts) (took_none part in_part) (turns_own world names is sealed_off number there own)
+      (record { sealing = sealing; own_go = λ m n none. absurd (true≢false (sym none)) })
+      (took_none world sealing.is.mounts) (took_none part in_part) (turns_own sealing number there own)
 
   abbrev gone : List ℕ
   gone = all_gone.0
@@ -101,7 +102,7 @@ module _ {world : World ℕ} {names : List TaskName} {name : TaskName} {path : L
       (found_or_none world.mounts number)
 
   is_theirs : is_own world names (members world names) (mount_numbered nat_eq world number) ≡ true
-  is_theirs = in_own world names it.is task (member_called world names it.is it.sealed_off name it.theirs task found)
+  is_theirs = in_own world names it.is task (caller_in it found).among
       (mount_numbered nat_eq world number)
       (ap (holds_of (nat_eq task.namespace)) in_callers ∙ eq-eqb task.namespace task.namespace refl)
 
@@ -113,13 +114,13 @@ module _ {world : World ℕ} {names : List TaskName} {name : TaskName} {path : L
       let first : policy nat_eq fresh world name (Lazy path) ≡ outcome world =
       ap (ran name (Lazy path) world fresh) found ∙ ap (run_by it world fresh task) judged in
       let second : policy nat_eq other its_part name (Lazy path) ≡ outcome its_part =
-      ap (ran name (Lazy path) its_part other) (same_caller world names it.is it.sealed_off name it.theirs ∙ found)
+      ap (ran name (Lazy path) its_part other) (same_caller (sealing_of it) name it.theirs ∙ found)
       ∙ ran_there it fresh other task found judged in
       subst (λ p. EndAlike (grown names name (Lazy path) (policy nat_eq fresh world name (Lazy path)).answer)
       (policy nat_eq fresh world name (Lazy path)) p) (sym second)
       (subst (λ o. EndAlike (grown names name (Lazy path) o.answer) o (outcome its_part)) (sym first) (record {
         answer = refl;
-        part = lazy_parts world names it.is it.sealed_off name number is_there is_theirs;
+        part = lazy_parts (sealing_of it) name number is_there is_theirs;
       }))
 
 pub lazy_umounts_detach_alike : LazyUmountsDetachAlike

@@ -1,6 +1,6 @@
 -- The events of a lazy unmount of a mount of theirs are the same in the part, in the same order.
 use Rattle.std.proofs.Common.{◌≡◌, refl, sym, ap, subst, ◌∙◌, inl, inr, ⊎_elim, ℕ, zero, suc, nat_eq, arith, true, List, [], ◌∷◌, Option, Some, None, length, ◌≤◌, if◌then◌else◌, nat_lt}
-use Rattle.vt_spec.proofs.Common.{Among, IsWorld, Location, Mount, MountInvariants, Task, TaskName, World, among-from_filter, among-from_flat_map, chain_ends, children, common_steps, depth_of, folded, insert_deepest, members, mount_numbered, mount_tree, number-mount_in, part_of, sealed, stands_on, tree_from}
+use Rattle.vt_spec.proofs.Common.{Among, Location, Mount, MountInvariants, Task, TaskName, World, among-from_filter, among-from_flat_map, chain_ends, children, common_steps, depth_of, folded, insert_deepest, members, mount_numbered, mount_tree, number-mount_in, part_of, stands_on, tree_from}
 use Rattle.vt_laws_sealed.proofs.part.part.MountsOver.{numbered}
 use Rattle.vt_laws_mounts.specs.Mounts.Invariants.{OneNumberEach}
 use Rattle.vt_laws_mounts.specs.Mounts.Standing.{AllStand}
@@ -10,6 +10,7 @@ use Rattle.vt_laws_sealed.proofs.part.part.PartOfPart.{is_own}
 use Rattle.vt_laws_members.proofs.judging.Grounds.{IsTheirs, parent_theirs, same_mount}
 use Rattle.vt_laws_members.proofs.judging.MountTrees.{child_own, own_theirs, tree_alike}
 use Rattle.vt_laws_members.proofs.changes.letting_go.PartMounts.{part_mounts}
+use Rattle.vt_laws_sealed.proofs.part.seals.ByPart.{IsSealed}
 
 -- a mount without a mount point has no ancestors
 depth_of_root : (w : World ℕ) (mount : Mount ℕ) → mount.mount_point ≡ None → depth_of nat_eq w mount ≡ 1
@@ -22,8 +23,7 @@ depth_of_child : (w : World ℕ) → OneNumberEach w → AllStand w → (k : ℕ
 depth_of_child w one all k place e =
     cc (depth_by_rank w one all k, rank_child w one all k place e, depth_by_rank w one all place.mount)
 
-module _ (world : World ℕ) (names : List TaskName) (is : IsWorld nat_eq world)
-    (sealed_off : sealed nat_eq world names ≡ true) where
+module _ {world : World ℕ} {names : List TaskName} (sealing : IsSealed world names) where
   abbrev theirs : List (Task ℕ)
   theirs = members world names
 
@@ -31,13 +31,13 @@ module _ (world : World ℕ) (names : List TaskName) (is : IsWorld nat_eq world)
   part = part_of nat_eq world names
 
   abbrev On : ℕ → Type 0
-  On = IsTheirs world names is.mounts
+  On = IsTheirs world names sealing.is.mounts
 
   in_part : MountInvariants nat_eq part
-  in_part = part_mounts world names is sealed_off
+  in_part = part_mounts sealing
 
   abbrev deep : ℕ → ℕ
-  deep = rank world is.mounts.one_number is.mounts.standing
+  deep = rank world sealing.is.mounts.one_number sealing.is.mounts.standing
 
   abbrev DeepAlike : ℕ → Type 0
   DeepAlike k =
@@ -45,8 +45,8 @@ module _ (world : World ℕ) (names : List TaskName) (is : IsWorld nat_eq world)
 
   root_alike : (k : ℕ) → On k → (mount_numbered nat_eq world k).mount_point ≡ None → DeepAlike k
   root_alike k on e = depth_of_root part (mount_numbered nat_eq part k)
-      (ap (λ (m : Mount ℕ). m.mount_point) (same_mount world names is.mounts k on) ∙ e)
-      ∙ sym (depth_of_root world (mount_numbered nat_eq world k) e)
+      (ap (λ (m : Mount ℕ). m.mount_point) (same_mount world names sealing.is.mounts k on) ∙ e) ∙ sym
+      (depth_of_root world (mount_numbered nat_eq world k) e)
 
   deep_alike : (n k : ℕ) → On k → deep k ≤ n → DeepAlike k
   deep_alike zero k on l = by (mount_numbered nat_eq world k).mount_point refl
@@ -55,7 +55,7 @@ module _ (world : World ℕ) (names : List TaskName) (is : IsWorld nat_eq world)
       by None e = root_alike k on e
       by (Some place) e =
           let child : deep k ≡ suc (deep place.mount) =
-          rank_child world is.mounts.one_number is.mounts.standing k place e in
+          rank_child world sealing.is.mounts.one_number sealing.is.mounts.standing k place e in
           absurd (omega (arith, child, l))
   deep_alike (suc n) k on l = by (mount_numbered nat_eq world k).mount_point refl (deep_alike n)
     where
@@ -64,12 +64,12 @@ module _ (world : World ℕ) (names : List TaskName) (is : IsWorld nat_eq world)
       by None e later = root_alike k on e
       by (Some place) e later =
           let child : deep k ≡ suc (deep place.mount) =
-          rank_child world is.mounts.one_number is.mounts.standing k place e in
+          rank_child world sealing.is.mounts.one_number sealing.is.mounts.standing k place e in
           let less : deep place.mount ≤ n = omega (arith, child, l) in
           depth_of_child part in_part.one_number in_part.standing k place
-          (ap (λ (m : Mount ℕ). m.mount_point) (same_mount world names is.mounts k on) ∙ e)
-          ∙ ap suc (later place.mount (parent_theirs world names is.mounts k place on e) less)
-          ∙ sym (depth_of_child world is.mounts.one_number is.mounts.standing k place e)
+          (ap (λ (m : Mount ℕ). m.mount_point) (same_mount world names sealing.is.mounts k on) ∙ e) ∙ ap suc
+          (later place.mount (parent_theirs world names sealing.is.mounts k place on e) less) ∙ sym
+          (depth_of_child world sealing.is.mounts.one_number sealing.is.mounts.standing k place e)
 
   -- a mount of theirs is as deep in the part
   abbrev SameDepth : Mount ℕ → Type 0
@@ -77,10 +77,10 @@ module _ (world : World ℕ) (names : List TaskName) (is : IsWorld nat_eq world)
 
   same_depth : (mount : Mount ℕ) → Among mount world.mounts → is_own world names theirs mount ≡ true → SameDepth mount
   same_depth mount m own =
-      let on = own_theirs world names is mount m own in
-      let itself = numbered world names is.mounts mount m in
+      let on = own_theirs world names sealing.is mount m own in
+      let itself = numbered world names sealing.is.mounts mount m in
       cc (
-        same_mount world names is.mounts mount.number on,
+        same_mount world names sealing.is.mounts mount.number on,
         itself,
         deep_alike (deep mount.number) mount.number on (omega arith),
       )
@@ -117,8 +117,8 @@ module _ (world : World ℕ) (names : List TaskName) (is : IsWorld nat_eq world)
       let from = among-from_flat_map (tree_from nat_eq n world.mounts)
       (children nat_eq world.mounts top.number) x later in
       let child = among-from_filter (stands_on nat_eq top.number) world.mounts from.0 from.1 in
-      tree_own n from.0 x child.0
-      (child_own world names is top.number from.0 (own_theirs world names is top m own) child.0 child.1) from.2) at
+      tree_own n from.0 x child.0 (child_own world names sealing.is top.number from.0
+      (own_theirs world names sealing.is top m own) child.0 child.1) from.2) at
 
   module _ (number : ℕ) (there : Among (mount_numbered nat_eq world number) world.mounts)
       (own : is_own world names theirs (mount_numbered nat_eq world number) ≡ true) where
@@ -126,7 +126,7 @@ module _ (world : World ℕ) (names : List TaskName) (is : IsWorld nat_eq world)
     top = mount_numbered nat_eq world number
 
     on : On number
-    on = subst On (number-mount_in world.mounts number) (own_theirs world names is top there own)
+    on = subst On (number-mount_in world.mounts number) (own_theirs world names sealing.is top there own)
 
     in_tree : (x : Mount ℕ) → Among x (mount_tree nat_eq world.mounts top)
         → Among x world.mounts × (is_own world names theirs x ≡ true)
@@ -134,8 +134,8 @@ module _ (world : World ℕ) (names : List TaskName) (is : IsWorld nat_eq world)
 
     pub same_turns : taken_in_turn part number ≡ taken_in_turn world number
     same_turns = cc (
-      same_mount world names is.mounts number on,
-      tree_alike world names is top (own_theirs world names is top there own),
+      same_mount world names sealing.is.mounts number on,
+      tree_alike world names sealing.is top (own_theirs world names sealing.is top there own),
       sorted_alike (mount_tree nat_eq world.mounts top) [] (λ x m. let its = in_tree x m in same_depth x its.0
           its.1) (λ x none. absurd none),
     )

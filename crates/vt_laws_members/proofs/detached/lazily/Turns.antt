@@ -1,6 +1,6 @@
 -- The events of a lazy unmount of a mount of theirs detach the same mounts in the part, and all of them are theirs.
 use Rattle.std.proofs.Common.{◌≡◌, refl, sym, ap, subst, ◌∙◌, ⊎_elim, inl, inr, ℕ, nat_eq, Bool, true, false, cond, true≢false, List, [], ◌∷◌, ◌++◌, is_some, append-nil, append_assoc}
-use Rattle.vt_spec.proofs.Common.{Among, IsWorld, Mount, MountInvariants, Task, TaskName, World, among-filter, among-from_map, among-map, among_numbers, folded, going, holds_of, is_going, is_own_mount, list_any, list_any-append, members, mount_numbered, or_cases, own_mounts, part_of, regrouped_by, sealed, taken_away, unmounted_if_there, without_dead_groups}
+use Rattle.vt_spec.proofs.Common.{Among, Mount, MountInvariants, Task, TaskName, World, among-filter, among-from_map, among-map, among_numbers, folded, going, holds_of, is_going, is_own_mount, list_any, list_any-append, members, mount_numbered, or_cases, own_mounts, part_of, regrouped_by, taken_away, unmounted_if_there, without_dead_groups}
 use Rattle.vt_laws_sealed.proofs.part.part.MountsOver.{numbered}
 use Rattle.vt_laws_mounts.proofs.letting_go.ends.NamespacesEnd.{nothing_taken}
 use Rattle.vt_laws_mounts.proofs.ends.EndingLazy.{IsUnderWay, next}
@@ -17,6 +17,7 @@ use Rattle.vt_laws_members.proofs.detached.lazily.Cleared.{cleared_keeps, going_
 use Rattle.vt_laws_members.proofs.detached.lazily.GoingAlike.{going_alike, going_own}
 use Rattle.vt_laws_members.proofs.detached.lazily.Heirs.{nothing_lost}
 use Rattle.vt_laws_members.proofs.detached.lazily.TakenTwice.{taken_twice}
+use Rattle.vt_laws_sealed.proofs.part.seals.ByPart.{IsSealed}
 
 -- where nothing goes, nothing changes
 none_gone : (w : World ℕ) → MountInvariants nat_eq w → taken_away nat_eq w [] ≡ w
@@ -55,8 +56,7 @@ takes start now gone it list kept = record {
       ∙ ap (λ all. without_dead_groups nat_eq (taken_away nat_eq start all)) (sym (append_assoc gone list more));
 }
 
-module _ (world : World ℕ) (names : List TaskName) (is : IsWorld nat_eq world)
-    (sealed_off : sealed nat_eq world names ≡ true) where
+module _ {world : World ℕ} {names : List TaskName} (sealing : IsSealed world names) where
   abbrev theirs : List (Task ℕ)
   theirs = members world names
 
@@ -100,7 +100,7 @@ module _ (world : World ℕ) (names : List TaskName) (is : IsWorld nat_eq world)
     -- the mount is in both what it is after
     in_there : Among (after mount) there.mounts
     in_there = subst (λ m. Among m there.mounts) (mount_alike go b mount mine)
-        (among-map after_part part.mounts mount (own_in_part world names is sealed_off mount mine))
+        (among-map after_part part.mounts mount (own_in_part sealing mount mine))
 
     number_after : (after mount).number ≡ mount.number
     number_after = (shape_kept b (left_by world gone) world gone mount).number
@@ -135,15 +135,14 @@ module _ (world : World ℕ) (names : List TaskName) (is : IsWorld nat_eq world)
     list_there h = ap (going nat_eq now_part) is_now_there
         ∙ going_but_groups now_part there same_there it_there.kept (after mount)
         ∙ sym (going_alike there names kept_there (apart_there go b) (after mount) in_there
-        (ap (λ ts. is_own world names ts (after mount)) (same_members world names) ∙ own_after h))
-        ∙ ap (λ w. going nat_eq w (after mount)) (one_part world names is names here there (ended_less (all_stay go b)))
-        ∙ going_alike here names kept_here (apart_here go b) (after mount) (among-map after world.mounts mount at)
-        (own_after h)
+        (ap (λ ts. is_own world names ts (after mount)) (same_members world names) ∙ own_after h)) ∙ ap
+        (λ w. going nat_eq w (after mount)) (one_part world names sealing.is names here there
+        (ended_less (all_stay go b))) ∙ going_alike here names kept_here (apart_here go b) (after mount)
+        (among-map after world.mounts mount at) (own_after h)
 
     own_list : is_some (after mount).namespace ≡ true → TheirsGo world names (gone ++ list)
     own_list h = record {
-      is = is;
-      sealed_off = sealed_off;
+      sealing = sealing;
       own_go = λ m n goes. ⊎_elim (go.own_go m n) (λ later.
           let its = going_own here names kept_here (apart_here go b) (after mount)
           m.number (among-map after world.mounts mount at) (own_after h) (among_numbers list m.number later) in
@@ -153,8 +152,8 @@ module _ (world : World ℕ) (names : List TaskName) (is : IsWorld nat_eq world)
           let number : from.0.number ≡ m.number = sym (ap (λ (q : Mount ℕ). q.number) from.2
           ∙ (shape_kept b (left_by world gone) world gone from.0).number) ∙ its.3 in
           let same : from.0 ≡ m =
-          sym (numbered world names is.mounts from.0 from.1) ∙ ap (mount_numbered nat_eq world) number
-          ∙ numbered world names is.mounts m n in
+          sym (numbered world names sealing.is.mounts from.0 from.1) ∙ ap (mount_numbered nat_eq world) number
+          ∙ numbered world names sealing.is.mounts m n in
           ap (is_own world names theirs) (sym same) ∙ was.1)
           (or_cases (is_going nat_eq gone m.number) (is_going nat_eq list m.number)
           (sym (list_any-append (nat_eq m.number) gone list) ∙ goes));
@@ -204,16 +203,16 @@ module _ (world : World ℕ) (names : List TaskName) (is : IsWorld nat_eq world)
 
   -- All events
   pub events_alike : (number : ℕ) (events : List (Mount ℕ)) (now now_part : World ℕ) (gone : List ℕ)
-      → IsUnderWay world is.mounts number now events
-      → IsUnderWay part (part_mounts world names is sealed_off) number now_part events
+      → IsUnderWay world sealing.is.mounts number now events
+      → IsUnderWay part (part_mounts sealing) number now_part events
       → TheirsGo world names gone → TookAway world now gone → TookAway part now_part gone
       → ((m : Mount ℕ) → Among m events → Among m world.mounts × (is_own world names theirs m ≡ true))
       → (all : List ℕ) × TheirsGo world names all × TookAway world (folded (unmounted_if_there nat_eq) now events) all
       × TookAway part (folded (unmounted_if_there nat_eq) now_part events) all
   events_alike number [] now now_part gone way way_too go it it_there owned = (gone, go, it, it_there)
   events_alike number (mount ∷ rest) now now_part gone way way_too go it it_there owned =
-      let next_way = next world is.mounts number now mount rest way in
-      let next_too = next part (part_mounts world names is sealed_off) number now_part mount rest way_too in
+      let next_way = next world sealing.is.mounts number now mount rest way in
+      let next_too = next part (part_mounts sealing) number now_part mount rest way_too in
       let its = owned mount (inl refl) in
       let both = event_alike now now_part gone go it it_there mount its.0 its.1 next_way.kept next_too.kept in
       events_alike number rest (unmounted_if_there nat_eq now mount) (unmounted_if_there nat_eq now_part mount) both.0

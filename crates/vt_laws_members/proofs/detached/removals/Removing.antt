@@ -2,6 +2,7 @@
 use Rattle.std.proofs.Common.{◌≡◌, refl, sym, ap, subst, ◌∙◌, ℕ, nat_eq, eqb-true, true, false, true≢false, List, [], ◌∷◌, Option, Some, None, Ok, ◌||◌, option_to_list}
 use Rattle.vt_spec.proofs.Common.{Among, Call, Change, Done, FileTree, Filesystem, Fresh, Location, Mount, MountInvariants, Outcome, Rename, TaskName, ToRename, World, and_parts, changed_at, filesystem_at, filesystem_changed, filesystem_numbered, finished, finished_by, granted, holds_of, is_going, is_overlay, is_own_namespace, judge_in, list_all, members, mount_at, mount_numbered, mounts_on, numbers_of_change, numbers_raised, only_looks, part_of, policy, settled, taken_away, used_alone, with_change, without_mounts_on}
 use Rattle.vt_spec.specs.Language.Changes
+use Rattle.vt_laws_members.proofs.judging.TheirCalls.{sealing_of}
 use Rattle.vt_laws_mounts.specs.LettingGo.TreesOverlays.{with_filesystems}
 use Rattle.vt_laws_mounts.proofs.ends.Ending.{points_keep_mounts}
 use Rattle.vt_laws_sealed.proofs.part.part.PartOfPart.{is_own}
@@ -84,8 +85,7 @@ module _ {world : World ℕ} {names : List TaskName} {name : TaskName} {call : C
 
   abbrev go : TheirsGo world names list
   go = record {
-    is = it.is;
-    sealed_off = it.sealed_off;
+    sealing = sealing_of it.it;
     own_go = own_go world names it.is it.gone on_gone only_own;
   }
 
@@ -100,7 +100,7 @@ module _ {world : World ℕ} {names : List TaskName} {name : TaskName} {call : C
 
   kept_part : MountInvariants nat_eq (taken_away nat_eq part list)
   kept_part = subst (MountInvariants nat_eq) (sym same_list)
-      (points_keep_mounts part it.gone (part_mounts world names it.is it.sealed_off))
+      (points_keep_mounts part it.gone (part_mounts (sealing_of it.it)))
 
   -- the mount of the directory is in the caller's namespace, and stays
   directory_stays : is_own world names (members world names) on.0 ≡ true → is_going nat_eq list on.0.number ≡ false
@@ -134,7 +134,7 @@ module _ {world : World ℕ} {names : List TaskName} {name : TaskName} {call : C
       let first : policy nat_eq fresh world name call ≡ left_with world here name old files =
       ap (ran name call world fresh) it.found ∙ ap (run_by it.it world fresh it.task) judged ∙ run_here in
       let second : policy nat_eq other part name call ≡ left_with part there name old files =
-      ap (ran name call part other) (same_caller world names it.is it.sealed_off name it.theirs ∙ it.found)
+      ap (ran name call part other) (same_caller (sealing_of it.it) name it.theirs ∙ it.found)
       ∙ ran_there it.it fresh other it.task it.found judged ∙ run_there in
       subst (λ p. EndAlike (grown names name call (policy nat_eq fresh world name call).answer)
       (policy nat_eq fresh world name call) p) (sym second)

@@ -1,6 +1,7 @@
 -- Calls of theirs that make, give and take names through overlays end in the part as in the world.
 use Rattle.std.proofs.Common.{◌≡◌, refl, sym, ap, subst, ◌∙◌, ℕ, nat_eq, true, false, true≢false, List, Option, Some, None, Ok, is_some, ◌||◌}
 use Rattle.vt_spec.proofs.Common.{Among, Call, Change, Done, Filesystem, Fresh, Layer, LinkTo, Location, Make, Mkdir, Overlay, Permit, Serves, SymlinkAt, Task, TaskName, ToChange, ToMake, Unlink, World, Write, changed_at, evens, filesystem_at, finished, finished_by, granted, is_overlay, judge_in, linking, looks_of, mount_at, numbers_raised, object_there, only_looks, overfills, part_of, removing, settled, task_called, used_directly, with_change}
+use Rattle.vt_laws_members.proofs.judging.TheirCalls.{sealing_of}
 use Rattle.vt_laws_rules.specs.Granted.{IsGranted}
 use Rattle.vt_laws_rules.specs.Granted.IsGranted.{makes_hard_link, unlinks}
 use Rattle.vt_laws_rules.proofs.given.Inversion.{calls_are_granted}
@@ -96,9 +97,9 @@ module _ {world : World ℕ} {names : List TaskName} {name : TaskName} {call : C
           naming.change merged overlay looks (sym alike) overlaid none)
       layered overlay overlaid (Some upper) has =
           let copied = through overlay upper overlaid has in
-          changed_ends naming.it copied (tasks_stay world names naming.is naming.sealed_off) direct naming.task
-          naming.found naming.fresh Done stays (one ∙ stepped_run world world name call supply naming.location
-          naming.change _ _ looks (changed_in_world naming.it copied) (listed_in_world naming.it copied))
+          changed_ends naming.it copied (tasks_stay (sealing_of naming.it)) direct naming.task naming.found naming.fresh
+          Done stays (one ∙ stepped_run world world name call supply naming.location naming.change _ _ looks
+          (changed_in_world naming.it copied) (listed_in_world naming.it copied))
           (two ∙ stepped_run part part name call supply naming.location naming.change _ _ looks
           (changed_in_part naming.it copied) (listed_in_part naming.it copied))
 

@@ -1,9 +1,10 @@
 -- A granted call of theirs by which a name comes or goes through an overlay ends in the part as in the world.
 use Rattle.std.proofs.Common.{arith, ◌≡◌, refl, sym, ap, subst, ◌∙◌, ◌⊎◌, inl, inr, ⊎_elim, ℕ, nat_eq, eqb-true, Bool, true, false, true≢false, List, [], ◌∷◌, ◌++◌, Option, Some, Ok, is_some, map, option_to_list}
-use Rattle.vt_spec.proofs.Common.{Among, Answer, Call, Filesystem, Fresh, IsWorld, Layer, Overlay, Real, Task, TaskName, World, among-append_left, among-append_right, among-flat_map, among-from_filter, among_numbers, changed_at, common_steps, filesystem_numbered, granted, is_among, is_overlay, layers_of, mount_at, numbers_raised, of_overlay, open_layer, or_cases, overlay_or, part_of, sealed, settled, stack_of, task_called, used_alone, used_directly, used_filesystems, wholly_locked, with_change}
+use Rattle.vt_spec.proofs.Common.{Among, Answer, Call, Filesystem, Fresh, Layer, Overlay, Real, Task, TaskName, World, among-append_left, among-append_right, among-flat_map, among-from_filter, among_numbers, changed_at, common_steps, filesystem_numbered, granted, is_among, is_overlay, layers_of, mount_at, numbers_raised, of_overlay, open_layer, or_cases, overlay_or, part_of, settled, stack_of, task_called, used_alone, used_directly, used_filesystems, wholly_locked, with_change}
+use Rattle.vt_laws_members.proofs.judging.TheirCalls.{sealing_of}
 use Rattle.vt_laws_mounts.specs.LettingGo.TreesOverlays.{with_filesystems}
 use Rattle.vt_laws_sealed.proofs.part.part.PartOfPart.{used_directly_used}
-use Rattle.vt_laws_sealed.proofs.part.seals.ByPart.{layer_directory, layer_plain, used_are_free}
+use Rattle.vt_laws_sealed.proofs.part.seals.ByPart.{IsSealed, layer_directory, layer_plain, used_are_free}
 use Rattle.vt_laws_members.proofs.judging.Anywhere.{not_whole}
 use Rattle.vt_laws_members.proofs.judging.Locks.{whole_how}
 use Rattle.vt_laws_members.proofs.judging.LowersSeen.{lower_view, overlay_there}
@@ -31,24 +32,22 @@ all_alike one other [] same = tt
 all_alike one other (l ∷ rest) same = (refl, same l (inl refl), all_alike one other rest (λ k m. same k (inr m)))
 
 -- They use alone each overlay that they use, and the filesystem of its upper layer: neither is wholly locked.
-module _ (world : World ℕ) (names : List TaskName) (is : IsWorld nat_eq world)
-    (sealed_off : sealed nat_eq world names ≡ true) (number : ℕ) (overlay : Overlay ℕ)
+module _ {world : World ℕ} {names : List TaskName} (sealing : IsSealed world names) (number : ℕ) (overlay : Overlay ℕ)
     (overlaid : (filesystem_numbered nat_eq world number).overlay ≡ Some overlay)
     (direct : Among number (used_directly nat_eq world names)) where
   free : (n : ℕ) → is_among nat_eq n (used_filesystems nat_eq world names) ≡ true
       → (wholly_locked nat_eq world names n ≡ true → ⊥) → used_alone nat_eq world names n ≡ true
   free n used whole = ⊎_elim (λ h. h) (λ locked. absurd (whole locked))
       (or_cases (used_alone nat_eq world names n) (wholly_locked nat_eq world names n)
-      (used_are_free world names sealed_off n (among_numbers (used_filesystems nat_eq world names) n used)))
+      (used_are_free world names sealing.sealed_off n (among_numbers (used_filesystems nat_eq world names) n used)))
 
   -- an overlay is no layer
   no_layer : wholly_locked nat_eq world names number ≡ true → ⊥
   no_layer locked =
-      let how = whole_how world names is sealed_off number locked in
+      let how = whole_how sealing number locked in
       true≢false (sym (ap (λ o. is_some o) overlaid)
-      ∙ ap (λ n. is_overlay (filesystem_numbered nat_eq world n)) how.inside
-      ∙ layer_plain world names is how.merged (among-from_filter is_overlay world.filesystems how.merged how.overlaid).0
-      how.layer how.layered)
+      ∙ ap (λ n. is_overlay (filesystem_numbered nat_eq world n)) how.inside ∙ layer_plain world names sealing.is
+      how.merged (among-from_filter is_overlay world.filesystems how.merged how.overlaid).0 how.layer how.layered)
 
   pub merged_alone : used_alone nat_eq world names number ≡ true
   merged_alone = free number (used_directly_used world names number direct) no_layer
@@ -57,10 +56,9 @@ module _ (world : World ℕ) (names : List TaskName) (is : IsWorld nat_eq world)
   pub upper_alone : (upper : Layer ℕ) → overlay.upper ≡ Some upper
       → used_alone nat_eq world names upper.filesystem ≡ true
   upper_alone upper has = free upper.filesystem (upper_in_use world names number overlay upper overlaid has direct)
-      (not_whole world names is sealed_off (filesystem_numbered nat_eq world number)
-      (overlay_there world names is number overlay overlaid) overlay overlaid upper
-      (among-append_left (option_to_list overlay.upper) (option_to_list overlay.work) upper
-      (subst (λ o. Among upper (option_to_list o)) (sym has) (inl refl))))
+      (not_whole sealing (filesystem_numbered nat_eq world number) (overlay_there world names sealing.is number overlay
+      overlaid) overlay overlaid upper (among-append_left (option_to_list overlay.upper) (option_to_list overlay.work)
+      upper (subst (λ o. Among upper (option_to_list o)) (sym has) (inl refl))))
 
 -- An overlay with an upper layer, in whose tree a name comes or goes
 module _ {world : World ℕ} {names : List TaskName} {name : TaskName} {call : Call}
@@ -94,12 +92,12 @@ module _ {world : World ℕ} {names : List TaskName} {name : TaskName} {call : C
 
   pub one_alone : used_alone nat_eq world names one.number ≡ true
   one_alone = ap (used_alone nat_eq world names) one_number
-      ∙ merged_alone world names it.is it.sealed_off number through.overlay through.can.overlay_there through.direct
+      ∙ merged_alone (sealing_of it) number through.overlay through.can.overlay_there through.direct
 
   pub two_alone : used_alone nat_eq world names two.number ≡ true
   two_alone = ap (used_alone nat_eq world names) two_number
-      ∙ upper_alone world names it.is it.sealed_off number through.overlay through.can.overlay_there through.direct
-      through.upper through.can.upper_there
+      ∙ upper_alone (sealing_of it) number through.overlay through.can.overlay_there through.direct through.upper
+      through.can.upper_there
 
   -- The change is one of filesystems that they use alone.
   module _ (w : World ℕ) (used : List ℕ) (one_used : is_among nat_eq one.number used ≡ true)
@@ -218,11 +216,10 @@ module _ {world : World ℕ} {names : List TaskName} {name : TaskName} {call : C
         two_used_now (one_in_world world names it.is number (used_directly_used world names number through.direct))
         (one_in_world world names it.is through.upper.filesystem
         (upper_in_use world names number through.overlay through.upper through.can.overlay_there through.can.upper_there
-        through.direct)) (alone world names left.is left.sealed_off names left.tasks world.change left.lets one.number
-        one_alone) (alone world names left.is left.sealed_off names left.tasks world.change left.lets two.number
-        two_alone)) (theirs (living_part it left moved) (used_filesystems nat_eq later names) one_used_now two_used_now
+        through.direct)) (alone left.sealing names left.tasks world.change left.lets one.number one_alone)
+        (alone left.sealing names left.tasks world.change left.lets two.number two_alone))
+        (theirs (living_part it left moved) (used_filesystems nat_eq later names) one_used_now two_used_now
         (one_in_part world names it.is number (used_directly_used world names number through.direct))
-        (one_in_part world names it.is through.upper.filesystem
-        (upper_in_use world names number through.overlay through.upper through.can.overlay_there through.can.upper_there
-        through.direct)) (alone_there one.number) (alone_there two.number)) numbers numbers_used task called fresh fresh
-        answer same_set
+        (one_in_part world names it.is through.upper.filesystem (upper_in_use world names number through.overlay
+        through.upper through.can.overlay_there through.can.upper_there through.direct)) (alone_there one.number)
+        (alone_there two.number)) numbers numbers_used task called fresh fresh answer same_set

@@ -1,6 +1,7 @@
 -- An open of theirs that makes the file through an overlay ends in the part as in the world.
 use Rattle.std.proofs.Common.{arith, ◌≡◌, refl, sym, ap, subst, ◌∙◌, inl, inr, ⊎_elim, ℕ, nat_eq, false, cond, true≢false, List, [], ◌∷◌, Option, Some, None, is_some, map, not}
 use Rattle.vt_spec.proofs.Common.{Access, Among, Call, Change, Creation, Descriptor, Filesystem, Fresh, Layer, Location, Make, OpenFile, Opened, Overlay, Task, TaskName, ToOpenNew, World, among-append_right, among-flat_map, among-from_map, among-map, changed_at, common_steps, evens, filesystem_at, finished, free_number, granted, inserted, list_any, locations, locations_of, members, mount_at, numbers_raised, odds, opened, overlay_or, own_mounts, part_of, replaced_if_called, same_name_itself, settled, task_called, used_directly, with_change, with_descriptor, with_task}
+use Rattle.vt_laws_members.proofs.judging.TheirCalls.{IsMember, caller_in, sealing_of}
 use Rattle.vt_laws_mounts.specs.LettingGo.TreesOverlays.{with_filesystems}
 use Rattle.vt_laws_worlds.proofs.worlds.CallsKept.{name_found}
 use Rattle.vt_laws_worlds.proofs.worlds.Placed.{among-inserted}
@@ -12,7 +13,6 @@ use Rattle.vt_laws_members.proofs.judging.SeenInPart.{directory_theirs, filesyst
 use Rattle.vt_laws_members.specs.Changes.Changes.{EndsAlike, IsCallOfTheirs}
 use Rattle.vt_laws_members.proofs.changes.letting_go.Callers.{StandsOnTheirs, all_in_set, of_set, others_left, places_left, roots_left, same_set, spaces_kept}
 use Rattle.vt_laws_members.proofs.changes.letting_go.Changed.{LetsGo, Retasks}
-use Rattle.vt_laws_members.proofs.changes.looks.Told.{member_called}
 use Rattle.vt_laws_members.proofs.changes.names.GrantedNames.{naming_of, naming_theirs}
 use Rattle.vt_laws_members.proofs.changes.tasks.Denied.{ran_there, run_by}
 use Rattle.vt_laws_members.specs.OverlayNames.OverlayNames.{OverlayNewOpensEndAlike}
@@ -38,8 +38,8 @@ module _ {world : World ℕ} {names : List TaskName} {name : TaskName} {call : C
   abbrev pub replaced : Task ℕ → Task ℕ
   replaced = replaced_if_called mine
 
-  member : Among task theirs
-  member = member_called world names it.is it.sealed_off name it.theirs task found
+  member : IsMember world names task
+  member = caller_in it found
 
   abbrev at_file : Descriptor ℕ → Location ℕ
   at_file d = d.location
@@ -47,8 +47,8 @@ module _ {world : World ℕ} {names : List TaskName} {name : TaskName} {call : C
   pub stands : StandsOnTheirs world names name call it task mine
   stands = record {
     named = refl;
-    root = root_theirs world names it.is task member;
-    directory = directory_theirs world names it.is task member;
+    root = root_theirs world names it.is task member.among;
+    directory = directory_theirs world names it.is task member.among;
     places = λ l m. ⊎_elim (λ root. inl (inl root)) (λ rest. ⊎_elim (λ directory. inl (inr (inl directory)))
         (λ open_file. let from = among-from_map at_file mine.descriptors l open_file in
         ⊎_elim (λ new. inr (subst (λ (k : Location ℕ). IsTheirs world names it.is.mounts k.mount)
@@ -57,7 +57,7 @@ module _ {world : World ℕ} {names : List TaskName} {name : TaskName} {call : C
         (among-map at_file task.descriptors from.0 old))))) (among-inserted _ task.descriptors from.0 from.1)) rest) m;
   }
 
-  pub lets : LetsGo world names it.is it.sealed_off names (map replaced world.tasks)
+  pub lets : LetsGo (sealing_of it) names (map replaced world.tasks)
   lets = record {
     own = λ n. ap (list_any (λ (t : Task ℕ). nat_eq n t.namespace)) (of_set it task found mine stands world.tasks)
         ∙ spaces_kept it task found mine refl refl n;
@@ -74,9 +74,9 @@ module _ {world : World ℕ} {names : List TaskName} {name : TaskName} {call : C
       (map shows (locations (members (record world { tasks = map replaced world.tasks }) names))) (shows file)
       (among-map shows (locations (members (record world { tasks = map replaced world.tasks }) names)) file
       (subst (λ ts. Among file (locations ts)) (sym (of_set it task found mine stands world.tasks))
-      (among-flat_map locations_of (map replaced theirs) (replaced task) file (among-map replaced theirs task member)
-      (subst (λ (t : Task ℕ). Among file (locations_of t)) (sym mine_there)
-      (inr (inr (among-map at_file mine.descriptors _ (new_inserted _ task.descriptors))))))))
+      (among-flat_map locations_of (map replaced theirs) (replaced task) file
+      (among-map replaced theirs task member.among) (subst (λ (t : Task ℕ). Among file (locations_of t))
+      (sym mine_there) (inr (inr (among-map at_file mine.descriptors _ (new_inserted _ task.descriptors))))))))
     where
       shows : Location ℕ → ℕ
       shows l = (mount_at nat_eq world l).filesystem
@@ -154,8 +154,7 @@ overlay_new_opens_end_alike world names name path access how it task found fresh
           alike = alike;
         } in
         let retasks : Retasks world names names = record {
-          is = it.is;
-          sealed_off = it.sealed_off;
+          sealing = sealing_of it;
           tasks = map (replaced_if_called (with_descriptor task file wanted)) world.tasks;
           tasks_too = map (replaced_if_called (with_descriptor task file wanted)) part.tasks;
           lets = lets it task found file wanted ground;

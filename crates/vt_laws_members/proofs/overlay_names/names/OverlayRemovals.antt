@@ -1,9 +1,11 @@
 -- A call of theirs that removes a directory, or that renames, through an overlay ends in the part as in the world, with
 -- the mounts on what goes.
 use Rattle.std.proofs.Common.{arith, ◌≡◌, refl, sym, ap, subst, ◌∙◌, ⊎_elim, ℕ, nat_eq, eqb-true, true, false, true≢false, List, [], Option, Some, None, Ok, is_some, option_map, option_to_list}
-use Rattle.vt_spec.proofs.Common.{Among, Call, Change, Done, Filesystem, Fresh, IsWorld, Layer, Location, Mount, MountInvariants, Move, Overlay, Rename, TaskName, ToRename, World, and_parts, changed_at, common_steps, filesystem_at, filesystem_numbered, finished, granted, holds_of, is_among, is_going, is_overlay, is_own_namespace, judge_in, list_all, members, mount_at, mount_numbered, mounts_on, numbers_raised, only_looks, overlay_or, part_of, points_of, sealed, settled, taken_away, task_called, then_some, upper_object, upper_points, used_alone, used_directly, used_filesystems, with_change, without_mounts_on}
+use Rattle.vt_spec.proofs.Common.{Among, Call, Change, Done, Filesystem, Fresh, Layer, Location, Mount, MountInvariants, Move, Overlay, Rename, TaskName, ToRename, World, and_parts, changed_at, common_steps, filesystem_at, filesystem_numbered, finished, granted, holds_of, is_among, is_going, is_overlay, is_own_namespace, judge_in, list_all, members, mount_at, mount_numbered, mounts_on, numbers_raised, only_looks, overlay_or, part_of, points_of, settled, taken_away, task_called, then_some, upper_object, upper_points, used_alone, used_directly, used_filesystems, with_change, without_mounts_on}
+use Rattle.vt_laws_members.proofs.judging.TheirCalls.{sealing_of}
 use Rattle.vt_laws_mounts.proofs.ends.Ending.{points_keep_mounts}
 use Rattle.vt_laws_mounts.specs.LettingGo.TreesOverlays.{with_filesystems}
+use Rattle.vt_laws_sealed.proofs.part.seals.ByPart.{IsSealed}
 use Rattle.vt_laws_worlds.proofs.worlds.CallsKept.{name_found}
 use Rattle.vt_laws_worlds.specs.OverlayPermits.Changed.{numbers_left}
 use Rattle.vt_laws_worlds.proofs.overlay_permits.changed.ChangedOverlays.{permits_can_change}
@@ -40,8 +42,8 @@ unwritten_after before w name call supply location change merged overlay looks s
     grind (arith, common_steps)
 
 -- What stands for a directory of an overlay is in filesystems that they use alone.
-module _ (world : World ℕ) (names : List TaskName) (is : IsWorld nat_eq world)
-    (sealed_off : sealed nat_eq world names ≡ true) (gone : Location ℕ) (overlay : Overlay ℕ)
+module _ {world : World ℕ} {names : List TaskName} (sealing : IsSealed world names) (gone : Location ℕ)
+    (overlay : Overlay ℕ)
     (overlaid : (filesystem_at nat_eq world gone).overlay ≡ Some overlay)
     (direct : Among (mount_at nat_eq world gone).filesystem (used_directly nat_eq world names)) where
   abbrev number : ℕ
@@ -50,10 +52,10 @@ module _ (world : World ℕ) (names : List TaskName) (is : IsWorld nat_eq world)
   pub points_alone : (point : ℕ × ℕ) → Among point (points_of nat_eq world gone)
       → used_alone nat_eq world names point.0 ≡ true
   points_alone point m = ⊎_elim (λ same. ap (λ (p : ℕ × ℕ). used_alone nat_eq world names p.0) same
-      ∙ ap (used_alone nat_eq world names) (found_numbered number world.filesystems)
-      ∙ merged_alone world names is sealed_off number overlay overlaid direct) (λ more. above overlay.upper refl
-      (subst (λ o. Among point (overlay_or [] (λ (v : Overlay ℕ).
-      upper_points world (filesystem_at nat_eq world gone) v gone.node) o)) overlaid more)) m
+      ∙ ap (used_alone nat_eq world names) (found_numbered number world.filesystems) ∙ merged_alone sealing number
+      overlay overlaid direct) (λ more. above overlay.upper refl (subst (λ o. Among point
+      (overlay_or [] (λ (v : Overlay ℕ). upper_points world (filesystem_at nat_eq world gone) v gone.node) o)) overlaid
+      more)) m
     where
       object_of : Layer ℕ → Option ℕ → Option (ℕ × ℕ)
       object_of layer o = option_map (λ object. (layer.filesystem, object)) o
@@ -62,7 +64,7 @@ module _ (world : World ℕ) (names : List TaskName) (is : IsWorld nat_eq world)
           → Among point (option_to_list (object_of layer o)) → used_alone nat_eq world names point.0 ≡ true
       of_object layer has None n = absurd n
       of_object layer has (Some object) n = ⊎_elim (λ same. ap (λ (p : ℕ × ℕ). used_alone nat_eq world names p.0) same
-          ∙ upper_alone world names is sealed_off number overlay overlaid direct layer has) (λ none. absurd none) n
+          ∙ upper_alone sealing number overlay overlaid direct layer has) (λ none. absurd none) n
 
       above : (o : Option (Layer ℕ)) → overlay.upper ≡ o → Among point (option_to_list (then_some o
           (λ layer. object_of layer (upper_object (overlay.real gone.node)))))
@@ -105,7 +107,7 @@ module _ {world : World ℕ} {names : List TaskName} {name : TaskName} {call : C
   module _ (overlay : Overlay ℕ) (overlaid : merged.overlay ≡ Some overlay) where
     abbrev only_own : (mount : Mount ℕ) → Among mount (mounts_on nat_eq world it.gone) → (n : ℕ)
         → mount.namespace ≡ Some n → is_own_namespace nat_eq world names n ≡ true
-    only_own = own_here world names it.is it.gone (points_alone world names it.is it.sealed_off it.gone overlay
+    only_own = own_here world names it.is it.gone (points_alone (sealing_of it.it) it.gone overlay
         (ap (λ (f : Filesystem ℕ). f.overlay) one_filesystem ∙ overlaid)
         (theirs_directly world names it.is it.gone on_gone))
 
@@ -114,8 +116,7 @@ module _ {world : World ℕ} {names : List TaskName} {name : TaskName} {call : C
 
     abbrev go : TheirsGo world names list
     go = record {
-      is = it.is;
-      sealed_off = it.sealed_off;
+      sealing = sealing_of it.it;
       own_go = own_go world names it.is it.gone on_gone only_own;
     }
 
@@ -127,7 +128,7 @@ module _ {world : World ℕ} {names : List TaskName} {name : TaskName} {call : C
 
     kept_part : MountInvariants nat_eq (taken_away nat_eq part list)
     kept_part = subst (MountInvariants nat_eq) (sym same_list)
-        (points_keep_mounts part it.gone (part_mounts world names it.is it.sealed_off))
+        (points_keep_mounts part it.gone (part_mounts (sealing_of it.it)))
 
     abbrev here : World ℕ
     here = world_after go

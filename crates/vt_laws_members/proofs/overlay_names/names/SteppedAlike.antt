@@ -71,7 +71,7 @@ module _ {world : World ℕ} {names set : List TaskName} {name : TaskName} {call
       where
         ready : Ready (without_dead_mounts nat_eq (with_filesystems now step)) set used_now lowers_now
         ready = stepped_ready living set used_now lowers_now
-            (world_ready world names left.is left.sealed_off set left.tasks world.change left.lets) step theirs
+            (world_ready left.sealing set left.tasks world.change left.lets) step theirs
 
         ready_there : Ready (without_dead_mounts nat_eq (with_filesystems now_part step)) set used_now lowers_now
         ready_there = stepped_ready living_part set used_now lowers_now (part_ready left world.change part.change) step
@@ -80,15 +80,15 @@ module _ {world : World ℕ} {names set : List TaskName} {name : TaskName} {call
         used_there : used_filesystems nat_eq now_part set ≡ used_now
         used_there = less_used world names left.is set now now_part
             (now_less world names left.is set left.tasks left.tasks_too world.change part.change
-            (sees_less world names left.is left.sealed_off set left.tasks world.change left.lets) left.same)
+            (sees_less left.sealing set left.tasks world.change left.lets) left.same)
 
         parts_stepped : part_of nat_eq (with_filesystems now step) set
             ≡ part_of nat_eq (with_filesystems now_part step) set
         parts_stepped = part_with_layers now set step theirs.numbered theirs.changing theirs.lowering theirs.kept
             ∙ ap (λ w. with_filesystems w step) (sym (part_of_less world names left.is set left.tasks left.tasks_too
-            world.change part.change (sees_less world names left.is left.sealed_off set left.tasks world.change
-            left.lets) left.same)) ∙ sym (part_with_layers now_part set step theirs_there.numbered theirs_there.changing
-            theirs_there.lowering (λ x e. theirs_there.kept x (ap (is_among nat_eq x.number) (sym used_there) ∙ e)))
+            world.change part.change (sees_less left.sealing set left.tasks world.change left.lets) left.same)) ∙ sym
+            (part_with_layers now_part set step theirs_there.numbered theirs_there.changing theirs_there.lowering
+            (λ x e. theirs_there.kept x (ap (is_among nat_eq x.number) (sym used_there) ∙ e)))
 
         swept_parts : part_of nat_eq (settled nat_eq (with_filesystems now step)) set
             ≡ part_of nat_eq (settled nat_eq (with_filesystems now_part step)) set
@@ -111,7 +111,7 @@ module _ {world : World ℕ} {names set : List TaskName} {name : TaskName} {call
               ∙ (λ i. record (with_filesystems (swept_parts i) (raised_if_changed nat_eq numbers)) {
                 tasks = (raised_members set name left.tasks ∙ ap (map (raised_task name)) (sym left.same)
                     ∙ sym (raised_members set name left.tasks_too)) i;
-              }) ∙ sym (part_of_raised part (part_in_use world names left.is left.sealed_off)
+              }) ∙ sym (part_of_raised part (part_in_use left.sealing)
               (private_in_part world names left.is) set left.tasks_too step name numbers used_now lowers_now ready_there
               used)
 

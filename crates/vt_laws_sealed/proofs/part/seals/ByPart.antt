@@ -229,11 +229,20 @@ pub sealed_is_by_part_and_footholds : SealedIsByPartAndFootholds
 unfolding sealed
 sealed_is_by_part_and_footholds world names apart = grind (arith, common_steps, used_by_part)
 
+-- a world with all invariants, in which a set is sealed off
+pub record IsSealed (world : World ℕ) (names : List TaskName) : Type 0 where
+  pub is : IsWorld nat_eq world
+  pub sealed_off : sealed nat_eq world names ≡ true
+
+abbrev pub sealed_by : {world : World ℕ} {names : List TaskName} → IsWorld nat_eq world → sealed nat_eq world
+    names ≡ true
+    → IsSealed world names
+sealed_by is sealed_off = record { is = is; sealed_off = sealed_off }
+
 -- the first three of what makes a set sealed off
-pub apart_if_sealed : (world : World ℕ) (names : List TaskName) → IsWorld nat_eq world
-    → sealed nat_eq world names ≡ true → IsApart world names
+pub apart_if_sealed : {world : World ℕ} {names : List TaskName} → IsSealed world names → IsApart world names
 unfolding sealed
-apart_if_sealed world names is all = grind (arith, common_steps, and_parts)
+apart_if_sealed sealing = grind (arith, common_steps, and_parts)
 
 -- each filesystem that they use has no foothold of others, or is wholly locked
 pub used_are_free : (world : World ℕ) (names : List TaskName) → sealed nat_eq world names ≡ true → (number : ℕ)
@@ -264,8 +273,8 @@ more_free part names free more used over h = grind (
 pub fewer_footholds_seal_too : FewerFootholdsSealToo
 fewer_footholds_seal_too world other names apart other_is parts no_more other_sealed =
     let by_other : is_sealed_by (part_of nat_eq world names) names (used_alone nat_eq other names) ≡ true =
-    ap (λ p. is_sealed_by p names (used_alone nat_eq other names)) parts
-    ∙ sym (sealed_is_by_part_and_footholds other names (apart_if_sealed other names other_is other_sealed))
+    ap (λ p. is_sealed_by p names (used_alone nat_eq other names)) parts ∙ sym
+    (sealed_is_by_part_and_footholds other names (apart_if_sealed (sealed_by other_is other_sealed)))
     ∙ other_sealed in
     sealed_is_by_part_and_footholds world names apart
     ∙ more_free (part_of nat_eq world names) names (used_alone nat_eq other names) (used_alone nat_eq world names)

@@ -267,11 +267,7 @@ module _ (one other : Looks ℕ) (task : Task ℕ) (Own : ℕ → Type 0) (alike
       same_start = grind (arith, common_steps)
 
       start_own : Own (start_of task directory text).mount
-      start_own = by (is_absolute text)
-        where
-          by : (b : Bool) → Own (cond b task.root directory).mount
-          by true = alike.root
-          by false = from
+      start_own = grind (arith, common_steps)
 
 -- the same in words of tests
 pub each_from : (own : ℕ → Bool) (list : List (Location ℕ)) → AreOn own list

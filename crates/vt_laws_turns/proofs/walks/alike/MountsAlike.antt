@@ -1,13 +1,13 @@
 -- Where a namespace has the mounts that it had, its mounts lead up and down as they did.
 use Rattle.std.proofs.Common.{◌≡◌, refl, sym, ap, subst, ◌∙◌, ◌⊎◌, inl, inr, ⊎_elim, ℕ, zero, suc, pred, nat_eq, Bool, true, cond, true≢false, List, [], ◌∷◌, Option, Some, None, map, find, filter, length, ◌≤◌, arith, option_map}
-use Rattle.vt_spec.proofs.Common.{Among, Location, Mount, MountInvariants, Stands, Task, World, among-filter, among-from_filter, among-map, among_from_all, among_from_list_all, and_parts, at_root, chain, chain_ends, chain_goes_on, child_at, common_steps, false_from_ne_true, filter_here, filter_skip, found_among, found_or_none, found_passes, holds_of, hops, last_of_chain, last_or, length-map, looks_of, mount_numbered, mounts_of, mounts_over, nat_eq_itself, none_is_some, number-mount_in, on_parent, root_of, same_Some, same_location, stands_at}
+use Rattle.vt_spec.proofs.Common.{Among, Location, Mount, MountInvariants, Stands, Task, World, among-filter, among-from_filter, among-map, at_root, chain, chain_ends, chain_goes_on, child_at, common_steps, false_from_ne_true, filter_here, filter_skip, found_among, found_or_none, found_passes, holds_of, hops, last_of_chain, last_or, length-map, looks_of, mount_numbered, mounts_of, mounts_over, nat_eq_itself, none_is_some, number-mount_in, on_parent, root_of, same_Some, same_location, stands_at}
 use Rattle.vt_spec.specs.Machine.Walking.{hop}
 use Rattle.vt_laws_mounts.proofs.mounts.MountsPlaces.{stands_there}
-use Rattle.vt_laws_mounts.proofs.mounts.MountsReplaced.{found_itself}
 use Rattle.vt_laws_mounts.proofs.namespaces.Topmost.{topmost_is_free}
 use Rattle.vt_laws_mounts.proofs.letting_go.Chains.{Way, chains_alike}
 use Rattle.vt_laws_mounts.proofs.letting_go.Chains.Way.{ends, goes_on}
 use Rattle.vt_laws_mounts.proofs.letting_go.Lists.{find_none}
+use Rattle.vt_laws_mounts.proofs.namespaces.Unsharing.{itself, placed_inside, stands_itself}
 use Rattle.vt_laws_worlds.proofs.worlds.Reached.{namespace_below}
 
 -- what is kept is found as before, if all that may be found is kept
@@ -33,23 +33,12 @@ module _ {A : Type 0} (P : A → Type 0) (next : A → Option A) (step : (a b : 
       by (Some b) e later = ⊎_elim (λ f. subst P (sym f) p) (λ rest. later b (step a b p e) x rest)
           (subst (Among x) (chain_goes_on next n a b e) m)
 
+-- a child is in the namespace of its parent
 module _ (world : World ℕ) (is : MountInvariants nat_eq world) where
-  numbered : (mount : Mount ℕ) → Among mount world.mounts → mount_numbered nat_eq world mount.number ≡ mount
-  numbered mount m = found_itself world.mounts is.one_number mount m
-
-  -- a mount in no namespace stands nowhere
-  pub nowhere_unplaced : (mount : Mount ℕ) (at : Location ℕ) → Among mount world.mounts → mount.namespace ≡ None
-      → mount.mount_point ≡ Some at → ⊥
-  nowhere_unplaced mount at m n p = grind (arith, common_steps, among_from_list_all, true≢false, and_parts)
-
-  stands : (mount : Mount ℕ) → Among mount world.mounts → Stands nat_eq world mount.number
-  stands mount m = among_from_all (λ (x : Mount ℕ). Stands nat_eq world x.number) world.mounts is.standing mount m
-
-  -- a child is in the namespace of its parent
   child_namespace : (mount child : Mount ℕ) (here : Location ℕ) → Among mount world.mounts → mount.number ≡ here.mount
       → Among child world.mounts → stands_at nat_eq here child ≡ true → child.namespace ≡ mount.namespace
   child_namespace mount child here m number there at =
-      grind (arith, common_steps, numbered, namespace_below, stands, stands_there)
+      grind (arith, common_steps, itself, namespace_below, stands_itself, stands_there)
 
 module _ (world later : World ℕ) (is : MountInvariants nat_eq world) (are : MountInvariants nat_eq later)
     (namespace : ℕ) (same : mounts_of nat_eq later namespace ≡ mounts_of nat_eq world namespace) where
@@ -70,7 +59,7 @@ module _ (world later : World ℕ) (is : MountInvariants nat_eq world) (are : Mo
       (subst (Among mount) (sym same) (among-filter within world.mounts mount m (is_within mount e)))).0
 
   pub same_mount : (number : ℕ) → IsOwn number → mount_numbered nat_eq later number ≡ mount_numbered nat_eq world number
-  same_mount number own = cc (own.3, numbered later are own.0 own.2, numbered world is own.0 own.1)
+  same_mount number own = cc (own.3, itself later are own.0 own.2, itself world is own.0 own.1)
 
   -- what stands at a location
   same_child : (here : Location ℕ) → IsOwn here.mount
@@ -81,11 +70,12 @@ module _ (world later : World ℕ) (is : MountInvariants nat_eq world) (are : Mo
       ∙ ap (find (stands_at nat_eq here)) same ∙ find_where (stands_at nat_eq here) within world.mounts
       (λ c there at. is_within c (child_namespace world is mount c here m number there at ∙ e))) (λ none.
       find_none (stands_at nat_eq here) later.mounts (λ c there. false_from_ne_true (stands_at nat_eq here c) (λ at.
-      nowhere_unplaced later are c here there (child_namespace later are mount c here n number there at ∙ none)
-      (stands_there here c at))) ∙ sym (find_none (stands_at nat_eq here) world.mounts (λ c there.
+      placed_inside later are c there here (stands_there here c at)
+      (child_namespace later are mount c here n number there at ∙ none))) ∙ sym
+      (find_none (stands_at nat_eq here) world.mounts (λ c there.
       false_from_ne_true (stands_at nat_eq here c) (λ at.
-      nowhere_unplaced world is c here there (child_namespace world is mount c here m number there at ∙ none)
-      (stands_there here c at))))) kind
+      placed_inside world is c there here (stands_there here c at)
+      (child_namespace world is mount c here m number there at ∙ none))))) kind
 
   child_own : (here : Location ℕ) (child : Mount ℕ) → IsOwn here.mount → child_at nat_eq world.mounts here ≡ Some child
       → IsOwn child.number × Among child (mounts_of nat_eq world namespace)
@@ -96,7 +86,7 @@ module _ (world later : World ℕ) (is : MountInvariants nat_eq world) (are : Mo
       ⊎_elim (λ f. (
         (child, there, later_too child there (below ∙ f), refl, inl (below ∙ f)),
         among-filter within world.mounts child there (is_within child (below ∙ f)),
-      )) (λ none. absurd (nowhere_unplaced world is child here there (below ∙ none) (stands_there here child at))) kind
+      )) (λ none. absurd (placed_inside world is child there here (stands_there here child at) (below ∙ none))) kind
 
   abbrev up : World ℕ → Location ℕ → Option (Location ℕ)
   up in_world here = option_map root_of (child_at nat_eq in_world.mounts here)
@@ -126,9 +116,9 @@ module _ (world later : World ℕ) (is : MountInvariants nat_eq world) (are : Mo
       by None (Some d) f g e = absurd (omega (arith, e))
       by (Some c) None f g e = absurd (omega (arith, e))
       by (Some c) (Some d) f g e = ap (λ x. Some (root_of x))
-          (sym (numbered world is c (found_among (stands_at nat_eq a) world.mounts c f))
+          (sym (itself world is c (found_among (stands_at nat_eq a) world.mounts c f))
           ∙ ap (mount_numbered nat_eq world) (ap pred e)
-          ∙ numbered world is d (found_among (stands_at nat_eq b) world.mounts d g))
+          ∙ itself world is d (found_among (stands_at nat_eq b) world.mounts d g))
 
   way : (n : ℕ) (a : Location ℕ) → IsOwn a.mount → up world (last_or a (chain n (up world) a)) ≡ None
       → Way (up world) (up later) key there a
@@ -172,14 +162,14 @@ module _ (world later : World ℕ) (is : MountInvariants nat_eq world) (are : Mo
   pub parent_own : (number : ℕ) (point : Location ℕ) → IsOwn number
       → (mount_numbered nat_eq world number).mount_point ≡ Some point → IsOwn point.mount × Among (suc number) there
   parent_own number point (mount, m, n, at, kind) e =
-      let itself : mount_numbered nat_eq world number ≡ mount =
-      ap (mount_numbered nat_eq world) (sym at) ∙ numbered world is mount m in
-      let placed : mount.mount_point ≡ Some point = sym (ap (λ (x : Mount ℕ). x.mount_point) itself) ∙ e in
+      let its : mount_numbered nat_eq world number ≡ mount =
+      ap (mount_numbered nat_eq world) (sym at) ∙ itself world is mount m in
+      let placed : mount.mount_point ≡ Some point = sym (ap (λ (x : Mount ℕ). x.mount_point) its) ∙ e in
       ⊎_elim (λ f.
       let above : (mount_numbered nat_eq world point.mount).namespace ≡ Some namespace =
-      sym (sym (ap (λ (x : Mount ℕ). x.namespace) (numbered world is mount m))
-      ∙ namespace_below world mount.number point (stands world is mount m)
-      (ap (λ (x : Mount ℕ). x.mount_point) (numbered world is mount m) ∙ placed)) ∙ f in (
+      sym (sym (ap (λ (x : Mount ℕ). x.namespace) (itself world is mount m))
+      ∙ namespace_below world mount.number point (stands_itself world is mount m)
+      (ap (λ (x : Mount ℕ). x.mount_point) (itself world is mount m) ∙ placed)) ∙ f in (
         ⊎_elim (λ found. (
           mount_numbered nat_eq world point.mount,
           found,
@@ -191,7 +181,7 @@ module _ (world later : World ℕ) (is : MountInvariants nat_eq world) (are : Mo
         subst (λ k. Among (suc k) there) at
             (among-map (λ (x : Mount ℕ). suc x.number) (mounts_of nat_eq world namespace) mount
             (among-filter within world.mounts mount m (is_within mount f))),
-      )) (λ none. absurd (nowhere_unplaced world is mount point m none placed)) kind
+      )) (λ none. absurd (placed_inside world is mount m point placed none)) kind
 
   -- `..` goes on from mount points
   module _ (task : Task ℕ) where
@@ -243,4 +233,4 @@ module _ (world later : World ℕ) (is : MountInvariants nat_eq world) (are : Mo
         → hops nat_eq (looks_of nat_eq later) task here ≡ hops nat_eq (looks_of nat_eq world) task here
     same_hops here own = sym (chains_alike (hop_in world) (hop_in later) hop_key there by_hop_key (length world.mounts)
         (length later.mounts) here
-        (hop_way own.0.number (stands world is own.0 own.1) here (sym own.3) own) few few_later)
+        (hop_way own.0.number (stands_itself world is own.0 own.1) here (sym own.3) own) few few_later)

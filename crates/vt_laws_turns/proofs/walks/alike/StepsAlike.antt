@@ -12,10 +12,10 @@ use Rattle.vt_laws_turns.proofs.walks.alike.NodesAlike.{node_same, removed_same,
 
 -- a chain begins with its start, and ends with one of its own
 module _ {A : Type 0} where
-  chain_start : (next : A → Option A) (n : ℕ) (a : A) → Among a (chain n next a)
+  pub chain_start : (next : A → Option A) (n : ℕ) (a : A) → Among a (chain n next a)
   chain_start next n a = grind (arith, common_steps)
 
-  last_among : (list : List A) (a : A) → Among a list → Among (last_or a list) list
+  pub last_among : (list : List A) (a : A) → Among a list → Among (last_or a list) list
   last_among [] a m = absurd m
   last_among (b ∷ list) a m = by list b
     where
