@@ -1,7 +1,9 @@
 //! All tasks, by their names.
 ghost use Rattle.std.specs.Prelude.{◌<◌, ◌≡◌, ◌⊎◌, [], ◌∷◌, Err, Ok, map, nat_eq, true, Some, IfOk, IfErr, OnOk, OnErr, option_map, option_copied};
 ghost use Rattle.std.specs.Fn.{FnOnceReturnsAtMut, FnOnceTakesAtMut};
+ghost use Rattle.std.specs.Cmp.Lexicographic.{pointwise};
 ghost use Rattle.std.specs.List.{list_all};
+ghost use Rattle.std.specs.Map.{lookup};
 ghost use Rattle.std.specs.Option.{option_and_then};
 ghost use Rattle.vt_spec.specs.Machine.Namespaces.{entered_at, pivoted_task};
 ghost use Rattle.vt_spec.specs.Machine.Descriptors.{free_number, without_descriptor};
@@ -25,6 +27,17 @@ use std::mem;
 use vt_cred::{Caps, Cred, Mode};
 use vt_location::{Location, Mount, NamespaceId};
 use vt_request::TaskName;
+
+// The task of a name. The first task is mostly the one that calls: its name is compared before a hash is taken.
+#[inline(always)]
+fn found_called<'a>(by_name: &'a IndexMap<Vec<u8>, Task>, numbers: &[u8]) -> Option<&'a Task>
+    ensures { option_copied result ≡ lookup (λ key. pointwise nat_eq numbers.now key.items) by_name.now.entries }
+{
+    match by_name.first() {
+        Some((first, found)) if numbers == first.as_slice() => Some(found),
+        _ => by_name.get(numbers),
+    }
+}
 
 /// The tasks, in the order in which they were forked.
 ///
@@ -63,7 +76,7 @@ impl Tasks {
     pub fn get(&self, name: &TaskName) -> Option<&Task>
         ensures { option_map task_of (option_copied result) ≡ called name.now self.now }
     {
-        self.by_name.get(name.numbers())
+        found_called(&self.by_name, name.numbers())
     }
 
     /// The tasks, in no order. Their births tell in which order they were forked.
