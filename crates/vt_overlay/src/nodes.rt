@@ -114,7 +114,7 @@ impl Overlay {
     fn object_below(
         &self,
         trees: &Filesystems,
-        layer: u8,
+        layer: u16,
         directory: usize,
         rank: usize,
         slot: usize,
@@ -246,7 +246,7 @@ impl Overlay {
             return None;
         }
         let rank = rank_to(trees, directory, name, found.object, object);
-        let birth = born_in(layer as u8, directory, rank);
+        let birth = born_in(layer as u16, directory, rank);
         Some(Entry {
             node: node_of(self.number, found.object, birth),
             object: Some(object),
@@ -294,7 +294,7 @@ impl Overlay {
         let directory = led_to(trees, lower.directory, &Front { path })?;
         let name = path.name(path.len() - 1);
         let rank = rank_in(trees, directory, name, real.inode);
-        let layer = real.layer as u8;
+        let layer = real.layer as u16;
         Some(born_in(layer, directory, rank))
     }
 }
@@ -319,7 +319,7 @@ fn node_of(overlay: FilesystemId, inode: InodeRef, birth: Birth) -> NodeRef
 }
 
 // A birth in a directory of a layer.
-fn born_in(layer: u8, directory: InodeRef, rank: usize) -> Birth
+fn born_in(layer: u16, directory: InodeRef, rank: usize) -> Birth
     ensures is { result ≡ Below layer directory.slot rank }
     ensures slot { exchanged directory.filesystem.count (inode_of directory) ≡ directory.slot }
 {

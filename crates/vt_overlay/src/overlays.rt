@@ -101,7 +101,7 @@ impl Overlay {
     fn way_below<'a>(
         &self,
         trees: &'a Filesystems,
-        layer: u8,
+        layer: u16,
         directory: usize,
         rank: usize,
         slot: usize,
@@ -198,7 +198,7 @@ impl Overlay {
     }
 
     // The lower layer at a place.
-    pub(crate) fn layer_at(&self, place: u8) -> Option<LayerRef>
+    pub(crate) fn layer_at(&self, place: u16) -> Option<LayerRef>
         ensures { result ≡ slice_get self.now.lowers place }
     {
         self.layer_in(usize::from(place))
@@ -212,7 +212,7 @@ impl Overlay {
     }
 
     // Whether what the layers show at a path is in this one.
-    fn shows_in<W: Way>(&self, trees: &Filesystems, path: &W, place: u8) -> bool
+    fn shows_in<W: Way>(&self, trees: &Filesystems, path: &W, place: u16) -> bool
         ensures { result ≡ holds_of (λ (seen : Shown ℕ). nat_eq seen.layer place)
             (shown (layers_of trees.now self.now.lowers) (W.names path.now)) }
     {
