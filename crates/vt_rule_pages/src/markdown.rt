@@ -1,6 +1,7 @@
 //! All rules as a page of the documentation.
-use crate::pages::{RULES, RulePage, page_of};
+use crate::pages::{RULES, page_of};
 use std::alloc::{AllocError, Global};
+use vt_check::draft::Draft;
 use vt_spec::errors::Rule;
 
 const HEAD: &str = "# The rules
@@ -9,44 +10,49 @@ A call is refused by the first rule that fails. This is their order; `vtree rule
 `vtree rules WORD` what there is of a rule, an error or a call. It is written by `checks/rules --write`.
 ";
 
-// The calls of a rule with commas between them.
-fn push_calls(text: &mut String, page: &RulePage) -> Result<(), AllocError> {
-    if page.calls.is_empty() {
-        return text.push_str("Not in this version.");
+// Appends the calls of a rule with commas between them.
+fn push_calls(text: &mut Draft, calls: &[&str]) {
+    if calls.is_empty() {
+        text.push("Not in this version.\n");
+        return;
     }
     let mut before = "Calls: `";
-    for call in page.calls {
-        text.push_str(before)?;
-        text.push_str(call)?;
+    for call in calls {
+        text.push(before);
+        text.push(call);
         before = "`, `";
     }
-    text.push_str("`.")
+    text.push("`.\n");
 }
 
-// The section of a rule.
-fn push_rule(alloc: Global, text: &mut String, rule: Rule) -> Result<(), AllocError> {
-    let page = page_of(rule);
-    let (name, number, error) = (rule.name(), rule.errno().number(), rule.errno().name());
-    let (meaning, manual) = (page.meaning, page.manual);
-    let head = format!(in alloc;
-        "\n## {name}: {error} {number}\n\nWhen: {meaning}. Manual: {manual}. "
-    )?;
-    text.push_str(head.as_str())?;
-    push_calls(text, page)?;
-    text.push('\n')?;
+// Appends the section of a rule.
+fn push_rule(text: &mut Draft, rule: Rule) {
+    let (page, errno) = (page_of(rule), rule.errno());
+    text.push("\n## ");
+    text.push(rule.name());
+    text.push(": ");
+    text.push(errno.name());
+    text.push(" ");
+    text.push_number(u64::from(errno.number()));
+    text.push("\n\nWhen: ");
+    text.push(page.meaning);
+    text.push(". Manual: ");
+    text.push(page.manual);
+    text.push(". ");
+    push_calls(text, page.calls);
     if !page.script.is_empty() {
-        for part in ["\n```\n", page.script, "```\n"] {
-            text.push_str(part)?;
-        }
+        text.push("\n```\n");
+        text.push(page.script);
+        text.push("```\n");
     }
-    Ok(())
 }
 
 /// The page.
 pub fn page(alloc: Global) -> Result<String, AllocError> {
-    let mut text = String::from_str(alloc, HEAD)?;
+    let mut text = Draft::new(alloc);
+    text.push(HEAD);
     for rule in &RULES {
-        push_rule(alloc, &mut text, *rule)?;
+        push_rule(&mut text, *rule);
     }
-    Ok(text)
+    text.end()
 }
