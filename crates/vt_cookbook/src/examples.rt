@@ -35,7 +35,7 @@ pub struct Example {
 }
 
 /// The examples, in the order of the cookbook.
-pub const EXAMPLES: [Example; 26] = [
+pub static EXAMPLES: [Example; 26] = [
     Example {
         name: "docker-volumes",
         about: "what docker run -v and bind-propagation=rshared show of a disk that the host mounts later",
@@ -142,37 +142,47 @@ pub const EXAMPLES: [Example; 26] = [
     },
 ];
 
-/// The script of the example of this name.
-pub fn script_of(name: &str) -> Option<&'static str> {
-    match name {
-        "docker-volumes" => Some(docker_volumes::script()),
-        "pods-share-a-volume" => Some(pods_share_a_volume::script()),
-        "runc-pivot" => Some(runc_pivot::script()),
-        "runc-root" => Some(runc_root::script()),
-        "bwrap" => Some(bwrap::script()),
-        "bwrap-pivots" => Some(bwrap_pivots::script()),
-        "nspawn-pivot" => Some(nspawn_pivot::script()),
-        "nspawn" => Some(nspawn::script()),
-        "unshare-mounts" => Some(unshare_mounts::script()),
-        "busy-unmount" => Some(busy_unmount::script()),
-        "secret-file" => Some(secret_file::script()),
-        "sticky-tmp" => Some(sticky_tmp::script()),
-        "build-with-bind" => Some(build_with_bind::script()),
-        "moved-mounts" => Some(moved_mounts::script()),
-        "lazy-unmount" => Some(lazy_unmount::script()),
-        "sandbox" => Some(sandbox::script()),
-        "release-and-service" => Some(release_and_service::script()),
-        "image-build" => Some(image_build::script()),
-        "replace-by-rename" => Some(replace_by_rename::script()),
-        "volume-propagation" => Some(volume_propagation::script()),
-        "private-volume" => Some(private_volume::script()),
-        "slave-root" => Some(slave_root::script()),
-        "image-layer" => Some(image_layer::script()),
-        "image-of-three-layers" => Some(image_of_three_layers::script()),
-        "two-users-of-an-image" => Some(two_users_of_an_image::script()),
-        "denials" => Some(denials::script()),
+// The script of the example at this place of the list.
+fn script_at(place: usize) -> Option<&'static str> {
+    match place {
+        0 => Some(docker_volumes::script()),
+        1 => Some(pods_share_a_volume::script()),
+        2 => Some(runc_pivot::script()),
+        3 => Some(runc_root::script()),
+        4 => Some(bwrap::script()),
+        5 => Some(bwrap_pivots::script()),
+        6 => Some(nspawn_pivot::script()),
+        7 => Some(nspawn::script()),
+        8 => Some(unshare_mounts::script()),
+        9 => Some(busy_unmount::script()),
+        10 => Some(secret_file::script()),
+        11 => Some(sticky_tmp::script()),
+        12 => Some(build_with_bind::script()),
+        13 => Some(moved_mounts::script()),
+        14 => Some(lazy_unmount::script()),
+        15 => Some(sandbox::script()),
+        16 => Some(release_and_service::script()),
+        17 => Some(image_build::script()),
+        18 => Some(replace_by_rename::script()),
+        19 => Some(volume_propagation::script()),
+        20 => Some(private_volume::script()),
+        21 => Some(slave_root::script()),
+        22 => Some(image_layer::script()),
+        23 => Some(image_of_three_layers::script()),
+        24 => Some(two_users_of_an_image::script()),
+        25 => Some(denials::script()),
         _ => None,
     }
+}
+
+/// The script of the example of this name.
+pub fn script_of(name: &str) -> Option<&'static str> {
+    for (place, example) in EXAMPLES.iter().enumerate() {
+        if example.name == name {
+            return script_at(place);
+        }
+    }
+    None
 }
 
 /// The options by which the example of this name is read, with a space behind them.
