@@ -3,7 +3,7 @@ use crate::finding::Span;
 use vt_io::line::LONGEST_LINE;
 
 /// Why bytes are of no word.
-#[derive(Clone, Copy, PartialEq, Eq)]
+#[derive(Clone, Copy)]
 pub enum ByteKind {
     /// The line ends in CR LF, as on Windows.
     Crlf,

@@ -2,7 +2,7 @@
 
 use crate::diagnose::diagnosis;
 use crate::draft::Draft;
-use crate::report::{Finding, Level, Report, report_of};
+use crate::report::{Level, Report, report_of};
 use crate::text::Place;
 use crate::{json, text};
 use std::alloc::{AllocError, Global};
@@ -10,7 +10,7 @@ use std::io::{self, Write};
 use vt_line::version::Version;
 
 /// The form in which findings are written.
-#[derive(Clone, Copy, PartialEq, Eq)]
+#[derive(Clone, Copy)]
 pub enum Format {
     Text,
     Json,
@@ -26,21 +26,17 @@ pub struct Options {
     pub strict: bool,
 }
 
-// Where a finding is.
-fn place_of<'a>(name: &'a str, strict: bool, finding: &'a Finding<'a>) -> Place<'a> {
-    Place {
-        name,
-        number: finding.line,
-        line: finding.text,
-        level: finding.level,
-        strict,
-    }
-}
-
 // Appends a report as text.
 fn push_text(text: &mut Draft, name: &str, strict: bool, report: &Report<'_>) {
     for finding in &report.findings {
-        text::push_found(text, place_of(name, strict, finding), &finding.diagnosis);
+        let place = Place {
+            name,
+            number: finding.line,
+            line: finding.text,
+            level: finding.level,
+            strict,
+        };
+        text::push_found(text, place, &finding.diagnosis);
     }
     text::push_summary(text, name, report);
 }
@@ -68,42 +64,6 @@ fn written(
     text.end()
 }
 
-// What is written of a script, and whether it is bad.
-#[derive(Drop)]
-struct Outcome {
-    text: String,
-    is_bad: bool,
-}
-
-// What is written of a report, and whether its script is bad.
-fn checked_by(
-    alloc: Global,
-    name: &str,
-    options: Options,
-    report: &Report<'_>,
-) -> Result<Outcome, AllocError> {
-    match written(alloc, name, options, report) {
-        Ok(text) => Ok(Outcome {
-            text,
-            is_bad: report.errors > 0 || (options.strict && report.warnings > 0),
-        }),
-        Err(error) => Err(error),
-    }
-}
-
-// What is written of a script, and whether it is bad.
-fn checked(
-    alloc: Global,
-    name: &str,
-    script: &[u8],
-    options: Options,
-) -> Result<Outcome, AllocError> {
-    let report = report_of(options.version, alloc, script)?;
-    let checked = checked_by(alloc, name, options, &report);
-    drop(report);
-    checked
-}
-
 /// Writes what is found in a script, under the name of its file, and returns whether it is bad: whether a run refuses a
 /// line of it by S1, or there is a warning where warnings are errors.
 pub fn check<W: Write>(
@@ -113,7 +73,11 @@ pub fn check<W: Write>(
     options: Options,
     output: &mut W,
 ) -> io::Result<bool> {
-    let Outcome { text, is_bad } = checked(alloc, name, script, options)?;
+    let report = report_of(options.version, alloc, script)?;
+    let is_bad = report.errors > 0 || (options.strict && report.warnings > 0);
+    let text = written(alloc, name, options, &report);
+    drop(report);
+    let text = text?;
     let written = output.write_all(text.as_bytes());
     drop(text);
     written?;

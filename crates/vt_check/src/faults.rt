@@ -323,20 +323,13 @@ impl<'a> Search<'a> {
     }
 }
 
-// Whether these are the words of the mount of an overlay.
-fn is_overlay(name: Word<'_>, words: &[Word<'_>]) -> bool {
-    match words.first() {
-        Some(word) => name.text == "mount" && word.text == "overlay",
-        None => false,
-    }
-}
-
 // The call of this name, in a version of the language, as its first word says which it is.
 fn call_of(version: Version, name: Word<'_>, words: &[Word<'_>]) -> Option<&'static CallWords> {
-    if is_overlay(name, words) {
-        return Some(&MOUNT_OVERLAY);
+    let call = call_named(version, name.text)?;
+    match words.first() {
+        Some(word) if word.text == "overlay" && name.text == "mount" => Some(&MOUNT_OVERLAY),
+        _ => Some(call),
     }
-    call_named(version, name.text)
 }
 
 // The flag among the flags of a line of version 1 that only version 2 knows.

@@ -26,20 +26,12 @@ fn put_place(object: &mut Object, name: &str, number: u64, span: Span) {
     object.put_number("width", span.width as u64);
 }
 
-// How grave a finding is, where warnings are errors or not.
-fn level_word(level: Level, strict: bool) -> &'static str {
+// How grave a finding is, where warnings are errors or not, and the rule by which a run refuses its line, or nothing.
+fn level_words(level: Level, strict: bool) -> (&'static str, &'static str) {
     match level {
-        Level::Error => "error",
-        Level::Warning if strict => "error",
-        Level::Warning => "warning",
-    }
-}
-
-// The rule by which a run refuses the line of a finding, or nothing.
-fn rule_of(level: Level) -> &'static str {
-    match level {
-        Level::Error => "S1",
-        Level::Warning => "",
+        Level::Error => ("error", "S1"),
+        Level::Warning if strict => ("error", ""),
+        Level::Warning => ("warning", ""),
     }
 }
 
@@ -64,8 +56,9 @@ pub fn push_found(
     let mut object = Object::new(alloc);
     put_place(&mut object, name, finding.line, finding.diagnosis.span);
     object.put_bytes("text", finding.text);
-    object.put_text("level", level_word(finding.level, strict));
-    object.put_text("rule", rule_of(finding.level));
+    let (level, rule) = level_words(finding.level, strict);
+    object.put_text("level", level);
+    object.put_text("rule", rule);
     put_words(&mut object, &finding.diagnosis);
     object.push_line(text);
 }

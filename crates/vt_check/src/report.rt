@@ -21,7 +21,7 @@ use vt_request::{Call, TaskName};
 pub const MOST_SHOWN: usize = 50;
 
 /// How grave a finding is.
-#[derive(Clone, Copy, PartialEq, Eq)]
+#[derive(Clone, Copy)]
 pub enum Level {
     /// A run refuses the line by S1.
     Error,
@@ -232,12 +232,19 @@ impl<'a> Scan<'a> {
     }
 }
 
-// The line of this number.
+// The line of this number, from 1, or an empty one where there are fewer.
 fn line_of(text: &[u8], number: u64) -> &[u8] {
-    let place = usize::try_from(number.saturating_sub(1)).unwrap_or(usize::MAX);
-    text.split(|byte| *byte == b'\n')
-        .nth(place)
-        .unwrap_or_default()
+    let mut rest = text;
+    for _ in 1..number {
+        let Some((_, after)) = first_line(rest) else {
+            return &[];
+        };
+        rest = after;
+    }
+    match first_line(rest) {
+        Some((line, _)) => line,
+        None => &[],
+    }
 }
 
 // The line by which a task of this name ends, if the name is one.

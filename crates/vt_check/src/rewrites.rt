@@ -28,19 +28,19 @@ type Row = (&'static str, &'static str, &'static str);
 // All rows, by what they are about. A long table costs its proof more than two short ones.
 fn tables() -> [&'static [Row]; 13] {
     [
-        files::rows(),
-        objects::rows(),
-        links::rows(),
-        opening::rows(),
-        modes::rows(),
-        overlays::rows(),
-        mounts::rows(),
-        binds::rows(),
-        unmounts::rows(),
-        namespaces::rows(),
-        propagation::rows(),
-        privacy::rows(),
-        tasks::rows(),
+        &files::ROWS,
+        &objects::ROWS,
+        &links::ROWS,
+        &opening::ROWS,
+        &modes::ROWS,
+        &overlays::ROWS,
+        &mounts::ROWS,
+        &binds::ROWS,
+        &unmounts::ROWS,
+        &namespaces::ROWS,
+        &propagation::ROWS,
+        &privacy::ROWS,
+        &tasks::ROWS,
     ]
 }
 

@@ -16,18 +16,14 @@ struct Carets {
     width: usize,
 }
 
-// Where the excerpt of a line begins.
-fn start_of(line: &[u8], span: Span) -> usize {
-    if line.len() <= MOST_COLUMNS {
-        return 0;
-    }
-    span.column.saturating_sub(COLUMNS_BEFORE)
-}
-
 // Appends the part of a line in which a fault stands.
 fn push_part(text: &mut Draft, line: &[u8], span: Span) -> Carets {
     let begin = text.len();
-    let from = start_of(line, span);
+    let from = if line.len() <= MOST_COLUMNS {
+        0
+    } else {
+        span.column.saturating_sub(COLUMNS_BEFORE)
+    };
     if from > 0 {
         text.push("...");
     }
@@ -66,17 +62,10 @@ fn level_word(level: Level, strict: bool) -> &'static str {
     }
 }
 
-// The columns of a number.
-fn columns_of(number: u64) -> usize {
-    match number.checked_ilog10() {
-        Some(log) => (log as usize).saturating_add(1),
-        None => 1,
-    }
-}
-
 // Appends what a line without a number begins with: a space for each digit of the number of the finding, and a mark.
 fn push_margin(text: &mut Draft, number: u64, mark: &str) {
-    text.push_times(' ', columns_of(number));
+    let log = number.checked_ilog10().unwrap_or_default();
+    text.push_times(' ', (log as usize).saturating_add(1));
     text.push(mark);
 }
 
@@ -184,21 +173,8 @@ fn push_further(text: &mut Draft, count: u64, what: &str) {
     }
 }
 
-// How many lines have a fault that was told once before.
-fn told_before(report: &Report<'_>) -> u64 {
-    let mut told: u64 = 0;
-    for count in &report.further {
-        told = told.saturating_add(*count);
-    }
-    told
-}
-
 // Appends how many findings are not shown, if there are some.
-fn push_hidden(text: &mut Draft, report: &Report<'_>, found: u64) {
-    let shown = u64::try_from(report.findings.len()).unwrap_or(u64::MAX);
-    let hidden = found
-        .saturating_sub(told_before(report))
-        .saturating_sub(shown);
+fn push_hidden(text: &mut Draft, hidden: u64) {
     if hidden > 0 {
         text.push("note: ");
         text.push_number(hidden);
@@ -224,8 +200,14 @@ pub fn push_summary(text: &mut Draft, name: &str, report: &Report<'_>) {
     push_further(text, tab, "a tab");
     push_further(text, high, "a byte above 0x7e");
     let found = report.errors.saturating_add(report.warnings);
+    let hidden = found
+        .saturating_sub(crlf)
+        .saturating_sub(mark)
+        .saturating_sub(tab)
+        .saturating_sub(high)
+        .saturating_sub(report.findings.len() as u64);
+    push_hidden(text, hidden);
     if found > 0 {
-        push_hidden(text, report, found);
         push_counts(text, name, report);
     }
 }

@@ -1,7 +1,8 @@
 //! Binds and moves, as mount(8) has them.
 use super::Row;
 
-static ROWS: [Row; 19] = [
+/// The rows, in the order in which they are tried.
+pub static ROWS: [Row; 19] = [
     ("mount --bind * *", "bind $2 $3", ""),
     ("mount -B * *", "bind $2 $3", ""),
     ("mount -o bind * *", "bind $3 $4", ""),
@@ -54,8 +55,3 @@ static ROWS: [Row; 19] = [
         "a bind has the flags of its source until then",
     ),
 ];
-
-/// The rows, in the order in which they are tried.
-pub fn rows() -> &'static [Row] {
-    &ROWS
-}

@@ -1,7 +1,8 @@
 //! What files contain, their names, and the working directory, as cat(1), cp(1), mv(1), rm(1) and a shell have them.
 use super::Row;
 
-static ROWS: [Row; 16] = [
+/// The rows, in the order in which they are tried.
+pub static ROWS: [Row; 16] = [
     ("cat *", "read $1", ""),
     ("less *", "read $1", ""),
     ("more *", "read $1", ""),
@@ -47,8 +48,3 @@ static ROWS: [Row; 16] = [
         "no call tells the working directory; `ls .` lists it",
     ),
 ];
-
-/// The rows, in the order in which they are tried.
-pub fn rows() -> &'static [Row] {
-    &ROWS
-}

@@ -1,7 +1,8 @@
 //! Links, directories and questions about objects, as truncate(1), ln(1), test(1) and mkdir(1) have them.
 use super::Row;
 
-static ROWS: [Row; 13] = [
+/// The rows, in the order in which they are tried.
+pub static ROWS: [Row; 13] = [
     ("truncate * 0", "write $1 \\e", ""),
     ("truncate -s 0 *", "write $3 \\e", ""),
     (
@@ -32,8 +33,3 @@ static ROWS: [Row; 13] = [
         "`mkdir` makes one directory a line",
     ),
 ];
-
-/// The rows, in the order in which they are tried.
-pub fn rows() -> &'static [Row] {
-    &ROWS
-}

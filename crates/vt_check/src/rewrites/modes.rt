@@ -1,7 +1,8 @@
 //! Modes and owners, as chmod(1), chgrp(1) and chown(1) have them.
 use super::Row;
 
-static ROWS: [Row; 11] = [
+/// The rows, in the order in which they are tried.
+pub static ROWS: [Row; 11] = [
     ("chmod * *", "chmod $2 $1", ""),
     (
         "chmod -R ...",
@@ -22,8 +23,3 @@ static ROWS: [Row; 11] = [
     ("chown * *", "chown $1 $2 -", "`-` leaves what is there"),
     ("chown * - -", "", "one of UID and GID is a number"),
 ];
-
-/// The rows, in the order in which they are tried.
-pub fn rows() -> &'static [Row] {
-    &ROWS
-}

@@ -1,7 +1,8 @@
 //! New mounts, as mount(8) and findmnt(8) have them.
 use super::Row;
 
-static ROWS: [Row; 14] = [
+/// The rows, in the order in which they are tried.
+pub static ROWS: [Row; 14] = [
     ("mount", "mounts", ""),
     ("findmnt ...", "mounts", ""),
     ("mounts ...", "mounts", ""),
@@ -29,8 +30,3 @@ static ROWS: [Row; 14] = [
         "new, empty filesystems and overlays alone are modelled: `mount plain`, `mount overlay`",
     ),
 ];
-
-/// The rows, in the order in which they are tried.
-pub fn rows() -> &'static [Row] {
-    &ROWS
-}

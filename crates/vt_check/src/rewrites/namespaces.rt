@@ -1,7 +1,8 @@
 //! Namespaces and roots, as unshare(1), nsenter(1) and chroot(1) have them.
 use super::Row;
 
-static ROWS: [Row; 12] = [
+/// The rows, in the order in which they are tried.
+pub static ROWS: [Row; 12] = [
     (
         "unshare -m",
         "unshare",
@@ -39,8 +40,3 @@ static ROWS: [Row; 12] = [
         "a task goes on with `exec`",
     ),
 ];
-
-/// The rows, in the order in which they are tried.
-pub fn rows() -> &'static [Row] {
-    &ROWS
-}

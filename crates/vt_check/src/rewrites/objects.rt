@@ -1,7 +1,8 @@
 //! What is listed and what is made, as ls(1), touch(1), mknod(1) and setfattr(1) have it.
 use super::Row;
 
-static ROWS: [Row; 15] = [
+/// The rows, in the order in which they are tried.
+pub static ROWS: [Row; 15] = [
     ("ls", "ls .", ""),
     ("ls -l", "ls .", ""),
     ("ls -a", "ls .", ""),
@@ -42,8 +43,3 @@ static ROWS: [Row; 15] = [
         "devices, pipes and sockets are not modelled",
     ),
 ];
-
-/// The rows, in the order in which they are tried.
-pub fn rows() -> &'static [Row] {
-    &ROWS
-}

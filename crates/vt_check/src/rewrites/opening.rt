@@ -1,7 +1,8 @@
 //! Files that are opened, as open(2) has them.
 use super::Row;
 
-static ROWS: [Row; 12] = [
+/// The rows, in the order in which they are tried.
+pub static ROWS: [Row; 12] = [
     ("exec * ...", "exec $1", "it is given a path alone"),
     ("open * O_RDONLY", "open $1 r", ""),
     ("open * O_WRONLY", "open $1 w", ""),
@@ -27,8 +28,3 @@ static ROWS: [Row; 12] = [
     ),
     ("lseek ...", "", "`pread` and `pwrite` are given an offset"),
 ];
-
-/// The rows, in the order in which they are tried.
-pub fn rows() -> &'static [Row] {
-    &ROWS
-}

@@ -1,7 +1,8 @@
 //! Mounts of overlays, as mount(8) has them.
 use super::Row;
 
-static ROWS: [Row; 9] = [
+/// The rows, in the order in which they are tried.
+pub static ROWS: [Row; 9] = [
     ("mount -t overlay -o * * *", "mount overlay $6 $4", ""),
     ("mount -t overlay * -o * *", "mount overlay $6 $5", ""),
     ("mount -t overlay * * -o *", "mount overlay $4 $6", ""),
@@ -16,8 +17,3 @@ static ROWS: [Row; 9] = [
         "`mount overlay PATH OPTIONS` mounts layers, as in `mount overlay /m lowerdir=/high:/low`",
     ),
 ];
-
-/// The rows, in the order in which they are tried.
-pub fn rows() -> &'static [Row] {
-    &ROWS
-}

@@ -1,7 +1,8 @@
 //! The types `private` and `unbindable`, as mount(8) and mount(2) have them.
 use super::Row;
 
-static ROWS: [Row; 32] = [
+/// The rows, in the order in which they are tried.
+pub static ROWS: [Row; 32] = [
     ("make-private *", "type $1 private", ""),
     ("--make-private *", "type $1 private", ""),
     ("mount --make-private *", "type $2 private", ""),
@@ -35,8 +36,3 @@ static ROWS: [Row; 32] = [
     ("rtype unbindable *", "rtype $2 unbindable", ""),
     ("rtype * MS_UNBINDABLE", "rtype $1 unbindable", ""),
 ];
-
-/// The rows, in the order in which they are tried.
-pub fn rows() -> &'static [Row] {
-    &ROWS
-}

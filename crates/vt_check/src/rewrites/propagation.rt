@@ -1,7 +1,8 @@
 //! The types `shared` and `slave`, as mount(8) and mount(2) have them.
 use super::Row;
 
-static ROWS: [Row; 32] = [
+/// The rows, in the order in which they are tried.
+pub static ROWS: [Row; 32] = [
     ("make-shared *", "type $1 shared", ""),
     ("--make-shared *", "type $1 shared", ""),
     ("mount --make-shared *", "type $2 shared", ""),
@@ -35,8 +36,3 @@ static ROWS: [Row; 32] = [
     ("rtype slave *", "rtype $2 slave", ""),
     ("rtype * MS_SLAVE", "rtype $1 slave", ""),
 ];
-
-/// The rows, in the order in which they are tried.
-pub fn rows() -> &'static [Row] {
-    &ROWS
-}

@@ -1,7 +1,8 @@
 //! Tasks and descriptors, as a shell and system calls have them.
 use super::Row;
 
-static ROWS: [Row; 33] = [
+/// The rows, in the order in which they are tried.
+pub static ROWS: [Row; 33] = [
     ("exit *", "exit", ""),
     ("kill *", "$1 exit", "a task ends by its own `exit`"),
     ("kill * *", "$2 exit", "a task ends by its own `exit`"),
@@ -112,8 +113,3 @@ static ROWS: [Row; 33] = [
         "`write PATH BYTES` sets the content of a file",
     ),
 ];
-
-/// The rows, in the order in which they are tried.
-pub fn rows() -> &'static [Row] {
-    &ROWS
-}

@@ -1,7 +1,8 @@
 //! The flags of mounts, and unmounts, as mount(8), umount(8) and umount2(2) have them.
 use super::Row;
 
-static ROWS: [Row; 20] = [
+/// The rows, in the order in which they are tried.
+pub static ROWS: [Row; 20] = [
     ("mount -o remount,ro *", "remount $3 ro", ""),
     ("mount -o remount,rw *", "remount $3 rw", ""),
     ("mount -o remount,bind,ro *", "remount $4 ro", ""),
@@ -31,8 +32,3 @@ static ROWS: [Row; 20] = [
         "`lazy` detaches a mount and all below it, busy or not; `umount` detaches one",
     ),
 ];
-
-/// The rows, in the order in which they are tried.
-pub fn rows() -> &'static [Row] {
-    &ROWS
-}
