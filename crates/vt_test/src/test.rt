@@ -12,7 +12,7 @@ use vt_script::{Calls, Version};
 const PIECE: usize = 8192;
 
 /// The form in which outcomes are written.
-#[derive(Clone, Copy, PartialEq, Eq)]
+#[derive(Clone, Copy)]
 pub enum Format {
     Text,
     Json,
@@ -20,7 +20,7 @@ pub enum Format {
 }
 
 /// How many scripts have passed, and how many have failed. A file that is none of scripts counts as one that fails.
-#[derive(Clone, Copy, PartialEq, Eq)]
+#[derive(Clone, Copy)]
 pub struct Totals {
     pub passed: u64,
     pub failed: u64,
@@ -220,10 +220,10 @@ pub fn test_file<C: Calls + Drop, W: Write>(
 
 /// Writes what stands before all files.
 pub fn begin<W: Write>(format: Format, output: &mut W) -> io::Result<()> {
-    if format == Format::Junit {
-        output.write_all(junit::HEAD.as_bytes())?;
+    match format {
+        Format::Junit => output.write_all(junit::HEAD.as_bytes()),
+        Format::Text | Format::Json => Ok(()),
     }
-    Ok(())
 }
 
 // How many scripts have passed and failed, as text.
