@@ -34,6 +34,17 @@ pub(crate) fn points_left(mounts: &Mounts, gone: &[MountId]) -> Result<Vec<NewPo
     all_left(mounts.alloc(), mounts, gone)
 }
 
+/// The same, where the set of the mounts that go is known.
+pub(crate) fn points_left_by(mounts: &Mounts, gone: &Gone) -> Result<Vec<NewPoint>, AllocError>
+    requires { HasJust gone.now.set.now.keys (map mount_number gone.now.ids.now) }
+    ensures ok { IfOk result (λ points. (world : World ℕ) → mounts_in mounts.now ≡ world.mounts
+        → LeavesBy world (map mount_number gone.now.ids.now) (map point_of points.items)) }
+    ensures each { IfOk result (λ points. (world : World ℕ) → mounts_in mounts.now ≡ world.mounts
+        → All (FallsTo world (map mount_number gone.now.ids.now)) (map point_of points.items)) }
+{
+    all_left_by(mounts.alloc(), mounts, gone)
+}
+
 // The new mount points of all mounts on these.
 fn all_left(alloc: Global, mounts: &Mounts, gone: &[MountId]) -> Result<Vec<NewPoint>, AllocError>
     ensures { IfOk result (λ points. map point_of points.items
@@ -47,9 +58,18 @@ fn all_left(alloc: Global, mounts: &Mounts, gone: &[MountId]) -> Result<Vec<NewP
         ids: gone,
         set: &set,
     };
+    all_left_by(alloc, mounts, &gone)
+}
+
+// The same, where the set of the mounts that go is known.
+fn all_left_by(alloc: Global, mounts: &Mounts, gone: &Gone) -> Result<Vec<NewPoint>, AllocError>
+    requires { HasJust gone.now.set.now.keys (map mount_number gone.now.ids.now) }
+    ensures { IfOk result (λ points. map point_of points.items
+        ≡ all_points_left (mounts_in mounts.now) (map mount_number gone.now.ids.now)) }
+{
     let mut points = Vec::new(alloc);
     for id in gone.ids {
-        push_left(mounts, &gone, mounts.children(*id), &mut points)?;
+        push_left(mounts, gone, mounts.children(*id), &mut points)?;
     }
     Ok(points)
 }
@@ -67,6 +87,7 @@ fn set_of(alloc: Global, ids: &[MountId]) -> Result<IndexSet<MountId>, AllocErro
     ensures { IfOk result (λ set. HasJust set.keys (map mount_number ids.now)) }
 {
     let mut set = IndexSet::new(alloc);
+    set.reserve(ids.len())?;
     for id in ids {
         set.insert(*id)?;
     }
@@ -99,10 +120,10 @@ fn point_left(mounts: &Mounts, gone: &Gone, id: MountId) -> Option<NewPoint>
     ensures { option_map point_of result
         ≡ point_left_of (mounts_in mounts.now) (map mount_number gone.now.ids.now) (mount_number id) }
 {
-    let mount = mounts.get(id)?;
     if is_gone(gone, id) {
         return None;
     }
+    let mount = mounts.get(id)?;
     Some(NewPoint {
         mount: id,
         place: place_left(mounts, gone, mount.mount_point?),

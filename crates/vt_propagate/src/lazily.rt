@@ -16,7 +16,7 @@ ghost use Rattle.vt_propagate.specs.Seen.{IsSeen};
 ghost use Rattle.vt_propagate.specs.Through.{going_then_if_there};
 
 use crate::detaching::Detachment;
-use crate::falling::{Gone, is_gone, points_left};
+use crate::falling::{Gone, is_gone, points_left_by};
 use crate::through::going_then;
 use indexmap::IndexSet;
 use std::alloc::{AllocError, Global};
@@ -40,40 +40,49 @@ pub fn unmount_lazily(
     ensures each { IfOk result (λ plan. (world : World ℕ) → mounts_in mounts.now ≡ world.mounts
         → All (FallsTo world (map mount_number plan.gone.items)) (map point_of plan.points.items)) }
 {
-    let gone = going_lazily(alloc, mounts, groups, id)?;
-    let points = points_left(mounts, &gone)?;
+    let (gone, set) = going_lazily(alloc, mounts, groups, id)?;
+    let points = points_left_by(
+        mounts,
+        &Gone {
+            ids: &gone,
+            set: &set,
+        },
+    )?;
     Ok(Detachment { gone, points })
 }
 
-// The mounts that all events detach.
+// The mounts that all events detach, and the same as a set.
 fn going_lazily(
     alloc: Global,
     mounts: &Mounts,
     groups: &Groups,
     id: MountId,
-) -> Result<Vec<MountId>, AllocError>
+) -> Result<(Vec<MountId>, IndexSet<MountId>), AllocError>
     ensures ok { IfOk result (λ gone. (world : World ℕ) → IsSeen world mounts.now groups.now
         → MountInvariants nat_eq world
-        → map mount_number gone.items ≡ gone_lazily world (mount_number id)) }
+        → map mount_number gone.0.items ≡ gone_lazily world (mount_number id)) }
+    ensures set { IfOk result (λ gone. HasJust gone.1.keys (map mount_number gone.0.items)) }
 {
     let events = deepest_first(alloc, mounts, id)?;
     all_gone(alloc, mounts, groups, &events)
 }
 
-// The mounts that these events, which are those of a lazy unmount, detach one after the other.
+// The mounts that these events, which are those of a lazy unmount, detach one after the other, and the same as a set.
 fn all_gone(
     alloc: Global,
     mounts: &Mounts,
     groups: &Groups,
     events: &[MountId],
-) -> Result<Vec<MountId>, AllocError>
+) -> Result<(Vec<MountId>, IndexSet<MountId>), AllocError>
     ensures ok { IfOk result (λ gone. (world : World ℕ) (number : ℕ) → IsSeen world mounts.now groups.now
         → MountInvariants nat_eq world
         → map mount_number events.now ≡ map (λ mount. mount.number) (lazy_events world number)
-        → map mount_number gone.items ≡ gone_lazily world number) }
+        → map mount_number gone.0.items ≡ gone_lazily world number) }
+    ensures set { IfOk result (λ gone. HasJust gone.1.keys (map mount_number gone.0.items)) }
 {
     let mut ids = Vec::new(alloc);
     let mut set = IndexSet::new(alloc);
+    set.reserve(events.len())?;
     for id in events {
         let gone = Gone {
             ids: &ids,
@@ -82,7 +91,7 @@ fn all_gone(
         let going = going_if_there(alloc, mounts, groups, &gone, *id)?;
         note_all(&mut ids, &mut set, &going)?;
     }
-    Ok(ids)
+    Ok((ids, set))
 }
 
 // The mounts that an event detaches once these are gone. It is skipped where an earlier one detached its mount.

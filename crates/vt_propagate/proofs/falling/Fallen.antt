@@ -12,7 +12,7 @@ use Rattle.vt_laws_mounts.specs.Mounts.Attaching.{numbers_of}
 module _ (mounts : List (Mount ℕ)) (gone : List ℕ) (number : ℕ) (mount : Mount ℕ) (found : Some mount
     ≡ numbered mounts number) where
   -- a mount that goes gets no new mount point
-  pub left_none : is_going nat_eq gone number ≡ true → None ≡ point_left_of mounts gone number
+  left_none : is_going nat_eq gone number ≡ true → None ≡ point_left_of mounts gone number
   left_none is = sym (ap (λ b. if b then None else option_map (λ place. (
     mount.number,
     mount_point_left nat_eq (of_mounts mounts) gone place,
@@ -30,6 +30,15 @@ module _ (mounts : List (Mount ℕ)) (gone : List ℕ) (number : ℕ) (mount : M
         mount_point_left nat_eq (of_mounts mounts) gone place,
       )) mount.mount_point) (ap (is_going nat_eq gone) (sym (numbered-number mounts number mount found)) ∙ stays))
       ∙ ap (λ o. then_some o (point_left mounts gone)) found
+
+-- what goes gets none, whether it exists or not
+pub left_gone : (mounts : List (Mount ℕ)) (gone : List ℕ) (number : ℕ) → is_going nat_eq gone number ≡ true
+    → None ≡ point_left_of mounts gone number
+left_gone mounts gone number is = by (numbered mounts number) refl
+  where
+    by : (found : Option (Mount ℕ)) → found ≡ numbered mounts number → None ≡ point_left_of mounts gone number
+    by None e = ap (λ o. then_some o (point_left mounts gone)) e
+    by (Some mount) e = left_none mounts gone number mount e is
 
 -- Lists of pairs
 

@@ -3,14 +3,14 @@ use Rattle.vt_location.specs.Locations.{location_of}
 use Rattle.vt_location.specs.MountValue.{mount_of}
 use Rattle.vt_location.specs.Numbers.{counted}
 use Rattle.vt_mount.specs.MountsValue.{mounts_in}
-use Rattle.vt_propagate.proofs.falling.Fallen.{left_none, left_some}
+use Rattle.vt_propagate.proofs.falling.Fallen.{left_gone, left_some}
 use Rattle.vt_propagate.proofs.Found.{counts}
 use Rattle.vt_propagate.proofs.falling.point_left.Goals as goal
 
 pub returns-then-is_gone : goal.returns-then-is_gone
 returns-then-is_gone c =
-    left_none (mounts_in c.args.mounts.now) (counts c.args.gone.now.ids.now) (counted c.args.id.count)
-    (mount_of c.in_ok-mount.mount) c.in_ok-mount.ensures (sym c.is_gone.ensures ∙ c.if-is_gone.true)
+    left_gone (mounts_in c.args.mounts.now) (counts c.args.gone.now.ids.now) (counted c.args.id.count)
+    (sym c.is_gone.ensures ∙ c.if-is_gone.true)
 
 pub returns : goal.returns
 returns c = ap (λ place. Some (counted c.args.id.count, place)) c.place_left.ensures

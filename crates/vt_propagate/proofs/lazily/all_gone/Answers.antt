@@ -33,4 +33,5 @@ returns c = record {
   ok = λ world number seen kept are.
       taken_last world kept number c.loop-id.ids.items c.args.events.now c.loop-id.id-index
       c.loop-id-test.false (c.loop-id.invariant.1 world number kept seen are);
+  set = c.loop-id.invariant.0;
 }

@@ -13,4 +13,5 @@ returns c = record {
       are world number seen kept (ap counts c.deref.ensures.value ∙ c.in_ok-events.ensures.ok
       ∙ ap (λ mounts. reverse (levels_from (length mounts) mounts (number ∷ []))) seen.mounts
       ∙ sym (lazy_levels world kept number))) c.all_gone.ensures.ok;
+  set = c.all_gone.ensures.set;
 }
