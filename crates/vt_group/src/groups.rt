@@ -32,7 +32,7 @@ use std::alloc::{AllocError, Global};
 use std::marker::Model;
 use vt_location::{GroupId, Mount, MountId, Propagation};
 
-/// For how many receivers there is room at first.
+/// For how many receivers, and groups below one, there is room at first.
 const SOME: usize = 32;
 
 /// A new group, and its master.
@@ -164,6 +164,7 @@ impl Groups {
         let alloc = self.index.allocator();
         let mut mounts = Vec::with_capacity(alloc, SOME)?;
         let mut found = IndexSet::new(alloc);
+        found.reserve(SOME)?;
         found.insert(group)?;
         let mut next = 0;
         while next < found.len() {
