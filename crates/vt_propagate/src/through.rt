@@ -107,6 +107,10 @@ fn free_at_then(mounts: &Mounts, gone: &Gone, place: Location) -> Option<MountId
         ≡ free_at_then (mounts_in mounts.now) (map mount_number gone.now.ids.now) (location_of place) }
 {
     let child = standing_over(mounts, gone, place)?;
+    // Mostly nothing stands on it, so that the mount itself is not looked at.
+    if mounts.children(child).is_empty() {
+        return Some(child);
+    }
     is_free_then(mounts, gone, child).then_some(child)
 }
 

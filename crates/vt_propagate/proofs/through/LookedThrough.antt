@@ -1,10 +1,10 @@
 -- What stands where once mounts are gone, as code finds it out.
-use Rattle.std.proofs.Common.{◌≡◌, ◌<◌, ◌≤◌, ◌+◌, refl, sym, ap, ◌∙◌, ℕ, suc, nat_eq, Bool, true, false, true≢false, ◌&&◌, List, [], ◌∷◌, drop, get_or, length, Option, None, Some, is_some, option_map, inl, inr, if◌then◌else◌}
-use Rattle.vt_spec.proofs.Common.{Among, Location, Mount, among-from_filter, child_at, children, drop_all, drop_more, holds_of, is_going, list_all, root_of, same_Some, stands_at, stands_on, then_some}
+use Rattle.std.proofs.Common.{◌≡◌, ◌<◌, ◌≤◌, ◌+◌, refl, sym, ap, ◌∙◌, arith, ℕ, suc, zero, nat_eq, Bool, true, false, true≢false, ◌&&◌, List, [], ◌∷◌, drop, get_or, length, Option, None, Some, is_some, option_map, inl, inr, if◌then◌else◌}
+use Rattle.vt_spec.proofs.Common.{Among, Location, Mount, among-from_filter, child_at, children, drop_all, drop_more, holds_of, is_going, list_all, root_of, same_Some, stands_at, stands_on, then_some, when}
 use Rattle.vt_location.specs.declared.numbers.MountId.{MountId}
 use Rattle.vt_location.specs.Numbers.{counted}
 use Rattle.vt_mount.specs.MountsValue.{are_ascending}
-use Rattle.vt_propagate.specs.Through.{is_free_by_number, is_free_then, over_from, rests_on_root}
+use Rattle.vt_propagate.specs.Through.{free_at_then, is_free_by_number, is_free_then, over_from, rests_on_root, standing_over}
 use Rattle.vt_propagate.proofs.Found.{counts, numbered, numbered_among}
 use Rattle.vt_propagate.proofs.Leaving.{numbered-number}
 use Rattle.vt_laws_mounts.proofs.letting_go.Lists.{found_in}
@@ -93,6 +93,46 @@ module _ (mounts : List (Mount ℕ)) (gone : List ℕ) where
         ∙ all_numbered (rests_on_root mounts gone mount) (children nat_eq mounts mount.number)
         (λ x m. (among-from_filter (stands_on nat_eq mount.number) mounts x m).0)
         ∙ ap (holds_of (is_free_then mounts gone)) found
+
+    abbrev Known : ℕ → Type 0
+    Known number = (mount : Mount ℕ) × (Some mount ≡ numbered mounts number)
+
+    -- what is over a place is a mount
+    over_known : (most : ℕ) (place : Location ℕ) (number : ℕ) → Some number ≡ over_from most mounts gone place
+        → Known number
+    over_known zero place number is = absurd (true≢false (ap is_some is))
+    over_known (suc most) place number is =
+        by (λ at e. over_known most at number e) (child_at nat_eq mounts place) refl is
+      where
+        stays : (child : Mount ℕ) → child_at nat_eq mounts place ≡ Some child
+            → ((at : Location ℕ) → Some number ≡ over_from most mounts gone at → Known number) → (b : Bool)
+            → Some number ≡ (if b then over_from most mounts gone (root_of child) else Some child.number)
+            → Known number
+        stays child f again true e = again (root_of child) e
+        stays child f again false e =
+            (child, sym (ap (numbered mounts) (same_Some number child.number e) ∙ found_child place child f))
+
+        by : ((at : Location ℕ) → Some number ≡ over_from most mounts gone at → Known number)
+            → (o : Option (Mount ℕ)) → child_at nat_eq mounts place ≡ o → Some number ≡ then_some o (up_from most)
+            → Known number
+        by again None f e = absurd (true≢false (ap is_some e))
+        by again (Some child) f e = stays child f again (is_going nat_eq gone child.number) e
+
+    -- it is free where none stands on it
+    pub over_childless : (place : Location ℕ) (number : ℕ) → Some number ≡ standing_over mounts gone place
+        → (ids : List MountId) → counts ids ≡ numbers_of (children nat_eq mounts number) → length ids ≡ 0
+        → Some number ≡ free_at_then mounts gone place
+    over_childless place number over ids on none =
+        let known = over_known (length mounts) place number over in
+        ap (λ b. when b number) (free ids on none
+        ∙ free_if_all number known.0 known.1 (counts ids) on)
+        ∙ ap (λ o. then_some o (λ n. when (is_free_by_number mounts gone n) n)) over
+      where
+        free : (ids : List MountId) → counts ids ≡ numbers_of (children nat_eq mounts number) → length ids ≡ 0
+            → true ≡ list_all (λ n. holds_of (rests_on_root mounts gone
+            (over_known (length mounts) place number over).0) (numbered mounts n)) (counts ids)
+        free [] on none = refl
+        free (id ∷ ids) on none = absurd (omega (arith, none))
 
 -- the children of a mount rest on its root, so far as they were looked at
 module _ (mounts : List (Mount ℕ)) (gone : List ℕ) (mount : Mount ℕ) (kids : List MountId) (i : ℕ) where
