@@ -1,6 +1,6 @@
 //! The mounts of a namespace as a tree, each behind the one that it stands on.
 use crate::picture::MountShown;
-use std::alloc::{AllocError, Global};
+use std::alloc::Global;
 use vt_check::draft::Draft;
 
 /// How a mount stands among the children of its parent.
@@ -32,147 +32,138 @@ impl Rank {
     }
 }
 
-/// A mount, and the branch before its path.
-#[derive(Drop)]
-pub struct Branch<'a> {
-    pub mount: &'a MountShown,
-    // What stands before the mark.
-    front: String,
+// The relatives of a mount, by their places in the list of mounts.
+#[derive(Clone, Copy)]
+struct Relatives {
+    last_child: Option<usize>,
+    // The sibling before it.
+    before: Option<usize>,
+}
+
+// A mount that waits to be laid out.
+#[derive(Clone, Copy)]
+struct Waiting {
+    index: usize,
+    // How many mounts there are from its parent up.
+    depth: usize,
     rank: Rank,
 }
 
-impl Branch<'_> {
-    /// Appends the branch.
-    pub fn push(&self, text: &mut Draft) {
-        text.push(self.front.as_str());
-        text.push(self.rank.mark());
-    }
-
-    // What the branches of its children begin with.
-    fn below(&self, alloc: Global) -> Result<String, AllocError> {
-        let mut text = Draft::new(alloc);
-        text.push(self.front.as_str());
-        text.push(self.rank.mark_below());
-        text.end()
-    }
-}
-
-// Mounts that wait to be laid out, the first one last.
+/// Mounts that are laid out as a tree: each before its children, which are in the order of their numbers.
 #[derive(Drop)]
-struct Waiting<'a> {
-    alloc: Global,
+pub struct Branches<'a> {
     mounts: &'a [MountShown],
-    branches: Vec<Branch<'a>>,
+    relatives: Vec<Relatives>,
+    last_root: Option<usize>,
+    // The first one last.
+    waiting: Vec<Waiting>,
+    // The mount that was laid out last, behind its parent and those above.
+    path: Vec<Rank>,
+    /// Whether an allocation failed, so that mounts are missing.
+    pub failed: bool,
 }
 
-impl<'a> Waiting<'a> {
-    // A mount waits.
-    fn push(&mut self, mount: &'a MountShown, front: &str, rank: Rank) -> Result<(), AllocError> {
-        let front = String::from_str(self.alloc, front)?;
-        self.branches.push(Branch { mount, front, rank })?;
-        Ok(())
+impl<'a> Branches<'a> {
+    /// Before the first mount.
+    pub fn new(alloc: Global, mounts: &'a [MountShown]) -> Self {
+        let mut branches = Branches {
+            mounts,
+            relatives: Vec::new(alloc),
+            last_root: None,
+            waiting: Vec::new(alloc),
+            path: Vec::new(alloc),
+            failed: false,
+        };
+        branches.add_mounts();
+        let last_root = branches.last_root;
+        branches.wait(last_root, 0);
+        branches
     }
 
-    // Root mounts wait.
-    fn push_roots(&mut self) -> Result<(), AllocError> {
-        for mount in self.mounts.iter().rev() {
-            if mount.parent.is_none() {
-                self.push(mount, "", Rank::Root)?;
-            }
-        }
-        Ok(())
-    }
-
-    // These children wait.
-    fn push_all(&mut self, front: &str, children: &[usize]) -> Result<(), AllocError> {
-        let mut rank = Rank::Last;
-        for child in children.iter().rev() {
-            if let Some(mount) = self.mounts.get(*child) {
-                self.push(mount, front, rank)?;
-            }
-            rank = Rank::Other;
-        }
-        Ok(())
-    }
-
-    // The children of a mount wait.
-    fn push_children(&mut self, branch: &Branch<'a>, children: &[usize]) -> Result<(), AllocError> {
-        let front = branch.below(self.alloc)?;
-        self.push_all(front.as_str(), children)
-    }
-}
-
-// A tree of mounts that is being laid out.
-#[derive(Drop)]
-struct Layout<'a> {
-    alloc: Global,
-    // The children of each mount, in the order of their attachment, by the mount's place in the list.
-    children: Vec<Vec<usize>>,
-    waiting: Waiting<'a>,
-    branches: Vec<Branch<'a>>,
-}
-
-impl<'a> Layout<'a> {
-    fn new(alloc: Global, mounts: &'a [MountShown]) -> Self {
-        Layout {
-            alloc,
-            children: Vec::new(alloc),
-            waiting: Waiting {
-                alloc,
-                mounts,
-                branches: Vec::new(alloc),
-            },
-            branches: Vec::new(alloc),
-        }
-    }
-
-    // Adds a child of the mount at this place of the list.
-    fn add_child(&mut self, parent: usize, child: usize) -> Result<(), AllocError> {
-        if let Some(siblings) = self.children.get_mut(parent) {
-            siblings.push(child)?;
-        }
-        Ok(())
-    }
-
-    // Notes the children of each mount.
-    fn add_children(&mut self, mounts: &[MountShown]) -> Result<(), AllocError> {
+    // Notes the relatives of each mount.
+    fn add_mounts(&mut self) {
+        let mounts = self.mounts;
         for _ in mounts {
-            self.children.push(Vec::new(self.alloc))?;
+            let alone = Relatives {
+                last_child: None,
+                before: None,
+            };
+            self.failed |= self.relatives.push(alone).is_err();
         }
         for (index, mount) in mounts.iter().enumerate() {
-            if let Some(parent) = mount.parent {
-                self.add_child(parent.place.saturating_sub(1), index)?;
+            self.add_mount(index, mount);
+        }
+    }
+
+    // Notes the relatives of a mount at this place of the list, which is the last child of its parent so far.
+    fn add_mount(&mut self, index: usize, mount: &MountShown) {
+        let before = self.last_child(mount);
+        if let Some(relatives) = self.relatives.get_mut(index) {
+            relatives.before = before;
+        }
+        match mount.parent {
+            None => self.last_root = Some(index),
+            Some(parent) => {
+                if let Some(above) = self.relatives.get_mut(parent.place.saturating_sub(1)) {
+                    above.last_child = Some(index);
+                }
             }
         }
-        Ok(())
     }
 
-    // Lays out a mount; its children wait.
-    fn add(&mut self, branch: Branch<'a>) -> Result<(), AllocError> {
-        let index = branch.mount.place.place.saturating_sub(1);
-        if let Some(children) = self.children.get(index) {
-            self.waiting.push_children(&branch, children)?;
+    // The last child so far of the parent of a mount, or the last mount without a parent.
+    fn last_child(&self, mount: &MountShown) -> Option<usize> {
+        let Some(parent) = mount.parent else {
+            return self.last_root;
+        };
+        self.relatives
+            .get(parent.place.saturating_sub(1))?
+            .last_child
+    }
+
+    // A mount and the siblings before it wait.
+    fn wait(&mut self, last: Option<usize>, depth: usize) {
+        let mut next = last;
+        for _ in self.mounts {
+            let Some(index) = next else {
+                return;
+            };
+            let rank = if depth == 0 {
+                Rank::Root
+            } else if next == last {
+                Rank::Last
+            } else {
+                Rank::Other
+            };
+            let waiting = Waiting { index, depth, rank };
+            self.failed |= self.waiting.push(waiting).is_err();
+            next = match self.relatives.get(index) {
+                Some(relatives) => relatives.before,
+                None => None,
+            };
         }
-        self.branches.push(branch)?;
-        Ok(())
     }
 
-    // Lays out these mounts.
-    fn add_all(&mut self, mounts: &[MountShown]) -> Result<(), AllocError> {
-        self.add_children(mounts)?;
-        self.waiting.push_roots()?;
-        for _ in mounts {
-            if let Some(branch) = self.waiting.branches.pop() {
-                self.add(branch)?;
+    /// Lays out the next mount, or nothing behind the last one.
+    pub fn next(&mut self) -> Option<&'a MountShown> {
+        let next = self.waiting.pop()?;
+        self.path.truncate(next.depth);
+        self.failed |= self.path.push(next.rank).is_err();
+        let last_child = match self.relatives.get(next.index) {
+            Some(relatives) => relatives.last_child,
+            None => None,
+        };
+        self.wait(last_child, next.depth.saturating_add(1));
+        self.mounts.get(next.index)
+    }
+
+    /// Appends the branch before the path of the mount that was laid out last.
+    pub fn push(&self, text: &mut Draft) {
+        if let Some((rank, above)) = self.path.split_last() {
+            for one in above {
+                text.push(one.mark_below());
             }
+            text.push(rank.mark());
         }
-        Ok(())
     }
-}
-
-/// The mounts of a namespace, each before its children.
-pub fn branches(alloc: Global, mounts: &[MountShown]) -> Result<Vec<Branch<'_>>, AllocError> {
-    let mut layout = Layout::new(alloc, mounts);
-    layout.add_all(mounts)?;
-    Ok(layout.branches)
 }

@@ -74,22 +74,17 @@ fn push_slaves(text: &mut Draft, line: &PeerLine) {
     }
 }
 
-// Appends that a group receives from its master.
-fn push_master(text: &mut Draft, group: usize, master: usize) {
-    text.push("  ");
-    push_group_name(text, master);
-    text.push(" -> ");
-    push_group_name(text, group);
-    text.push(";\n");
-}
-
 // Appends a peer group with all that receives from it or sends to it.
 fn push_group(text: &mut Draft, line: &PeerLine) {
     text.push("  ");
     push_group_name(text, line.group);
     text.push(" [shape=ellipse];\n");
     if let Some(master) = line.master {
-        push_master(text, line.group, master);
+        text.push("  ");
+        push_group_name(text, master);
+        text.push(" -> ");
+        push_group_name(text, line.group);
+        text.push(";\n");
     }
     push_members(text, line);
     push_slaves(text, line);

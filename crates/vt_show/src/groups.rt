@@ -7,9 +7,9 @@ use vt_request::{MountPlace, PeerLine, TypeLine};
 
 // The mount at a place of a namespace.
 fn mount_at(world: &World, place: MountPlace) -> Option<Mount> {
-    let namespace = world.namespaces().get(place.namespace.checked_sub(1)?)?;
+    let namespace = world.namespaces().get(place.namespace.saturating_sub(1))?;
     let listed = world.all_mounts().attached_in(*namespace);
-    let id = listed.get(place.place.checked_sub(1)?)?;
+    let id = listed.get(place.place.saturating_sub(1))?;
     world.all_mounts().get(*id)
 }
 

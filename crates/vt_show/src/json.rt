@@ -6,7 +6,7 @@ use crate::{layers, names};
 use serde_json::Value;
 use std::alloc::{AllocError, Global};
 use vt_check::draft::Draft;
-use vt_check::object::Object;
+use vt_check::object::{List, Object};
 use vt_cred::Cred;
 use vt_location::{FilesystemId, Mount, NodeRef};
 use vt_node::Node;
@@ -56,20 +56,20 @@ fn open_file(alloc: Global, file: &OpenShown) -> Result<Value, AllocError> {
 
 // The open files of a task.
 fn open_files(alloc: Global, files: &[OpenShown]) -> Result<Value, AllocError> {
-    let mut all = Vec::new(alloc);
+    let mut all = List::new(alloc);
     for file in files {
-        all.push(open_file(alloc, file)?)?;
+        all.push(open_file(alloc, file));
     }
-    Ok(Value::Array(all))
+    all.end()
 }
 
 // Supplementary groups.
 fn group_ids(alloc: Global, groups: &[u32]) -> Result<Value, AllocError> {
-    let mut all = Vec::new(alloc);
+    let mut all = List::new(alloc);
     for group in groups {
-        all.push(Value::from(u64::from(*group)))?;
+        all.push(Ok(Value::from(u64::from(*group))));
     }
-    Ok(Value::Array(all))
+    all.end()
 }
 
 // Adds credentials: those of a task, or of who mounted an overlay.
@@ -82,8 +82,8 @@ fn put_credentials(alloc: Global, object: &mut Object, cred: &Cred) {
     object.put_draft("capabilities", capabilities);
 }
 
-// A task as an object and a newline.
-fn task(alloc: Global, shown: &TaskShown<'_>) -> Result<String, AllocError> {
+/// Appends a task as an object and a newline.
+pub fn push_task(alloc: Global, text: &mut Draft, shown: &TaskShown<'_>) {
     let mut object = Object::new(alloc);
     let mut name = object.draft();
     names::push_task(&mut name, &shown.task.name);
@@ -96,7 +96,7 @@ fn task(alloc: Global, shown: &TaskShown<'_>) -> Result<String, AllocError> {
     object.put("root", place(alloc, &shown.root));
     object.put("directory", place(alloc, &shown.directory));
     object.put("open", open_files(alloc, &shown.files));
-    object.line()
+    object.push_line(text);
 }
 
 // Adds the type of a mount: its group, and that from which it receives.
@@ -147,14 +147,14 @@ fn put_target(object: &mut Object, mount: &MountShown) {
     }
 }
 
-// A mount as an object and a newline.
-fn mount(alloc: Global, shown: &MountShown) -> Result<String, AllocError> {
+// Appends a mount as an object and a newline.
+fn push_mount(alloc: Global, text: &mut Draft, shown: &MountShown) {
     let mut object = Object::new(alloc);
     put_mount(&mut object, "mount", shown.place);
     put_target(&mut object, shown);
     put_source(&mut object, shown);
     put_kind(&mut object, shown.kind);
-    object.line()
+    object.push_line(text);
 }
 
 // Who mounted an overlay.
@@ -164,21 +164,16 @@ fn mounter(alloc: Global, cred: &Cred) -> Result<Value, AllocError> {
     object.end()
 }
 
-// The directory of a layer of an overlay that a mount shows.
-fn layer(
-    alloc: Global,
-    picture: &Picture<'_>,
-    mount: &Mount,
-    directory: NodeRef,
-) -> Result<Value, AllocError> {
-    let spot = layers::layer_spot(picture.world, mount, directory)?;
-    let mut object = Object::new(alloc);
+// Adds the directory of a layer of an overlay that a mount shows.
+fn put_layer(object: &mut Object, picture: &Picture<'_>, mount: &Mount, directory: NodeRef) {
     match mount_of(&picture.namespaces, directory.filesystem) {
-        Some(shown) => put_count(&mut object, "filesystem", shown.filesystem),
+        Some(shown) => put_count(object, "filesystem", shown.filesystem),
         None => object.put("filesystem", Ok(Value::Null)),
     }
-    put_spot(&mut object, "path", &spot);
-    object.end()
+    match layers::layer_spot(picture.world, mount, directory) {
+        Ok(spot) => put_spot(object, "path", &spot),
+        Err(error) => object.put("path", Err(error)),
+    }
 }
 
 // The layers of an overlay that a mount shows, from the top.
@@ -188,33 +183,37 @@ fn layers_of(
     mount: &Mount,
     overlay: &Overlay,
 ) -> Result<Value, AllocError> {
-    let mut all = Vec::new(alloc);
+    let mut all = List::new(alloc);
     for one in overlay.lowers() {
-        all.push(layer(alloc, picture, mount, one.directory.node_ref())?)?;
+        let mut object = Object::new(alloc);
+        put_layer(&mut object, picture, mount, one.directory.node_ref());
+        all.push(object.end());
     }
-    Ok(Value::Array(all))
+    all.end()
 }
 
-// An overlay that a mount shows, as an object and a newline.
-fn overlay_line(
+// Appends an overlay that a mount shows, as an object and a newline.
+fn push_overlay(
     alloc: Global,
+    text: &mut Draft,
     picture: &Picture<'_>,
     shown: &MountShown,
     overlay: &Overlay,
-) -> Result<String, AllocError> {
+) {
     let mut object = Object::new(alloc);
     put_count(&mut object, "overlay", shown.filesystem);
     object.put("mounter", mounter(alloc, overlay.mounter()));
     object.put("layers", layers_of(alloc, picture, &shown.mount, overlay));
-    object.line()
+    object.push_line(text);
 }
 
 // Appends the overlays that mounts show.
 fn push_overlays(alloc: Global, text: &mut Draft, picture: &Picture<'_>) {
     for id in &picture.filesystems {
-        let overlay = picture.world.store().overlay(*id);
-        if let (Some(overlay), Some(shown)) = (overlay, mount_of(&picture.namespaces, *id)) {
-            push_line(text, overlay_line(alloc, picture, shown, overlay));
+        if let Some(overlay) = picture.world.store().overlay(*id) {
+            if let Some(shown) = mount_of(&picture.namespaces, *id) {
+                push_overlay(alloc, text, picture, shown, overlay);
+            }
         }
     }
 }
@@ -229,30 +228,25 @@ fn mount_value(alloc: Global, place: MountPlace) -> Result<Value, AllocError> {
 
 // Mounts by their numbers.
 fn mounts(alloc: Global, places: &[MountPlace]) -> Result<Value, AllocError> {
-    let mut all = Vec::new(alloc);
+    let mut all = List::new(alloc);
     for place in places {
-        all.push(mount_value(alloc, *place)?)?;
+        all.push(mount_value(alloc, *place));
     }
-    Ok(Value::Array(all))
+    all.end()
 }
 
-// A peer group as an object and a newline.
-fn group(alloc: Global, line: &PeerLine) -> Result<String, AllocError> {
+// Appends a peer group as an object and a newline.
+fn push_group(alloc: Global, text: &mut Draft, line: &PeerLine) {
     let mut object = Object::new(alloc);
     put_count(&mut object, "peers", line.group);
     put_count_or_null(&mut object, "master", line.master);
     object.put("members", mounts(alloc, &line.members));
     object.put("slaves", mounts(alloc, &line.slaves));
-    object.line()
+    object.push_line(text);
 }
 
-// An object of a tree as an object and a newline.
-fn object(
-    alloc: Global,
-    filesystem: usize,
-    found: &Found,
-    node: &Node,
-) -> Result<String, AllocError> {
+// Appends an object of a tree as an object and a newline.
+fn push_object(alloc: Global, text: &mut Draft, filesystem: usize, found: &Found, node: &Node) {
     let attr = node.attr();
     let mut object = Object::new(alloc);
     put_count(&mut object, "filesystem", filesystem);
@@ -264,15 +258,7 @@ fn object(
     object.put_number("uid", u64::from(attr.uid));
     object.put_number("gid", u64::from(attr.gid));
     put_count(&mut object, "size", node.bytes().len());
-    object.line()
-}
-
-// Appends a line that was written, unless an allocation failed.
-fn push_line(text: &mut Draft, line: Result<String, AllocError>) {
-    match line {
-        Ok(line) => text.push(line.as_str()),
-        Err(_) => text.fail(),
-    }
+    object.push_line(text);
 }
 
 // Appends the objects of a filesystem.
@@ -281,23 +267,12 @@ fn push_tree(alloc: Global, text: &mut Draft, filesystem: usize, walk: &mut Tree
         let Some(found) = walk.next() else {
             break;
         };
-        push_object(alloc, text, filesystem, walk, &found);
+        if let Some(node) = walk.node(&found) {
+            push_object(alloc, text, filesystem, &found, node);
+        }
     }
     if walk.failed {
         text.fail();
-    }
-}
-
-// Appends an object of a tree.
-fn push_object(
-    alloc: Global,
-    text: &mut Draft,
-    filesystem: usize,
-    walk: &TreeWalk<'_>,
-    found: &Found,
-) {
-    if let Some(node) = walk.node(found) {
-        push_line(text, object(alloc, filesystem, found, node));
     }
 }
 
@@ -324,11 +299,6 @@ fn push_trees(alloc: Global, text: &mut Draft, picture: &Picture<'_>) {
     }
 }
 
-/// Appends a task.
-pub fn push_task(alloc: Global, text: &mut Draft, shown: &TaskShown<'_>) {
-    push_line(text, task(alloc, shown));
-}
-
 /// Appends a world as JSON, with the objects of its trees if they are asked for.
 pub fn push_shown(alloc: Global, text: &mut Draft, picture: &Picture<'_>, files: bool) {
     for one in &picture.tasks {
@@ -336,12 +306,12 @@ pub fn push_shown(alloc: Global, text: &mut Draft, picture: &Picture<'_>, files:
     }
     for namespace in &picture.namespaces {
         for one in &namespace.mounts {
-            push_line(text, mount(alloc, one));
+            push_mount(alloc, text, one);
         }
     }
     push_overlays(alloc, text, picture);
     for one in &picture.groups {
-        push_line(text, group(alloc, one));
+        push_group(alloc, text, one);
     }
     if files {
         push_trees(alloc, text, picture);

@@ -23,19 +23,14 @@ pub static CAPABILITIES: [(Caps, &str); 8] = [
     (Caps::CAP_SYS_ADMIN, "CAP_SYS_ADMIN"),
 ];
 
-// Appends a byte: itself, or its escape.
-fn push_byte(text: &mut Draft, byte: u8) {
-    if is_plain(byte) {
-        text.push_char(char::from(byte));
-    } else {
-        text.push_escape(byte);
-    }
-}
-
-/// Appends a name.
+/// Appends a name: each byte itself, or its escape.
 pub fn push_name(text: &mut Draft, name: &[u8]) {
     for byte in name {
-        push_byte(text, *byte);
+        if is_plain(*byte) {
+            text.push_char(char::from(*byte));
+        } else {
+            text.push_escape(*byte);
+        }
     }
 }
 
@@ -178,27 +173,22 @@ pub fn push_kind(text: &mut Draft, kind: TypeLine) {
     }
 }
 
-/// Appends supplementary groups between commas, or that there are none.
-pub fn push_groups(text: &mut Draft, groups: &[u32]) {
-    if groups.is_empty() {
-        text.push(NOTHING);
-    }
-    for (index, group) in groups.iter().enumerate() {
-        if index > 0 {
-            text.push(",");
-        }
-        text.push_number(u64::from(*group));
-    }
-}
-
-/// Appends who credentials act as: user, group and supplementary groups.
+/// Appends who credentials act as: user, group, and supplementary groups between commas, or that there are none.
 pub fn push_ids(text: &mut Draft, cred: &Cred) {
     text.push("uid ");
     text.push_number(u64::from(cred.uid()));
     text.push(", gid ");
     text.push_number(u64::from(cred.gid()));
     text.push(", groups ");
-    push_groups(text, cred.groups());
+    if cred.groups().is_empty() {
+        text.push(NOTHING);
+    }
+    for (index, group) in cred.groups().iter().enumerate() {
+        if index > 0 {
+            text.push(",");
+        }
+        text.push_number(u64::from(*group));
+    }
 }
 
 // How long the names are of the capabilities of a set that a task has, or of those that it has not, with commas.
@@ -252,11 +242,6 @@ fn kind_letter(kind: Kind) -> char {
     }
 }
 
-// The letter of a bit, or that it is not set.
-fn letter(bits: u16, bit: u16, letter: char) -> char {
-    if bits & bit == 0 { '-' } else { letter }
-}
-
 // The letter of the others' search bit beside the sticky bit.
 fn last_letter(bits: u16) -> char {
     match (bits & 0o1000 == 0, bits & 1 == 0) {
@@ -284,7 +269,7 @@ pub fn push_mode(text: &mut Draft, kind: Kind, mode: Mode) {
     let bits = mode.bits();
     text.push_char(kind_letter(kind));
     for (bit, word) in &LETTERS {
-        text.push_char(letter(bits, *bit, *word));
+        text.push_char(if bits & *bit == 0 { '-' } else { *word });
     }
     text.push_char(last_letter(bits));
 }

@@ -75,19 +75,22 @@ pub struct Picture<'a> {
     pub filesystems: IndexSet<FilesystemId>,
 }
 
-// The open files of a task.
-fn files_of(alloc: Global, places: &Places<'_>, task: &Task) -> Result<Vec<OpenShown>, AllocError> {
-    let mut files = Vec::new(alloc);
-    for number in 0..=u8::MAX {
-        if let Some(file) = task.descriptors.get(number) {
-            files.push(OpenShown {
-                number,
-                access: file.access,
-                place: places.place_of(file.location)?,
-            })?;
+impl TaskShown<'_> {
+    // Finds where its root, its directory and its open files are.
+    fn find(&mut self, places: &Places<'_>) -> Result<(), AllocError> {
+        self.root = places.place_of(self.task.root)?;
+        self.directory = places.place_of(self.task.directory)?;
+        for number in 0..=u8::MAX {
+            if let Some(file) = self.task.descriptors.get(number) {
+                self.files.push(OpenShown {
+                    number,
+                    access: file.access,
+                    place: places.place_of(file.location)?,
+                })?;
+            }
         }
+        Ok(())
     }
-    Ok(files)
 }
 
 // The number of a namespace, from 1.
@@ -100,58 +103,12 @@ fn namespace_number(world: &World, id: NamespaceId) -> usize {
     1
 }
 
-// A task, as it is shown.
-fn task_of<'a>(
-    alloc: Global,
-    world: &World,
-    places: &Places<'_>,
-    task: &'a Task,
-) -> Result<TaskShown<'a>, AllocError> {
-    let root = places.place_of(task.root)?;
-    let directory = places.place_of(task.directory)?;
-    let files = files_of(alloc, places, task)?;
-    Ok(TaskShown {
-        task,
-        namespace: namespace_number(world, task.namespace),
-        root,
-        directory,
-        files,
-    })
-}
-
 impl<'a> Picture<'a> {
     // The number of a filesystem, which is the next one where it is new.
     fn filesystem(&mut self, id: FilesystemId) -> Result<usize, AllocError> {
         self.filesystems.insert(id)?;
         let index = self.filesystems.get_index_of(&id).unwrap_or_default();
         Ok(index.saturating_add(1))
-    }
-
-    // A mount at this place.
-    fn mount(
-        &mut self,
-        places: &Places<'_>,
-        groups: &GroupNumbers,
-        place: MountPlace,
-        mount: &Mount,
-    ) -> Result<MountShown, AllocError> {
-        let parent = match mount.mount_point {
-            Some(point) => places.of(point.mount),
-            None => None,
-        };
-        let filesystem = self.filesystem(mount.root.filesystem)?;
-        let target = places.target(mount)?;
-        let root = self.world.root_spot_of(mount)?;
-        Ok(MountShown {
-            mount: *mount,
-            place,
-            parent,
-            target,
-            filesystem,
-            is_overlay: self.world.store().is_overlay(mount.root.filesystem),
-            root,
-            kind: groups.shown(mount.propagation),
-        })
     }
 
     // Adds a mount to those of a namespace, if it is attached.
@@ -165,7 +122,22 @@ impl<'a> Picture<'a> {
         let (Some(place), Some(mount)) = (places.of(id), self.world.all_mounts().get(id)) else {
             return Ok(());
         };
-        mounts.push(self.mount(places, groups, place, &mount)?)?;
+        let parent = match mount.mount_point {
+            Some(point) => places.of(point.mount),
+            None => None,
+        };
+        let filesystem = self.filesystem(mount.root.filesystem)?;
+        let target = places.target(&mount)?;
+        mounts.push(MountShown {
+            mount,
+            place,
+            parent,
+            target,
+            filesystem,
+            is_overlay: self.world.store().is_overlay(mount.root.filesystem),
+            root: self.world.root_spot_of(&mount)?,
+            kind: groups.shown(mount.propagation),
+        })?;
         Ok(())
     }
 
@@ -199,10 +171,29 @@ impl<'a> Picture<'a> {
         Ok(())
     }
 
+    // Adds a task.
+    fn add_task(
+        &mut self,
+        alloc: Global,
+        places: &Places<'_>,
+        task: &'a Task,
+    ) -> Result<(), AllocError> {
+        let mut shown = TaskShown {
+            task,
+            namespace: namespace_number(self.world, task.namespace),
+            root: Place::Gone,
+            directory: Place::Gone,
+            files: Vec::new(alloc),
+        };
+        let found = shown.find(places);
+        self.tasks.push(shown)?;
+        found
+    }
+
     // Adds the tasks, in the order in which they were forked.
     fn add_tasks(&mut self, alloc: Global, places: &Places<'_>) -> Result<(), AllocError> {
         for task in self.world.tasks().kept() {
-            self.tasks.push(task_of(alloc, self.world, places, task)?)?;
+            self.add_task(alloc, places, task)?;
         }
         self.tasks.sort_by_key(|shown| shown.task.birth)?;
         Ok(())

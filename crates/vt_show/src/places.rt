@@ -64,40 +64,42 @@ impl<'a> Places<'a> {
         self.by_mount.get(&id).copied()
     }
 
-    // Where a mount stands on its parent, for it and each above it, up to the root mount of its namespace.
-    fn spots_up(&self, mount: &Mount) -> Result<Vec<Spot>, AllocError> {
-        let mut spots = Vec::new(self.alloc);
+    // Notes where a mount stands on its parent, for it and each above it, up to the root mount of its namespace.
+    fn add_points(&self, mount: &Mount, points: &mut Vec<Location>) -> Result<(), AllocError> {
         let mut next = mount.mount_point;
         for _ in 0..self.by_mount.len() {
-            let Some(place) = next else {
+            let Some(point) = next else {
                 break;
             };
-            spots.push(self.world.spot_of(place)?)?;
-            let parent = self.world.all_mounts().get(place.mount);
-            next = parent.and_then(|parent| parent.mount_point);
+            points.push(point)?;
+            next = match self.world.all_mounts().get(point.mount) {
+                Some(parent) => parent.mount_point,
+                None => None,
+            };
         }
-        Ok(spots)
+        Ok(())
     }
 
     // Appends the path to a mount's root, nothing for that of the root mount, and says whether it is still reached.
-    fn push_steps_to(&self, mount: &Mount, path: &mut Draft) -> Result<bool, AllocError> {
-        for spot in self.spots_up(mount)?.iter().rev() {
-            match spot {
-                Spot::Gone => return Ok(false),
-                Spot::Reached(names) => push_steps(path, names),
-            }
+    fn push_steps_to(&self, mount: &Mount, path: &mut Draft) -> bool {
+        let mut points = Vec::new(self.alloc);
+        if self.add_points(mount, &mut points).is_err() {
+            path.fail();
         }
-        Ok(true)
+        let mut is_reached = true;
+        for point in points.iter().rev() {
+            is_reached = is_reached && self.push_spot(*point, path);
+        }
+        is_reached
     }
 
     /// The path to the root of a mount, or nothing where it is reached no longer.
     pub fn target(&self, mount: &Mount) -> Result<Option<String>, AllocError> {
         let mut path = Draft::new(self.alloc);
-        if !self.push_steps_to(mount, &mut path)? {
-            return Ok(None);
-        }
+        let is_reached = self.push_steps_to(mount, &mut path);
         path.push_if_empty("/");
-        Ok(Some(path.end()?))
+        let path = path.end()?;
+        Ok(if is_reached { Some(path) } else { None })
     }
 
     // Whether an object is a directory.
@@ -109,32 +111,29 @@ impl<'a> Places<'a> {
     }
 
     // Appends the path from a mount's root to a directory that it shows, and says whether there is one.
-    fn push_spot(&self, at: Location, path: &mut Draft) -> Result<bool, AllocError> {
-        match self.world.spot_of(at)? {
-            Spot::Gone => Ok(false),
-            Spot::Reached(names) => {
+    fn push_spot(&self, at: Location, path: &mut Draft) -> bool {
+        match self.world.spot_of(at) {
+            Ok(Spot::Gone) => false,
+            Ok(Spot::Reached(names)) => {
                 push_steps(path, &names);
-                Ok(true)
+                true
+            }
+            Err(_) => {
+                path.fail();
+                false
             }
         }
     }
 
-    // Appends the path from a mount's root to an object that it shows, and says whether there is one.
-    fn push_steps_on(
-        &self,
-        mount: &Mount,
-        at: Location,
-        path: &mut Draft,
-    ) -> Result<bool, AllocError> {
+    // Appends the path of a place, and says whether it is still reached.
+    fn push_path(&self, mount: &Mount, at: Location, path: &mut Draft) -> bool {
+        if !self.push_steps_to(mount, path) {
+            return false;
+        }
         if self.is_directory(at) {
             return self.push_spot(at, path);
         }
-        Ok(push_path_to(self.alloc, self.world, mount.root, at.node, path))
-    }
-
-    // Appends the path of a place, and says whether it is still reached.
-    fn push_path(&self, mount: &Mount, at: Location, path: &mut Draft) -> Result<bool, AllocError> {
-        Ok(self.push_steps_to(mount, path)? && self.push_steps_on(mount, at, path)?)
+        push_path_to(self.alloc, self.world, mount.root, at.node, path)
     }
 
     /// Where a root, a working directory or an open file is.
@@ -146,13 +145,13 @@ impl<'a> Places<'a> {
             return Ok(Place::Gone);
         };
         let mut path = Draft::new(self.alloc);
-        if !self.push_path(&mount, at, &mut path)? {
-            return Ok(Place::Gone);
-        }
+        let is_reached = self.push_path(&mount, at, &mut path);
         path.push_if_empty("/");
-        Ok(Place::At {
-            mount: place,
-            path: path.end()?,
+        let path = path.end()?;
+        Ok(if is_reached {
+            Place::At { mount: place, path }
+        } else {
+            Place::Gone
         })
     }
 

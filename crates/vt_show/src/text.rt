@@ -1,5 +1,5 @@
 //! A world as text.
-use crate::branches::{Branch, branches};
+use crate::branches::Branches;
 use crate::columns::Table;
 use crate::picture::{MountShown, NamespaceShown, OpenShown, Picture, TaskShown, mount_of};
 use crate::places::Place;
@@ -88,27 +88,16 @@ pub fn push_task(text: &mut Draft, shown: &TaskShown<'_>) {
     }
 }
 
-// Adds the path of a mount behind its branch.
-fn add_target(table: &mut Table, branch: &Branch<'_>) {
-    branch.push(&mut table.text);
-    table.add(branch.mount.path());
-}
-
-// Adds what a mount shows: its filesystem, and where in it.
-fn add_source(table: &mut Table, mount: &MountShown) {
+// Adds the row of the mount that was laid out last.
+fn add_mount(table: &mut Table, branches: &Branches<'_>, mount: &MountShown) {
+    names::push_mount(&mut table.text, mount.place);
+    table.end_word();
+    branches.push(&mut table.text);
+    table.add(mount.path());
     names::push_filesystem(&mut table.text, mount.is_overlay, mount.filesystem);
     names::push_bracketed(&mut table.text, &mount.root);
     table.end_word();
     table.add(names::filesystem_type(mount.is_overlay));
-}
-
-// Adds the row of a mount.
-fn add_mount(table: &mut Table, branch: &Branch<'_>) {
-    let mount = branch.mount;
-    names::push_mount(&mut table.text, mount.place);
-    table.end_word();
-    add_target(table, branch);
-    add_source(table, mount);
     names::push_flags(&mut table.text, mount.mount.flags);
     table.end_word();
     names::push_kind(&mut table.text, mount.kind);
@@ -116,23 +105,26 @@ fn add_mount(table: &mut Table, branch: &Branch<'_>) {
     table.end_row();
 }
 
-// Appends a table of the mounts of a namespace.
-fn push_mounts(alloc: Global, text: &mut Draft, branches: &[Branch<'_>]) {
-    let mut table = Table::new(alloc, &MOUNT_HEADS);
-    for branch in branches {
-        add_mount(&mut table, branch);
+// Adds the rows of the mounts of a namespace.
+fn add_branches(table: &mut Table, branches: &mut Branches<'_>, namespace: &NamespaceShown) {
+    for _ in &namespace.mounts {
+        if let Some(mount) = branches.next() {
+            add_mount(table, branches, mount);
+        }
     }
-    table.write(text);
+    if branches.failed {
+        table.text.fail();
+    }
 }
 
-// Appends a namespace.
+// Appends a namespace, with a table of its mounts.
 fn push_namespace(alloc: Global, text: &mut Draft, namespace: &NamespaceShown) {
     text.push("\nNAMESPACE ");
     names::push_count(text, namespace.number);
-    match branches(alloc, &namespace.mounts) {
-        Ok(branches) => push_mounts(alloc, text, &branches),
-        Err(_) => text.fail(),
-    }
+    let mut table = Table::new(alloc, &MOUNT_HEADS);
+    let mut branches = Branches::new(alloc, &namespace.mounts);
+    add_branches(&mut table, &mut branches, namespace);
+    table.write(text);
 }
 
 // Appends the directory of a layer, behind its place from the top.
@@ -169,9 +161,10 @@ fn push_overlay(text: &mut Draft, picture: &Picture<'_>, shown: &MountShown, ove
 // Appends the overlays that mounts show.
 fn push_overlays(text: &mut Draft, picture: &Picture<'_>) {
     for id in &picture.filesystems {
-        let overlay = picture.world.store().overlay(*id);
-        if let (Some(overlay), Some(shown)) = (overlay, mount_of(&picture.namespaces, *id)) {
-            push_overlay(text, picture, shown, overlay);
+        if let Some(overlay) = picture.world.store().overlay(*id) {
+            if let Some(shown) = mount_of(&picture.namespaces, *id) {
+                push_overlay(text, picture, shown, overlay);
+            }
         }
     }
 }

@@ -5,7 +5,7 @@ use crate::picture::{Picture, mount_of};
 use crate::tree_walk::{Found, TreeWalk};
 use std::alloc::Global;
 use vt_check::draft::Draft;
-use vt_location::{FilesystemId, NodeRef};
+use vt_location::FilesystemId;
 use vt_node::{Kind, Node};
 use vt_ns::World;
 
@@ -38,32 +38,19 @@ fn add_object(table: &mut Table, found: &Found, node: &Node, is_overlay: bool) {
     table.end_row();
 }
 
-// Adds an object of a tree.
-fn add_found(table: &mut Table, walk: &TreeWalk<'_>, found: &Found) {
-    if let Some(node) = walk.node(found) {
-        add_object(table, found, node, walk.is_overlay);
-    }
-}
-
 // Adds the objects of a tree.
 fn add_objects(table: &mut Table, walk: &mut TreeWalk<'_>) {
     for _ in 0..u64::MAX {
         let Some(found) = walk.next() else {
             break;
         };
-        add_found(table, walk, &found);
+        if let Some(node) = walk.node(&found) {
+            add_object(table, &found, node, walk.is_overlay);
+        }
     }
     if walk.failed {
         table.text.fail();
     }
-}
-
-// Appends the tree under a root.
-fn push_tree(alloc: Global, world: &World, root: NodeRef, text: &mut Draft) {
-    let mut table = Table::new(alloc, &HEADS);
-    let mut walk = TreeWalk::new(alloc, world, root);
-    add_objects(&mut table, &mut walk);
-    table.write(text);
 }
 
 // Appends a filesystem of this number.
@@ -77,7 +64,10 @@ fn push_filesystem(
     if let Some(root) = world.store().root(id) {
         text.push("\nFILESYSTEM ");
         names::push_filesystem(text, world.store().is_overlay(id), number);
-        push_tree(alloc, world, root, text);
+        let mut table = Table::new(alloc, &HEADS);
+        let mut walk = TreeWalk::new(alloc, world, root);
+        add_objects(&mut table, &mut walk);
+        table.write(text);
     }
 }
 
