@@ -106,16 +106,12 @@ fn of_write(call: &WriteCall) -> Paths<'_> {
 
 fn of_descriptor(call: &DescriptorCall) -> Paths<'_> {
     match call {
-        DescriptorCall::Open { path, creation, .. } => one(path, opened(*creation)),
+        DescriptorCall::Open { path, creation, .. } => match creation {
+            Creation::Never => one(path, Last::Object),
+            Creation::OrCreate(_) => one(path, Last::File),
+            Creation::Exclusive(_) => one(path, Last::Name),
+        },
         DescriptorCall::Close { .. } => NONE,
-    }
-}
-
-fn opened(creation: Creation) -> Last {
-    match creation {
-        Creation::Never => Last::Object,
-        Creation::OrCreate(_) => Last::File,
-        Creation::Exclusive(_) => Last::Name,
     }
 }
 

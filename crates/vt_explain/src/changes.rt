@@ -58,17 +58,12 @@ fn push_why_it_comes(text: &mut Draft, sides: Sides<'_>, new: &MountShown) {
     }
 }
 
-// Whether a call is to unmount.
-fn unmounts(call: CallKind) -> bool {
-    call == CallKind::Umount || call == CallKind::Lazy
-}
-
 // Why a mount goes, where its own namespace, the call or its aim tells it, or nothing.
 fn why_it_goes(sides: Sides<'_>, old: &MountShown) -> &'static str {
     if !has_namespace(sides.after, old.mount.namespace) {
         return "its namespace ends";
     }
-    if !unmounts(sides.call) {
+    if sides.call != CallKind::Umount && sides.call != CallKind::Lazy {
         return "its mount point is removed";
     }
     if Some(old.mount.number) == sides.aim {
@@ -136,13 +131,6 @@ fn end_mount(table: &mut Table) {
     table.end_row();
 }
 
-// Adds a mount that comes.
-fn add_new(table: &mut Table, sides: Sides<'_>, new: &MountShown) {
-    add_mount(table, "+", new);
-    push_why_it_comes(&mut table.text, sides, new);
-    end_mount(table);
-}
-
 // Adds a mount that was there before, if it goes.
 fn add_old(table: &mut Table, sides: Sides<'_>, old: &MountShown) {
     if find(sides.after, old.mount.number).is_none() {
@@ -152,20 +140,20 @@ fn add_old(table: &mut Table, sides: Sides<'_>, old: &MountShown) {
     }
 }
 
-// Adds a mount that is there after the call, if it has changed.
-fn add_changed(table: &mut Table, old: &MountShown, new: &MountShown) {
-    if old.mount != new.mount {
-        add_mount(table, "~", new);
-        push_what_it_was(table, old, new);
-        end_mount(table);
-    }
-}
-
 // Adds a mount that is there after the call, if it came or has changed.
 fn add_kept(table: &mut Table, sides: Sides<'_>, new: &MountShown) {
     match find(sides.before, new.mount.number) {
-        Some(old) => add_changed(table, old, new),
-        None => add_new(table, sides, new),
+        Some(old) if old.mount == new.mount => {}
+        Some(old) => {
+            add_mount(table, "~", new);
+            push_what_it_was(table, old, new);
+            end_mount(table);
+        }
+        None => {
+            add_mount(table, "+", new);
+            push_why_it_comes(&mut table.text, sides, new);
+            end_mount(table);
+        }
     }
 }
 

@@ -93,12 +93,6 @@ impl Earlier {
         }
     }
 
-    // Answers a line, and records what it opens or mounts.
-    fn record_line(&mut self, version: Version, alloc: Global, kernel: &mut Kernel, text: &[u8]) {
-        answer_told(version, alloc, kernel, text, self);
-        self.lines = self.lines.saturating_add(1);
-    }
-
     // Answers the lines of a script, and records what they open and mount.
     fn record_lines(
         &mut self,
@@ -112,7 +106,8 @@ impl Earlier {
             let Some((text, after)) = first_line(rest) else {
                 return;
             };
-            self.record_line(version, alloc, kernel, text);
+            answer_told(version, alloc, kernel, text, self);
+            self.lines = self.lines.saturating_add(1);
             rest = after;
         }
     }

@@ -89,16 +89,6 @@ fn push_answer(asked: Asked<'_>, outcome: &Result<Answer, Deny>, text: &mut Draf
     drop(sink);
 }
 
-// Appends the rule that refuses a line, as text.
-fn push_rule_text(text: &mut Draft, rule: Rule) {
-    let page = page_of(rule);
-    text.push("  rule         ");
-    text.push(page.meaning);
-    text.push("\n  manual       ");
-    text.push(page.manual);
-    text.push("\n");
-}
-
 // Appends the line, its answer, the rule that refuses it, and the later ones, as text.
 fn push_head_text(
     asked: Asked<'_>,
@@ -114,7 +104,12 @@ fn push_head_text(
     push_answer(asked, outcome, text);
     text.push("\n");
     if let Err(deny) = outcome {
-        push_rule_text(text, deny.rule);
+        let page = page_of(deny.rule);
+        text.push("  rule         ");
+        text.push(page.meaning);
+        text.push("\n  manual       ");
+        text.push(page.manual);
+        text.push("\n");
     }
     if !later.is_empty() {
         text.push("  also         ");
@@ -130,15 +125,6 @@ fn names_of(alloc: Global, rules: &[Rule]) -> Result<Value, AllocError> {
         names.push_text(rule.name());
     }
     names.end()
-}
-
-// Adds the rule that refuses a line, and the later ones.
-fn put_rules(object: &mut Object, rule: Rule, later: Result<Value, AllocError>) {
-    let page = page_of(rule);
-    object.put_text("rule", rule.name());
-    object.put_text("meaning", page.meaning);
-    object.put_text("manual", page.manual);
-    object.put("also", later);
 }
 
 // Appends the line, its answer, the rule that refuses it, and the later ones, as an object.
@@ -157,12 +143,15 @@ fn push_head_object(
     object.put_draft("answer", answer);
     match outcome {
         Ok(_) => object.put("rule", Ok(Value::Null)),
-        Err(deny) => put_rules(&mut object, deny.rule, names_of(asked.alloc, later)),
+        Err(deny) => {
+            let page = page_of(deny.rule);
+            object.put_text("rule", deny.rule.name());
+            object.put_text("meaning", page.meaning);
+            object.put_text("manual", page.manual);
+            object.put("also", names_of(asked.alloc, later));
+        }
     }
-    match object.line() {
-        Ok(line) => text.push(line.as_str()),
-        Err(_) => text.fail(),
-    }
+    object.push_line(text);
 }
 
 // Appends the line, its answer, the rule that refuses it, and the later ones.
@@ -170,17 +159,6 @@ fn push_head(asked: Asked<'_>, outcome: &Result<Answer, Deny>, later: &[Rule], t
     match asked.format {
         Format::Text => push_head_text(asked, outcome, later, text),
         Format::Json => push_head_object(asked, outcome, later, text),
-    }
-}
-
-// Appends who calls.
-fn push_caller(asked: Asked<'_>, shown: &TaskShown<'_>, text: &mut Draft) {
-    match asked.format {
-        Format::Text => {
-            text.push("\n");
-            text::push_task(text, shown);
-        }
-        Format::Json => json::push_task(asked.alloc, text, shown),
     }
 }
 
@@ -219,7 +197,13 @@ impl Before {
     fn tell_caller(&mut self, asked: Asked<'_>, tasks: &[TaskShown<'_>], name: &TaskName) {
         for shown in tasks {
             if shown.task.name == *name {
-                push_caller(asked, shown, &mut self.text);
+                match asked.format {
+                    Format::Text => {
+                        self.text.push("\n");
+                        text::push_task(&mut self.text, shown);
+                    }
+                    Format::Json => json::push_task(asked.alloc, &mut self.text, shown),
+                }
             }
         }
     }
@@ -297,42 +281,6 @@ impl Before {
     }
 }
 
-// Appends who holds what is busy where a path ends.
-fn push_held(
-    asked: Asked<'_>,
-    look: &Look<'_>,
-    call: CallKind,
-    end: Option<Location>,
-    text: &mut Draft,
-) {
-    if let Some(end) = end {
-        let mut section = Section::new(asked.alloc, &holders::HEADS);
-        add_holders(look, &mut section, call, end);
-        section.write(asked.format, b"", text);
-    }
-}
-
-// Appends which overlays lock an object: that where a path ends, or else the directory in which a name is missing.
-fn push_locks(asked: Asked<'_>, look: &Look<'_>, walked: Walked, text: &mut Draft) {
-    let mut section = Section::new(asked.alloc, &locks::HEADS);
-    let locked = Locked {
-        alloc: asked.alloc,
-        look,
-        at: walked.end.unwrap_or(walked.directory),
-    };
-    add_locks(&locked, &mut section);
-    section.write(asked.format, b"", text);
-}
-
-// Appends who mounted the overlay of an object.
-fn push_mounter(asked: Asked<'_>, look: &Look<'_>, at: Option<Location>, text: &mut Draft) {
-    if let Some(at) = at {
-        let mut section = Section::new(asked.alloc, &mounters::HEADS);
-        add_mounter(look, &mut section, at);
-        section.write(asked.format, b"", text);
-    }
-}
-
 // A call that is refused by a rule of which more is told than where its paths lead.
 #[derive(Clone, Copy)]
 struct Refusal<'a> {
@@ -344,7 +292,7 @@ struct Refusal<'a> {
     namespace: Option<NamespaceId>,
 }
 
-// Appends what is told of a path of a refused call.
+// Appends what is told of a path of a refused call: who holds, locks or mounted what is in the way where it leads.
 fn push_of_path(
     asked: Asked<'_>,
     refusal: Refusal<'_>,
@@ -355,12 +303,27 @@ fn push_of_path(
     let Some(walked) = walked else {
         return;
     };
+    let heads = match refusal.rule {
+        Rule::L1 => &locks::HEADS,
+        Rule::W5 | Rule::B1 => &mounters::HEADS,
+        _ => &holders::HEADS,
+    };
+    let mut section = Section::new(asked.alloc, heads);
     match refusal.rule {
-        Rule::L1 => push_locks(asked, look, walked, text),
-        Rule::W5 => push_mounter(asked, look, walked.stopped_by(Rule::W5), text),
-        Rule::B1 => push_mounter(asked, look, walked.end, text),
-        _ => push_held(asked, look, refusal.call, walked.end, text),
+        Rule::L1 => {
+            let locked = Locked {
+                alloc: asked.alloc,
+                look,
+                // Where the path leads nowhere, the directory in which a name is missing.
+                at: walked.end.unwrap_or(walked.directory),
+            };
+            add_locks(&locked, &mut section);
+        }
+        Rule::W5 => add_mounter(look, &mut section, walked.stopped_by(Rule::W5)),
+        Rule::B1 => add_mounter(look, &mut section, walked.end),
+        _ => add_holders(look, &mut section, refusal.call, walked.end),
     }
+    section.write(asked.format, b"", text);
 }
 
 // Appends what is told of the paths of a refused call.
@@ -389,18 +352,13 @@ fn push_of_paths(
     }
 }
 
-// Appends what is told of a refused call, by the places of mounts.
-fn push_refused_at(asked: Asked<'_>, refusal: Refusal<'_>, places: &Places<'_>, text: &mut Draft) {
-    let earlier = earlier_lines(asked.version, asked.alloc, asked.line.before);
-    push_of_paths(asked, refusal, places, &earlier, text);
-    drop(earlier);
-}
-
 // Appends what is told of a refused call.
 fn push_refused(asked: Asked<'_>, refusal: Refusal<'_>, text: &mut Draft) {
     match Places::new(asked.alloc, refusal.world) {
         Ok(places) => {
-            push_refused_at(asked, refusal, &places, text);
+            let earlier = earlier_lines(asked.version, asked.alloc, asked.line.before);
+            push_of_paths(asked, refusal, &places, &earlier, text);
+            drop(earlier);
             drop(places);
         }
         Err(_) => text.fail(),

@@ -43,24 +43,21 @@ pub enum Held {
     File(u8, Access),
 }
 
-// Appends an open file of a task: its number, its access, and the line that opened it.
-fn push_file(look: &Look<'_>, text: &mut Draft, task: &Task, number: u8, access: Access) {
-    text.push("open ");
-    text.push_number(u64::from(number));
-    text.push(" ");
-    text.push(names::access(access));
-    if let Some(line) = look.earlier.line_of(&task.name, number, look.line) {
-        text.push(", line ");
-        text.push_number(line);
-    }
-}
-
-/// Appends what a task has on a mount.
+/// Appends what a task has on a mount; of an open file its number, its access, and the line that opened it.
 pub fn push_held(look: &Look<'_>, text: &mut Draft, task: &Task, held: Held) {
     match held {
         Held::Root => text.push("root"),
         Held::Directory => text.push("directory"),
-        Held::File(number, access) => push_file(look, text, task, number, access),
+        Held::File(number, access) => {
+            text.push("open ");
+            text.push_number(u64::from(number));
+            text.push(" ");
+            text.push(names::access(access));
+            if let Some(line) = look.earlier.line_of(&task.name, number, look.line) {
+                text.push(", line ");
+                text.push_number(line);
+            }
+        }
     }
 }
 
@@ -107,22 +104,12 @@ fn add_tasks(look: &Look<'_>, table: &mut Table, busy: &MountShown) {
     }
 }
 
-// Whether a mount keeps what it stands on busy.
-fn counts(look: &Look<'_>, mount: &MountShown) -> bool {
-    look.namespace.is_none() || look.namespace == mount.mount.namespace
-}
-
-// Begins the row of a mount that stands on what is busy: a mount, or else a name.
-fn push_busy(text: &mut Draft, busy: Option<&MountShown>) {
-    match busy {
-        Some(busy) => names::push_mount(text, busy.place),
-        None => text.push("the name"),
-    }
-}
-
-// Adds a mount that stands on what is busy.
+// Adds a mount that stands on what is busy: a mount, or else a name.
 fn add_mount(table: &mut Table, busy: Option<&MountShown>, mount: &MountShown) {
-    push_busy(&mut table.text, busy);
+    match busy {
+        Some(busy) => names::push_mount(&mut table.text, busy.place),
+        None => table.text.push("the name"),
+    }
     table.end_word();
     names::push_mount(&mut table.text, mount.place);
     table.end_word();
@@ -135,7 +122,7 @@ fn add_mount(table: &mut Table, busy: Option<&MountShown>, mount: &MountShown) {
 fn add_mounts(look: &Look<'_>, table: &mut Table, busy: Option<&MountShown>, ids: &[MountId]) {
     for id in ids {
         if let Some(mount) = find(look.mounts, *id) {
-            if counts(look, mount) {
+            if look.namespace.is_none() || look.namespace == mount.mount.namespace {
                 add_mount(table, busy, mount);
             }
         }
@@ -200,9 +187,12 @@ fn add_users(look: &Look<'_>, table: &mut Table, busy: &MountShown) {
     add_copies(look, table, busy);
 }
 
-/// Adds who holds what is busy where a path of a call ends: the mount that is unmounted or would become read-only, or a
-/// name at which mounts stand.
-pub fn add_holders(look: &Look<'_>, section: &mut Section, call: CallKind, at: Location) {
+/// Adds who holds what is busy where a path of a call ends, if it leads somewhere: the mount that is unmounted or would
+/// become read-only, or a name at which mounts stand.
+pub fn add_holders(look: &Look<'_>, section: &mut Section, call: CallKind, end: Option<Location>) {
+    let Some(at) = end else {
+        return;
+    };
     let table = &mut section.table;
     match (call, find(look.mounts, at.mount)) {
         (CallKind::Umount, Some(busy)) => add_users(look, table, busy),

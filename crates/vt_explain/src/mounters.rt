@@ -35,14 +35,6 @@ fn push_mounter(look: &Look<'_>, text: &mut Draft, overlay: FilesystemId) {
     }
 }
 
-// Adds the credentials that an overlay was mounted with.
-fn add_credentials(table: &mut Table, cred: &Cred) {
-    names::push_ids(&mut table.text, cred);
-    table.end_word();
-    names::push_capabilities(&mut table.text, cred.caps());
-    table.end_word();
-}
-
 // Adds an object of an overlay, and which of its bits count for the mounter.
 fn add_object(look: &Look<'_>, table: &mut Table, mounter: &Cred, at: Location) {
     look.places.push(at, &mut table.text);
@@ -53,8 +45,11 @@ fn add_object(look: &Look<'_>, table: &mut Table, mounter: &Cred, at: Location) 
     }
 }
 
-/// Adds who mounted the overlay of an object, if it is in one.
-pub fn add_mounter(look: &Look<'_>, section: &mut Section, at: Location) {
+/// Adds who mounted the overlay of an object, if there is an object and it is in one.
+pub fn add_mounter(look: &Look<'_>, section: &mut Section, at: Option<Location>) {
+    let Some(at) = at else {
+        return;
+    };
     let id = at.node.filesystem;
     if let Some(overlay) = look.world.store().overlay(id) {
         let table = &mut section.table;
@@ -62,8 +57,12 @@ pub fn add_mounter(look: &Look<'_>, section: &mut Section, at: Location) {
         table.end_word();
         push_mounter(look, &mut table.text, id);
         table.end_word();
-        add_credentials(table, overlay.mounter());
-        add_object(look, table, overlay.mounter(), at);
+        let mounter = overlay.mounter();
+        names::push_ids(&mut table.text, mounter);
+        table.end_word();
+        names::push_capabilities(&mut table.text, mounter.caps());
+        table.end_word();
+        add_object(look, table, mounter, at);
         table.end_row();
     }
 }

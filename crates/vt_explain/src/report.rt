@@ -55,10 +55,7 @@ impl Section {
         for (column, member) in self.heads.members.iter().enumerate() {
             self.put_word(&mut object, member, words, column);
         }
-        match object.line() {
-            Ok(line) => text.push(line.as_str()),
-            Err(_) => text.fail(),
-        }
+        object.push_line(text);
     }
 
     // Appends rows of these words, each as an object.

@@ -211,11 +211,6 @@ impl<'a> Walk<'a> {
         })
     }
 
-    // The bytes of a word.
-    fn bytes(&self, word: Word) -> &[u8] {
-        self.text.get(word.begin..word.end).unwrap_or_default()
-    }
-
     // Adds a word as it stands in the path.
     fn add_word(&mut self, word: Word) {
         let bytes = self.text.get(word.begin..word.end).unwrap_or_default();
@@ -253,7 +248,8 @@ impl<'a> Walk<'a> {
         if self.here.mount == to.mount {
             return;
         }
-        let (what, mount) = if self.bytes(word) == b"..".as_slice() {
+        let bytes = self.text.get(word.begin..word.end).unwrap_or_default();
+        let (what, mount) = if bytes == b"..".as_slice() {
             ("leaves ", self.here.mount)
         } else {
             ("enters ", to.mount)
@@ -339,19 +335,14 @@ impl<'a> Walk<'a> {
         }
     }
 
-    // Where the path up to a word leads.
-    fn reached(&self, word: Word) -> Result<Option<Location>, Deny> {
-        let front = self.text.get(..word.end).unwrap_or_default();
-        reached(self.view, front, word.last)
-    }
-
     // Walks the next word.
     fn step(&mut self) -> Turn {
         let Some(word) = self.next_word() else {
             return Turn::End(Some(self.here));
         };
         self.directory = self.here;
-        match self.reached(word) {
+        let front = self.text.get(..word.end).unwrap_or_default();
+        match reached(self.view, front, word.last) {
             Ok(Some(at)) => self.go_on(word, at),
             Ok(None) => {
                 self.add_word(word);
@@ -362,16 +353,6 @@ impl<'a> Walk<'a> {
                 self.stop_by(deny.rule)
             }
         }
-    }
-
-    // Walks the words, and returns where they lead.
-    fn walk(&mut self) -> Option<Location> {
-        for _ in 0..u64::MAX {
-            if let Turn::End(end) = self.step() {
-                return end;
-            }
-        }
-        None
     }
 
     // The root of the topmost mount over a destination.
@@ -400,12 +381,14 @@ impl<'a> Walk<'a> {
     }
 
     // Walks the path from its start, and returns where it ends if it leads somewhere.
-    fn walk_all(&mut self) -> Option<Location> {
+    fn walk(&mut self) -> Option<Location> {
         self.add_start();
-        match self.walk() {
-            Some(at) => Some(self.over(at)),
-            None => None,
+        for _ in 0..u64::MAX {
+            if let Turn::End(end) = self.step() {
+                return Some(self.over(end?));
+            }
         }
+        None
     }
 }
 
@@ -421,7 +404,7 @@ pub fn push_walk(
         return None;
     }
     let mut walk = Walk::new(view, asked);
-    let end = walk.walk_all();
+    let end = walk.walk();
     let walked = Walked {
         end,
         directory: walk.directory,
