@@ -17,10 +17,8 @@ use Rattle.vt_laws_trees.specs.Trees.{IsFileTree}
 use Rattle.vt_laws_trees.proofs.trees.ChangesKeepTrees.{changes_keep_numbers, changes_keep_trees}
 use Rattle.vt_laws_trees.proofs.trees.TreesOfWorlds.{numbered}
 use Rattle.vt_laws_worlds.specs.Worlds.Kept.{IsPlain}
-use Rattle.vt_laws_worlds.proofs.Plain.{plain_numbered}
 use Rattle.vt_laws_worlds.proofs.Raised.{FilesBy, same_files}
 use Rattle.vt_laws_worlds.proofs.RaisedInUse.{namespace_if, number_if, numbers_raised_are, raising_numbers_keeps_world, task_if}
-use Rattle.vt_laws_worlds.proofs.worlds.SeenTrees.{change_mounts}
 use Rattle.vt_laws_worlds.proofs.settling.SettledTasks.{settling_leaves_a_world}
 use Rattle.vt_laws_later_calls.proofs.Changed.{files_changed, files_other}
 use Rattle.vt_laws_later_calls.proofs.Granted.{HasSucceeded}
@@ -28,6 +26,8 @@ use Rattle.vt_laws_later_calls.proofs.OpenedNew.{given_of}
 use Rattle.vt_laws_later_calls.proofs.Stays.{spent_unsettled}
 use Rattle.vt_laws_later_calls.proofs.WaysChanges.{RightsStay, TreeStays}
 use Rattle.vt_laws_later_calls.proofs.WaysStay.{WorldStays, node_in, tree_in}
+use Rattle.vt_laws_mounts.proofs.mounts.MountsLeft.{mounts-with_change}
+use Rattle.vt_laws_trees.proofs.runs.answered.PlainStays.{plain_numbered}
 
 -- Filesystems of which each was changed, but not its number or root
 mapped_root : (change : Filesystem ℕ → Filesystem ℕ) → ((f : Filesystem ℕ) → (change f).number ≡ f.number)
@@ -175,7 +175,7 @@ module _ {world : World ℕ} {fresh : Fresh ℕ} {name : TaskName} {call : Call}
     pub later_mounts : later.mounts ≡ world.mounts
     later_mounts = ap (λ (w : World ℕ). w.mounts) (it.did.left) ∙ ap (λ (w : World ℕ). w.mounts) goes
         ∙ all_let_go_mounts (with_change nat_eq from world location change) (inodes_lost world location change)
-        ∙ change_mounts from world it.plain location change
+        ∙ mounts-with_change world from location change
 
     later_root : (number : ℕ) → (tree_in later number).root
         ≡ (tree_in (with_change nat_eq from world location change) number).root

@@ -7,8 +7,8 @@ use Rattle.vt_spec.specs.declared.errors.Rule.TheVariants.{B1, C1, E5, S2}
 use Rattle.vt_spec.proofs.Tables.{list_rules, read_rules, readlink_rules}
 use Rattle.vt_spec.proofs.Walk.{directory_walk, object_walk, symlink_walk}
 use Rattle.vt_laws_worlds.specs.Worlds.Kept.{IsPlain}
-use Rattle.vt_laws_worlds.proofs.Plain.{plain_numbered}
 use Rattle.vt_laws_later_calls.specs.LaterPaths.{reads_all}
+use Rattle.vt_laws_trees.proofs.runs.answered.PlainStays.{plain_numbered}
 use Rattle.vt_spec.specs.declared.errors.Deny.{Deny}
 
 -- Who may read everything

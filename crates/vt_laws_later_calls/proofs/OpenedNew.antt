@@ -1,13 +1,13 @@
 -- The descriptor of an open is on the file that is there, or with creat on a new one, which is empty.
 use Rattle.std.proofs.Common.{arith, ◌≡◌, refl, sym, ap, subst, ◌∙◌, true≢false, ℕ, nat_eq, eq-eqb, true, false, cond, List, [], take, drop, Some, None, Ok, find, Bool}
-use Rattle.vt_spec.proofs.Common.{Access, Answer, Bytes, Call, Creation, Descriptor, Exclusive, FileTree, Fresh, Here, IsWorld, Location, Looks, Make, NoCreation, Node, OpenFile, Opened, OrCreate, Outcome, Permit, Place, Serves, Task, TaskName, ToOpen, World, apply, bytes_in, changed, common_steps, descriptor_numbered, directory_used, evens, file_walk, files_at, filesystem_numbered, free_number, is_directory_node, is_special, is_within_limits, looks_of, mount_at, mount_in, name_of, new_file, new_walk, node_at, node_with_entry, none_is_not, object_walk, odds, open_new_permit, opened, opens_for_reading, opens_for_writing, policy, raised_task, same_Some, same_name, task_called, with_descriptor, with_inode, with_new_inode, with_task}
+use Rattle.vt_spec.proofs.Common.{Access, Answer, Bytes, Call, Creation, Descriptor, Exclusive, FileTree, Fresh, Here, IsWorld, Location, Looks, Make, NoCreation, Node, OpenFile, Opened, OrCreate, Outcome, Permit, Place, Serves, Task, TaskName, ToOpen, World, apply, bytes_in, changed, common_steps, descriptor_numbered, directory_used, evens, file_walk, files_at, filesystem_numbered, free_number, is_directory_node, is_special, is_within_limits, looks_of, mount_at, mount_in, name_of, new_file, new_walk, node_at, node_with_entry, none_is_not, object_walk, odds, open_new_permit, opened, opens_for_reading, opens_for_writing, policy, raised_task, same_Some, same_name, task_called, tasks-with_change, with_descriptor, with_inode, with_new_inode, with_task}
 use Rattle.vt_laws_mounts.proofs.letting_go.Lists.{among_from_list_all}
 use Rattle.vt_laws_trees.specs.Trees.Calls.{mounts_overlay}
 use Rattle.vt_laws_trees.specs.Trees.Limits.{names_few_groups}
 use Rattle.vt_laws_trees.proofs.trees.ChangesNodes.{elsewhere}
 use Rattle.vt_laws_worlds.specs.Worlds.Kept.{IsPlain}
 use Rattle.vt_laws_worlds.proofs.worlds.CallsKept.{name_found}
-use Rattle.vt_laws_worlds.proofs.worlds.SeenTrees.{change_mounts, change_tasks, unused_inode}
+use Rattle.vt_laws_worlds.proofs.worlds.SeenTrees.{unused_inode}
 use Rattle.vt_laws_worlds.specs.Permits.Left.{IsGiven}
 use Rattle.vt_laws_worlds.specs.Permits.Sees.{MayBeMade, SeesTo}
 use Rattle.vt_laws_worlds.proofs.permits.sees.SeesTasks.{given_permits_are_seen_to}
@@ -19,6 +19,7 @@ use Rattle.vt_laws_later_calls.proofs.Stays.{still_called, still_seen}
 use Rattle.vt_laws_later_calls.proofs.Through.{descriptor_located, pread_of, raised_descriptors}
 use Rattle.vt_laws_trees.proofs.trees.TreesTasks.{called_there}
 use Rattle.vt_laws_later_calls.proofs.Ways.{same_end}
+use Rattle.vt_laws_mounts.proofs.mounts.MountsLeft.{mounts-with_change}
 use Rattle.vt_laws_rules.specs.Granted.{IsGranted}
 use Rattle.vt_laws_rules.specs.Granted.IsGranted.{creates, creates_exclusively, opens_existing}
 
@@ -138,8 +139,8 @@ given_of world fresh name call answer serves other few did = record {
 }
 
 -- what a permit to open a new file leaves at it
-module _ (world : World ℕ) (fresh : Fresh ℕ) (is : IsWorld nat_eq world) (plain : IsPlain world)
-    (serves : Serves nat_eq world fresh) (directory : Location ℕ) (name : List ℕ) (node : Node ℕ)
+module _ {world : World ℕ} {fresh : Fresh ℕ} (is : IsWorld nat_eq world) (plain : IsPlain world)
+    (serves : Serves nat_eq world fresh) {directory : Location ℕ} {name : List ℕ} {node : Node ℕ}
     (made : MayBeMade world directory name node) where
   abbrev pub made_world : World ℕ
   made_world = with_new_inode nat_eq fresh world directory name node
@@ -148,12 +149,12 @@ module _ (world : World ℕ) (fresh : Fresh ℕ) (is : IsWorld nat_eq world) (pl
   made_at = record { mount = directory.mount; node = fresh 0 }
 
   pub made_tasks : made_world.tasks ≡ world.tasks
-  made_tasks = change_tasks (odds fresh) world plain directory (Make directory.node name (evens fresh 0) node)
+  made_tasks = tasks-with_change (odds fresh) world directory (Make directory.node name (evens fresh 0) node)
 
   pub made_seen : node_at nat_eq made_world made_at ≡ Some node
   made_seen = ap (λ mounts. (filesystem_numbered nat_eq made_world
       (mount_in nat_eq mounts directory.mount).filesystem).files.tree.node (fresh 0))
-      (change_mounts (odds fresh) world plain directory (Make directory.node name (evens fresh 0) node))
+      (mounts-with_change world (odds fresh) directory (Make directory.node name (evens fresh 0) node))
       ∙ ap (λ (f : FileTree ℕ). f.tree.node (fresh 0))
       (files_changed (odds fresh) world plain directory (Make directory.node name (evens fresh 0) node)
       (directory_used (files_at nat_eq world directory).tree directory.node made.name_is_free.in_directory))
@@ -175,7 +176,7 @@ module _ {world : World ℕ} {fresh : Fresh ℕ} {name : TaskName} {path : List 
   may = (subst (SeesTo world it.did.task) permit seen_to).0
 
   abbrev base : World ℕ
-  base = made_world world fresh it.is it.plain it.serves place.parent (name_of place.last) (new_file task mode []) may
+  base = made_world it.is it.plain it.serves may
 
   abbrev new_place : Location ℕ
   new_place = record { mount = place.parent.mount; node = fresh 0 }
@@ -184,10 +185,10 @@ module _ {world : World ℕ} {fresh : Fresh ℕ} {name : TaskName} {path : List 
   outcome = ap (apply nat_eq fresh world it.did.task) permit ∙ ap (λ t. opened base t new_place access) task_is
 
   tasks : base.tasks ≡ world.tasks
-  tasks = made_tasks world fresh it.is it.plain it.serves place.parent (name_of place.last) (new_file task mode []) may
+  tasks = made_tasks it.is it.plain it.serves may
 
   seen : node_at nat_eq base new_place ≡ Some (new_file task mode [])
-  seen = made_seen world fresh it.is it.plain it.serves place.parent (name_of place.last) (new_file task mode []) may
+  seen = made_seen it.is it.plain it.serves may
 
   pub opens_new_file : OpensNewFile world fresh name task (OpenFile path access creation) place access mode number
   opens_new_file = (

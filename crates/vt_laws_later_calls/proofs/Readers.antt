@@ -1,7 +1,7 @@
 -- Who looks after a call that changed a tree, and where walks lead for him: for the caller himself, and for each task
 -- that stands where he does and may search everything.
 use Rattle.std.proofs.Common.{arith, ◌≡◌, refl, sym, ap, ◌∙◌, inl, inr, ◌⊎◌, true≢false, ℕ, nat_eq, Bool, true, false, ◌∷◌, length, Option, Some, None, is_some, option_map, ok_or, find, zero, suc, []}
-use Rattle.vt_spec.proofs.Common.{Answer, Call, Change, Dot, DotDot, Fresh, IsWorld, LastWord, Location, Mount, Named, NoWord, Task, TaskName, World, among_from_all, chain, changed, child_at, common_steps, denial, entries_in, entry_named, execute_right, files_at, is_directory_at, is_directory_node, is_special, last_or, looks_of, may, mount_at, name_of, node_allows, node_at, policy, raised_task, root_of, same_name, stands_at, task_called, topmost}
+use Rattle.vt_spec.proofs.Common.{Answer, Call, Change, Dot, DotDot, Fresh, IsWorld, LastWord, Location, Mount, Named, NoWord, Task, TaskName, World, among_from_all, chain, changed, child_at, common_steps, denial, entries_in, entry_named, execute_right, files_at, is_directory_at, is_directory_node, is_special, last_or, looks_of, may, mount_at, name_of, node_allows, node_at, policy, raised_task, root_of, same_name, stands_at, task_called, tasks-with_change, topmost}
 use Rattle.vt_spec.specs.declared.errors.Deny.{Deny}
 use Rattle.vt_spec.specs.declared.errors.Rule.TheVariants.{W4, W6}
 use Rattle.vt_spec.proofs.Walk.{stepped}
@@ -10,7 +10,6 @@ use Rattle.vt_laws_mounts.proofs.mounts.MountsPlaces.{stands_there}
 use Rattle.vt_laws_trees.proofs.trees.TreesOfMounts.{worlds_are_standing}
 use Rattle.vt_laws_worlds.specs.Worlds.Kept.{IsPlain}
 use Rattle.vt_laws_worlds.proofs.worlds.CallsKept.{name_found}
-use Rattle.vt_laws_worlds.proofs.worlds.SeenTrees.{change_tasks}
 use Rattle.vt_laws_later_calls.specs.LaterPaths.{LooksFrom, reads_all}
 use Rattle.vt_laws_later_calls.proofs.AfterChange.{ChangesTree, later_is, node_changed, world_rights, world_stays}
 use Rattle.vt_laws_later_calls.proofs.Granted.{HasSucceeded}
@@ -97,7 +96,7 @@ module _ {world : World ℕ} {fresh : Fresh ℕ} {name : TaskName} {call : Call}
   pub caller : task_called left name ≡ Some (raised_task name it.did.task)
   caller = still_called it name it.did.task
       (ap (λ w. task_called w name) changes.does
-      ∙ ap (find (λ (t : Task ℕ). same_name name t.name)) (change_tasks from world it.plain location change)
+      ∙ ap (find (λ (t : Task ℕ). same_name name t.name)) (tasks-with_change from world location change)
       ∙ it.did.called)
 
   module _ (reader : Task ℕ) (called : task_called left reader.name ≡ Some reader)

@@ -40,7 +40,6 @@ pub mod RemovingFiles
 pub mod Reshaping
 pub mod Retyping
 pub mod SeenLater
-pub mod Standing
 pub mod StandingApart
 pub mod Staying
 pub mod Steps

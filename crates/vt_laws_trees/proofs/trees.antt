@@ -11,6 +11,7 @@ pub mod ChangesOfNames
 pub mod ChangesOfPlace
 pub mod ChangesOfSizes
 pub mod ChangesWithinSizes
+pub mod Lists
 pub mod PlacesReached
 pub mod TreesAbove
 pub mod TreesEntered

@@ -1,18 +1,14 @@
 -- A world of plain filesystems has no overlay of which anything could be asked.
-use Rattle.std.proofs.Common.{arith, ◌≡◌, refl, sym, ap, ◌∙◌, ℕ, nat_eq, Bool, true, false, [], None, true≢false, flat_map, All}
-use Rattle.vt_spec.proofs.Common.{Among, Filesystem, Overlay, OverlayInvariants, World, all_from_among, among_from_all, common_steps, filesystem_numbered, filter_none, is_overlay, list_all, list_all_from_among, list_any, live_upper_and_work, none_from_among, none_from_not_some, of_overlay, overlay_or, overlays}
+use Rattle.std.proofs.Common.{arith, ◌≡◌, sym, ap, ◌∙◌, ℕ, nat_eq, Bool, true, false, [], None, true≢false, flat_map, All}
+use Rattle.vt_spec.proofs.Common.{Among, Filesystem, Overlay, OverlayInvariants, World, all_from_among, among_from_all, common_steps, filter_none, is_overlay, list_all, list_all_from_among, list_any, live_upper_and_work, none_from_among, none_from_not_some, of_overlay, overlay_or, overlays}
 use Rattle.vt_laws_mounts.specs.LettingGo.InUse.{UppersArePlain, has_upper_in}
-use Rattle.vt_laws_trees.proofs.trees.TreesOfWorlds.{numbered_anyhow}
+use Rattle.vt_laws_trees.proofs.runs.answered.PlainStays.{plain_numbered}
 use Rattle.vt_laws_worlds.specs.Worlds.Kept.{IsPlain}
 
 module _ (world : World ℕ) (plain : IsPlain world) where
   pub no_overlay : (filesystem : Filesystem ℕ) → Among filesystem world.filesystems → filesystem.overlay ≡ None
   no_overlay filesystem m = none_from_not_some filesystem.overlay
       (among_from_all (λ f. is_overlay f ≡ false) world.filesystems plain filesystem m)
-
-  pub plain_numbered : (number : ℕ) → (filesystem_numbered nat_eq world number).overlay ≡ None
-  plain_numbered number = none_from_not_some (filesystem_numbered nat_eq world number).overlay
-      (numbered_anyhow (λ f. is_overlay f ≡ false) number world.filesystems plain refl)
 
   pub none_is_overlay : list_any is_overlay world.filesystems ≡ false
   none_is_overlay = none_from_among is_overlay world.filesystems
@@ -29,7 +25,7 @@ module _ (world : World ℕ) (plain : IsPlain world) where
   no_changed_layers = ap (flat_map _) no_overlays
 
   pub plain_overlays : OverlayInvariants nat_eq world
-  plain_overlays = grind (arith, common_steps, true≢false, plain_numbered, of_plain, no_changed_layers)
+  plain_overlays = grind (arith, common_steps, true≢false, plain_numbered world plain, of_plain, no_changed_layers)
 
   pub uppers_plain : UppersArePlain world
   uppers_plain =

@@ -4,6 +4,7 @@ pub mod FewMounts
 pub mod FewMountsLeft
 pub mod FitPermits
 pub mod FitPermitsNamed
+pub mod Ground
 pub mod PermitsFilesystems
 pub mod PermitsNamed
 pub mod PermitsPlaced

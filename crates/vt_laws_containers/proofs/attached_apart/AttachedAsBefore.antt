@@ -10,11 +10,12 @@ use Rattle.vt_laws_containers.proofs.attached_apart.CopiesHear.{copy_ours, made_
 use Rattle.vt_laws_containers.proofs.attached_apart.GroupsApart.{Ours, groups_apart, source_ours}
 use Rattle.vt_laws_containers.proofs.attached_apart.GrownAsBefore.{grown_as_before}
 
-module _ {world : World ℕ} {names : List TaskName} (attaching : AttachesTheirs world names)
-    (fresh : Fresh ℕ) (serves : Serves nat_eq world fresh) (new : Copies ℕ) (origins : List (Mount ℕ))
+module _ {world : World ℕ} {names : List TaskName} {attaching : AttachesTheirs world names} {fresh : Fresh ℕ}
+    (serves : Serves nat_eq world fresh) {new : Copies ℕ} {origins : List (Mount ℕ)}
     (new_groups : (a b : ℕ) → IsNewBy fresh (new.image a b))
     (sources : (o : Mount ℕ) → Among o origins → (g : ℕ) → source_of o.propagation ≡ Some g
-    → Ours attaching.sealing fresh serves g) (shows : ShowTheirs attaching new false origins) where
+    → Ours attaching.sealing fresh serves g)
+    (shows : ShowTheirs attaching new false origins) where
   abbrev IsOurs : ℕ → Type 0
   IsOurs = Ours attaching.sealing fresh serves
 

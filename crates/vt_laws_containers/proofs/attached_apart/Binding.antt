@@ -77,7 +77,7 @@ module _ {world : World ℕ} {names : List TaskName} (sealing : IsSealed world n
   pub bound_as_before : OthersAsBefore world (bound_at nat_eq fresh world from here recursive) names names
   bound_as_before = subst (λ w. OthersAsBefore world w names names)
       (sym (ap (λ w. attach nat_eq w fresh here false origins) (no_new_ones world)))
-      (copies_as_before attaching fresh serves new origins (λ a b. (_, refl)) sources shows)
+      (copies_as_before serves (λ a b. (_, refl)) sources shows)
 
 pub binds_give_no_foothold : BindsGiveNoFoothold
 binds_give_no_foothold world names name source path recursive it fresh serves = by (task_called world name) refl

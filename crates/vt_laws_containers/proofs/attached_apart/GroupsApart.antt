@@ -1,10 +1,10 @@
 -- Where mounts of a sealed set come, in groups that the set hears or in new ones, mounts share no events with others.
 use Rattle.std.proofs.Common.{arith, ◌≡◌, refl, sym, ap, ◌∙◌, ◌⊎◌, inl, inr, ⊎_elim, ℕ, nat_eq, true, List, [], ◌∷◌, ◌++◌, Option, Some, map, not, eqb-true}
-use Rattle.vt_spec.proofs.Common.{Among, Filesystem, Fresh, HasLivingGroups, Mount, Private, Propagation, Serves, Shared, Slave, TaskName, Unbindable, World, among-from_filter, among_from_all, any_among, common_steps, false_from_ne_true, folded, group_of, holds_of, is_member_of, is_own_mount, is_own_namespace, list_all, list_all_from_among, master_of, masters_with, none_is_some, or_cases, other_mounts, own_mounts, receives_events_of, same_Some, share_events, shares_no_events, source_of}
-use Rattle.vt_laws_containers.proofs.types_apart.GroupsApart.{in_group}
+use Rattle.vt_spec.proofs.Common.{Among, Filesystem, Fresh, HasLivingGroups, Mount, Private, Propagation, Serves, Shared, Slave, TaskName, Unbindable, World, among-from_filter, among_from_all, any_among, common_steps, false_from_ne_true, folded, group_of, holds_of, is_member_of, is_own_mount, is_own_namespace, list_all, list_all_from_among, master_of, masters_with, none_is_some, or_cases, other_mounts, own_mounts, receives_events_of, share_events, shares_no_events, source_of}
+use Rattle.vt_laws_containers.proofs.types_apart.GroupsApart.{in_group, master_in}
 use Rattle.vt_laws_trees.specs.Layers.Layers.ChangesUpper.{IsNewBy}
-use Rattle.vt_laws_sealed.proofs.part.groups.EventsApart.{above_lives, members_of}
-use Rattle.vt_laws_sealed.proofs.part.groups.ReceiversAlike.{Living, member_group}
+use Rattle.vt_laws_sealed.proofs.part.groups.EventsApart.{above_lives, member_group, members_of}
+use Rattle.vt_laws_sealed.proofs.part.groups.ReceiversAlike.{Living}
 use Rattle.vt_laws_sealed.proofs.part.seals.ByPart.{IsSealed, apart_if_sealed}
 use Rattle.vt_laws_sealed.proofs.outsiders.OtherMounts.{member_of_heard, not_heard, other_hears_foreign, standing_apart_with}
 use Rattle.vt_laws_sealed.proofs.outsiders.StandingApart.{StandsApart}
@@ -20,14 +20,6 @@ masters_how : (group : ℕ) (made : List (ℕ × Option ℕ)) (master : ℕ → 
 masters_how group [] master = inl refl
 masters_how group (entry ∷ rest) master =
     grind (arith, common_steps, eqb-true, masters_how group rest (masters_with nat_eq master entry))
-
--- the master of a mount in a group is that of the group
-master_in : (world : World ℕ) (kind : Propagation ℕ) (group : ℕ) → group_of kind ≡ Some group
-    → master_of world kind ≡ world.master group
-master_in world (Shared g) group e = ap world.master (same_Some g group e)
-master_in world (Slave g) group e = none_is_some group e
-master_in world Private group e = none_is_some group e
-master_in world Unbindable group e = none_is_some group e
 
 module _ {world : World ℕ} {names : List TaskName} (sealing : IsSealed world names) (fresh : Fresh ℕ)
     (serves : Serves nat_eq world fresh) where

@@ -1,6 +1,6 @@
 -- Where mounts of a sealed set change, and others come that are theirs, others are as they were.
 use Rattle.std.proofs.Common.{arith, ◌≡◌, refl, sym, ap, subst, ◌∙◌, ◌⊎◌, inl, inr, ⊎_elim, ℕ, nat_eq, Bool, true, false, cond, true≢false, List, [], ◌∷◌, ◌++◌, Option, Some, None, filter, find, map, not, ◌||◌, eq-eqb, unwrap_or}
-use Rattle.vt_spec.proofs.Common.{Among, Filesystem, Layer, Location, Mount, Task, TaskName, World, all_locations, among-append, among-append_left, among-append_right, among-filter, among-flat_map, among-from_filter, among-from_flat_map, among-from_map, among-map, among_from_list_all, any_from_among, change_layers, common_steps, holds_of, is_among, is_member_task, is_own_mount, is_own_namespace, layers_of, list_all_from_among, locations, locations_of, members, mount_at, mount_in, no_mount, of_overlay, other_mounts, outsiders, own_mounts, shares_no_events, used_directly, used_filesystems}
+use Rattle.vt_spec.proofs.Common.{Among, Filesystem, Layer, Location, Mount, Task, TaskName, World, all_locations, among-append, among-append_left, among-append_right, among-filter, among-from_filter, among-from_map, among-map, among_from_list_all, any_from_among, change_layers, common_steps, holds_of, is_among, is_member_task, is_own_mount, is_own_namespace, layers_of, list_all_from_among, locations, locations_of, members, mount_at, mount_in, no_mount, of_overlay, other_mounts, outsiders, own_mounts, shares_no_events, used_directly, used_filesystems}
 use Rattle.vt_laws_sealed.specs.Part.Seals.{IsApart}
 use Rattle.vt_laws_sealed.proofs.part.part.PartOfPart.{used_directly_used}
 use Rattle.vt_laws_sealed.proofs.part.seals.ByPart.{IsSealed, apart_if_sealed}
@@ -8,6 +8,7 @@ use Rattle.vt_laws_sealed.proofs.outsiders.OtherMounts.{located_there}
 use Rattle.vt_laws_members.proofs.attached.GrownPart.{Grows, as_before, grown_world, is_new, own_how, shows_still}
 use Rattle.vt_laws_containers.proofs.footholds.AsBefore.{GoesOn, OthersAsBefore}
 use Rattle.vt_laws_containers.proofs.scripts.UsedThere.{IsThere}
+use Rattle.vt_laws_trees.proofs.trees.Lists.{among-flat_map_filter}
 
 -- an upper or work layer is a layer
 written_layer : (filesystem : Filesystem ℕ) (number : ℕ) → Among number (change_layers filesystem)
@@ -70,9 +71,7 @@ module _ {world : World ℕ} {names : List TaskName} (sealing : IsSealed world n
 
   placed : (test : Task ℕ → Bool) (l : Location ℕ) → Among l (locations (filter test world.tasks))
       → Among l (all_locations world)
-  placed test l m =
-      let of = among-from_flat_map locations_of (filter test world.tasks) l m in
-      among-flat_map locations_of world.tasks of.0 l (among-from_filter test world.tasks of.0 of.1).0 of.2
+  placed test = among-flat_map_filter locations_of test world.tasks
 
   shown_still : (l : Location ℕ) → Among l (all_locations world)
       → (mount_at nat_eq left l).filesystem ≡ (mount_at nat_eq world l).filesystem

@@ -36,9 +36,8 @@ module _ {world : World ℕ} {names : List TaskName} (sealing : IsSealed world n
       (λ none. absurd none) m
 
   pub mounted_as_before : OthersAsBefore world (mounted nat_eq (odds fresh) world here new_one flags) names names
-  mounted_as_before = copies_as_before (attaching sealing fresh serves here on own new_one number
-      layers named flags) fresh serves (new sealing fresh serves here on own new_one number layers named flags)
-      its_origins (λ a b. (_, refl)) sources (shows sealing fresh serves here on own new_one number layers named flags)
+  mounted_as_before = copies_as_before serves
+      (λ a b. (_, refl)) sources (shows sealing fresh serves here on own new_one number layers named flags)
 
 -- A plain one
 pub plain_mounts_give_no_foothold : PlainMountsGiveNoFoothold

@@ -1,12 +1,13 @@
 -- After the sweep, and with change numbers raised, others are as they were before these.
 use Rattle.std.proofs.Common.{◌≡◌, refl, sym, ap, subst, ◌∙◌, inl, inr, ⊎_elim, ℕ, nat_eq, Bool, true, false, cond, true≢false, List, [], ◌∷◌, ◌++◌, filter, find, flat_map, map, not, arith, unwrap_or}
-use Rattle.vt_spec.proofs.Common.{Among, Filesystem, Location, Mount, Task, TaskName, World, all_locations, among-append, among-append_left, among-append_right, among-flat_map, among-from_filter, among-from_flat_map, among-from_map, among-map, any_from_among, common_steps, holds_of, is_among, is_member_task, is_own_namespace, list_all, list_any, locations, locations_of, members, mount_at, mount_lives, no_mount, not-true, number-only_used, numbers_raised, only_used, or_right, other_mounts, outsiders, own_mounts, raised, raised_if_changed, raised_task, same_name, same_task_name, settled, share_events, used_directly}
+use Rattle.vt_spec.proofs.Common.{Among, Filesystem, Location, Mount, Task, TaskName, World, all_locations, among-append, among-append_left, among-append_right, among-from_filter, among-from_map, among-map, any_from_among, common_steps, holds_of, is_among, is_member_task, is_own_namespace, list_all, list_any, locations, locations_of, members, mount_at, mount_lives, no_mount, not-true, number-only_used, numbers_raised, only_used, or_right, other_mounts, outsiders, own_mounts, raised, raised_if_changed, raised_task, same_name, same_task_name, settled, share_events, used_directly}
 use Rattle.vt_laws_mounts.proofs.letting_go.Lists.{filter-map, filter_less}
 use Rattle.vt_laws_sealed.proofs.outsiders.OthersSwept.{others_swept}
 use Rattle.vt_laws_sealed.proofs.outsiders.Staying.{OthersStayOut}
-use Rattle.vt_laws_members.proofs.changes.letting_go.Ends.{raised_is, raised_members}
-use Rattle.vt_laws_members.proofs.changes.tasks.Rights.{any_mapped}
+use Rattle.vt_laws_members.proofs.changes.letting_go.Ends.{raised_members}
+use Rattle.vt_laws_members.proofs.changes.tasks.Rights.{any_mapped, raised_is}
 use Rattle.vt_laws_containers.proofs.footholds.AsBefore.{GoesOn, OthersAsBefore, changes_alike, layered_as, without_real}
+use Rattle.vt_laws_trees.proofs.trees.Lists.{among-flat_map_filter}
 
 -- what is in the place of one that goes on goes on
 pub going_on : (world : World ℕ) (names : List TaskName) (one other : Filesystem ℕ) → other.number ≡ one.number
@@ -44,9 +45,7 @@ module _ (world left : World ℕ) (names set : List TaskName) (others : OthersAs
 
   placed : (test : Task ℕ → Bool) (location : Location ℕ) → Among location (locations (filter test left.tasks))
       → Among location (all_locations left)
-  placed test location m =
-      let of = among-from_flat_map locations_of (filter test left.tasks) location m in
-      among-flat_map locations_of left.tasks of.0 location (among-from_filter test left.tasks of.0 of.1).0 of.2
+  placed test = among-flat_map_filter locations_of test left.tasks
 
   -- a filesystem that is left is an overlay over the layers that it had
   cut_layered : (w : World ℕ) (b : Bool) (f : Filesystem ℕ) → layered_as (only_used nat_eq w b f) ≡ layered_as f
@@ -98,7 +97,7 @@ module _ (world left : World ℕ) (names set : List TaskName) (others : OthersAs
       }
 
 -- Change numbers
-module _ (world left : World ℕ) (names set : List TaskName) (others : OthersAsBefore world left names set)
+module _ {world left : World ℕ} {names set : List TaskName} (others : OthersAsBefore world left names set)
     (before : World ℕ) (name : TaskName) (changed : List ℕ) (theirs : is_among same_name name names ≡ true) where
   abbrev raised_left : World ℕ
   raised_left = numbers_raised nat_eq before name changed left

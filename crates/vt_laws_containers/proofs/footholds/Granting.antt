@@ -113,8 +113,7 @@ module _ {world : World ℕ} {names : List TaskName} {name : TaskName} {call : C
           let same : grown names name call its_answer ≡ set = ap (grown names name call) (e ∙ sym did.answered) in
           subst (LeavesOthersOut world after_call names) (sym same)
           (leaves_others_out world after_call names set it.is after_is
-          (subst (λ w. OthersAsBefore world w names set) (sym did.left)
-          (raised_as_before world (settled nat_eq done) names set
+          (subst (λ w. OthersAsBefore world w names set) (sym did.left) (raised_as_before
           (permits did.task did.called did.permit did.judged (subst (IsWorld nat_eq) did.left after_is)) world name
           (filesystems_changed nat_eq world did.permit) it.theirs)))
 

@@ -18,7 +18,6 @@ use Rattle.vt_laws_members.proofs.judging.Grounds.{IsTheirs}
 use Rattle.vt_laws_members.specs.Changes.Changes.{IsCallOfTheirs, left}
 use Rattle.vt_laws_members.proofs.changes.letting_go.Callers.{of_set, places_left}
 use Rattle.vt_laws_members.proofs.changes.letting_go.Entering.{Enters, entered_was, enters, mine, stands}
-use Rattle.vt_laws_members.proofs.changes.letting_go.Ends.{raised_is}
 use Rattle.vt_laws_members.proofs.changes.letting_go.Leaving.{is_task, its, its_name, member, new_old, set_from, set_parts, stays}
 use Rattle.vt_laws_containers.specs.PermitFootholds.{DetachingGivesNoFoothold, is_of_detaching}
 use Rattle.vt_laws_containers.proofs.footholds.AsBefore.{OthersAsBefore}
@@ -27,6 +26,7 @@ use Rattle.vt_laws_containers.proofs.footholds.Mirror.{mirror_stands, side, ours
 use Rattle.vt_laws_containers.proofs.footholds.TakenAsBefore.{TakesOwn, taken_as_before, taken_mounts, taken_tasks}
 use Rattle.vt_laws_containers.proofs.footholds.TasksAsBefore.{others_unmoved}
 use Rattle.vt_laws_containers.proofs.footholds.TasksPermits.{Before, kept, permit_out}
+use Rattle.vt_laws_members.proofs.changes.tasks.Rights.{raised_is}
 
 -- In a world that a call leaves a namespace with a mount has a task, and had it before the sweep.
 pub tasked_later : (before left : World ℕ) (name : TaskName) (changed : List ℕ)

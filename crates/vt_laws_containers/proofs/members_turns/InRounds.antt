@@ -28,8 +28,8 @@ record Abreast (kin : List TaskName) (one other : Sched ℕ) (names : List TaskN
       → queue_of other.queues (Someone member) ≡ queue_of one.queues (Someone member)
   within : (member : TaskName) → is_among same_name member names ≡ true → is_among same_name member kin ≡ true
 
-module _ (kin : List TaskName) (one other : Sched ℕ) (names : List TaskName) (at : Abreast kin one other names)
-    (round : Round) (is : IsRound kin other names round) (lone : GoesAlone one names round) where
+module _ {kin : List TaskName} {one other : Sched ℕ} {names : List TaskName} (at : Abreast kin one other names)
+    {round : Round} (is : IsRound kin other names round) (lone : GoesAlone one names round) where
   -- the state after the turns of others
   abbrev later : Sched ℕ
   later = left_by other round.others
@@ -123,11 +123,10 @@ in_rounds : (kin : List TaskName) (rounds : List Round) (one other : Sched ℕ) 
 in_rounds kin [] one other names at are lone = refl
 in_rounds kin (round ∷ rest) one other names at are lone =
     ap (λ r. r ∷ their_replies (turn_of_theirs other round).sched rest)
-    (alike kin one other names at round are.0 lone.0).reply ∙ ap (λ l. (turn_of_theirs one (alone round)).reply ∷ l)
+    (alike at are.0 lone.0).reply ∙ ap (λ l. (turn_of_theirs one (alone round)).reply ∷ l)
     (in_rounds kin rest (turn_of_theirs one (alone round)).sched (turn_of_theirs other round).sched
-    (set_left one names round.name round.fresh) (next kin one other names at round are.0 lone.0)
-    (subst (λ s. AreRounds kin (turn_of_theirs other round).sched s rest)
-    (sets kin one other names at round are.0 lone.0) are.1) lone.1)
+    (set_left one names round.name round.fresh) (next at are.0 lone.0)
+    (subst (λ s. AreRounds kin (turn_of_theirs other round).sched s rest) (sets at are.0 lone.0) are.1) lone.1)
 
 after_rounds : (kin : List TaskName) (rounds : List Round) (one other : Sched ℕ) (names : List TaskName)
     → Abreast kin one other names → AreRounds kin other names rounds → GoAlone one names rounds
@@ -136,10 +135,10 @@ after_rounds : (kin : List TaskName) (rounds : List Round) (one other : Sched �
     (set_after_all one names (map alone rounds))
 after_rounds kin [] one other names at are lone = (refl, at)
 after_rounds kin (round ∷ rest) one other names at are lone =
-    let same_sets = sets kin one other names at round are.0 lone.0 in
+    let same_sets = sets at are.0 lone.0 in
     let now : Sched ℕ = (turn_of_theirs other round).sched in
     let then = after_rounds kin rest (turn_of_theirs one (alone round)).sched now
-    (set_left one names round.name round.fresh) (next kin one other names at round are.0 lone.0)
+    (set_left one names round.name round.fresh) (next at are.0 lone.0)
     (subst (λ s. AreRounds kin now s rest) same_sets are.1) lone.1 in
     (ap (λ s. set_after_all now s rest) same_sets ∙ then.0, then.1)
 

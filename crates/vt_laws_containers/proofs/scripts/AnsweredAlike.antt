@@ -38,7 +38,7 @@ later_line : (number : ℕ) (world : World ℕ) (names : List TaskName) → IsSe
     → IsSealedOffAt (stand (number + 1) world names)
 later_line number world names at = grind (arith, common_steps, at, numbers_passed)
 
-module _ (number : ℕ) (full lone : World ℕ) (names : List TaskName) (both : Both number full lone names)
+module _ {number : ℕ} {full lone : World ℕ} {names : List TaskName} (both : Both number full lone names)
     (name : TaskName) (call : Call) (few : names_few_groups call ≡ true)
     (side : StaysOnItsSide (stand number full names) name call) where
   abbrev fresh : Fresh ℕ
@@ -229,7 +229,7 @@ alike (Some call ∷ calls) few number full lone names both rest = by (λ now fu
         → told b (outcome_at at call.0 call.1) ++ own_answers true (moved true b at call.0 call.1) calls
         ≡ told b (outcome_at at_alone call.0 call.1) ++ own_answers false (moved false b at_alone call.0 call.1) calls
     by others_alike false outside after =
-        let left = others_leave number full lone names both call.0 call.1 few.0 rest.sides.0 outside in
+        let left = others_leave both call.0 call.1 few.0 rest.sides.0 outside in
         others_alike (number + 1) (outcome_at at call.0 call.1).world lone names left (record {
           alone = after.alone;
           sides = after.sides;
@@ -261,12 +261,10 @@ alike (Some call ∷ calls) few number full lone names both rest = by (λ now fu
             → (outcome_at at call.0 call.1).answer ∷ own_answers true (after_theirs at call.0 call.1) calls
             ≡ (outcome_at at_alone call.0 call.1).answer ∷ own_answers false (after_theirs at_alone call.0 call.1) calls
         answered ends ends_too out out_too =
-            let same = same_answer number full lone names both call.0 call.1 few.0 rest.sides.0 theirs ends ends_too
-            out out_too in
-            let set = same_left number full lone names both call.0 call.1 few.0 rest.sides.0 theirs ends ends_too out
-            out_too in
-            let left = theirs_leave number full lone names both call.0 call.1 few.0 rest.sides.0 theirs ends ends_too
-            out out_too (rest.alone.0 theirs) in
+            let same = same_answer both call.0 call.1 few.0 rest.sides.0 theirs ends ends_too out out_too in
+            let set = same_left both call.0 call.1 few.0 rest.sides.0 theirs ends ends_too out out_too in
+            let left = theirs_leave both call.0 call.1 few.0 rest.sides.0 theirs ends ends_too out out_too
+            (rest.alone.0 theirs) in
             let given : Rest (number + 1) (outcome_at at call.0 call.1).world (outcome_at at_alone call.0 call.1).world
             (after_theirs at call.0 call.1).names (after_theirs at_alone call.0 call.1).names calls = record {
               alone = after.alone;

@@ -8,13 +8,17 @@ use Rattle.vt_laws_mounts.proofs.letting_go.Lists.{filter-map}
 use Rattle.vt_laws_mounts.proofs.mounts.MountsReplaced.{found_itself}
 use Rattle.vt_laws_mounts.proofs.mounts.Receivers.{along_chain}
 use Rattle.vt_laws_sealed.specs.Part.Seals.{IsApart}
-use Rattle.vt_laws_sealed.proofs.part.groups.EventsApart.{members_of, sides}
-use Rattle.vt_laws_sealed.proofs.part.groups.ReceiversAlike.{OtherLives, member_group, none_other, start_hears}
+use Rattle.vt_laws_sealed.proofs.part.groups.EventsApart.{member_group, members_of, sides, start_hears}
+use Rattle.vt_laws_sealed.proofs.part.groups.ReceiversAlike.{OtherLives, none_other}
 use Rattle.vt_laws_sealed.proofs.part.seals.ByPart.{IsSealed, apart_if_sealed}
 use Rattle.vt_laws_sealed.proofs.outsiders.OtherMounts.{HearsGroup, member_not_new, member_of_heard, not_heard, other_hears_foreign, standing_apart, standing_apart_with}
 use Rattle.vt_laws_sealed.proofs.outsiders.StandingApart.{NothingNew, StandsApart}
 use Rattle.vt_laws_members.proofs.types.Inherited.{kind_left, master_left, master_left_so}
 use Rattle.vt_laws_members.proofs.types.Retyped.{is_named, kind_by, new_kind, new_masters, retyped_between, master_source}
+
+pub master_in : (world : World ℕ) (kind : Propagation ℕ) (group : ℕ) → group_of kind ≡ Some group
+    → master_of world kind ≡ world.master group
+master_in world kind group e = grind (arith, common_steps, none_is_some, same_Some)
 
 -- what a mount receives from after a change of type: what it received from, or its new group
 source_after : (new : ℕ) (word : TypeWord) (kind : Propagation ℕ) (g : ℕ)
@@ -83,17 +87,10 @@ module _ {world : World ℕ} {names : List TaskName} (sealing : IsSealed world n
   source_ours : (own : Mount ℕ) → Among own owns → (group : ℕ) → source_of own.propagation ≡ Some group → Ours group
   source_ours own m group e = inl (own, m, start_hears world group own.propagation e)
 
-  master_in : (kind : Propagation ℕ) (group : ℕ) → group_of kind ≡ Some group
-      → master_of world kind ≡ world.master group
-  master_in (Shared g) group e = ap world.master (same_Some g group e)
-  master_in (Slave g) group e = none_is_some group e
-  master_in Private group e = none_is_some group e
-  master_in Unbindable group e = none_is_some group e
-
   above_ours : (group above : ℕ) → Ours group → world.master group ≡ Some above → Ours above
   above_ours group above its e = ⊎_elim
       (λ heard. let member = member_of_heard so_far heard.0 heard.1 group heard.2 in
-      inl (member.0, member.1, inr (master_in member.0.propagation group (member_group group member.0 member.2) ∙ e)))
+      inl (member.0, member.1, inr (master_in world member.0.propagation group (member_group group member.0 member.2) ∙ e)))
       (λ new. none_is_some above
       (sym ((standing_apart_with world names apart fresh serves).new_master group new) ∙ e)) its
 

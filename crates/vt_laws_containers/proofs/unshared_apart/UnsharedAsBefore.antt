@@ -1,6 +1,6 @@
 -- After an unshare(2) of a task of a sealed set others are as they were.
 use Rattle.std.proofs.Common.{arith, ◌≡◌, refl, sym, ap, subst, ◌∙◌, ◌⊎◌, inl, inr, ⊎_elim, ℕ, nat_eq, Bool, true, false, cond, true≢false, List, [], ◌∷◌, ◌++◌, Option, Some, None, filter, map, not, ◌||◌, eq-eqb, eqb-true}
-use Rattle.vt_spec.proofs.Common.{Among, Fresh, Location, Mount, MountInvariants, Private, Serves, Task, TaskName, Unshare, World, all_locations, among-append, among-append_left, among-append_right, among-filter, among-flat_map, among-from_filter, among-from_flat_map, among-from_map, among-map, among_from_list_all, any_among, any_from_among, common_steps, detached, false_from_ne_true, group_of, holds_of, is_among, is_listed, is_member_of, is_member_task, is_own_mount, is_own_namespace, list_all, list_all_from_among, list_any, locations, locations_of, master_of, members, mount_at, mount_numbered, mounts_of, name-replaced_if_called, namespaces_ended, not-true, other_mounts, outsiders, own_mounts, replaced_if_called, same_name, same_name_itself, same_task_name, share_events, shares_no_events, task_called, unshared, used_directly}
+use Rattle.vt_spec.proofs.Common.{Among, Fresh, Location, Mount, MountInvariants, Private, Serves, Task, TaskName, Unshare, World, all_locations, among-append, among-append_left, among-append_right, among-filter, among-from_filter, among-from_map, among-map, among_from_list_all, any_among, any_from_among, common_steps, detached, false_from_ne_true, group_of, holds_of, is_among, is_listed, is_member_of, is_member_task, is_own_mount, is_own_namespace, list_all, list_all_from_among, list_any, locations, locations_of, master_of, members, mount_at, mount_numbered, mounts_of, name-replaced_if_called, namespaces_ended, not-true, other_mounts, outsiders, own_mounts, replaced_if_called, same_name, same_name_itself, same_task_name, share_events, shares_no_events, task_called, unshared, used_directly}
 use Rattle.vt_laws_members.proofs.judging.TheirCalls.{IsMember, caller_in, sealing_of}
 use Rattle.vt_laws_members.proofs.namespaces.Unsharing.{places_moved}
 use Rattle.vt_laws_mounts.proofs.letting_go.Lists.{filter-map}
@@ -21,6 +21,7 @@ use Rattle.vt_laws_members.proofs.namespaces.Unshared.{CanUnshare, Ends, copy_of
 use Rattle.vt_laws_containers.proofs.footholds.AsBefore.{OthersAsBefore}
 use Rattle.vt_laws_containers.proofs.footholds.Mirror.{placed_listed}
 use Rattle.vt_laws_containers.proofs.footholds.TasksAsBefore.{others_unmoved}
+use Rattle.vt_laws_trees.proofs.trees.Lists.{among-flat_map_filter}
 
 module _ {world : World ℕ} {names : List TaskName} {name : TaskName} (it : IsCallOfTheirs world names name Unshare)
     (task : Task ℕ) (called : task_called world name ≡ Some task) (fresh : Fresh ℕ)
@@ -167,9 +168,7 @@ module _ {world : World ℕ} {names : List TaskName} {name : TaskName} (it : IsC
 
   placed : (test : Task ℕ → Bool) (l : Location ℕ) → Among l (locations (filter test world.tasks))
       → Among l (all_locations world)
-  placed test l m =
-      let of = among-from_flat_map locations_of (filter test world.tasks) l m in
-      among-flat_map locations_of world.tasks of.0 l (among-from_filter test world.tasks of.0 of.1).0 of.2
+  placed test = among-flat_map_filter locations_of test world.tasks
 
   -- no mount receives events of a private one
   unheard : (y : Mount ℕ) (o : Option ℕ)

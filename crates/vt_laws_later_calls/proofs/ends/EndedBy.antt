@@ -63,7 +63,7 @@ typing_or : (call : Call)
 typing_or (SetType path word recursive) = inl (path, word, recursive, refl)
 typing_or call = inr refl
 
-module _ (world : World ℕ) (fresh : Fresh ℕ) (call : Call) (is : IsWorld nat_eq world)
+module _ {world : World ℕ} {fresh : Fresh ℕ} (call : Call) (is : IsWorld nat_eq world)
     (serves : Serves nat_eq world fresh) (only : takes_uses call ≡ false) (filesystem number : ℕ)
     (there : is_some (inode_in world filesystem number) ≡ true) where
   abbrev IsThere : World ℕ → Type 0
@@ -161,8 +161,8 @@ only_these_end_other_inodes world fresh name call filesystem number is serves on
     (λ task permit changed called judged.
     ap (λ (f : FileTree ℕ). is_some (f.tree.node number))
     (raised_files world name changed (settled nat_eq (call_outcome nat_eq fresh world task call).world) filesystem)
-    ∙ swept_remains world fresh call is serves only filesystem number there task called spared
-    (call_remains world fresh call is serves only filesystem number there task called permit judged))
+    ∙ swept_remains call is serves only filesystem number there task called spared
+    (call_remains call is serves only filesystem number there task called permit judged))
 
 -- what changes a plain filesystem replaces nothing
 pub plain_changes_keep_all : PlainChangesKeepAll

@@ -1,7 +1,7 @@
 -- The world that a granted rmdir leaves: the task's own mounts are seen as they were, the directory has lost its name,
 -- and walks that do not go up from it lead where they led.
 use Rattle.std.proofs.Common.{arith, ◌≡◌, ◌≢◌, refl, sym, ap, subst, ◌∙◌, inl, inr, ◌⊎◌, ⊎_elim, ℕ, nat_eq, eqb-true, Bool, true, false, ◌||◌, List, filter, Some, None, Ok, is_some, find, unwrap_or}
-use Rattle.vt_spec.proofs.Common.{Answer, Call, Change, Credentials, FileTree, Filesystem, Fresh, IsWorld, Location, Mount, Remove, Task, TaskName, ToRemoveDirectory, Tree, World, and_parts, apply, changed, common_steps, denial, directory_used, entries_in, entry_at, entry_named, files_at, filesystem_numbered, filesystems-taken_away, is_directory_node, is_going, is_located, is_mount_point_in, looks_of, mount_at, mount_lives, mount_numbered, mounts_on, no_filesystem, node_allows, node_at, parent_in, policy, raised_task, same_name, symlink_text, task_called, tasks-taken_away, with_change, without_mounts_on}
+use Rattle.vt_spec.proofs.Common.{Answer, Call, Change, Credentials, FileTree, Filesystem, Fresh, IsWorld, Location, Mount, Remove, Task, TaskName, ToRemoveDirectory, Tree, World, and_parts, apply, changed, common_steps, denial, directory_used, entries_in, entry_at, entry_named, files_at, filesystem_numbered, filesystems-taken_away, is_directory_node, is_going, is_located, is_mount_point_in, looks_of, mount_at, mount_lives, mount_numbered, mounts_on, no_filesystem, node_allows, node_at, parent_in, policy, raised_task, same_name, symlink_text, task_called, tasks-taken_away, tasks-with_change, with_change, without_mounts_on}
 use Rattle.vt_spec.specs.declared.errors.Deny.{Deny}
 use Rattle.vt_spec.specs.declared.errors.Rule.TheVariants.{W6}
 use Rattle.vt_laws_mounts.specs.LettingGo.Unmounting.{numbers_of_trees}
@@ -16,7 +16,6 @@ use Rattle.vt_laws_worlds.specs.Worlds.Kept.{IsPlain}
 use Rattle.vt_laws_worlds.specs.Worlds.Permits.{IsReached}
 use Rattle.vt_laws_worlds.proofs.worlds.PermitsSeen.{taken_plain}
 use Rattle.vt_laws_worlds.proofs.worlds.Reached.{IsOn, is_reached}
-use Rattle.vt_laws_worlds.proofs.worlds.SeenTrees.{change_mounts, change_tasks}
 use Rattle.vt_laws_later_calls.proofs.AfterChange.{as_spent, later_files, later_is}
 use Rattle.vt_laws_later_calls.proofs.Changed.{files_changed, files_other}
 use Rattle.vt_laws_later_calls.proofs.Granted.{HasSucceeded}
@@ -28,6 +27,7 @@ use Rattle.vt_laws_later_calls.proofs.later.WaysLeft.{MountsSeen, ObjectsStay}
 use Rattle.vt_laws_later_calls.proofs.later.WaysMounts.{own_mount, top_same, topmost_same}
 use Rattle.vt_laws_later_calls.proofs.later.WaysRemoved.{removed_entry, removed_kind, removed_link, removed_name, removed_parent, removed_rights}
 use Rattle.vt_laws_later_calls.proofs.WaysStay.{mount_root, node_in, tree_in}
+use Rattle.vt_laws_mounts.proofs.mounts.MountsLeft.{mounts-with_change}
 
 module _ {world : World ℕ} {fresh : Fresh ℕ} {name : TaskName} {call : Call} {answer : Answer}
     (it : HasSucceeded world fresh name call answer) {parent : Location ℕ} {word : List ℕ}
@@ -97,7 +97,7 @@ module _ {world : World ℕ} {fresh : Fresh ℕ} {name : TaskName} {call : Call}
 
   living : left.mounts ≡ filter (mount_lives nat_eq spent) middle.mounts
   living = ap (λ (w : World ℕ). w.mounts) it.did.left ∙ ap (filter (mount_lives nat_eq spent))
-      (ap (λ (w : World ℕ). w.mounts) does ∙ change_mounts fresh middle middle_plain parent change)
+      (ap (λ (w : World ℕ). w.mounts) does ∙ mounts-with_change middle fresh parent change)
 
   attached_live : (mount : Mount ℕ) → is_some mount.namespace ≡ true → mount_lives nat_eq spent mount ≡ true
   attached_live mount e = ap (λ b. b || is_located nat_eq spent mount.number) e
@@ -106,10 +106,10 @@ module _ {world : World ℕ} {fresh : Fresh ℕ} {name : TaskName} {call : Call}
   pub caller : task_called left name ≡ Some (raised_task name it.did.task)
   caller = still_called it name it.did.task
       (ap (λ w. task_called w name) does ∙ ap (find (λ (t : Task ℕ). same_name name t.name))
-      (change_tasks fresh middle middle_plain parent change ∙ tasks-taken_away world gone) ∙ it.did.called)
+      (tasks-with_change fresh middle parent change ∙ tasks-taken_away world gone) ∙ it.did.called)
 
   pub mounts_seen : (reader : Task ℕ) → reader.root ≡ it.did.task.root
-      → MountsSeen world left it.is it.plain is_left.0 is_left.1 it.did.task reader
+      → MountsSeen it.is it.plain is_left.0 is_left.1 it.did.task reader
   mounts_seen reader roots = record {
     own = own_mount world left it.is is_left.0 it.did.task gone closed (mount_lives nat_eq spent) living attached_live
         stays;

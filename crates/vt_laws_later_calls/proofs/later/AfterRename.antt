@@ -21,13 +21,13 @@ use Rattle.vt_laws_trees.specs.Trees.{IsFileTree}
 use Rattle.vt_laws_trees.proofs.trees.TreesOfWorlds.{number_numbered}
 use Rattle.vt_laws_worlds.specs.Worlds.Kept.{IsPlain}
 use Rattle.vt_laws_worlds.proofs.worlds.PermitsSeen.{replaced_plain}
-use Rattle.vt_laws_worlds.proofs.worlds.SeenTrees.{change_mounts}
 use Rattle.vt_laws_later_calls.proofs.AfterChange.{as_spent, later_is}
 use Rattle.vt_laws_later_calls.proofs.Changed.{files_changed}
 use Rattle.vt_laws_later_calls.proofs.Granted.{HasSucceeded}
 use Rattle.vt_laws_later_calls.proofs.OpenedNew.{given_of}
 use Rattle.vt_laws_later_calls.proofs.later.WaysMounts.{placed_before, stops}
 use Rattle.vt_laws_later_calls.proofs.WaysStay.{node_in, tree_in}
+use Rattle.vt_laws_mounts.proofs.mounts.MountsLeft.{mounts-with_change}
 
 -- Mounts that stand on an object, as its filesystem shows it
 module _ (world : World ℕ) (is : IsWorld nat_eq world) (object : Location ℕ)
@@ -182,7 +182,7 @@ module _ {world : World ℕ} {fresh : Fresh ℕ} {name : TaskName} {call : Call}
   -- Mounts
   living : left.mounts ≡ filter (mount_lives nat_eq spent) middle.mounts
   living = ap (λ (w : World ℕ). w.mounts) it.did.left ∙ ap (filter (mount_lives nat_eq spent))
-      (ap (λ (w : World ℕ). w.mounts) does ∙ change_mounts fresh middle middle_plain from change)
+      (ap (λ (w : World ℕ). w.mounts) does ∙ mounts-with_change middle fresh from change)
 
   in_middle : (mount : Mount ℕ) → Among mount left.mounts → Among mount middle.mounts
   in_middle mount m = (among-from_filter (mount_lives nat_eq spent) middle.mounts mount

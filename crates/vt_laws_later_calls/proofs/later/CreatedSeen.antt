@@ -1,6 +1,6 @@
 -- A name that open made exists.
 use Rattle.std.proofs.Common.{arith, ◌≡◌, refl, sym, ap, subst, ◌∙◌, inl, inr, ◌⊎◌, ℕ, nat_eq, nat_le, length, eqb-true, true, false, List, [], ◌∷◌, Option, Some, None, is_some, option_map, Result, Ok, Err, find, reverse}
-use Rattle.vt_spec.proofs.Common.{Access, Answer, Call, Change, Credentials, Exclusive, FileTree, Fresh, IsWorld, Judgement, Location, Looks, Make, Named, Node, NoneFails, OpenFile, Opened, Place, Rules, Stop, Task, TaskName, World, after, and_then, answer-finished_by, apply, changed, common_steps, contains_from_among, denial, directory_used, ends_in_slash, entries_in, entry_location, entry_named, execute_right, files_at, filesystem_numbered, final_word, found_among, is_directory_at, is_directory_node, is_special, last_word, looks_of, most_descriptors, mount_at, name_of, new_file, new_walk, node_allows, node_at, odds, open_new_permit, open_permit, passed, place_walk, placed, policy, raised_task, same_Some, same_name, search_rules, settled, steps_at, stopped_by, task_called, then_walk, unless, walk_start, walk_unless, with_descriptor, with_new_inode, with_task, words, words_walked}
+use Rattle.vt_spec.proofs.Common.{Access, Answer, Call, Change, Credentials, Exclusive, FileTree, Fresh, IsWorld, Judgement, Location, Looks, Make, Named, Node, NoneFails, OpenFile, Opened, Place, Rules, Stop, Task, TaskName, World, after, and_then, answer-finished_by, apply, changed, common_steps, contains_from_among, denial, directory_used, ends_in_slash, entries_in, entry_location, entry_named, execute_right, files_at, filesystem_numbered, final_word, found_among, is_directory_at, is_directory_node, is_special, last_word, looks_of, most_descriptors, mount_at, name_of, new_file, new_walk, node_allows, node_at, odds, open_new_permit, open_permit, passed, place_walk, placed, policy, raised_task, same_Some, same_name, search_rules, settled, steps_at, stopped_by, task_called, tasks-with_change, then_walk, unless, walk_start, walk_unless, with_descriptor, with_new_inode, with_task, words, words_walked}
 use Rattle.vt_spec.specs.declared.errors.Deny.{Deny}
 use Rattle.vt_spec.specs.declared.errors.Rule.TheVariants.{E1, W4}
 use Rattle.vt_spec.specs.Machine.Looks as Look
@@ -17,8 +17,7 @@ use Rattle.vt_laws_trees.specs.Trees.{IsFileTree}
 use Rattle.vt_laws_trees.proofs.trees.ChangesKeepTrees.{changes_keep_numbers, changes_keep_trees}
 use Rattle.vt_laws_worlds.specs.Worlds.Kept.{IsPlain}
 use Rattle.vt_laws_worlds.proofs.worlds.CallsKept.{name_found}
-use Rattle.vt_laws_worlds.proofs.Plain.{plain_numbered}
-use Rattle.vt_laws_worlds.proofs.worlds.SeenTrees.{change_mounts, change_tasks, unused_inode}
+use Rattle.vt_laws_worlds.proofs.worlds.SeenTrees.{unused_inode}
 use Rattle.vt_laws_later_calls.specs.LaterPaths.{ExclusiveTwice}
 use Rattle.vt_laws_later_calls.proofs.AfterChange.{later_files, later_is, listed, spent}
 use Rattle.vt_laws_later_calls.proofs.Changed.{files_changed, files_other}
@@ -33,6 +32,8 @@ use Rattle.vt_laws_later_calls.proofs.Ways.{LeadsToo, Stops, at, search_too}
 use Rattle.vt_laws_later_calls.proofs.WaysChanges.{RightsStay, TreeStays, made_entry, rights_made, ways_made}
 use Rattle.vt_laws_later_calls.proofs.WaysPlaces.{NamedPlace, front_too, named_place, through}
 use Rattle.vt_laws_later_calls.proofs.WaysStay.{Known, SeesLater, StandsAs, WorldStays, node_here, node_in, tree_in, world_leads}
+use Rattle.vt_laws_mounts.proofs.mounts.MountsLeft.{mounts-with_change}
+use Rattle.vt_laws_trees.proofs.runs.answered.PlainStays.{plain_numbered}
 
 -- A world in which one filesystem shows another tree
 module _ (world later : World ℕ) (shown : ℕ) (files : FileTree ℕ) (mounts : later.mounts ≡ world.mounts)
@@ -70,8 +71,8 @@ module _ (world later : World ℕ) (shown : ℕ) (files : FileTree ℕ) (mounts 
       (λ there_before. rights who wanted number there_before) (λ f there_before. refl) filesystem was
 
 -- The place of a name, in what a call left
-module _ (looks later : Looks ℕ) (task reader : Task ℕ) (Refused : Deny → Type 0) (Known : Location ℕ → Type 0)
-    (leads : LeadsToo looks later task reader Refused Known) (path : List ℕ) (place : Place ℕ)
+module _ {looks later : Looks ℕ} {task reader : Task ℕ} {Refused : Deny → Type 0} {Known : Location ℕ → Type 0}
+    (leads : LeadsToo looks later task reader Refused Known) {path : List ℕ} {place : Place ℕ}
     (named : is_special place.last ≡ false) (parts : NamedPlace looks task path place) (object : Option (Location ℕ))
     (found : Known place.parent → entry_location nat_eq later place.parent (name_of place.last) ≡ object) where
   abbrev IsPlacedThere : Result (Place ℕ) (Stop ℕ) → Type 0
@@ -255,7 +256,7 @@ module _ {path : List ℕ} {world : World ℕ} {fresh : Fresh ℕ} {name : TaskN
 
   mounts_stay : later.mounts ≡ world.mounts
   mounts_stay = ap (λ (w : World ℕ). w.mounts) it.did.left ∙ ap (λ (w : World ℕ). w.mounts) settles
-      ∙ change_mounts (odds fresh) world it.plain parent change
+      ∙ mounts-with_change world (odds fresh) parent change
 
   files_stay : (n : ℕ) → (filesystem_numbered nat_eq later n).files ≡ (filesystem_numbered nat_eq base n).files
   files_stay n = later_files it n
@@ -282,7 +283,7 @@ module _ {path : List ℕ} {world : World ℕ} {fresh : Fresh ℕ} {name : TaskN
   caller_there : task_called later name ≡ Some (raised_task name new_task)
   caller_there = still_called it name new_task
       (ap (λ w. task_called w name) spent_is ∙ called_replaced base name it.did.task new_task
-      (ap (find (λ (t : Task ℕ). same_name name t.name)) (change_tasks (odds fresh) world it.plain parent change)
+      (ap (find (λ (t : Task ℕ). same_name name t.name)) (tasks-with_change (odds fresh) world parent change)
       ∙ it.did.called) (sym (name_found world name it.did.task it.did.called)))
 
   again_refused : (reader : TaskName) (reading : Task ℕ) → task_called later reader ≡ Some reading
@@ -291,8 +292,7 @@ module _ {path : List ℕ} {world : World ℕ} {fresh : Fresh ℕ} {name : TaskN
       → (again : Access) (other : ℕ) → (later_fresh : Fresh ℕ)
       → (policy nat_eq later_fresh later reader (OpenFile path again (Exclusive other))).answer ≡ Err (denial E1)
   again_refused reader reading found stands looks room again other later_fresh = by
-      (place_too (looks_of nat_eq world) (looks_of nat_eq later) it.did.task reading Never _ leads path place named
-      (named_place (looks_of nat_eq world) it.did.task path place
+      (place_too leads named (named_place (looks_of nat_eq world) it.did.task path place
       (new_parts (looks_of nat_eq world) it.did.task path place walk) named)
       (Some (record { mount = parent.mount; node = fresh 0 })) there)
     where

@@ -71,7 +71,7 @@ module _ {world : World ℕ} {fresh : Fresh ℕ} {name : TaskName} {call : Call}
       ((may it permit_is).named ∙ ap Some same)
 
   module _ (here : Location ℕ)
-      (known : BothAre world later it.is it.plain is_later.0 is_later.1 it.did.task reader here) where
+      (known : BothAre it.is it.plain is_later.0 is_later.1 it.did.task reader here) where
     abbrev number : ℕ
     number = (mount_at nat_eq world here).filesystem
 
@@ -135,7 +135,7 @@ module _ {world : World ℕ} {fresh : Fresh ℕ} {name : TaskName} {call : Call}
         by (inr lost) = absurd (keeps lost.1 lost.2)
 
     goes_up : Keeps here.node → is_lost nat_eq world here ≡ false
-        → GoesUp world later it.is it.plain is_later.0 is_later.1 it.did.task reader here
+        → GoesUp it.is it.plain is_later.0 is_later.1 it.did.task reader here
     goes_up keeps found = record {
       parent = ap (λ (f : FileTree ℕ). parent_in here.node (f.tree.node here.node)) files_here
           ∙ ap (parent_in here.node) as_spent
@@ -262,7 +262,7 @@ module _ {world : World ℕ} {fresh : Fresh ℕ} {name : TaskName} {call : Call}
       own = grind (arith, common_steps, true≢false, at, nowhere_parts, among_from_list_all, there, and_parts)
 
   top_outside : (here : Location ℕ) → IsFoundDirectory world it.is it.did.task here → IsOutside here
-      → IsOutside (top world later it.is it.plain is_later.0 is_later.1 it.did.task reader here)
+      → IsOutside (top it.is it.plain is_later.0 is_later.1 it.did.task reader here)
   top_outside here found outside =
       (chain_ends_at (λ (l : Location ℕ). IsFoundDirectory world it.is it.did.task l × IsOutside l)
       (hop nat_eq world it.did.task) (λ a b both e.
@@ -274,22 +274,22 @@ module _ {world : World ℕ} {fresh : Fresh ℕ} {name : TaskName} {call : Call}
     abbrev pub Fits : Location ℕ → Type 0
     Fits here = Refused (denial W8) ⊎ IsOutside here
 
-    up_fits : (here : Location ℕ) → BothAre world later it.is it.plain is_later.0 is_later.1 it.did.task reader here
+    up_fits : (here : Location ℕ) → BothAre it.is it.plain is_later.0 is_later.1 it.did.task reader here
         → Fits here
         → ends_at here ≡ false → is_lost nat_eq world here ≡ false
-        → (GoesUp world later it.is it.plain is_later.0 is_later.1 it.did.task reader here
+        → (GoesUp it.is it.plain is_later.0 is_later.1 it.did.task reader here
         × Fits (parent_location nat_eq world here)) ⊎ (Refused (denial W8) × (is_lost nat_eq later here ≡ true))
     up_fits here known fits not_top found =
         by (nat_eq (mount_at nat_eq world here).filesystem fs) (nat_eq here.node object.node) refl refl
       where
         at_it : IsRemoved here → Fits here
-            → (GoesUp world later it.is it.plain is_later.0 is_later.1 it.did.task reader here
+            → (GoesUp it.is it.plain is_later.0 is_later.1 it.did.task reader here
             × Fits (parent_location nat_eq world here)) ⊎ (Refused (denial W8) × (is_lost nat_eq later here ≡ true))
         at_it removed (inl refused) = inr (refused, lost_there here known removed)
         at_it removed (inr outside) = absurd (true≢false (sym (outside removed) ∙ not_top))
 
         elsewhere : ((mount_at nat_eq world here).filesystem ≡ fs → here.node ≢ object.node)
-            → (GoesUp world later it.is it.plain is_later.0 is_later.1 it.did.task reader here
+            → (GoesUp it.is it.plain is_later.0 is_later.1 it.did.task reader here
             × Fits (parent_location nat_eq world here)) ⊎ (Refused (denial W8) × (is_lost nat_eq later here ≡ true))
         elsewhere keeps = inl (
           goes_up here known keeps found,
@@ -297,7 +297,7 @@ module _ {world : World ℕ} {fresh : Fresh ℕ} {name : TaskName} {call : Call}
         )
 
         by : (p q : Bool) → nat_eq (mount_at nat_eq world here).filesystem fs ≡ p → nat_eq here.node object.node ≡ q
-            → (GoesUp world later it.is it.plain is_later.0 is_later.1 it.did.task reader here
+            → (GoesUp it.is it.plain is_later.0 is_later.1 it.did.task reader here
             × Fits (parent_location nat_eq world here)) ⊎ (Refused (denial W8) × (is_lost nat_eq later here ≡ true))
         by true true e f = at_it (eqb-true _ _ e, eqb-true _ _ f) fits
         by true false e f = elsewhere (λ same same_node.
@@ -305,7 +305,7 @@ module _ {world : World ℕ} {fresh : Fresh ℕ} {name : TaskName} {call : Call}
         by false q e f = elsewhere (λ same same_node.
             absurd (true≢false (sym (eq-eqb (mount_at nat_eq world here).filesystem fs same) ∙ e)))
 
-    pub fits_ways : FitsWays world later it.is it.plain is_later.0 is_later.1 it.did.task reader Refused Fits
+    pub fits_ways : FitsWays it.is it.plain is_later.0 is_later.1 it.did.task reader Refused Fits
     fits_ways = record {
       named = λ here any next known fits e f. named here any next known e f fits;
       over = λ place own fits. over place fits;
@@ -314,7 +314,7 @@ module _ {world : World ℕ} {fresh : Fresh ℕ} {name : TaskName} {call : Call}
     }
       where
         named : (here : Location ℕ) (any : List ℕ) (next : ℕ)
-            → BothAre world later it.is it.plain is_later.0 is_later.1 it.did.task reader here
+            → BothAre it.is it.plain is_later.0 is_later.1 it.did.task reader here
             → entry_named any (entries_in (node_at nat_eq world here)) ≡ Some next
             → entry_named any (entries_in (node_at nat_eq later here)) ≡ Some next
             → Fits here → Fits (record { mount = here.mount; node = next })
@@ -327,7 +327,7 @@ module _ {world : World ℕ} {fresh : Fresh ℕ} {name : TaskName} {call : Call}
         over place (inl refused) = inl refused
         over place (inr outside) = inr (over_outside place outside)
 
-        hopped : (here : Location ℕ) → BothAre world later it.is it.plain is_later.0 is_later.1 it.did.task reader here
-            → Fits here → Fits (top world later it.is it.plain is_later.0 is_later.1 it.did.task reader here)
+        hopped : (here : Location ℕ) → BothAre it.is it.plain is_later.0 is_later.1 it.did.task reader here
+            → Fits here → Fits (top it.is it.plain is_later.0 is_later.1 it.did.task reader here)
         hopped here known (inl refused) = inl refused
         hopped here known (inr outside) = inr (top_outside here known.0 outside)

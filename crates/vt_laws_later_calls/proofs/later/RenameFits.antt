@@ -1,6 +1,6 @@
 -- After a granted rename of a directory to a free name walks that begin outside of it lead where they led.
 use Rattle.std.proofs.Common.{arith, ◌≡◌, ◌≢◌, refl, sym, ap, ◌∙◌, inl, inr, ◌⊎◌, true≢false, ℕ, nat_eq, eqb-true, eq-eqb, Bool, true, false, cond, List, [], ◌∷◌, ◌++◌, length, find, Option, Some, None, is_some, option_map, option_to_list}
-use Rattle.vt_spec.proofs.Common.{Among, Answer, Call, Change, Credentials, FileTree, Fresh, IsReached, IsWorld, Location, Move, Node, Task, TaskName, ToRename, Tree, World, allows, among_from_list_all, and_from, and_parts, apply, attr_in, bytes_in, changed, changed_node, child_at, common_steps, contains_from_among, denial, directory_from_entry, directory_used, entries_in, entry_at, entry_named, files_at, filesystem_numbered, found, hop, is_directory_node, is_directory_under, is_kind, is_mount_point_anywhere, is_nowhere_or_attached, led, led-append, list_all, looks_of, mount_at, node_allows, node_at, node_with_entry, node_with_parent, node_without_entry, none_is_not, parent-node_with_entry, parent-node_without_entry, parent_in, raised_task, root_of, same_Some, same_name, symlink_text, task_called, topmost, when, with_change, with_name, without_name, without_parent}
+use Rattle.vt_spec.proofs.Common.{Among, Answer, Call, Change, Credentials, FileTree, Fresh, IsReached, IsWorld, Location, Move, Node, Task, TaskName, ToRename, Tree, World, allows, among_from_list_all, and_from, and_parts, apply, attr_in, bytes_in, changed, changed_node, child_at, common_steps, contains_from_among, denial, directory_from_entry, directory_used, entries_in, entry_at, entry_named, files_at, filesystem_numbered, found, hop, is_directory_node, is_directory_under, is_kind, is_mount_point_anywhere, is_nowhere_or_attached, led, led-append, list_all, looks_of, mount_at, node_allows, node_at, node_with_entry, node_with_parent, node_without_entry, none_is_not, parent-node_with_entry, parent-node_without_entry, parent_in, raised_task, root_of, same_Some, same_name, symlink_text, task_called, tasks-with_change, topmost, when, with_change, with_name, without_name, without_parent}
 use Rattle.vt_spec.specs.declared.attributes.Kind.TheVariants.{Symlink}
 use Rattle.vt_spec.specs.declared.errors.Deny.{Deny}
 use Rattle.vt_spec.specs.declared.errors.Rule.TheVariants.{W6}
@@ -21,7 +21,6 @@ use Rattle.vt_laws_trees.proofs.trees.TreesAbove.{under_seen}
 use Rattle.vt_laws_trees.proofs.trees.TreesEntered.{chain_ends_at}
 use Rattle.vt_laws_worlds.specs.Worlds.Kept.{IsPlain}
 use Rattle.vt_laws_worlds.proofs.worlds.Reached.{IsFoundDirectory}
-use Rattle.vt_laws_worlds.proofs.worlds.SeenTrees.{change_tasks}
 use Rattle.vt_laws_later_calls.specs.LaterNames.{StandsOutside, lies_in}
 use Rattle.vt_laws_later_calls.proofs.AfterChange.{ChangesTree, all_stays, as_spent, in_each, later_files, later_mounts}
 use Rattle.vt_laws_later_calls.proofs.later.AfterRename.{is_left, left, may, object_shown, shown}
@@ -202,7 +201,7 @@ module _ {world : World ℕ} {fresh : Fresh ℕ} {name : TaskName} {call : Call}
   pub caller : task_called later name ≡ Some (raised_task name it.did.task)
   caller = still_called it name it.did.task
       (ap (λ w. task_called w name) does
-      ∙ ap (find (λ (t : Task ℕ). same_name name t.name)) (change_tasks fresh world it.plain from change)
+      ∙ ap (find (λ (t : Task ℕ). same_name name t.name)) (tasks-with_change fresh world from change)
       ∙ it.did.called)
 
   pub root_left : (filesystem number : ℕ) → is_some (node_in later filesystem number) ≡ true

@@ -61,10 +61,10 @@ module _ {world : World ℕ} {fresh : Fresh ℕ} {name : TaskName} {call : Call}
       is_directory outside
 
   abbrev BothDirectories : Location ℕ → Type 0
-  BothDirectories = BothAre world left_world it.is it.plain is_left.0 is_left.1 it.did.task reader
+  BothDirectories = BothAre it.is it.plain is_left.0 is_left.1 it.did.task reader
 
   abbrev Up : Location ℕ → Type 0
-  Up = GoesUp world left_world it.is it.plain is_left.0 is_left.1 it.did.task reader
+  Up = GoesUp it.is it.plain is_left.0 is_left.1 it.did.task reader
 
   abbrev spent_world : World ℕ
   spent_world =
@@ -121,8 +121,8 @@ module _ {world : World ℕ} {fresh : Fresh ℕ} {name : TaskName} {call : Call}
       its_entry it permit_is uncovered
       is_directory outside
 
-  pub mounts_seen : MountsSeen world
-      (later it permit_is uncovered is_directory outside) it.is it.plain
+  pub mounts_seen : MountsSeen
+      it.is it.plain
       (left_is it permit_is uncovered is_directory outside).0
       (left_is it permit_is uncovered is_directory outside).1 it.did.task reader
   mounts_seen = record {
@@ -384,15 +384,15 @@ module _ {world : World ℕ} {fresh : Fresh ℕ} {name : TaskName} {call : Call}
           ((λ i. is_some (node_in left_world (sym same i) (sym was.0 i))) ∙ there here known)) f
 
   top_fits : (here : Location ℕ) → IsFoundDirectory world it.is it.did.task here → FitsIn here
-      → FitsIn (top world left_world it.is it.plain is_left.0 is_left.1 it.did.task reader here)
+      → FitsIn (top it.is it.plain is_left.0 is_left.1 it.did.task reader here)
   top_fits here found_here fits =
       (chain_ends_at (λ (l : Location ℕ). IsFoundDirectory world it.is it.did.task l × FitsIn l)
       (hop nat_eq world it.did.task)
       (λ a b both e. (hop_known world it.is it.did.task a b both.0 e, points_fit a b both.0 e))
       (length world.mounts) here here (found_here, fits)).1
 
-  pub fits_ways : (Refused : Deny → Type 0) → FitsWays world
-      (later it permit_is uncovered is_directory outside) it.is it.plain
+  pub fits_ways : (Refused : Deny → Type 0) → FitsWays
+      it.is it.plain
       (left_is it permit_is uncovered is_directory outside).0
       (left_is it permit_is uncovered is_directory outside).1 it.did.task reader Refused
       (Fits it permit_is uncovered is_directory outside)

@@ -7,12 +7,12 @@ use Rattle.vt_spec.specs.declared.errors.Rule.TheVariants.{W4, W6, W8}
 use Rattle.vt_spec.proofs.Walk.{stepped}
 use Rattle.vt_laws_mounts.specs.Mounts.Attaching.{numbers_of}
 use Rattle.vt_laws_worlds.specs.Worlds.Kept.{IsPlain}
-use Rattle.vt_laws_worlds.proofs.Plain.{plain_numbered}
 use Rattle.vt_laws_worlds.proofs.worlds.Reached.{IsFound, IsFoundDirectory, IsOn, directory_found, step_found}
 use Rattle.vt_laws_worlds.proofs.worlds.ReachedWalks.{own_directory_found, root_found}
 use Rattle.vt_laws_later_calls.proofs.Ways.{LeadsToo}
 use Rattle.vt_laws_later_calls.proofs.later.WaysMounts.{SeenAlike, top_known}
 use Rattle.vt_laws_later_calls.proofs.WaysStay.{StandsAs, node_in, tree_in}
+use Rattle.vt_laws_trees.proofs.runs.answered.PlainStays.{plain_numbered}
 
 -- What was there and still is, is of its kind, and a symlink has its text. A name leads where it led, or is missing.
 pub record ObjectsStay (world later : World ℕ) (Refused : Deny → Type 0) : Type 0 where
@@ -28,7 +28,7 @@ pub record ObjectsStay (world later : World ℕ) (Refused : Deny → Type 0) : T
       → (entry_at (tree_in later filesystem) directory name ≡ Some number)
       ⊎ ((entry_at (tree_in later filesystem) directory name ≡ None) × Refused (denial W6))
 
-module _ (world later : World ℕ) (is : IsWorld nat_eq world) (plain : IsPlain world) (is_later : IsWorld nat_eq later)
+module _ {world later : World ℕ} (is : IsWorld nat_eq world) (plain : IsPlain world) (is_later : IsWorld nat_eq later)
     (plain_later : IsPlain later) (task reader : Task ℕ) where
   abbrev pub BothFound : Location ℕ → Type 0
   BothFound here = IsFound world is task here × IsFound later is_later reader here

@@ -32,8 +32,8 @@ pub record WordLeads (world : World ℕ) (task : Task ℕ) (from : Location ℕ)
   pub leads : topmost nat_eq world.mounts (record { mount = from.mount; node = object }) ≡ next
   pub directory : is_directory_at nat_eq world next ≡ true
 
-module _ (world : World ℕ) (task : Task ℕ) (from next : Location ℕ) (left : ℕ) (steps : List (List ℕ))
-    (word : List ℕ) (object : ℕ) (way : WordLeads world task from word object next) where
+module _ {world : World ℕ} {task : Task ℕ} {from next : Location ℕ} (left : ℕ) (steps : List (List ℕ)) {word : List ℕ}
+    {object : ℕ} (way : WordLeads world task from word object next) where
   -- at the directory
   abbrev here : Here ℕ
   here = record { location = from; left = left; steps = steps }
@@ -106,24 +106,24 @@ module _ (world : World ℕ) (task : Task ℕ) where
       (way : WordLeads world task task.root word object top) where
     -- where the walk ends
     abbrev pub end_of_one : Here ℕ
-    end_of_one = there world task task.root top most_symlinks [] word object way
+    end_of_one = there most_symlinks [] way
 
     -- the word is walked from the task's root
     pub one_word_leads : path_walked nat_eq world task path ≡ Ok end_of_one
     one_word_leads = walked_from_root path (word ∷ []) one.parsed one.absolute one.words_are
         ∙ ap (λ last. then_walk (word_walked nat_eq world task start last) (after_word start)) one.named
-        ∙ word_goes_on world task task.root top most_symlinks [] word object way
+        ∙ word_goes_on most_symlinks [] way
 
   -- a path of two words
   module _ (path first second : List ℕ) (two : HasTwoWords path first second) (object inner : ℕ)
       (middle top : Location ℕ) (first_way : WordLeads world task task.root first object middle)
       (second_way : WordLeads world task middle second inner top) where
     abbrev between : Here ℕ
-    between = there world task task.root middle most_symlinks [] first object first_way
+    between = there most_symlinks [] first_way
 
     -- where the walk ends
     abbrev pub end_of_two : Here ℕ
-    end_of_two = there world task middle top most_symlinks between.steps second inner second_way
+    end_of_two = there most_symlinks between.steps second_way
 
     -- the two words are walked one after the other
     pub two_words_lead : path_walked nat_eq world task path ≡ Ok end_of_two
@@ -132,6 +132,6 @@ module _ (world : World ℕ) (task : Task ℕ) where
         then_walk (word_walked nat_eq world task reached (last_word second)) (after_word reached))) two.first_named
         ∙ ap (λ walk. then_walk walk (λ reached.
         then_walk (word_walked nat_eq world task reached (last_word second)) (after_word reached)))
-        (word_goes_on world task task.root middle most_symlinks [] first object first_way)
+        (word_goes_on most_symlinks [] first_way)
         ∙ ap (λ last. then_walk (word_walked nat_eq world task between last) (after_word between)) two.second_named
-        ∙ word_goes_on world task middle top most_symlinks between.steps second inner second_way
+        ∙ word_goes_on most_symlinks between.steps second_way

@@ -10,7 +10,6 @@ use Rattle.vt_laws_mounts.proofs.letting_go.leaving.PlacesLeft.{place_attached}
 use Rattle.vt_laws_mounts.proofs.letting_go.mounting.AttachedSwept.{new_mounts_of_trees_keep_all}
 use Rattle.vt_laws_mounts.proofs.letting_go.sweeps.OfWorlds.{all_in_use, found_filesystem, locations_of_worlds_stand, mounts_of_worlds_stand}
 use Rattle.vt_laws_worlds.specs.Worlds.Kept.{IsPlain}
-use Rattle.vt_laws_worlds.proofs.Plain.{plain_numbered}
 use Rattle.vt_laws_worlds.proofs.worlds.CallsKept.{calls_keep_worlds}
 use Rattle.vt_laws_worlds.proofs.worlds.ReachedWalks.{root_found}
 use Rattle.vt_laws_later_calls.proofs.Granted.{called_raised}
@@ -20,6 +19,7 @@ use Rattle.vt_laws_later_calls.proofs.limits.Outcomes.{policy_by_judgement, refu
 use Rattle.vt_laws_later_calls.proofs.limits.StackedMounts.{IsStack, judged_by_room, mounted_world, mounts_after, one_more_mount}
 use Rattle.vt_laws_later_calls.proofs.limits.TopmostGrows.{topmost_is_new, topmost_of_free}
 use Rattle.vt_laws_later_calls.proofs.Readers.{own_name}
+use Rattle.vt_laws_trees.proofs.runs.answered.PlainStays.{plain_numbered}
 
 -- a filesystem with a directory is found where another comes last
 pub filesystem_stays : (world : World ℕ) (added : Filesystem ℕ) (number node : ℕ)
@@ -57,13 +57,13 @@ raised_task_is name task = by (same_name name task.name)
     by true = (raised task.change, refl)
     by false = (task.change, refl)
 
-module _ (world : World ℕ) (name : TaskName) (path word : List ℕ) (one : HasOneWord path word) (count : ℕ)
+module _ {world : World ℕ} {name : TaskName} {path word : List ℕ} (one : HasOneWord path word) {count : ℕ}
     (stack : IsStack world name word count) (fresh : Fresh ℕ) (flags : MountFlags) where
   -- a full namespace refuses one more mount
   pub full_stack_refuses : most_mounts ≤ count
       → policy nat_eq fresh world name (MountPlain path flags) ≡ denied world (denial M9)
   full_stack_refuses full = refused_call world fresh name stack.task (MountPlain path flags) stack.called (denial M9)
-      (judged_by_room world name path word one count stack fresh flags
+      (judged_by_room one stack fresh flags
       ∙ ap (λ b. unless ((b, M9) ∷ []) (Ok (ToMountPlain stack.top flags))) over)
     where
       over : nat_lt most_mounts (suc count) ≡ true
@@ -83,11 +83,11 @@ module _ (world : World ℕ) (name : TaskName) (path word : List ℕ) (one : Has
 
     -- the world with both, before change numbers are raised
     abbrev mounted : World ℕ
-    mounted = mounted_world world name path word one count stack fresh flags
+    mounted = mounted_world one stack fresh flags
 
     -- the world after the call
     abbrev pub stacked_world : World ℕ
-    stacked_world = numbers_raised nat_eq world name [] (mounted_world world name path word one count stack fresh flags)
+    stacked_world = numbers_raised nat_eq world name [] (mounted_world one stack fresh flags)
 
     -- the sweep takes nothing
     nothing_goes : settled nat_eq mounted ≡ mounted
@@ -97,7 +97,7 @@ module _ (world : World ℕ) (name : TaskName) (path word : List ℕ) (one : Has
     -- the call is granted
     pub stack_grows : policy nat_eq fresh world name (MountPlain path flags) ≡ granted Done stacked_world
     stack_grows = policy_by_judgement world fresh name stack.task (MountPlain path flags) stack.called
-        (Ok (ToMountPlain stack.top flags)) (judged_by_room world name path word one count stack fresh flags
+        (Ok (ToMountPlain stack.top flags)) (judged_by_room one stack fresh flags
         ∙ ap (λ b. unless ((b, M9) ∷ []) (Ok (ToMountPlain stack.top flags))) below)
         ∙ ap (λ left. granted Done (numbers_raised nat_eq world name [] left)) nothing_goes
       where
@@ -111,7 +111,7 @@ module _ (world : World ℕ) (name : TaskName) (path word : List ℕ) (one : Has
 
     -- Mounts
     pub mounts_are : stacked_world.mounts ≡ world.mounts ++ (new ∷ [])
-    mounts_are = mounts_after world name path word one count stack fresh flags
+    mounts_are = mounts_after one stack fresh flags
 
     -- the new mount is the last one
     new_is_there : Among new stacked_world.mounts
@@ -219,7 +219,7 @@ module _ (world : World ℕ) (name : TaskName) (path word : List ℕ) (one : Has
           destination = record { ends = new_is_free; directory = is_directory; stays = is_not_removed };
           private = ap (λ (mount : Mount ℕ). mount.propagation) new_is_found;
           inside = ap (λ (mount : Mount ℕ). mount.namespace) new_is_found ∙ stack.inside;
-          counted = one_more_mount world name path word one count stack fresh flags;
+          counted = one_more_mount one stack fresh flags;
         }
 
     -- its top is the root of the new mount, in the same namespace

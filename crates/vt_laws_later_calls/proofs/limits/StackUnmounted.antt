@@ -15,20 +15,20 @@ use Rattle.vt_laws_later_calls.proofs.limits.StackGrows.{grown_stack, grown_top,
 use Rattle.vt_laws_later_calls.proofs.limits.StackedMounts.{IsStack}
 use Rattle.vt_laws_later_calls.proofs.limits.UnmountedAgain.{new_is_found, none_on_new, none_uses_new, unmount_gives_back, with_new}
 
-module _ (world : World ℕ) (name : TaskName) (path word : List ℕ) (one : HasOneWord path word) (count : ℕ)
-    (stack : IsStack world name word count) (fresh : Fresh ℕ) (flags : MountFlags) (serves : Serves nat_eq world fresh)
-    (room : count < most_mounts) where
+module _ {world : World ℕ} {name : TaskName} {path word : List ℕ} (one : HasOneWord path word) {count : ℕ}
+    (stack : IsStack world name word count) {fresh : Fresh ℕ} (flags : MountFlags)
+    (serves : Serves nat_eq world fresh) (room : count < most_mounts) where
   abbrev new : Mount ℕ
   new = added_mount fresh world stack.top flags
 
   -- the world with one mount more, and the stack in it
   abbrev stacked : World ℕ
-  stacked = stacked_world world name path word one count stack fresh flags serves room
+  stacked = stacked_world one stack fresh flags serves room
 
   -- its stack
-  abbrev grown : IsStack (stacked_world world name path word one count stack fresh flags serves room) name word
+  abbrev grown : IsStack (stacked_world one stack fresh flags serves room) name word
       (suc count)
-  grown = grown_stack world name path word one count stack fresh flags serves room
+  grown = grown_stack one stack fresh flags serves room
 
   -- tasks use the locations that they used
   same_locations : all_locations (record world { tasks = stacked.tasks }) ≡ all_locations world
@@ -68,7 +68,7 @@ module _ (world : World ℕ) (name : TaskName) (path word : List ℕ) (one : Has
 
   -- the world with the new mount, by its parts
   abbrev with_mount : World ℕ
-  with_mount = with_new world fresh stack.top flags stack.is stack.plain serves stack.private (ap is_some stack.inside)
+  with_mount = with_new stack.top flags stack.is stack.plain serves stack.private (ap is_some stack.inside)
       stacked.tasks stacked.namespaces stacked.change same_locations given_back_in_use new
 
   -- The unmount is granted
@@ -78,15 +78,15 @@ module _ (world : World ℕ) (name : TaskName) (path word : List ℕ) (one : Has
   -- the mount is found by its number
   top_is_in : (one : World ℕ) → one ≡ with_mount → mount_numbered nat_eq one new.number ≡ new
   top_is_in one same =
-      cc (new_is_found world fresh stack.top flags stack.is stack.plain serves stack.private (ap is_some
+      cc (new_is_found stack.top flags stack.is stack.plain serves stack.private (ap is_some
       stack.inside) stacked.tasks stacked.namespaces stacked.change same_locations given_back_in_use)
 
   -- nothing stands on it, and no task uses it
   not_busy : (one : World ℕ) → one ≡ with_mount → is_busy nat_eq one new.number ≡ false
   not_busy one same = ap (λ (w : World ℕ). is_busy nat_eq w new.number) same
-      ∙ (λ i. none_on_new world fresh stack.top flags stack.is stack.plain serves stack.private
+      ∙ (λ i. none_on_new stack.top flags stack.is stack.plain serves stack.private
       (ap is_some stack.inside) stacked.tasks stacked.namespaces stacked.change same_locations given_back_in_use i
-      || none_uses_new world fresh stack.top flags stack.is stack.plain serves stack.private (ap is_some stack.inside)
+      || none_uses_new stack.top flags stack.is stack.plain serves stack.private (ap is_some stack.inside)
       stacked.tasks stacked.namespaces stacked.change same_locations given_back_in_use i)
 
   -- no rule refuses the unmount
@@ -98,7 +98,7 @@ module _ (world : World ℕ) (name : TaskName) (path word : List ℕ) (one : Has
       (end_of_one stacked grown.task path word one grown.object grown.top grown.way)
       (one_word_leads stacked grown.task path word one grown.object grown.top grown.way) grown.destination)
       ∙ ap (λ namespace. judged_by namespace grown.top) grown.inside ∙ ap (judged_by (Some grown.task.namespace))
-      (grown_top world name path word one count stack fresh flags serves room)
+      (grown_top one stack fresh flags serves room)
       ∙ (λ i. unless ((not (eq-eqb grown.task.namespace grown.task.namespace refl i), M2)
       ∷ (not (nat_eq new.root (top_is_in stacked stacked_is i).root), M7) ∷ (not_busy stacked stacked_is i, M8)
       ∷ (not (is_some (top_is_in stacked stacked_is i).mount_point), M10) ∷ []) (Ok permit))
@@ -115,7 +115,7 @@ module _ (world : World ℕ) (name : TaskName) (path word : List ℕ) (one : Has
           ∷ (not (is_some (mount_at nat_eq stacked top).mount_point), M10) ∷ []) (Ok (ToUnmount top.mount))
 
       stacked_is : stacked ≡ with_mount
-      stacked_is = stacked_world_is world name path word one count stack fresh flags serves room
+      stacked_is = stacked_world_is one stack fresh flags serves room
 
   -- the world after the unmount
   abbrev pub unmounted_world : World ℕ
@@ -127,7 +127,7 @@ module _ (world : World ℕ) (name : TaskName) (path word : List ℕ) (one : Has
   top_is_unmounted handed =
       policy_by_judgement stacked handed name grown.task (Umount path) grown.called (Ok permit) judged_unmount
       ∙ ap (λ (w : World ℕ). granted Done (numbers_raised nat_eq stacked name [] (settled nat_eq
-      (unmounted nat_eq w new.number)))) (stacked_world_is world name path word one count stack fresh flags serves room)
+      (unmounted nat_eq w new.number)))) (stacked_world_is one stack fresh flags serves room)
       ∙ ap (λ left. granted Done (numbers_raised nat_eq stacked name [] left))
-      (unmount_gives_back world fresh stack.top flags stack.is stack.plain serves stack.private
+      (unmount_gives_back stack.top flags stack.is stack.plain serves stack.private
       (ap is_some stack.inside) stacked.tasks stacked.namespaces stacked.change same_locations given_back_in_use)

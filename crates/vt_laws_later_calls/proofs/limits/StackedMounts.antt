@@ -24,7 +24,7 @@ pub record IsStack (world : World ℕ) (name : TaskName) (word : List ℕ) (coun
   pub inside : (mount_at nat_eq world top).namespace ≡ Some task.namespace
   pub counted : length (mounts_of nat_eq world task.namespace) ≡ count
 
-module _ (world : World ℕ) (name : TaskName) (path word : List ℕ) (one : HasOneWord path word) (count : ℕ)
+module _ {world : World ℕ} {name : TaskName} {path word : List ℕ} (one : HasOneWord path word) {count : ℕ}
     (stack : IsStack world name word count) (fresh : Fresh ℕ) (flags : MountFlags) where
   abbrev task : Task ℕ
   task = stack.task

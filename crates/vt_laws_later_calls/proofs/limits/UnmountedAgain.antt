@@ -15,14 +15,9 @@ use Rattle.vt_laws_mounts.proofs.letting_go.sweeps.OfWorlds.{locations_of_worlds
 use Rattle.vt_laws_worlds.specs.Worlds.Kept.{IsPlain}
 use Rattle.vt_laws_worlds.proofs.Plain.{no_overlay}
 use Rattle.vt_laws_later_calls.proofs.limits.AddedMount.{added_filesystem, added_mount, attached_is_mount, other_number}
+use Rattle.vt_laws_mounts.proofs.GroupsUp.{live_members}
 
--- a group that lives has a member
-lives_has_members : {members : ℕ → Bool} {master : ℕ → Option ℕ} {group : ℕ} → Lives members master group
-    → members group ≡ true
-lives_has_members (has_no_master it members none) = members
-lives_has_members (has_master it above members some lives) = members
-
-module _ (world : World ℕ) (fresh : Fresh ℕ) (place : Location ℕ) (flags : MountFlags) (is : IsWorld nat_eq world)
+module _ {world : World ℕ} {fresh : Fresh ℕ} (place : Location ℕ) (flags : MountFlags) (is : IsWorld nat_eq world)
     (plain : IsPlain world) (serves : Serves nat_eq world fresh)
     (private : (mount_at nat_eq world place).propagation ≡ Private)
     (attached : is_some (mount_at nat_eq world place).namespace ≡ true) where
@@ -137,7 +132,7 @@ module _ (world : World ℕ) (fresh : Fresh ℕ) (place : Location ℕ) (flags :
             not ((same_members it ∙ members) i) || is_lost_group nat_eq (with_new (detached new)) (none i)
         of_master group (has_master it above members some lives) = λ i. not ((same_members it ∙ members) i)
             || (ap (is_lost_group nat_eq (with_new (detached new))) some
-            ∙ ap not (same_members above ∙ lives_has_members lives)) i
+            ∙ ap not (same_members above ∙ live_members _ _ _ lives)) i
 
         by : Among mount world.mounts → (source : Option ℕ) → source_of mount.propagation ≡ source
             → lost_a_group nat_eq (with_new (detached new)) mount ≡ false

@@ -2,7 +2,6 @@
 use Rattle.std.proofs.Common.{arith, ◌≡◌, refl, sym, ap, ◌∙◌, ⊎_elim, ℕ, nat_eq, Bool, true, false, cond, List, [], ◌++◌, Option, Some, None, append_assoc, filter, map}
 use Rattle.vt_spec.proofs.Common.{Among, Copies, Filesystem, Mount, Task, TaskName, World, among-filter, among-from_filter, any_among, attached_by, common_steps, folded, is_member_of, is_own_mount, list_any, master_above, masters_with, members, numbers_raised, own_mounts, part_of, part_of_master, source_of}
 use Rattle.vt_laws_mounts.proofs.GroupsUp.{source_from_group}
-use Rattle.vt_laws_sealed.proofs.part.groups.ReceiversAlike.{member_group}
 use Rattle.vt_laws_sealed.proofs.part.part.PartOfPart.{is_own, same_members, same_own}
 use Rattle.vt_laws_members.proofs.changes.letting_go.Heard.{heard_by_own, master_same}
 use Rattle.vt_laws_members.proofs.changes.part.PartAgain.{part_again}
@@ -12,12 +11,12 @@ use Rattle.vt_laws_members.proofs.attached.KnownMasters.{copy_known}
 use Rattle.vt_laws_members.proofs.attached.PartGrows.{part_grows}
 use Rattle.vt_laws_members.proofs.attached.PushedUp.{ShowTheirs, all_copies, copies_grow, of_copies, push_keeps}
 use Rattle.vt_laws_members.proofs.attached.RaisedAlike.{parts_left}
+use Rattle.vt_laws_sealed.proofs.part.groups.EventsApart.{member_group}
 use Rattle.vt_laws_sealed.proofs.part.seals.ByPart.{IsSealed}
 
 -- a world and its part grow alike, if the masters of what is theirs then are the same in both
-module _ {world : World ℕ} {names : List TaskName} (sealing : IsSealed world names) (change : Mount ℕ → Mount ℕ)
-    (added : List (Mount ℕ))
-    (new_ones : List (Filesystem ℕ)) (master master_too : ℕ → Option ℕ)
+module _ {world : World ℕ} {names : List TaskName} (sealing : IsSealed world names) {change : Mount ℕ → Mount ℕ}
+    {added : List (Mount ℕ)} {new_ones : List (Filesystem ℕ)} {master : ℕ → Option ℕ} (master_too : ℕ → Option ℕ)
     (grows : Grows world names change added new_ones master)
     (known : (y : Mount ℕ) → Among y (map change world.mounts ++ added)
     → is_own world names (members world names) y ≡ true → (g : ℕ) → source_of y.propagation ≡ Some g
@@ -46,7 +45,7 @@ module _ {world : World ℕ} {names : List TaskName} (sealing : IsSealed world n
 
   of_part : part_of nat_eq u_part names ≡ grown_by part (part_of_master nat_eq u_part names)
   of_part = part_grown part names change added new_ones master_too
-      (part_grows world names sealing.is change added new_ones master master_too grows) ∙ ap
+      (part_grows sealing.is master_too grows) ∙ ap
       (λ (w : World ℕ). grown_by w (part_of_master nat_eq u_part names)) (part_again world names sealing.is)
 
   pub own_alike : own_mounts nat_eq u_part names ≡ own_mounts nat_eq u names
@@ -123,7 +122,6 @@ module _ {world : World ℕ} {names : List TaskName} (attaching : AttachesTheirs
       (numbers_raised nat_eq (part_of nat_eq world names) name []
       (attached_by nat_eq (base_part attaching) new attaching.place false origins)) names
   copies_alike name = ap (λ w. part_of nat_eq (numbers_raised nat_eq world name [] w) names) (as_grown world)
-      ∙ grown_alike attaching.sealing up added attaching.new_ones (with_made world.master)
-      (with_made (part_of nat_eq world names).master) grows known name ∙ sym
+      ∙ grown_alike attaching.sealing (with_made (part_of nat_eq world names).master) grows known name ∙ sym
       (ap (λ w. part_of nat_eq (numbers_raised nat_eq (part_of nat_eq world names) name [] w) names)
       (attached_there attaching new false origins ∙ as_grown (part_of nat_eq world names)))

@@ -13,8 +13,8 @@ use Rattle.vt_laws_members.proofs.changes.letting_go.Sweep.{part_of_settled, swe
 use Rattle.vt_laws_members.proofs.attached.CopiesAlike.{no_new_ones}
 use Rattle.vt_laws_members.proofs.attached.GrownPart.{Grows, as_before, grown_world, lowers_stay, shows_still, used_same}
 
-module _ (v : World ℕ) (names : List TaskName) (change : Mount ℕ → Mount ℕ) (added : List (Mount ℕ))
-    (master : ℕ → Option ℕ) (used : List ℕ) (lowers : List (Layer ℕ)) (ready : Ready v names used lowers)
+module _ {v : World ℕ} {names : List TaskName} {change : Mount ℕ → Mount ℕ} {added : List (Mount ℕ)}
+    {master : ℕ → Option ℕ} {used : List ℕ} {lowers : List (Layer ℕ)} (ready : Ready v names used lowers)
     (grows : Grows v names change added [] master) where
   -- the world with these mounts and masters
   abbrev pub grown : World ℕ

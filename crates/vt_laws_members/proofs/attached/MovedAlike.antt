@@ -1,7 +1,6 @@
 -- Where a tree of theirs moves, the worlds that are left have one part after the sweep.
 use Rattle.std.proofs.Common.{◌≡◌, refl, sym, ap, subst, ◌∙◌, ℕ, nat_eq, true, cond, List, [], ◌++◌, Option, Some, None, filter, map, All}
 use Rattle.vt_spec.proofs.Common.{Among, HasLivingGroups, Location, Mount, TaskName, World, all_locations, among-filter, among-from_filter, among_from_all, among_from_list_all, filter_all, has_members, is_among, is_nowhere_or_attached, is_own_mount, list_all, master_above, members, mount_lives, numbers_raised, own_lowers, part_of, settled, source_of, then_some, used_filesystems, with_mounts}
-use Rattle.vt_laws_members.proofs.namespaces.RemadeRaised.{lives_members}
 use Rattle.vt_laws_mounts.proofs.letting_go.sweeps.OfWorlds.{all_in_use, locations_of_worlds_stand}
 use Rattle.vt_laws_mounts.specs.Mounts.Invariants.{OneNumberEach}
 use Rattle.vt_laws_mounts.specs.Mounts.Standing.{AllStand}
@@ -18,6 +17,7 @@ use Rattle.vt_laws_members.proofs.attached.GrownReady.{all_live, grown, grown_se
 use Rattle.vt_laws_members.proofs.attached.PartGrows.{part_grows}
 use Rattle.vt_laws_members.proofs.attached.RaisedAlike.{parts_left}
 use Rattle.vt_laws_members.proofs.changes.letting_go.TasksStay.{tasks_stay}
+use Rattle.vt_laws_mounts.proofs.GroupsUp.{live_members}
 use Rattle.vt_laws_sealed.proofs.part.seals.ByPart.{IsSealed}
 
 module _ {world : World ℕ} {names : List TaskName} (sealing : IsSealed world names) where
@@ -51,50 +51,45 @@ module _ {world : World ℕ} {names : List TaskName} (sealing : IsSealed world n
     → master_too g ≡ master g) where
   abbrev pub left_here : World ℕ
   left_here =
-      grown world names change added master (used_filesystems nat_eq world names) (own_lowers nat_eq world names)
-      (ready_here sealing) grows
+      grown (ready_here sealing) grows
 
   abbrev pub grows_there : Grows (part_of nat_eq world names) names change added [] master_too
-  grows_there = part_grows world names sealing.is change added [] master master_too grows
+  grows_there = part_grows sealing.is master_too grows
 
   abbrev pub left_there : World ℕ
-  left_there = grown (part_of nat_eq world names) names change added master_too (used_filesystems nat_eq world names)
-      (own_lowers nat_eq world names) (ready_there sealing) grows_there
+  left_there = grown
+      (ready_there sealing) grows_there
 
   module _ (stays : Stays left_here) (stays_there : Stays left_there) where
     settled_here : part_of nat_eq (settled nat_eq left_here) names ≡ swept_of names (part_of nat_eq left_here names)
-    settled_here = grown_settled world names change added master (used_filesystems nat_eq world names)
-        (own_lowers nat_eq world names) (ready_here sealing) grows (among_from_list_all
+    settled_here = grown_settled
+        (ready_here sealing) grows (among_from_list_all
         (λ (l : Location ℕ). is_among nat_eq l.mount (map (λ (m : Mount ℕ). m.number) world.mounts))
         (all_locations world) (locations_of_worlds_stand world sealing.is)) stays.one stays.stands stays.nowhere
 
     settled_there : part_of nat_eq (settled nat_eq left_there) names ≡ swept_of names (part_of nat_eq left_there names)
     settled_there =
-        grown_settled (part_of nat_eq world names) names change added master_too (used_filesystems nat_eq world names)
-        (own_lowers nat_eq world names) (ready_there sealing) grows_there (located_there world names sealing.is)
+        grown_settled (ready_there sealing) grows_there (located_there world names sealing.is)
         stays_there.one stays_there.stands stays_there.nowhere
 
     same_part : part_of nat_eq left_there names ≡ part_of nat_eq left_here names
     same_part = sym (ap (λ w. part_of nat_eq w names)
-        (without_new (part_of nat_eq world names) names change added master_too (used_filesystems nat_eq world names)
-        (own_lowers nat_eq world names) (ready_there sealing) grows_there)) ∙ one_part sealing change added [] master
-        master_too grows known ∙ ap (λ w. part_of nat_eq w names) (without_new world names change added master
-        (used_filesystems nat_eq world names) (own_lowers nat_eq world names) (ready_here sealing) grows)
+        (without_new (ready_there sealing) grows_there)) ∙ one_part sealing
+        master_too grows known ∙ ap (λ w. part_of nat_eq w names) (without_new (ready_here sealing) grows)
 
     swept_alike : part_of nat_eq (settled nat_eq left_there) names ≡ part_of nat_eq (settled nat_eq left_here) names
     swept_alike = settled_there ∙ ap (swept_of names) same_part ∙ sym settled_here
 
     -- all mounts stay
     mounts_here : filter (mount_lives nat_eq left_here) left_here.mounts ≡ left_here.mounts
-    mounts_here = all_live world names change added master (used_filesystems nat_eq world names)
-        (own_lowers nat_eq world names) (ready_here sealing) grows (among_from_list_all
+    mounts_here = all_live
+        (ready_here sealing) grows (among_from_list_all
         (λ (l : Location ℕ). is_among nat_eq l.mount (map (λ (m : Mount ℕ). m.number) world.mounts))
         (all_locations world) (locations_of_worlds_stand world sealing.is)) stays.one stays.stands stays.nowhere
 
     mounts_there : filter (mount_lives nat_eq left_there) left_there.mounts ≡ left_there.mounts
     mounts_there =
-        all_live (part_of nat_eq world names) names change added master_too (used_filesystems nat_eq world names)
-        (own_lowers nat_eq world names) (ready_there sealing) grows_there (located_there world names sealing.is)
+        all_live (ready_there sealing) grows_there (located_there world names sealing.is)
         stays_there.one stays_there.stands stays_there.nowhere
 
     -- so groups of theirs keep their masters
@@ -108,14 +103,14 @@ module _ {world : World ℕ} {names : List TaskName} (sealing : IsSealed world n
 
         there : Among m left_there.mounts
         there = (among-from_filter (is_own_mount nat_eq left_there names) left_there.mounts m
-            (subst (Among m) (sym (own_alike sealing change added [] master master_too grows known))
+            (subst (Among m) (sym (own_alike sealing master_too grows known))
             (among-filter (is_own_mount nat_eq left_here names) left_here.mounts m here own))).0
 
         members_in : (w : World ℕ) → Stays w → filter (mount_lives nat_eq w) w.mounts ≡ w.mounts → Among m w.mounts
             → (g : ℕ) → source_of m.propagation ≡ Some g
             → has_members nat_eq (filter (mount_lives nat_eq w) w.mounts) g ≡ true
         members_in w it all at g e = ap (λ l. has_members nat_eq l g) all
-            ∙ lives_members (has_members nat_eq w.mounts) w.master g
+            ∙ live_members w.master (has_members nat_eq w.mounts) g
             (among_from_all (HasLivingGroups nat_eq w) w.mounts it.groups m at g e)
 
         by : (o : Option ℕ) → source_of m.propagation ≡ o

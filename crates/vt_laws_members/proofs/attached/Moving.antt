@@ -99,8 +99,8 @@ moves_stay w fresh from here serves kept can attached from_there = record {
 -- A granted move
 module _ {world : World ℕ} {names : List TaskName} {name : TaskName} {source path : List ℕ}
     (it : IsCallOfTheirs world names name (MoveMount source path)) (task : Task ℕ)
-    (called : task_called world name ≡ Some task) (fresh : Fresh ℕ) (serves : Serves nat_eq world fresh)
-    (from here : Location ℕ) (to : MovesTo world names from here)
+    (called : task_called world name ≡ Some task) {fresh : Fresh ℕ} (serves : Serves nat_eq world fresh)
+    {from here : Location ℕ} (to : MovesTo world names from here)
     (judged : judge_in nat_eq fresh world task (MoveMount source path) ≡ Ok (ToMove from.mount here)) where
   abbrev part : World ℕ
   part = part_of nat_eq world names
@@ -177,8 +177,7 @@ module _ {world : World ℕ} {names : List TaskName} {name : TaskName} {source p
 
   now_so : now ≡ left
   now_so = ap (attached_to origins) (no_new_ones world) ∙ moved_as moving world
-      ∙ without_new world names change added (with_made world.master) (used_filesystems nat_eq world names)
-      (own_lowers nat_eq world names) (ready_here (sealing_of it)) grows
+      ∙ without_new (ready_here (sealing_of it)) grows
 
   same_tree : moved_tree nat_eq part from.mount ≡ origins
   same_tree = ap (mount_tree nat_eq part.mounts) (same_mount world names it.is.mounts from.mount from_theirs)
@@ -188,9 +187,8 @@ module _ {world : World ℕ} {names : List TaskName} {name : TaskName} {source p
   there_so : now_there ≡ left_too
   there_so = ap (λ l. attached_to l part) same_tree ∙ ap (attached_to origins) (no_new_ones part)
       ∙ ap (λ l. attached_by nat_eq (base_part attaching) (copies_from nat_eq fresh l origins) here true origins)
-      (parts_alike attaching) ∙ attached_there attaching new true origins ∙ moved_as moving part
-      ∙ without_new part names change added (with_made part.master) (used_filesystems nat_eq world names)
-      (own_lowers nat_eq world names) (ready_there (sealing_of it)) (grows_there (sealing_of it) change added
+      (parts_alike attaching) ∙ attached_there attaching new true origins ∙ moved_as moving part ∙ without_new
+      (ready_there (sealing_of it)) (grows_there (sealing_of it) change added
       (with_made world.master) (with_made part.master) grows (moved_known moving
       (λ a b. group_new world names it.is fresh serves _)))
 
@@ -250,8 +248,7 @@ moves_end_alike world names name source path it fresh serves = by (task_called w
         → (j : Judgement ℕ) → judge_in nat_eq fresh world task (MoveMount source path) ≡ j
         → IfOk j (Moves member)
         → EndsAlike world names name (MoveMount source path) fresh fresh
-    judged_by task member e (Ok permit) judged its =
-        move_ends it task e fresh serves its.0 its.1 its.3 (judged ∙ ap Ok its.2)
+    judged_by task member e (Ok permit) judged its = move_ends it task e serves its.3 (judged ∙ ap Ok its.2)
     judged_by task member e (Err deny) judged its =
         denial_ends_alike it fresh fresh (ap (λ o. is_ok (ran name (MoveMount source path) world fresh o).answer) e
         ∙ ap (λ j. is_ok (run_by it world fresh task j).answer) judged)

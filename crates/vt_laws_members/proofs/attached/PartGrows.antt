@@ -5,8 +5,8 @@ use Rattle.vt_laws_sealed.proofs.part.part.PartOfPart.{is_own, keep, kept_how, s
 use Rattle.vt_laws_members.proofs.attached.Destination.{located_there}
 use Rattle.vt_laws_members.proofs.attached.GrownPart.{Grows, is_new}
 
-module _ (world : World ℕ) (names : List TaskName) (is : IsWorld nat_eq world) (change : Mount ℕ → Mount ℕ)
-    (added : List (Mount ℕ)) (new : List (Filesystem ℕ)) (master master_too : ℕ → Option ℕ)
+module _ {world : World ℕ} {names : List TaskName} (is : IsWorld nat_eq world) {change : Mount ℕ → Mount ℕ}
+    {added : List (Mount ℕ)} {new : List (Filesystem ℕ)} {master : ℕ → Option ℕ} (master_too : ℕ → Option ℕ)
     (it : Grows world names change added new master) where
   abbrev part : World ℕ
   part = part_of nat_eq world names

@@ -7,9 +7,8 @@ use Rattle.vt_laws_sealed.proofs.part.Kept.{filter_again, filter_both}
 use Rattle.vt_laws_sealed.proofs.part.part.PartOfPart.{is_own, keep, kept_how, kept_whole, same_members}
 use Rattle.vt_laws_members.proofs.changes.letting_go.EndedRaised.{raised_number, same_list_alike}
 use Rattle.vt_laws_members.proofs.changes.letting_go.Heard.{heard_by_own, master_same, own_in, space_in_part}
-use Rattle.vt_laws_members.proofs.changes.files.FilesRaised.{raised_is}
 use Rattle.vt_laws_members.proofs.changes.tasks.Retasked.{retasked}
-use Rattle.vt_laws_members.proofs.changes.tasks.Rights.{sees_alike}
+use Rattle.vt_laws_members.proofs.changes.tasks.Rights.{raised_is, sees_alike}
 use Rattle.vt_laws_sealed.proofs.part.seals.ByPart.{IsSealed}
 
 -- the namespaces of these tasks

@@ -4,11 +4,11 @@ use Rattle.vt_spec.proofs.Common.{Among, Filesystem, Fresh, IsWorld, Layer, Loca
 use Rattle.vt_laws_mounts.proofs.GroupsUp.{source_from_group}
 use Rattle.vt_laws_sealed.proofs.part.part.MountsOver.{numbered}
 use Rattle.vt_laws_mounts.proofs.letting_go.sweeps.OfWorlds.{all_in_use}
-use Rattle.vt_laws_sealed.proofs.part.groups.ReceiversAlike.{member_group}
 use Rattle.vt_laws_sealed.proofs.part.seals.ByPart.{layer_directory}
 use Rattle.vt_laws_members.proofs.judging.LowersSeen.{overlay_there}
 use Rattle.vt_laws_members.proofs.attached.GrownPart.{used_how}
 use Rattle.vt_laws_members.proofs.attached.Destination.{located_well}
+use Rattle.vt_laws_sealed.proofs.part.groups.EventsApart.{member_group}
 
 module _ (world : World ℕ) (names : List TaskName) (is : IsWorld nat_eq world) where
   -- a filesystem of the world has this number

@@ -236,9 +236,8 @@ module _ {world : World ℕ} {names : List TaskName} {task : Task ℕ} (member :
       overlay_alike one other task own uses judges layers overfills path options flags
   judged overfills (Bind source path recursive) t =
       bind_alike one other task own uses judges overfills source path recursive
-  judged overfills (MoveMount source path) t =
-      move_alike one other task own uses judges parents trees overfills source path
-  judged overfills (Umount path) t = umount_alike one other task own uses judges parents trees path
+  judged overfills (MoveMount source path) t = move_alike uses judges parents trees overfills source path
+  judged overfills (Umount path) t = umount_alike uses judges parents trees path
   judged overfills (Lazy path) t = lazy_alike one other task own uses judges overfills path
   judged overfills (Remount path flags) t = remount_alike one other task own uses judges parents path flags
   judged overfills (SetType path word recursive) t =

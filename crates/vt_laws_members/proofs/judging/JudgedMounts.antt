@@ -4,7 +4,7 @@ use Rattle.vt_spec.proofs.Common.{Here, Judgement, Location, Looks, MountFlags, 
 use Rattle.vt_spec.specs.Machine.Looks.{mount_at}
 use Rattle.vt_spec.specs.Machine.Rules.Mounting.{lazy_rules}
 use Rattle.vt_laws_members.proofs.judging.Judged.{JudgesAlike, Stands}
-use Rattle.vt_laws_members.proofs.judging.Masks.{by_mask, masked}
+use Rattle.vt_laws_members.proofs.judging.Masks.{by_mask}
 use Rattle.vt_laws_members.proofs.judging.WalksLead.{destination_agrees, directory_agrees, judged_alike, source_agrees}
 
 module _ (one other : Looks ℕ) (task : Task ℕ) (own uses : ℕ → Bool) (alike : JudgesAlike one other task own uses)
@@ -14,10 +14,6 @@ module _ (one other : Looks ℕ) (task : Task ℕ) (own uses : ℕ → Bool) (al
 
   abbrev StandsThere : Here ℕ → Type 0
   StandsThere = Stands one other task own uses alike
-
-  same_asked : {R : Type 0} (asked : Looks ℕ → R)
-      → ((looks : Looks ℕ) → asked (masked own uses looks) ≡ asked looks) → asked one ≡ asked other
-  same_asked asked covered = by_mask own uses one other alike.rules asked covered
 
   abbrev plain_by : MountFlags → Location ℕ → Looks ℕ → Judgement ℕ
   plain_by flags here looks = attach_permit (new_mount_rules nat_eq looks task here) overfills (ToMountPlain here flags)
@@ -29,7 +25,7 @@ module _ (one other : Looks ℕ) (task : Task ℕ) (own uses : ℕ → Bool) (al
       (judged_alike StandsThere (destination_walk nat_eq one task path) (destination_walk nat_eq other task path)
       (λ here. plain_by flags here.location one) (λ here. plain_by flags here.location other)
       (destination_agrees one other task On alike.walks alike.directory alike.rules.removed path)
-      (λ here on. same_asked (plain_by flags here.location) (λ looks. rw (is_elsewhere, mount_at, on) refl)))
+      (λ here on. by_mask own uses one other alike.rules (plain_by flags here.location) (λ looks. rw (is_elsewhere, mount_at, on) refl)))
 
   abbrev bind_by : Bool → Location ℕ → Location ℕ → Looks ℕ → Judgement ℕ
   bind_by recursive from here looks =
@@ -50,7 +46,7 @@ module _ (one other : Looks ℕ) (task : Task ℕ) (own uses : ℕ → Bool) (al
       (λ here. bind_by recursive from.location here.location one)
       (λ here. bind_by recursive from.location here.location other)
       (destination_agrees one other task On alike.walks alike.directory alike.rules.removed path)
-      (λ here on. same_asked (bind_by recursive from.location here.location)
+      (λ here on. by_mask own uses one other alike.rules (bind_by recursive from.location here.location)
       (λ looks. rw (is_elsewhere, mount_at, there, on) refl))))
 
   abbrev lazy_by : Location ℕ → Looks ℕ → Judgement ℕ
@@ -62,7 +58,7 @@ module _ (one other : Looks ℕ) (task : Task ℕ) (own uses : ℕ → Bool) (al
       (judged_alike StandsThere (directory_walk nat_eq one task path) (directory_walk nat_eq other task path)
       (λ here. lazy_by here.location one) (λ here. lazy_by here.location other)
       (directory_agrees one other task On alike.walks alike.directory alike.rules.removed path)
-      (λ here on. same_asked (lazy_by here.location) (λ looks. rw (is_elsewhere, is_no_root, mount_at, on) refl)))
+      (λ here on. by_mask own uses one other alike.rules (lazy_by here.location) (λ looks. rw (is_elsewhere, is_no_root, mount_at, on) refl)))
 
   abbrev type_by : TypeWord → Bool → Location ℕ → Looks ℕ → Judgement ℕ
   type_by word recursive here looks =
@@ -75,5 +71,5 @@ module _ (one other : Looks ℕ) (task : Task ℕ) (own uses : ℕ → Bool) (al
       (judged_alike StandsThere (directory_walk nat_eq one task path) (directory_walk nat_eq other task path)
       (λ here. type_by word recursive here.location one) (λ here. type_by word recursive here.location other)
       (directory_agrees one other task On alike.walks alike.directory alike.rules.removed path)
-      (λ here on. same_asked (type_by word recursive here.location)
+      (λ here on. by_mask own uses one other alike.rules (type_by word recursive here.location)
       (λ looks. rw (is_elsewhere, is_no_root, mount_at, on) refl)))

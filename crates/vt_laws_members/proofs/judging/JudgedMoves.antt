@@ -5,7 +5,7 @@ use Rattle.vt_spec.specs.declared.errors.Rule.TheVariants.{M2, M4, M5, M6, M7, M
 use Rattle.vt_spec.specs.Machine.Looks.{mount_at}
 use Rattle.vt_laws_members.proofs.judging.Judged.{JudgesAlike, Stands}
 use Rattle.vt_laws_members.proofs.judging.JudgedPivots.{ParentsAlike}
-use Rattle.vt_laws_members.proofs.judging.Masks.{by_mask, masked}
+use Rattle.vt_laws_members.proofs.judging.Masks.{by_mask}
 use Rattle.vt_laws_members.proofs.judging.WalksLead.{destination_agrees, directory_agrees, judged_alike, source_agrees}
 
 -- what these ask for besides: whether a mount of the task's namespace is busy, and trees of mounts
@@ -14,17 +14,14 @@ pub record TreesAlike (one other : Looks ℕ) (task : Task ℕ) (own : ℕ → B
       → one.is_busy here.mount ≡ other.is_busy here.mount
   pub tree : (here : Location ℕ) → own here.mount ≡ true → one.mount_tree here.mount ≡ other.mount_tree here.mount
 
-module _ (one other : Looks ℕ) (task : Task ℕ) (own uses : ℕ → Bool) (alike : JudgesAlike one other task own uses)
-    (parents : ParentsAlike one other task own) (trees : TreesAlike one other task own) where
+module _ {one other : Looks ℕ} {task : Task ℕ} {own : ℕ → Bool} (uses : ℕ → Bool)
+    (alike : JudgesAlike one other task own uses) (parents : ParentsAlike one other task own)
+    (trees : TreesAlike one other task own) where
   abbrev On : ℕ → Type 0
   On number = own number ≡ true
 
   abbrev StandsThere : Here ℕ → Type 0
   StandsThere = Stands one other task own uses alike
-
-  same_asked : {R : Type 0} (asked : Looks ℕ → R)
-      → ((looks : Looks ℕ) → asked (masked own uses looks) ≡ asked looks) → asked one ≡ asked other
-  same_asked asked covered = by_mask own uses one other alike.rules asked covered
 
   -- the rules of umount(2), with whether the mount is busy
   abbrev unmount_by : Location ℕ → Bool → Looks ℕ → Judgement ℕ
@@ -44,7 +41,7 @@ module _ (one other : Looks ℕ) (task : Task ℕ) (own uses : ℕ → Bool) (al
       (λ here. unmount_by here.location (other.is_busy here.location.mount) other)
       (directory_agrees one other task On alike.walks alike.directory alike.rules.removed path) (λ here on.
       busy_by here.location on (is_elsewhere nat_eq one task here.location) refl
-      ∙ same_asked (unmount_by here.location (other.is_busy here.location.mount))
+      ∙ by_mask own uses one other alike.rules (unmount_by here.location (other.is_busy here.location.mount))
       (λ looks. rw (is_elsewhere, is_no_root, mount_at, on) refl)))
 
   -- the rules of a move, with the tree that moves and whether it has a shared parent
@@ -64,7 +61,7 @@ module _ (one other : Looks ℕ) (task : Task ℕ) (own uses : ℕ → Bool) (al
   move_same overfull from here there on = cc (
     parents.parent from there,
     trees.tree from there,
-    same_asked (move_of overfull from here other) (λ looks. rw (is_elsewhere, is_no_root, mount_at, there, on) refl),
+    by_mask own uses one other alike.rules (move_of overfull from here other) (λ looks. rw (is_elsewhere, is_no_root, mount_at, there, on) refl),
   )
 
   pub move_alike : (overfills : Permit ℕ → Bool) (source path : List ℕ)

@@ -7,7 +7,7 @@ use Rattle.vt_spec.specs.Machine.Looks.{mount_at}
 use Rattle.vt_spec.specs.Machine.Rules.Mounting.{lie_apart, upper_and_work_locations}
 use Rattle.vt_laws_sealed.proofs.part.walks.WalksAgree.{Agree, Each}
 use Rattle.vt_laws_members.proofs.judging.Judged.{JudgesAlike, Stands}
-use Rattle.vt_laws_members.proofs.judging.Masks.{by_mask, masked}
+use Rattle.vt_laws_members.proofs.judging.Masks.{by_mask}
 use Rattle.vt_laws_members.proofs.judging.WalksLead.{destination_agrees, judged_alike, source_agrees}
 
 -- tests that agree on a list
@@ -205,10 +205,6 @@ module _ (one other : Looks ℕ) (task : Task ℕ) (own uses : ℕ → Bool) (al
           O5,
         ) ∷ []
 
-  same_asked : {R : Type 0} (asked : Looks ℕ → R)
-      → ((looks : Looks ℕ) → asked (masked own uses looks) ≡ asked looks) → asked one ≡ asked other
-  same_asked asked covered = by_mask own uses one other alike.rules asked covered
-
   abbrev mount_by : (Permit ℕ → Bool) → Location ℕ → MountFlags → LayerLocations ℕ → Overlay ℕ → Looks ℕ → Looks ℕ
       → Judgement ℕ
   mount_by overfills here flags layers overlay asked looks = unless (layer_rules nat_eq asked layers overlay)
@@ -229,7 +225,7 @@ module _ (one other : Looks ℕ) (task : Task ℕ) (own uses : ℕ → Bool) (al
       by (Ok layers) (e, all) =
           ap (λ rules. unless rules (attach_permit (new_mount_rules nat_eq one task here) overfills
           (ToMountOverlay here (overlay_at one task layers) flags))) (same_rules layers all)
-          ∙ same_asked (mount_by overfills here flags layers (overlay_at one task layers) other)
+          ∙ by_mask own uses one other alike.rules (mount_by overfills here flags layers (overlay_at one task layers) other)
           (λ looks. rw (is_elsewhere, mount_at, on) refl)
           ∙ ap (λ overlay. mount_by overfills here flags layers overlay other other) (same_overlay layers all)
           ∙ ap (λ r. and_then r (next other)) e

@@ -4,7 +4,7 @@ use Rattle.vt_spec.proofs.Common.{Here, Judgement, Location, Looks, MountFlags, 
 use Rattle.vt_spec.specs.declared.errors.Rule.TheVariants.{M2, M7, M8, M11, M12}
 use Rattle.vt_spec.specs.Machine.Looks.{mount_at}
 use Rattle.vt_laws_members.proofs.judging.Judged.{JudgesAlike, Stands}
-use Rattle.vt_laws_members.proofs.judging.Masks.{by_mask, masked}
+use Rattle.vt_laws_members.proofs.judging.Masks.{by_mask}
 use Rattle.vt_laws_members.proofs.judging.WalksLead.{destination_agrees, directory_agrees, judged_alike, source_agrees}
 
 -- what these ask for besides: descriptors through a mount of the task's namespace, and mounts below a location
@@ -24,10 +24,6 @@ module _ (one other : Looks ℕ) (task : Task ℕ) (own uses : ℕ → Bool) (al
 
   abbrev StandsThere : Here ℕ → Type 0
   StandsThere = Stands one other task own uses alike
-
-  same_asked : {R : Type 0} (asked : Looks ℕ → R)
-      → ((looks : Looks ℕ) → asked (masked own uses looks) ≡ asked looks) → asked one ≡ asked other
-  same_asked asked covered = by_mask own uses one other alike.rules asked covered
 
   -- the rules of a change of flags, with whether a file is open for writing through the mount
   abbrev flags_by : MountFlags → Location ℕ → Bool → Looks ℕ → Judgement ℕ
@@ -49,7 +45,7 @@ module _ (one other : Looks ℕ) (task : Task ℕ) (own uses : ℕ → Bool) (al
       (λ here. flags_by flags here.location (other.is_written_through here.location.mount) other)
       (directory_agrees one other task On alike.walks alike.directory alike.rules.removed path) (λ here on.
       by_namespace flags here.location on (is_elsewhere nat_eq one task here.location) refl
-      ∙ same_asked (flags_by flags here.location (other.is_written_through here.location.mount))
+      ∙ by_mask own uses one other alike.rules (flags_by flags here.location (other.is_written_through here.location.mount))
       (λ looks. rw (is_elsewhere, is_no_root, mount_at, on) refl)))
 
   -- the rules of pivot_root(2), with what they ask of mounts below
@@ -70,7 +66,7 @@ module _ (one other : Looks ℕ) (task : Task ℕ) (own uses : ℕ → Bool) (al
       → pivot_of one new put one ≡ pivot_of other new put other
   pivot_same new put on_new on_put =
       let on_root : own task.root.mount ≡ true = alike.walks.root in
-      same_asked (pivot_of one new put) (λ looks. rw (is_elsewhere, is_no_root, mount_at, on_root, on_new, on_put) refl)
+      by_mask own uses one other alike.rules (pivot_of one new put) (λ looks. rw (is_elsewhere, is_no_root, mount_at, on_root, on_new, on_put) refl)
       ∙ ap (λ b. pivot_by new put b (lies_under_location nat_eq one new put) (has_shared_parent one new)
       (has_shared_parent one task.root) other) (parents.descends task.root.mount new on_new)
       ∙ ap (λ b. pivot_by new put (is_on_descendant nat_eq other task.root.mount new) b (has_shared_parent one new)

@@ -34,10 +34,6 @@ module _ (one other : Looks ℕ) (task : Task ℕ) (own uses : ℕ → Bool) (al
   abbrev IsFoundAt : Option (Location ℕ) → Type 0
   IsFoundAt = IsFound one other task own uses alike
 
-  same_asked : {R : Type 0} (asked : Looks ℕ → R)
-      → ((looks : Looks ℕ) → asked (masked own uses looks) ≡ asked looks) → asked one ≡ asked other
-  same_asked asked covered = by_mask own uses one other alike.rules asked covered
-
   -- the rules of rmdir(2), with P1 given
   abbrev rmdir_by : Place ℕ → Location ℕ → Bool → Looks ℕ → Judgement ℕ
   rmdir_by place object point looks = unless ((not (is_directory_at looks object), E3) ∷ (is_nonempty looks object, E4)
@@ -51,7 +47,7 @@ module _ (one other : Looks ℕ) (task : Task ℕ) (own uses : ℕ → Bool) (al
       → rmdir_by place object (is_mount_point_in nat_eq one task.namespace object) one
       ≡ rmdir_by place object (is_mount_point_in nat_eq other task.namespace object) other
   rmdir_same place object on there =
-      same_asked (rmdir_by place object (is_mount_point_in nat_eq one task.namespace object))
+      by_mask own uses one other alike.rules (rmdir_by place object (is_mount_point_in nat_eq one task.namespace object))
       (λ looks. rw (is_read_only, there, on) refl) ∙ ap (λ b. rmdir_by place object b other) (same_points object there)
 
   pub rmdir_alike : (path : List ℕ) → rmdir_permit nat_eq one task path ≡ rmdir_permit nat_eq other task path
@@ -155,7 +151,7 @@ module _ (one other : Looks ℕ) (task : Task ℕ) (own uses : ℕ → Bool) (al
     nothing_by looks = unless (same_object_rules nat_eq looks from to) (Ok Allowed)
 
     nothing_same : nothing_by one ≡ nothing_by other
-    nothing_same = same_asked nothing_by (λ looks. rw (is_read_only, on_from, on_to) refl)
+    nothing_same = by_mask own uses one other alike.rules nothing_by (λ looks. rw (is_read_only, on_from, on_to) refl)
 
     one_object : (o : Option (Location ℕ)) → IsFoundAt o
         → is_one_object nat_eq one old o ≡ is_one_object nat_eq other old o

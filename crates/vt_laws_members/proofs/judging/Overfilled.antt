@@ -16,6 +16,7 @@ use Rattle.vt_laws_members.proofs.judging.Grounds.{IsTheirs, same_mount}
 use Rattle.vt_laws_members.proofs.judging.JudgedOverlays.{any_same}
 use Rattle.vt_laws_members.proofs.judging.MountTrees.{bind_alike, own_theirs, own_whole, part_one_number, part_stands, tree_alike}
 use Rattle.vt_laws_members.proofs.judging.SeenInPart.{theirs_used}
+use Rattle.vt_laws_worlds.proofs.permits.taken.PartsKept.{same_parts}
 
 no_rows : (n : ℕ) → 0 * n ≡ 0
 no_rows n = omega arith
@@ -125,16 +126,6 @@ module _ {world : World ℕ} {names : List TaskName} (sealing : IsSealed world n
         → is_directory_node ((filesystem_numbered nat_eq world mount.filesystem).files.tree.node mount.root) ≡ true
     shows mount m = grind (arith, common_steps, among_from_list_all)
 
-    added_parts : (added : Filesystem ℕ)
-        → parts_of nat_eq (with_new_filesystem world added) place ≡ parts_of nat_eq world place
-    added_parts added = ap (λ list. destination ∷ list)
-        (filter_alike (takes (with_new_filesystem world added) place destination) (takes world place destination)
-        (receivers_of nat_eq world destination) (λ mount m.
-        let its = receivers_own world names sealing.is.mounts (no_events sealing) destination mount there own m in
-        ap (λ (f : Filesystem ℕ). not (nat_eq place.mount mount.number) && is_some mount.namespace
-        && nat_eq destination.filesystem mount.filesystem && is_directory_under nat_eq f.files mount.root place.node)
-        (found_before world added mount.filesystem mount.root (shows mount its.0))))
-
     added_parts_in_part : (added : Filesystem ℕ)
         → parts_of nat_eq (with_new_filesystem part added) place ≡ parts_of nat_eq part place
     added_parts_in_part added = ap (λ to. to ∷ filter (takes (with_new_filesystem part added) place to)
@@ -188,7 +179,7 @@ module _ {world : World ℕ} {names : List TaskName} (sealing : IsSealed world n
         ≡ overfills nat_eq other part task (ToMountPlain place flags)
     plain_overfills fresh other task flags = copies_alike (with_new_filesystem world (plain_filesystem nat_eq fresh))
         (with_new_filesystem part (plain_filesystem nat_eq other)) refl refl refl refl
-        (added_parts (plain_filesystem nat_eq fresh)) (added_parts_in_part (plain_filesystem nat_eq other))
+        (same_parts world sealing.is (plain_filesystem nat_eq fresh) place) (added_parts_in_part (plain_filesystem nat_eq other))
         (odds fresh) (odds other) (mount_of flags (plain_filesystem nat_eq fresh))
         (mount_of flags (plain_filesystem nat_eq other)) refl
       where
@@ -201,7 +192,7 @@ module _ {world : World ℕ} {names : List TaskName} (sealing : IsSealed world n
     overlay_overfills fresh other task overlay flags =
         copies_alike (with_new_filesystem world (overlay_filesystem nat_eq (evens fresh) world overlay))
         (with_new_filesystem part (overlay_filesystem nat_eq (evens other) part overlay)) refl refl refl refl
-        (added_parts (overlay_filesystem nat_eq (evens fresh) world overlay))
+        (same_parts world sealing.is (overlay_filesystem nat_eq (evens fresh) world overlay) place)
         (added_parts_in_part (overlay_filesystem nat_eq (evens other) part overlay))
         (odds fresh) (odds other) (mount_of flags (overlay_filesystem nat_eq (evens fresh) world overlay))
         (mount_of flags (overlay_filesystem nat_eq (evens other) part overlay)) refl

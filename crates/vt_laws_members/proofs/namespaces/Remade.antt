@@ -5,7 +5,6 @@ use Rattle.vt_laws_mounts.proofs.GroupsUp.{source_from_group}
 use Rattle.vt_laws_sealed.proofs.part.part.MountsOver.{numbered}
 use Rattle.vt_laws_mounts.proofs.mounts.MountsReplaced.{found_itself}
 use Rattle.vt_laws_sealed.proofs.part.Kept.{filter_map_map, filter_map_same}
-use Rattle.vt_laws_sealed.proofs.part.groups.ReceiversAlike.{member_group}
 use Rattle.vt_laws_sealed.proofs.part.part.PartOfPart.{is_own, keep, kept_whole}
 use Rattle.vt_laws_members.proofs.judging.Grounds.{IsTheirs}
 use Rattle.vt_laws_members.proofs.judging.SeenInPart.{theirs_directly}
@@ -14,6 +13,7 @@ use Rattle.vt_laws_members.proofs.changes.letting_go.Changed.{mount_under}
 use Rattle.vt_laws_members.proofs.changes.letting_go.Heard.{IsHeard, heard_by_own, master_same}
 use Rattle.vt_laws_members.proofs.changes.letting_go.LessSeen.{AreLess, filter_map_then}
 use Rattle.vt_laws_members.proofs.changes.letting_go.NamespaceLess.{KeepsShape, ground_at, ground_whole}
+use Rattle.vt_laws_sealed.proofs.part.groups.EventsApart.{member_group}
 use Rattle.vt_laws_sealed.proofs.part.seals.ByPart.{IsSealed}
 
 -- what becomes of mounts, which ones come, and which namespaces stay and come

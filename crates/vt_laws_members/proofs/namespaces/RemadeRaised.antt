@@ -1,15 +1,15 @@
 -- Where mounts of theirs change and new ones come, the change numbers of namespaces are raised alike.
 use Rattle.std.proofs.Common.{arith, ◌≡◌, refl, sym, ap, subst, ◌∙◌, ⊎_elim, ℕ, nat_eq, Bool, true, cond, true≢false, List, ◌++◌, Option, Some, None, filter, is_some, map, not, ◌&&◌, ◌||◌, eqb-true}
-use Rattle.vt_spec.proofs.Common.{Among, HasLivingGroups, Lives, Mount, MountInvariants, Namespace, Task, TaskName, World, among-filter, among-from_filter, among_from_all, among_from_list_all, and_parts, any_among, any_from_among, common_steps, filter-append, has_master, has_members, has_no_master, holds_of, is_located, is_member_of, is_member_task, is_nowhere_or_attached, is_own_mount, is_private, map_alike, master_above, members, mount_lives, mounts_of, none_is_some, or_left, part_of, raised, raised_namespace, same_flags, same_list, same_location, same_mount, same_mounts_in, same_option, same_propagation, settled, source_of, then_some}
-use Rattle.vt_laws_mounts.proofs.GroupsUp.{source_from_group}
+use Rattle.vt_spec.proofs.Common.{Among, HasLivingGroups, Mount, MountInvariants, Namespace, Task, TaskName, World, among-filter, among-from_filter, among_from_all, among_from_list_all, and_parts, any_among, any_from_among, common_steps, filter-append, has_members, holds_of, is_located, is_member_of, is_member_task, is_nowhere_or_attached, is_own_mount, is_private, map_alike, master_above, members, mount_lives, mounts_of, none_is_some, or_left, part_of, raised, raised_namespace, same_flags, same_list, same_location, same_mount, same_mounts_in, same_option, same_propagation, settled, source_of, then_some}
+use Rattle.vt_laws_mounts.proofs.GroupsUp.{live_members, source_from_group}
 use Rattle.vt_laws_mounts.proofs.letting_go.Lists.{filter-map}
 use Rattle.vt_laws_sealed.proofs.part.Kept.{filter_both}
-use Rattle.vt_laws_sealed.proofs.part.groups.ReceiversAlike.{member_group}
 use Rattle.vt_laws_sealed.proofs.part.part.PartOfPart.{is_own, keep, kept_how}
 use Rattle.vt_laws_members.proofs.changes.letting_go.EndedRaised.{raised_number, same_list_alike}
 use Rattle.vt_laws_members.proofs.changes.letting_go.Heard.{heard_by_own, master_same, own_kept, private_source}
 use Rattle.vt_laws_members.proofs.changes.letting_go.SeeLess.{filter_less}
 use Rattle.vt_laws_members.proofs.namespaces.Remade.{ChangesTheirs, MovesTheirs, Remaking, in_spaces, namespaces_less, own_before, own_was, source_heard, v, v_part}
+use Rattle.vt_laws_sealed.proofs.part.groups.EventsApart.{member_group}
 
 abbrev its_in : ℕ → Mount ℕ → Bool
 its_in n m = holds_of (nat_eq n) m.namespace
@@ -21,10 +21,6 @@ attached n m = grind (arith, common_steps)
 settled_mounts : (w : World ℕ) (n : ℕ) → mounts_of nat_eq (settled nat_eq w) n ≡ filter (its_in n) w.mounts
 settled_mounts w n = filter_less (its_in n) (mount_lives nat_eq w) w.mounts
     (λ m h. or_left (is_some m.namespace) (is_located nat_eq w m.number) (attached n m h))
-
-pub lives_members : (members : ℕ → Bool) (master : ℕ → Option ℕ) (g : ℕ) → Lives members master g → members g ≡ true
-lives_members members master g (has_no_master it here none) = here
-lives_members members master g (has_master it above here e later) = here
 
 -- and so a member of each group from which a mount receives
 module _ (b : World ℕ) (kept : MountInvariants nat_eq b) where
@@ -44,7 +40,7 @@ module _ (b : World ℕ) (kept : MountInvariants nat_eq b) where
   settled_members : (y : Mount ℕ) → Among y b.mounts → (g : ℕ) → source_of y.propagation ≡ Some g
       → has_members nat_eq (settled nat_eq b).mounts g ≡ true
   settled_members y n g e =
-      let z = any_among (is_member_of nat_eq g) b.mounts (lives_members (has_members nat_eq b.mounts) b.master g
+      let z = any_among (is_member_of nat_eq g) b.mounts (live_members b.master (has_members nat_eq b.mounts) g
       (among_from_all (HasLivingGroups nat_eq b) b.mounts kept.groups y n g e)) in
       any_from_among (is_member_of nat_eq g) (filter (mount_lives nat_eq b) b.mounts) z.0
       (among-filter (mount_lives nat_eq b) b.mounts z.0 z.1

@@ -1,5 +1,5 @@
 -- The overlay that is made of layers which a sealed set uses is the same in the part of the set.
-use Rattle.std.proofs.Common.{◌≡◌, ◌≤◌, refl, sym, ap, subst, ◌∙◌, inl, inr, true≢false, arith, ℕ, zero, suc, ◌+◌, nat_eq, true, List, [], ◌∷◌, ◌++◌, flat_map, length, map, not, Bool, Option, Some, None, is_some, slice_get, filter_map, find, sum, option_map}
+use Rattle.std.proofs.Common.{◌≡◌, ◌≤◌, refl, sym, ap, subst, ◌∙◌, inl, true≢false, arith, ℕ, zero, suc, ◌+◌, nat_eq, true, List, [], ◌∷◌, ◌++◌, flat_map, length, map, not, Bool, Option, Some, None, is_some, slice_get, filter_map, find, sum, option_map}
 use Rattle.vt_spec.proofs.Common.{Among, Filesystem, Fresh, IsTree, IsWorld, Layer, ListsNumbers, OpenLayer, Overlay, Shown, TaskName, World, among_from_list_all, and_parts, common_steps, contains_from_among, evens, filesystem_numbered, inode_count, is_among, is_directory_node, is_overlay, is_plain_layer, led, map_alike, merged_at, merged_inodes, merged_objects, names_shown, none_is_some, odds, open_layer, overlay_filesystem, part_of, paths_from, same_Some, shown, shown_layers, slice_get-map, sum_by-cons, used_filesystems}
 use Rattle.vt_spec.specs.Machine.NewMounts.{overlay_of_inodes}
 use Rattle.vt_laws_mounts.proofs.letting_go.Lists.{flat_map_alike}
@@ -11,11 +11,7 @@ use Rattle.vt_laws_trees.proofs.layers.layers.ShownNames.{names_are_those_shown}
 use Rattle.vt_laws_trees.proofs.layers.layers.ShownPaths.{length_longer}
 use Rattle.vt_laws_trees.proofs.layers.layers.UpperWorld.{all_found}
 use Rattle.vt_laws_sealed.proofs.part.part.PartOfPart.{found}
-
-slice_among : {A : Type 0} (xs : List A) (k : ℕ) (a : A) → slice_get xs k ≡ Some a → Among a xs
-slice_among [] k a e = none_is_some a e
-slice_among (x ∷ xs) zero a e = inl (sym (same_Some x a e))
-slice_among (x ∷ xs) (suc k) a e = inr (slice_among xs k a e)
+use Rattle.vt_laws_trees.proofs.trees.Lists.{nth_among}
 
 -- a part of a sum is no more than the sum
 in_sum : (test : Filesystem ℕ → Bool) (list : List (Filesystem ℕ)) (filesystem : Filesystem ℕ)
@@ -123,7 +119,7 @@ module _ (world : World ℕ) (names : List TaskName) (is : IsWorld nat_eq world)
           → led layer.tree layer.directory path ≡ Some seen.object → length path ≤ inode_count part
       by None f {layer} e l = none_is_some layer e
       by (Some plain) f {layer} e l =
-          in_layer plain (slice_among (shown_layers overlay) seen.layer plain f) path seen.object
+          in_layer plain (nth_among (shown_layers overlay) seen.layer plain f) path seen.object
           (ap (λ (x : OpenLayer ℕ). led x.tree x.directory path) (same_Some (open_layer nat_eq world plain) layer e)
           ∙ l)
 

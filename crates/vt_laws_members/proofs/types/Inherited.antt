@@ -6,7 +6,7 @@ use Rattle.vt_laws_mounts.proofs.Groups.{members-inherited, mounts-regrouped}
 use Rattle.vt_laws_mounts.specs.LettingGo.Detaching.{with_changed}
 use Rattle.vt_laws_mounts.specs.LettingGo.InUse.{AllInUse}
 use Rattle.vt_laws_mounts.proofs.letting_go.leaving.UsesKept.{types_keep_all}
-use Rattle.vt_laws_sealed.proofs.part.groups.ReceiversAlike.{member_group}
+use Rattle.vt_laws_sealed.proofs.part.groups.EventsApart.{member_group}
 
 -- a group that has a member inherits its master, also where nothing is lost
 pub master-inherited : (t : World ℕ) (group : ℕ) → has_members nat_eq t.mounts group ≡ true

@@ -6,8 +6,8 @@ use Rattle.vt_laws_mounts.proofs.GroupsUp.{source_from_group}
 use Rattle.vt_laws_sealed.proofs.part.part.MountsOver.{numbered}
 use Rattle.vt_laws_mounts.proofs.mounts.MountsNumbered.{mount_uses}
 use Rattle.vt_laws_mounts.proofs.letting_go.sweeps.OfWorlds.{all_in_use}
-use Rattle.vt_laws_sealed.proofs.part.groups.EventsApart.{none_hears, sides}
-use Rattle.vt_laws_sealed.proofs.part.groups.ReceiversAlike.{member_group, own_member, same_up}
+use Rattle.vt_laws_sealed.proofs.part.groups.EventsApart.{member_group, none_hears, sides}
+use Rattle.vt_laws_sealed.proofs.part.groups.ReceiversAlike.{own_member, same_up}
 use Rattle.vt_laws_sealed.proofs.part.part.PartOfPart.{keep, kept_how}
 use Rattle.vt_laws_members.proofs.changes.letting_go.Heard.{IsHeard, above_heard, apart, heard_by_own, master_same, own_in_part, part_source, up_heard}
 use Rattle.vt_laws_members.specs.Types.TypeChanges.{takes_groups}

@@ -5,11 +5,11 @@ use Rattle.vt_laws_mounts.proofs.GroupsUp.{source_from_group}
 use Rattle.vt_laws_mounts.specs.LettingGo.Detaching.{with_changed}
 use Rattle.vt_laws_mounts.proofs.letting_go.Lists.{filter-map}
 use Rattle.vt_laws_sealed.proofs.part.Kept.{filter_again, filter_map_map, filter_map_same}
-use Rattle.vt_laws_sealed.proofs.part.groups.ReceiversAlike.{member_group}
 use Rattle.vt_laws_sealed.proofs.part.part.PartOfPart.{is_own, keep, same_members}
 use Rattle.vt_laws_members.proofs.changes.letting_go.LessSeen.{AreLess, filter_map_then, one_part}
 use Rattle.vt_laws_members.proofs.changes.letting_go.NamespaceLess.{stands_on}
 use Rattle.vt_laws_members.proofs.attached.RaisedAlike.{parts_left, spaces}
+use Rattle.vt_laws_sealed.proofs.part.groups.EventsApart.{member_group}
 use Rattle.vt_laws_sealed.proofs.part.seals.ByPart.{IsSealed}
 
 module _ {world : World ℕ} {names : List TaskName} (sealing : IsSealed world names) where

@@ -1,18 +1,12 @@
 -- The groups that mounts of others form where they are attached: those of others, and new ones.
-use Rattle.std.proofs.Common.{arith, ◌≡◌, refl, sym, ap, subst, ◌∙◌, ◌⊎◌, inl, inr, ⊎_elim, ℕ, nat_eq, Bool, true, false, cond, true≢false, List, [], ◌∷◌, ◌*◌, Option, Some, None, length, not, ◌+◌, eqb-true, option_map, unwrap_or, filter_map}
+use Rattle.std.proofs.Common.{arith, ◌≡◌, refl, sym, ap, subst, ◌∙◌, ◌⊎◌, inl, inr, ⊎_elim, ℕ, nat_eq, Bool, true, false, cond, List, [], ◌∷◌, ◌*◌, Option, Some, None, length, not, ◌+◌, eqb-true, option_map, unwrap_or, filter_map}
+use Rattle.vt_laws_mounts.proofs.letting_go.mounting.Attached.{masters_stay}
 use Rattle.vt_spec.proofs.Common.{Among, Copies, Filesystem, Fresh, Graft, Location, Mount, Private, Propagation, Serves, Shared, Slave, TaskName, Unbindable, World, all_groups_made, among-from_filter, among-from_filter_map, among-from_flat_map, among-from_map, any_among, attach, common_steps, copies_from, copy_at, copy_type, false_from_ne_true, folded, graft_of, group_made, group_of, image, index_in_rows, index_of, index_of_group, is_destination, is_member_of, is_own_mount, is_shared, list_any, master_after, master_of, masters_with, mount_at, nearest_image, none_is_some, other_mounts, own_mounts, parts_of, same_Some, slave_of_heir, then_some, twig_master, twig_of, type_at, type_on_shared, when}
 use Rattle.vt_laws_trees.specs.Layers.Layers.ChangesUpper.{IsNewBy}
 use Rattle.vt_laws_sealed.specs.Part.Seals.{IsApart}
 use Rattle.vt_laws_sealed.proofs.outsiders.OtherMounts.{Foreign, HearsGroup, foreign_above, member_not_new, other_hears_foreign, standing_apart_with}
 use Rattle.vt_laws_sealed.proofs.outsiders.StandingApart.{StandsApart}
-
--- a master that is set for other groups stays
-masters_stay : (group : ℕ) (made : List (ℕ × Option ℕ)) (master : ℕ → Option ℕ)
-    → ((entry : ℕ × Option ℕ) → Among entry made → nat_eq group entry.0 ≡ false)
-    → folded (masters_with nat_eq) master made group ≡ master group
-masters_stay group [] master differ = refl
-masters_stay group (entry ∷ rest) master differ =
-    grind (arith, common_steps, masters_stay group rest (masters_with nat_eq master entry))
+use Rattle.vt_laws_sealed.proofs.part.groups.EventsApart.{member_group}
 
 -- a master is one that was set, or the old one
 masters_from : (group : ℕ) (made : List (ℕ × Option ℕ)) (master : ℕ → Option ℕ)
@@ -202,16 +196,12 @@ module _ {world : World ℕ} {names : List TaskName} (apart : IsApart world name
       → left.master group ≡ world.master group
   own_master_stays group h =
       let member = any_among (is_member_of nat_eq group) (own_mounts nat_eq world names) h in
-      masters_stay group (all_groups_made nat_eq base new tree parts) world.master (λ entry m.
+      masters_stay (all_groups_made nat_eq base new tree parts) world.master group (λ entry m.
       false_from_ne_true (nat_eq group entry.0) (λ e.
       let made = made_foreign entry m in
       member_not_new world fresh serves member.0 group made.0.0
       (among-from_filter (is_own_mount nat_eq world names) world.mounts member.0 member.1).0
-      (member_of group member.0 member.2) (eqb-true group entry.0 e ∙ made.0.1)))
-    where
-      member_of : (group : ℕ) (mount : Mount ℕ) → is_member_of nat_eq group mount ≡ true
-          → group_of mount.propagation ≡ Some group
-      member_of group mount h = grind (arith, common_steps, true≢false, eqb-true)
+      (member_group group member.0 member.2) (eqb-true group entry.0 e ∙ made.0.1)))
 
   foreign_master : (group above : ℕ) → IsForeign group → left.master group ≡ Some above → IsForeign above
   foreign_master group above foreign e = ⊎_elim

@@ -17,6 +17,7 @@ use Rattle.vt_laws_sealed.proofs.outsiders.OtherMounts.{Foreign, HearsGroup, eve
 use Rattle.vt_laws_sealed.proofs.outsiders.Reshaping.{IsReshaped, reshaped_kept, reshaped_twice}
 use Rattle.vt_laws_sealed.proofs.outsiders.StandingApart.{StandsApart}
 use Rattle.vt_laws_sealed.proofs.outsiders.Staying.{IsOfTheWorld, LeavesApart, free_with}
+use Rattle.vt_laws_trees.proofs.trees.Lists.{among-flat_map_filter}
 
 -- a list of which nothing is kept
 pub none_kept : {A B : Type 0} (k : A → Option B) (xs : List A) → ((x : A) → Among x xs → k x ≡ None)
@@ -217,14 +218,8 @@ module _ {world : World ℕ} {names : List TaskName} (apart : IsApart world name
       let at = other_placed copy.0 (part_other copy.0 copy.1) in
       (at.0, ap (λ (m : Mount ℕ). m.namespace) copy.4 ∙ at.1, at.2)
 
-  of_tasks : (tasks : List (Task ℕ)) → ((task : Task ℕ) → Among task tasks → Among task world.tasks)
-      → (location : Location ℕ) → Among location (locations tasks) → Among location (all_locations world)
-  of_tasks tasks all location m =
-      let of = among-from_flat_map locations_of tasks location m in
-      among-flat_map locations_of world.tasks of.0 location (all of.0 of.1) of.2
-
   of_members : (location : Location ℕ) → Among location (locations theirs) → Among location (all_locations world)
-  of_members = of_tasks theirs (λ task m. (among-from_filter (is_member_task names) world.tasks task m).0)
+  of_members = among-flat_map_filter locations_of (is_member_task names) world.tasks
 
   roots_located : (location : Location ℕ) → Among location (roots_and_directories theirs)
       → Among location (locations theirs)
@@ -504,8 +499,7 @@ module _ {world : World ℕ} {names : List TaskName} (apart : IsApart world name
 
   of_outsiders : (location : Location ℕ) → Among location (locations (outsiders world names))
       → Among location (all_locations world)
-  of_outsiders = of_tasks (outsiders world names)
-      (λ task m. (among-from_filter (λ (t : Task ℕ). not (is_member_task names t)) world.tasks task m).0)
+  of_outsiders = among-flat_map_filter locations_of (λ t. not (is_member_task names t)) world.tasks
 
   fewer : (number : ℕ) → IsOfTheWorld world names number → no_outsider_on nat_eq world names number ≡ true
       → no_outsider_on nat_eq left names number ≡ true

@@ -26,10 +26,10 @@ pub record OthersMove (world : World ℕ) (names : List TaskName) (tasks : List 
       ≡ filter (λ (n : Namespace ℕ). is_own_namespace nat_eq world names n.number) world.namespaces
 
 module _ {world : World ℕ} {names : List TaskName} {New : ℕ → Type 0} (apart : StandsApart world names New)
-    (change : Mount ℕ → Mount ℕ) (keeps : KeepsOrDetaches change)
+    {change : Mount ℕ → Mount ℕ} (keeps : KeepsOrDetaches change)
     (kept_same : (mount : Mount ℕ) → Among mount world.mounts
     → keep world names (members world names) (change mount) ≡ keep world names (members world names) mount)
-    (master : ℕ → Option ℕ) (tasks : List (Task ℕ)) (namespaces : List (Namespace ℕ))
+    (master : ℕ → Option ℕ) {tasks : List (Task ℕ)} {namespaces : List (Namespace ℕ)}
     (moved : OthersMove world names tasks namespaces) where
   abbrev pub left : World ℕ
   left = record world { mounts = map change world.mounts; master = master; namespaces = namespaces; tasks = tasks }

@@ -19,7 +19,7 @@ use Rattle.vt_laws_worlds.specs.OverlayPermits.Asked.{change_asked}
 use Rattle.vt_laws_sealed.proofs.outsiders.Entering.{ground_outside, old_outside, task_there}
 use Rattle.vt_laws_sealed.proofs.outsiders.Opening.{IsFileGround, file_walk_ground}
 use Rattle.vt_laws_sealed.proofs.outsiders.OwnTasks.{IsOutside}
-use Rattle.vt_laws_sealed.proofs.outsiders.Standing.{IsGround, directory_ground, searched_ground, start_ground, way_ground}
+use Rattle.vt_laws_worlds.proofs.worlds.Ground.{IsGround, directory_ground, searched_ground, start_ground, way_ground}
 
 -- what is marked is there
 abbrev pub MarksWhatIsThere : World ℕ → Location ℕ → Change ℕ → Type 0

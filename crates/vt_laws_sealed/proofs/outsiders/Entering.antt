@@ -9,7 +9,7 @@ use Rattle.vt_laws_trees.proofs.calls.ways.WaysEnds.{directory_ways_are_searched
 use Rattle.vt_laws_sealed.specs.Part.Seals.{IsApart}
 use Rattle.vt_laws_sealed.proofs.outsiders.OtherMounts.{is_other, namespace_outside}
 use Rattle.vt_laws_sealed.proofs.outsiders.OwnTasks.{IsOutside, caller_outside, callers_outside, replacing_leaves_apart}
-use Rattle.vt_laws_sealed.proofs.outsiders.Standing.{IsGround, searched_ground}
+use Rattle.vt_laws_worlds.proofs.worlds.Ground.{IsGround, searched_ground}
 use Rattle.vt_laws_sealed.proofs.outsiders.Staying.{LeavesApart}
 use Rattle.vt_laws_sealed.proofs.outsiders.Sweeping.{sweeping_leaves_apart}
 

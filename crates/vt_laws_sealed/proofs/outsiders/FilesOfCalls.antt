@@ -33,6 +33,7 @@ use Rattle.vt_laws_sealed.proofs.outsiders.LowersChanged.{KeepsBelow}
 use Rattle.vt_laws_sealed.proofs.outsiders.NumbersGrown.{merge_grows, numbers-changed, numbers_made, root-changed}
 use Rattle.vt_laws_sealed.proofs.outsiders.OverlaysMounted.{outside_uses}
 use Rattle.vt_laws_sealed.proofs.outsiders.Staying.{LeavesApart}
+use Rattle.vt_laws_trees.proofs.overlays.changes.WholeLater.{ChangesMerge, changing}
 
 -- what is copied up is on an overlay
 copies_are_of_overlays : (world : World ℕ) (fresh : Fresh ℕ) (task : Task ℕ) (call : Call) (permit : Permit ℕ)
@@ -295,17 +296,19 @@ module _ {world : World ℕ} {fresh : Fresh ℕ} {names : List TaskName} {name :
           → (filesystem_numbered nat_eq world filesystem).files.tree.node (supply k) ≡ None
       none_new = (are_left world fresh outsider.is outsider.serves permit).1
 
+      changes_merge : ChangesMerge supply world location change overlay upper
+      changes_merge = changing supply world location change overlay upper outsider.is is has distinct none_new well
+
       abbrev merge : Merge ℕ
       merge =
           merge_changed nat_eq supply (stack_of nat_eq world overlay upper) (merge_of nat_eq world there overlay upper)
           change
 
       elsewhere : upper.filesystem ≢ number
-      elsewhere = ApartLater.apart supply world location change overlay upper outsider.is is has distinct none_new well
+      elsewhere = ApartLater.apart changes_merge
 
       upper_plain : is_plain_layer nat_eq world upper ≡ true
-      upper_plain =
-          ApartLater.upper_plain supply world location change overlay upper outsider.is is has distinct none_new well
+      upper_plain = ApartLater.upper_plain changes_merge
 
       upper_directory : is_some ((filesystem_numbered nat_eq world upper.filesystem).files.tree.node upper.directory)
           ≡ true
@@ -330,15 +333,11 @@ module _ {world : World ℕ} {fresh : Fresh ℕ} {names : List TaskName} {name :
       upper_not_locked locked =
           let root = locked_root upper.filesystem locked in
           let reached = outsider.is.overlays.uppers_reached number overlay upper is has in
-          ApartLater.clash supply world location change overlay upper outsider.is is has distinct none_new well
-          root.0 (inr root.1) upper.filesystem upper.directory upper_directory
-          (ApartLater.lies_first supply world location change overlay upper outsider.is is has distinct none_new well
-          upper upper.filesystem upper.directory
-          (ApartLater.led_lies supply world location change overlay upper outsider.is is has distinct none_new well
-          upper upper_plain upper.filesystem upper.directory refl ([], refl)))
-          (ApartLater.lies_first supply world location change overlay upper outsider.is is has distinct none_new well
-          root.0 upper.filesystem upper.directory
-          (ApartLater.led_lies supply world location change overlay upper outsider.is is has distinct none_new well
+          ApartLater.clash changes_merge root.0 (inr root.1) upper.filesystem upper.directory upper_directory
+          (ApartLater.lies_first changes_merge upper upper.filesystem upper.directory
+          (ApartLater.led_lies changes_merge upper upper_plain upper.filesystem upper.directory refl ([], refl)))
+          (ApartLater.lies_first changes_merge root.0 upper.filesystem upper.directory
+          (ApartLater.led_lies changes_merge
           root.0 (live_plain root.0 root.1) upper.filesystem upper.directory root.2 (
             reached.0,
             subst (λ n. led (filesystem_numbered nat_eq world n).files.tree root.0.directory reached.0
@@ -354,8 +353,7 @@ module _ {world : World ℕ} {fresh : Fresh ℕ} {names : List TaskName} {name :
           upper.filesystem (own_lowers nat_eq world names)
       upper_keeps_below =
           let whole = tree_of upper.filesystem upper.directory upper_directory in
-          let goes = ApartLater.goes supply world location change overlay upper outsider.is is has distinct none_new
-          well in
+          let goes = ApartLater.goes changes_merge in
           let grows = merge_grows supply (stack_of nat_eq world overlay upper)
           (merge_of nat_eq world there overlay upper) change in
           record {
@@ -373,8 +371,7 @@ module _ {world : World ℕ} {fresh : Fresh ℕ} {names : List TaskName} {name :
                 ∙ none_new upper.filesystem new.0;
             tops = λ layer m at. lower_top layer (their_lower layer m) upper.filesystem at;
             stays = λ layer m at object under there_is.
-                inode_stays supply world location change overlay upper outsider.is is has distinct none_new well
-                layer (inr (lower_live layer (their_lower layer m)))
+                inode_stays changes_merge layer (inr (lower_live layer (their_lower layer m)))
                 (sym (eqb-true upper.filesystem layer.filesystem at)) object there_is
                 (lower_lies layer upper.filesystem object at under);
           }

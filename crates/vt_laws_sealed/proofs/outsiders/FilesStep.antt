@@ -28,7 +28,7 @@ pub stepping_leaves_apart : (world base left : World ℕ) (names : List TaskName
 stepping_leaves_apart world base left names apart step is same left_is changed unraised leaves =
     subst (λ w. LeavesApart world w names changed)
     (sym (left_is ∙ ap (λ list. record base { filesystems = map step list }) (sym same))) (record {
-      sees = filesystems_stepped world base names leaves.sees
+      sees = filesystems_stepped leaves.sees
           (ap (any_pair (λ (a b : Filesystem ℕ). nat_eq a.number b.number)) same
           ∙ apart.is.files.one_filesystem) step is.number
           (λ x m. is.used x (subst (Among x) same m)) (λ x m. is.lower x (subst (Among x) same m));

@@ -10,7 +10,7 @@ use Rattle.vt_laws_sealed.proofs.outsiders.SeenLater.{lowered_by}
 use Rattle.vt_laws_mounts.proofs.letting_go.Lists.{filter-map}
 use Rattle.vt_laws_sealed.proofs.outsiders.Raising.{all-map_same}
 
-module _ (world before : World ℕ) (names : List TaskName) (sees : SeesTheSame world before names)
+module _ {world before : World ℕ} {names : List TaskName} (sees : SeesTheSame world before names)
     (one_filesystem : any_pair (λ (a b : Filesystem ℕ). nat_eq a.number b.number) before.filesystems ≡ false)
     (step : Filesystem ℕ → Filesystem ℕ) (step_number : (x : Filesystem ℕ) → (step x).number ≡ x.number)
     (used_is : (x : Filesystem ℕ) → Among x before.filesystems

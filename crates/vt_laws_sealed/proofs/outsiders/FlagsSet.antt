@@ -125,6 +125,6 @@ module _ {world : World ℕ} {fresh : Fresh ℕ} {names : List TaskName} {name :
         (sym (nothing_is_swept outsider (ToSetFlags number flags) judged (ap takes_uses for_remount.1)
         (ap sets_type for_remount.1) refl ∙ ap (with_mounts world) (map_alike
         (replaced_if_same nat_eq (record old { flags = flags })) (set world number flags) world.mounts same_set)))
-        (changing_leaves_apart so_far (set world number flags) (set_keeps world number flags) kept_same world.master
-        world.tasks world.namespaces (others_rest world names so_far) (λ group e. refl)
+        (changing_leaves_apart so_far (set_keeps world number flags) kept_same world.master
+        (others_rest world names so_far) (λ group e. refl)
         (events_same ∙ apart_before.events))

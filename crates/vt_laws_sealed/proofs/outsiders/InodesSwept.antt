@@ -30,9 +30,10 @@ pub record IsLowerTree (lowers : List (Layer ℕ)) (x : Filesystem ℕ) : Type 0
       → IsDirectory x.files.tree layer.directory
 
 -- Inodes: of the filesystems that are chosen those go that nothing uses.
-module _ (world before : World ℕ) (names : List TaskName) (apart : IsApart world names)
-    (sealed_off : sealed nat_eq world names ≡ true) (sees : SeesTheSame world before names) (one : OneNumberEach before)
-    (chosen : Filesystem ℕ → Bool) (trees : (x : Filesystem ℕ) → Among x before.filesystems
+module _ {world before : World ℕ} {names : List TaskName} (apart : IsApart world names)
+    (sealed_off : sealed nat_eq world names ≡ true) (sees : SeesTheSame world before names)
+    (one : OneNumberEach before) (chosen : Filesystem ℕ → Bool)
+    (trees : (x : Filesystem ℕ) → Among x before.filesystems
     → list_any (λ (layer : Layer ℕ). nat_eq x.number layer.filesystem) (own_lowers nat_eq world names) ≡ true
     → IsLowerTree (own_lowers nat_eq world names) x)
     (one_filesystem : any_pair (λ (a b : Filesystem ℕ). nat_eq a.number b.number) before.filesystems ≡ false) where
@@ -107,4 +108,4 @@ module _ (world before : World ℕ) (names : List TaskName) (apart : IsApart wor
       by_choice plain conditions tops false = refl
 
   pub inodes_swept : SeesTheSame world swept names
-  inodes_swept = filesystems_stepped world before names sees one_filesystem sweep sweep_number used_is lower_same
+  inodes_swept = filesystems_stepped sees one_filesystem sweep sweep_number used_is lower_same

@@ -23,7 +23,7 @@ module _ {A : Type 0} (a b c : List A) (x : A) where
   in_third m = among-append_right (a ++ b) c x m
 
 -- The inodes of a filesystem that they use are used there, too.
-module _ (world later : World ℕ) (names : List TaskName) (apart : IsApart world names)
+module _ {world later : World ℕ} {names : List TaskName} (apart : IsApart world names)
     (sealed_off : sealed nat_eq world names ≡ true) (sees : SeesTheSame world later names) (one : OneNumberEach later)
     (x : Filesystem ℕ) where
   abbrev IsUsed : ℕ → Type 0

@@ -7,7 +7,7 @@ use Rattle.vt_laws_rules.proofs.given.Inversion.{calls_are_granted}
 use Rattle.vt_laws_rules.specs.Granted.{IsGranted}
 use Rattle.vt_laws_rules.specs.Granted.IsGranted.{enters_namespace}
 use Rattle.vt_laws_sealed.proofs.outsiders.OthersCalls.{IsOthersCall}
-use Rattle.vt_laws_sealed.proofs.outsiders.Standing.{topmost_ground}
+use Rattle.vt_laws_worlds.proofs.worlds.Ground.{topmost_ground}
 use Rattle.vt_laws_worlds.proofs.worlds.CallsKept.{name_found}
 use Rattle.vt_laws_sealed.proofs.outsiders.Ending.{ending_leaves_apart}
 use Rattle.vt_laws_sealed.proofs.outsiders.Entering.{apart, ground_of_others, old_outside}

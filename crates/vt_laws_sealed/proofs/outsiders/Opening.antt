@@ -14,7 +14,7 @@ use Rattle.vt_laws_trees.proofs.calls.ways.WaysSearched.{IsNamedAt, placed_step}
 use Rattle.vt_laws_trees.proofs.calls.ways.WaysWalked.{path_text_same}
 use Rattle.vt_laws_sealed.proofs.outsiders.Entering.{ground_outside, old_outside, task_there}
 use Rattle.vt_laws_sealed.proofs.outsiders.OwnTasks.{IsOutside, replacing_leaves_apart}
-use Rattle.vt_laws_sealed.proofs.outsiders.Standing.{IsGround, directory_ground, searched_ground, start_ground, step_ground, topmost_ground, way_ground}
+use Rattle.vt_laws_worlds.proofs.worlds.Ground.{IsGround, directory_ground, searched_ground, start_ground, step_ground, topmost_ground, way_ground}
 use Rattle.vt_laws_sealed.proofs.outsiders.Staying.{LeavesApart}
 
 -- a new descriptor is at its file, the others where they were

@@ -4,8 +4,8 @@ use Rattle.vt_spec.proofs.Common.{Among, Fresh, HasLivingGroups, Location, Mount
 use Rattle.vt_laws_mounts.proofs.letting_go.sweeps.OfWorlds.{all_in_use}
 use Rattle.vt_laws_mounts.proofs.mounts.MountsReplaced.{found_itself}
 use Rattle.vt_laws_worlds.proofs.worlds.Reached.{namespace_below}
-use Rattle.vt_laws_sealed.proofs.part.groups.EventsApart.{above_lives, members_of, none_hears, sides}
-use Rattle.vt_laws_sealed.proofs.part.groups.ReceiversAlike.{Living, OtherLives, member_group, none_other, other_above, own_member}
+use Rattle.vt_laws_sealed.proofs.part.groups.EventsApart.{above_lives, member_group, members_of, none_hears, sides}
+use Rattle.vt_laws_sealed.proofs.part.groups.ReceiversAlike.{Living, OtherLives, none_other, other_above, own_member}
 use Rattle.vt_laws_sealed.proofs.part.part.PartOfPart.{is_own}
 use Rattle.vt_laws_trees.specs.Layers.Layers.ChangesUpper.{IsNewBy}
 use Rattle.vt_laws_sealed.specs.Part.Seals.{IsApart}

@@ -1,10 +1,11 @@
 -- After the sweep others are where they were, and have no more footholds.
 use Rattle.std.proofs.Common.{arith, ◌≡◌, refl, sym, ap, ◌∙◌, inl, inr, ℕ, nat_eq, Bool, true, true≢false, List, [], ◌∷◌, filter, find, is_some, not, ◌||◌, eq-eqb, eqb-true, unwrap_or}
-use Rattle.vt_spec.proofs.Common.{Among, Filesystem, Location, Mount, Task, TaskName, World, all_locations, among-filter, among-flat_map, among-from_filter, among-from_flat_map, among-from_map, among_from_list_all, and_from, and_parts, any_from_among, common_steps, false_from_ne_true, filesystem_lives, has_layer_on, is_member_task, is_overlay, is_own_mount, is_own_namespace, list_all, list_all_from_among, list_any, locations, locations_of, mount_at, mount_lives, no_mount, no_outsider_on, not-true, number-only_used, only_used, or_cases, or_left, or_right, other_mounts, outsiders, overlays, own_mounts, receives_events_of, settled, shares_no_events, used_alone, without_dead_filesystems, without_dead_in, without_dead_mounts}
+use Rattle.vt_spec.proofs.Common.{Among, Filesystem, Location, Mount, TaskName, World, all_locations, among-filter, among-from_filter, among-from_map, among_from_list_all, and_from, and_parts, any_from_among, common_steps, false_from_ne_true, filesystem_lives, has_layer_on, is_member_task, is_overlay, is_own_mount, is_own_namespace, list_all, list_all_from_among, list_any, locations, locations_of, mount_at, mount_lives, no_mount, no_outsider_on, not-true, number-only_used, only_used, or_cases, or_left, or_right, other_mounts, outsiders, overlays, own_mounts, receives_events_of, settled, shares_no_events, used_alone, without_dead_filesystems, without_dead_in, without_dead_mounts}
 use Rattle.vt_laws_mounts.proofs.letting_go.Lists.{filter_less}
 use Rattle.vt_laws_sealed.proofs.part.part.PartOfPart.{located}
 use Rattle.vt_laws_sealed.proofs.outsiders.Staying.{OthersStayOut}
 use Rattle.vt_laws_sealed.proofs.outsiders.InodesSwept.{cut_overlay, cut_layers}
+use Rattle.vt_laws_trees.proofs.trees.Lists.{among-flat_map_filter}
 
 -- Others are where they were.
 module _ (world before : World ℕ) (names : List TaskName) (others : OthersStayOut world before names) where
@@ -38,10 +39,7 @@ module _ (world before : World ℕ) (names : List TaskName) (others : OthersStay
 
   of_outsiders : (location : Location ℕ) → Among location (locations (outsiders before names))
       → Among location (all_locations before)
-  of_outsiders location m =
-      let of = among-from_flat_map locations_of (outsiders before names) location m in
-      among-flat_map locations_of before.tasks of.0 location
-      (among-from_filter (λ (t : Task ℕ). not (is_member_task names t)) before.tasks of.0 of.1).0 of.2
+  of_outsiders = among-flat_map_filter locations_of (λ t. not (is_member_task names t)) before.tasks
 
   -- fewer masters, fewer events
   fewer_events : (a b : Mount ℕ) → receives_events_of nat_eq last a b ≡ true

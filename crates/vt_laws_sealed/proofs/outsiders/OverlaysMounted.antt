@@ -17,7 +17,7 @@ use Rattle.vt_laws_sealed.proofs.outsiders.Entering.{ground_outside, task_there}
 use Rattle.vt_laws_sealed.proofs.outsiders.Filesystems.{larger_sees, larger_with_overlay}
 use Rattle.vt_laws_sealed.proofs.outsiders.OtherMounts.{namespace_outside}
 use Rattle.vt_laws_sealed.proofs.outsiders.OwnTasks.{IsOutside, caller_outside, nothing_is_swept}
-use Rattle.vt_laws_sealed.proofs.outsiders.Standing.{IsGround, searched_ground}
+use Rattle.vt_laws_worlds.proofs.worlds.Ground.{IsGround, searched_ground}
 use Rattle.vt_laws_sealed.proofs.outsiders.Staying.{LeavesApart}
 
 -- where one of the others may be, others have a foothold

@@ -174,7 +174,7 @@ module _ {world : World ℕ} {fresh : Fresh ℕ} {names : List TaskName} {name :
   }
 
   abbrev pivoted_world : World ℕ
-  pivoted_world = left so_far change keeps kept_same world.master (map move world.tasks) world.namespaces moved
+  pivoted_world = left so_far keeps kept_same world.master moved
 
   -- events go by types alone
   abbrev share_by : Propagation ℕ → Propagation ℕ → Bool
@@ -184,13 +184,13 @@ module _ {world : World ℕ} {fresh : Fresh ℕ} {names : List TaskName} {name :
   events : shares_no_events nat_eq pivoted_world names ≡ true
   events = ap (λ owns. list_all (λ own. list_all (λ other. not (share_events nat_eq pivoted_world own other))
       (other_mounts nat_eq pivoted_world names)) owns) (own_mounts_same world pivoted_world names
-      (sees so_far change keeps kept_same world.master (map move world.tasks) world.namespaces moved (λ group e. refl)))
+      (sees so_far keeps kept_same world.master moved (λ group e. refl)))
       ∙ list_all_from_among (λ own. list_all (λ other. not (share_events nat_eq pivoted_world own other))
       (other_mounts nat_eq pivoted_world names)) (own_mounts nat_eq world names)
       (λ own m. list_all_from_among (λ other. not (share_events nat_eq pivoted_world own other))
       (other_mounts nat_eq pivoted_world names) (λ other n.
-      let from = others_from so_far change keeps kept_same world.master (map move world.tasks)
-      world.namespaces moved other n in
+      let from = others_from so_far keeps kept_same world.master
+      moved other n in
       ap (λ kind. not (share_by own.propagation kind)) (ap (λ (x : Mount ℕ). x.propagation) from.2 ∙ type_kept from.0)
       ∙ among_from_list_all (λ x. not (share_events nat_eq world own x)) (other_mounts nat_eq world names)
       (among_from_list_all (λ x. list_all (λ y. not (share_events nat_eq world x y)) (other_mounts nat_eq world names))
@@ -201,5 +201,4 @@ module _ {world : World ℕ} {fresh : Fresh ℕ} {names : List TaskName} {name :
 
   pub pivot_leaves : LeavesApart world (settled nat_eq (apply nat_eq fresh world task (ToPivot new put)).world) names []
   pivot_leaves = sweeping_leaves_apart world pivoted_world names set_apart outsider.sealed_off refl one_each []
-      (changing_leaves_apart so_far change keeps kept_same world.master (map move world.tasks) world.namespaces moved
-      (λ group e. refl) events)
+      (changing_leaves_apart so_far keeps kept_same world.master moved (λ group e. refl) events)

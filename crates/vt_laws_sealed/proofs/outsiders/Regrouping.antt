@@ -199,13 +199,13 @@ module _ {world : World ℕ} {names : List TaskName} {New : ℕ → Type 0} (apa
 
     events : shares_no_events nat_eq left names ≡ true
     events = events_stay_apart apart left (own_mounts_same world left names
-        (sees apart all_changed (reshaping_keeps all_changed all_shape) kept_same master tasks namespaces moved
+        (sees apart (reshaping_keeps all_changed all_shape) kept_same master moved
         own_masters)) own_kinds (λ other m number how.
-        let from = others_from apart all_changed
-        (reshaping_keeps all_changed all_shape) kept_same master tasks namespaces moved other m in
+        let from = others_from apart
+        (reshaping_keeps all_changed all_shape) kept_same master moved other m in
         heard_foreign (all_changed from.0).propagation (changed_foreign from.0 from.1) number
         (subst (λ kind. HearsGroup apart left kind number) (ap (λ (x : Mount ℕ). x.propagation) from.2) how))
 
     pub regrouping_leaves_apart : LeavesApart world left names []
-    regrouping_leaves_apart = changing_leaves_apart apart all_changed
-        (reshaping_keeps all_changed all_shape) kept_same master tasks namespaces moved own_masters events
+    regrouping_leaves_apart = changing_leaves_apart apart
+        (reshaping_keeps all_changed all_shape) kept_same master moved own_masters events

@@ -11,7 +11,6 @@ use Rattle.vt_laws_later_calls.proofs.ends.OtherCalls.{all_types_leave_all_but_m
 use Rattle.vt_laws_later_calls.specs.Ends.{KeepsAllButMasters}
 use Rattle.vt_laws_trees.specs.Layers.Layers.ChangesUpper.{IsNewBy}
 use Rattle.vt_laws_sealed.specs.Part.Seals.{IsApart}
-use Rattle.vt_laws_sealed.proofs.part.groups.ReceiversAlike.{member_group}
 use Rattle.vt_laws_sealed.proofs.outsiders.ChangedWorlds.{others_rest}
 use Rattle.vt_laws_sealed.proofs.outsiders.OtherMounts.{Foreign, HearsGroup, IsIn, tree_in, foreign_above, is_other, member_not_new, namespace_outside, other_hears_foreign, standing_apart_with}
 use Rattle.vt_laws_sealed.proofs.outsiders.OwnTasks.{caller_outside}
@@ -19,6 +18,7 @@ use Rattle.vt_laws_sealed.proofs.outsiders.Regrouping.{IsOfOthers, after_all, al
 use Rattle.vt_laws_sealed.proofs.outsiders.Reshaping.{IsReshaped}
 use Rattle.vt_laws_sealed.proofs.outsiders.StandingApart.{StandsApart}
 use Rattle.vt_laws_sealed.proofs.outsiders.Staying.{LeavesApart}
+use Rattle.vt_laws_sealed.proofs.part.groups.EventsApart.{member_group}
 
 -- the masters after a change of types: as they were, or of a group that is made for a mount that is named
 new_masters : (group : ℕ → ℕ) (number : ℕ) (named : List (Mount ℕ)) (master : ℕ → Option ℕ)

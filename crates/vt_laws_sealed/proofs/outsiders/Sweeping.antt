@@ -13,9 +13,9 @@ use Rattle.vt_laws_sealed.proofs.outsiders.SeenLater.{lower_of, used_later}
 use Rattle.vt_laws_sealed.proofs.outsiders.Staying.{LeavesApart}
 
 -- All steps of the sweep
-module _ (world before : World ℕ) (names : List TaskName) (apart : IsApart world names)
+module _ {world before : World ℕ} {names : List TaskName} (apart : IsApart world names)
     (sealed_off : sealed nat_eq world names ≡ true) (trees : TreeInvariants nat_eq before)
-    (merged : OverlayInvariants nat_eq before) (one : OneNumberEach before) (changed : List ℕ)
+    (merged : OverlayInvariants nat_eq before) (one : OneNumberEach before) {changed : List ℕ}
     (leaves : LeavesApart world before names changed) where
   abbrev living : World ℕ
   living = without_dead_mounts nat_eq before
@@ -102,7 +102,7 @@ module _ (world before : World ℕ) (names : List TaskName) (apart : IsApart wor
 
   sees_last : SeesTheSame world (settled nat_eq before) names
   sees_last = groups_swept world (without_dead_inodes nat_eq mounted) names
-      (inodes_swept world merged_swept names apart sealed_off (inodes_swept world mounted names apart sealed_off
+      (inodes_swept apart sealed_off (inodes_swept apart sealed_off
       (filesystems_swept world living names apart (mounts_swept world before names leaves.sees)) one_living is_overlay
       (λ x m lower. lower_tree x (was_there x m) lower) one_each)
       one_living (λ f. not (is_overlay f)) lower_swept one_each_later)
@@ -115,6 +115,6 @@ pub sweeping_leaves_apart : (world before : World ℕ) (names : List TaskName) �
     → sealed nat_eq world names ≡ true → before.filesystems ≡ world.filesystems → OneNumberEach before
     → (changed : List ℕ) → LeavesApart world before names changed
     → LeavesApart world (settled nat_eq before) names changed
-sweeping_leaves_apart world before names apart sealed_off same one =
-    sweep_leaves_apart world before names apart sealed_off (trees_in before world same apart.is.files)
-    (overlays_in before world same apart.is.overlays) one
+sweeping_leaves_apart world before names apart sealed_off same one changed leaves =
+    sweep_leaves_apart apart sealed_off (trees_in before world same apart.is.files)
+    (overlays_in before world same apart.is.overlays) one leaves

@@ -17,6 +17,7 @@ use Rattle.vt_laws_sealed.proofs.outsiders.StandingApart.{NothingNew, StandsApar
 use Rattle.vt_laws_sealed.proofs.outsiders.Staying.{IsOfTheWorld, LeavesApart, free_from}
 use Rattle.vt_laws_sealed.proofs.outsiders.Steps.{leaves_on}
 use Rattle.vt_laws_sealed.proofs.outsiders.Sweeping.{sweeping_leaves_apart}
+use Rattle.vt_laws_trees.proofs.trees.Lists.{among-flat_map_filter}
 
 module _ {world : World ℕ} {names : List TaskName} (apart : IsApart world names) (fresh : Fresh ℕ)
     (serves : Serves nat_eq world fresh) (task : Task ℕ) (caller : Among task (outsiders world names)) where
@@ -98,19 +99,12 @@ module _ {world : World ℕ} {names : List TaskName} (apart : IsApart world name
       (sym (eqb-true l.mount there.0.number there.2) ∙ eqb-true l.mount mount.number e
       ∙ ap (λ (x : Mount ℕ). x.number) is_copy.2)))
 
-  of_tasks : (tasks : List (Task ℕ)) → ((t : Task ℕ) → Among t tasks → Among t world.tasks)
-      → (location : Location ℕ) → Among location (locations tasks) → Among location (all_locations world)
-  of_tasks tasks all location m =
-      let of = among-from_flat_map locations_of tasks location m in
-      among-flat_map locations_of world.tasks of.0 location (all of.0 of.1) of.2
-
   of_members : (location : Location ℕ) → Among location (locations theirs) → Among location (all_locations world)
-  of_members = of_tasks theirs (λ t m. (among-from_filter (is_member_task names) world.tasks t m).0)
+  of_members = among-flat_map_filter locations_of (is_member_task names) world.tasks
 
   of_others : (location : Location ℕ) → Among location (locations (outsiders world names))
       → Among location (all_locations world)
-  of_others = of_tasks (outsiders world names)
-      (λ t m. (among-from_filter (λ (x : Task ℕ). not (is_member_task names x)) world.tasks t m).0)
+  of_others = among-flat_map_filter locations_of (λ t. not (is_member_task names t)) world.tasks
 
   roots_located : (location : Location ℕ) → Among location (roots_and_directories theirs)
       → Among location (all_locations world)

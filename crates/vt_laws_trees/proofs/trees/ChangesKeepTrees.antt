@@ -92,9 +92,9 @@ changes_keep_trees files (Remove directory name object) conditions may =
     is_tree-rearranged files.tree (changed nat_eq files (Remove directory name object)).tree.node _ Nowhere conditions
     (removed_rearranged files directory name object conditions may)
 changes_keep_trees files (Move from old to new object) conditions may =
-    subst IsTree (moved_alike files from old to new object conditions may)
+    subst IsTree (moved_alike files conditions may)
     (is_tree-rearranged files.tree (changed nat_eq files (Move from old to new object)).tree.node _ _ conditions
-    (moved_rearranged files from old to new object conditions may))
+    (moved_rearranged files conditions may))
 changes_keep_trees files (SetBytes file bytes) conditions may =
     is_tree-rearranged files.tree (changed nat_eq files (SetBytes file bytes)).tree.node Nobody Nowhere conditions
     (still_rearranged files file (node_with_bytes bytes) (bytes_keep_place bytes) conditions)
@@ -117,9 +117,9 @@ changes_keep_own_parents files (Remove directory name object) conditions own may
     (changed nat_eq files (Remove directory name object)).tree.node _ Nowhere conditions
     (removed_rearranged files directory name object conditions may) own
 changes_keep_own_parents files (Move from old to new object) conditions own may =
-    subst HasOwnParents (moved_alike files from old to new object conditions may)
+    subst HasOwnParents (moved_alike files conditions may)
     (own_parent-rearranged files.tree (changed nat_eq files (Move from old to new object)).tree.node _ _ conditions
-    (moved_rearranged files from old to new object conditions may) own)
+    (moved_rearranged files conditions may) own)
 changes_keep_own_parents files (SetBytes file bytes) conditions own may =
     own_parent-rearranged files.tree (changed nat_eq files (SetBytes file bytes)).tree.node Nobody Nowhere conditions
     (still_rearranged files file (node_with_bytes bytes) (bytes_keep_place bytes) conditions) own

@@ -9,7 +9,7 @@ use Rattle.vt_laws_trees.proofs.trees.ChangesOfNames.{decided_some, not_root, on
 use Rattle.vt_laws_trees.proofs.trees.TreesRearranged.{IsRearranged, Vanishes, led_closed, no_entries}
 use Rattle.vt_spec.proofs.NodeChanges.{parent-node_with_parent}
 
-module _ (files : FileTree ℕ) (from : ℕ) (old : List ℕ) (to : ℕ) (new : List ℕ) (object : ℕ)
+module _ (files : FileTree ℕ) {from : ℕ} {old : List ℕ} {to : ℕ} {new : List ℕ} {object : ℕ}
     (conditions : IsTree files.tree) (may : MayMove files.tree from old to new object) where
   -- what had the new name
   abbrev replaced : Option ℕ

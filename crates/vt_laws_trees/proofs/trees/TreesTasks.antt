@@ -4,6 +4,7 @@ use Rattle.vt_spec.proofs.Common.{Access, Among, CopyUp, Descriptor, ForkWords, 
 use Rattle.std.proofs.Math.Nat.{mod-lt}
 use Rattle.vt_spec.specs.Machine.Tasks.{permission_bits}
 pub use Rattle.std.proofs.lemmas.Bool.{and_from}
+use Rattle.vt_laws_trees.proofs.trees.Lists.{length-filter_le}
 use Rattle.vt_spec.proofs.Descriptors.{ascending-filter}
 
 -- a task that is called is there
@@ -148,10 +149,6 @@ inserted_ascending least new (descriptor ∷ list) e h =
       leb-true,
     )
 
-filtered_length : (stays : Descriptor ℕ → Bool) (list : List (Descriptor ℕ)) → length (filter stays list) ≤ length list
-filtered_length stays [] = omega arith
-filtered_length stays (descriptor ∷ list) = grind (arith, common_steps, filtered_length stays list)
-
 -- a descriptor more, where there are fewer than 256; and one less
 pub opened_within : (task : Task ℕ) (location : Location ℕ) (access : Access) → is_within_limits task ≡ true
     → nat_le most_descriptors (length task.descriptors) ≡ false
@@ -184,7 +181,7 @@ closed_within task number is =
     let few = leb-true (length task.descriptors) most_descriptors limits.few in
     limits_of (without_descriptor task number) (record {
       few = le-leb (length (filter (λ descriptor. not (number == descriptor.number)) task.descriptors)) most_descriptors
-          (omega (arith, few, filtered_length (λ descriptor. not (number == descriptor.number)) task.descriptors));
+          (omega (arith, few, length-filter_le (λ (descriptor : Descriptor ℕ). not (number == descriptor.number)) task.descriptors));
       ascending = ascending-filter
           (λ descriptor. not (number == descriptor.number)) 0 task.descriptors limits.ascending;
       low = all-filter (λ descriptor. nat_lt descriptor.number most_descriptors)

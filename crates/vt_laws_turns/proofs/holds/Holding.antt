@@ -1,6 +1,6 @@
 -- Turns keep it that calls under way hold what their tasks see.
-use Rattle.std.proofs.Common.{◌≡◌, ◌≢◌, refl, sym, ap, subst, ◌∙◌, ◌⊎◌, inl, inr, ⊎_elim, ℕ, nat_eq, Bool, true, false, true≢false, cond, not, List, [], ◌∷◌, ◌++◌, ◌*◌, Some, map, reverse, is_some, eq-eqb, eqb-true, arith, Contains, slice_get}
-use Rattle.vt_spec.proofs.Common.{Among, Call, Fresh, IsWorld, Location, Mount, Namespace, Outcome, Progress, Route, Sched, Serves, Task, TaskName, Turned, World, after, among-append, among-append_right, among-flat_map, among-from_filter, among-from_map, among-map, among_from_contains, among_from_list_all, among_numbers, apply, call_outcome, common_steps, contains_from_among, filesystem_change_of, finished_by, folded, found_among, get_or_from_slice_get, is_among, is_listed, is_stale, list_any, looks_of, mount_at, mount_numbered, namespace_change_of, number-mount_in, one_further, policy, routes, same_name, same_name_itself, slice_get_within, some_from_is_some, task_called, turn, without_progress, words_of}
+use Rattle.std.proofs.Common.{◌≡◌, ◌≢◌, refl, sym, ap, subst, ◌∙◌, ◌⊎◌, inl, inr, ⊎_elim, ℕ, nat_eq, Bool, true, false, true≢false, cond, not, List, [], ◌∷◌, ◌++◌, ◌*◌, Some, map, reverse, is_some, eq-eqb, eqb-true, arith, Contains}
+use Rattle.vt_spec.proofs.Common.{Among, Call, Fresh, IsWorld, Location, Mount, Namespace, Outcome, Progress, Route, Sched, Serves, Task, TaskName, Turned, World, after, among-append, among-append_right, among-flat_map, among-from_filter, among-from_map, among-map, among_from_contains, among_from_list_all, among_numbers, apply, call_outcome, common_steps, contains_from_among, filesystem_change_of, finished_by, folded, found_among, is_among, is_listed, is_stale, list_any, looks_of, mount_at, mount_numbered, namespace_change_of, number-mount_in, one_further, policy, routes, same_name, same_name_itself, some_from_is_some, task_called, turn, without_progress, words_of}
 use Rattle.std.proofs.lemmas.Grind.{reverse_onto}
 use Rattle.vt_spec.specs.Machine.Turns.{hold_one}
 use Rattle.vt_laws_rules.proofs.judged.CallsJudged.{call_is_judged_then_applied}
@@ -8,6 +8,7 @@ use Rattle.vt_laws_trees.proofs.calls.tasks.TasksLaws.{other_tasks_stay}
 use Rattle.vt_laws_mounts.specs.Mounts.Attaching.{numbers_of}
 use Rattle.vt_laws_mounts.proofs.mounts.MountsFound.{found_there}
 use Rattle.vt_laws_mounts.proofs.mounts.MountsReplaced.{found_itself}
+use Rattle.vt_laws_trees.proofs.trees.Lists.{nth_among}
 use Rattle.vt_laws_worlds.proofs.worlds.CallsKept.{name_found}
 use Rattle.vt_laws_worlds.proofs.worlds.ReachedWalks.{own_directory_found, root_found}
 use Rattle.vt_laws_worlds.proofs.worlds.SeenTrees.{unused_number}
@@ -35,9 +36,6 @@ use Rattle.vt_laws_turns.specs.Holds.Held.{HoldsItsTask, HoldsWhatIsSeen, IsFitT
 use Rattle.vt_laws_turns.proofs.holds.Meeting.{walk_met}
 
 -- What is walked
-
-pub nth_among : {A : Type 0} (list : List A) (k : ℕ) (a : A) → slice_get list k ≡ Some a → Among a list
-nth_among list k a e = among_from_contains list a (k, slice_get_within list k a e, get_or_from_slice_get list k a a e)
 
 among-from_reverse : {A : Type 0} (list : List A) (a : A) → Among a (reverse list) → Among a list
 among-from_reverse [] a m = absurd m
@@ -125,7 +123,7 @@ module _ (world : World ℕ) (is : IsWorld nat_eq world) (fresh : Fresh ℕ) (se
       call_is_judged_then_applied fresh world task call
       ∙ ap (λ j. after world j (apply nat_eq fresh world task)) judged in
       subst (λ (o : Outcome ℕ). ShowAlike world (finished_by nat_eq false world name changed o).world) (sym outcome)
-      (swept_show_alike world fresh task call permit is serves called judged))
+      (swept_show_alike task call permit is serves called judged))
 
   module _ (other : TaskName) (apart : other ≢ name) (old : Task ℕ) (called : task_called world other ≡ Some old) where
     -- it has the change number and the namespace that it had

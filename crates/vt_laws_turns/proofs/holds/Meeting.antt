@@ -11,7 +11,8 @@ use Rattle.vt_laws_turns.specs.Walks.Walkers.Walk.{Goes, Names, Reaches}
 use Rattle.vt_laws_turns.proofs.walks.alike.Seeing.{Met}
 use Rattle.vt_laws_turns.proofs.walks.by_words.Whole.{all_words_are_the_walk}
 use Rattle.vt_laws_turns.specs.Holds.Held.{WordsMeetWhatIsSeen}
-use Rattle.vt_laws_turns.proofs.holds.Grounds.{OnGround, Seen, directory_ground, looks, met_at_seen, met_seen, named_ground, object_ground, root_ground, shown_on, shown_seen, start_ground, step_ground}
+use Rattle.vt_laws_turns.proofs.holds.Grounds.{OnGround, Seen, looks, met_at_seen, met_seen, named_ground, object_ground, shown_on, shown_seen, there}
+use Rattle.vt_laws_worlds.proofs.worlds.Ground.{directory_ground, root_ground, start_ground, step_ground}
 
 module _ (world : World ℕ) (is : IsWorld nat_eq world) (task : Task ℕ)
     (called : task_called world task.name ≡ Some task) where
@@ -96,7 +97,7 @@ module _ (world : World ℕ) (is : IsWorld nat_eq world) (task : Task ℕ)
   word_fine here word ground seen =
       walked_fine here.left (steps_with nat_eq sees task here word) (search_rules nat_eq sees task here.location)
       (stepped nat_eq sees task here.location word)
-      (λ l e. step_ground world is task called here.location word ground l e)
+      (λ l e. step_ground world is task (there world is task called) here.location l word ground e)
       (more_seen _ here.steps (met_seen world is task called here.location word ground) seen)
 
   named_fine : (steps : List (List ℕ)) (rules : Rules) (found : Result (Option (Location ℕ)) Deny)
@@ -168,7 +169,14 @@ module _ (world : World ℕ) (is : IsWorld nat_eq world) (task : Task ℕ)
   start_fine : (directory : Location ℕ) (symlink : Here ℕ) (text : List ℕ) → Ground directory
       → AllSeen symlink.steps → FineHere (Ok (symlink_start nat_eq sees task directory symlink text))
   start_fine directory symlink text ground seen =
-      search (arith, common_steps, start_ground, also_seen, shown_seen, root_ground)
+      search (
+        arith,
+        common_steps,
+        start_ground world is task (there world is task called),
+        also_seen,
+        shown_seen,
+        root_ground world is task (there world is task called),
+      )
 
   followed_fine : (directory : Location ℕ) (symlink : Here ℕ) (text : List ℕ) (pending : List Pending) (last : Last)
       → Ground directory → AllSeen symlink.steps
@@ -249,7 +257,8 @@ module _ (world : World ℕ) (is : IsWorld nat_eq world) (task : Task ℕ)
           → Fine (then_walk (stopped_by [] r) (λ text. gone_on nat_eq sees task (walk_start task text)
           (pending_for nat_eq aim text ∷ []) (last_for nat_eq aim text)))
       by (Ok text) = gone_on_fine (pending_for nat_eq aim text ∷ []) (walk_start task text) (last_for nat_eq aim text)
-          (start_ground world is task called task.directory text (directory_ground world is task called)) none_met
+          (start_ground world is task (there world is task called) task.directory text
+          (directory_ground world is task (there world is task called))) none_met
       by (Err deny) = none_met
 
   pub words_fine : (aim : Aim) (path : List ℕ) (count : ℕ) → Fine (words_walked_in count world task aim path)

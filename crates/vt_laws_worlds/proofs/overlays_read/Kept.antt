@@ -18,11 +18,11 @@ use Rattle.vt_laws_rules.proofs.given.Inversion.{calls_are_granted}
 use Rattle.vt_laws_rules.proofs.judged.CallsJudged.{call_is_judged_then_applied}
 use Rattle.vt_laws_rules.specs.Granted.{IsGranted}
 use Rattle.vt_laws_rules.specs.Granted.IsGranted.{creates, creates_exclusively, mounts_overlayfs, opens, opens_existing}
+use Rattle.vt_laws_trees.proofs.calls.tasks.TasksOwn.{among-inserted}
 use Rattle.vt_laws_trees.proofs.trees.TreesTasks.{called_there}
 use Rattle.vt_laws_trees.specs.Trees.Settling.{inode_in}
 use Rattle.vt_laws_worlds.proofs.worlds.FitPermitsNamed.{all_permits_fit}
 use Rattle.vt_laws_worlds.proofs.worlds.PermitsSeen.{permits_keep_what_is_seen}
-use Rattle.vt_laws_worlds.proofs.worlds.Placed.{among-inserted}
 use Rattle.vt_laws_worlds.proofs.worlds.Seen.{KeepsWhatIsSeen, mount_of_located}
 use Rattle.vt_laws_worlds.proofs.worlds.SeenMounts.{mounted_seen}
 

@@ -1,5 +1,6 @@
 -- Whether an overlay has an upper layer is as it was after the sweep, and where worlds are the same.
 use Rattle.std.proofs.Common.{arith, Bool, List, None, Some, [], ap, cond, eqb-true, false, filter, find, inr, is_some, map, nat_eq, not, refl, sym, true, true≢false, ℕ, ◌&&◌, ◌||◌, ◌∙◌, ◌∷◌, ◌≡◌, unwrap_or}
+use Rattle.vt_laws_trees.proofs.trees.Lists.{find-filter}
 use Rattle.vt_spec.proofs.Common.{Among, Descriptor, Filesystem, Location, Mount, SameFilesystems, Task, World, all_from_among, all_locations, among-flat_map, among-map, among_from_all, among_from_list_all, any_from_among, common_steps, filesystem_numbered, has_layer_on, has_no_upper, is_among, is_mounted, is_overlay, list_all, list_all_from_among, list_any, locations_of, looks_of, mount_at, mount_in, nat_eq_itself, no_filesystem, number-only_used, of_overlay, only_used, only_used_by, overlay_or, settled, used_in, without_dead_filesystems, without_dead_in, without_dead_mounts}
 use Rattle.vt_laws_worlds.specs.OverlaysRead.Writers.{PlainWorldsHaveLayers, SameWorldsHaveLayersAlike, SweepsKeepWriters, WritersHaveLayers, writes_to_a_layer}
 use Rattle.vt_laws_trees.proofs.trees.TreesOfWorlds.{numbered_anyhow}
@@ -74,19 +75,6 @@ lacks_mapped change numbers uppers number (first ∷ list) =
 
 -- What is looked for in a filtered list
 module _ {A : Type 0} (test wanted : A → Bool) where
-  found_still : (list : List A) → ((a : A) → wanted a ≡ true → test a ≡ true)
-      → find wanted (filter test list) ≡ find wanted list
-  found_still [] all = refl
-  found_still (first ∷ list) all = by (test first) refl (wanted first) refl (found_still list all)
-    where
-      by : (b : Bool) → test first ≡ b → (c : Bool) → wanted first ≡ c
-          → find wanted (filter test list) ≡ find wanted list
-          → find wanted (cond b (first ∷ filter test list) (filter test list)) ≡ cond c (Some first) (find wanted list)
-      by true e true f later = ap (λ c. cond c (Some first) (find wanted (filter test list))) f
-      by true e false f later = ap (λ c. cond c (Some first) (find wanted (filter test list))) f ∙ later
-      by false e true f later = absurd (true≢false (sym (all first f) ∙ e))
-      by false e false f later = later
-
   found_never : (list : List A) → ((a : A) → wanted a ≡ true → test a ≡ false) → find wanted (filter test list) ≡ None
   found_never [] none = refl
   found_never (first ∷ list) none = by (test first) refl (found_never list none)
@@ -99,7 +87,7 @@ module _ {A : Type 0} (test wanted : A → Bool) where
 lacks_filtered : (lives : ℕ → Bool) (number : ℕ) (list : List (Filesystem ℕ))
     → lacks_upper (numbered number list) ≡ false
     → lacks_upper (numbered number (filter (λ f. lives f.number) list)) ≡ false
-lacks_filtered lives number list layer = grind (arith, common_steps, lives, eqb-true, found_still, found_never)
+lacks_filtered lives number list layer = grind (arith, common_steps, lives, eqb-true, find-filter, found_never)
 
 -- The sweep
 
@@ -128,7 +116,7 @@ module _ (world : World ℕ) where
   -- a mount on which a location is stays
   mount_stays : (location : Location ℕ) → Among location (all_locations world)
       → mount_at nat_eq (settled nat_eq world) location ≡ mount_at nat_eq world location
-  mount_stays location m = grind (arith, common_steps, found_still, any_from_among, nat_eq_itself, eqb-true)
+  mount_stays location m = grind (arith, common_steps, find-filter, any_from_among, nat_eq_itself, eqb-true)
 
   abbrev lives_numbered : ℕ → Bool
   lives_numbered number = is_mounted nat_eq mounted number

@@ -28,10 +28,6 @@ mapped_no_more f (first ∷ rest) h number =
     by false true imp le = omega (arith, le)
     by false false imp le = le
 
-pub filtered_no_more : (test : Mount ℕ → Bool) (mounts : List (Mount ℕ)) → length (filter test mounts) ≤ length mounts
-filtered_no_more test [] = omega arith
-filtered_no_more test (first ∷ rest) = grind (arith, common_steps, filtered_no_more test rest)
-
 pub none_counted : (mounts : List (Mount ℕ)) (number : ℕ) → ((mount : Mount ℕ) → Among mount mounts
     → is_in number mount ≡ false) → count_in mounts number ≡ 0
 none_counted [] number h = refl

@@ -5,14 +5,15 @@ use Rattle.vt_spec.specs.declared.attributes.Kind.TheVariants.{File}
 use Rattle.vt_laws_mounts.specs.Mounts.Attaching.{is_mount}
 use Rattle.vt_laws_mounts.proofs.mounts.MountsRetyped.{types_are_of_mounts}
 use Rattle.vt_laws_mounts.proofs.ends.UnmountingEnds.{lazy_is_of_mounts}
+use Rattle.vt_laws_trees.proofs.calls.tasks.TasksOwn.{among-inserted}
+use Rattle.vt_laws_trees.proofs.runs.answered.PlainStays.{plain_numbered}
 use Rattle.vt_laws_worlds.specs.Worlds.Kept.{IsPlain, KeptByPermits}
 use Rattle.vt_laws_worlds.specs.Worlds.Permits.{IsFitPermit, IsReachedDirectory, NamesWhatIsThere}
 use Rattle.vt_laws_worlds.specs.Worlds.Tasks.{LocationsAreThere, OpenFilesAreRegular, TasksStandOnDirectories}
 use Rattle.vt_laws_worlds.proofs.worlds.PermitsSeen.{elsewhere, gone_on, namespaces_ended_seen, new_at, odds_are_new, permits_keep_what_is_seen, unshared_seen}
-use Rattle.vt_laws_worlds.proofs.worlds.Placed.{ArePlaced, IsPlaced, OpensAt, StandsAt, all_are_placed, all_placed_after, among-inserted, locations_are_there, open_files_are_regular, opens_after, placed_after, placed_with, stands_after, tasks_stand_on_directories}
+use Rattle.vt_laws_worlds.proofs.worlds.Placed.{ArePlaced, IsPlaced, OpensAt, StandsAt, all_are_placed, all_placed_after, locations_are_there, open_files_are_regular, opens_after, placed_after, placed_with, stands_after, tasks_stand_on_directories}
 use Rattle.vt_laws_worlds.proofs.worlds.Roots.{namespace_root_stands, own_there, in_own, pivoted_placed, root_stands, unshared_placed}
 use Rattle.vt_laws_worlds.proofs.worlds.Seen.{KeepsWhatIsSeen, kind_is, kind_seen, seen_alike, there_is}
-use Rattle.vt_laws_worlds.proofs.Plain.{plain_numbered}
 use Rattle.vt_laws_worlds.proofs.worlds.SeenMerges.{new_inode_seen}
 use Rattle.vt_laws_trees.proofs.trees.TreesTasks.{called_there, tasks-with_copy, tasks-pwritten}
 

@@ -1,12 +1,13 @@
 -- A permit that fits leaves each mount with a root and a place that are directories.
 use Rattle.std.proofs.Common.{arith, ◌≡◌, refl, ℕ, nat_eq, Bool, true, false, List, [], ◌∷◌, Option, Some, None}
+use Rattle.vt_laws_mounts.proofs.mounts.MountsLeft.{mounts-with_change}
 use Rattle.vt_spec.proofs.Common.{Change, CopyUp, Fresh, IsWorld, Location, Make, Move, Permit, Remove, Serves, Task, ToBind, ToChange, ToClose, ToEnterNamespace, ToExit, ToFork, ToMake, ToMountOverlay, ToMountPlain, ToMove, ToOpen, ToOpenNew, ToPivot, ToRemoveDirectory, ToRename, ToSetCredentials, ToSetDirectory, ToSetFlags, ToSetRoot, ToSetType, ToSetUmask, ToUnmount, ToUnmountLazily, ToUnshare, ToWritePart, World, and_parts, apply, common_steps, evens, filesystems-taken_away, filesystems-without_replaced, going, is_copied_up, mount_at, mount_numbered, namespace_entered, odds, pwritten, unshared, with_change, with_copy, without_mounts_on, without_replaced, without_task}
 use Rattle.vt_laws_worlds.specs.Worlds.Kept.{KeptByAllPermits, KeptByPermits, MountsShow}
 use Rattle.vt_laws_worlds.specs.Worlds.Permits.{IsReachedDirectory, NamesWhatIsThere}
 use Rattle.vt_laws_worlds.proofs.worlds.PermitsSeen.{are_new, change_seen_in, copy_seen, elsewhere, gone_on, makes_none, new_at, odds_are_new, permits_keep_what_is_seen, written_seen}
 use Rattle.vt_laws_worlds.proofs.worlds.Roots.{own_there}
 use Rattle.vt_laws_worlds.proofs.worlds.Seen.{KeepsWhatIsSeen, seen_alike}
-use Rattle.vt_laws_worlds.proofs.worlds.SeenMerges.{change_keeps_mounts, change_keeps_seen}
+use Rattle.vt_laws_worlds.proofs.worlds.SeenMerges.{change_keeps_seen}
 use Rattle.vt_laws_worlds.proofs.worlds.Shows.{AllShow, IsPlace, all_show_after, ended_show, flags_show, lazy_show, mounts_show, own_shows, pivoted_show, retyped_show, taken_show, unshared_show, world_shows}
 use Rattle.vt_laws_worlds.proofs.worlds.ShowsGrafts.{bound_show, mounted_show, moved_show}
 
@@ -27,7 +28,7 @@ module _ (world : World ℕ) (fresh : Fresh ℕ) (task : Task ℕ) (is : IsWorld
       → AllShow (with_change nat_eq supply middle location change)
   changing supply middle show location change seen =
       all_show_after middle (with_change nat_eq supply middle location change) seen
-      (change_keeps_mounts supply middle location change) show
+      (mounts-with_change middle supply location change) show
 
   copying : (b : Bool) (file : Location ℕ) → AllShow (with_copy nat_eq b fresh world file)
   copying true file = changing fresh world shows file (CopyUp file.node)

@@ -1,6 +1,6 @@
 -- Where tasks stand, and what they have open, is there in each world that keeps what is seen.
 use Rattle.std.proofs.Common.{arith, ◌≡◌, refl, ap, ◌∙◌, ◌⊎◌, inl, inr, ⊎_elim, ℕ, nat_eq, true, List, [], ◌∷◌, map}
-use Rattle.vt_spec.proofs.Common.{Among, Descriptor, Location, Task, World, all_locations, among-flat_map, among-from_flat_map, among-from_map, among-map, among_from_list_all, and_from, and_parts, common_steps, has_regular_files_open, inserted, is_directory_at, is_directory_seen_in, is_kind_in, is_located_well, list_all_from_among, locations_of, mount_at, node_at, replaced_if_called, stands_on_directories}
+use Rattle.vt_spec.proofs.Common.{Among, Descriptor, Location, Task, World, all_locations, among-flat_map, among-from_flat_map, among-from_map, among-map, among_from_list_all, and_from, and_parts, common_steps, has_regular_files_open, is_directory_at, is_directory_seen_in, is_kind_in, is_located_well, list_all_from_among, locations_of, mount_at, node_at, replaced_if_called, stands_on_directories}
 use Rattle.vt_spec.specs.declared.attributes.Kind.TheVariants.{File}
 use Rattle.vt_laws_worlds.specs.Worlds.Tasks.{LocationsAreThere, OpenFilesAreRegular, TasksStandOnDirectories}
 use Rattle.vt_laws_worlds.proofs.worlds.Seen.{KeepsWhatIsSeen, directory_after, file_after, is_in, located_after, mount_of_located}
@@ -116,8 +116,3 @@ pub placed_with : (world : World ℕ) (new : Task ℕ) (tasks : List (Task ℕ))
     → ArePlaced world (map (replaced_if_called new) tasks)
 placed_with world new tasks placed at task m =
     let from = among-from_map (replaced_if_called new) tasks task m in grind (arith, common_steps)
-
-pub among-inserted : (new : Descriptor ℕ) (list : List (Descriptor ℕ)) (descriptor : Descriptor ℕ)
-    → Among descriptor (inserted new list) → (descriptor ≡ new) ⊎ Among descriptor list
-among-inserted new [] descriptor m = ⊎_elim inl (λ none. absurd none) m
-among-inserted new (first ∷ rest) descriptor m = grind (arith, common_steps, among-inserted new rest descriptor)

@@ -1,6 +1,6 @@
 -- Where one step of a walk leads: to what is there, on a mount of the task's namespace or on one that is in none.
-use Rattle.std.proofs.Common.{arith, ◌≡◌, refl, sym, ap, subst, ◌∙◌, true≢false, ⊎_elim, ℕ, nat_eq, Bool, true, false, not, cond, List, [], ◌∷◌, ◌&&◌, ◌||◌, length, Option, Some, None, is_some, option_map, ok_or, Ok, Err, option_to_list}
-use Rattle.vt_spec.proofs.Common.{Among, Dot, DotDot, IsWorld, LastWord, Location, Mount, Named, NoWord, Node, Stands, Task, World, among_from_all, among_from_list_all, and_from, at_root, child_at, common_steps, denial, directory_used, entries_in, entry_named, files_at, found_or_none, hop, is_among, is_directory_at, is_directory_node, is_kind_in, is_lost, is_nowhere_or_attached, is_private, last_or, list_all, mount_at, mount_numbered, node_at, none_is_not, number-mount_in, on_parent, parent_location, root_of, same_Some, same_location, stands_at, symlink_text, topmost, unless}
+use Rattle.std.proofs.Common.{arith, ◌≡◌, refl, sym, ap, subst, ◌∙◌, true≢false, ⊎_elim, ℕ, nat_eq, Bool, true, false, cond, List, [], ◌∷◌, ◌&&◌, ◌||◌, length, Option, Some, None, is_some, option_map, ok_or, Ok, Err, option_to_list}
+use Rattle.vt_spec.proofs.Common.{Among, Dot, DotDot, IsWorld, LastWord, Location, Mount, Named, NoWord, Node, Stands, Task, World, among_from_all, and_from, at_root, child_at, common_steps, denial, directory_used, entries_in, entry_named, files_at, found_or_none, hop, is_among, is_directory_at, is_directory_node, is_kind_in, is_lost, last_or, list_all, mount_at, mount_numbered, node_at, none_is_not, number-mount_in, on_parent, parent_location, root_of, same_Some, same_location, stands_at, symlink_text, topmost, unless}
 use Rattle.vt_spec.specs.declared.attributes.Kind.TheVariants.{File, White}
 use Rattle.vt_spec.specs.declared.errors.Deny.{Deny}
 use Rattle.vt_spec.specs.declared.errors.Rule.TheVariants.{W6, W8}
@@ -10,6 +10,7 @@ use Rattle.vt_laws_mounts.proofs.mounts.MountsFound.{found_in, placed_among}
 use Rattle.vt_laws_mounts.proofs.mounts.MountsNumbered.{is_one_of}
 use Rattle.vt_laws_mounts.proofs.mounts.MountsPlaces.{stands_there}
 use Rattle.vt_laws_mounts.proofs.mounts.MountsReplaced.{found_itself}
+use Rattle.vt_laws_mounts.proofs.namespaces.Unsharing.{placed_inside}
 use Rattle.vt_laws_trees.proofs.trees.TreesEntered.{chain_ends_at, directory_in_tree}
 use Rattle.vt_laws_trees.proofs.trees.TreesOfMounts.{worlds_are_standing}
 use Rattle.vt_laws_trees.proofs.trees.TreesWalked.{ok_same}
@@ -113,14 +114,6 @@ module _ (world : World ℕ) (whole : IsWorld nat_eq world) (task : Task ℕ) wh
       chain_ends_at IsFoundDirectory (λ here. option_map root_of (child_at nat_eq world.mounts here))
       (λ a b found e. child_found a b found.0 e) (length world.mounts) location location is
 
-  -- mounts outside every namespace stand nowhere
-  nowhere_unplaced : (mount : Mount ℕ) → Among mount world.mounts → (place : Location ℕ)
-      → mount.mount_point ≡ Some place → mount.namespace ≡ None → ⊥
-  nowhere_unplaced mount m place e none = true≢false
-      (sym (among_from_list_all is_nowhere_or_attached world.mounts whole.mounts.nowhere mount m)
-      ∙ ap (λ n. is_some n || (not (is_some mount.mount_point) && is_private mount.propagation)) none
-      ∙ ap (λ q. not (is_some q) && is_private mount.propagation) e)
-
   -- the place of a mount
   pub place_found : (number : ℕ) (place : Location ℕ) → IsOn number → (mount_numbered nat_eq world
       number).mount_point ≡ Some place → IsFoundDirectory place
@@ -136,7 +129,7 @@ module _ (world : World ℕ) (whole : IsWorld nat_eq world) (task : Task ℕ) wh
           ⊎_elim (λ found. subst (λ n. is_among nat_eq n (numbers_of world.mounts) ≡ true)
               (number-mount_in world.mounts place.mount)
               (is_one_of world.mounts (mount_numbered nat_eq world place.mount) found))
-              (λ none. absurd (nowhere_unplaced mount there place e (below ∙ ap (λ (m : Mount ℕ). m.namespace) none)))
+              (λ none. absurd (placed_inside world whole.mounts mount there place e (below ∙ ap (λ (m : Mount ℕ). m.namespace) none)))
               (found_or_none world.mounts place.mount),
           ap (λ o. list_all (nat_eq task.namespace) (option_to_list o)) (sym below) ∙ on.1,
         ),

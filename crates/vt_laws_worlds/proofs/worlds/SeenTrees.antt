@@ -160,13 +160,6 @@ module _ (fresh : Fresh ℕ) (world : World ℕ) (plain : IsPlain world) (locati
   pub old_number : old.number ≡ (mount_at nat_eq world location).filesystem
   old_number = number_numbered (mount_at nat_eq world location).filesystem world.filesystems
 
-  -- the mounts and tasks stay
-  pub change_mounts : (with_change nat_eq fresh world location change).mounts ≡ world.mounts
-  change_mounts = ap (λ (w : World ℕ). w.mounts) change_of_plain
-
-  pub change_tasks : (with_change nat_eq fresh world location change).tasks ≡ world.tasks
-  change_tasks = ap (λ (w : World ℕ). w.tasks) change_of_plain
-
 -- A number that is handed in is that of no inode
 pub unused_number : (world : World ℕ) (fresh : Fresh ℕ) → Serves nat_eq world fresh → (k number : ℕ)
     → Among number (numbers_in_use world) → nat_eq (fresh k) number ≡ false

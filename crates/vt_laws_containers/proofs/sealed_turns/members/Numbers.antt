@@ -1,23 +1,18 @@
 -- The change numbers that calls of theirs hold are those of the part.
-use Rattle.std.proofs.Common.{arith, ◌≡◌, refl, ap, ◌∙◌, inl, inr, ⊎_elim, ℕ, nat_eq, Bool, true, false, true≢false, List, [], ◌∷◌, ◌||◌, filter, find, map, eqb-true, eq-eqb}
+use Rattle.std.proofs.Common.{arith, ◌≡◌, refl, ap, ◌∙◌, inl, inr, ⊎_elim, ℕ, nat_eq, Bool, true, false, List, [], ◌∷◌, ◌||◌, filter, find, map, eqb-true, eq-eqb}
 use Rattle.vt_spec.proofs.Common.{Among, IsWorld, Location, Mount, Progress, Task, TaskName, World, among-append_left, among-filter, among-flat_map, among-from_filter, among-map, any_among, any_from_among, common_steps, filesystem_change_of, first_of_list, holds_of, is_among, is_overtaken, is_own_mount, is_stale, list_any, locations_of, members, mount_at, mounts_of, namespace_change_of, or_cases, own_mounts, part_of, used_filesystems}
 use Rattle.vt_laws_members.proofs.judging.JudgedOverlays.{any_same}
 use Rattle.vt_laws_members.proofs.judging.MountPoints.{in_own}
 use Rattle.vt_laws_members.proofs.judging.SeenInPart.{located_used}
 use Rattle.vt_laws_sealed.proofs.part.Kept.{filter_kept}
 use Rattle.vt_laws_sealed.proofs.part.part.PartOfPart.{shown_how, used_directly_used}
+use Rattle.vt_laws_trees.proofs.trees.Lists.{find-filter}
 use Rattle.vt_laws_turns.specs.Holds.Held.{HoldsItsTask, is_seen_by}
 
 -- what is found is the first that passes
 found_first : {A : Type 0} (p : A → Bool) (list : List A) → find p list ≡ first_of_list (filter p list)
 found_first p [] = refl
 found_first {A} p (a ∷ rest) = grind (arith, common_steps, found_first p rest)
-
--- a search finds the same where all that it may find is kept
-pub found_kept : {A : Type 0} (p q : A → Bool) (list : List A) → ((a : A) → p a ≡ true → q a ≡ true)
-    → find p (filter q list) ≡ find p list
-found_kept p q [] keeps = refl
-found_kept {A} p q (a ∷ rest) keeps = grind (arith, common_steps, true≢false, found_kept p q rest keeps)
 
 module _ (world : World ℕ) (names : List TaskName) (is : IsWorld nat_eq world) (task : Task ℕ)
     (member : Among task (members world names)) where
@@ -60,7 +55,7 @@ module _ (world : World ℕ) (names : List TaskName) (is : IsWorld nat_eq world)
 
   -- and of their namespaces
   pub namespace_same : namespace_change_of nat_eq part task.namespace ≡ namespace_change_of nat_eq world task.namespace
-  namespace_same = grind (arith, common_steps, found_kept, any_from_among, eq-eqb, eqb-true)
+  namespace_same = grind (arith, common_steps, find-filter, any_from_among, eq-eqb, eqb-true)
 
   -- so a call that holds what is seen is overtaken in both or in neither
   pub overtaken_alike : (progress : Progress ℕ)

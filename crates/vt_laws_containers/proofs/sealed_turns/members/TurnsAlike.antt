@@ -9,12 +9,13 @@ use Rattle.vt_laws_members.proofs.judging.AllJudged.{called_alike}
 use Rattle.vt_laws_members.proofs.judging.Grounds.{theirs_from, theirs_test}
 use Rattle.vt_laws_members.proofs.judging.SeenInPart.{directory_theirs, filesystem_alike, members_see_alike}
 use Rattle.vt_laws_sealed.proofs.part.walks.WalksAgree.{Alike, each_from}
-use Rattle.vt_laws_turns.proofs.holds.Holding.{nth_among, word_seen}
+use Rattle.vt_laws_turns.proofs.holds.Holding.{word_seen}
 use Rattle.vt_laws_worlds.proofs.worlds.CallsKept.{name_found}
 use Rattle.vt_laws_containers.specs.SealedTurns.MembersTurns.{HasCallsUnderWay, TheirTurnsAnswerAlike, TheirWordsAreOfTheirPart, part_of_sched}
 use Rattle.vt_laws_containers.specs.SealedTurns.OutsidersTurns.{their_calls}
-use Rattle.vt_laws_containers.proofs.sealed_turns.members.Numbers.{filesystem_same, found_kept, namespace_same, overtaken_alike, seen_used}
+use Rattle.vt_laws_containers.proofs.sealed_turns.members.Numbers.{filesystem_same, namespace_same, overtaken_alike, seen_used}
 use Rattle.vt_laws_containers.proofs.sealed_turns.members.RoutesAlike.{routes_alike}
+use Rattle.vt_laws_trees.proofs.trees.Lists.{find-filter, nth_among}
 
 module _ (sched : Sched ℕ) (names : List TaskName) (has : HasCallsUnderWay sched) where
   abbrev world : World ℕ
@@ -162,7 +163,7 @@ module _ (sched : Sched ℕ) (names : List TaskName) (has : HasCallsUnderWay sch
     -- what is under way of one of theirs
     same_found : find (λ (p : Progress ℕ). same_name name p.task) (their_calls names sched.under_way)
         ≡ find (λ (p : Progress ℕ). same_name name p.task) sched.under_way
-    same_found = found_kept (λ (p : Progress ℕ). same_name name p.task)
+    same_found = find-filter (λ (p : Progress ℕ). same_name name p.task)
         (λ (p : Progress ℕ). is_among same_name p.task names) sched.under_way
         (λ p e. ap (λ n. is_among same_name n names) (sym (same_task_name name p.task e)) ∙ theirs)
 

@@ -85,9 +85,9 @@ module _ (version : Version) where
   stacked : (mounts : ℕ) (lines : List (List ℕ)) → 1 + mounts ≤ most_mounts
       → Fills (whole version) (codes "t mount plain /a") [] mounting (mounting_is_asked version)
       (λ count world. IsStack world [] (codes "a") count) (λ count world fresh stack serves room. (
-        stacked_world world [] (codes "/a") (codes "a") path_has_one_word count stack fresh plain_flags serves room,
-        stack_grows world [] (codes "/a") (codes "a") path_has_one_word count stack fresh plain_flags serves room,
-        grown_stack world [] (codes "/a") (codes "a") path_has_one_word count stack fresh plain_flags serves room,
+        stacked_world path_has_one_word stack fresh plain_flags serves room,
+        stack_grows path_has_one_word stack fresh plain_flags serves room,
+        grown_stack path_has_one_word stack fresh plain_flags serves room,
       )) 1 1 mounts made lines
   stacked mounts lines room = fills (whole version) (codes "t mount plain /a") [] mounting (mounting_is_asked version)
       (λ count world. IsStack world [] (codes "a") count) _ mounts 1 1 made lines starts
@@ -122,8 +122,7 @@ full_namespace_refuses version more =
     ∙ (λ i. decimal 1 ++ codes " ok\n" ++ filled.text i)
     ∙ (λ i. decimal 1 ++ codes " ok\n" ++ (numbered 2 4095 (codes " ok\n")
     ++ text_of_refusals (whole version) (codes "t mount plain /a") [] mounting (mounting_is_asked version) filled.later
-    (λ fresh. full_stack_refuses filled.later [] (codes "/a") (codes "a") path_has_one_word 4096 filled.state fresh
-    plain_flags (omega arith)) more 4096 i))
+    (λ fresh. full_stack_refuses path_has_one_word filled.state fresh plain_flags (omega arith)) more 4096 i))
     ∙ sym (append_assoc (decimal 1 ++ codes " ok\n") (numbered 2 4095 (codes " ok\n"))
     (numbered 4097 more (codes " deny 28 ENOSPC M9\n")))
     ∙ ap (λ first. first ++ numbered 4097 more (codes " deny 28 ENOSPC M9\n"))

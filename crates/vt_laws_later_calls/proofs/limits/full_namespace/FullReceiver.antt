@@ -228,8 +228,8 @@ module _ (version : Version) where
   stacked : Fills (whole version) (codes "t.1 mount plain /q") (1 ∷ []) stacking (stacking_is_asked version) IsFilled
       (λ count world fresh filled serves room. (
         one_more count world filled fresh serves room,
-        stack_grows world (1 ∷ []) (codes "/q")
-            (codes "q") path_has_one_word count filled.stack fresh plain_flags serves room,
+        stack_grows
+            path_has_one_word filled.stack fresh plain_flags serves room,
         fills_on count world filled fresh serves room,
       )) 2 7 4093 world_7 (codes "t.1 mount plain /q" ∷ last_lines)
   stacked = fills (whole version) (codes "t.1 mount plain /q") (1 ∷ []) stacking
@@ -259,7 +259,7 @@ module _ (version : Version) where
 
     -- the last mount is granted
     line_4101 : policy nat_eq (numbers_for 4101) world (1 ∷ []) stacking ≡ granted Done full
-    line_4101 = stack_grows world (1 ∷ []) (codes "/q") (codes "q") path_has_one_word 4095 filled.stack
+    line_4101 = stack_grows path_has_one_word filled.stack
         (numbers_for 4101) plain_flags serves_4101 room
 
     -- the namespace has 4,096 mounts
@@ -281,8 +281,7 @@ module _ (version : Version) where
     -- one mount is unmounted
     line_4103 : policy nat_eq (numbers_for 4103) full (1 ∷ []) (Umount (codes "/q")) ≡ granted Done left
     line_4103 =
-        top_is_unmounted world (1 ∷ []) (codes "/q") (codes "q") path_has_one_word 4095 filled.stack (numbers_for 4101)
-        plain_flags serves_4101 room (numbers_for 4103)
+        top_is_unmounted path_has_one_word filled.stack plain_flags serves_4101 room (numbers_for 4103)
 
     -- the mount on the shared one is granted
     line_4104 : (policy nat_eq (numbers_for 4104) left [] mounting).answer ≡ Ok Done

@@ -57,8 +57,8 @@ first_is_filled = record {
 module _ (count : ℕ) (world : World ℕ) (filled : IsFilled count world) (fresh : Fresh ℕ)
     (serves : Serves nat_eq world fresh) (room : count < most_mounts) where
   abbrev pub one_more : World ℕ
-  one_more = stacked_world world (1 ∷ []) (codes "/q")
-      (codes "q") path_has_one_word count filled.stack fresh plain_flags serves room
+  one_more = stacked_world
+      path_has_one_word filled.stack fresh plain_flags serves room
 
   -- the mount that comes
   abbrev new : Mount ℕ
@@ -70,22 +70,22 @@ module _ (count : ℕ) (world : World ℕ) (filled : IsFilled count world) (fres
 
   -- the world with both, before change numbers are raised
   abbrev mounted : World ℕ
-  mounted = mounted_world world (1 ∷ []) (codes "/q") (codes "q") path_has_one_word count filled.stack fresh plain_flags
+  mounted = mounted_world path_has_one_word filled.stack fresh plain_flags
 
   -- one mount more
   pub fills_on : IsFilled (suc count) one_more
   fills_on = record {
-    stack = grown_stack world (1 ∷ []) (codes "/q") (codes "q") path_has_one_word count filled.stack fresh plain_flags
+    stack = grown_stack path_has_one_word filled.stack fresh plain_flags
         serves room;
-    own = grown_namespace world (1 ∷ []) (codes "/q") (codes "q") path_has_one_word count filled.stack fresh plain_flags
+    own = grown_namespace path_has_one_word filled.stack fresh plain_flags
         serves room ∙ filled.own;
     receiver = record {
       rest = filled.receiver.rest ++ (new ∷ []);
       more = filled.receiver.more ++ (added ∷ []);
-      mounts = mounts_are world (1 ∷ []) (codes "/q") (codes "q") path_has_one_word count filled.stack fresh plain_flags
+      mounts = mounts_are path_has_one_word filled.stack fresh plain_flags
           serves room ∙ ap (λ mounts. mounts ++ (new ∷ [])) filled.receiver.mounts
           ∙ append_assoc four_mounts filled.receiver.rest (new ∷ []);
-      filesystems = filesystems_are world (1 ∷ []) (codes "/q") (codes "q") path_has_one_word count filled.stack fresh
+      filesystems = filesystems_are path_has_one_word filled.stack fresh
           plain_flags serves room ∙ ap (λ filesystems. filesystems ++ (added ∷ [])) filled.receiver.filesystems;
       others = list_all-append is_other filled.receiver.rest (new ∷ []) ∙ (λ i. filled.receiver.others i
           && (holds_of (nat_eq 39) ((filled.stack.inside ∙ ap (λ n. Some n) filled.own) i) && true));
@@ -97,12 +97,12 @@ module _ (count : ℕ) (world : World ℕ) (filled : IsFilled count world) (fres
 
   -- the topmost mount unmounted
   abbrev pub one_less : World ℕ
-  one_less = unmounted_world world (1 ∷ []) (codes "/q")
-      (codes "q") path_has_one_word count filled.stack fresh plain_flags serves room
+  one_less = unmounted_world
+      path_has_one_word filled.stack plain_flags serves room
 
   -- that world before change numbers are raised
   abbrev left : World ℕ
-  left = world_given_back world (1 ∷ []) (codes "/q") (codes "q") path_has_one_word count filled.stack fresh plain_flags
+  left = world_given_back path_has_one_word filled.stack plain_flags
       serves room
 
   -- the first task finds what it found
@@ -123,8 +123,8 @@ module _ (count : ℕ) (world : World ℕ) (filled : IsFilled count world) (fres
   -- and the invariants hold
   pub one_less_is_kept : (handed : Fresh ℕ) → Serves nat_eq one_more handed → Kept one_less
   one_less_is_kept handed handed_serves =
-      subst Kept (ap (λ outcome. outcome.world) (top_is_unmounted world (1 ∷ []) (codes "/q") (codes "q")
-      path_has_one_word count filled.stack fresh plain_flags serves room handed))
+      subst Kept (ap (λ outcome. outcome.world) (top_is_unmounted
+      path_has_one_word filled.stack plain_flags serves room handed))
       (calls_keep_worlds one_more handed (1 ∷ []) (Umount (codes "/q")) fills_on.stack.is fills_on.stack.plain
       handed_serves refl refl)
 

@@ -8,12 +8,12 @@ use Rattle.vt_laws_mounts.proofs.mounts.MountsPlaces.{stands_there}
 use Rattle.vt_laws_mounts.proofs.mounts.Receivers.{start_among}
 use Rattle.vt_spec.proofs.Tables.{destination_walk}
 use Rattle.vt_laws_worlds.specs.Worlds.Kept.{IsPlain}
-use Rattle.vt_laws_worlds.proofs.Plain.{plain_numbered}
 use Rattle.vt_laws_worlds.proofs.worlds.Roots.{child_in}
 use Rattle.vt_laws_later_calls.specs.Limits.Room.{how_many_in, lacks_room, none_fails}
 use Rattle.vt_laws_later_calls.proofs.limits.TopmostGrows.{topmost_of_free}
 use Rattle.vt_laws_later_calls.proofs.limits.PathWalks.{HasTwoWords, WordLeads, destination_is_walked, end_of_two, two_words_lead}
 use Rattle.vt_laws_later_calls.proofs.limits.full_namespace.ReceiverWorld.{first_of_two, four_mounts, root_mount, shared_mount}
+use Rattle.vt_laws_trees.proofs.runs.answered.PlainStays.{plain_numbered}
 
 -- the two trees of the world: `/` with `q` and `s`, and that on `/s` with `d`
 pub record TwoTrees (first second : Filesystem ℕ) : Type 0 where

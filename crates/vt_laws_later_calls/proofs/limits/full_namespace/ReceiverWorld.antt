@@ -5,10 +5,10 @@ use Rattle.vt_laws_trees.specs.Trees.Calls.{mounts_overlay}
 use Rattle.vt_laws_trees.specs.Trees.Limits.{names_few_groups}
 use Rattle.vt_laws_worlds.proofs.opening.OpeningWorld.{opening_is_a_world}
 use Rattle.vt_laws_worlds.proofs.worlds.CallsKept.{Kept, calls_keep_worlds}
-use Rattle.vt_laws_worlds.proofs.Plain.{plain_numbered}
 use Rattle.vt_laws_later_calls.proofs.limits.ScriptLines.{AsksFor, numbers_go_on}
 use Rattle.vt_laws_later_calls.proofs.limits.StackedMounts.{IsStack}
 use Rattle.vt_laws_later_calls.proofs.limits.Supplies.{HasNumbersUntil, next_numbers_serve, opening_has_first_numbers}
+use Rattle.vt_laws_trees.proofs.runs.answered.PlainStays.{plain_numbered}
 
 -- the world after one line more
 abbrev pub next_world : ℕ → World ℕ → TaskName → Call → World ℕ

@@ -15,11 +15,12 @@ use Rattle.vt_laws_members.specs.Changes.Changes.{ChmodsEndAlike, ChownsEndAlike
 use Rattle.vt_laws_members.proofs.changes.files.Edits.{Edits, IsEdit, chmods_edit, chowns_edit, edits_keep, opaques_edit, writes_edit}
 use Rattle.vt_laws_members.proofs.changes.files.FilesInUse.{in_use_changed, tree_changes}
 use Rattle.vt_laws_members.proofs.changes.files.OneFilesystem.{old_used, one_in_part, one_in_world}
-use Rattle.vt_laws_members.proofs.changes.files.FilesRaised.{both, left, left_so, part_left, raised_is, swap}
+use Rattle.vt_laws_members.proofs.changes.files.FilesRaised.{both, left, left_so, part_left, swap}
 use Rattle.vt_laws_members.proofs.changes.looks.Told.{ran, same_caller}
 use Rattle.vt_laws_members.proofs.changes.part.PartAgain.{part_again}
 use Rattle.vt_laws_members.proofs.changes.part.SettledPart.{part_in_use}
 use Rattle.vt_laws_members.proofs.changes.tasks.Denied.{ran_there, run_by}
+use Rattle.vt_laws_members.proofs.changes.tasks.Rights.{raised_is}
 
 pub no_overlay : (o : Option (Overlay ℕ)) → is_some o ≡ false → o ≡ None
 no_overlay None e = refl

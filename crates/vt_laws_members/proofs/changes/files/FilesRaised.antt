@@ -7,13 +7,7 @@ use Rattle.vt_laws_mounts.proofs.letting_go.sweeps.InUse.{nothing_goes}
 use Rattle.vt_laws_members.proofs.changes.files.FilesChanged.{part_with_files}
 use Rattle.vt_laws_members.proofs.changes.tasks.RaisedTasks.{tasks_raised}
 use Rattle.vt_laws_members.proofs.changes.tasks.Retasked.{retasked}
-use Rattle.vt_laws_members.proofs.changes.tasks.Rights.{sees_alike}
-
--- a task whose change number is raised is the same else
-pub raised_is : {A : Type 0} (name : TaskName) (what : Task ℕ → A)
-    → ((t : Task ℕ) → what (record t { change = raised t.change }) ≡ what t) → (t : Task ℕ)
-    → what (raised_task name t) ≡ what t
-raised_is name what same t = grind (arith, common_steps)
+use Rattle.vt_laws_members.proofs.changes.tasks.Rights.{raised_is, sees_alike}
 
 module _ (old : Filesystem ℕ) (files : FileTree ℕ) where
   abbrev pub swap : Filesystem ℕ → Filesystem ℕ

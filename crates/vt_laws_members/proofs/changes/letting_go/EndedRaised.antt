@@ -3,8 +3,7 @@ use Rattle.std.proofs.Common.{arith, ◌≡◌, refl, sym, ap, subst, ◌∙◌,
 use Rattle.vt_spec.proofs.Common.{Among, Mount, Namespace, Private, Propagation, Shared, Slave, Task, TaskName, Unbindable, World, after_going, among-filter, among-filter_map, among-from_filter, among-from_map, among-map, any_among, any_from_among, chain, common_steps, cons_option, found_among, groups_up, has_members, heir, holds_of, inherited, is_going, is_located, is_member_of, is_member_task, is_own_mount, length-map, list_any, map_alike, master_above, members, mount_lives, mounts_of, none_is_some, or_left, own_mounts, part_of, raised, raised_namespace, same_Some, same_flags, same_list, same_location, same_mount, same_mounts_in, same_option, same_propagation, same_truth, settled, slave_of_heir, source_of, then_some}
 use Rattle.vt_laws_mounts.proofs.GroupsUp.{source_from_group}
 use Rattle.vt_laws_mounts.proofs.letting_go.Lists.{filter-map}
-use Rattle.vt_laws_sealed.proofs.part.groups.EventsApart.{none_hears, sides}
-use Rattle.vt_laws_sealed.proofs.part.groups.ReceiversAlike.{member_group}
+use Rattle.vt_laws_sealed.proofs.part.groups.EventsApart.{member_group, none_hears, sides}
 use Rattle.vt_laws_sealed.proofs.part.part.PartOfPart.{is_own, keep, kept_how}
 use Rattle.vt_laws_members.proofs.changes.letting_go.Heard.{IsHeard, apart, heard_by_own, master_same, own_in, own_kept, part_source, space_in_part, up_heard}
 use Rattle.vt_laws_members.proofs.changes.letting_go.Leaving.{filter_mid}

@@ -1,6 +1,6 @@
 -- Where mounts of theirs are detached, the world is ready to be swept.
 use Rattle.std.proofs.Common.{arith, ◌≡◌, refl, sym, ap, subst, ◌∙◌, ◌⊎◌, inl, inr, ⊎_elim, ℕ, nat_eq, Bool, true, false, true≢false, List, Option, Some, None, filter, is_some, not, eq-eqb, eqb-true}
-use Rattle.vt_spec.proofs.Common.{Among, Location, Mount, Task, TaskName, World, all_locations, among-filter, among-flat_map, among-from_filter, among-from_flat_map, among-from_map, among-map, among_from_list_all, among_numbers, and_parts, any_among, any_from_among, common_steps, is_at, is_located, is_member_task, is_own_namespace, list_any, locations, locations_of, members, mount_at, mount_lives, mount_numbered, no_outsider_on, none_among, not-true, or_cases, or_left, or_right, other_mounts, outsiders, own_lowers, pair-filter, roots_and_directories, used_alone, used_filesystems, wholly_locked, without_dead_mounts}
+use Rattle.vt_spec.proofs.Common.{Among, Location, Mount, Task, TaskName, World, all_locations, among-filter, among-flat_map, among-from_filter, among-from_flat_map, among-from_map, among-map, among_from_list_all, among_numbers, and_parts, any_among, any_from_among, common_steps, is_at, is_located, is_member_task, is_own_namespace, locations, locations_of, members, mount_at, mount_lives, mount_numbered, no_outsider_on, none_among, not-true, or_cases, or_left, or_right, outsiders, own_lowers, pair-filter, roots_and_directories, used_alone, used_filesystems, wholly_locked, without_dead_mounts}
 use Rattle.vt_laws_sealed.proofs.part.part.MountsOver.{nowhere_stands}
 use Rattle.vt_laws_mounts.specs.Mounts.Invariants.{OneNumberEach}
 use Rattle.vt_laws_mounts.proofs.mounts.MountsReplaced.{found_itself}
@@ -12,7 +12,7 @@ use Rattle.vt_laws_members.proofs.changes.letting_go.LessSeen.{used_was}
 use Rattle.vt_laws_members.proofs.changes.letting_go.NamespaceLess.{Detaches, KeepsShape, LeavesWorlds, ended, ended_less, ended_mount, ended_part, one_after, place_shown, placed_so, root_ground, shape_kept}
 use Rattle.vt_laws_members.proofs.changes.letting_go.Ready.{Alone, NoOthers, Ready, layered_overlay}
 use Rattle.vt_laws_members.proofs.changes.letting_go.Regrouped.{left_by}
-use Rattle.vt_laws_members.proofs.changes.letting_go.WorldReady.{all_named_there, plain_in, sees_living, whole_cut}
+use Rattle.vt_laws_members.proofs.changes.letting_go.WorldReady.{all_named_there, nobody_on, plain_in, sees_living, whole_cut}
 
 module _ {world : World ℕ} {names set : List TaskName} {gone : List ℕ} (it : Detaches world names set gone)
     (leaves : LeavesWorlds it) where
@@ -65,16 +65,6 @@ module _ {world : World ℕ} {names set : List TaskName} {gone : List ℕ} (it :
 
   -- where others have no foothold
   module _ (number : ℕ) (none : no_outsider_on nat_eq world names number ≡ true) where
-    abbrev nobody : (list_any (λ (m : Mount ℕ). nat_eq number m.filesystem) (other_mounts nat_eq world names) ≡ false)
-        × (list_any (λ l. nat_eq number (mount_at nat_eq world l).filesystem) (locations (outsiders world names))
-        ≡ false)
-    nobody =
-        let both = and_parts (not
-        (list_any (λ (m : Mount ℕ). nat_eq number m.filesystem) (other_mounts nat_eq world names)))
-        (not (list_any (λ l. nat_eq number (mount_at nat_eq world l).filesystem)
-        (locations (outsiders world names)))) none in
-        (not-true _ both.0, not-true _ both.1)
-
     by_mount : (m : Mount ℕ) → Among m world.mounts → m.filesystem ≡ number → (o : Option ℕ) → m.namespace ≡ o
         → (is_own world names new (after m) ≡ true) ⊎ ((after m).namespace ≡ None)
     by_mount m n e o f =
@@ -113,7 +103,7 @@ module _ {world : World ℕ} {names set : List TaskName} {gone : List ℕ} (it :
             ∙ sym (ap (λ i. (mount_numbered nat_eq world i).filesystem) under.2) in
             absurd (true≢false (sym (eq-eqb number (mount_at nat_eq world l).filesystem (sym (sym shows ∙ e)))
             ∙ none_among (λ q. nat_eq number (mount_at nat_eq world q).filesystem) (locations (outsiders world names))
-            nobody.1 l out))
+            (nobody_on world names number none).1 l out))
 
     pub no_others : NoOthers living set number
     no_others = record { mounts = mounts_own; locations = locations_own }

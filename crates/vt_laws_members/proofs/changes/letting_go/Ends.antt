@@ -6,13 +6,12 @@ use Rattle.vt_laws_mounts.specs.LettingGo.InUse.{AllInUse}
 use Rattle.vt_laws_mounts.proofs.letting_go.Lists.{filter-map}
 use Rattle.vt_laws_mounts.proofs.letting_go.sweeps.OfWorlds.{all_in_use}
 use Rattle.vt_laws_sealed.proofs.part.part.PartOfPart.{keep, kept_how}
-pub use Rattle.vt_laws_members.proofs.changes.files.FilesRaised.{raised_is}
+use Rattle.vt_laws_members.proofs.changes.tasks.Rights.{raised_is, sees_alike}
 use Rattle.vt_laws_members.specs.Changes.Changes.{EndAlike, EndsAlike, IsCallOfTheirs, grown}
 use Rattle.vt_laws_members.proofs.changes.looks.Told.{ran, same_caller}
 use Rattle.vt_laws_members.proofs.changes.part.SettledPart.{part_in_use}
 use Rattle.vt_laws_members.proofs.changes.tasks.Ending.{with_tasks}
 use Rattle.vt_laws_members.proofs.changes.tasks.Retasked.{SeeAlike, retasked}
-use Rattle.vt_laws_members.proofs.changes.tasks.Rights.{sees_alike}
 use Rattle.vt_laws_members.proofs.changes.letting_go.Changed.{LetsGo, Retasks}
 use Rattle.vt_laws_members.proofs.changes.letting_go.Raised.{DetachedArePrivate, swept_raised}
 use Rattle.vt_laws_members.proofs.changes.letting_go.SweptAlike.{swept_alike}

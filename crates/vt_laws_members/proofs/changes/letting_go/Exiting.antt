@@ -6,8 +6,8 @@ use Rattle.vt_laws_mounts.specs.LettingGo.Ends.{MountsAreListed}
 use Rattle.vt_laws_mounts.proofs.letting_go.ends.NamespacesEnd.{no_namespace_ends}
 use Rattle.vt_laws_later_calls.proofs.last_use.Groups.{none_lost}
 use Rattle.vt_laws_sealed.specs.Part.Seals.{IsApart}
-use Rattle.vt_laws_sealed.proofs.part.groups.EventsApart.{Hears, heard_above}
-use Rattle.vt_laws_sealed.proofs.part.groups.ReceiversAlike.{Living, own_member, start_hears}
+use Rattle.vt_laws_sealed.proofs.part.groups.EventsApart.{Hears, heard_above, start_hears}
+use Rattle.vt_laws_sealed.proofs.part.groups.ReceiversAlike.{Living, own_member}
 use Rattle.vt_laws_sealed.proofs.part.part.PartOfPart.{is_own, keep}
 use Rattle.vt_laws_sealed.proofs.part.seals.ByPart.{apart_if_sealed}
 use Rattle.vt_laws_sealed.proofs.outsiders.OtherMounts.{namespace_outside}

@@ -4,8 +4,8 @@ use Rattle.vt_spec.proofs.Common.{Among, HasLivingGroups, Mount, Propagation, Ta
 use Rattle.vt_laws_mounts.proofs.mounts.Receivers.{along_chain}
 use Rattle.vt_laws_sealed.specs.Part.Seals.{IsApart}
 use Rattle.vt_laws_sealed.proofs.part.Kept.{filter_both}
-use Rattle.vt_laws_sealed.proofs.part.groups.EventsApart.{Hears, heard_above}
-use Rattle.vt_laws_sealed.proofs.part.groups.ReceiversAlike.{Living, own_member, start_hears}
+use Rattle.vt_laws_sealed.proofs.part.groups.EventsApart.{Hears, heard_above, start_hears}
+use Rattle.vt_laws_sealed.proofs.part.groups.ReceiversAlike.{Living, own_member}
 use Rattle.vt_laws_sealed.proofs.part.part.PartOfPart.{is_own, keep, kept_how, kept_whole}
 use Rattle.vt_laws_sealed.proofs.part.seals.ByPart.{IsSealed, apart_if_sealed}
 use Rattle.vt_laws_members.proofs.judging.MountPoints.{part_mount}

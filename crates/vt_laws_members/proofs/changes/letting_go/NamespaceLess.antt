@@ -6,7 +6,6 @@ use Rattle.vt_laws_sealed.proofs.part.part.MountsOver.{numbered}
 use Rattle.vt_laws_mounts.specs.Mounts.Invariants.{OneNumberEach}
 use Rattle.vt_laws_mounts.proofs.mounts.MountsReplaced.{found_itself}
 use Rattle.vt_laws_sealed.proofs.part.Kept.{filter_map_map, filter_map_same}
-use Rattle.vt_laws_sealed.proofs.part.groups.ReceiversAlike.{member_group}
 use Rattle.vt_laws_sealed.proofs.part.part.PartOfPart.{is_own, keep, kept_whole}
 use Rattle.vt_laws_members.proofs.judging.Grounds.{IsGround, IsTheirs}
 use Rattle.vt_laws_members.proofs.judging.SeenInPart.{directory_theirs, root_theirs, theirs_directly}
@@ -16,6 +15,7 @@ use Rattle.vt_laws_members.proofs.changes.letting_go.Heard.{heard_by_own}
 use Rattle.vt_laws_members.proofs.changes.letting_go.Leaving.{filter_mid}
 use Rattle.vt_laws_members.proofs.changes.letting_go.LessSeen.{AreLess, filter_map_then}
 use Rattle.vt_laws_members.proofs.changes.letting_go.Regrouped.{TheirsGo, left_by, master_after, master_alike, mount_alike, regrouped_mount}
+use Rattle.vt_laws_sealed.proofs.part.groups.EventsApart.{member_group}
 
 -- what a mount keeps
 pub record KeepsShape (m y : Mount ℕ) : Type 0 where

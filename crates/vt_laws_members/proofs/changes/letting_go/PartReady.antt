@@ -139,7 +139,7 @@ module _ {world : World ℕ} {names set : List TaskName} (left : Retasks world n
   }
 
   sees : AreLess world names set later later_part
-  sees = now_less world names left.is set left.tasks left.tasks_too change change_too less left.same
+  sees = now_less left.is left.tasks_too change_too less left.same
 
   one_number : OneNumberEach living
   one_number = pair-filter (λ (p q : Mount ℕ). nat_eq p.number q.number) (mount_lives nat_eq later_part) part.mounts

@@ -3,8 +3,8 @@ use Rattle.std.proofs.Common.{arith, ◌≡◌, refl, sym, ap, ◌∙◌, inl, i
 use Rattle.vt_spec.proofs.Common.{Among, HasLivingGroups, Location, Mount, Private, Propagation, Shared, Slave, TaskName, Unbindable, World, after_going, among-filter, among-from_filter, among-from_map, among-map, among_from_all, among_from_list_all, and_parts, any_among, any_from_among, common_steps, detached, false_from_ne_true, groups_up, has_members, heir, holds_of, inherited, inheriting, is_going, is_lost_group, is_member_of, is_nowhere_or_attached, is_own_mount, is_own_namespace, is_private, length-map, list_any, lost_a_group, members, mount_numbered, mount_point_left, mount_point_of_parent, none_is_some, other_mounts, own_mounts, part_of, regrouped_by, same_truth, shares_no_events, source_of, then_some}
 use Rattle.vt_laws_mounts.proofs.GroupsUp.{source_from_group}
 use Rattle.vt_laws_sealed.proofs.part.part.MountsOver.{numbered}
-use Rattle.vt_laws_sealed.proofs.part.groups.EventsApart.{members_of, none_hears, sides}
-use Rattle.vt_laws_sealed.proofs.part.groups.ReceiversAlike.{OtherLives, member_group, none_other, other_above, same_up, start_hears}
+use Rattle.vt_laws_sealed.proofs.part.groups.EventsApart.{member_group, members_of, none_hears, sides, start_hears}
+use Rattle.vt_laws_sealed.proofs.part.groups.ReceiversAlike.{OtherLives, none_other, other_above, same_up}
 use Rattle.vt_laws_sealed.proofs.part.part.PartOfPart.{is_own}
 use Rattle.vt_laws_members.proofs.judging.Grounds.{IsTheirs, parent_theirs, same_mount, up_alike}
 use Rattle.vt_laws_members.proofs.judging.MountTrees.{own_theirs}

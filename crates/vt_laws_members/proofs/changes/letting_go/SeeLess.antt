@@ -35,8 +35,9 @@ module _ (world : World ℕ) (names set : List TaskName) (tasks : List (Task ℕ
     pub direct : (number : ℕ) → Among number (used_directly nat_eq later set)
         → Among number (used_directly nat_eq world names)
 
-module _ (world : World ℕ) (names : List TaskName) (is : IsWorld nat_eq world) (set : List TaskName)
-    (tasks tasks_too : List (Task ℕ)) (change change_too : ℕ) (less : SeeLess world names set tasks change)
+module _ {world : World ℕ} {names : List TaskName} (is : IsWorld nat_eq world) {set : List TaskName}
+    {tasks : List (Task ℕ)} (tasks_too : List (Task ℕ)) {change : ℕ} (change_too : ℕ)
+    (less : SeeLess world names set tasks change)
     (same : filter (is_member_task set) tasks_too ≡ filter (is_member_task set) tasks) where
   abbrev part : World ℕ
   part = part_of nat_eq world names

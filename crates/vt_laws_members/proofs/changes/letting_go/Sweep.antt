@@ -54,7 +54,7 @@ module _ (v : World ℕ) (set : List TaskName) (used : List ℕ) (lowers : List 
   one_left = subst OneNumberEach (sym left_part) one_in_part
 
   merged_part : part_of nat_eq merged set ≡ swept_part set is_overlay (part_of nat_eq left set)
-  merged_part = part_of_swept left set used lowers left_ready one_left left_mounted is_overlay
+  merged_part = part_of_swept left_ready one_left left_mounted is_overlay
 
   one_merged : OneNumberEach (part_of nat_eq merged set)
   one_merged = subst OneNumberEach (sym merged_part) one_left
@@ -64,15 +64,15 @@ module _ (v : World ℕ) (set : List TaskName) (used : List ℕ) (lowers : List 
 
   plain_part : part_of nat_eq (without_dead_inodes nat_eq left) set
       ≡ swept_part set is_plain (part_of nat_eq merged set)
-  plain_part = part_of_swept merged set used lowers
-      (swept_ready left set used lowers left_ready one_left left_mounted is_overlay plains) one_merged
-      (swept_mounted left set used lowers left_ready one_left left_mounted is_overlay plains) is_plain
+  plain_part = part_of_swept
+      (swept_ready left_ready one_left left_mounted is_overlay plains) one_merged
+      (swept_mounted left_ready one_left left_mounted is_overlay plains) is_plain
 
   -- what they use stays
   pub used_of_settled : used_filesystems nat_eq (settled nat_eq v) set ≡ used
-  used_of_settled = used_swept merged set used lowers
-      (swept_ready left set used lowers left_ready one_left left_mounted is_overlay plains) one_merged
-      (swept_mounted left set used lowers left_ready one_left left_mounted is_overlay plains) is_plain
+  used_of_settled = used_swept
+      (swept_ready left_ready one_left left_mounted is_overlay plains) one_merged
+      (swept_mounted left_ready one_left left_mounted is_overlay plains) is_plain
 
   pub part_of_settled : part_of nat_eq (settled nat_eq v) set ≡ swept_of set (part_of nat_eq v set)
   part_of_settled = cc (

@@ -42,7 +42,7 @@ module _ {world : World ℕ} {names : List TaskName} (set : List TaskName) (seal
 pub less_is_seen_alike : LessIsSeenAlike
 less_is_seen_alike world names set is sealed_off tasks uses =
     let lets = lets_go set (sealed_by is sealed_off) tasks uses in
-    sym (part_of_less world names is set tasks (filter (is_member_task set) tasks) world.change
+    sym (part_of_less is (filter (is_member_task set) tasks)
     (part_of nat_eq world names).change (sees_less (sealed_by is sealed_off) set tasks world.change lets)
     (filter_again (is_member_task set) tasks))
 

@@ -21,7 +21,7 @@ module _ {world : World ℕ} {names set : List TaskName} (left : Retasks world n
   swept_alike = cc (
     part_of_settled now set (used_filesystems nat_eq now set) (own_lowers nat_eq now set)
         (world_ready left.sealing set left.tasks world.change left.lets),
-    part_of_less world names left.is set left.tasks left.tasks_too world.change part.change
+    part_of_less left.is left.tasks_too part.change
         (sees_less left.sealing set left.tasks world.change left.lets) left.same,
     part_of_settled now_part set (used_filesystems nat_eq now set) (own_lowers nat_eq now set)
         (part_ready left world.change part.change),

@@ -70,7 +70,7 @@ pub changes_kept : (world : World ℕ) (chosen : Bool) (x : Filesystem ℕ)
 changes_kept world false x = refl
 changes_kept world true x = grind (arith, common_steps)
 
-module _ (a : World ℕ) (set : List TaskName) (used_now : List ℕ) (lowers : List (Layer ℕ))
+module _ {a : World ℕ} {set : List TaskName} {used_now : List ℕ} {lowers : List (Layer ℕ)}
     (it : Ready a set used_now lowers) (one_in_part : OneNumberEach (part_of nat_eq a set))
     (mounted : OverlaysMounted a set) (chosen : Filesystem ℕ → Bool) where
   abbrev part : World ℕ

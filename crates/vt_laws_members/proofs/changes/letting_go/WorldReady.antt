@@ -13,6 +13,16 @@ use Rattle.vt_laws_members.proofs.changes.letting_go.CutAgain.{uncut}
 use Rattle.vt_laws_members.proofs.changes.letting_go.Ready.{AllNamed, Alone, IsCut, NoOthers, Ready, layered_overlay}
 use Rattle.vt_laws_members.proofs.changes.letting_go.LessSeen.{used_was}
 use Rattle.vt_laws_members.proofs.changes.letting_go.SeeLess.{now_less}
+use Rattle.vt_laws_trees.proofs.trees.Lists.{among-flat_map_filter}
+
+-- where others have no foothold
+pub nobody_on : (world : World ℕ) (names : List TaskName) (number : ℕ) → no_outsider_on nat_eq world names number ≡ true
+    → (list_any (λ (m : Mount ℕ). nat_eq number m.filesystem) (other_mounts nat_eq world names) ≡ false)
+    × (list_any (λ l. nat_eq number (mount_at nat_eq world l).filesystem) (locations (outsiders world names)) ≡ false)
+nobody_on world names number none =
+    let both = and_parts (not (list_any (λ (m : Mount ℕ). nat_eq number m.filesystem) (other_mounts nat_eq world names)))
+    (not (list_any (λ l. nat_eq number (mount_at nat_eq world l).filesystem) (locations (outsiders world names)))) none in
+    (not-true _ both.0, not-true _ both.1)
 
 -- without dead mounts the set sees what it saw
 pub sees_living : (b : World ℕ) (set : List TaskName) → SeesTheSame b (without_dead_mounts nat_eq b) set
@@ -89,22 +99,10 @@ module _ {world : World ℕ} {names : List TaskName} (sealing : IsSealed world n
   located_lives m l at n e = grind (arith, common_steps, among-filter, or_right, any_from_among, eq-eqb)
 
   of_all : (l : Location ℕ) → Among l (locations new) → Among l (all_locations later)
-  of_all l m =
-      let t = among-from_flat_map locations_of new l m in
-      among-flat_map locations_of tasks t.0 l (among-from_filter (is_member_task set) tasks t.0 t.1).0 t.2
+  of_all = among-flat_map_filter locations_of (is_member_task set) tasks
 
   -- where others have no foothold
   module _ (number : ℕ) (none : no_outsider_on nat_eq world names number ≡ true) where
-    abbrev nobody : (list_any (λ (m : Mount ℕ). nat_eq number m.filesystem) (other_mounts nat_eq world names) ≡ false)
-        × (list_any (λ l. nat_eq number (mount_at nat_eq world l).filesystem) (locations (outsiders world names))
-        ≡ false)
-    nobody =
-        let both = and_parts (not
-        (list_any (λ (m : Mount ℕ). nat_eq number m.filesystem) (other_mounts nat_eq world names)))
-        (not (list_any (λ l. nat_eq number (mount_at nat_eq world l).filesystem)
-        (locations (outsiders world names)))) none in
-        (not-true _ both.0, not-true _ both.1)
-
     mounts_own : (m : Mount ℕ) → Among m living.mounts → m.filesystem ≡ number
         → (is_own world names new m ≡ true) ⊎ (m.namespace ≡ None)
     mounts_own m n e = by m.namespace refl
@@ -118,7 +116,7 @@ module _ {world : World ℕ} {names : List TaskName} (sealing : IsSealed world n
             which true own = inl (owned_same sealing set tasks change it m
                 ∙ ap (holds_of (is_own_namespace nat_eq world names)) f ∙ own)
             which false other = absurd (true≢false (sym (eq-eqb number m.filesystem (sym e))
-                ∙ none_among (λ (y : Mount ℕ). nat_eq number y.filesystem) (other_mounts nat_eq world names) nobody.0 m
+                ∙ none_among (λ (y : Mount ℕ). nat_eq number y.filesystem) (other_mounts nat_eq world names) (nobody_on world names number none).0 m
                 (among-filter (λ (y : Mount ℕ). holds_of (λ i. not (is_own_namespace nat_eq world names i)) y.namespace)
                 world.mounts m (there m n)
                 (ap (holds_of (λ i. not (is_own_namespace nat_eq world names i))) f ∙ ap not other))))
@@ -149,7 +147,7 @@ module _ {world : World ℕ} {names : List TaskName} (sealing : IsSealed world n
             absurd (true≢false (sym (eq-eqb number (mount_at nat_eq world l).filesystem
             (sym (ap (λ (k : Mount ℕ). k.filesystem) (sym same) ∙ e)))
             ∙ none_among (λ k. nat_eq number (mount_at nat_eq world k).filesystem) (locations (outsiders world names))
-            nobody.1 l out))
+            (nobody_on world names number none).1 l out))
 
     pub no_others : NoOthers living set number
     no_others = record { mounts = mounts_own; locations = locations_own }
@@ -186,8 +184,7 @@ module _ {world : World ℕ} {names : List TaskName} (sealing : IsSealed world n
         (or_cases (used_alone nat_eq world names x.number) (wholly_locked nat_eq world names x.number)
         (used_are_free world names sealing.sealed_off x.number (among_numbers (used_filesystems nat_eq world names)
         x.number (used_was world names sealing.is set later (record (part_of nat_eq world names)
-        { tasks = tasks; change = change }) (now_less world names sealing.is set tasks tasks change change
-        (sees_less sealing set tasks change it)
+        { tasks = tasks; change = change }) (now_less sealing.is tasks change (sees_less sealing set tasks change it)
         refl) x.number u))));
     cut = λ x m unused low. whole_cut world sealing.is (own_lowers nat_eq later set) x m;
   }

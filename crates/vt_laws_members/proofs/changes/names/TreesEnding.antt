@@ -76,9 +76,8 @@ module _ {world : World ℕ} {names : List TaskName} {name : TaskName} {call : C
       → ran name call part other (Some task) ≡ with_tree part name old files
       → EndsAlike world names name call fresh other
   tree_ends = stepped_ends it left (swap old files)
-      (changes_theirs (living it left (swap old files)) names all_used old files
-      (one_in_world world names it.is number used) alone_here is_used)
-      (changes_theirs (living_part it left (swap old files)) names all_used old files
+      (changes_theirs all_used old files (one_in_world world names it.is number used) alone_here is_used)
+      (changes_theirs all_used old files
       (one_in_part world names it.is number used) alone_there is_used) (old.number ∷ [])
       (λ n m. ⊎_elim (λ e. ap (λ k. is_among nat_eq k all_used) e ∙ is_used) (λ none. absurd none) m) task found fresh
       other Done stays

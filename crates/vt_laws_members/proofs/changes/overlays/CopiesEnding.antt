@@ -9,7 +9,6 @@ use Rattle.vt_laws_mounts.proofs.letting_go.sweeps.InUse.{nothing_goes}
 use Rattle.vt_laws_mounts.proofs.letting_go.sweeps.OfWorlds.{all_in_use}
 use Rattle.vt_laws_sealed.proofs.part.part.PartOfPart.{same_members, same_used}
 use Rattle.vt_laws_members.specs.Changes.Changes.{EndAlike, EndsAlike, IsCallOfTheirs, grown}
-use Rattle.vt_laws_members.proofs.changes.files.FilesRaised.{raised_is}
 use Rattle.vt_laws_members.proofs.changes.files.StepsInUse.{in_use_stepped}
 use Rattle.vt_laws_members.proofs.changes.looks.Told.{ran, same_caller}
 use Rattle.vt_laws_members.proofs.changes.overlays.Copying.{AreOnes, Copies, OverlayChange, both_numbers, changes_in_part, changes_in_world, kept_on, moved_on, numbers_in_part, numbers_in_world, ones_in_part, ones_in_world, part_moved, step, stepped_in_part, stepped_in_world}
@@ -17,7 +16,7 @@ use Rattle.vt_laws_members.proofs.changes.part.PartAgain.{part_again}
 use Rattle.vt_laws_members.proofs.changes.part.SettledPart.{part_in_use}
 use Rattle.vt_laws_members.proofs.changes.tasks.RaisedTasks.{tasks_raised}
 use Rattle.vt_laws_members.proofs.changes.tasks.Retasked.{retasked}
-use Rattle.vt_laws_members.proofs.changes.tasks.Rights.{sees_alike}
+use Rattle.vt_laws_members.proofs.changes.tasks.Rights.{raised_is, sees_alike}
 
 module _ {world : World ℕ} {names : List TaskName} {name : TaskName} {call : Call}
     (it : IsCallOfTheirs world names name call) (task : Task ℕ) (found : task_called world name ≡ Some task)

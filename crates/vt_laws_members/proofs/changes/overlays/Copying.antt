@@ -105,11 +105,11 @@ module _ {world : World ℕ} {names : List TaskName} (it : OverlayChange world n
   number = (mount_at nat_eq world it.location).filesystem
 
   abbrev pub step : Filesystem ℕ → Filesystem ℕ
-  step = swap_both it.supply world it.location it.change it.overlay it.upper it.is it.can
+  step = swap_both it.is it.can
 
   -- the overlay after the change
   abbrev merged_later : Filesystem ℕ
-  merged_later = new_merged it.supply world it.location it.change it.overlay it.upper it.is it.can
+  merged_later = new_merged it.is it.can
 
   abbrev layer_later : Filesystem ℕ
   layer_later = with_files layer (merge_after it.supply world it.location it.overlay it.upper it.change).upper
@@ -158,7 +158,7 @@ module _ {world : World ℕ} {names : List TaskName} (it : OverlayChange world n
 
       by : (b : Bool) → nat_eq merged.number x.number ≡ b → of_overlay default what (step x) ≡ of_overlay default what x
       by true e = ap (λ f. of_overlay default what (step f)) (ones.one_merged x m e)
-          ∙ ap (of_overlay default what) (becomes it.supply world it.location it.change it.overlay it.upper it.is
+          ∙ ap (of_overlay default what) (becomes it.is
           it.can) ∙ same (merge_after it.supply world it.location it.overlay it.upper it.change)
           ∙ sym (ap (overlay_or default what) its) ∙ ap (of_overlay default what) (sym (ones.one_merged x m e))
       by false e = ap (λ b. of_overlay default what (replaced_if_numbered nat_eq layer_later (cond b merged_later x))) e
@@ -191,18 +191,17 @@ module _ {world : World ℕ} {names : List TaskName} (it : OverlayChange world n
   -- the overlay is there afterwards
   is_later : (w : World ℕ) → Among merged w.filesystems → Among merged_later (with_filesystems w step).filesystems
   is_later w m = subst (λ f. Among f (with_filesystems w step).filesystems)
-      (becomes it.supply world it.location it.change it.overlay it.upper it.is it.can)
-      (among-map step w.filesystems merged m)
+      (becomes it.is it.can) (among-map step w.filesystems merged m)
 
   changes_then : Copies it.change → (last : World ℕ) → Among merged_later last.filesystems → (x : Filesystem ℕ)
       → Among x world.filesystems → ChangesFilesystem last [] x (step x)
   changes_then copies last m = among_from_all (λ x. ChangesFilesystem last [] x (step x)) world.filesystems
       (subst (λ l. All (λ x. ChangesFilesystem last l x (step x)) world.filesystems)
       (none_lost it.supply world it.location it.change it.overlay it.upper it.is it.can copies)
-      (all_changed it.supply world it.location it.change it.overlay it.upper it.is it.can last m))
+      (all_changed it.is it.can last m))
 
   there : Among merged world.filesystems
-  there = merged_there it.supply world it.location it.change it.overlay it.upper it.is it.can
+  there = merged_there it.is it.can
 
   pub changes_in_world : Copies it.change → (x : Filesystem ℕ) → Among x world.filesystems
       → ChangesFilesystem (with_filesystems world step) [] x (step x)
@@ -221,7 +220,7 @@ module _ {world : World ℕ} {names : List TaskName} (it : OverlayChange world n
 
   -- the change is made
   pub stepped_in_world : with_change nat_eq it.supply world it.location it.change ≡ with_filesystems world step
-  stepped_in_world = is_swap it.supply world it.location it.change it.overlay it.upper it.is it.can world refl refl
+  stepped_in_world = is_swap it.is it.can world refl refl
 
   abbrev pub made_of : Stack ℕ → Filesystem ℕ → Merge ℕ
   made_of stack f =

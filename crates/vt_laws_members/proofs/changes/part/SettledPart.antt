@@ -15,15 +15,11 @@ use Rattle.vt_laws_members.proofs.judging.MountTrees.{own_whole, part_one_number
 use Rattle.vt_laws_members.specs.Changes.Parts.{PartIsSettled}
 use Rattle.vt_laws_members.proofs.changes.part.CutTrees.{named_in_cut}
 use Rattle.vt_laws_members.proofs.changes.part.PartAgain.{in_chosen, itself, listed, part_again, same_mounts, same_namespaces, same_shown, tree}
-
--- a filter that leaves no fewer leaves all
-filter_few : {A : Type 0} (p : A → Bool) (xs : List A) → length (filter p xs) ≤ length xs
-filter_few p [] = omega arith
-filter_few {A} p (x ∷ xs) = grind (arith, common_steps, filter_few p xs)
+use Rattle.vt_laws_trees.proofs.trees.Lists.{length-filter_le}
 
 keeps_all : {A : Type 0} (p : A → Bool) (xs : List A) → length xs ≤ length (filter p xs) → filter p xs ≡ xs
 keeps_all p [] l = refl
-keeps_all {A} p (x ∷ xs) l = grind (arith, common_steps, filter_few, keeps_all p xs)
+keeps_all {A} p (x ∷ xs) l = grind (arith, common_steps, length-filter_le, keeps_all p xs)
 
 module _ {world : World ℕ} {names : List TaskName} (sealing : IsSealed world names) where
   abbrev part : World ℕ
@@ -130,7 +126,7 @@ module _ {world : World ℕ} {names : List TaskName} (sealing : IsSealed world n
   whole chosen y n =
       let from = among-from_filter_map (part_of_filesystem nat_eq world names) world.filesystems y n in
       ⊎_elim (λ same. subst (λ (f : Filesystem ℕ). only_used nat_eq part chosen f ≡ f) same.0
-      (used_whole world part names apart sealing.sealed_off sees (part_one_number world names sealing.is) from.0 from.1
+      (used_whole apart sealing.sealed_off sees (part_one_number world names sealing.is) from.0 from.1
       same.1 chosen)) (λ low. subst (λ (f : Filesystem ℕ). only_used nat_eq part chosen f ≡ f) low.0
       (lower_whole from.0 from.1 low.1 low.2 chosen)) (shown_how world names from.0 y from.2)
 

@@ -25,8 +25,8 @@ abbrev pub with_tasks : World ℕ → TaskName → Answer → List (Task ℕ) �
 with_tasks world name answer tasks =
     granted answer (numbers_raised nat_eq world name [] (settled nat_eq (record world { tasks = tasks })))
 
-module _ (world : World ℕ) (name : TaskName) (answer : Answer) (in_use : AllInUse world) (names set : List TaskName)
-    (tasks : List (Task ℕ)) (leaves : LeavesTasks world names set name tasks) where
+module _ {world : World ℕ} {name : TaskName} (answer : Answer) (in_use : AllInUse world) {names set : List TaskName}
+    {tasks : List (Task ℕ)} (leaves : LeavesTasks world names set name tasks) where
   abbrev ended : World ℕ
   ended = record world { tasks = map (raised_task name) tasks; change = raised world.change }
 
@@ -56,14 +56,13 @@ tasks_end_alike world names set name call it task found fresh other answer stays
     let left : World ℕ = record world { tasks = map (raised_task name) tasks; change = raised world.change } in
     let left_too : World ℕ = record part { tasks = map (raised_task name) tasks_too; change = raised part.change } in
     let first : policy nat_eq fresh world name call ≡ granted answer left =
-    ap (ran name call world fresh) found ∙ one ∙ ends_so world name answer in_world names set tasks leaves in
+    ap (ran name call world fresh) found ∙ one ∙ ends_so answer in_world leaves in
     let second : policy nat_eq other part name call ≡ granted answer left_too =
     ap (ran name call part other) (same_caller (sealing_of it) name it.theirs ∙ found) ∙ two
-    ∙ ends_so part name answer in_part names set tasks_too leaves_too in
+    ∙ ends_so answer in_part leaves_too in
     let parts : part_of nat_eq left set ≡ part_of nat_eq left_too set =
-    part_of_ended world name answer in_world names set tasks leaves
-    ∙ (λ i. record (sym (part_again world names it.is) i) { tasks = same i })
-    ∙ sym (part_of_ended part name answer in_part names set tasks_too leaves_too) in
+    part_of_ended answer in_world leaves ∙ (λ i. record (sym (part_again world names it.is) i) { tasks = same i })
+    ∙ sym (part_of_ended answer in_part leaves_too) in
     subst (λ p. EndAlike (grown names name call (policy nat_eq fresh world name call).answer)
     (policy nat_eq fresh world name call) p) (sym second)
     (subst (λ o. EndAlike (grown names name call o.answer) o (granted answer left_too)) (sym first)

@@ -7,7 +7,7 @@ use Rattle.vt_laws_members.specs.Changes.Changes.{ForksEndAlike}
 use Rattle.vt_laws_members.proofs.changes.tasks.Denied.{ran_there, run_by}
 use Rattle.vt_laws_members.proofs.changes.tasks.Ending.{LeavesTasks, tasks_end_alike}
 use Rattle.vt_laws_members.proofs.changes.tasks.Retasked.{SeeAlike, any_both, any_of_each}
-use Rattle.vt_laws_members.proofs.changes.tasks.Rights.{any_mapped, only_task}
+use Rattle.vt_laws_members.proofs.changes.tasks.Rights.{any_mapped, only_task, raised_is}
 
 or_none : (b : Bool) → (b || (false || false)) ≡ b
 or_none true = refl
@@ -36,20 +36,12 @@ module _ (world : World ℕ) (names : List TaskName) (name : TaskName) (is : IsW
   there : Among task world.tasks
   there = found_among (λ (x : Task ℕ). same_name name x.name) world.tasks task found
 
-  raised_is : {A : Type 0} (what : Task ℕ → A) → ((t : Task ℕ) → what (record t { change = raised t.change }) ≡ what t)
-      → (t : Task ℕ) → what (raised_task name t) ≡ what t
-  raised_is what same t = by (same_name name t.name)
-    where
-      by : (b : Bool) → what (cond b (record t { change = raised t.change }) t) ≡ what t
-      by true = same t
-      by false = refl
-
   replaced_is : {A : Type 0} (what : Task ℕ → A) → what parent ≡ what task → (t : Task ℕ) → Among t world.tasks
       → what (replaced t) ≡ what t
   replaced_is what same t m = grind (arith, common_steps, only_task, there, same_task_name)
 
   both_named : (t : Task ℕ) → (both t).name ≡ t.name
-  both_named t = raised_is (λ (x : Task ℕ). x.name) (λ x. refl) (replaced t) ∙ name-replaced_if_called parent t
+  both_named t = raised_is name (λ (x : Task ℕ). x.name) (λ x. refl) (replaced t) ∙ name-replaced_if_called parent t
 
   -- no task has the child's name
   child_apart : (t : Task ℕ) → Among t world.tasks → same_name t.name (child_name task) ≡ false
@@ -63,7 +55,7 @@ module _ (world : World ℕ) (names : List TaskName) (name : TaskName) (is : IsW
       ∙ ap (λ b. b || is_among same_name t.name names) (child_apart t m)
 
   kid_member : is_member_task set kid ≡ true
-  kid_member = cc (raised_is (λ (x : Task ℕ). x.name) (λ x. refl) child, same_name_itself (child_name task))
+  kid_member = cc (raised_is name (λ (x : Task ℕ). x.name) (λ x. refl) child, same_name_itself (child_name task))
 
   sift : (xs : List (Task ℕ)) → ((t : Task ℕ) → Among t xs → Among t world.tasks)
       → filter (is_member_task set) (map both xs ++ kid ∷ []) ≡ map both (filter (is_member_task names) xs) ++ kid ∷ []
@@ -115,9 +107,9 @@ module _ (world : World ℕ) (names : List TaskName) (name : TaskName) (is : IsW
     own_same : (n : ℕ) → list_any (λ (t : Task ℕ). nat_eq n t.namespace) (members ended set)
         ≡ list_any (λ (t : Task ℕ). nat_eq n t.namespace) old
     own_same n = any_new (λ (t : Task ℕ). nat_eq n t.namespace)
-        (λ t m. ap (nat_eq n) (raised_is (λ (x : Task ℕ). x.namespace) (λ x. refl) (replaced t)
+        (λ t m. ap (nat_eq n) (raised_is name (λ (x : Task ℕ). x.namespace) (λ x. refl) (replaced t)
         ∙ replaced_is (λ (x : Task ℕ). x.namespace) refl t m))
-        (λ h. sym (ap (nat_eq n) (raised_is (λ (x : Task ℕ). x.namespace) (λ x. refl) child)) ∙ h)
+        (λ h. sym (ap (nat_eq n) (raised_is name (λ (x : Task ℕ). x.namespace) (λ x. refl) child)) ∙ h)
 
     abbrev stands : Task ℕ → List (Location ℕ)
     stands t = t.root ∷ t.directory ∷ []
@@ -126,17 +118,17 @@ module _ (world : World ℕ) (names : List TaskName) (name : TaskName) (is : IsW
         ≡ list_any p (roots_and_directories old)
     roots_same p = cc (
       any_of_each p stands (members ended set),
-      any_new (λ t. list_any p (stands t)) (λ t m. ap (list_any p) (raised_is stands (λ x. refl) (replaced t) ∙
-          replaced_is stands refl t m)) (λ h. sym (ap (list_any p) (raised_is stands (λ x. refl) child)) ∙ h),
+      any_new (λ t. list_any p (stands t)) (λ t m. ap (list_any p) (raised_is name stands (λ x. refl) (replaced t) ∙
+          replaced_is stands refl t m)) (λ h. sym (ap (list_any p) (raised_is name stands (λ x. refl) child)) ∙ h),
       any_of_each p stands old,
     )
 
     places_same : (p : Location ℕ → Bool) → list_any p (locations (members ended set)) ≡ list_any p (locations old)
     places_same p = cc (
       any_of_each p locations_of (members ended set),
-      any_new (λ t. list_any p (locations_of t)) (λ t m. ap (list_any p) (raised_is locations_of (λ x. refl)
+      any_new (λ t. list_any p (locations_of t)) (λ t m. ap (list_any p) (raised_is name locations_of (λ x. refl)
           (replaced t) ∙ replaced_is locations_of refl t m)) (λ h. fewer (p task.root) (p task.directory) (sym (ap
-          (list_any p) (raised_is locations_of (λ x. refl) child)) ∙ h)),
+          (list_any p) (raised_is name locations_of (λ x. refl) child)) ∙ h)),
       any_of_each p locations_of old,
     )
       where

@@ -61,8 +61,7 @@ module _ {world : World ℕ} {names : List TaskName} {name : TaskName} {path : L
       → (is_own w names (members w names) m || is_at nat_eq (roots_and_directories (members w names)) m) ≡ true)
       (direct : Among (mount_at nat_eq w file).filesystem (used_directly nat_eq w names)) where
     leaves_tasks : LeavesTasks (with_filesystems w moved_on) names names name (map replaced w.tasks)
-    leaves_tasks =
-        leaves world names name it.is task found file wanted (with_filesystems w moved_on) within whole direct
+    leaves_tasks = leaves names name it.is task found file wanted (with_filesystems w moved_on) within whole direct
 
     numbers_so : numbers_raised nat_eq w name numbers
         (record (with_filesystems w moved) { tasks = map replaced w.tasks }) ≡ later w
@@ -105,7 +104,7 @@ module _ {world : World ℕ} {names : List TaskName} {name : TaskName} {path : L
             ≡ map each (filter (is_member_task names) tasks)
         of_map tasks = cc (
           map_twice (raised_task name) replaced tasks,
-          filter-map (is_member_task names) each tasks (λ t. ap (λ n. is_among same_name n names) (both_named world
+          filter-map (is_member_task names) each tasks (λ t. ap (λ n. is_among same_name n names) (both_named
               names name it.is task found file wanted t)),
         )
 

@@ -16,7 +16,7 @@ use Rattle.vt_laws_members.proofs.changes.tasks.Denied.{ran_there, run_by}
 use Rattle.vt_laws_members.proofs.changes.tasks.Ending.{LeavesTasks, tasks_end_alike}
 use Rattle.vt_laws_members.proofs.changes.tasks.Retasked.{SeeAlike}
 use Rattle.vt_laws_members.proofs.changes.tasks.WholeMounts.{used_in_part, whole_in_part, whole_in_world}
-use Rattle.vt_laws_members.proofs.changes.tasks.Rights.{members_changed, only_task, own_alike, roots_alike}
+use Rattle.vt_laws_members.proofs.changes.tasks.Rights.{members_changed, only_task, own_alike, raised_is, roots_alike}
 
 -- What is opened is on a mount of theirs
 abbrev pub OpensOn : (own : ℕ → Bool) → Permit ℕ → Type 0
@@ -104,7 +104,7 @@ module _ (new : Descriptor ℕ) where
   stays_there (first ∷ rest) location m = grind (arith, common_steps, stays_there rest location)
 
 -- A task opens a file on a mount of theirs.
-module _ (world : World ℕ) (names : List TaskName) (name : TaskName) (is : IsWorld nat_eq world) (task : Task ℕ)
+module _ {world : World ℕ} (names : List TaskName) (name : TaskName) (is : IsWorld nat_eq world) (task : Task ℕ)
     (found : task_called world name ≡ Some task) (file : Location ℕ) (access : Access) where
   abbrev new : Task ℕ
   new = with_descriptor task file access
@@ -122,14 +122,6 @@ module _ (world : World ℕ) (names : List TaskName) (name : TaskName) (is : IsW
     reads = opens_for_reading access;
     writes = opens_for_writing access;
   }
-
-  raised_is : {A : Type 0} (what : Task ℕ → A) → ((t : Task ℕ) → what (record t { change = raised t.change }) ≡ what t)
-      → (t : Task ℕ) → what (raised_task name t) ≡ what t
-  raised_is what same t = by (same_name name t.name)
-    where
-      by : (b : Bool) → what (cond b (record t { change = raised t.change }) t) ≡ what t
-      by true = same t
-      by false = refl
 
   -- it is the caller, or as it was
   replaced_how : (t : Task ℕ) → Among t world.tasks → ((replaced t ≡ new) × (task ≡ t)) ⊎ (replaced t ≡ t)
@@ -150,18 +142,18 @@ module _ (world : World ℕ) (names : List TaskName) (name : TaskName) (is : IsW
       ⊎_elim (λ its. ap what its.0 ∙ same ∙ ap what its.1) (λ other. ap what other) (replaced_how t m)
 
   pub both_named : (t : Task ℕ) → (both t).name ≡ t.name
-  both_named t = raised_is (λ (x : Task ℕ). x.name) (λ x. refl) (replaced t) ∙ name-replaced_if_called new t
+  both_named t = raised_is name (λ (x : Task ℕ). x.name) (λ x. refl) (replaced t) ∙ name-replaced_if_called new t
 
   both_spaced : (t : Task ℕ) → Among t world.tasks → (both t).namespace ≡ t.namespace
   both_spaced t m = cc (
-    raised_is (λ (x : Task ℕ). x.namespace) (λ x. refl) (replaced t),
+    raised_is name (λ (x : Task ℕ). x.namespace) (λ x. refl) (replaced t),
     replaced_is (λ (x : Task ℕ). x.namespace) refl t m,
   )
 
   both_rooted : (t : Task ℕ) → Among t world.tasks
       → ((both t).root ∷ (both t).directory ∷ []) ≡ (t.root ∷ t.directory ∷ [])
   both_rooted t m = cc (
-    raised_is (λ (x : Task ℕ). x.root ∷ x.directory ∷ []) (λ x. refl) (replaced t),
+    raised_is name (λ (x : Task ℕ). x.root ∷ x.directory ∷ []) (λ x. refl) (replaced t),
     replaced_is (λ (x : Task ℕ). x.root ∷ x.directory ∷ []) refl t m,
   )
 
@@ -223,14 +215,14 @@ module _ (world : World ℕ) (names : List TaskName) (name : TaskName) (is : IsW
         let t = among-from_map both old from.0 from.1 in
         ⊎_elim inl (λ at. inr (among-flat_map locations_of old t.0 location t.1 at))
         (were_its t.0 (within t.0 (there t.0 t.1)) location
-        (subst (Among location) (ap locations_of t.2 ∙ raised_is locations_of (λ x. refl) (replaced t.0)) from.2))
+        (subst (Among location) (ap locations_of t.2 ∙ raised_is name locations_of (λ x. refl) (replaced t.0)) from.2))
 
     stay : (location : Location ℕ) → Among location (locations old) → Among location (locations (members ended names))
     stay location m =
         let from = among-from_flat_map locations_of old location m in
         subst (λ l. Among location (locations l)) (sym theirs_too)
         (among-flat_map locations_of (map both old) (both from.0) location (among-map both old from.0 from.1)
-        (subst (Among location) (sym (raised_is locations_of (λ x. refl) (replaced from.0)))
+        (subst (Among location) (sym (raised_is name locations_of (λ x. refl) (replaced from.0)))
         (stay_its from.0 (within from.0 (there from.0 from.1)) location from.2)))
 
     at_same : (m : Mount ℕ) → Among m w.mounts
@@ -312,12 +304,12 @@ opens_end_alike world names name path access how it task called fresh other file
     (Opened (free_number task)) refl (map changed world.tasks) (map changed part.tasks)
     (ap (run_by it world fresh task) granted_so ∙ ap (opened_by world fresh) not_copied)
     (ran_there it fresh other task called granted_so ∙ ap (opened_by part other) copied_alike)
-    (leaves world names name it.is task called file wanted world (λ t m. m)
+    (leaves names name it.is task called file wanted world (λ t m. m)
     (whole_in_world world names it.is file ground) used_in_world)
-    (leaves world names name it.is task called file wanted part in_world (whole_in_part world names it.is file ground)
+    (leaves names name it.is task called file wanted part in_world (whole_in_part world names it.is file ground)
     (used_in_part world names it.is file ground))
     (replaced_members world.tasks ∙ sym (replaced_members part.tasks
-    ∙ ap (map (both world names name it.is task called file wanted)) (same_members world names)))
+    ∙ ap (map (both names name it.is task called file wanted)) (same_members world names)))
   where
     part : World ℕ
     part = part_of nat_eq world names
@@ -347,9 +339,9 @@ opens_end_alike world names name path access how it task called fresh other file
 
     replaced_members : (tasks : List (Task ℕ))
         → filter (is_member_task names) (map (raised_task name) (map changed tasks))
-        ≡ map (both world names name it.is task called file wanted) (filter (is_member_task names) tasks)
+        ≡ map (both names name it.is task called file wanted) (filter (is_member_task names) tasks)
     replaced_members tasks = cc (
       map_twice (raised_task name) changed tasks,
-      filter-map (is_member_task names) (both world names name it.is task called file wanted) tasks (λ t. ap (λ n.
-          is_among same_name n names) (both_named world names name it.is task called file wanted t)),
+      filter-map (is_member_task names) (both names name it.is task called file wanted) tasks (λ t. ap (λ n.
+          is_among same_name n names) (both_named names name it.is task called file wanted t)),
     )

@@ -1,6 +1,6 @@
 -- Calls that change a task's rights alone end in the part as in the world.
-use Rattle.std.proofs.Common.{◌≡◌, refl, sym, ap, subst, ◌∙◌, inl, inr, ⊎_elim, ℕ, nat_eq, Bool, true, false, cond, true≢false, List, [], ◌∷◌, ◌++◌, Option, Some, None, Ok, filter, map, ◌||◌}
-use Rattle.vt_spec.proofs.Common.{Among, Answer, Call, Done, Drop, Fresh, Location, Mount, Pwrite, Rename, Task, TaskName, Umask, World, among-from_filter, any_pair, found_among, holds_of, is_among, is_at, is_member_task, list_any, locations, locations_of, map_same, map_twice, members, mount_at, name-replaced_if_called, none_among, or_parts, part_of, raised, raised_task, replaced_if_called, roots_and_directories, same_name, same_name_itself, same_task_name, seen_by_descriptor, task_called, when, with_dropped}
+use Rattle.std.proofs.Common.{◌≡◌, refl, sym, ap, subst, ◌∙◌, inl, inr, ⊎_elim, ℕ, nat_eq, Bool, true, false, cond, true≢false, List, [], ◌∷◌, ◌++◌, Option, Some, None, Ok, filter, map, ◌||◌, arith}
+use Rattle.vt_spec.proofs.Common.{Among, Answer, Call, Done, Drop, Fresh, Location, Mount, Pwrite, Rename, Task, TaskName, Umask, World, among-from_filter, any_pair, common_steps, found_among, holds_of, is_among, is_at, is_member_task, list_any, locations, locations_of, map_same, map_twice, members, mount_at, name-replaced_if_called, none_among, or_parts, part_of, raised, raised_task, replaced_if_called, roots_and_directories, same_name, same_name_itself, same_task_name, seen_by_descriptor, task_called, when, with_dropped}
 use Rattle.vt_spec.specs.Machine.Tasks.{capabilities_of, permission_bits}
 use Rattle.vt_laws_mounts.proofs.letting_go.Lists.{filter-map, flat_map-step}
 use Rattle.vt_laws_sealed.proofs.part.part.PartOfPart.{same_members}
@@ -9,6 +9,12 @@ use Rattle.vt_laws_members.proofs.changes.looks.Told.{ran}
 use Rattle.vt_laws_members.proofs.changes.tasks.Denied.{ran_there, run_by, unnamed_ends_alike}
 use Rattle.vt_laws_members.proofs.changes.tasks.Ending.{LeavesTasks, tasks_end_alike, with_tasks}
 use Rattle.vt_laws_members.proofs.changes.tasks.Retasked.{SeeAlike}
+
+-- a task whose change number is raised is the same else
+pub raised_is : {A : Type 0} (name : TaskName) (what : Task ℕ → A)
+    → ((t : Task ℕ) → what (record t { change = raised t.change }) ≡ what t) → (t : Task ℕ)
+    → what (raised_task name t) ≡ what t
+raised_is name what same t = grind (arith, common_steps)
 
 pub any_mapped : {A B : Type 0} (p : B → Bool) (q : A → Bool) (f : A → B) (xs : List A)
     → ((x : A) → Among x xs → p (f x) ≡ q x) → list_any p (map f xs) ≡ list_any q xs
@@ -106,16 +112,8 @@ module _ {world : World ℕ} {names : List TaskName} {name : TaskName} {call : C
       )
       by false e = refl
 
-  raised_is : {A : Type 0} (what : Task ℕ → A) → ((t : Task ℕ) → what (record t { change = raised t.change }) ≡ what t)
-      → (t : Task ℕ) → what (raised_task name t) ≡ what t
-  raised_is what same t = by (same_name name t.name)
-    where
-      by : (b : Bool) → what (cond b (record t { change = raised t.change }) t) ≡ what t
-      by true = same t
-      by false = refl
-
   both_named : (t : Task ℕ) → (both t).name ≡ t.name
-  both_named t = raised_is (λ (x : Task ℕ). x.name) (λ x. refl) (replaced t) ∙ name-replaced_if_called new t
+  both_named t = raised_is name (λ (x : Task ℕ). x.name) (λ x. refl) (replaced t) ∙ name-replaced_if_called new t
 
   in_world : (t : Task ℕ) → Among t part.tasks → Among t world.tasks
   in_world t m = (among-from_filter (is_member_task names) world.tasks t m).0
@@ -127,11 +125,11 @@ module _ {world : World ℕ} {names : List TaskName} {name : TaskName} {call : C
     more = λ location m. subst (Among location)
         (sym (flat_map-step replaced locations_of w.tasks (λ t n. replaced_is locations_of placed t (within t n)))) m;
     sees = subst (λ l. SeeAlike w names names l (raised w.change)) (sym (map_twice (raised_task name) replaced w.tasks))
-        (sees_alike w names both both_named (λ t m. raised_is (λ (x : Task ℕ). x.namespace) (λ x. refl) (replaced t)
+        (sees_alike w names both both_named (λ t m. raised_is name (λ (x : Task ℕ). x.namespace) (λ x. refl) (replaced t)
         ∙ replaced_is (λ (x : Task ℕ). x.namespace) spaced t (within t m))
-        (λ t m. raised_is (λ (x : Task ℕ). x.root ∷ x.directory ∷ []) (λ x. refl) (replaced t)
+        (λ t m. raised_is name (λ (x : Task ℕ). x.root ∷ x.directory ∷ []) (λ x. refl) (replaced t)
         ∙ replaced_is (λ (x : Task ℕ). x.root ∷ x.directory ∷ []) rooted t (within t m)) (raised w.change)
-        (λ t m. raised_is locations_of (λ x. refl) (replaced t) ∙ replaced_is locations_of placed t (within t m)));
+        (λ t m. raised_is name locations_of (λ x. refl) (replaced t) ∙ replaced_is locations_of placed t (within t m)));
   }
 
   pub rights_end : (answer : Answer) (fresh other : Fresh ℕ) → grown names name call (Ok answer) ≡ names

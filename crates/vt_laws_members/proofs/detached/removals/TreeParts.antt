@@ -46,11 +46,9 @@ module _ {world : World ℕ} {names : List TaskName} {gone : List ℕ} (go : The
       (settled nat_eq (with_filesystems here (swap old files)))) names ≡ part_of nat_eq (numbers_raised nat_eq part name
       (old.number ∷ []) (settled nat_eq (with_filesystems there (swap old files)))) names
   changed_parts name =
-      detached_and_changed go kept_world kept_part (swap old files)
-      (changes_theirs (living go kept_world kept_part) names used_now old files
+      detached_and_changed go kept_world kept_part (swap old files) (changes_theirs used_now old files
       (one_in_world world names go.is number used) (alone_here go kept_world kept_part old.number
-      (ap (used_alone nat_eq world names) is_old ∙ alone)) old_still)
-      (changes_theirs (living_part go kept_world kept_part) names used_now old files
+      (ap (used_alone nat_eq world names) is_old ∙ alone)) old_still) (changes_theirs used_now old files
       (one_in_part world names go.is number used) (alone_there go kept_world kept_part old.number) old_still) name
       (old.number ∷ []) (λ n m. ⊎_elim (λ e. ap (λ k. is_among nat_eq k used_now) e ∙ old_still) (λ none. absurd none)
       m)

@@ -16,7 +16,7 @@ swap_kept : (old : Filesystem ℕ) (files : FileTree ℕ) (x : Filesystem ℕ) �
     → swap old files x ≡ x
 swap_kept old files x e = ap (λ b. cond b (with_files old files) x) e
 
-module _ (a : World ℕ) (set : List TaskName) (used : List ℕ) (old : Filesystem ℕ) (files : FileTree ℕ)
+module _ {a : World ℕ} {set : List TaskName} (used : List ℕ) (old : Filesystem ℕ) (files : FileTree ℕ)
     (one : (x : Filesystem ℕ) → Among x a.filesystems → nat_eq old.number x.number ≡ true → x ≡ old)
     (alone : Alone a set old.number) (in_use : is_among nat_eq old.number used ≡ true) where
   layered_as : (x : Filesystem ℕ) → Among x a.filesystems → (swap old files x).overlay ≡ x.overlay

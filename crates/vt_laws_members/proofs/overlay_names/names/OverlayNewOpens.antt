@@ -4,7 +4,6 @@ use Rattle.vt_spec.proofs.Common.{Access, Among, Call, Change, Creation, Descrip
 use Rattle.vt_laws_members.proofs.judging.TheirCalls.{IsMember, caller_in, sealing_of}
 use Rattle.vt_laws_mounts.specs.LettingGo.TreesOverlays.{with_filesystems}
 use Rattle.vt_laws_worlds.proofs.worlds.CallsKept.{name_found}
-use Rattle.vt_laws_worlds.proofs.worlds.Placed.{among-inserted}
 use Rattle.vt_laws_worlds.specs.OverlayPermits.Unlocked.{SparesLocked}
 use Rattle.vt_laws_worlds.proofs.overlay_permits.asked.Unlocked.{permits_spare_what_is_locked}
 use Rattle.vt_laws_worlds.proofs.overlay_permits.changed.ChangedOverlays.{permits_can_change}
@@ -18,6 +17,7 @@ use Rattle.vt_laws_members.proofs.changes.tasks.Denied.{ran_there, run_by}
 use Rattle.vt_laws_members.specs.OverlayNames.OverlayNames.{OverlayNewOpensEndAlike}
 use Rattle.vt_laws_members.proofs.overlay_names.names.OverlayNaming.{changed_ends, changed_in_part, changed_in_world, listed_in_part, listed_in_world}
 use Rattle.vt_laws_members.proofs.changes.overlays.Copying.{OverlayChange}
+use Rattle.vt_laws_trees.proofs.calls.tasks.TasksOwn.{among-inserted}
 
 -- a new descriptor is one of the task's
 new_inserted : (new : Descriptor ℕ) (list : List (Descriptor ℕ)) → Among new (inserted new list)

@@ -79,14 +79,14 @@ module _ {world : World ℕ} {names set : List TaskName} {name : TaskName} {call
 
         used_there : used_filesystems nat_eq now_part set ≡ used_now
         used_there = less_used world names left.is set now now_part
-            (now_less world names left.is set left.tasks left.tasks_too world.change part.change
+            (now_less left.is left.tasks_too part.change
             (sees_less left.sealing set left.tasks world.change left.lets) left.same)
 
         parts_stepped : part_of nat_eq (with_filesystems now step) set
             ≡ part_of nat_eq (with_filesystems now_part step) set
         parts_stepped = part_with_layers now set step theirs.numbered theirs.changing theirs.lowering theirs.kept
-            ∙ ap (λ w. with_filesystems w step) (sym (part_of_less world names left.is set left.tasks left.tasks_too
-            world.change part.change (sees_less left.sealing set left.tasks world.change left.lets) left.same)) ∙ sym
+            ∙ ap (λ w. with_filesystems w step) (sym (part_of_less left.is left.tasks_too
+            part.change (sees_less left.sealing set left.tasks world.change left.lets) left.same)) ∙ sym
             (part_with_layers now_part set step theirs_there.numbered theirs_there.changing theirs_there.lowering
             (λ x e. theirs_there.kept x (ap (is_among nat_eq x.number) (sym used_there) ∙ e)))
 

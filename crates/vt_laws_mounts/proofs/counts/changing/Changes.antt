@@ -63,7 +63,7 @@ module _ (base : ℕ → ℕ) (files : FileTree ℕ) (inodes : Inodes ℕ) (root
   tallied (AddName directory name object) fits links = linked base node files.numbers inodes start directory name object
       (is_there directory fits.0) (leads_to directory name None fits.1) links
   tallied (Remove directory name object) fits links =
-      Names.removed_name base node files.numbers inodes start directory name object
+      Names.removed_name start directory name object
       (leads_to directory name (Some object) fits.0) (is_bare object fits.1)
   tallied (Move from old to new object) fits links =
       subst (λ o. Tallied (Changes.with_moved nat_eq files from old to new object) (without_replaced nat_eq

@@ -81,7 +81,7 @@ module _ (base : ℕ → ℕ) (node : ℕ → Option (Node ℕ)) (numbers : List
       })
 
 -- A name less
-module _ (base : ℕ → ℕ) (node : ℕ → Option (Node ℕ)) (numbers : List ℕ) (inodes : Inodes ℕ)
+module _ {base : ℕ → ℕ} {node : ℕ → Option (Node ℕ)} {numbers : List ℕ} {inodes : Inodes ℕ}
     (start : IsStart base node numbers inodes) (directory : ℕ) (name : List ℕ) (object : ℕ)
     (leads : entry_named name (entries_in (node directory)) ≡ Some object) where
   abbrev uses : ℕ → ℕ
@@ -109,15 +109,15 @@ module _ (base : ℕ → ℕ) (node : ℕ → Option (Node ℕ)) (numbers : List
   pub is_target : 1 ≤ times_in object (targets_in (node directory))
   is_target = let off = off_targets object in let one = one_if-itself object in omega arith
 
-module _ (base : ℕ → ℕ) (node : ℕ → Option (Node ℕ)) (numbers : List ℕ) (inodes : Inodes ℕ)
-    (start : IsStart base node numbers inodes)
-    (directory : ℕ) (name : List ℕ) (object : ℕ) (leads : entry_named name (entries_in (node directory)) ≡ Some object)
+module _ {base : ℕ → ℕ} {node : ℕ → Option (Node ℕ)} {numbers : List ℕ} {inodes : Inodes ℕ}
+    (start : IsStart base node numbers inodes) (directory : ℕ) (name : List ℕ) (object : ℕ)
+    (leads : entry_named name (entries_in (node directory)) ≡ Some object)
     (empty : entries_in (node object) ≡ []) where
   abbrev uses_r : ℕ → ℕ
   uses_r = uses_of base node numbers
 
   abbrev node_less : ℕ → Option (Node ℕ)
-  node_less = node_off base node numbers inodes start directory name object leads
+  node_less = node_off start directory name object leads
 
   abbrev node_removed : ℕ → Option (Node ℕ)
   node_removed = at_place node_less object (node_with_parent object)
@@ -129,7 +129,7 @@ module _ (base : ℕ → ℕ) (node : ℕ → Option (Node ℕ)) (numbers : List
   apart_r e =
       let none : times_in object (targets_in (node directory)) ≡ 0 =
       ap (λ n. times_in object (targets_in (node n))) (sym e) ∙ ap (λ l. times_in object (targets l)) empty in
-      let some = is_target base node numbers inodes start directory name object leads in absurd (omega arith)
+      let some = is_target start directory name object leads in absurd (omega arith)
 
   removed_entries : (n : ℕ) → entries_in (node_removed n) ≡ entries_in (node_less n)
   removed_entries = part_at entries_in node_less object (node_with_parent object)
@@ -143,10 +143,10 @@ module _ (base : ℕ → ℕ) (node : ℕ → Option (Node ℕ)) (numbers : List
   one_less n =
       let names = named_changed n node directory (node_without_entry name (node directory)) numbers
       (once_directory base node numbers inodes start directory
-      (is_directory_off base node numbers inodes start directory name object leads)) in
+      (is_directory_off start directory name object leads)) in
       let same : times_in n (named_by node_removed numbers) ≡ times_in n (named_by node_less numbers) = ap (times_in n)
       (named_same numbers) in
-      let off = off_targets base node numbers inodes start directory name object leads n in
+      let off = off_targets start directory name object leads n in
       omega arith
 
   pub removed_name : IsTallied base node_removed numbers (without_name nat_eq inodes directory name object)
@@ -181,7 +181,7 @@ module _ (base : ℕ → ℕ) (node : ℕ → Option (Node ℕ)) (numbers : List
   uses_m = uses_of base node numbers
 
   abbrev node_from : ℕ → Option (Node ℕ)
-  node_from = node_off base node numbers inodes start from old object leads
+  node_from = node_off start from old object leads
 
   abbrev node_to : ℕ → Option (Node ℕ)
   node_to = at_place node_from to (node_with_entry new object)
@@ -203,14 +203,14 @@ module _ (base : ℕ → ℕ) (node : ℕ → Option (Node ℕ)) (numbers : List
   inodes_under = with_changed nat_eq inodes_to object (node_with_parent to)
 
   from_is : is_directory_node (node from) ≡ true
-  from_is = is_directory_off base node numbers inodes start from old object leads
+  from_is = is_directory_off start from old object leads
 
   off : (n : ℕ) → times_in n (targets_in (node_without_entry old (node from))) + one_if n object
       ≡ times_in n (targets_in (node from))
-  off = off_targets base node numbers inodes start from old object leads
+  off = off_targets start from old object leads
 
   object_target : 1 ≤ times_in object (targets_in (node from))
-  object_target = is_target base node numbers inodes start from old object leads
+  object_target = is_target start from old object leads
 
   to_from : is_directory_node (node_from to) ≡ true
   to_from =

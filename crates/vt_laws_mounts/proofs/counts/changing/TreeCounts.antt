@@ -82,10 +82,10 @@ changed_same node inodes place change same none some n = ⊎_elim
         ap (λ o. node_in (inode_with_node o (Some inode))) t.1 ∙ sym t.1 ∙ ap change e
 
 -- One use less. An inode that is left with none has no entries.
-module _ (uses left : ℕ → ℕ) (node : ℕ → Option (Node ℕ)) (inodes : Inodes ℕ) (place : ℕ)
-    (counted : Counts.IsCounted uses node inodes)
-    (less : (n : ℕ) → one_if n place + left n ≡ uses n) (empty : left place ≡ 0 → targets_in (node place) ≡ [])
-    (inode : Inode ℕ) (is : inodes.inode place ≡ Some inode) where
+module _ {uses : ℕ → ℕ} (left : ℕ → ℕ) {node : ℕ → Option (Node ℕ)} {inodes : Inodes ℕ} (place : ℕ)
+    (counted : Counts.IsCounted uses node inodes) (less : (n : ℕ) → one_if n place + left n ≡ uses n)
+    (empty : left place ≡ 0 → targets_in (node place) ≡ []) (inode : Inode ℕ)
+    (is : inodes.inode place ≡ Some inode) where
   here_uses : inode.uses ≡ uses place
   here_uses = sym (ap uses_in is) ∙ counted.uses_are place
 
@@ -150,7 +150,7 @@ pub unpinned_counts : (uses left : ℕ → ℕ) (node : ℕ → Option (Node ℕ
 unpinned_counts uses left node inodes place counted less empty =
     let found = some_inode (inodes.inode place) (counted_some uses node inodes counted place
     (let l = less place in let one = one_if-itself place in omega arith)) in
-    unpinned_here uses left node inodes place counted less empty found.0 found.1
+    unpinned_here left place counted less empty found.0 found.1
 
 -- Changes that keep entries
 module _ (base : ℕ → ℕ) (node : ℕ → Option (Node ℕ)) (numbers : List ℕ) (inodes : Inodes ℕ)

@@ -45,8 +45,8 @@ tree_attached world stand (suc depth) top is mount m = ⊎_elim (λ e. ap (λ (x
       cases_Bool (is_some child.namespace),
     )
 
-module _ (fresh : Fresh ℕ) (world : World ℕ) (number : ℕ) (word : TypeWord) (recursive : Bool) (in_use : AllInUse world)
-    (stand : MountsStand world) (attached : is_attached world number ≡ true) where
+module _ (fresh : Fresh ℕ) {world : World ℕ} (number : ℕ) (word : TypeWord) (recursive : Bool)
+    (in_use : AllInUse world) (stand : MountsStand world) (attached : is_attached world number ≡ true) where
   abbrev named : List (Mount ℕ)
   named = named_mounts nat_eq world number recursive
 
@@ -194,15 +194,15 @@ module _ (fresh : Fresh ℕ) (world : World ℕ) (number : ℕ) (word : TypeWord
 pub set_types_let_go : SetTypesLetGo
 set_types_let_go fresh world task number word recursive in_use stand attached =
     subst (λ w. settled nat_eq w ≡ let_go_groups w (groups_of_types fresh world number recursive))
-    (sym (retyped_so fresh world number word recursive in_use stand attached b))
+    (sym (retyped_so fresh number word recursive in_use stand attached b))
     (only_groups_go world now.mounts now.master world.filesystems
     (groups_of_types fresh world number recursive) in_use stand
-    (loses fresh world number word recursive in_use stand attached b)
-    (hears fresh world number word recursive in_use stand attached b) (record { kept = λ f m. m; new = λ f m. inl m }))
+    (loses fresh number word recursive in_use stand attached b)
+    (hears fresh number word recursive in_use stand attached b) (record { kept = λ f m. m; new = λ f m. inl m }))
   where
     b : Bool
-    b = list_any (lost_a_group nat_eq (base fresh world number word recursive in_use stand attached))
-        (base fresh world number word recursive in_use stand attached).mounts
+    b = list_any (lost_a_group nat_eq (base fresh number word recursive in_use stand attached))
+        (base fresh number word recursive in_use stand attached).mounts
 
     now : World ℕ
-    now = last fresh world number word recursive in_use stand attached b
+    now = last fresh number word recursive in_use stand attached b

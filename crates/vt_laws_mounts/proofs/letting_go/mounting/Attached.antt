@@ -27,7 +27,7 @@ swapped_is [] mount = inl (refl, refl)
 swapped_is (copy ∷ copied) mount = grind (arith, common_steps, swapped_is copied, copied, eqb-true)
 
 -- masters that groups keep
-masters_stay : (made : List (ℕ × Option ℕ)) (master : ℕ → Option ℕ) (group : ℕ)
+pub masters_stay : (made : List (ℕ × Option ℕ)) (master : ℕ → Option ℕ) (group : ℕ)
     → ((one : ℕ × Option ℕ) → Among one made → nat_eq group one.0 ≡ false)
     → folded (masters_with nat_eq) master made group ≡ master group
 masters_stay [] master group none = refl

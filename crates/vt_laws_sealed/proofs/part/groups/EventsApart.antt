@@ -4,6 +4,18 @@ use Rattle.vt_spec.proofs.Common.{Among, HasLivingGroups, Lives, Mount, MountInv
 use Rattle.vt_laws_mounts.proofs.mounts.Receivers.{along_chain}
 use Rattle.vt_laws_sealed.specs.Part.Groups.{NoEventOfOthersReachesThem}
 
+pub member_group : (g : ℕ) (mount : Mount ℕ) → is_member_of nat_eq g mount ≡ true → group_of mount.propagation ≡ Some g
+member_group g mount h = grind (arith, common_steps, true≢false)
+
+pub master_by : (world : World ℕ) (lower group : ℕ) → world.master lower ≡ Some group → (kind : Propagation ℕ)
+    → group_of kind ≡ Some lower → master_of world kind ≡ Some group
+master_by world lower group e kind h = grind (arith, common_steps, same_Some, none_is_some)
+
+-- a mount hears the group that it receives from
+pub start_hears : (world : World ℕ) (source : ℕ) (kind : Propagation ℕ) → source_of kind ≡ Some source
+    → (group_of kind ≡ Some source) ⊎ (master_of world kind ≡ Some source)
+start_hears world source kind e = grind (arith, common_steps, none_is_some)
+
 module _ (world : World ℕ) (names : List TaskName) (is : MountInvariants nat_eq world)
     (apart : shares_no_events nat_eq world names ≡ true) where
   -- a mount of theirs hears the group: it is in it, or its slave, or in a group whose master that is
@@ -49,32 +61,21 @@ module _ (world : World ℕ) (names : List TaskName) (is : MountInvariants nat_e
   heard_above group lower e (heard, lives) =
       let found = any_among (is_member_of nat_eq lower) world.mounts (members_of lower lives) in
       let is_in : group_of found.0.propagation ≡ Some lower = member_group lower found.0 found.2 in (
-        ⊎_elim (λ own. (found.0, own, inr (master_by found.0.propagation is_in)))
+        ⊎_elim (λ own. (found.0, own, inr (master_by world lower group e found.0.propagation is_in)))
             (λ other. absurd (none_hears lower found.0 heard other found.2)) (sides found.0 lower found.1 is_in),
         above_lives group lower e lives,
       )
-    where
-      member_group : (g : ℕ) (mount : Mount ℕ) → is_member_of nat_eq g mount ≡ true
-          → group_of mount.propagation ≡ Some g
-      member_group g mount h = grind (arith, common_steps, true≢false)
-
-      master_by : (kind : Propagation ℕ) → group_of kind ≡ Some lower → master_of world kind ≡ Some group
-      master_by kind h = grind (arith, common_steps, same_Some, none_is_some)
 
   -- a mount of theirs that receives from a group hears one of its members, or is one
   pub heard_by : (group : ℕ) (own : Mount ℕ) → Among own (own_mounts nat_eq world names)
       → receives nat_eq world group own ≡ true → HeardAndLives group
   heard_by group own m h = by (source_of own.propagation) refl h
     where
-      start : (source : ℕ) (kind : Propagation ℕ) → source_of kind ≡ Some source
-          → (group_of kind ≡ Some source) ⊎ (master_of world kind ≡ Some source)
-      start source kind e = grind (arith, common_steps, none_is_some)
-
       by : (o : Option ℕ) → source_of own.propagation ≡ o
           → holds_of (λ source. is_among nat_eq group (groups_up world source)) o ≡ true → HeardAndLives group
       by None e h = absurd (true≢false (sym h))
       by (Some source) e h = along_chain world.master HeardAndLives heard_above (length world.mounts) source group (
-        (own, m, start source own.propagation e),
+        (own, m, start_hears world source own.propagation e),
         among_from_all (HasLivingGroups nat_eq world) world.mounts is.groups own
             (among-from_filter (is_own_mount nat_eq world names) world.mounts own m).0 source e,
       ) h

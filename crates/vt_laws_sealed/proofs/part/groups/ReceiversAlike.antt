@@ -1,26 +1,14 @@
 -- The receivers of a group of theirs are the same in the world and in the part.
 use Rattle.std.proofs.Common.{◌≡◌, refl, sym, ap, ◌∙◌, ◌⊎◌, inl, inr, ⊎_elim, ℕ, nat_eq, true, false, cond, true≢false, List, [], ◌∷◌, Option, Some, None, filter, length, map, not, ◌||◌, ◌≤◌, arith, unwrap_or, filter_map}
-use Rattle.vt_spec.proofs.Common.{Among, HasLivingGroups, Lives, Mount, MountInvariants, Propagation, Task, TaskName, World, among-filter, among-from_filter, among-map, among_from_all, among_from_contains, among_from_list_all, and_parts, any_among, any_from_among, common_steps, false_from_ne_true, group_of, groups_up, has_master, has_members, has_no_master, holds_of, is_among, is_at, is_member_of, is_own_mount, is_own_namespace, locations, master_of, members, none_is_some, not-true, or_left, or_right, other_mounts, own_mounts, part_of, receivers, receives, roots_and_directories, same_Some, seen_by_descriptor, shares_no_events, source_of, when}
+use Rattle.vt_spec.proofs.Common.{Among, HasLivingGroups, Lives, Mount, MountInvariants, Task, TaskName, World, among-filter, among-from_filter, among-map, among_from_all, among_from_contains, among_from_list_all, and_parts, any_among, any_from_among, common_steps, false_from_ne_true, group_of, groups_up, has_master, has_members, has_no_master, holds_of, is_among, is_at, is_member_of, is_own_mount, is_own_namespace, locations, master_of, members, none_is_some, not-true, or_left, or_right, other_mounts, own_mounts, part_of, receivers, receives, roots_and_directories, seen_by_descriptor, shares_no_events, source_of, when}
 use Rattle.vt_laws_mounts.proofs.GroupsUp.{source_from_group}
 use Rattle.vt_laws_mounts.proofs.mounts.Receivers.{along_chain}
 use Rattle.vt_laws_mounts.proofs.letting_go.Chains.{Way, chains_alike}
 use Rattle.vt_laws_mounts.proofs.letting_go.Chains.Way.{ends, goes_on}
 use Rattle.vt_laws_sealed.proofs.part.Kept.{filter_both, length-filter_map}
-use Rattle.vt_laws_sealed.proofs.part.groups.EventsApart.{Hears, above_lives, heard_above, members_of, none_hears, sides}
+use Rattle.vt_laws_sealed.proofs.part.groups.EventsApart.{Hears, above_lives, heard_above, master_by, member_group, members_of, none_hears, sides, start_hears}
 use Rattle.vt_laws_sealed.specs.Part.Groups.{NoEventOfTheirsReachesOthers, TheirGroupsReceiveAlike}
 use Rattle.vt_laws_sealed.proofs.part.part.PartOfPart.{is_own, keep, kept_how}
-
-pub member_group : (g : ℕ) (mount : Mount ℕ) → is_member_of nat_eq g mount ≡ true → group_of mount.propagation ≡ Some g
-member_group g mount h = grind (arith, common_steps, true≢false)
-
-pub master_by : (world : World ℕ) (lower group : ℕ) → world.master lower ≡ Some group → (kind : Propagation ℕ)
-    → group_of kind ≡ Some lower → master_of world kind ≡ Some group
-master_by world lower group e kind h = grind (arith, common_steps, same_Some, none_is_some)
-
--- a mount hears the group that it receives from
-pub start_hears : (world : World ℕ) (source : ℕ) (kind : Propagation ℕ) → source_of kind ≡ Some source
-    → (group_of kind ≡ Some source) ⊎ (master_of world kind ≡ Some source)
-start_hears world source kind e = grind (arith, common_steps, none_is_some)
 
 module _ (world : World ℕ) (names : List TaskName) (is : MountInvariants nat_eq world)
     (apart : shares_no_events nat_eq world names ≡ true) where

@@ -63,10 +63,10 @@ abbrev pub HasOrOpens : Call → List (Descriptor ℕ) → List (Descriptor ℕ)
 HasOrOpens call was now =
     (descriptor : Descriptor ℕ) → Among descriptor now → Among descriptor was ⊎ Opens call descriptor
 
-among_inserted : (new descriptor : Descriptor ℕ) (descriptors : List (Descriptor ℕ))
-    → Among descriptor (inserted new descriptors) → (descriptor ≡ new) ⊎ Among descriptor descriptors
-among_inserted new descriptor [] among = among
-among_inserted new descriptor (first ∷ rest) among = grind (arith, common_steps, among_inserted new descriptor rest)
+pub among-inserted : (new : Descriptor ℕ) (list : List (Descriptor ℕ)) (descriptor : Descriptor ℕ)
+    → Among descriptor (inserted new list) → (descriptor ≡ new) ⊎ Among descriptor list
+among-inserted new [] descriptor m = m
+among-inserted new (first ∷ rest) descriptor m = grind (arith, common_steps, among-inserted new rest descriptor)
 
 -- the caller afterwards, by its own call
 abbrev pub Changed : Call → Task ℕ → Task ℕ → Type 0
@@ -191,7 +191,7 @@ module _ (fresh : Fresh ℕ) (world : World ℕ) (name : TaskName) (call : Call)
     opened_has : (file : Location ℕ) (path : List ℕ) (access : Access) (how : Creation)
         → call ≡ OpenFile path access how
         → HasOrOpens call task.descriptors (with_descriptor task file access).descriptors
-    opened_has file path access how opens held among = grind (arith, common_steps, among_inserted)
+    opened_has file path access how opens held among = grind (arith, common_steps, among-inserted)
 
     -- what becomes of a task by each permit
     done : (permit : Permit ℕ) → judge_in nat_eq fresh world task call ≡ Ok permit

@@ -16,7 +16,7 @@ passes_here test (first ∷ list) n a t = by (nat_eq n first) refl a (λ later. 
 
 module _ (files : FileTree ℕ) (tree : IsTree files.tree) (listed : ListsNumbers nat_eq files) where
   -- as many steps as lead there are enough
-  enough : (steps directory : ℕ) → ReachedIn files.tree steps directory → (most : ℕ) → steps ≤ most
+  pub enough : (steps directory : ℕ) → ReachedIn files.tree steps directory → (most : ℕ) → steps ≤ most
       → chain most (named_parent nat_eq files.tree) directory ≡ chain steps (named_parent nat_eq files.tree) directory
   enough zero directory r most h = up_at_root files tree most directory r
   enough (suc steps) directory r zero h = absurd (let no : ⊥ = omega arith in no)

@@ -43,8 +43,8 @@ directory_named : (merge : Merge ℕ) (directory : ℕ) (name : List ℕ) (objec
 directory_named merge directory name object e = grind (arith, common_steps, true≢false)
 
 -- Changes of an overlay where what they ask is copied
-module _ (files : FileTree ℕ) (tree : IsTree files.tree) (first : ℕ → Option (Real ℕ)) (fresh : Fresh ℕ)
-    (stack : Stack ℕ) (real : ℕ → Option (Real ℕ)) (upper : FileTree ℕ)
+module _ {files : FileTree ℕ} (tree : IsTree files.tree) {first : ℕ → Option (Real ℕ)} (fresh : Fresh ℕ)
+    (stack : Stack ℕ) {real : ℕ → Option (Real ℕ)} {upper : FileTree ℕ}
     (sound : IsSound files first (IsNewBy fresh) real upper) where
   abbrev here : Merge ℕ
   here = State files first (IsNewBy fresh) real upper

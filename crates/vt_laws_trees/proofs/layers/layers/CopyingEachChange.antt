@@ -97,9 +97,7 @@ module _ (fresh : Fresh ℕ) (stack : Stack ℕ) (before : Merge ℕ) (fit : IsF
         removed_empty = tt;
         marks = subst (λ m. MarksAreRight stack m (merge_with_new nat_eq
             (odds fresh) stack m directory name number node) (Make directory name number node)) (sym ready.soundly.is)
-            (made_marked before.files fit.tree before.real
-            (odds fresh) stack ready.soundly.real ready.soundly.upper ready.soundly.sound directory name number node
-            seen.0 seen.1);
+            (made_marked fit.tree (odds fresh) stack ready.soundly.sound directory name number node seen.0 seen.1);
         rest = rest_stays (Make directory name number node) there;
       }
   overlay_changes (AddName directory name object) there =
@@ -128,13 +126,10 @@ module _ (fresh : Fresh ℕ) (stack : Stack ℕ) (before : Merge ℕ) (fit : IsF
         stands = stands_now fresh before fit (IsNewBy (odds fresh)) (line_to nat_eq before.files directory) _ ready;
         names_left = subst (λ m. NamesLeft stack m (merge_without_name nat_eq
             (odds fresh) stack m directory name object) (Remove directory name object)) (sym ready.soundly.is)
-            (λ e. removed_left before.files fit.tree before.real
-            (odds fresh) stack ready.soundly.real ready.soundly.upper ready.soundly.sound directory name object seen.0 e
-            seen.1);
+            (λ e. removed_left fit.tree (odds fresh) stack ready.soundly.sound directory name object seen.0 e seen.1);
         removed_empty = subst (λ m. RemovedIsEmpty m (merge_without_name nat_eq
             (odds fresh) stack m directory name object) (Remove directory name object)) (sym ready.soundly.is)
-            (removed_empty before.files fit.tree before.real
-            (odds fresh) stack ready.soundly.real ready.soundly.upper ready.soundly.sound directory name object);
+            (removed_empty fit.tree (odds fresh) stack ready.soundly.sound directory name object);
         marks = tt;
         rest = rest_stays (Remove directory name object) there;
       }
@@ -163,19 +158,17 @@ module _ (fresh : Fresh ℕ) (stack : Stack ℕ) (before : Merge ℕ) (fit : IsF
             (line_to nat_eq before.files object ++ line_to nat_eq before.files to) _ ready;
         names_left = subst (λ m. IsLeft stack m
             (merge_with_moved nat_eq (odds (odds fresh)) stack m from old to name object) from old)
-            (sym ready.soundly.is) (moved_left before.files fit.tree before.real
-            (odds (odds fresh)) stack ready.soundly.real ready.soundly.upper ready.soundly.sound from old to name object
+            (sym ready.soundly.is) (moved_left fit.tree
+            (odds (odds fresh)) stack ready.soundly.sound from old to name object
             seen_from.0 seen.0 there.0 seen_from.1 seen.1);
         removed_empty = subst (λ m. RemovedIsEmpty m (merge_with_moved nat_eq
             (odds (odds fresh)) stack m from old to name object) (Move from old to name object)) (sym ready.soundly.is)
-            (λ replaced number named empty is.
-            moved_empty before.files fit.tree before.real
-            (odds (odds fresh)) stack ready.soundly.real ready.soundly.upper ready.soundly.sound from old to name object
+            (λ replaced number named empty is. moved_empty fit.tree
+            (odds (odds fresh)) stack ready.soundly.sound from old to name object
             seen_from.0 seen.0 there.0 seen_from.1 seen.1 replaced number named empty is seen_to.0 seen_to.1);
         marks = subst (λ m. MarksAreRight stack m (merge_with_moved nat_eq
             (odds (odds fresh)) stack m from old to name object) (Move from old to name object)) (sym ready.soundly.is)
-            (moved_marked before.files fit.tree before.real
-            (odds (odds fresh)) stack ready.soundly.real ready.soundly.upper ready.soundly.sound from old to name object
+            (moved_marked fit.tree (odds (odds fresh)) stack ready.soundly.sound from old to name object
             seen_from.0 seen.0 there.0 seen_from.1 seen.1);
         rest = rest_stays (Move from old to name object) there;
       }

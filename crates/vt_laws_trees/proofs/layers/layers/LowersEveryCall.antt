@@ -9,7 +9,7 @@ use Rattle.vt_laws_rules.specs.Granted.IsGranted.{changes_mark, changes_mode, ch
 use Rattle.vt_laws_trees.proofs.layers.layers.LowersMounts.{same_filesystems_without, same_mounted_without}
 use Rattle.vt_laws_trees.proofs.trees.ChangesByOthers.{files_stay}
 
-module _ (world : World ℕ) (filesystem inode : ℕ) (own : HasNoUpperLayer world filesystem)
+module _ {world : World ℕ} {filesystem : ℕ} (inode : ℕ) (own : HasNoUpperLayer world filesystem)
     (locked : is_locked nat_eq world filesystem inode ≡ true) (task : Task ℕ) (fresh : Fresh ℕ)
     (new : (k : ℕ) → inode ≢ fresh k) where
   abbrev Kept : World ℕ → Type 0
@@ -110,4 +110,4 @@ pub locked_inodes_stay : (fresh : Fresh ℕ) (world : World ℕ) (task : Task �
     → Stays world filesystem inode (call_outcome nat_eq fresh world task call).world
 locked_inodes_stay fresh world task call filesystem inode c own locked new =
     call_holds (Stays world filesystem inode) fresh world task call (stays_itself world filesystem inode)
-    (λ permit granted. granted_stays world filesystem inode own locked task fresh new call permit c granted)
+    (λ permit granted. granted_stays inode own locked task fresh new call permit c granted)

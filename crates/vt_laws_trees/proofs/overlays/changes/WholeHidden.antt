@@ -94,8 +94,8 @@ module _ (fresh : Fresh ℕ) (stack : Stack ℕ) (merge : Merge ℕ) (whole : Is
       → Uncovers merge (merge_changed nat_eq fresh stack merge change)
   uncovers (Make d w number node) asked =
       let there = directory_used merge.files.tree d asked.0.name_is_free.in_directory in
-      let is = is_copied fresh stack merge whole distinct unused d there in
-      let one = copied fresh stack merge whole distinct unused d there in
+      let is = is_copied fresh whole distinct unused d there in
+      let one = copied fresh whole distinct unused d there in
       let may = subst (λ files. MayMake files.tree d w number node) (sym is.files) asked.0 in
       record {
         below = λ n layer way e. is.lower n layer way
@@ -117,19 +117,19 @@ module _ (fresh : Fresh ℕ) (stack : Stack ℕ) (merge : Merge ℕ) (whole : Is
           (eq-eqb n number (sym (same_Some number n f)))) ∙ e)))
       by path n layer way one files false f e = sym (ap (λ fs. number_at_path fs path) files) ∙ f
   uncovers (AddName d w object) may =
-      let first = is_copied fresh stack merge whole distinct unused object may.is_there in
-      let one = copied fresh stack merge whole distinct unused object may.is_there in
+      let first = is_copied fresh whole distinct unused object may.is_there in
+      let one = copied fresh whole distinct unused object may.is_there in
       let there = subst (λ files. IsThere files d) (sym first.files)
       (directory_used merge.files.tree d may.name_is_free.in_directory) in
       let second = object_copied stack (odds fresh) (odds-distinct fresh distinct) one d first.whole
-      (still_unused fresh stack merge whole distinct unused object may.is_there) there in
+      (still_unused fresh whole distinct unused object may.is_there) there in
       let two = copied_up nat_eq (odds fresh) one d in
       let same = second.copied.files ∙ first.files in
       let then_may = subst (λ files. MayAddName files.tree d w object) (sym same) may in
       record {
         below = λ n layer way e. first.lower n layer way (second.copied.lower n layer way e);
         names = λ path n layer way f e. by path n layer way two same (second.copied.grows object
-            (stands_now fresh stack merge whole distinct unused object may.is_there))
+            (stands_now fresh whole distinct unused object may.is_there))
             (names_entry (view_in two.files two.files.tree.root) d w path)
             (sym (add_name_adds_path two.files two.files.tree.root d object w (record {
               in_directory = then_may.name_is_free.in_directory;
@@ -146,8 +146,8 @@ module _ (fresh : Fresh ℕ) (stack : Stack ℕ) (merge : Merge ℕ) (whole : Is
       by path n layer way two files stands false f e = sym (ap (λ fs. number_at_path fs path) files) ∙ f
   uncovers (Remove d w object) may =
       let there = directory_used merge.files.tree d (has_entries merge.files.tree d w object may.named) in
-      let is = is_copied fresh stack merge whole distinct unused d there in
-      let one = copied fresh stack merge whole distinct unused d there in
+      let is = is_copied fresh whole distinct unused d there in
+      let one = copied fresh whole distinct unused d there in
       let then_may = subst (λ files. MayRemove files.tree d w object) (sym is.files) may in
       record {
         below = is.lower;

@@ -1,5 +1,5 @@
 -- Every other overlay of a world, after a change through one.
-use Rattle.std.proofs.Common.{arith, ◌≡◌, ◌≢◌, refl, sym, ap, subst, ◌∙◌, true≢false, eqb-true, eq-eqb, ⊎_elim, inl, inr, ℕ, zero, suc, nat_eq, Bool, true, false, map, List, [], ◌∷◌, ◌++◌, Option, Some, None, is_some, slice_get, option_map, option_to_list}
+use Rattle.std.proofs.Common.{arith, ◌≡◌, ◌≢◌, refl, sym, ap, subst, ◌∙◌, true≢false, eqb-true, eq-eqb, ⊎_elim, inl, inr, ℕ, nat_eq, Bool, true, false, map, List, [], ◌∷◌, ◌++◌, Option, Some, None, is_some, slice_get, option_map, option_to_list}
 use Rattle.vt_spec.proofs.Common.{Call, Change, Filesystem, Fresh, IsMerged, IsWorld, Layer, Location, Lower, OpenLayer, Overlay, Real, SameObject, Shown, Task, Upper, World, among-append_left, among-append_right, at_path, call_outcome, common_steps, files_at, filesystem_at, filesystem_numbered, holds_of, is_plain_layer, is_there, layer_node, lies_or_counts_under, mount_at, node_at_path, none_is_some, number_at_path, open_layer, real_node, same_Some, shown, shown_layers, slice_get-map, task_called, then_some, upper_and_work, view_of, with_change}
 use Rattle.vt_spec.proofs.Lists
 use Rattle.vt_laws_trees.specs.Layers.Layers.Locked.{AreNoInodes, GoesThrough, LeadsAsBefore}
@@ -17,6 +17,7 @@ use Rattle.vt_laws_trees.proofs.layers.views.Names.{alike_kept, alike_same}
 use Rattle.vt_laws_trees.proofs.layers.layers.UpperWorld.{overlay_merges, upper_filesystem_keeps}
 use Rattle.vt_laws_trees.specs.Overlays.WholeChanges.{CallsKeepOtherOverlays, OtherOverlaysStayMerged}
 use Rattle.vt_laws_trees.proofs.overlays.steps.WholeGrown.{alike_objects}
+use Rattle.vt_laws_trees.proofs.trees.Lists.{nth_among}
 use Rattle.vt_laws_trees.specs.Trees.Settling.{inode_in}
 
 -- An overlay whose layers lead as they did, and whose upper objects are as they were
@@ -47,12 +48,6 @@ module _ (world later : World ℕ) (filesystem : Filesystem ℕ) (other : Overla
   shown_same path = shown_by_views (map view_of (map one (shown_layers other)))
       (map view_of (map two (shown_layers other))) (all_alike (shown_layers other) leads) path
 
-  among_slice : (list : List (Layer ℕ)) (k : ℕ) (layer : Layer ℕ) → slice_get list k ≡ Some layer
-      → Lists.Among layer list
-  among_slice [] k layer e = none_is_some layer e
-  among_slice (first ∷ list) zero layer e = inl (sym (same_Some first layer e))
-  among_slice (first ∷ list) (suc k) layer e = inr (among_slice list k layer e)
-
   node_alike : (path : List (List ℕ)) (seen : Shown ℕ) → shown (map one (shown_layers other)) path ≡ Some seen
       → IsAlike (layer_node (map one (shown_layers other)) seen) (layer_node (map two (shown_layers other)) seen)
   node_alike path seen e =
@@ -72,7 +67,7 @@ module _ (world later : World ℕ) (filesystem : Filesystem ℕ) (other : Overla
           (then_some (option_map two x) (λ l. l.tree.node seen.object))
       by None s at = alike_same None None refl
       by (Some layer) s at =
-          let same = leads layer (among_slice (shown_layers other) seen.layer layer s) path in
+          let same = leads layer (nth_among (shown_layers other) seen.layer layer s) path in
           let here = at (one layer) refl in
           subst (λ o. IsAlike (then_some o (one layer).tree.node) ((two layer).tree.node seen.object)) here
           (subst (λ o. IsAlike (node_at_path (one layer) path) (then_some o (two layer).tree.node)) (same.0 ∙ here)
@@ -83,7 +78,7 @@ module _ (world later : World ℕ) (filesystem : Filesystem ℕ) (other : Overla
   behind_alike number None e = alike_same None None refl
   behind_alike number (Some (Upper object)) e = grind (arith, common_steps, alike_same, alike_kept, own)
   behind_alike number (Some (Lower k path)) e =
-      grind (arith, common_steps, alike_same, alike_kept, leads, among-append_right, among_slice)
+      grind (arith, common_steps, alike_same, alike_kept, leads, among-append_right, nth_among)
 
   pub stays_merged : IsMerged nat_eq world filesystem other → IsMerged nat_eq later filesystem other
   stays_merged is = record {

@@ -22,9 +22,10 @@ use Rattle.vt_laws_trees.proofs.overlays.steps.WholeMade.{make_keeps_shown}
 use Rattle.vt_laws_trees.proofs.overlays.steps.WholeRemoved.{remove_keeps_shown}
 
 -- an object copied by even numbers
-module _ (fresh : Fresh ℕ) (stack : Stack ℕ) (merge : Merge ℕ) (whole : IsWhole stack merge)
+module _ (fresh : Fresh ℕ) {stack : Stack ℕ} {merge : Merge ℕ} (whole : IsWhole stack merge)
     (distinct : (j k : ℕ) → fresh j ≡ fresh k → j ≡ k)
-    (unused : (k : ℕ) → merge.upper.tree.node (fresh k) ≡ None) (object : ℕ) (there : IsThere merge.files object) where
+    (unused : (k : ℕ) → merge.upper.tree.node (fresh k) ≡ None) (object : ℕ)
+    (there : IsThere merge.files object) where
   abbrev pub copied : Merge ℕ
   copied = copied_up nat_eq (evens fresh) merge object
 
@@ -109,11 +110,11 @@ twice fresh stack merge whole distinct unused f old t new o may =
     let same = first.copied.files in
     let t_there = subst (λ files. IsThere files t) (sym same) (directory_used merge.files.tree t may.in_directory) in
     let spare : (k : ℕ) → one.upper.tree.node (evens (odds fresh) k) ≡ None =
-    λ k. still_unused fresh stack merge whole distinct unused o o_there (2 * k) in
+    λ k. still_unused fresh whole distinct unused o o_there (2 * k) in
     let second = object_copied stack (evens (odds fresh))
     (evens-distinct (odds fresh) (odds-distinct fresh distinct)) one t first.copied.whole spare t_there in
     let both = second.copied.files ∙ same in
-    let own = second.copied.grows o (stands_now fresh stack merge whole distinct unused o o_there) in
+    let own = second.copied.grows o (stands_now fresh whole distinct unused o o_there) in
     record {
       whole = second.copied.whole;
       from = stands_above stack two second.copied.whole f old o
@@ -122,7 +123,7 @@ twice fresh stack merge whole distinct unused f old t new o may =
           (evens-distinct (odds fresh) (odds-distinct fresh distinct)) one t first.copied.whole spare t_there;
       object = own;
       vacant = second.copied.vacant (odds (odds fresh) 0)
-          (still_unused fresh stack merge whole distinct unused o o_there 1)
+          (still_unused fresh whole distinct unused o o_there 1)
           (λ j. odds-no_evens (odds fresh) (odds-distinct fresh distinct) 0 j);
       may = subst (λ files. MayMove files.tree f old t new o) (sym both) may;
       was_directory = λ d. subst (λ files. IsDirectory files.tree o) both d;
@@ -152,30 +153,27 @@ twice fresh stack merge whole distinct unused f old t new o may =
 pub changes_keep_shown : ChangesKeepShown
 changes_keep_shown fresh stack merge (Make d w number node) whole distinct unused asked =
     let there = directory_used merge.files.tree d asked.0.name_is_free.in_directory in
-    let is = is_copied fresh stack merge whole distinct unused d there in
-    make_keeps_shown (odds fresh) stack
-    (copied fresh stack merge whole distinct unused d there) d w number node is.whole
-    (stands_now fresh stack merge whole distinct unused d there)
-    (still_unused fresh stack merge whole distinct unused d there 0)
+    let is = is_copied fresh whole distinct unused d there in
+    make_keeps_shown (odds fresh) stack (copied fresh whole distinct unused d there) d w number node is.whole
+    (stands_now fresh whole distinct unused d there) (still_unused fresh whole distinct unused d there 0)
     (subst (λ files. MayMake files.tree d w number node) (sym is.files) asked.0) asked.1
 changes_keep_shown fresh stack merge (AddName d w object) whole distinct unused may =
-    let first = is_copied fresh stack merge whole distinct unused object may.is_there in
-    let one = copied fresh stack merge whole distinct unused object may.is_there in
+    let first = is_copied fresh whole distinct unused object may.is_there in
+    let one = copied fresh whole distinct unused object may.is_there in
     let there = subst (λ files. IsThere files d) (sym first.files)
     (directory_used merge.files.tree d may.name_is_free.in_directory) in
     let second = object_copied stack (odds fresh) (odds-distinct fresh distinct) one d first.whole
-    (still_unused fresh stack merge whole distinct unused object may.is_there) there in
+    (still_unused fresh whole distinct unused object may.is_there) there in
     link_keeps_shown stack (copied_up nat_eq (odds fresh) one d) d w object second.copied.whole
     (stands_copied stack (odds fresh) (odds-distinct fresh distinct) one d first.whole
-    (still_unused fresh stack merge whole distinct unused object may.is_there) there)
-    (second.copied.grows object (stands_now fresh stack merge whole distinct unused object may.is_there))
+    (still_unused fresh whole distinct unused object may.is_there) there)
+    (second.copied.grows object (stands_now fresh whole distinct unused object may.is_there))
     (subst (λ files. MayAddName files.tree d w object) (sym (second.copied.files ∙ first.files)) may)
 changes_keep_shown fresh stack merge (Remove d w object) whole distinct unused may =
     let there = directory_used merge.files.tree d (has_entries merge.files.tree d w object may.named) in
-    let is = is_copied fresh stack merge whole distinct unused d there in
-    remove_keeps_shown (odds fresh) stack (copied fresh stack merge whole distinct unused d there) d w object is.whole
-    (stands_now fresh stack merge whole distinct unused d there)
-    (still_unused fresh stack merge whole distinct unused d there 0)
+    let is = is_copied fresh whole distinct unused d there in
+    remove_keeps_shown (odds fresh) stack (copied fresh whole distinct unused d there) d w object is.whole
+    (stands_now fresh whole distinct unused d there) (still_unused fresh whole distinct unused d there 0)
     (subst (λ files. MayRemove files.tree d w object) (sym is.files) may)
 changes_keep_shown fresh stack merge (Move f old t new o) whole distinct unused asked =
     let m = twice fresh stack merge whole distinct unused f old t new o asked.0 in

@@ -45,8 +45,8 @@ attr_shape attr = record {
 bytes_shape : (bytes : List ℕ) → KeepsShape (node_with_bytes bytes)
 bytes_shape bytes = grind (arith, common_steps, bytes_eq_itself)
 
-module _ (stack : Stack ℕ) (merge : Merge ℕ) (whole : IsWhole stack merge) (file : ℕ)
-    (stands : StandsInUpper merge file) (change : Option (Node ℕ) → Option (Node ℕ)) (shape : KeepsShape change)
+module _ {stack : Stack ℕ} {merge : Merge ℕ} (whole : IsWhole stack merge) (file : ℕ)
+    (stands : StandsInUpper merge file) {change : Option (Node ℕ) → Option (Node ℕ)} (shape : KeepsShape change)
     (one_path : (path : List (List ℕ))
     → number_at_path (changed_node nat_eq merge.files file change) path ≡ number_at_path merge.files path)
     (one_seen : (path : List (List ℕ))
@@ -137,7 +137,7 @@ top_open stack merge whole = whole.layers 0 (record { tree = merge.upper.tree; d
 pub attr_keeps_whole : AttrKeepsWhole
 attr_keeps_whole stack merge object attr whole stands =
     let top = top_open stack merge whole in
-    whole_later stack merge whole object stands (node_with_attr attr) (attr_shape attr)
+    whole_later whole object stands (attr_shape attr)
     ((attr_changes_one_inode merge.files merge.files.tree.root object attr).0)
     (λ path. ap (real_by path) (shown_elsewhere_stays merge.upper
     (SetAttr (upper_of merge object) attr) stack.directory (map view_of stack.lowers) top.0 top.1 tt path refl))
@@ -155,7 +155,7 @@ attr_keeps_whole stack merge object attr whole stands =
 pub bytes_keep_whole : BytesKeepWhole
 bytes_keep_whole stack merge file bytes whole stands =
     let top = top_open stack merge whole in
-    whole_later stack merge whole file stands (node_with_bytes bytes) (bytes_shape bytes)
+    whole_later whole file stands (bytes_shape bytes)
     ((bytes_change_one_inode merge.files merge.files.tree.root file bytes).0)
     (λ path. ap (real_by path) (shown_elsewhere_stays merge.upper
     (SetBytes (upper_of merge file) bytes) stack.directory (map view_of stack.lowers) top.0 top.1 tt path refl))

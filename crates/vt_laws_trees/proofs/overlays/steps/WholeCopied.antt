@@ -57,9 +57,9 @@ copy_hides parent node (Regular bytes) d = refl
 copy_hides parent node (Symlink text) d = refl
 copy_hides parent node Whiteout d = refl
 
-module _ (stack : Stack ℕ) (merge : Merge ℕ) (whole : IsWhole stack merge) (object copy : ℕ) (node : Node ℕ)
-    (is : merge.files.tree.node object ≡ Some node)
-    (low : upper_object (merge.real object) ≡ None) (vacant : merge.upper.tree.node copy ≡ None) where
+module _ {stack : Stack ℕ} {merge : Merge ℕ} (whole : IsWhole stack merge) (object copy : ℕ) (node : Node ℕ)
+    (is : merge.files.tree.node object ≡ Some node) (low : upper_object (merge.real object) ≡ None)
+    (vacant : merge.upper.tree.node copy ≡ None) where
   fine_before : IsFine stack merge
   fine_before = is_fine stack merge whole
 
@@ -471,8 +471,8 @@ copy_keeps_whole stack merge object copy node whole is low vacant parents = by (
       upper = copy_named nat_eq merge copy o (with_inode nat_eq merge.upper copy
           (record { attr = node.attr; content = copied_content (copy_parent merge copy o) node.content }));
     })
-    by None e = beside_is_whole stack merge whole object copy node is low vacant e
-    by (Some name) e = above_is_whole stack merge whole object copy node is low vacant name.0 name.1
+    by None e = beside_is_whole whole object copy node is low vacant e
+    by (Some name) e = above_is_whole whole object copy node is low vacant name.0 name.1
         (named_so merge.files whole.tree object name e) (parents name e)
 
 -- the upper layer goes on to be a tree
@@ -486,8 +486,8 @@ copy_goes stack merge object copy node whole is low vacant parents = by (a_name 
     by : (o : Option (ℕ × List ℕ)) → a_name nat_eq merge.files object ≡ o
         → Goes stack.directory merge.upper (copy_named nat_eq merge copy o (with_inode nat_eq merge.upper copy
         (record { attr = node.attr; content = copied_content (copy_parent merge copy o) node.content })))
-    by None e = beside_goes stack merge whole object copy node is low vacant e
-    by (Some name) e = above_goes stack merge whole object copy node is low vacant name.0 name.1
+    by None e = beside_goes whole object copy node is low vacant e
+    by (Some name) e = above_goes whole object copy node is low vacant name.0 name.1
         (named_so merge.files whole.tree object name e) (parents name e)
 
 -- a copy of a directory cuts no path
@@ -507,6 +507,6 @@ copy_cuts stack merge object copy node whole is low vacant parents is_dir path =
           content = copied_content (copy_parent merge copy o) node.content;
         }))) stack.directory) path ≡ cuts (view_in merge.upper stack.directory) path
     by None e = prefixes_agree (λ front. hides (node_led (view_in merge.upper stack.directory) front)) _ path
-        (λ front f. ap hides (node_same stack merge whole object copy node is low vacant e front))
-    by (Some name) e = cuts_same stack merge whole object copy node is low vacant name.0 name.1
+        (λ front f. ap hides (node_same whole object copy node is low vacant e front))
+    by (Some name) e = cuts_same whole object copy node is low vacant name.0 name.1
         (named_so merge.files whole.tree object name e) (parents name e) is_dir path

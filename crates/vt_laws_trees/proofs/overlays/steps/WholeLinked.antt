@@ -27,7 +27,7 @@ pub file_hides : (o : Option (Node ℕ)) → is_some o ≡ true → is_directory
 file_hides None t d = absurd (true≢false (sym t))
 file_hides (Some node) t d = ap (λ b. not b || opaque_of node.content) d
 
-module _ (stack : Stack ℕ) (merge : Merge ℕ) (whole : IsWhole stack merge) (d : ℕ) (w : List ℕ) (object : ℕ)
+module _ {stack : Stack ℕ} {merge : Merge ℕ} (whole : IsWhole stack merge) {d : ℕ} {w : List ℕ} {object : ℕ}
     (stands : StandsInUpper merge d) (own : StandsInUpper merge object)
     (may : MayAddName merge.files.tree d w object) where
   abbrev ud : ℕ
@@ -171,5 +171,4 @@ module _ (stack : Stack ℕ) (merge : Merge ℕ) (whole : IsWhole stack merge) (
 
 pub link_keeps_shown : LinkKeepsShown
 link_keeps_shown stack merge d w object whole stands own may =
-    what_is_shown stack (merge_with_link nat_eq merge d w object)
-    (later_is_fine stack merge whole d w object stands own may)
+    what_is_shown stack (merge_with_link nat_eq merge d w object) (later_is_fine whole stands own may)

@@ -97,13 +97,13 @@ module _ (fresh : Fresh ℕ) (stack : Stack ℕ) (merge : Merge ℕ) (whole : Is
     (left marks : Bool) (is_left : is_some (shown_in_lowers_at nat_eq stack merge f old) ≡ left)
     (is_marks : hides_directory nat_eq stack merge t new ≡ marks) where
   abbrev uf : ℕ
-  uf = WholeMovedTree.uf fresh stack merge whole f old t new o stands_f stands_t stands_o may vacant
+  uf = WholeMovedTree.uf fresh whole stands_f stands_t stands_o may vacant
 
   abbrev ut : ℕ
-  ut = WholeMovedTree.ut fresh stack merge whole f old t new o stands_f stands_t stands_o may vacant
+  ut = WholeMovedTree.ut fresh whole stands_f stands_t stands_o may vacant
 
   abbrev uo : ℕ
-  uo = WholeMovedTree.uo fresh stack merge whole f old t new o stands_f stands_t stands_o may vacant
+  uo = WholeMovedTree.uo fresh whole stands_f stands_t stands_o may vacant
 
   abbrev c : ℕ
   c = fresh 0
@@ -115,8 +115,7 @@ module _ (fresh : Fresh ℕ) (stack : Stack ℕ) (merge : Merge ℕ) (whole : Is
   lowers = map view_of stack.lowers
 
   abbrev upper : FileTree ℕ
-  upper =
-      WholeMovedTree.whole_moved fresh stack merge whole f old t new o stands_f stands_t stands_o may vacant left marks
+  upper = WholeMovedTree.whole_moved fresh whole stands_f stands_t stands_o may vacant left marks
 
   abbrev after : View ℕ
   after = view_in upper stack.directory
@@ -128,7 +127,7 @@ module _ (fresh : Fresh ℕ) (stack : Stack ℕ) (merge : Merge ℕ) (whole : Is
   later = record merge { files = files; upper = upper }
 
   abbrev value : Bool → Option ℕ
-  value = WholeMovedTree.value fresh stack merge whole f old t new o stands_f stands_t stands_o may vacant
+  value = WholeMovedTree.value fresh whole stands_f stands_t stands_o may vacant
 
   fine_before : IsFine stack merge
   fine_before = is_fine stack merge whole
@@ -140,25 +139,25 @@ module _ (fresh : Fresh ℕ) (stack : Stack ℕ) (merge : Merge ℕ) (whole : Is
   top_directory = (top_open stack merge whole).1
 
   real_f : merge.real f ≡ Some (Upper uf)
-  real_f = WholeMovedTree.real_f fresh stack merge whole f old t new o stands_f stands_t stands_o may vacant
+  real_f = WholeMovedTree.real_f fresh whole stands_f stands_t stands_o may vacant
 
   real_t : merge.real t ≡ Some (Upper ut)
-  real_t = WholeMovedTree.real_t fresh stack merge whole f old t new o stands_f stands_t stands_o may vacant
+  real_t = WholeMovedTree.real_t fresh whole stands_f stands_t stands_o may vacant
 
   real_o : merge.real o ≡ Some (Upper uo)
-  real_o = WholeMovedTree.real_o fresh stack merge whole f old t new o stands_f stands_t stands_o may vacant
+  real_o = WholeMovedTree.real_o fresh whole stands_f stands_t stands_o may vacant
 
   uf_directory : IsDirectory merge.upper.tree uf
-  uf_directory = WholeMovedTree.uf_directory fresh stack merge whole f old t new o stands_f stands_t stands_o may vacant
+  uf_directory = WholeMovedTree.uf_directory fresh whole stands_f stands_t stands_o may vacant
 
   ut_directory : IsDirectory merge.upper.tree ut
-  ut_directory = WholeMovedTree.ut_directory fresh stack merge whole f old t new o stands_f stands_t stands_o may vacant
+  ut_directory = WholeMovedTree.ut_directory fresh whole stands_f stands_t stands_o may vacant
 
   abbrev from_way : List (List ℕ)
-  from_way = WholeMovedTree.from_way fresh stack merge whole f old t new o stands_f stands_t stands_o may vacant
+  from_way = WholeMovedTree.from_way fresh whole stands_f stands_t stands_o may vacant
 
   from_number : number_at_path merge.files from_way ≡ Some f
-  from_number = WholeMovedTree.from_number fresh stack merge whole f old t new o stands_f stands_t stands_o may vacant
+  from_number = WholeMovedTree.from_number fresh whole stands_f stands_t stands_o may vacant
 
   f_directory : IsDirectory merge.files.tree f
   f_directory = has_entries merge.files.tree f old o may.named
@@ -167,18 +166,15 @@ module _ (fresh : Fresh ℕ) (stack : Stack ℕ) (merge : Merge ℕ) (whole : Is
   led_new : (to rest : List (List ℕ)) → led merge.upper.tree stack.directory to ≡ Some ut
       → led upper.tree stack.directory (to ++ new ∷ rest) ≡ led merge.upper.tree uo rest
   led_new to rest e =
-      WholeMovedTree.led_emptied fresh stack merge whole f old t new o stands_f stands_t stands_o may vacant left marks
-      (to ++ new ∷ rest)
-      ∙ WholeMovedTree.moved_through fresh stack merge whole f old t new o stands_f stands_t stands_o may vacant left
-      marks to rest e
+      WholeMovedTree.led_emptied fresh whole stands_f stands_t stands_o may vacant left marks (to ++ new ∷ rest)
+      ∙ WholeMovedTree.moved_through fresh whole stands_f stands_t stands_o may vacant left marks to rest e
 
   led_else : (path : List (List ℕ)) → goes_through before ut new path ≡ false → led upper.tree stack.directory path
       ≡ cond (names_entry before uf old path) (value left)
       (cond (goes_through before uf old path) None (led merge.upper.tree stack.directory path))
   led_else path none =
-      WholeMovedTree.led_emptied fresh stack merge whole f old t new o stands_f stands_t stands_o may vacant left marks
-      path
-      ∙ WholeMovedTree.moved_elsewhere fresh stack merge whole f old t new o stands_f stands_t stands_o may vacant left
+      WholeMovedTree.led_emptied fresh whole stands_f stands_t stands_o may vacant left marks path
+      ∙ WholeMovedTree.moved_elsewhere fresh whole stands_f stands_t stands_o may vacant left
       marks path stack.directory none
 
   named_not : (d : ℕ) (name : List ℕ) (path : List (List ℕ)) → goes_through before d name path ≡ false
@@ -193,12 +189,12 @@ module _ (fresh : Fresh ℕ) (stack : Stack ℕ) (merge : Merge ℕ) (whole : Is
 
   -- inodes
   abbrev left_tree : FileTree ℕ
-  left_tree = WholeMovedTree.left_base fresh stack merge whole f old t new o stands_f stands_t stands_o may vacant
+  left_tree = WholeMovedTree.left_base fresh whole stands_f stands_t stands_o may vacant
       (without_contents nat_eq merge.upper (upper_directory_named merge t new))
       (emptied_alike merge.upper (upper_directory_named merge t new)) left marks
 
   left_alike : (u : ℕ) → u ≢ c → IsAlike (merge.upper.tree.node u) (left_tree.tree.node u)
-  left_alike = WholeMovedTree.inode_alike fresh stack merge whole f old t new o stands_f stands_t stands_o may vacant
+  left_alike = WholeMovedTree.inode_alike fresh whole stands_f stands_t stands_o may vacant
       (without_contents nat_eq merge.upper (upper_directory_named merge t new))
       (emptied_alike merge.upper (upper_directory_named merge t new)) left marks
 
@@ -315,7 +311,7 @@ module _ (fresh : Fresh ℕ) (stack : Stack ℕ) (merge : Merge ℕ) (whole : Is
       (old ∷ rest, is, Rattle.vt_laws_trees.proofs.layers.layers.ShownPaths.not_empty word to) none
 
   abbrev moved_base : FileTree ℕ
-  moved_base = WholeMovedTree.moved_base fresh stack merge whole f old t new o stands_f stands_t stands_o may vacant
+  moved_base = WholeMovedTree.moved_base fresh whole stands_f stands_t stands_o may vacant
       (without_contents nat_eq merge.upper (upper_directory_named merge t new))
       (emptied_alike merge.upper (upper_directory_named merge t new)) left marks
 
@@ -429,7 +425,7 @@ module _ (fresh : Fresh ℕ) (stack : Stack ℕ) (merge : Merge ℕ) (whole : Is
       path = from_way ++ old ∷ word ∷ rest
 
       leads : led merge.upper.tree stack.directory (from_way ++ old ∷ word ∷ rest) ≡ None
-      leads = WholeMovedTree.led_behind fresh stack merge whole f old t new o stands_f stands_t stands_o may vacant
+      leads = WholeMovedTree.led_behind fresh whole stands_f stands_t stands_o may vacant
           (word ∷ rest) ∙ none
 
       uncut_here : cuts before (from_way ++ old ∷ word ∷ rest) ≡ false → cuts before (from_way ++ old ∷ []) ≡ false
@@ -494,10 +490,8 @@ module _ (fresh : Fresh ℕ) (stack : Stack ℕ) (merge : Merge ℕ) (whole : Is
           (λ k layer g. whole.layers (Rattle.std.proofs.Common.suc k) layer g) 1 rest (to ++ new ∷ []) word s
           (ap (shown_from 1 lowers) (append_assoc to (new ∷ []) (word ∷ rest)) ∙ e) in
           let uncut_to = uncut_way to (new ∷ word ∷ rest) (to ++ new ∷ word ∷ rest) refl
-          (WholeMovedTree.way_not_new fresh stack merge whole f old t new o stands_f stands_t stands_o may vacant left
-          marks to l)
-          (WholeMovedTree.way_not_old fresh stack merge whole f old t new o stands_f stands_t stands_o may vacant left
-          marks to l) uncut in
+          (WholeMovedTree.way_not_new fresh whole stands_f stands_t stands_o may vacant left marks to l)
+          (WholeMovedTree.way_not_old fresh whole stands_f stands_t stands_o may vacant left marks to l) uncut in
           grind (arith, common_steps, true≢false, mark_cuts, below_name, there, t_directory, directory_below_top)
 
       lower_none : cuts after (to ++ new ∷ word ∷ rest) ≡ false → (x : Option (Shown ℕ))
@@ -523,8 +517,7 @@ module _ (fresh : Fresh ℕ) (stack : Stack ℕ) (merge : Merge ℕ) (whole : Is
           → real_seen stack merge (from_way ++ old ∷ rest) ≡ real_seen stack later (to ++ new ∷ rest)
       some u e w k =
           let behind =
-          WholeMovedTree.led_behind fresh stack merge whole f old t new o stands_f stands_t stands_o may vacant rest
-          ∙ e in
+          WholeMovedTree.led_behind fresh whole stands_f stands_t stands_o may vacant rest ∙ e in
           ap (real_by (from_way ++ old ∷ rest)) (on_top before lowers (from_way ++ old ∷ rest) u w behind k) ∙ one w
           ∙ sym (ap (real_by (to ++ new ∷ rest)) (on_top after lowers (to ++ new ∷ rest) u w (led_new to rest l ∙ e)
           ((more u (not_c u (is_there (from_way ++ old ∷ rest) u behind))).white ∙ k)))
@@ -544,7 +537,7 @@ module _ (fresh : Fresh ℕ) (stack : Stack ℕ) (merge : Merge ℕ) (whole : Is
               → real_seen stack merge (from_way ++ old ∷ word ∷ rest) ≡ None
           nothing true d = ap (real_by (from_way ++ old ∷ word ∷ rest)) (nothing_below d word rest e)
           nothing false d = sym (fine_before.paths (from_way ++ old ∷ word ∷ rest)) ∙ ap (λ x. then_some x merge.real)
-              (WholeMovedTree.number_behind fresh stack merge whole f old t new o stands_f stands_t stands_o may vacant
+              (WholeMovedTree.number_behind fresh whole stands_f stands_t stands_o may vacant
               (word ∷ rest) ∙ ap (option_and_then (λ n. led merge.files.tree n rest))
               (no_entries merge.files.tree o (entries_in-no_directory (merge.files.tree.node o) d) word))
 
@@ -571,7 +564,7 @@ module _ (fresh : Fresh ℕ) (stack : Stack ℕ) (merge : Merge ℕ) (whole : Is
           subst (λ p. then_some (number_at_path files p) merge.real ≡ real_seen stack later p) is
           (ap (λ x. then_some x merge.real) (number_is (to ++ new ∷ rest)
           ∙ moved_leads_on merge.files merge.files.tree.root f t o old new whole.tree can to rest there
-          ∙ sym (WholeMovedTree.number_behind fresh stack merge whole f old t new o stands_f stands_t stands_o may
+          ∙ sym (WholeMovedTree.number_behind fresh whole stands_f stands_t stands_o may
           vacant rest)) ∙ fine_before.paths (from_way ++ old ∷ rest) ∙ seen_along to rest l)
 
       number : goes_through before ut new path ≡ false → (b : Bool) → goes_through before uf old path ≡ b

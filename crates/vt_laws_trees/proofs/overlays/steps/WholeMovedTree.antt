@@ -22,9 +22,9 @@ use Rattle.vt_laws_trees.proofs.overlays.steps.WholeLeft.{beside_led, emptied_al
 use Rattle.vt_laws_trees.proofs.overlays.steps.WholeNames.{above_named, directory_stands, is_fine}
 use Rattle.vt_laws_trees.proofs.overlays.steps.WholeParts.{IsFine}
 
-module _ (fresh : Fresh ℕ) (stack : Stack ℕ) (merge : Merge ℕ) (whole : IsWhole stack merge) (f : ℕ) (old : List ℕ)
-    (t : ℕ) (new : List ℕ) (o : ℕ)
-    (stands_f : StandsInUpper merge f) (stands_t : StandsInUpper merge t) (stands_o : StandsInUpper merge o)
+module _ (fresh : Fresh ℕ) {stack : Stack ℕ} {merge : Merge ℕ} (whole : IsWhole stack merge) {f : ℕ}
+    {old : List ℕ} {t : ℕ} {new : List ℕ} {o : ℕ} (stands_f : StandsInUpper merge f)
+    (stands_t : StandsInUpper merge t) (stands_o : StandsInUpper merge o)
     (may : MayMove merge.files.tree f old t new o) (vacant : merge.upper.tree.node (fresh 0) ≡ None) where
   abbrev pub uf : ℕ
   uf = upper_of merge f

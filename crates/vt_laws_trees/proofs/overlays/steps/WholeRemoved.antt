@@ -36,7 +36,7 @@ use Rattle.vt_laws_trees.proofs.overlays.steps.WholeLeft.{emptied_alike}
 pub white_hides : (o : Option (Node ℕ)) → is_kind_in White o ≡ true → hides o ≡ true
 white_hides o e = grind (arith, common_steps, true≢false)
 
-module _ (stack : Stack ℕ) (merge : Merge ℕ) (whole : IsWhole stack merge) (d : ℕ) (w : List ℕ) (object : ℕ)
+module _ {stack : Stack ℕ} {merge : Merge ℕ} (whole : IsWhole stack merge) {d : ℕ} {w : List ℕ} {object : ℕ}
     (stands : StandsInUpper merge d) (may : MayRemove merge.files.tree d w object) where
   abbrev ud : ℕ
   ud = upper_of merge d
@@ -401,5 +401,5 @@ remove_keeps_shown fresh stack merge d w object whole stands vacant may =
       upper = without_contents nat_eq (name_left_by nat_eq (is_some o) fresh stack merge.upper (upper_of merge d) w)
           (upper_directory_named merge d w);
     })
-    by None e = plain_is_fine stack merge whole d w object stands may e
-    by (Some seen) e = white_is_fine stack merge whole d w object stands may (fresh 0) vacant
+    by None e = plain_is_fine whole stands may e
+    by (Some seen) e = white_is_fine whole stands may (fresh 0) vacant

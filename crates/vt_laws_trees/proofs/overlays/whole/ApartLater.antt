@@ -1,8 +1,8 @@
 -- Layers stand apart after a change of an overlay.
 use Rattle.std.proofs.Common.{arith, ◌≡◌, ◌≢◌, refl, sym, ap, subst, ◌∙◌, true≢false, eqb-true, eq-eqb, ne_eqb, ◌⊎◌, ⊎_elim, inl, inr, ℕ, nat_eq, Bool, true, false, not, cond, ◌&&◌, ◌||◌, List, [], ◌∷◌, ◌++◌, map, Option, Some, None, is_some, flat_map, option_to_list}
-use Rattle.vt_spec.proofs.Common.{Among, Change, Filesystem, Fresh, IsTree, IsWorld, Layer, ListsNumbers, Location, Lower, Merge, Overlay, Real, Stack, Upper, World, among-append_left, among-append_right, among-filter, among-flat_map, among-from_filter, among-from_flat_map, among-from_map, among_from_list_all, among_numbers, and_from, and_true_left, and_true_right, any_among, any_from_among, any_pair, common_steps, counts_in_layer, directory_used, entry_at, eqb_tells, filesystem_at, filesystem_numbered, holds_of, is_directory_node, is_object_of, is_overlay, is_plain_layer, is_real_upper, is_there, is_under, layers_of, layers_of_all, led, lies_in_layer, lies_or_counts_under, list_any, live_lowers, live_upper_and_work, merge_of, mount_at, none_among, none_from_among, none_is_some, of_overlay, open_layer, or_cases, or_false_alone, or_false_left, or_false_right, or_left, or_right, overlap, overlaps_one_of, overlay_or, overlays, replaced_if_numbered, same_Some, stack_of, upper_and_work, upper_object, with_change}
+use Rattle.vt_spec.proofs.Common.{Among, Change, Filesystem, Fresh, IsTree, Layer, ListsNumbers, Location, Lower, Merge, Overlay, Real, Stack, Upper, World, among-append_left, among-append_right, among-filter, among-flat_map, among-from_filter, among-from_flat_map, among-from_map, among_from_list_all, among_numbers, and_from, and_true_left, and_true_right, any_among, any_from_among, any_pair, common_steps, counts_in_layer, directory_used, entry_at, eqb_tells, filesystem_numbered, holds_of, is_directory_node, is_object_of, is_overlay, is_plain_layer, is_real_upper, is_there, is_under, layers_of, layers_of_all, led, lies_in_layer, lies_or_counts_under, list_any, live_lowers, live_upper_and_work, mount_at, none_among, none_from_among, none_is_some, of_overlay, open_layer, or_cases, or_false_alone, or_false_left, or_false_right, or_left, or_right, overlap, overlaps_one_of, overlay_or, overlays, replaced_if_numbered, same_Some, stack_of, upper_and_work, upper_object, with_change}
 use Rattle.vt_laws_trees.proofs.trees.TreesOfWorlds.{numbered_anyhow}
-use Rattle.vt_laws_trees.specs.Layers.Layers.Locked.{AreNoInodes, LeadsAsBefore}
+use Rattle.vt_laws_trees.specs.Layers.Layers.Locked.{LeadsAsBefore}
 use Rattle.vt_laws_trees.specs.Layers.Layers.Upper.{IsUpperObject}
 use Rattle.vt_laws_trees.proofs.layers.locked.Apart.{layer_among, layer_plain, lies_there, never_both, no_overlay_in, object_counts, upper_in_layers, upper_is_layer}
 use Rattle.vt_laws_trees.proofs.layers.locked.Paths.{layer_tree, leads_as_before}
@@ -10,9 +10,9 @@ use Rattle.vt_laws_trees.proofs.layers.layers.LowersWorld.{number_of_filesystem}
 use Rattle.vt_laws_trees.proofs.layers.layers.ShownDirectories.{led_is_there}
 use Rattle.vt_laws_trees.proofs.layers.layers.UpperLine.{has_entries}
 use Rattle.vt_laws_trees.proofs.layers.layers.UpperWorld.{overlay_merges}
+use Rattle.vt_laws_trees.proofs.overlays.changes.WholeLater.{ChangesMerge, changing}
 use Rattle.vt_laws_trees.specs.Overlays.LayersApart.{LayersStayApart, StandApart}
 use Rattle.vt_laws_trees.specs.Overlays.WhatIsShown.{IsWhole}
-use Rattle.vt_laws_trees.specs.Overlays.WholeChanges.{IsAskedWell}
 use Rattle.vt_laws_trees.specs.Overlays.WholeStays.{AreNew}
 use Rattle.vt_laws_trees.proofs.overlays.whole.ApartPairs.{no_pair_later, two_apart}
 use Rattle.vt_laws_trees.proofs.overlays.whole.ApartPaths.{led_under, under_led}
@@ -25,12 +25,8 @@ use Rattle.vt_laws_trees.proofs.overlays.changes.WholeWorlds.{overlays_are_whole
 use Rattle.vt_laws_trees.specs.Trees.Settling.{inode_in}
 use Rattle.vt_laws_trees.specs.Layers.Layers.ChangesUpper.{IsNewBy}
 
-module _ (fresh : Fresh ℕ) (world : World ℕ) (location : Location ℕ) (change : Change ℕ) (overlay : Overlay ℕ)
-    (upper : Layer ℕ) (conditions : IsWorld nat_eq world)
-    (is : (filesystem_at nat_eq world location).overlay ≡ Some overlay) (has : overlay.upper ≡ Some upper)
-    (distinct : (j k : ℕ) → fresh j ≡ fresh k → j ≡ k) (none : (filesystem : ℕ) → AreNoInodes fresh world filesystem)
-    (asked : IsAskedWell (stack_of nat_eq world overlay upper)
-    (merge_of nat_eq world (filesystem_at nat_eq world location) overlay upper) change) where
+module _ {fresh : Fresh ℕ} {world : World ℕ} {location : Location ℕ} {change : Change ℕ} {overlay : Overlay ℕ}
+    {upper : Layer ℕ} (it : ChangesMerge fresh world location change overlay upper) where
   abbrev pub number : ℕ
   number = (mount_at nat_eq world location).filesystem
 
@@ -41,42 +37,38 @@ module _ (fresh : Fresh ℕ) (world : World ℕ) (location : Location ℕ) (chan
   stack = stack_of nat_eq world overlay upper
 
   abbrev pub before : Merge ℕ
-  before = WholeLater.before fresh world location change overlay upper conditions is has distinct none asked
+  before = WholeLater.before it
 
   abbrev pub merge : Merge ℕ
-  merge = WholeLater.merge fresh world location change overlay upper conditions is has distinct none asked
+  merge = WholeLater.merge it
 
   abbrev pub changed : Filesystem ℕ
-  changed =
-      WholeLater.changed_filesystem fresh world location change overlay upper conditions is has distinct none asked
+  changed = WholeLater.changed_filesystem it
 
   abbrev pub changed_upper : Filesystem ℕ
-  changed_upper =
-      WholeLater.changed_upper fresh world location change overlay upper conditions is has distinct none asked
+  changed_upper = WholeLater.changed_upper it
 
-  pub later_is : later
-      ≡ WholeLater.later fresh world location change overlay upper conditions is has distinct none asked
-  later_is = WholeLater.later_is fresh world location change overlay upper conditions is has distinct none asked
+  pub later_is : later ≡ WholeLater.later it
+  later_is = WholeLater.later_is it
 
   pub apart : upper.filesystem ≢ number
-  apart = WholeLater.apart fresh world location change overlay upper conditions is has distinct none asked
+  apart = WholeLater.apart it
 
   pub upper_later : filesystem_numbered nat_eq later upper.filesystem ≡ changed_upper
-  upper_later = ap (λ w. filesystem_numbered nat_eq w upper.filesystem) later_is
-      ∙ WholeLater.upper_later fresh world location change overlay upper conditions is has distinct none asked
+  upper_later = ap (λ w. filesystem_numbered nat_eq w upper.filesystem) later_is ∙ WholeLater.upper_later it
 
   pub new : AreNew fresh before
-  new = record { distinct = distinct; unused = λ k. none upper.filesystem k }
+  new = record { distinct = it.distinct; unused = λ k. it.none upper.filesystem k }
 
   pub whole : IsWhole stack before
-  whole = overlays_are_whole world number overlay upper conditions is has
+  whole = overlays_are_whole world number overlay upper it.conditions it.is it.has
 
   pub goes : Goes upper.directory before.upper merge.upper
-  goes = change_goes fresh stack before whole new change asked
+  goes = change_goes fresh stack before whole new change it.asked
 
   pub numbers_in : (n : ℕ) → ListsNumbers nat_eq (filesystem_numbered nat_eq world n).files
   numbers_in n =
-      numbered_anyhow (λ (f : Filesystem ℕ). ListsNumbers nat_eq f.files) n world.filesystems conditions.files.numbers
+      numbered_anyhow (λ (f : Filesystem ℕ). ListsNumbers nat_eq f.files) n world.filesystems it.conditions.files.numbers
       (λ k. refl)
 
   -- the layers that are not the upper one
@@ -84,12 +76,12 @@ module _ (fresh : Fresh ℕ) (world : World ℕ) (location : Location ℕ) (chan
   IsOther layer = (Among layer (live_upper_and_work world) × (layer ≢ upper)) ⊎ Among layer (live_lowers nat_eq world)
 
   pub upper_live : Among upper (live_upper_and_work world)
-  upper_live = layer_among world upper_and_work number overlay is upper
-      (upper_is_layer world conditions number overlay is upper has)
+  upper_live = layer_among world upper_and_work number overlay it.is upper
+      (upper_is_layer world it.conditions number overlay it.is upper it.has)
 
   pub upper_plain : is_plain_layer nat_eq world upper ≡ true
-  upper_plain = layer_plain world conditions number overlay is upper
-      (upper_in_layers world conditions number overlay is upper has)
+  upper_plain = layer_plain world it.conditions number overlay it.is upper
+      (upper_in_layers world it.conditions number overlay it.is upper it.has)
 
   -- layers are directories of plain trees
   plain_of : (some_layers : Overlay ℕ → List (Layer ℕ))
@@ -101,7 +93,7 @@ module _ (fresh : Fresh ℕ) (world : World ℕ) (location : Location ℕ) (chan
       by found.0.overlay found.2 (among_from_list_all
       (of_overlay true (λ o. Rattle.std.specs.List.list_all (is_plain_layer nat_eq world) (layers_of o)))
       world.filesystems
-      conditions.overlays.plain_layers found.0 (among-from_filter is_overlay world.filesystems found.0 found.1).0)
+      it.conditions.overlays.plain_layers found.0 (among-from_filter is_overlay world.filesystems found.0 found.1).0)
     where
       by : (o : Option (Overlay ℕ)) → Among layer (overlay_or [] some_layers o)
           → overlay_or true (λ v. Rattle.std.specs.List.list_all (is_plain_layer nat_eq world) (layers_of v)) o ≡ true
@@ -149,27 +141,27 @@ module _ (fresh : Fresh ℕ) (world : World ℕ) (location : Location ℕ) (chan
 
   -- paths from the others lead where they led
   pub other_leads : (layer : Layer ℕ) → IsOther layer → LeadsAsBefore world later layer
-  other_leads layer other = leads_as_before world conditions layer (other_plain layer other) later (λ inode lies there.
-      inode_kept fresh world location change overlay upper conditions is has none
-      (WholeLater.spoken stack before change whole.tree asked) layer (other_plain layer other) inode there
+  other_leads layer other = leads_as_before world it.conditions layer (other_plain layer other) later (λ inode lies there.
+      inode_kept fresh world location change overlay upper it.conditions it.is it.has it.none
+      (WholeLater.spoken stack before change whole.tree it.asked) layer (other_plain layer other) inode there
       (λ same object.
       clash layer other upper.filesystem inode (subst (λ n. is_some (inode_in world n inode) ≡ true) (sym same) there)
-      (object_counts world conditions number overlay is upper has inode object)
+      (object_counts world it.conditions number overlay it.is upper it.has inode object)
       (subst (λ n. Lies layer n inode) (sym same) lies)))
 
   -- The trees afterwards
   pub plain_elsewhere : (layer : Layer ℕ) → is_plain_layer nat_eq world layer ≡ true → layer.filesystem ≢ number
   plain_elsewhere layer plain same = none_is_some overlay
-      (sym (no_overlay_in world conditions layer plain) ∙ ap (λ n. (filesystem_numbered nat_eq world n).overlay) same
-      ∙ is)
+      (sym (no_overlay_in world it.conditions layer plain) ∙ ap (λ n. (filesystem_numbered nat_eq world n).overlay) same
+      ∙ it.is)
 
   pub stays : (n : ℕ) → n ≢ number → n ≢ upper.filesystem
       → filesystem_numbered nat_eq later n ≡ filesystem_numbered nat_eq world n
   stays n no_number no_upper =
       Rattle.vt_laws_trees.proofs.layers.layers.LowersWorld.others_elsewhere fresh world location change n no_number
       (λ o u f g s. no_upper (s
-      ∙ ap (λ l. l.filesystem) (same_Some u upper (sym g ∙ ap (λ v. v.upper) (same_Some o overlay (sym f ∙ is))
-      ∙ has))))
+      ∙ ap (λ l. l.filesystem) (same_Some u upper (sym g ∙ ap (λ v. v.upper) (same_Some o overlay (sym f ∙ it.is))
+      ∙ it.has))))
 
   tree_later : (layer : Layer ℕ) → is_plain_layer nat_eq world layer ≡ true
       → IsTree (filesystem_numbered nat_eq later layer.filesystem).files.tree
@@ -183,7 +175,7 @@ module _ (fresh : Fresh ℕ) (world : World ℕ) (location : Location ℕ) (chan
       other : (nat_eq layer.filesystem upper.filesystem ≡ false) × (layer.filesystem ≢ upper.filesystem)
           → IsTree (filesystem_numbered nat_eq later layer.filesystem).files.tree
       other t = subst (λ f. IsTree f.files.tree) (sym (stays layer.filesystem (plain_elsewhere layer plain) t.1))
-          (layer_tree world conditions layer plain)
+          (layer_tree world it.conditions layer plain)
 
   -- what lies under a layer, by paths
   abbrev pub LedIn : World ℕ → Layer ℕ → ℕ → Type 0
@@ -205,7 +197,7 @@ module _ (fresh : Fresh ℕ) (world : World ℕ) (location : Location ℕ) (chan
       → LedIn world layer object → lies_in_layer nat_eq world n object layer ≡ true
   led_lies layer plain n object same way = and_from _ _ (eq-eqb n layer.filesystem same)
       (subst (λ k. is_under nat_eq (filesystem_numbered nat_eq world k).files layer.directory object ≡ true) (sym same)
-      (led_under (filesystem_numbered nat_eq world layer.filesystem).files (layer_tree world conditions layer plain)
+      (led_under (filesystem_numbered nat_eq world layer.filesystem).files (layer_tree world it.conditions layer plain)
       layer.directory (numbers_in layer.filesystem)
       (and_true_right (not (is_overlay (filesystem_numbered nat_eq world layer.filesystem))) _ plain) object way))
 
@@ -239,9 +231,9 @@ module _ (fresh : Fresh ℕ) (world : World ℕ) (location : Location ℕ) (chan
     Rattle.vt_spec.proofs.Trees.led-append before.upper.tree upper.directory way.0 name object next way.1 old,
   )) (λ leaf. absurd (⊎_elim (λ own. has_no_entry object name next own.1 old)
       (λ fresh_one. has_no_entry object name next (ap (λ n. is_directory_node (before.upper.tree.node n)) fresh_one.1
-      ∙ ap is_directory_node (none upper.filesystem fresh_one.0)) old) leaf)) placed) (⊎_elim
+      ∙ ap is_directory_node (it.none upper.filesystem fresh_one.0)) old) leaf)) placed) (⊎_elim
       (λ own. ⊎_elim (λ file. inr (inl ((own.0, own.1), file))) (λ way. inl way) own.2)
-      (λ fresh_one. inr (inr fresh_one))) (UpperOwn.told fresh stack before whole new change asked object name next e)
+      (λ fresh_one. inr (inr fresh_one))) (UpperOwn.told fresh stack before whole new change it.asked object name next e)
 
   placed_along : (path : List (List ℕ)) (from object : ℕ) → IsPlaced from → led merge.upper.tree from path ≡ Some object
       → IsPlaced object
@@ -252,7 +244,7 @@ module _ (fresh : Fresh ℕ) (world : World ℕ) (location : Location ℕ) (chan
       placed_along path step.0 object (placed_on from name step.0 placed step.1) step.2
 
   upper_counts : (object : ℕ) → IsUpperObject overlay object → Lies upper upper.filesystem object
-  upper_counts object own = object_counts world conditions number overlay is upper has object own
+  upper_counts object own = object_counts world it.conditions number overlay it.is upper it.has object own
 
   upper_lies : (n object : ℕ) → lies_in_layer nat_eq later n object upper ≡ true
       → Lies upper n object ⊎ IsNewBy fresh object
@@ -269,8 +261,7 @@ module _ (fresh : Fresh ℕ) (world : World ℕ) (location : Location ℕ) (chan
       → (f ≡ changed) ⊎ (Among f (overlays world) × (f.number ≢ number))
   overlay_then f m =
       let kept = among-from_filter is_overlay
-      (WholeLater.later fresh world location change overlay upper conditions is has distinct none asked).filesystems f
-      (subst (λ w. Among f (overlays w)) later_is m) in
+      (WholeLater.later it).filesystems f (subst (λ w. Among f (overlays w)) later_is m) in
       let one = among-from_map (replaced_if_numbered nat_eq changed_upper)
       (map (replaced_if_numbered nat_eq changed) world.filesystems) f kept.0 in
       let two = among-from_map (replaced_if_numbered nat_eq changed) world.filesystems one.0 one.1 in
@@ -286,7 +277,7 @@ module _ (fresh : Fresh ℕ) (world : World ℕ) (location : Location ℕ) (chan
       by old o over true e true g same = absurd (apart
           (sym (number_of_filesystem world upper.filesystem) ∙ eqb-true _ _ g ∙ number_of_filesystem world number))
       by old o over false e true g same = absurd (true≢false
-          (sym over ∙ ap (λ x. is_overlay x) same ∙ ap is_some (no_overlay_in world conditions upper upper_plain)))
+          (sym over ∙ ap (λ x. is_overlay x) same ∙ ap is_some (no_overlay_in world it.conditions upper upper_plain)))
       by old o over false e false g same = inr (
         subst (λ x. Among x (overlays world)) (sym same)
             (among-filter is_overlay world.filesystems old o (ap is_overlay (sym same) ∙ over)),
@@ -298,7 +289,7 @@ module _ (fresh : Fresh ℕ) (world : World ℕ) (location : Location ℕ) (chan
   pub own_number : (f : Filesystem ℕ) → Among f world.filesystems → filesystem_numbered nat_eq world f.number ≡ f
   own_number f m =
       ap (λ o. Rattle.std.specs.Prelude.unwrap_or o (Rattle.vt_spec.specs.Machine.World.no_filesystem f.number))
-      (by world.filesystems conditions.files.one_filesystem m)
+      (by world.filesystems it.conditions.files.one_filesystem m)
     where
       by : (fs : List (Filesystem ℕ)) → any_pair (λ (a b : Filesystem ℕ). nat_eq a.number b.number) fs ≡ false
           → Among f fs → Rattle.std.specs.Prelude.find (λ (g : Filesystem ℕ). nat_eq f.number g.number) fs ≡ Some f
@@ -349,7 +340,7 @@ module _ (fresh : Fresh ℕ) (world : World ℕ) (location : Location ℕ) (chan
       led_there : lies_in_layer nat_eq world n object layer ≡ true → is_some (inode_in world n object) ≡ true
       led_there f =
           let same = eqb-true n layer.filesystem (and_true_left (nat_eq n layer.filesystem) _ f) in
-          let tree = layer_tree world conditions layer plain in
+          let tree = layer_tree world it.conditions layer plain in
           let way = under_led (filesystem_numbered nat_eq world layer.filesystem).files tree layer.directory object
           (subst (λ k. is_under nat_eq (filesystem_numbered nat_eq world k).files layer.directory object ≡ true) same
           (and_true_right (nat_eq n layer.filesystem) _ f)) in
@@ -369,7 +360,7 @@ module _ (fresh : Fresh ℕ) (world : World ℕ) (location : Location ℕ) (chan
           ap (λ x. x.overlay) here ∙ parts.is_of in
           subst (λ k. is_some (inode_in world k object) ≡ true) (sym real.0)
           (sym (ap (holds_of (λ l. is_there nat_eq world l.filesystem object)) parts.has_it)
-          ∙ (overlay_merges world conditions g.number parts.overlay_of of_it).upper_there real.1.0 object real.1.1)
+          ∙ (overlay_merges world it.conditions g.number parts.overlay_of of_it).upper_there real.1.0 object real.1.1)
 
   pub upper_itself : lies_in_layer nat_eq world upper.filesystem upper.directory upper ≡ true
   upper_itself = led_lies upper upper_plain upper.filesystem upper.directory refl ([], refl)
@@ -385,7 +376,7 @@ module _ (fresh : Fresh ℕ) (world : World ℕ) (location : Location ℕ) (chan
       ((n ≡ upper.filesystem) × ((k : ℕ) × (merge.real k ≡ Some (Upper object))))
   changed_parts w layer n object parts =
       let same = same_Some _ parts.overlay_of parts.is_of in
-      let one : upper ≡ parts.upper_of_it = same_Some upper parts.upper_of_it (sym has ∙ ap (λ v. v.upper) same
+      let one : upper ≡ parts.upper_of_it = same_Some upper parts.upper_of_it (sym it.has ∙ ap (λ v. v.upper) same
       ∙ parts.has_it) in
       let real = real_of_object changed parts.overlay_of parts.upper_of_it parts.has_it n object parts.object_of in (
         subst (λ u. lies_in_layer nat_eq w u.filesystem u.directory layer ≡ true) (sym one) parts.lies,
@@ -435,7 +426,7 @@ module _ (fresh : Fresh ℕ) (world : World ℕ) (location : Location ℕ) (chan
   counted_upper n object g parts (inl same) =
       let own = changed_parts later upper n object (subst (λ x. Counts later upper n object x) same parts) in
       ⊎_elim (λ was. inl (subst (λ k. Lies upper k object) (sym own.1.0) (upper_counts object (own.1.1.0, was)))) inr
-      (UpperOwn.objects fresh stack before whole new change asked own.1.1.0 object own.1.1.1)
+      (UpperOwn.objects fresh stack before whole new change it.asked own.1.1.0 object own.1.1.1)
   counted_upper n object g parts (inr old) = ⊎_elim (λ same. inl (counts_again upper n object g old.0 (record {
     overlay_of = parts.overlay_of;
     is_of = parts.is_of;
@@ -451,7 +442,7 @@ module _ (fresh : Fresh ℕ) (world : World ℕ) (location : Location ℕ) (chan
       parts.upper_of_it.directory refl ([], refl)))))
       (λ fresh_one. absurd (true≢false (sym (directory_there parts.upper_of_it (changed_plain parts.upper_of_it live))
       ∙ ap (λ k. is_some (inode_in world parts.upper_of_it.filesystem k)) fresh_one.1
-      ∙ ap is_some (none parts.upper_of_it.filesystem fresh_one.0))))
+      ∙ ap is_some (it.none parts.upper_of_it.filesystem fresh_one.0))))
       (upper_lies parts.upper_of_it.filesystem parts.upper_of_it.directory parts.lies))
       (same_layer parts.upper_of_it upper)
     where
@@ -479,7 +470,7 @@ module _ (fresh : Fresh ℕ) (world : World ℕ) (location : Location ℕ) (chan
       → IsNewBy fresh object → ⊥
   not_new layer plain n object lies fresh_one =
       true≢false (sym (is_there_if layer plain n object lies) ∙ ap (λ k. is_some (inode_in world n k)) fresh_one.1
-      ∙ ap is_some (none n fresh_one.0))
+      ∙ ap is_some (it.none n fresh_one.0))
 
   IsLive : Layer ℕ → Type 0
   IsLive layer = (layer ≡ upper) ⊎ IsOther layer
@@ -579,7 +570,7 @@ module _ (fresh : Fresh ℕ) (world : World ℕ) (location : Location ℕ) (chan
   changed_stay : any_pair (overlap nat_eq later) (live_upper_and_work later) ≡ false
   changed_stay = ap (any_pair (overlap nat_eq later)) (layers_same upper_and_work (λ o real. refl))
       ∙ no_pair_later (overlap nat_eq world) (overlap nat_eq later) (live_upper_and_work world)
-      (λ a b m n e. overlap_then a b (live_of a m) (live_of b n) e) conditions.overlays.changed_apart
+      (λ a b m n e. overlap_then a b (live_of a m) (live_of b n) e) it.conditions.overlays.changed_apart
 
   lowers_stay : list_any (overlaps_one_of nat_eq later (live_lowers nat_eq later)) (live_upper_and_work later) ≡ false
   lowers_stay = ap (list_any (overlaps_one_of nat_eq later (live_lowers nat_eq later)))
@@ -605,7 +596,7 @@ module _ (fresh : Fresh ℕ) (world : World ℕ) (location : Location ℕ) (chan
               && list_any (lies_or_counts_under nat_eq world a.filesystem y) (live_lowers nat_eq world))
               (filesystem_numbered nat_eq world a.filesystem).files.numbers
               (none_among (overlaps_one_of nat_eq world (live_lowers nat_eq world)) (live_upper_and_work world)
-              conditions.overlays.lowers_apart a m) x l)
+              it.conditions.overlays.lowers_apart a m) x l)
               (and_true_left (lies_or_counts_under nat_eq world a.filesystem x a) _ f)
               (any_from_among (lies_or_counts_under nat_eq world a.filesystem x) (live_lowers nat_eq world) b n
               (or_false_alone (lies_or_counts_under nat_eq world a.filesystem x b)
@@ -632,4 +623,4 @@ module _ (fresh : Fresh ℕ) (world : World ℕ) (location : Location ℕ) (chan
 
 pub layers_stay_apart : LayersStayApart
 layers_stay_apart fresh world location change overlay upper conditions is has distinct none asked =
-    stand_apart fresh world location change overlay upper conditions is has distinct none asked
+    stand_apart (changing fresh world location change overlay upper conditions is has distinct none asked)

@@ -115,7 +115,7 @@ change_reaches files (Remove d w object) conditions may number spares is reached
           (changes_keep_trees files (Remove d w object) conditions may) refl number spares is reached,
     )
 change_reaches files (Move from old to new object) conditions may number spares is reached =
-    let moves = moved_rearranged files from old to new object conditions may in (
+    let moves = moved_rearranged files conditions may in (
       moves.directories number ∙ is,
       rearranged_reached files.tree (changed nat_eq files (Move from old to new object)).tree _ _ moves
           (changes_keep_trees files (Move from old to new object) conditions may)

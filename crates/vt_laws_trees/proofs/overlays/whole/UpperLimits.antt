@@ -56,22 +56,22 @@ module _ (fresh : Fresh ℕ) (stack : Stack ℕ) (merge : Merge ℕ) (whole : Is
       → is_fit_tree (merge_changed nat_eq fresh stack merge change).upper ≡ true
   upper_sized (Make d w number node) asked fit =
       let there = directory_used merge.files.tree d asked.0.name_is_free.in_directory in
-      made_sized (odds fresh) stack (copied fresh stack merge whole distinct unused d there)
-      ((is_copied fresh stack merge whole distinct unused d there).sizes f h) d w number node fit.0 fit.1
+      made_sized (odds fresh) stack (copied fresh whole distinct unused d there)
+      ((is_copied fresh whole distinct unused d there).sizes f h) d w number node fit.0 fit.1
   upper_sized (AddName d w object) may fit =
-      let first = is_copied fresh stack merge whole distinct unused object may.is_there in
-      let one = copied fresh stack merge whole distinct unused object may.is_there in
+      let first = is_copied fresh whole distinct unused object may.is_there in
+      let one = copied fresh whole distinct unused object may.is_there in
       let there = subst (λ files. IsThere files d) (sym first.files)
       (directory_used merge.files.tree d may.name_is_free.in_directory) in
       let second = object_copied stack (odds fresh) (odds-distinct fresh distinct) one d first.whole
-      (still_unused fresh stack merge whole distinct unused object may.is_there) there in
+      (still_unused fresh whole distinct unused object may.is_there) there in
       let two = copied_up nat_eq (odds fresh) one d in
       name_sized two.upper (upper_of two d) w (upper_of two object) fit
       (second.copied.sizes (ap is_fit_tree first.files ∙ f) (first.sizes f h))
   upper_sized (Remove d w object) may fit =
       let there = directory_used merge.files.tree d (has_entries merge.files.tree d w object may.named) in
-      removed_sized (odds fresh) stack (copied fresh stack merge whole distinct unused d there)
-      ((is_copied fresh stack merge whole distinct unused d there).sizes f h) d w object
+      removed_sized (odds fresh) stack (copied fresh whole distinct unused d there)
+      ((is_copied fresh whole distinct unused d there).sizes f h) d w object
       (name_fits merge.files whole.numbers f d w object may.named)
   upper_sized (Move from old t to object) asked fit =
       let m = twice fresh stack merge whole distinct unused from old t to object asked.0 in

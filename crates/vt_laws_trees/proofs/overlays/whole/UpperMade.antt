@@ -13,9 +13,9 @@ use Rattle.vt_laws_trees.proofs.overlays.steps.WholeAttributes.{upper_real}
 use Rattle.vt_laws_trees.proofs.overlays.steps.WholeNames.{above_named, directory_stands, named_above, top_good}
 
 -- A directory of the overlay that names lead to, in the upper layer
-module _ (stack : Stack ℕ) (merge : Merge ℕ) (whole : IsWhole stack merge) (d ud : ℕ)
-    (real_d : merge.real d ≡ Some (Upper ud))
-    (way : List (List ℕ)) (there : number_at_path merge.files way ≡ Some d) where
+module _ {stack : Stack ℕ} {merge : Merge ℕ} (whole : IsWhole stack merge) (d ud : ℕ)
+    (real_d : merge.real d ≡ Some (Upper ud)) (way : List (List ℕ))
+    (there : number_at_path merge.files way ≡ Some d) where
   pub up_there : led merge.upper.tree stack.directory way ≡ Some ud
   up_there = named_above stack merge whole way d ud there real_d
 
@@ -99,8 +99,8 @@ made_goes fresh stack merge d w number node whole stands vacant may =
     let new : Node ℕ = record { attr = node.attr; content = content_with_parent ud node.content } in
     let first = make_over stack.directory merge.upper ud w (fresh 0) new (top_good stack merge whole)
     (directory_stands stack merge whole d ud real_d ∙ may.name_is_free.in_directory)
-    (up_reached stack merge whole d ud real_d reached.0 reached.1)
-    (plain_below stack merge whole d ud real_d reached.0 reached.1 w may.name_is_free.free) vacant
+    (up_reached whole d ud real_d reached.0 reached.1)
+    (plain_below whole d ud real_d reached.0 reached.1 w may.name_is_free.free) vacant
     (fits_above d ud node may.fits) in
     goes_both stack.directory merge.upper (changed nat_eq merge.upper (Make ud w (fresh 0) new)) _ first
     (mark_goes stack.directory (changed nat_eq merge.upper (Make ud w (fresh 0) new))
@@ -117,7 +117,7 @@ linked_goes stack merge d w object whole stands own may =
     let reached = may.name_is_free.reached in
     let good = top_good stack merge whole in
     let is = directory_stands stack merge whole d ud real_d ∙ may.name_is_free.in_directory in
-    let plain = plain_below stack merge whole d ud real_d reached.0 reached.1 w may.name_is_free.free in
+    let plain = plain_below whole d ud real_d reached.0 reached.1 w may.name_is_free.free in
     let free = freed stack.directory merge.upper good ud w plain in
     let first = freed_goes stack.directory merge.upper good ud w plain in
     subst (Goes stack.directory merge.upper) (freed_named merge.upper ud w (good.tree.in_order ud) uo)
@@ -126,7 +126,7 @@ linked_goes stack merge d w object whole stands own may =
       name_is_free = record {
         in_directory = freed_kind stack.directory merge.upper good ud w plain ud ∙ is;
         reached = freed_reached stack.directory merge.upper good ud w plain ud is
-            (up_reached stack merge whole d ud real_d reached.0 reached.1);
+            (up_reached whole d ud real_d reached.0 reached.1);
         free = freed_free stack.directory merge.upper good ud w plain;
       };
       is_there = freed_used stack.directory merge.upper good ud w plain uo ∙ whole.shown.upper_there object uo real_o;

@@ -43,9 +43,9 @@ moved_twice files from old to new object r named =
         (Rattle.vt_laws_trees.proofs.trees.ChangesNodes.part_stays files r (node_with_parent r) entries_in
         (Rattle.vt_spec.proofs.NodeChanges.entries-node_with_parent r) to) ∙ named
 
-module _ (fresh : Fresh ℕ) (stack : Stack ℕ) (merge : Merge ℕ) (whole : IsWhole stack merge) (f : ℕ) (old : List ℕ)
-    (t : ℕ) (new : List ℕ) (o : ℕ)
-    (stands_f : StandsInUpper merge f) (stands_t : StandsInUpper merge t) (stands_o : StandsInUpper merge o)
+module _ (fresh : Fresh ℕ) {stack : Stack ℕ} {merge : Merge ℕ} (whole : IsWhole stack merge) {f : ℕ}
+    {old : List ℕ} {t : ℕ} {new : List ℕ} {o : ℕ} (stands_f : StandsInUpper merge f)
+    (stands_t : StandsInUpper merge t) (stands_o : StandsInUpper merge o)
     (may : MayMove merge.files.tree f old t new o) (vacant : merge.upper.tree.node (fresh 0) ≡ None) where
   abbrev uf : ℕ
   uf = upper_of merge f
@@ -63,35 +63,35 @@ module _ (fresh : Fresh ℕ) (stack : Stack ℕ) (merge : Merge ℕ) (whole : Is
   good = top_good stack merge whole
 
   real_f : merge.real f ≡ Some (Upper uf)
-  real_f = WholeMovedTree.real_f fresh stack merge whole f old t new o stands_f stands_t stands_o may vacant
+  real_f = WholeMovedTree.real_f fresh whole stands_f stands_t stands_o may vacant
 
   real_t : merge.real t ≡ Some (Upper ut)
-  real_t = WholeMovedTree.real_t fresh stack merge whole f old t new o stands_f stands_t stands_o may vacant
+  real_t = WholeMovedTree.real_t fresh whole stands_f stands_t stands_o may vacant
 
   real_o : merge.real o ≡ Some (Upper uo)
-  real_o = WholeMovedTree.real_o fresh stack merge whole f old t new o stands_f stands_t stands_o may vacant
+  real_o = WholeMovedTree.real_o fresh whole stands_f stands_t stands_o may vacant
 
   uf_directory : IsDirectory merge.upper.tree uf
-  uf_directory = WholeMovedTree.uf_directory fresh stack merge whole f old t new o stands_f stands_t stands_o may vacant
+  uf_directory = WholeMovedTree.uf_directory fresh whole stands_f stands_t stands_o may vacant
 
   ut_directory : IsDirectory merge.upper.tree ut
-  ut_directory = WholeMovedTree.ut_directory fresh stack merge whole f old t new o stands_f stands_t stands_o may vacant
+  ut_directory = WholeMovedTree.ut_directory fresh whole stands_f stands_t stands_o may vacant
 
   named_up : entry_at merge.upper.tree uf old ≡ Some uo
-  named_up = WholeMovedTree.named_up fresh stack merge whole f old t new o stands_f stands_t stands_o may vacant
+  named_up = WholeMovedTree.named_up fresh whole stands_f stands_t stands_o may vacant
 
   uf_reached : IsReached merge.upper.tree uf
-  uf_reached = up_reached stack merge whole f uf real_f
-      (WholeMovedTree.from_way fresh stack merge whole f old t new o stands_f stands_t stands_o may vacant)
-      (WholeMovedTree.from_number fresh stack merge whole f old t new o stands_f stands_t stands_o may vacant)
+  uf_reached = up_reached whole f uf real_f
+      (WholeMovedTree.from_way fresh whole stands_f stands_t stands_o may vacant)
+      (WholeMovedTree.from_number fresh whole stands_f stands_t stands_o may vacant)
 
   ut_reached : IsReached merge.upper.tree ut
-  ut_reached = up_reached stack merge whole t ut real_t may.reached.0 may.reached.1
+  ut_reached = up_reached whole t ut real_t may.reached.0 may.reached.1
 
   -- what has the new name is another object
   other_there : entry_at merge.upper.tree ut new ≢ Some uo
   other_there e =
-      let found = named_below stack merge whole t ut real_t may.reached.0 may.reached.1 new uo e
+      let found = named_below whole t ut real_t may.reached.0 may.reached.1 new uo e
       (no_white_object (merge.files.tree.node o) (merge.upper.tree.node uo)
       (object_above stack merge whole o uo real_o)) in
       may.replaced_other (found.1 ∙ ap Some
@@ -111,7 +111,7 @@ module _ (fresh : Fresh ℕ) (stack : Stack ℕ) (merge : Merge ℕ) (whole : Is
       in_directory = kind ut ∙ ut_directory;
       reached = to;
       not_under = λ names e.
-          WholeMovedTree.not_under fresh stack merge whole f old t new o stands_f stands_t stands_o may vacant names
+          WholeMovedTree.not_under fresh whole stands_f stands_t stands_o may vacant names
           (led_kept base.tree merge.upper.tree told uo names ut e);
       replaced_other = λ e. other_there (told ut new uo e);
       replaced_empty = empty;
@@ -128,7 +128,7 @@ module _ (fresh : Fresh ℕ) (stack : Stack ℕ) (merge : Merge ℕ) (whole : Is
 
     uf_there : IsDirectory moved_up.tree uf × IsReached moved_up.tree uf
     uf_there = change_reaches base (Move uf old ut new uo) to_base.good.tree may_up uf (
-      λ same. WholeMovedTree.not_up fresh stack merge whole f old t new o stands_f stands_t stands_o may vacant []
+      λ same. WholeMovedTree.not_up fresh whole stands_f stands_t stands_o may vacant []
           (ap Some (sym same)),
       λ e. none_is_some uo (sym (no_entries base.tree uf (empty uf e) old) ∙ named),
     ) (kind uf ∙ uf_directory) from
@@ -145,8 +145,7 @@ module _ (fresh : Fresh ℕ) (stack : Stack ℕ) (merge : Merge ℕ) (whole : Is
             → cond b (Some uo) (cond (is_entry uf old uf old) None (entry_at base.tree uf old))
             ≡ cond (is_entry uf old uf old) None (entry_at base.tree uf old)
         by true e =
-            absurd (WholeMovedTree.two_names fresh stack merge whole f old t new o stands_f stands_t stands_o may vacant
-            uf old e itself)
+            absurd (WholeMovedTree.two_names fresh whole stands_f stands_t stands_o may vacant uf old e itself)
         by false e = refl
 
     plain : (r : ℕ) → entry_at moved_up.tree uf old ≡ Some r → is_directory_node (moved_up.tree.node r) ≡ false
@@ -177,7 +176,7 @@ module _ (fresh : Fresh ℕ) (stack : Stack ℕ) (merge : Merge ℕ) (whole : Is
           → Goes top merge.upper (with_mark nat_eq marks (name_left_by nat_eq left fresh stack
           (with_moved nat_eq (without_contents nat_eq merge.upper x) uf old ut new uo) uf old) uo)
       by None e left marks =
-          let plain = none_named stack merge whole t ut real_t may.reached.0 may.reached.1 new e in
+          let plain = none_named whole t ut real_t may.reached.0 may.reached.1 new e in
           moved_up_goes merge.upper (goes_none top merge.upper good) (λ d n k g. g) (λ k. refl)
           (λ k. refl) named_up uf_reached ut_reached
           (λ k g. entries_in-no_directory (merge.upper.tree.node k) (plain k g))
@@ -192,21 +191,21 @@ module _ (fresh : Fresh ℕ) (stack : Stack ℕ) (merge : Merge ℕ) (whole : Is
           (bare_reached merge.upper r good.tree leaf uf uf_directory uf_reached)
           (bare_reached merge.upper r good.tree leaf ut ut_directory ut_reached)
           (λ k g. ap (λ n. entries_in (base.tree.node n)) (one k g) ∙ bare_there merge.upper r good.tree leaf)
-          (λ g. own_no_top stack merge whole t ut real_t may.reached.0 may.reached.1 new r e may.replaced_empty
+          (λ g. own_no_top whole t ut real_t may.reached.0 may.reached.1 new r e may.replaced_empty
           (one top g)) left marks)
         where
           entry : entry_at merge.upper.tree ut new ≡ Some r
-          entry = own_entry stack merge whole t ut real_t may.reached.0 may.reached.1 new r e may.replaced_empty
+          entry = own_entry whole t ut real_t may.reached.0 may.reached.1 new r e may.replaced_empty
 
           leaf : (word : List ℕ) (k : ℕ) → entry_at merge.upper.tree r word ≡ Some k
               → is_directory_node (merge.upper.tree.node k) ≡ false
-          leaf = own_leaves stack merge whole t ut real_t may.reached.0 may.reached.1 new r e may.replaced_empty
+          leaf = own_leaves whole t ut real_t may.reached.0 may.reached.1 new r e may.replaced_empty
 
           base : FileTree ℕ
           base = bare merge.upper r good.tree leaf
 
           ut_apart : ut ≢ r
-          ut_apart = own_apart stack merge whole t ut real_t may.reached.0 may.reached.1 new r e may.replaced_empty
+          ut_apart = own_apart whole t ut real_t may.reached.0 may.reached.1 new r e may.replaced_empty
 
           uf_apart : uf ≢ r
           uf_apart same =

@@ -90,25 +90,25 @@ module _ (fresh : Fresh ℕ) (stack : Stack ℕ) (merge : Merge ℕ) (whole : Is
   told (Make d w number node) asked =
       let last = (merge_changed nat_eq fresh stack merge (Make d w number node)).upper in
       let there = directory_used merge.files.tree d asked.0.name_is_free.in_directory in
-      let one = copied fresh stack merge whole distinct unused d there in
+      let one = copied fresh whole distinct unused d there in
       told_both Own merge.upper one.upper last (new_own (evens fresh) (new_of_evens fresh) merge one
-      (is_copied fresh stack merge whole distinct unused d there).names)
+      (is_copied fresh whole distinct unused d there).names)
       (made_told Own (odds fresh) stack one (inr (1, refl)) d w number node (new_bare d node asked.0.fits))
   told (AddName d w object) may =
       let last = (merge_changed nat_eq fresh stack merge (AddName d w object)).upper in
-      let first = is_copied fresh stack merge whole distinct unused object may.is_there in
-      let one = copied fresh stack merge whole distinct unused object may.is_there in
+      let first = is_copied fresh whole distinct unused object may.is_there in
+      let one = copied fresh whole distinct unused object may.is_there in
       let there = subst (λ files. IsThere files d) (sym first.files)
       (directory_used merge.files.tree d may.name_is_free.in_directory) in
       let second = object_copied stack (odds fresh) (odds-distinct fresh distinct) one d first.whole
-      (still_unused fresh stack merge whole distinct unused object may.is_there) there in
+      (still_unused fresh whole distinct unused object may.is_there) there in
       let two = copied_up nat_eq (odds fresh) one d in
       told_both Own merge.upper one.upper last (new_own (evens fresh) (new_of_evens fresh) merge one first.names)
       (told_both Own one.upper two.upper last (new_own (odds fresh) (new_of_odds fresh) one two second.copied.names)
       (told_name Own two.upper (upper_of two d) w (upper_of two object)
       (placed two object (λ n o e. objects_of_two one two first.objects second.copied.objects n o e)
       (λ o e. inl (directory_stands stack merge whole object o e ∙ may.no_directory))
-      (second.copied.grows object (stands_now fresh stack merge whole distinct unused object may.is_there)))))
+      (second.copied.grows object (stands_now fresh whole distinct unused object may.is_there)))))
     where
       objects_of_two : (one two : Merge ℕ)
           → ((n o : ℕ) → one.real n ≡ Some (Upper o) → (merge.real n ≡ Some (Upper o)) ⊎ IsNewBy (evens fresh) o)
@@ -120,9 +120,9 @@ module _ (fresh : Fresh ℕ) (stack : Stack ℕ) (merge : Merge ℕ) (whole : Is
   told (Remove d w object) may =
       let last = (merge_changed nat_eq fresh stack merge (Remove d w object)).upper in
       let there = directory_used merge.files.tree d (has_entries merge.files.tree d w object may.named) in
-      let one = copied fresh stack merge whole distinct unused d there in
+      let one = copied fresh whole distinct unused d there in
       told_both Own merge.upper one.upper last (new_own (evens fresh) (new_of_evens fresh) merge one
-      (is_copied fresh stack merge whole distinct unused d there).names)
+      (is_copied fresh whole distinct unused d there).names)
       (removed_told Own (odds fresh) stack one (inr (1, refl)) d w object)
   told (Move f old t to object) asked =
       let last = (merge_changed nat_eq fresh stack merge (Move f old t to object)).upper in
@@ -163,19 +163,19 @@ module _ (fresh : Fresh ℕ) (stack : Stack ℕ) (merge : Merge ℕ) (whole : Is
           → (merge.real n ≡ Some (Upper object)) ⊎ IsNewBy fresh object
       by true e = inr (1, sym (same_Some (odds fresh 0) object (ap upper_object e)))
       by false e = ⊎_elim inl (λ g. inr (new_of_evens fresh object g))
-          ((is_copied fresh stack merge whole distinct unused d
+          ((is_copied fresh whole distinct unused d
           (directory_used merge.files.tree d asked.0.name_is_free.in_directory)).objects n object e)
   objects (AddName d w o) may n object e =
-      let first = is_copied fresh stack merge whole distinct unused o may.is_there in
-      let one = copied fresh stack merge whole distinct unused o may.is_there in
+      let first = is_copied fresh whole distinct unused o may.is_there in
+      let one = copied fresh whole distinct unused o may.is_there in
       let there = subst (λ files. IsThere files d) (sym first.files)
       (directory_used merge.files.tree d may.name_is_free.in_directory) in
       let second = object_copied stack (odds fresh) (odds-distinct fresh distinct) one d first.whole
-      (still_unused fresh stack merge whole distinct unused o may.is_there) there in
+      (still_unused fresh whole distinct unused o may.is_there) there in
       ⊎_elim (λ f. ⊎_elim inl (λ g. inr (new_of_evens fresh object g)) (first.objects n object f))
       (λ g. inr (new_of_odds fresh object g)) (second.copied.objects n object e)
   objects (Remove d w o) may n object e = ⊎_elim inl (λ g. inr (new_of_evens fresh object g))
-      ((is_copied fresh stack merge whole distinct unused d
+      ((is_copied fresh whole distinct unused d
       (directory_used merge.files.tree d (has_entries merge.files.tree d w o may.named))).objects n object e)
   objects (Move f old t to o) asked n object e =
       (twice fresh stack merge whole distinct unused f old t to o asked.0).objects n object e

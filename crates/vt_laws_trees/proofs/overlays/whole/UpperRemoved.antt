@@ -28,14 +28,14 @@ named_no_top stack merge whole d w object uo named real same =
     ∙ ap merge.real (sym (same_Some merge.files.tree.root root.0 root.1)))))
 
 -- A name in a directory of the overlay that names lead to
-module _ (stack : Stack ℕ) (merge : Merge ℕ) (whole : IsWhole stack merge) (d ud : ℕ)
-    (real_d : merge.real d ≡ Some (Upper ud))
-    (way : List (List ℕ)) (there : number_at_path merge.files way ≡ Some d) (w : List ℕ) where
+module _ {stack : Stack ℕ} {merge : Merge ℕ} (whole : IsWhole stack merge) (d ud : ℕ)
+    (real_d : merge.real d ≡ Some (Upper ud)) (way : List (List ℕ))
+    (there : number_at_path merge.files way ≡ Some d) (w : List ℕ) where
   -- a directory of the upper layer that has it is the overlay's
   pub own_named : (k : ℕ) → entry_at merge.upper.tree ud w ≡ Some k → is_directory_node (merge.upper.tree.node k) ≡ true
       → upper_directory_named merge d w ≡ Some k
   own_named k e is =
-      let found = named_below stack merge whole d ud real_d way there w k e
+      let found = named_below whole d ud real_d way there w k e
       (directory_no_whiteout (merge.upper.tree.node k) is) in
       grind (arith, common_steps, directory_stands, is)
 
@@ -66,7 +66,7 @@ module _ (stack : Stack ℕ) (merge : Merge ℕ) (whole : IsWhole stack merge) (
         by : (b : Bool) → is_directory_node (merge.upper.tree.node k) ≡ b
             → is_directory_node (merge.upper.tree.node k) ≡ false
         by true dir =
-            let found = named_below stack merge whole own.0 r own.2 (way ++ w ∷ [])
+            let found = named_below whole own.0 r own.2 (way ++ w ∷ [])
             (led-append merge.files.tree merge.files.tree.root way w d own.0 there own.1) word k e
             (directory_no_whiteout (merge.upper.tree.node k) dir) in
             none_is_some found.0 (sym (no_entries merge.files.tree own.0 (empty own.0 own.1) word) ∙ found.1)
@@ -188,7 +188,7 @@ removed_goes fresh stack merge d w object whole stands vacant may =
         way_to merge.files.tree reached.0 d reached.1
 
     reached : IsReached merge.upper.tree (upper_of merge d)
-    reached = up_reached stack merge whole d (upper_of merge d) real_d way.0 way.1
+    reached = up_reached whole d (upper_of merge d) real_d way.0 way.1
 
     is : IsDirectory merge.upper.tree (upper_of merge d)
     is = directory_stands stack merge whole d (upper_of merge d) real_d
@@ -200,18 +200,18 @@ removed_goes fresh stack merge d w object whole stands vacant may =
     by : (o : Option ℕ) → upper_directory_named merge d w ≡ o → (b : Bool) → Goes stack.directory merge.upper
         (without_contents nat_eq (name_left_by nat_eq b fresh stack merge.upper (upper_of merge d) w) o)
     by None e false = freed_goes stack.directory merge.upper good (upper_of merge d) w
-        (none_named stack merge whole d (upper_of merge d) real_d way.0 way.1 w e)
+        (none_named whole d (upper_of merge d) real_d way.0 way.1 w e)
     by None e true =
         make_over stack.directory merge.upper (upper_of merge d) w (fresh 0) (whiteout_of stack.mounter) good is reached
-        (none_named stack merge whole d (upper_of merge d) real_d way.0 way.1 w e) vacant (inr refl)
+        (none_named whole d (upper_of merge d) real_d way.0 way.1 w e) vacant (inr refl)
     by (Some r) e false = left_bare stack.directory merge.upper good (upper_of merge d) w r
-        (own_entry stack merge whole d (upper_of merge d) real_d way.0 way.1 w r e empty)
-        (own_leaves stack merge whole d (upper_of merge d) real_d way.0 way.1 w r e empty)
-        (own_apart stack merge whole d (upper_of merge d) real_d way.0 way.1 w r e empty)
-        (own_no_top stack merge whole d (upper_of merge d) real_d way.0 way.1 w r e empty) reached
+        (own_entry whole d (upper_of merge d) real_d way.0 way.1 w r e empty)
+        (own_leaves whole d (upper_of merge d) real_d way.0 way.1 w r e empty)
+        (own_apart whole d (upper_of merge d) real_d way.0 way.1 w r e empty)
+        (own_no_top whole d (upper_of merge d) real_d way.0 way.1 w r e empty) reached
     by (Some r) e true = left_white stack.directory merge.upper good (upper_of merge d) w r
-        (own_entry stack merge whole d (upper_of merge d) real_d way.0 way.1 w r e empty)
-        (own_leaves stack merge whole d (upper_of merge d) real_d way.0 way.1 w r e empty)
-        (own_apart stack merge whole d (upper_of merge d) real_d way.0 way.1 w r e empty)
-        (own_no_top stack merge whole d (upper_of merge d) real_d way.0 way.1 w r e empty) reached (fresh 0) vacant
+        (own_entry whole d (upper_of merge d) real_d way.0 way.1 w r e empty)
+        (own_leaves whole d (upper_of merge d) real_d way.0 way.1 w r e empty)
+        (own_apart whole d (upper_of merge d) real_d way.0 way.1 w r e empty)
+        (own_no_top whole d (upper_of merge d) real_d way.0 way.1 w r e empty) reached (fresh 0) vacant
         (whiteout_of stack.mounter) (inr refl)

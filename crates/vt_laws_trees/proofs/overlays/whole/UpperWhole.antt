@@ -59,7 +59,7 @@ remove_keeps_whole fresh stack merge d w object whole stands vacant may =
 pub move_keeps_whole : MoveKeepsWhole
 move_keeps_whole fresh stack merge f old t new o whole from to own vacant may alone =
     whole_by stack merge (merge_with_moved nat_eq fresh stack merge f old t new o) (Move f old t new o) whole refl may
-    (moved_goes fresh stack merge whole f old t new o from to own may vacant).good
+    (moved_goes fresh whole from to own may vacant).good
     (move_keeps_shown fresh stack merge f old t new o whole from to own vacant may alone)
 
 -- what a change asks of its own tree
@@ -81,42 +81,40 @@ module _ (fresh : Fresh ℕ) (stack : Stack ℕ) (merge : Merge ℕ) (whole : Is
       → Goes stack.directory merge.upper (merge_changed nat_eq fresh stack merge change).upper
   change_goes (Make d w number node) asked =
       let there = directory_used merge.files.tree d asked.0.name_is_free.in_directory in
-      let is = is_copied fresh stack merge whole distinct unused d there in
-      let one = copied fresh stack merge whole distinct unused d there in
+      let is = is_copied fresh whole distinct unused d there in
+      let one = copied fresh whole distinct unused d there in
       goes_both stack.directory merge.upper one.upper _ is.upper
-      (made_goes (odds fresh) stack one d w number node is.whole
-      (stands_now fresh stack merge whole distinct unused d there)
-      (still_unused fresh stack merge whole distinct unused d there 0)
+      (made_goes (odds fresh) stack one d w number node is.whole (stands_now fresh whole distinct unused d there)
+      (still_unused fresh whole distinct unused d there 0)
       (subst (λ files. MayMake files.tree d w number node) (sym is.files) asked.0))
   change_goes (AddName d w object) may =
-      let first = is_copied fresh stack merge whole distinct unused object may.is_there in
-      let one = copied fresh stack merge whole distinct unused object may.is_there in
+      let first = is_copied fresh whole distinct unused object may.is_there in
+      let one = copied fresh whole distinct unused object may.is_there in
       let there = subst (λ files. IsThere files d) (sym first.files)
       (directory_used merge.files.tree d may.name_is_free.in_directory) in
       let second = object_copied stack (odds fresh) (odds-distinct fresh distinct) one d first.whole
-      (still_unused fresh stack merge whole distinct unused object may.is_there) there in
+      (still_unused fresh whole distinct unused object may.is_there) there in
       let two = copied_up nat_eq (odds fresh) one d in
       goes_both stack.directory merge.upper one.upper _ first.upper
       (goes_both stack.directory one.upper two.upper _ second.copied.upper
       (linked_goes stack two d w object second.copied.whole
       (stands_copied stack (odds fresh) (odds-distinct fresh distinct) one d first.whole
-      (still_unused fresh stack merge whole distinct unused object may.is_there) there)
-      (second.copied.grows object (stands_now fresh stack merge whole distinct unused object may.is_there))
+      (still_unused fresh whole distinct unused object may.is_there) there)
+      (second.copied.grows object (stands_now fresh whole distinct unused object may.is_there))
       (subst (λ files. MayAddName files.tree d w object) (sym (second.copied.files ∙ first.files)) may)))
   change_goes (Remove d w object) may =
       let there = directory_used merge.files.tree d (has_entries merge.files.tree d w object may.named) in
-      let is = is_copied fresh stack merge whole distinct unused d there in
-      let one = copied fresh stack merge whole distinct unused d there in
+      let is = is_copied fresh whole distinct unused d there in
+      let one = copied fresh whole distinct unused d there in
       goes_both stack.directory merge.upper one.upper _ is.upper
-      (removed_goes (odds fresh) stack one d w object is.whole
-      (stands_now fresh stack merge whole distinct unused d there)
-      (still_unused fresh stack merge whole distinct unused d there 0)
+      (removed_goes (odds fresh) stack one d w object is.whole (stands_now fresh whole distinct unused d there)
+      (still_unused fresh whole distinct unused d there 0)
       (subst (λ files. MayRemove files.tree d w object) (sym is.files) may))
   change_goes (Move f old t new o) asked =
       let m = twice fresh stack merge whole distinct unused f old t new o asked.0 in
       let two = both_copied fresh stack merge f old t new o in
       goes_both stack.directory merge.upper two.upper _ m.upper
-      (moved_goes (odds (odds fresh)) stack two m.whole f old t new o m.from m.to m.object m.may m.vacant)
+      (moved_goes (odds (odds fresh)) m.whole m.from m.to m.object m.may m.vacant)
   change_goes (SetBytes file bytes) there =
       let is = (object_copied stack fresh distinct merge file whole unused there).copied in
       let one = copied_up nat_eq fresh merge file in
@@ -134,18 +132,18 @@ module _ (fresh : Fresh ℕ) (stack : Stack ℕ) (merge : Merge ℕ) (whole : Is
   pub files_changed : (change : Change ℕ) → IsAskedWell stack merge change
       → changed nat_eq merge.files change ≡ (merge_changed nat_eq fresh stack merge change).files
   files_changed (Make d w number node) asked = ap (λ files. changed nat_eq files (Make d w number node))
-      (sym (is_copied fresh stack merge whole distinct unused d
+      (sym (is_copied fresh whole distinct unused d
       (directory_used merge.files.tree d asked.0.name_is_free.in_directory)).files)
   files_changed (AddName d w object) may =
-      let first = is_copied fresh stack merge whole distinct unused object may.is_there in
-      let one = copied fresh stack merge whole distinct unused object may.is_there in
+      let first = is_copied fresh whole distinct unused object may.is_there in
+      let one = copied fresh whole distinct unused object may.is_there in
       let there = subst (λ files. IsThere files d) (sym first.files)
       (directory_used merge.files.tree d may.name_is_free.in_directory) in
       let second = object_copied stack (odds fresh) (odds-distinct fresh distinct) one d first.whole
-      (still_unused fresh stack merge whole distinct unused object may.is_there) there in
+      (still_unused fresh whole distinct unused object may.is_there) there in
       ap (λ files. changed nat_eq files (AddName d w object)) (sym (second.copied.files ∙ first.files))
   files_changed (Remove d w object) may = ap (λ files. changed nat_eq files (Remove d w object))
-      (sym (is_copied fresh stack merge whole distinct unused d
+      (sym (is_copied fresh whole distinct unused d
       (directory_used merge.files.tree d (has_entries merge.files.tree d w object may.named))).files)
   files_changed (Move f old t new o) asked = ap (λ files. changed nat_eq files (Move f old t new o))
       (sym (twice fresh stack merge whole distinct unused f old t new o asked.0).files)

@@ -29,7 +29,7 @@ module _ (fresh : Fresh ℕ) (one other : World ℕ) (same : Alike one other)
 
     permitted_alike : (judgement : Judgement ℕ) → OutcomesAlike (after one judgement (apply nat_eq fresh one task))
         (after other judgement (apply nat_eq fresh other again))
-    permitted_alike (Ok permit) = apply_alike fresh one other same copies task again alike permit
+    permitted_alike (Ok permit) = apply_alike fresh same copies task again alike permit
     permitted_alike (Err deny) = record { answer = refl; worlds = same }
 
     -- the outcome before the last step

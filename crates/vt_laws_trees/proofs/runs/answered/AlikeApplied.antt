@@ -13,7 +13,7 @@ pub record OutcomesAlike (one other : Outcome ℕ) : Type 0 where
   pub answer : one.answer ≡ other.answer
   pub worlds : Alike one.world other.world
 
-module _ (fresh : Fresh ℕ) (one other : World ℕ) (same : Alike one other) (copies : CopiesAlike one other)
+module _ (fresh : Fresh ℕ) {one other : World ℕ} (same : Alike one other) (copies : CopiesAlike one other)
     (task again : Task ℕ) (alike : SameTask task again) where
   done : (world left : World ℕ) → Alike world left → OutcomesAlike (granted Done world) (granted Done left)
   done world left worlds = record { answer = refl; worlds = worlds }

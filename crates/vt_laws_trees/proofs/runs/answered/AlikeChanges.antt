@@ -69,7 +69,7 @@ copies_stay one other first second left right copies =
     (record second { filesystems = filesystems })) (sym right) copies)
 
 -- A change of an overlay and its upper layer
-module _ (one other : World ℕ) (same : Alike one other) (fresh : Fresh ℕ) (first second : Filesystem ℕ)
+module _ {one other : World ℕ} (same : Alike one other) (fresh : Fresh ℕ) {first second : Filesystem ℕ}
     (here : SameFilesystem first second) (change : Change ℕ) where
   plain_alike : Alike (with_filesystem nat_eq one (with_files first (changed nat_eq first.files change)))
       (with_filesystem nat_eq other (with_files second (changed nat_eq second.files change)))
@@ -142,8 +142,7 @@ change_alike one other same copies fresh location change =
     subst (λ mount. Alike (with_change nat_eq fresh one location change)
     (filesystem_changed nat_eq fresh other (filesystem_numbered nat_eq other mount.filesystem)
     (filesystem_numbered nat_eq other mount.filesystem).overlay change)) (mount_same one other same location)
-    (filesystem_alike one other same fresh _ _
-    (found_alike one other same (mount_at nat_eq one location).filesystem) change _ _
+    (filesystem_alike same fresh (found_alike one other same (mount_at nat_eq one location).filesystem) change _ _
     (found_alike one other same (mount_at nat_eq one location).filesystem).overlay
     (copies (mount_at nat_eq one location).filesystem))
 

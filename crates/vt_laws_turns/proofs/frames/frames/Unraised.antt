@@ -85,7 +85,7 @@ module _ (world : World ℕ) (fresh : Fresh ℕ) (given : IsCallIn world fresh) 
         kept n at old true e now =
             let same : n.number ≡ number = sym (eqb-true number n.number at) in
             lists_same world (settled nat_eq applied)
-            (swept_show_alike world fresh task call permit given.is given.serves called granted) number
+            (swept_show_alike task call permit given.is given.serves called granted) number
             (mounts_of nat_eq world number) (mounts_of nat_eq (settled nat_eq applied) number)
             (λ x m. among-from_filter (λ (mount : Mount ℕ). holds_of (nat_eq number) mount.namespace) world.mounts x m)
             (λ y m. among-from_filter (λ (mount : Mount ℕ). holds_of (nat_eq number) mount.namespace)

@@ -8,6 +8,7 @@ use Rattle.vt_laws_mounts.proofs.letting_go.Chains.{Way, chains_alike}
 use Rattle.vt_laws_mounts.proofs.letting_go.Chains.Way.{ends, goes_on}
 use Rattle.vt_laws_mounts.proofs.letting_go.Lists.{find_none}
 use Rattle.vt_laws_mounts.proofs.namespaces.Unsharing.{itself, placed_inside, stands_itself}
+use Rattle.vt_laws_trees.proofs.trees.Lists.{length-filter_le}
 use Rattle.vt_laws_worlds.proofs.worlds.Reached.{namespace_below}
 
 -- what is kept is found as before, if all that may be found is kept
@@ -16,10 +17,6 @@ find_where : {A : Type 0} (p q : A → Bool) (xs : List A) → ((x : A) → Amon
 find_where p q [] all = refl
 find_where p q (x ∷ xs) all =
     grind (arith, common_steps, filter_here, filter_skip, true≢false, find_where p q xs (λ y m. all y (inr m)))
-
-filter_shorter : {A : Type 0} (q : A → Bool) (xs : List A) → length (filter q xs) ≤ length xs
-filter_shorter q [] = omega arith
-filter_shorter q (x ∷ xs) = grind (arith, common_steps, filter_here, filter_skip, filter_shorter q xs)
 
 -- what each step of a chain keeps
 module _ {A : Type 0} (P : A → Type 0) (next : A → Option A) (step : (a b : A) → P a → next a ≡ Some b → P b) where
@@ -102,10 +99,10 @@ module _ (world later : World ℕ) (is : MountInvariants nat_eq world) (are : Mo
   there = map (λ (mount : Mount ℕ). suc mount.number) (mounts_of nat_eq world namespace)
 
   few : length there ≤ length world.mounts
-  few = grind (arith, common_steps, length-map, filter_shorter)
+  few = grind (arith, common_steps, length-map, length-filter_le)
 
   few_later : length there ≤ length later.mounts
-  few_later = grind (arith, common_steps, length-map, filter_shorter)
+  few_later = grind (arith, common_steps, length-map, length-filter_le)
 
   by_key : (a b : Location ℕ) → key a ≡ key b → up world a ≡ up world b
   by_key a b e = by (child_at nat_eq world.mounts a) (child_at nat_eq world.mounts b) refl refl e

@@ -51,7 +51,7 @@ at_the_same one other tree other_tree same path =
 
 -- Two overlays that are what layers show, each path with one real object in both: where two paths lead to one inode of
 -- the one, they do in the other.
-module _ (world later : World ℕ) (one other : Filesystem ℕ) (overlay another : Overlay ℕ)
+module _ {world later : World ℕ} {one other : Filesystem ℕ} {overlay another : Overlay ℕ}
     (is : IsMerged nat_eq world one overlay) (is_other : IsMerged nat_eq later other another)
     (other_tree : IsTree other.files.tree)
     (seen : (path : List (List ℕ)) → real_shown nat_eq world overlay path ≡ real_shown nat_eq later another path)
@@ -120,9 +120,9 @@ module _ (fresh : Fresh ℕ) (before later : World ℕ) (number : ℕ) (left ane
 
   links : LinkTheSame new old
   links path another = (
-    links_along later before new old made_so left (made_merged later later_conditions anew layered fresh distinct)
+    links_along (made_merged later later_conditions anew layered fresh distinct)
         (conditions.overlays.overlays_merge number left is) old_tree seen together path another,
-    links_along before later old new left made_so (conditions.overlays.overlays_merge number left is)
+    links_along (conditions.overlays.overlays_merge number left is)
         (made_merged later later_conditions anew layered fresh distinct) new_tree
         (λ way. sym (seen way)) (λ way. sym (together way)) path another,
   )

@@ -60,7 +60,7 @@ module _ (stack : Stack ℕ) (m : Merge ℕ) (whole : IsWhole stack m) where
       by : (b : Bool) → is_in_upper m n ≡ b → led_above stack m.upper path ≡ upper_object (m.real n)
       by true stands = named_above stack m whole path n (upper_of m n) e (upper_real m n stands)
           ∙ sym (ap upper_object (upper_real m n stands))
-      by false low = led_none (λ k. k) stack m whole n (path_there stack m whole path n e) path e low
+      by false low = led_none (λ k. k) whole n (path_there stack m whole path n e) path e low
           ∙ sym (none_from_not_some (upper_object (m.real n)) low)
 
   -- the inode of a directory that lower layers show

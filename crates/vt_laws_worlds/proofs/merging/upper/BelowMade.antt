@@ -97,8 +97,8 @@ marked_hides files c b e used = ap (λ x. hides ((with_mark nat_eq x files c).tr
     ∙ ap hides (node_set files.tree c (node_with_mark true (files.tree.node c))) ∙ mark_hides (files.tree.node c) used
 
 -- A new object
-module _ (fresh : Fresh ℕ) (stack : Stack ℕ) (m : Merge ℕ) (whole : IsWhole stack m) (d : ℕ) (w : List ℕ) (number : ℕ)
-    (node : Node ℕ) (stands : StandsInUpper m d) (vacant : m.upper.tree.node (fresh 0) ≡ None)
+module _ (fresh : Fresh ℕ) {stack : Stack ℕ} {m : Merge ℕ} (whole : IsWhole stack m) {d : ℕ} {w : List ℕ}
+    {number : ℕ} {node : Node ℕ} (stands : StandsInUpper m d) (vacant : m.upper.tree.node (fresh 0) ≡ None)
     (may : MayMake m.files.tree d w number node)
     (whole_later : IsWhole stack (merge_with_new nat_eq fresh stack m d w number node)) where
   abbrev later : Merge ℕ
@@ -189,8 +189,9 @@ module _ (fresh : Fresh ℕ) (stack : Stack ℕ) (m : Merge ℕ) (whole : IsWhol
           (λ front rest n is. hiding front n)
 
 -- A further name
-module _ (stack : Stack ℕ) (m : Merge ℕ) (whole : IsWhole stack m) (d : ℕ) (w : List ℕ) (object : ℕ)
-    (may : MayAddName m.files.tree d w object) (whole_later : IsWhole stack (merge_with_link nat_eq m d w object)) where
+module _ {stack : Stack ℕ} {m : Merge ℕ} (whole : IsWhole stack m) {d : ℕ} {w : List ℕ} {object : ℕ}
+    (may : MayAddName m.files.tree d w object)
+    (whole_later : IsWhole stack (merge_with_link nat_eq m d w object)) where
   abbrev further : Merge ℕ
   further = merge_with_link nat_eq m d w object
 

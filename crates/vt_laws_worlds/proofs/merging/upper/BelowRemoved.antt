@@ -67,8 +67,8 @@ left_alike fresh stack upper false directory name u differ =
     alike_after upper directory (node_without_entry name) (without_entry_keeps name) u
 
 -- A removed name
-module _ (fresh : Fresh ℕ) (stack : Stack ℕ) (m : Merge ℕ) (whole : IsWhole stack m) (d : ℕ) (w : List ℕ) (object : ℕ)
-    (vacant : m.upper.tree.node (fresh 0) ≡ None) (may : MayRemove m.files.tree d w object)
+module _ (fresh : Fresh ℕ) {stack : Stack ℕ} {m : Merge ℕ} (whole : IsWhole stack m) {d : ℕ} {w : List ℕ}
+    {object : ℕ} (vacant : m.upper.tree.node (fresh 0) ≡ None) (may : MayRemove m.files.tree d w object)
     (whole_later : IsWhole stack (merge_without_name nat_eq fresh stack m d w object)) where
   abbrev later : Merge ℕ
   later = merge_without_name nat_eq fresh stack m d w object

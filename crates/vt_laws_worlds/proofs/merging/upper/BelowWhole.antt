@@ -44,7 +44,7 @@ module _ (fresh : Fresh ℕ) (stack : Stack ℕ) (merge : Merge ℕ) (whole : Is
       → AreNew (odds fresh) (copied_up nat_eq (evens fresh) merge object).upper
   odds_new object there = record {
     distinct = odds-distinct fresh new.distinct;
-    unused = still_unused fresh stack merge whole new.distinct new.unused object there;
+    unused = still_unused fresh whole new.distinct new.unused object there;
   }
 
   -- A removed name
@@ -57,10 +57,10 @@ module _ (fresh : Fresh ℕ) (stack : Stack ℕ) (merge : Merge ℕ) (whole : Is
     one = copied_up nat_eq (evens fresh) merge d
 
     one_whole : IsWhole stack one
-    one_whole = (is_copied fresh stack merge whole new.distinct new.unused d there).whole
+    one_whole = (is_copied fresh whole new.distinct new.unused d there).whole
 
     one_files : one.files ≡ merge.files
-    one_files = (is_copied fresh stack merge whole new.distinct new.unused d there).files
+    one_files = (is_copied fresh whole new.distinct new.unused d there).files
 
     one_is : LeadsToDirectory one path d
     one_is = (
@@ -85,15 +85,15 @@ module _ (fresh : Fresh ℕ) (stack : Stack ℕ) (merge : Merge ℕ) (whole : Is
             → goes_through (view_in one.files one.files.tree.root) d w way ≡ b
             → seen_below stack after_remove (way ++ name ∷ []) ≡ seen_below stack one.upper (way ++ name ∷ [])
         by way name out true e = absurd (out (through_under stack one one_whole path d one_is w way name e))
-        by way name out false e = removed_kept (odds fresh) stack one one_whole d w object
-            (still_unused fresh stack merge whole new.distinct new.unused d there 0) one_may
+        by way name out false e = removed_kept (odds fresh) one_whole
+            (still_unused fresh whole new.distinct new.unused d there 0) one_may
             (whole_after (Remove d w object) may) way name e
 
     remove_ends : (p : List (List ℕ)) → LiesUnder (path ++ w ∷ []) p → seen_below stack after_remove p ≡ None
     remove_ends p under =
         let found = under_through stack one one_whole path d one_is w p under in
-        ap (seen_below stack after_remove) (sym found.2) ∙ removed_ends (odds fresh) stack one one_whole d w object
-        (still_unused fresh stack merge whole new.distinct new.unused d there 0) one_may
+        ap (seen_below stack after_remove) (sym found.2) ∙ removed_ends (odds fresh) one_whole
+        (still_unused fresh whole new.distinct new.unused d there 0) one_may
         (whole_after (Remove d w object) may) found.0 found.1 found.3
 
   -- A move
@@ -131,7 +131,7 @@ module _ (fresh : Fresh ℕ) (stack : Stack ℕ) (merge : Merge ℕ) (whole : Is
     copies_below : (p : List (List ℕ)) → seen_below stack two.upper p ≡ seen_below stack merge.upper p
     copies_below p =
         let o_there = whole.tree.alive f old o asked.0.named in
-        let first = is_copied fresh stack merge whole new.distinct new.unused o o_there in
+        let first = is_copied fresh whole new.distinct new.unused o o_there in
         copied_below (evens (odds fresh)) stack (copied_up nat_eq (evens fresh) merge o) first.whole
         (even_new (odds fresh) (copied_up nat_eq (evens fresh) merge o).upper (odds_new o o_there)) t
         (subst (λ files. IsThere files t) (sym first.files) (directory_used merge.files.tree t asked.0.in_directory)) p
@@ -185,19 +185,18 @@ module _ (fresh : Fresh ℕ) (stack : Stack ℕ) (merge : Merge ℕ) (whole : Is
       → seen_below stack (merge_changed nat_eq fresh stack merge change).upper p ≡ seen_below stack merge.upper p
   kept change at (makes path d w number node is) asked p out =
       let there = directory_used merge.files.tree d is.1 in
-      let one = is_copied fresh stack merge whole new.distinct new.unused d there in
-      made_below (odds fresh) stack (copied_up nat_eq (evens fresh) merge d) one.whole d w number node
-      (stands_now fresh stack merge whole new.distinct new.unused d there)
-      (still_unused fresh stack merge whole new.distinct new.unused d there 0)
+      let one = is_copied fresh whole new.distinct new.unused d there in
+      made_below (odds fresh) one.whole (stands_now fresh whole new.distinct new.unused d there)
+      (still_unused fresh whole new.distinct new.unused d there 0)
       (subst (λ files. MayMake files.tree d w number node) (sym one.files) asked.0)
       (whole_after (Make d w number node) asked) p ∙ evens_below d there p
   kept change at (links place path d object w is used) asked p out =
-      let first = is_copied fresh stack merge whole new.distinct new.unused object asked.is_there in
+      let first = is_copied fresh whole new.distinct new.unused object asked.is_there in
       let one = copied_up nat_eq (evens fresh) merge object in
       let two = odds_new object asked.is_there in
       let there = subst (λ files. IsThere files d) (sym first.files) (directory_used merge.files.tree d is.1) in
       let second = object_copied stack (odds fresh) two.distinct one d first.whole two.unused there in
-      linked_below stack (copied_up nat_eq (odds fresh) one d) second.copied.whole d w object
+      linked_below second.copied.whole
       (subst (λ files. MayAddName files.tree d w object) (sym (second.copied.files ∙ first.files)) asked)
       (whole_after (AddName d w object) asked) p ∙ copied_below (odds fresh) stack one first.whole two d there p
       ∙ evens_below object asked.is_there p
@@ -307,7 +306,7 @@ under_front one other a b under =
           ∙ ap without_last split ∙ without_last_of_longer other b,
     )
 
-module _ (merge : Merge ℕ) (from_path to_path : List (List ℕ)) (f t o : ℕ) (old new : List ℕ)
+module _ (merge : Merge ℕ) (from_path to_path : List (List ℕ)) {f t o : ℕ} {old new : List ℕ}
     (from_leads : number_at_path merge.files from_path ≡ Some f)
     (to_leads : number_at_path merge.files to_path ≡ Some t) (may : MayMove merge.files.tree f old t new o) where
   new_not_under : ¬ (LiesUnder (from_path ++ old ∷ []) (to_path ++ new ∷ []))
@@ -340,9 +339,9 @@ names_apart merge change at (removes path d object w is) top other e f under =
     no_longer other under.0 under.1 (under.2 ∙ e ∙ sym f)
 names_apart merge change at (moves from_path to_path from to o old last from_leads to_leads may) top other e f under =
     ⊎_elim (λ a. ⊎_elim (λ b. no_longer other under.0 under.1 (under.2 ∙ a ∙ sym b))
-    (λ b. old_not_under merge from_path to_path from to o old last from_leads to_leads may
+    (λ b. old_not_under merge from_path to_path from_leads to_leads may
     (under.0, under.1, ap (λ p. p ++ under.0 ∷ under.1) (sym b) ∙ under.2 ∙ a)) f) (λ a. ⊎_elim
-    (λ b. new_not_under merge from_path to_path from to o old last from_leads to_leads may
+    (λ b. new_not_under merge from_path to_path from_leads to_leads may
     (under.0, under.1, ap (λ p. p ++ under.0 ∷ under.1) (sym b) ∙ under.2 ∙ a))
     (λ b. no_longer other under.0 under.1 (under.2 ∙ a ∙ sym b)) f) e
 names_apart merge change at (sets_bytes file place bytes is) top other e f under = e

@@ -1,5 +1,6 @@
 -- Copies of what a path leads to, front by front.
 use Rattle.std.proofs.Common.{arith, ◌≡◌, ◌≤◌, refl, sym, ap, subst, ◌∙◌, true≢false, ℕ, zero, suc, ◌+◌, nat_eq, Bool, true, false, List, [], ◌∷◌, ◌++◌, length, map, reverse, Option, Some, None, is_some, option_and_then, unwrap_or}
+use Rattle.vt_laws_trees.proofs.layers.directories.Lower.{enough}
 use Rattle.vt_spec.proofs.Common.{Content, FileTree, Fresh, IsDirectory, IsTree, ListsNumbers, Make, Merge, Node, Real, SameObject, Stack, Tree, a_name, bytes_eq-Decides, chain, changed, common_steps, copied_content, copied_each, copied_up, copy_named, copy_of, copy_of_node, copy_parent, directories_to, entry_at, folded, folded-snoc, is_in_upper, is_kind_in, led, length-reverse, line_by, line_to, map-append, named_parent, none_is_some, nothing_is_no_object, number_at_path, prefixes, same_Some, same_content, then_some, upper_of, with_inode, without_last}
 use mathlib.Core.List.{reverse-cons}
 use Rattle.vt_laws_trees.proofs.layers.layers.UpperChain.{depth_bound, up_at_root, up_from}
@@ -20,15 +21,6 @@ use Rattle.vt_laws_trees.proofs.overlays.changes.WholeTogether.{stands_above}
 use Rattle.vt_laws_trees.proofs.layers.layers.CopyingLast.{copied_one_more}
 
 module _ (files : FileTree ℕ) (tree : IsTree files.tree) (numbers : ListsNumbers nat_eq files) where
-  -- the directories above one are as many as there are steps to it
-  chain_is : (steps most directory : ℕ) (r : ReachedIn files.tree steps directory) → steps ≤ most
-      → chain most (named_parent nat_eq files.tree) directory ≡ chain steps (named_parent nat_eq files.tree) directory
-  chain_is zero most directory r h = up_at_root files tree most directory r ∙ sym (up_at_root files tree 0 directory r)
-  chain_is (suc steps) zero directory r h = absurd (let no : ⊥ = omega arith in no)
-  chain_is (suc steps) (suc most) directory r h = up_from files tree most steps directory r
-      ∙ ap (λ l. directory ∷ l) (chain_is steps most r.0 r.2 (omega arith))
-      ∙ sym (up_from files tree steps steps directory r)
-
   chain_length : (steps directory : ℕ) (r : ReachedIn files.tree steps directory)
       → length (chain steps (named_parent nat_eq files.tree) directory) ≡ suc steps
   chain_length zero directory r = ap length (up_at_root files tree 0 directory r)
@@ -38,7 +30,8 @@ module _ (files : FileTree ℕ) (tree : IsTree files.tree) (numbers : ListsNumbe
   directories_are : (steps directory : ℕ) → ReachedIn files.tree steps directory
       → directories_to nat_eq files directory ≡ reverse (chain steps (named_parent nat_eq files.tree) directory)
   directories_are steps directory r = ap (λ l. reverse l)
-      (chain_is steps (length files.numbers) directory r (depth_bound files tree numbers steps directory r))
+      (enough files tree numbers steps directory r (length files.numbers)
+      (depth_bound files tree numbers steps directory r))
 
   pub directories_count : (steps directory : ℕ) → ReachedIn files.tree steps directory
       → length (directories_to nat_eq files directory) ≡ suc steps
@@ -162,9 +155,9 @@ module _ (fresh : Fresh ℕ) (stack : Stack ℕ) (merge : Merge ℕ) (whole : Is
           ∙ one_stays merge object _ (merge.files.tree.node object) (is_in_upper merge object) stands
 
 -- One object at a path
-module _ (fresh : Fresh ℕ) (stack : Stack ℕ) (merge : Merge ℕ) (whole : IsWhole stack merge) (object : ℕ)
-    (there : is_some (merge.files.tree.node object) ≡ true)
-    (path : List (List ℕ)) (leads : number_at_path merge.files path ≡ Some object) where
+module _ (fresh : Fresh ℕ) {stack : Stack ℕ} {merge : Merge ℕ} (whole : IsWhole stack merge) (object : ℕ)
+    (there : is_some (merge.files.tree.node object) ≡ true) (path : List (List ℕ))
+    (leads : number_at_path merge.files path ≡ Some object) where
   real_here : merge.real object ≡ real_seen stack merge path
   real_here = whole.shown.names path object leads
 
@@ -240,12 +233,11 @@ module _ (fresh : Fresh ℕ) (stack : Stack ℕ) (m : Merge ℕ) (whole : IsWhol
           → (copy_of nat_eq m object (fresh (length path)) o b).upper ≡ copied_at fresh stack m.upper path
       by None e b low = absurd (true≢false (sym there ∙ ap is_some e))
       by (Some node) e true low = sym (ap (λ o. copy_over fresh stack m.upper path o (node_seen stack m.upper path))
-          (led_stands fresh stack m whole object there path leads low))
+          (led_stands fresh whole object there path leads low))
       by (Some node) e false low = seen node low (node_seen stack m.upper path)
-          (subst (λ o. SameObject o (node_seen stack m.upper path)) e
-          (same_seen fresh stack m whole object there path leads))
+          (subst (λ o. SameObject o (node_seen stack m.upper path)) e (same_seen fresh whole object there path leads))
           ∙ sym (ap (λ o. copy_over fresh stack m.upper path o (node_seen stack m.upper path))
-          (led_none fresh stack m whole object there path leads low))
+          (led_none fresh whole object there path leads low))
 
 -- Fronts of a longer path
 prefixes_longer : (path : List (List ℕ)) (name : List ℕ)

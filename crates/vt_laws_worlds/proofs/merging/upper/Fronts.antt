@@ -219,7 +219,7 @@ module _ (fresh : Fresh ℕ) (distinct : (j k : ℕ) → fresh j ≡ fresh k →
   stands_copied_to : (path : List (List ℕ)) (object : ℕ) → is_some (merge.files.tree.node object) ≡ true
       → at path ≡ Some object → StandsInUpper merge object → IsCopiedTo path object
   stands_copied_to path object there leads stands =
-      let has = ap is_some (led_stands fresh stack merge whole object there path leads stands) in
+      let has = ap is_some (led_stands fresh whole object there path leads stands) in
       let same = stays fresh stack merge whole object stands in
       record {
         is = ap (λ m. m.upper) same ∙ sym (none_copied fresh stack merge.upper (length path) path refl has);
@@ -295,7 +295,7 @@ module _ (fresh : Fresh ℕ) (distinct : (j k : ℕ) → fresh j ≡ fresh k →
         (λ lies. ap (λ files. a_name nat_eq files object) line.copied.files ∙ name_is)
 
     free : led_above stack merge.upper (front ++ name ∷ []) ≡ None
-    free = led_none fresh stack merge whole object there (front ++ name ∷ []) leads low
+    free = led_none fresh whole object there (front ++ name ∷ []) leads low
 
     still_free : led_above stack m.upper (front ++ name ∷ []) ≡ None
     still_free = before.copies.others (front ++ name ∷ [])
@@ -318,7 +318,7 @@ module _ (fresh : Fresh ℕ) (distinct : (j k : ℕ) → fresh j ≡ fresh k →
         ≡ changed nat_eq m.upper (Make (upper_of m parent) name (fresh (length (front ++ name ∷ [])))
         (copy_node (upper_of m parent) node)))
     is_made = by (node_seen stack m.upper (front ++ name ∷ []))
-        (same_seen fresh stack m line.copied.whole object there_now (front ++ name ∷ []) leads_later) refl
+        (same_seen fresh line.copied.whole object there_now (front ++ name ∷ []) leads_later) refl
       where
         by : (o : Option (Node ℕ)) → SameObject (m.files.tree.node object) o
             → node_seen stack m.upper (front ++ name ∷ []) ≡ o

@@ -207,7 +207,7 @@ led_real stack merge whole path number u leads led = by (is_in_upper merge numbe
     by true stands = upper_real merge number stands ∙ ap (λ o. Some (Upper o)) (same_Some (upper_of merge number) u
         (sym (named_above stack merge whole path number (upper_of merge number) leads
         (upper_real merge number stands)) ∙ led))
-    by false low = none_is_some u (sym (led_none (λ k. k) stack merge whole number there path leads low) ∙ led)
+    by false low = none_is_some u (sym (led_none (λ k. k) whole number there path leads low) ∙ led)
 
 pub prefixes_have_their_copies : FrontsHaveTheirCopies
 prefixes_have_their_copies fresh stack merge whole new path object leads =

@@ -112,9 +112,9 @@ pub even_new : (fresh : Fresh ℕ) (upper : FileTree ℕ) → AreNew fresh upper
 even_new fresh upper new = record { distinct = evens-distinct fresh new.distinct; unused = λ k. new.unused (2 * k) }
 
 -- An object at a path is copied.
-module _ (fresh : Fresh ℕ) (stack : Stack ℕ) (merge : Merge ℕ) (whole : IsWhole stack merge)
-    (new : AreNew fresh merge.upper) (object : ℕ)
-    (path : List (List ℕ)) (leads : number_at_path merge.files path ≡ Some object) where
+module _ (fresh : Fresh ℕ) {stack : Stack ℕ} {merge : Merge ℕ} (whole : IsWhole stack merge)
+    (new : AreNew fresh merge.upper) (object : ℕ) (path : List (List ℕ))
+    (leads : number_at_path merge.files path ≡ Some object) where
   abbrev c : Merge ℕ
   c = copied_up nat_eq fresh merge object
 
@@ -181,13 +181,13 @@ made_by copy name node b u p = with_mark nat_eq b (changed nat_eq u
 pub made_above : MadeAbove
 made_above fresh stack merge whole new path directory name number node is =
     let one = even_new fresh merge.upper new in
-    let whole_now = (line (evens fresh) stack merge whole one directory path is.0).whole in
-    let later = directory_later (evens fresh) stack merge whole one directory path is.0 path directory is in
-    let upper = upper_is (evens fresh) stack merge whole one directory path is.0 in
+    let whole_now = (line (evens fresh) whole one directory path is.0).whole in
+    let later = directory_later (evens fresh) whole one directory path is.0 path directory is in
+    let upper = upper_is (evens fresh) whole one directory path is.0 in
     let parent = object_is stack (copied_up nat_eq (evens fresh) merge directory) whole_now path directory later.0
-    (stands (evens fresh) stack merge whole one directory path is.0) in
+    (stands (evens fresh) whole one directory path is.0) in
     let hides = hides_is stack (copied_up nat_eq (evens fresh) merge directory) whole_now path directory later name
-    ∙ (still_below (evens fresh) stack merge whole one directory path is.0 path directory name is).1 in
+    ∙ (still_below (evens fresh) whole one directory path is.0 path directory name is).1 in
     (λ i. made_by (odds fresh 0) name node (hides i) (copied_up nat_eq (evens fresh) merge directory).upper (parent i))
     ∙ (λ i. made_by (odds fresh 0) name node (directory_below stack merge.upper (path ++ name ∷ [])) (upper i)
     (object_above stack (upper i) path))
@@ -200,13 +200,13 @@ pub removed_above : RemovedAbove
 removed_above fresh stack merge whole new path directory name object is =
     let one = even_new fresh merge.upper new in
     let now = copied_up nat_eq (evens fresh) merge directory in
-    let whole_now = (line (evens fresh) stack merge whole one directory path is.0).whole in
-    let later = directory_later (evens fresh) stack merge whole one directory path is.0 path directory is in
-    let upper = upper_is (evens fresh) stack merge whole one directory path is.0 in
+    let whole_now = (line (evens fresh) whole one directory path is.0).whole in
+    let later = directory_later (evens fresh) whole one directory path is.0 path directory is in
+    let upper = upper_is (evens fresh) whole one directory path is.0 in
     let parent = object_is stack now whole_now path directory later.0
-    (stands (evens fresh) stack merge whole one directory path is.0) in
+    (stands (evens fresh) whole one directory path is.0) in
     let left = below_is stack now whole_now path directory later name
-    ∙ (still_below (evens fresh) stack merge whole one directory path is.0 path directory name is).0 in
+    ∙ (still_below (evens fresh) whole one directory path is.0 path directory name is).0 in
     let gone = named_is stack now whole_now path directory later name in
     (λ i. removed_by (odds fresh) stack name (is_some (left i)) now.upper (parent i) (gone i))
     ∙ (λ i. removed_by (odds fresh) stack name (is_some (seen_below stack merge.upper (path ++ name ∷ [])))
@@ -222,19 +222,19 @@ linked_above fresh stack merge whole new old path directory object name is used 
     let says = at_place (evens fresh) stack merge whole one object used old at_old in
     let two : AreNew (odds fresh) first.upper = record {
       distinct = odds-distinct fresh new.distinct;
-      unused = still_unused fresh stack merge whole new.distinct new.unused object used;
+      unused = still_unused fresh whole new.distinct new.unused object used;
     } in
     let leads = ap (λ files. number_at_path files path) first_line.files ∙ is.0 in
     let second = copied_up nat_eq (odds fresh) first directory in
-    let second_line = line (odds fresh) stack first first_line.whole two directory path leads in
+    let second_line = line (odds fresh) first_line.whole two directory path leads in
     let at_path = ap (λ files. number_at_path files path) second_line.files ∙ leads in
     let parent = object_is stack second second_line.whole path directory at_path
-    (stands (odds fresh) stack first first_line.whole two directory path leads) in
+    (stands (odds fresh) first_line.whole two directory path leads) in
     let own : upper_of second object ≡ object_of (evens fresh) stack merge.upper old =
     ap (λ r. unwrap_or (upper_object r) object)
     (real_stays (odds fresh) 0 first (line_to nat_eq first.files directory) object first_stands)
     ∙ ap (λ o. unwrap_or o object) says.1 in
-    let upper = upper_is (odds fresh) stack first first_line.whole two directory path leads
+    let upper = upper_is (odds fresh) first_line.whole two directory path leads
     ∙ ap (λ u. copied_to (odds fresh) stack u path) says.0 in
     (λ i. changed nat_eq second.upper (AddName (parent i) name (own i)))
     ∙ ap (λ u. linked_in stack u (object_of (evens fresh) stack merge.upper old) path name) upper
@@ -256,33 +256,32 @@ moved_above fresh stack merge whole new from_path to_path from to object old new
     ∙ ap (option_and_then (λ d. entry_at merge.files.tree d old)) from_leads ∙ may.named in
     let there = path_there stack merge whole path object leads in
     let first = copied_up nat_eq (evens fresh) merge object in
-    let first_line = line (evens fresh) stack merge whole one object path leads in
+    let first_line = line (evens fresh) whole one object path leads in
     let two : AreNew (evens (odds fresh)) first.upper = even_new (odds fresh) first.upper (record {
       distinct = odds-distinct fresh new.distinct;
-      unused = still_unused fresh stack merge whole new.distinct new.unused object there;
+      unused = still_unused fresh whole new.distinct new.unused object there;
     }) in
-    let from_later = directory_later (evens fresh) stack merge whole one object path leads from_path from from_is in
-    let to_later = directory_later (evens fresh) stack merge whole one object path leads to_path to to_is in
+    let from_later = directory_later (evens fresh) whole one object path leads from_path from from_is in
+    let to_later = directory_later (evens fresh) whole one object path leads to_path to to_is in
     let second = copied_up nat_eq (evens (odds fresh)) first to in
     let ready = twice fresh stack merge whole new.distinct new.unused from old to new_name object may in
     let from_now = directory_later (evens
-    (odds fresh)) stack first first_line.whole two to to_path to_later.0 from_path from from_later in
+    (odds fresh)) first_line.whole two to to_path to_later.0 from_path from from_later in
     let to_now = directory_later (evens
-    (odds fresh)) stack first first_line.whole two to to_path to_later.0 to_path to to_later in
+    (odds fresh)) first_line.whole two to to_path to_later.0 to_path to to_later in
     let at_path = ap (λ files. number_at_path files path) ready.files ∙ leads in
     let from_object = object_is stack second ready.whole from_path from from_now.0 ready.from in
     let to_object = object_is stack second ready.whole to_path to to_now.0 ready.to in
     let own = object_is stack second ready.whole path object at_path ready.object in
     let gone = named_is stack second ready.whole to_path to to_now new_name in
     let mark = hides_is stack second ready.whole to_path to to_now new_name
-    ∙ (still_below (evens (odds fresh)) stack first first_line.whole two to to_path to_later.0 to_path to new_name
-    to_later).1 ∙ (still_below (evens fresh) stack merge whole one object path leads to_path to new_name to_is).1 in
+    ∙ (still_below (evens (odds fresh)) first_line.whole two to to_path to_later.0 to_path to new_name
+    to_later).1 ∙ (still_below (evens fresh) whole one object path leads to_path to new_name to_is).1 in
     let left = below_is stack second ready.whole from_path from from_now old
-    ∙ (still_below (evens (odds fresh)) stack first first_line.whole two to to_path to_later.0 from_path from old
-    from_later).0 ∙ (still_below (evens fresh) stack merge whole one object path leads from_path from old from_is).0 in
-    let upper = upper_is (evens (odds fresh)) stack first first_line.whole two to to_path to_later.0
-    ∙ ap (λ u. copied_to (evens (odds fresh)) stack u to_path)
-    (upper_is (evens fresh) stack merge whole one object path leads) in
+    ∙ (still_below (evens (odds fresh)) first_line.whole two to to_path to_later.0 from_path from old
+    from_later).0 ∙ (still_below (evens fresh) whole one object path leads from_path from old from_is).0 in
+    let upper = upper_is (evens (odds fresh)) first_line.whole two to to_path to_later.0
+    ∙ ap (λ u. copied_to (evens (odds fresh)) stack u to_path) (upper_is (evens fresh) whole one object path leads) in
     (λ i. moved_by (odds (odds fresh)) stack old new_name (mark i) (is_some (left i)) second.upper (gone i)
     (from_object i) (to_object i) (own i))
     ∙ ap (λ u. moved_in (odds (odds fresh)) stack merge.upper u from_path old to_path new_name) upper

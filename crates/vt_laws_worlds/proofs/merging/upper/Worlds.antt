@@ -101,9 +101,9 @@ module _ (world now : World ℕ) (conditions : IsWorld nat_eq world) (same : now
       (sym (same_numbered number)) whole) new change at asks
 
 -- A change in a world from which mounts are taken away, as one in the world before
-module _ (world : World ℕ) (conditions : IsWorld nat_eq world) (gone : List ℕ) (location : Location ℕ)
-    (overlay : Overlay ℕ) (upper : Layer ℕ)
-    (is : (filesystem_at nat_eq world location).overlay ≡ Some overlay) (has : overlay.upper ≡ Some upper) where
+module _ {world : World ℕ} (conditions : IsWorld nat_eq world) (gone : List ℕ) (location : Location ℕ)
+    (overlay : Overlay ℕ) (upper : Layer ℕ) (is : (filesystem_at nat_eq world location).overlay ≡ Some overlay)
+    (has : overlay.upper ≡ Some upper) where
   abbrev now : World ℕ
   now = taken_away nat_eq world gone
 
@@ -141,13 +141,13 @@ module _ (fresh : Fresh ℕ) (world : World ℕ) (task : Task ℕ) (location : L
   after_call numbers permit change (does_open_new directory name node access) new asks =
       upper_by_layers world world conditions refl location overlay upper is has numbers change at new asks
   after_call numbers permit change (does_remove parent name directory) new asks =
-      upper_taken world conditions (map (λ mount. mount.number)
+      upper_taken conditions (map (λ mount. mount.number)
       (flat_map (mount_tree nat_eq world.mounts) (mounts_on nat_eq world directory)))
       location overlay upper is has numbers change at new asks
   after_call numbers permit change (does_rename from old to new_name object None) new asks =
       upper_by_layers world world conditions refl location overlay upper is has numbers change at new asks
   after_call numbers permit change (does_rename from old to new_name object (Some replaced)) new asks =
-      upper_taken world conditions (map (λ mount. mount.number)
+      upper_taken conditions (map (λ mount. mount.number)
       (flat_map (mount_tree nat_eq world.mounts) (mounts_on nat_eq world replaced)))
       location overlay upper is has numbers change at new asks
   after_call numbers permit change (does_open file access copied) new asks = ap (λ b. (filesystem_numbered nat_eq

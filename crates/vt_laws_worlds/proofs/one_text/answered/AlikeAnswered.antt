@@ -11,7 +11,7 @@ use Rattle.vt_laws_worlds.specs.OneText.Answered.{PermitsLeaveAlike, AnySameWorl
 -- A permit for two tasks that are the same but for change numbers
 pub permits_leave_alike : PermitsLeaveAlike
 permits_leave_alike one other same is fresh task again alike permit =
-    let left = apply_alike fresh one other (alike_from_same one other same)
+    let left = apply_alike fresh (alike_from_same one other same)
     (copies_of_worlds one other (alike_from_same one other same) is) task again alike permit in
     record { answer = left.answer; worlds = same_from_alike _ _ left.worlds }
 

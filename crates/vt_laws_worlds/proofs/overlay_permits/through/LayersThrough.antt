@@ -13,7 +13,7 @@ use Rattle.vt_laws_worlds.proofs.overlay_permits.worlds.LowersAfterCalls.{on_fil
 use Rattle.vt_laws_trees.specs.Trees.Settling.{inode_in}
 
 -- Where each inode is kept that is there and lies or counts under a layer, the layer stays
-module _ (world : World ℕ) (is : IsWorld nat_eq world) (number : ℕ) (overlay : Overlay ℕ)
+module _ {world : World ℕ} (is : IsWorld nat_eq world) (number : ℕ) (overlay : Overlay ℕ)
     (was : (filesystem_numbered nat_eq world number).overlay ≡ Some overlay) (layer : Layer ℕ)
     (m : Among layer (layers_of overlay)) (later : World ℕ) where
   layer_stays : ((inode : ℕ) → lies_or_counts_under nat_eq world layer.filesystem inode layer ≡ true
@@ -29,8 +29,7 @@ pub calls_leave_other_layers : CallsLeaveOtherLayers
 calls_leave_other_layers world fresh task call permit location change number overlay layer is serves called granted asks
     differ was contains =
     let m : Among layer (layers_of overlay) = among_from_contains (layers_of overlay) layer contains in
-    layer_stays world is number overlay was layer m (call_outcome nat_eq fresh world task call).world
-    (λ inode lies there.
+    layer_stays is number overlay was layer m (call_outcome nat_eq fresh world task call).world (λ inode lies there.
     let new : (k : ℕ) → inode ≢ fresh k = no_new fresh world layer.filesystem inode
     (λ k. unused_inode world fresh serves is.files.numbers k layer.filesystem) there in
     ⊎_elim (λ (up : Among layer (upper_and_work overlay)).

@@ -136,8 +136,8 @@ module _ (world : World ℕ) (fresh : Fresh ℕ) (task : Task ℕ) (call : Call)
           let proper = permits_ask_properly world fresh task call permit location change is serves found granted e in
           let spares : SparesLocked world location change = subst (SparesLockedIf world) e spared in
           files_in after_permit (with_change nat_eq (numbers_left fresh permit) world location change) same (
-            plain_change_keeps_trees (numbers_left fresh permit) world location change is p proper.0 proper.1 spares,
-            plain_change_keeps_overlays (numbers_left fresh permit) world location change is p proper.0 proper.1 spares,
+            plain_change_keeps_trees (numbers_left fresh permit) is p proper.0 proper.1 spares,
+            plain_change_keeps_overlays (numbers_left fresh permit) is p proper.0 proper.1 spares,
           )
       by (Some overlay) p = over overlay p overlay.upper refl
 

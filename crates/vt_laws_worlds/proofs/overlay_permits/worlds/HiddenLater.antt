@@ -12,6 +12,7 @@ use Rattle.vt_laws_trees.proofs.layers.views.Names.{alike_kept, alike_same}
 use Rattle.vt_laws_trees.specs.Overlays.WhatIsShown.{layers_under}
 use Rattle.vt_laws_trees.specs.Overlays.WholeChanges.{IsAskedWell}
 use Rattle.vt_laws_trees.proofs.overlays.changes.WholeHidden.{hidden_stays_hidden}
+use Rattle.vt_laws_trees.proofs.overlays.changes.WholeLater.{changing}
 use Rattle.vt_laws_trees.proofs.overlays.changes.WholeLater
 use Rattle.vt_laws_trees.proofs.overlays.changes.WholeWorlds.{overlays_are_whole}
 use Rattle.vt_laws_worlds.proofs.merging.mounted.Again.{files_raised}
@@ -86,10 +87,10 @@ module _ (fresh : Fresh ℕ) (world : World ℕ) (location : Location ℕ) (chan
   changed_world = with_change nat_eq fresh world location change
 
   upper_changed : filesystem_numbered nat_eq changed_world upper.filesystem
-      ≡ WholeLater.changed_upper fresh world location change overlay upper is was has distinct none asked
+      ≡ WholeLater.changed_upper (changing fresh world location change overlay upper is was has distinct none asked)
   upper_changed = ap (λ w. filesystem_numbered nat_eq w upper.filesystem)
-      (WholeLater.later_is fresh world location change overlay upper is was has distinct none asked)
-      ∙ WholeLater.upper_later fresh world location change overlay upper is was has distinct none asked
+      (WholeLater.later_is (changing fresh world location change overlay upper is was has distinct none asked))
+      ∙ WholeLater.upper_later (changing fresh world location change overlay upper is was has distinct none asked)
 
   abbrev over : Tree ℕ → World ℕ → List (OpenLayer ℕ)
   over tree which = record { tree = tree; directory = upper.directory } ∷ map (open_layer nat_eq which) overlay.lowers

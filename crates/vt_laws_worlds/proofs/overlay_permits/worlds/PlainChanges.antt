@@ -1,6 +1,6 @@
 -- A change of a plain tree that spares what is locked keeps the invariants of trees and of overlays.
 use Rattle.std.proofs.Common.{arith, ◌≡◌, ◌≢◌, refl, sym, ap, subst, ◌∙◌, true≢false, eqb-true, ne_eqb, ⊎_elim, inl, inr, ℕ, nat_eq, Bool, true, false, not, cond, ◌||◌, List, [], ◌∷◌, filter, map, Some, None, is_some, All, flat_map}
-use Rattle.vt_spec.proofs.Common.{AddName, All-weaker, Among, Change, CopyUp, FileTree, Filesystem, Fresh, HasOwnParents, IsReached, IsTree, IsWorld, Layer, ListsNumbers, Location, Make, Move, Overlay, OverlayInvariants, Remove, SetAttr, SetBytes, SetMark, TreeInvariants, World, all_from_among, among-append, among-append_left, among-append_right, among_from_all, among_from_list_all, and_true_right, any_from_among, any_pair, changed, common_steps, eqb_tells, files_at, filesystem_at, filesystem_changed, filesystem_numbered, holds_of, is_among, is_fit_filesystem, is_locked, is_overlay, is_plain_layer, is_there, layers_of, lies_or_counts_under, list_all_from_among, live_layers, mount_at, none_is_some, of_overlay, overlays, replaced_if_numbered, shown_layers, upper_and_work, with_change, with_files, with_filesystem}
+use Rattle.vt_spec.proofs.Common.{AddName, All-weaker, Among, Change, CopyUp, FileTree, Filesystem, Fresh, HasOwnParents, IsReached, IsTree, IsWorld, Layer, ListsNumbers, Location, Make, Move, Overlay, OverlayInvariants, Remove, SetAttr, SetBytes, SetMark, TreeInvariants, World, all_from_among, among_from_all, among_from_list_all, and_true_right, any_from_among, any_pair, changed, common_steps, eqb_tells, files_at, filesystem_at, filesystem_changed, filesystem_numbered, holds_of, is_among, is_fit_filesystem, is_locked, is_overlay, is_plain_layer, is_there, layers_of, lies_or_counts_under, list_all_from_among, live_layers, mount_at, none_is_some, of_overlay, overlays, replaced_if_numbered, upper_and_work, with_change, with_files, with_filesystem}
 use Rattle.vt_laws_trees.specs.Trees.{IsFileTree, IsProper}
 use Rattle.vt_laws_trees.specs.Trees.Sizes.{IsFitChange}
 use Rattle.vt_laws_trees.proofs.trees.ChangesKeepTrees.{changes_keep_numbers, changes_keep_own_parents, changes_keep_trees}
@@ -20,6 +20,7 @@ use Rattle.vt_laws_trees.proofs.overlays.changes.WholeOthers.{stays_merged}
 use Rattle.vt_laws_worlds.specs.OverlayPermits.Unlocked.{SparesInode, SparesLocked}
 use Rattle.vt_laws_worlds.proofs.overlay_permits.worlds.OverlaysGoOn.{GoesOn, are_trees, overlays_go_on}
 use Rattle.vt_laws_trees.specs.Trees.Settling.{inode_in}
+use Rattle.vt_laws_worlds.proofs.overlay_permits.worlds.SweptOverlays.{shown_among}
 
 -- an inode that a change spares is none of those that it writes to
 none_written : (files : FileTree ℕ) (change : Change ℕ) → IsProper files.tree change → (inode : ℕ)
@@ -54,10 +55,10 @@ name_spared files (SetAttr object attr) inode spares = tt
 name_spared files (SetMark directory opaque) inode spares = tt
 name_spared files (CopyUp object) inode spares = tt
 
-module _ (fresh : Fresh ℕ) (world : World ℕ) (location : Location ℕ) (change : Change ℕ)
+module _ (fresh : Fresh ℕ) {world : World ℕ} {location : Location ℕ} {change : Change ℕ}
     (conditions : IsWorld nat_eq world) (plain : (filesystem_at nat_eq world location).overlay ≡ None)
-    (may : IsProper (files_at nat_eq world location).tree change)
-    (fits : IsFitChange change) (locks : SparesLocked world location change) where
+    (may : IsProper (files_at nat_eq world location).tree change) (fits : IsFitChange change)
+    (locks : SparesLocked world location change) where
   abbrev place : ℕ
   place = (mount_at nat_eq world location).filesystem
 
@@ -188,12 +189,6 @@ module _ (fresh : Fresh ℕ) (world : World ℕ) (location : Location ℕ) (chan
         leads_as_before world conditions layer (layer_plain world conditions number overlay is layer m) later
         (λ inode lies there. kept layer.filesystem inode (locked_in layer m inode lies) there)
 
-    shown_among : (layer : Layer ℕ) → Among layer (shown_layers overlay) → Among layer (layers_of overlay)
-    shown_among layer m =
-        ⊎_elim (λ up. among-append_left (upper_and_work overlay) overlay.lowers layer (among-append_left _ _ layer up))
-        (λ low. among-append_right (upper_and_work overlay) overlay.lowers layer low)
-        (among-append _ overlay.lowers layer m)
-
     own : (layer : Layer ℕ) (object : ℕ) → overlay.upper ≡ Some layer → IsUpperObject overlay object
         → IsKept (inode_in world layer.filesystem object) (inode_in later layer.filesystem object)
     own layer object e of = kept layer.filesystem object
@@ -261,7 +256,7 @@ module _ (fresh : Fresh ℕ) (world : World ℕ) (location : Location ℕ) (chan
             lowers = refl;
             merged = subst (λ f. Rattle.vt_spec.specs.Machine.Invariants.IsMerged nat_eq later f after) (sym same)
                 (stays_merged world later (filesystem_numbered nat_eq world number) after
-                (λ layer m. leads number after was layer (shown_among number after was layer m)) (own number after was)
+                (λ layer m. leads number after was layer (shown_among after layer m)) (own number after was)
                 (conditions.overlays.overlays_merge number after was));
             objects = λ inode object g. g;
             leads = leads number after was;

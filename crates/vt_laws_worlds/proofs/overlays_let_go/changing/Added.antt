@@ -29,9 +29,9 @@ pub record Adds (change : Change ℕ) (before later : Merge ℕ) : Type 0 where
       ⊎ HasName later.upper.tree inode)
 
 -- Whiteouts have a name
-module _ (files : FileTree ℕ) (tree : IsTree files.tree) (first : ℕ → Option (Real ℕ)) (fresh : Fresh ℕ)
-    (stack : Stack ℕ)
-    (real : ℕ → Option (Real ℕ)) (upper : FileTree ℕ) (sound : IsSound files first (IsNewBy fresh) real upper) where
+module _ {files : FileTree ℕ} (tree : IsTree files.tree) {first : ℕ → Option (Real ℕ)} (fresh : Fresh ℕ)
+    (stack : Stack ℕ) {real : ℕ → Option (Real ℕ)} {upper : FileTree ℕ}
+    (sound : IsSound files first (IsNewBy fresh) real upper) where
   abbrev here : Merge ℕ
   here = State files first (IsNewBy fresh) real upper
 
@@ -43,7 +43,7 @@ module _ (files : FileTree ℕ) (tree : IsTree files.tree) (first : ℕ → Opti
       → Among inode (merge_without_name nat_eq fresh stack here directory name object).upper.numbers
       → WasOrIsNamed (merge_without_name nat_eq fresh stack here directory name object).upper inode
   removed_named directory name object seen e has inode = by (shown_in_lowers_at nat_eq stack here directory name)
-      (removed_with files tree first fresh stack real upper sound directory name object seen e has)
+      (removed_with tree fresh stack sound directory name object seen e has)
     where
       later : Option (Shown ℕ) → FileTree ℕ
       later o = without_contents nat_eq (name_left_by nat_eq (is_some o) fresh stack upper
@@ -62,7 +62,7 @@ module _ (files : FileTree ℕ) (tree : IsTree files.tree) (first : ℕ → Opti
       → WasOrIsNamed (merge_with_moved nat_eq fresh stack here from old to name object).upper inode
   moved_named from old to name object seen_from seen e has_from has inode =
       by (shown_in_lowers_at nat_eq stack here from old)
-      (moved_with files tree first fresh stack real upper sound from old to name object seen_from seen e has_from has)
+      (moved_with tree fresh stack sound from old to name object seen_from seen e has_from has)
     where
       away : FileTree ℕ
       away = with_moved nat_eq (without_contents nat_eq upper (upper_directory_named here to name))
@@ -200,9 +200,7 @@ module _ (fresh : Fresh ℕ) (stack : Stack ℕ) (before : Merge ℕ) (fit : IsF
       (subst (λ m. (inode : ℕ) → Among inode (merge_without_name nat_eq
       (odds fresh) stack m directory name object).upper.numbers → Among inode m.upper.numbers ⊎ HasName
       (merge_without_name nat_eq (odds fresh) stack m directory name object).upper.tree inode) (sym ready.soundly.is)
-      (removed_named before.files fit.tree before.real
-      (odds fresh) stack ready.soundly.real ready.soundly.upper ready.soundly.sound
-      directory name object seen.0 named seen.1))
+      (removed_named fit.tree (odds fresh) stack ready.soundly.sound directory name object seen.0 named seen.1))
   adds (Move from old to new object) may named =
       let ready = then_odd_evens fresh stack before fit object to in
       let is = fit.tree.alive from old object may.named in
@@ -232,8 +230,7 @@ module _ (fresh : Fresh ℕ) (stack : Stack ℕ) (before : Merge ℕ) (fit : IsF
       (merge_with_moved nat_eq (odds (odds fresh)) stack m from old to new object).upper.numbers
       → Among inode m.upper.numbers ⊎ HasName
       (merge_with_moved nat_eq (odds (odds fresh)) stack m from old to new object).upper.tree inode)
-      (sym ready.soundly.is) (moved_named before.files fit.tree before.real
-      (odds (odds fresh)) stack ready.soundly.real ready.soundly.upper ready.soundly.sound
+      (sym ready.soundly.is) (moved_named fit.tree (odds (odds fresh)) stack ready.soundly.sound
       from old to new object seen_from.0 seen.0 may.named seen_from.1 seen.1))
   adds (SetBytes file bytes) may named = adds_no_object (SetBytes file bytes) (copied_up nat_eq fresh before file)
       (merge_changed nat_eq fresh stack before (SetBytes file bytes))

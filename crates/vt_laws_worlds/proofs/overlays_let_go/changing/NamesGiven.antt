@@ -117,8 +117,9 @@ module _ (fresh : Fresh ℕ) (stack : Stack ℕ) (before : Merge ℕ) (fit : IsF
       (among_second fresh stack before fit directory object directory (in_own_line fresh stack before fit directory))
       there d n k e at.0) at.1
 
-module _ (fresh : Fresh ℕ) (world : World ℕ) (location : Location ℕ) (change : Change ℕ) (overlay : Overlay ℕ)
-    (upper : Layer ℕ) (conditions : IsWorld nat_eq world) (can : CanChange fresh world location change overlay upper)
+module _ {fresh : Fresh ℕ} {world : World ℕ} {location : Location ℕ} {change : Change ℕ} {overlay : Overlay ℕ}
+    {upper : Layer ℕ} (conditions : IsWorld nat_eq world)
+    (can : CanChange fresh world location change overlay upper)
     (may : IsProper (files_at nat_eq world location).tree change) (none : takes_a_name change ≡ false) where
   abbrev layer : Filesystem ℕ
   layer = filesystem_numbered nat_eq world upper.filesystem
@@ -134,14 +135,13 @@ module _ (fresh : Fresh ℕ) (world : World ℕ) (location : Location ℕ) (chan
 
   listed : IsListedTree layer.files
   listed = among_from_all (λ (f : Filesystem ℕ). IsListedTree f.files) world.filesystems
-      (settles fresh world location change overlay upper conditions can).trees
-      layer (layer_there fresh world location change overlay upper conditions can)
+      (settles conditions can).trees layer (layer_there conditions can)
 
   abbrev stack : Stack ℕ
   stack = stack_of nat_eq world overlay upper
 
   ready : IsFitToChange fresh before
-  ready = fit fresh world location change overlay upper conditions can
+  ready = fit conditions can
 
   abbrev IsFree : Type 0
   IsFree = (directory : ℕ) (name : List ℕ) (object seen : ℕ) → entry_at before.files.tree directory name ≡ Some object
@@ -207,29 +207,25 @@ module _ (fresh : Fresh ℕ) (world : World ℕ) (location : Location ℕ) (chan
       → settled nat_eq later ≡ let_go_all_inodes later (replaced_in_upper world overlay upper change)
       → settled nat_eq later ≡ let_go_plain later (replaced_in_upper world overlay upper change)
   goes_in_plain later same goes = goes ∙ plain_looked_at upper.filesystem later
-      (λ f m. layer_plain_then fresh world location change overlay upper conditions can f
-      (subst (Among f) same m)) (option_to_list given)
+      (λ f m. layer_plain_then conditions can f (subst (Among f) same m)) (option_to_list given)
 
   -- that goes which nothing uses
   given_goes : settled nat_eq (with_change nat_eq fresh world location change)
       ≡ let_go_plain (with_change nat_eq fresh world location change) (replaced_in_upper world overlay upper change)
   given_goes = goes_in_plain (with_change nat_eq fresh world location change) refl
-      (goes_within fresh world location change overlay upper conditions can
-      (replaced_in_upper world overlay upper change) has_lost)
+      (goes_within conditions can (replaced_in_upper world overlay upper change) has_lost)
 
 pub given_names_let_go : GivenNamesLetGo
 given_names_let_go fresh world location change overlay upper conditions can may none =
-    given_goes fresh world location change overlay upper conditions can may none
+    given_goes conditions can may none
 
 pub opened_names_let_go : OpenedNamesLetGo
 opened_names_let_go fresh world task directory name node access overlay upper conditions there on can may =
-    goes_in_plain (odds fresh) world directory change overlay upper conditions can may refl
+    goes_in_plain conditions can may refl
     (with_task (with_change nat_eq (odds fresh) world directory change) (with_descriptor task file access)) refl
-    (goes_with_task_within (odds fresh) world directory change overlay upper conditions can
-    (with_descriptor task file access)
+    (goes_with_task_within conditions can (with_descriptor task file access)
     (none_left world task file access conditions.tasks.one_task (among_from_contains world.tasks task there)) on
-    (replaced_in_upper world overlay upper change)
-    (has_lost (odds fresh) world directory change overlay upper conditions can may refl))
+    (replaced_in_upper world overlay upper change) (has_lost conditions can may refl))
   where
     file : Location ℕ
     file = record { mount = directory.mount; node = evens fresh 0 }

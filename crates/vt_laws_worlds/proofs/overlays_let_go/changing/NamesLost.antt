@@ -334,7 +334,7 @@ only_these_lose_names fresh world location change overlay upper conditions can =
     ⊎_elim (λ named. absurd (true≢false (sym (named_among later_upper can.upper_tree k named)
     ∙ not-true (is_among nat_eq k (named_in later_upper)) from.1))) (λ gone. is_among_numbers k lost gone)
     (loses fresh (stack_of nat_eq world overlay upper) (merge_at world location overlay upper)
-    (fit fresh world location change overlay upper conditions can) can.unused (names_free world conditions
+    (fit conditions can) can.unused (names_free world conditions
     (mount_at nat_eq world location).filesystem overlay can.overlay_there upper can.upper_there)
     change place.0 place.1 k place.2))
   where
@@ -349,8 +349,7 @@ only_these_lose_names fresh world location change overlay upper conditions can =
 
     listed : IsListedTree layer.files
     listed = among_from_all (λ (f : Filesystem ℕ). IsListedTree f.files) world.filesystems
-        (settles fresh world location change overlay upper conditions can).trees
-        layer (layer_there fresh world location change overlay upper conditions can)
+        (settles conditions can).trees layer (layer_there conditions can)
 
 -- Where nothing loses a name, nothing goes
 
@@ -392,7 +391,7 @@ pub opened_copies_keep_all : OpenedCopiesKeepAll
 opened_copies_keep_all fresh world task file access overlay upper conditions there on copies can =
     subst (λ b. settled nat_eq (opened (with_copy nat_eq b fresh world file) task file access).world
     ≡ (opened (with_copy nat_eq b fresh world file) task file access).world) (sym copies)
-    (goes_with_task fresh world file (CopyUp file.node) overlay upper conditions can (with_descriptor task file access)
+    (goes_with_task conditions can (with_descriptor task file access)
     (none_left world task file access conditions.tasks.one_task (among_from_contains world.tasks task there)) on
     ∙ ap (let_go_all_inodes (opened (with_copy nat_eq true fresh world file) task file access).world)
     (nothing_lost fresh world file (CopyUp file.node) overlay upper conditions can refl refl))

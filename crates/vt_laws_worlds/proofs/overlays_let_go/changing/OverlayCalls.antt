@@ -92,17 +92,17 @@ still_mounted world settles gone number keeps =
     stays : not (is_among nat_eq mount.number gone) ≡ true → mount_lives nat_eq then_ image ≡ true
     stays isnt = grind (arith, common_steps, same_namespace, not-true, same_number, among_from_list_all, settles, kept)
 
-module _ (fresh : Fresh ℕ) (world : World ℕ) (location : Location ℕ) (change : Change ℕ) (overlay : Overlay ℕ)
-    (upper : Layer ℕ)
-    (conditions : IsWorld nat_eq world) (can : CanChange fresh world location change overlay upper) where
+module _ {fresh : Fresh ℕ} {world : World ℕ} {location : Location ℕ} {change : Change ℕ} {overlay : Overlay ℕ}
+    {upper : Layer ℕ} (conditions : IsWorld nat_eq world)
+    (can : CanChange fresh world location change overlay upper) where
   abbrev swap : Filesystem ℕ → Filesystem ℕ
-  swap = swap_both fresh world location change overlay upper conditions can
+  swap = swap_both conditions can
 
   abbrev number : ℕ
   number = (mount_at nat_eq world location).filesystem
 
   abbrev then_merged : Filesystem ℕ
-  then_merged = new_merged fresh world location change overlay upper conditions can
+  then_merged = new_merged conditions can
 
   -- an overlay that is mounted is in use
   lives_then : (other : World ℕ) → other.filesystems ≡ world.filesystems
@@ -111,10 +111,8 @@ module _ (fresh : Fresh ℕ) (world : World ℕ) (location : Location ℕ) (chan
   lives_then other same is =
       among-filter (filesystem_lives nat_eq (without_dead_mounts nat_eq (with_filesystems other swap)))
       (map swap other.filesystems) then_merged (subst (λ fs. Among then_merged (map swap fs)) (sym same)
-      (subst (λ f. Among f (map swap world.filesystems))
-      (becomes fresh world location change overlay upper conditions can)
-      (among-map swap world.filesystems (merged fresh world location change overlay upper conditions can)
-      (merged_there fresh world location change overlay upper conditions can))))
+      (subst (λ f. Among f (map swap world.filesystems)) (becomes conditions can)
+      (among-map swap world.filesystems (merged conditions can) (merged_there conditions can))))
       (or_left (is_mounted nat_eq (without_dead_mounts nat_eq other) then_merged.number) _
       (ap (is_mounted nat_eq (without_dead_mounts nat_eq other)) (number_of_filesystem world number) ∙ is))
 
@@ -125,22 +123,17 @@ module _ (fresh : Fresh ℕ) (world : World ℕ) (location : Location ℕ) (chan
       (inodes_lost_with_upper fresh world location overlay upper change))
   goes_with_mounts gone keeps =
       subst (λ w. settled nat_eq w ≡ let_go_all w (with_lost (used_by_gone_with_layers world gone)
-      (inodes_lost_with_upper fresh world location overlay upper change)))
-      (sym (is_swap fresh world location change overlay upper conditions can taken
+      (inodes_lost_with_upper fresh world location overlay upper change))) (sym (is_swap conditions can taken
       (ap (λ w. w.filesystems) (taken_is world gone))
       (ap (λ w. (mount_at nat_eq w location).filesystem) (taken_is world gone)
       ∙ shows_the_same world gone world.namespaces (hands_on world gone) location.mount)))
       (taken_and_changed_lets_go world gone swap (inodes_lost_with_upper fresh world location overlay upper change)
-      (settles fresh world location change overlay upper conditions can)
-      (subst (λ w. HasTrees (with_filesystems w swap)) (sym (taken_is world gone))
-      (trees_then fresh world location change overlay upper conditions can))
-      (subst (λ w. UppersArePlain (with_filesystems w swap)) (sym (taken_is world gone))
-      (uppers_then fresh world location change overlay upper conditions can))
-      (subst (λ w. RealsAreThere (with_filesystems w swap)) (sym (taken_is world gone))
-      (reals_then fresh world location change overlay upper conditions can))
-      (all_changed fresh world location change overlay upper conditions can (in_use_of (with_filesystems taken swap))
+      (settles conditions can) (subst (λ w. HasTrees (with_filesystems w swap)) (sym (taken_is world gone))
+      (trees_then conditions can)) (subst (λ w. UppersArePlain (with_filesystems w swap)) (sym (taken_is world gone))
+      (uppers_then conditions can)) (subst (λ w. RealsAreThere (with_filesystems w swap)) (sym (taken_is world gone))
+      (reals_then conditions can)) (all_changed conditions can (in_use_of (with_filesystems taken swap))
       (lives_then taken (ap (λ w. w.filesystems) (taken_is world gone))
-      (still_mounted world (settles fresh world location change overlay upper conditions can) gone number keeps))))
+      (still_mounted world (settles conditions can) gone number keeps))))
     where
       taken : World ℕ
       taken = taken_away nat_eq world gone
@@ -153,12 +146,9 @@ module _ (fresh : Fresh ℕ) (world : World ℕ) (location : Location ℕ) (chan
       ≡ let_go_all_inodes (with_task (with_change nat_eq fresh world location change) new) wider
   goes_with_task_within new only on wider has =
       subst (λ w. settled nat_eq (with_task w new) ≡ let_go_all_inodes (with_task w new) wider)
-      (sym (is_swap fresh world location change overlay upper conditions can world refl refl))
-      (left_and_changed_lets_go world tasks [] swap wider settled_world only
-      (trees_then fresh world location change overlay upper conditions can)
-      (uppers_then fresh world location change overlay upper conditions can)
-      (reals_then fresh world location change overlay upper conditions can)
-      (all_changed_within fresh world location change overlay upper conditions can
+      (sym (is_swap conditions can world refl refl))
+      (left_and_changed_lets_go world tasks [] swap wider settled_world only (trees_then conditions can)
+      (uppers_then conditions can) (reals_then conditions can) (all_changed_within conditions can
       (in_use_of (with_filesystems (with_tasks world tasks) swap)) (lives_then (with_tasks world tasks) refl
       (any_from_among (λ (m : Mount ℕ). nat_eq number m.filesystem)
       (without_dead_mounts nat_eq (with_tasks world tasks)).mounts at_location
@@ -171,7 +161,7 @@ module _ (fresh : Fresh ℕ) (world : World ℕ) (location : Location ℕ) (chan
       tasks = (with_task world new).tasks
 
       settled_world : IsSettled world
-      settled_world = settles fresh world location change overlay upper conditions can
+      settled_world = settles conditions can
 
       at_location : Mount ℕ
       at_location = mount_at nat_eq world location
@@ -195,12 +185,11 @@ made_in_overlays_lets_go fresh world task directory name node overlay upper cond
 
 pub taken_and_overlay_changes_let_go : TakenAndOverlayChangesLetGo
 taken_and_overlay_changes_let_go fresh world gone location change overlay upper conditions can keeps =
-    goes_with_mounts fresh world location change overlay upper conditions can gone keeps
+    goes_with_mounts conditions can gone keeps
 
 pub removed_from_overlays_let_go : RemovedFromOverlaysLetGo
 removed_from_overlays_let_go fresh world task call parent name directory overlay upper conditions called judged can =
-    goes_with_mounts fresh world parent (Remove parent.node name directory.node) overlay upper conditions can
-    (numbers_of_trees world (mounts_on nat_eq world directory))
+    goes_with_mounts conditions can (numbers_of_trees world (mounts_on nat_eq world directory))
     (keeps_its_mount world conditions (numbers_of_trees world (mounts_on nat_eq world directory)) parent
     (reached_on_mount world task parent
     (removal_reached fresh world conditions task called call (ToRemoveDirectory parent name directory) judged).0)
@@ -208,7 +197,7 @@ removed_from_overlays_let_go fresh world task call parent name directory overlay
 
 pub replaced_in_overlays_let_go : ReplacedInOverlaysLetGo
 replaced_in_overlays_let_go fresh world task call from old to new object replaced overlay upper conditions called judged
-    can = goes_with_mounts fresh world from (Move from.node old to.node new object.node) overlay upper conditions can
+    can = goes_with_mounts conditions can
     (numbers_of_trees world (mounts_on nat_eq world replaced))
     (keeps_its_mount world conditions (numbers_of_trees world (mounts_on nat_eq world replaced)) from
     (reached_on_mount world task from (removal_reached fresh world conditions task called call
@@ -217,8 +206,7 @@ replaced_in_overlays_let_go fresh world task call from old to new object replace
 
 pub opened_new_in_overlays_lets_go : OpenedNewInOverlaysLetsGo
 opened_new_in_overlays_lets_go fresh world task directory name node access overlay upper conditions there on can =
-    goes_with_task (odds fresh) world directory
-    (Make directory.node name (evens fresh 0) node) overlay upper conditions can (with_descriptor task file access)
+    goes_with_task conditions can (with_descriptor task file access)
     (none_left world task file access conditions.tasks.one_task (among_from_contains world.tasks task there)) on
   where
     file : Location ℕ

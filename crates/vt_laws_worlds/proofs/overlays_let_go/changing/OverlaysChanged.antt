@@ -55,9 +55,9 @@ objects_stay : (filesystem : ℕ) (numbers more : List ℕ) (overlay : Overlay �
 objects_stay filesystem numbers more overlay real stay grows object =
     grind (arith, common_steps, among-from_filter_map, among-filter_map)
 
-module _ (fresh : Fresh ℕ) (world : World ℕ) (location : Location ℕ) (change : Change ℕ) (overlay : Overlay ℕ)
-    (upper : Layer ℕ)
-    (conditions : IsWorld nat_eq world) (can : CanChange fresh world location change overlay upper) where
+module _ {fresh : Fresh ℕ} {world : World ℕ} {location : Location ℕ} {change : Change ℕ} {overlay : Overlay ℕ}
+    {upper : Layer ℕ} (conditions : IsWorld nat_eq world)
+    (can : CanChange fresh world location change overlay upper) where
   abbrev number : ℕ
   number = (mount_at nat_eq world location).filesystem
 
@@ -385,5 +385,5 @@ module _ (fresh : Fresh ℕ) (world : World ℕ) (location : Location ℕ) (chan
 
 pub overlay_changes_let_go : OverlayChangesLetGo
 overlay_changes_let_go fresh world location change overlay upper conditions can =
-    goes_within fresh world location change overlay upper conditions can
+    goes_within conditions can
     (inodes_lost_with_upper fresh world location overlay upper change) (λ filesystem inode e. e)

@@ -1,6 +1,6 @@
 -- Lists of filesystems, woven by their numbers.
 use Rattle.std.proofs.Common.{◌≡◌, refl, sym, ap, subst, ◌∙◌, ℕ, nat_eq, nat_lt, Bool, true, false, true≢false, cond, not, ◌&&◌, List, [], ◌∷◌, filter, find, Some, arith, All, ltb-true}
-use Rattle.vt_spec.proofs.Common.{All-head, All-tail, Filesystem, SameFilesystem, SameFilesystems, and_parts, common_steps, list_all}
+use Rattle.vt_spec.proofs.Common.{All-head, All-tail, Filesystem, SameFilesystem, SameFilesystems, all-filter, and_parts, common_steps, list_all}
 use Rattle.vt_laws_trees.proofs.runs.Permuted.{and_swapped}
 use Rattle.vt_laws_worlds.specs.OverlaysStay.Woven.{PlainOnesAreFound, RisingListsAreWoven, WovenListsAreAlike, WovenListsAreFailing, WovenListsAreFiltered, WovenListsArePassing, WovenListsPassAll, are_rising, put_in, woven}
 
@@ -33,19 +33,6 @@ woven_first first plain (overlay ∷ rest) before =
     ap (put_in overlay) (woven_first first plain rest parts.1)
     ∙ ap (λ b. cond b (first ∷ put_in overlay (woven plain rest)) (overlay ∷ first ∷ woven plain rest)) parts.0
 
--- what holds of all holds of those that pass
-all_filtered : {A : Type 0} (p q : A → Bool) (list : List A) → list_all p list ≡ true
-    → list_all p (filter q list) ≡ true
-all_filtered p q [] all = refl
-all_filtered p q (first ∷ rest) all =
-    let parts = and_parts (p first) (list_all p rest) all in
-    by (q first) parts.0 (all_filtered p q rest parts.1)
-  where
-    by : (b : Bool) → p first ≡ true → list_all p (filter q rest) ≡ true
-        → list_all p (cond b (first ∷ filter q rest) (filter q rest)) ≡ true
-    by true here later = λ i. here i && later i
-    by false here later = later
-
 pub rising_lists_are_woven : RisingListsAreWoven
 rising_lists_are_woven test [] rising = refl
 rising_lists_are_woven test (first ∷ rest) rising =
@@ -58,7 +45,7 @@ rising_lists_are_woven test (first ∷ rest) rising =
         (cond b (first ∷ filter test rest) (filter test rest)) ≡ first ∷ rest
     by true before later = ap (put_in first) later ∙ put_first first rest before
     by false before later = woven_first first (filter (fails test) rest) (filter test rest)
-        (all_filtered (is_before first) test rest before) ∙ ap (λ list. first ∷ list) later
+        (all-filter (is_before first) test rest before) ∙ ap (λ list. first ∷ list) later
 
 -- Taking apart
 
@@ -127,7 +114,7 @@ rising_filtered stays (first ∷ rest) rising =
   where
     by : (b : Bool) → list_all (is_before first) rest ≡ true → are_rising (filter stays rest) ≡ true
         → are_rising (cond b (first ∷ filter stays rest) (filter stays rest)) ≡ true
-    by true before later = λ i. all_filtered (is_before first) stays rest before i && later i
+    by true before later = λ i. all-filter (is_before first) stays rest before i && later i
     by false before later = later
 
 -- filters by two tests, in whatever order

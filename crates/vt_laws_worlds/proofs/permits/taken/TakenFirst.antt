@@ -1,13 +1,12 @@
 -- Only the first numbers of a supply are taken.
 use Rattle.std.proofs.Common.{◌≡◌, refl, sym, ap, subst, ◌∙◌, true≢false, ℕ, zero, suc, ◌+◌, ◌*◌, ◌<◌, nat_eq, Bool, true, false, cond, List, [], ◌∷◌, length, map, filter, Option, Some, None, find, arith, unwrap_or, ◌==◌}
 use Rattle.vt_spec.proofs.Common.{Change, CopyUp, Fresh, IsWorld, Location, Make, Mount, MountFlags, Move, Namespace, Node, Overlay, Permit, Private, Propagation, Remove, SetBytes, Shared, Slave, Task, ToBind, ToChange, ToMake, ToMountOverlay, ToMountPlain, ToMove, ToOpen, ToOpenNew, ToPrivate, ToRemoveDirectory, ToRename, ToSetType, ToShared, ToSlave, ToUnbindable, ToUnshare, ToWritePart, Unbindable, World, among-from_map, among_from_list_all, among_numbers, and_parts, apply, attach, bind_tree, bytes_in, common_steps, filesystems-taken_away, group_of, has_one_root, index_of, is_copied_up, is_listed, is_root_mount, list_all, mount_in, mount_numbered, mount_tree, mounts_of, named_mounts, namespaces_ended, new_mount, new_plain, no_mount, node_at, numbers_by, odds, opened, overwritten, plain_filesystem, pwritten, retyped, settled, task_called, tree_from, with_change, with_copy, with_new_filesystem, with_new_inode, without_mounts_on, without_replaced}
-use Rattle.vt_laws_trees.proofs.runs.answered.PlainStays.{same_plain}
+use Rattle.vt_laws_trees.proofs.runs.answered.PlainStays.{plain_numbered, same_plain}
 use Rattle.vt_laws_worlds.proofs.permits.taken.TakenAttached.{copied_same, index_bound, moved_same}
 use Rattle.vt_laws_worlds.specs.Permits.Named.{permit_named}
 use Rattle.vt_laws_worlds.proofs.permits.taken.TakenTypes.{retyped_same}
 use Rattle.vt_laws_worlds.specs.Permits.Taken.{IsUngrouped, OnlyTheFirstAreTaken, is_ungrouped, numbers_taken}
 use Rattle.vt_spec.specs.Machine.Namespaces.{unshared_by}
-use Rattle.vt_laws_worlds.proofs.Plain.{plain_numbered}
 use Rattle.vt_laws_worlds.specs.Worlds.Kept.{IsPlain}
 use Rattle.vt_laws_trees.proofs.trees.TreesTasks.{called_there}
 

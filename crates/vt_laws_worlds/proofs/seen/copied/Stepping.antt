@@ -1,6 +1,7 @@
 -- Copies one prefix at a time.
 use Rattle.std.proofs.Common.{arith, ◌≡◌, ◌≢◌, refl, sym, ap, subst, ◌∙◌, ℕ, nat_eq, List, [], ◌∷◌, ◌++◌, length, Option, Some, None, is_some, unwrap_or, option_map, append-nil}
-use Rattle.vt_spec.proofs.Common.{FileTree, Fresh, Make, Merge, Node, SameObject, Stack, changed, common_steps, copied_up, last_or, none_is_some, number_at_path, rest_of, same_Some, then_some}
+use Rattle.vt_laws_trees.proofs.layers.layers.ShownPaths.{last_of_longer}
+use Rattle.vt_spec.proofs.Common.{FileTree, Fresh, Make, Merge, Node, SameObject, Stack, changed, common_steps, copied_up, none_is_some, number_at_path, rest_of, same_Some, then_some}
 use Rattle.vt_laws_trees.proofs.layers.layers.UpperShown.{without_last_of_longer}
 use Rattle.vt_laws_trees.proofs.overlays.steps.WholeLines.{object_copied}
 use Rattle.vt_laws_worlds.specs.Merging.UpperChanges.{copied_to, copy_node, copy_over, node_seen, object_above}
@@ -40,10 +41,6 @@ longer : (front rest : List (List ℕ)) (name : List ℕ) → (front ++ name ∷
 longer [] rest name e = absurd cc
 longer (word ∷ front) rest name e = longer front rest name (ap rest_of e)
 
-last_is : (default name : List ℕ) (front : List (List ℕ)) → last_or default (front ++ name ∷ []) ≡ name
-last_is default name [] = refl
-last_is default name (word ∷ front) = last_is word name front
-
 module _ (fresh : Fresh ℕ) (stack : Stack ℕ) (merge : Merge ℕ) (front : List (List ℕ)) (name : List ℕ)
     (above : ℕ) (node : Node ℕ) where
   abbrev path : List (List ℕ)
@@ -55,7 +52,7 @@ module _ (fresh : Fresh ℕ) (stack : Stack ℕ) (merge : Merge ℕ) (front : Li
   over : (seen : Option (Node ℕ)) → object_above stack later front ≡ above
       → option_map (copy_node above) seen ≡ Some (copy_node above node) → copy_over fresh stack later path None seen
       ≡ changed nat_eq later (Make above name (fresh (length path)) (copy_node above node))
-  over seen at e = grind (arith, common_steps, none_is_some, without_last_of_longer, last_is, same_Some)
+  over seen at e = grind (arith, common_steps, none_is_some, without_last_of_longer, last_of_longer, same_Some)
 
 pub step_by_step : CopiesGoStepByStep
 step_by_step fresh stack merge whole new front name parent above node leads none seen is =

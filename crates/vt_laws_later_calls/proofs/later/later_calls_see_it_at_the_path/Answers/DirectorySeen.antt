@@ -60,7 +60,7 @@ module _ {world : World ℕ} {fresh : Fresh ℕ} {name : TaskName} {old new : Li
   Fit = Fits it permit_is parts.uncovered is_dir outside
 
   mounts_are : (reading : Task ℕ) → reading.root ≡ it.did.task.root
-      → MountsSeen world later it.is it.plain is_left.0 is_left.1 it.did.task reading
+      → MountsSeen it.is it.plain is_left.0 is_left.1 it.did.task reading
   mounts_are = mounts_seen it permit_is parts.uncovered is_dir outside
 
   objects_are : ObjectsStay world later Missing
@@ -68,7 +68,7 @@ module _ {world : World ℕ} {fresh : Fresh ℕ} {name : TaskName} {old new : Li
       Missing refl
 
   ways_are : (reading : Task ℕ) → reading.root ≡ it.did.task.root
-      → FitsWays world later it.is it.plain is_left.0 is_left.1 it.did.task reading Missing Fit
+      → FitsWays it.is it.plain is_left.0 is_left.1 it.did.task reading Missing Fit
   ways_are reading roots = fits_ways it permit_is parts.uncovered is_dir outside
       reading roots Missing
 
@@ -98,7 +98,7 @@ module _ {world : World ℕ} {fresh : Fresh ℕ} {name : TaskName} {old new : Li
 
   module _ (reader : TaskName) (reading : Task ℕ) (called : task_called later reader ≡ Some reading)
       (stands : StandsAs it.did.task reading) (looks : MayLook it.did.task reading) where
-    abbrev still : SeesStill world later it.is it.plain is_left.0 is_left.1 it.did.task reading Missing Fit
+    abbrev still : SeesStill it.is it.plain is_left.0 is_left.1 it.did.task reading Missing Fit
     still = record {
       called = own;
       called_later = own_name later reader reading called;
@@ -109,11 +109,11 @@ module _ {world : World ℕ} {fresh : Fresh ℕ} {name : TaskName} {old new : Li
     }
 
     abbrev KnownSo : Location ℕ → Type 0
-    KnownSo = Known world later it.is it.plain is_left.0 is_left.1 it.did.task reading still
+    KnownSo = Known it.is it.plain is_left.0 is_left.1 it.did.task reading still
 
     here_is : (here : Location ℕ) → KnownSo here
         → node_at nat_eq later here ≡ node_in later (mount_at nat_eq world here).filesystem here.node
-    here_is here known = node_here world later it.is it.plain is_left.0 is_left.1 it.did.task reading still here known.0
+    here_is here known = node_here it.is it.plain is_left.0 is_left.1 it.did.task reading still here known.0
 
     now_there : (here : Location ℕ) → KnownSo here
         → is_some (node_in later (mount_at nat_eq world here).filesystem here.node) ≡ true
@@ -136,7 +136,7 @@ module _ {world : World ℕ} {fresh : Fresh ℕ} {name : TaskName} {old new : Li
             (now_there here known) known.0.0.1 it.did.task.credentials execute_right ∙ e
 
     leads : LeadsToo (looks_of nat_eq world) (looks_of nat_eq later) it.did.task reading Missing KnownSo
-    leads = ways_lead world later it.is it.plain is_left.0 is_left.1 it.did.task reading still searched
+    leads = ways_lead it.is it.plain is_left.0 is_left.1 it.did.task reading still searched
         (root_fits it permit_is parts.uncovered is_dir outside)
         (directory_fits it permit_is parts.uncovered is_dir outside)
 

@@ -59,7 +59,7 @@ module _ {world : World ℕ} {fresh : Fresh ℕ} {name : TaskName} {path : List 
     abbrev is_later : IsWorld nat_eq later × IsPlain later
     is_later = is_left it parts.permit_is
 
-    abbrev still : SeesStill world later it.is it.plain is_later.0 is_later.1 it.did.task reading Refused Fit
+    abbrev still : SeesStill it.is it.plain is_later.0 is_later.1 it.did.task reading Refused Fit
     still = record {
       called = own_task it parts.permit_is;
       called_later = own_name later reader reading called;
@@ -70,11 +70,11 @@ module _ {world : World ℕ} {fresh : Fresh ℕ} {name : TaskName} {path : List 
     }
 
     abbrev KnownSo : Location ℕ → Type 0
-    KnownSo = Known world later it.is it.plain is_later.0 is_later.1 it.did.task reading still
+    KnownSo = Known it.is it.plain is_later.0 is_later.1 it.did.task reading still
 
     here_is : (here : Location ℕ) → KnownSo here → node_at nat_eq later here
         ≡ node_in later (mount_at nat_eq world here).filesystem here.node
-    here_is here known = node_here world later it.is it.plain is_later.0 is_later.1 it.did.task reading still here
+    here_is here known = node_here it.is it.plain is_later.0 is_later.1 it.did.task reading still here
         known.0
 
     now_there : (here : Location ℕ) → KnownSo here
@@ -100,7 +100,7 @@ module _ {world : World ℕ} {fresh : Fresh ℕ} {name : TaskName} {path : List 
 
     module _ (root_fits : Fit it.did.task.root) (directory_fits : Fit it.did.task.directory) where
       leads : LeadsToo (looks_of nat_eq world) (looks_of nat_eq later) it.did.task reading Refused KnownSo
-      leads = ways_lead world later it.is it.plain is_later.0 is_later.1 it.did.task reading still searched root_fits
+      leads = ways_lead it.is it.plain is_later.0 is_later.1 it.did.task reading still searched root_fits
           directory_fits
 
       gone : (later_fresh : Fresh ℕ)

@@ -10,7 +10,6 @@ use Rattle.vt_laws_worlds.proofs.permits.sees.SeesNames.{tree_here}
 use Rattle.vt_laws_worlds.proofs.permits.sees.SeesTasks.{given_permits_are_seen_to}
 use Rattle.vt_laws_trees.specs.Trees.{IsFileTree}
 use Rattle.vt_laws_worlds.specs.Worlds.Kept.{IsPlain}
-use Rattle.vt_laws_worlds.proofs.Plain.{plain_numbered}
 use Rattle.vt_laws_worlds.proofs.worlds.Reached.{IsFound, directory_found, step_found}
 use Rattle.vt_laws_worlds.proofs.worlds.ReachedWalks.{own_directory_found, root_found}
 use Rattle.vt_laws_later_calls.specs.LaterPaths.{RenameThenLstat}
@@ -27,6 +26,7 @@ use Rattle.vt_laws_later_calls.proofs.Ways.{LeadsToo, both_walked, same_end, wal
 use Rattle.vt_laws_later_calls.proofs.WaysChanges.{RightsStay, TreeStays, moved_entry, moved_missing, moved_object, rights_moved, ways_moved}
 use Rattle.vt_laws_later_calls.proofs.WaysPlaces.{named_place, symlink_missing, symlink_named_too}
 use Rattle.vt_laws_later_calls.proofs.WaysStay.{StandsAs, node_in}
+use Rattle.vt_laws_trees.proofs.runs.answered.PlainStays.{plain_numbered}
 
 -- walks of a world lead where they lead
 pub itself_leads : (Refused : Deny → Type 0) (world : World ℕ) (is : IsWorld nat_eq world) → IsPlain world

@@ -109,10 +109,11 @@ file_place looks task (suc depth) start text slash end e special =
         (symlink_start nat_eq looks task here.location (symlink_of here place) inner)) _ end g in
         rec steps.0 inner steps.2
 
-module _ (looks later : Looks ℕ) (task reader : Task ℕ) (Refused : Deny → Type 0) (Known : Location ℕ → Type 0)
+module _ {looks later : Looks ℕ} {task reader : Task ℕ} {Refused : Deny → Type 0} {Known : Location ℕ → Type 0}
     (leads : LeadsToo looks later task reader Refused Known)
     (bare : (object : Location ℕ) (text : List ℕ) → symlink_text (looks.node object) ≡ Some text
-    → topmost looks object ≡ object) (root_directory : is_directory_at looks task.root ≡ true) where
+    → topmost looks object ≡ object)
+    (root_directory : is_directory_at looks task.root ≡ true) where
   -- words, of which the last leads to what is there now, which is no link
   named_from : (depth : ℕ) (start here : Here ℕ) (word : List ℕ) (front : List (List ℕ)) (next : Location ℕ)
       → suc start.left ≤ 41 → suc start.left ≤ depth

@@ -98,7 +98,7 @@ module _ (world later : World ℕ) (is : IsWorld nat_eq world) (task : Task ℕ)
       → symlink_text (node_at nat_eq later file) ≡ None
       → (left : ℕ) × EndsAt (object_walk nat_eq (looks_of nat_eq later) reader path) file left
   file_found found no_link =
-      let finds = file_too (looks_of nat_eq world) (looks_of nat_eq later) task reader Never Known leads_so
+      let finds = file_too leads_so
       (λ object text e. uncovered world is object (link_no_directory (node_at nat_eq world object) text e))
       (root_found world is task called).1 41 (walk_start task path) path false place
       (omega arith) start_is parts.walked named no_slash 41 (omega arith) file found no_link in (

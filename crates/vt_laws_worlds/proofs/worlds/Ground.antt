@@ -1,4 +1,4 @@
--- Where a task of others gets: to mounts of its namespace, or where it stands.
+-- Where a task gets: to mounts of its namespace, or where it stands.
 use Rattle.std.proofs.Common.{arith, ◌≡◌, refl, sym, ap, subst, ◌∙◌, ◌⊎◌, inl, inr, ⊎_elim, ℕ, nat_eq, true, List, Option, Some, None, Ok, Err, Result, length, eqb-true, ok_or, option_map}
 use Rattle.vt_spec.proofs.Common.{Among, Dot, DotDot, IsWorld, LastWord, Location, Mount, Named, NoWord, Stands, Task, World, among_from_all, among_from_list_all, and_parts, child_at, common_steps, denial, entry_location, found_among, found_or_none, found_passes, hops, is_directory_seen_in, last_or, last_word, looks_of, mount_at, mount_numbered, none_is_some, number-mount_in, root_of, same_Some, stands_at, stands_on_directories, start_of, stepped, topmost, up_from, words}
 use Rattle.vt_spec.specs.declared.errors.Deny.{Deny}
@@ -19,7 +19,7 @@ module _ (world : World ℕ) (is : IsWorld nat_eq world) (task : Task ℕ) (ther
       ⊎ (((mount_numbered nat_eq world number).namespace ≡ None)
       × ((number ≡ task.root.mount) ⊎ (number ≡ task.directory.mount)))
 
-  abbrev OnGround : Location ℕ → Type 0
+  abbrev pub OnGround : Location ℕ → Type 0
   OnGround location = IsGround location.mount
 
   seen : (location : Location ℕ) → is_directory_seen_in nat_eq world task.namespace location ≡ true
@@ -33,7 +33,7 @@ module _ (world : World ℕ) (is : IsWorld nat_eq world) (task : Task ℕ) (ther
       (is_directory_seen_in nat_eq world task.namespace task.directory)
       (among_from_list_all (stands_on_directories nat_eq world) world.tasks is.tasks.directories task there)
 
-  root_ground : OnGround task.root
+  pub root_ground : OnGround task.root
   root_ground = ⊎_elim inl (λ none. inr (none, inl refl)) (seen task.root stood.0)
 
   pub directory_ground : OnGround task.directory
@@ -43,8 +43,14 @@ module _ (world : World ℕ) (is : IsWorld nat_eq world) (task : Task ℕ) (ther
       → OnGround (start_of task directory text)
   start_ground directory text ground = grind (arith, common_steps, root_ground)
 
+  pub own_there : (number : ℕ) → (mount_numbered nat_eq world number).namespace ≡ Some task.namespace
+      → Among (mount_numbered nat_eq world number) world.mounts
+  own_there number own = ⊎_elim (λ m. m)
+      (λ missing. none_is_some task.namespace (sym (ap (λ (x : Mount ℕ). x.namespace) missing) ∙ own))
+      (found_or_none world.mounts number)
+
   -- a child is on the same ground
-  child_ground : (a b : Location ℕ) → OnGround a → option_map root_of (child_at nat_eq world.mounts a) ≡ Some b
+  pub child_ground : (a b : Location ℕ) → OnGround a → option_map root_of (child_at nat_eq world.mounts a) ≡ Some b
       → OnGround b
   child_ground a b ground e = by (child_at nat_eq world.mounts a) refl e
     where
@@ -67,29 +73,28 @@ module _ (world : World ℕ) (is : IsWorld nat_eq world) (task : Task ℕ) (ther
       (length world.mounts) location location ground
 
   -- so is a parent
-  parent_ground : (number : ℕ) (point : Location ℕ) → IsGround number
+  pub parent_ground : (number : ℕ) (point : Location ℕ) → IsGround number
       → (mount_numbered nat_eq world number).mount_point ≡ Some point → OnGround point
   parent_ground number point ground e = ⊎_elim (λ own.
-      let m = found number own in
+      let m = own_there number own in
       inl (sym (namespace_below world number point (subst (Stands nat_eq world) (number-mount_in world.mounts number)
       (among_from_all (λ (x : Mount ℕ). Stands nat_eq world x.number) world.mounts is.mounts.standing
       (mount_numbered nat_eq world number) m)) e) ∙ own)) (λ none. ⊎_elim
       (λ m. absurd (placed_inside world is.mounts (mount_numbered nat_eq world number) m point e none.0))
       (λ missing. none_is_some point (sym (ap (λ (x : Mount ℕ). x.mount_point) missing) ∙ e))
       (found_or_none world.mounts number)) ground
-    where
-      found : (number : ℕ) → (mount_numbered nat_eq world number).namespace ≡ Some task.namespace
-          → Among (mount_numbered nat_eq world number) world.mounts
-      found number own = ⊎_elim (λ m. m)
-          (λ missing. none_is_some task.namespace (sym (ap (λ (x : Mount ℕ). x.namespace) missing) ∙ own))
-          (found_or_none world.mounts number)
 
-  hop_ground : (a b : Location ℕ) → OnGround a → hop nat_eq (looks_of nat_eq world) task a ≡ Some b → OnGround b
+  pub hop_ground : (a b : Location ℕ) → OnGround a → hop nat_eq (looks_of nat_eq world) task a ≡ Some b → OnGround b
   hop_ground a b ground e = grind (arith, common_steps, none_is_some, parent_ground)
 
-  up_ground : (top next : Location ℕ) → OnGround top → up_from nat_eq (looks_of nat_eq world) task top ≡ Ok next
+  pub up_ground : (top next : Location ℕ) → OnGround top → up_from nat_eq (looks_of nat_eq world) task top ≡ Ok next
       → OnGround next
   up_ground top next ground e = search (arith, common_steps, topmost_ground)
+
+  -- an entry is on the mount of its directory
+  pub entry_ground : (here : Location ℕ) (name : List ℕ) → OnGround here → (l : Location ℕ)
+      → entry_location nat_eq (looks_of nat_eq world) here name ≡ Some l → OnGround l
+  entry_ground here name ground l e = search (arith, common_steps, none_is_some, same_Some)
 
   pub step_ground : (here next : Location ℕ) (word : LastWord) → OnGround here
       → stepped nat_eq (looks_of nat_eq world) task here word ≡ Ok next → OnGround next
@@ -108,16 +113,10 @@ module _ (world : World ℕ) (is : IsWorld nat_eq world) (task : Task ℕ) (ther
           refused k = absurd cc
       by (Some entry) f h = reached h
         where
-          on_mount : (o : Option ℕ) → option_map (λ object. record { mount = here.mount; node = object }) o ≡ Some entry
-              → OnGround entry
-          on_mount None g = none_is_some entry g
-          on_mount (Some object) g =
-              subst OnGround (same_Some (record { mount = here.mount; node = object }) entry g) ground
-
           reached : Path (Result (Location ℕ) Deny) (Ok (topmost nat_eq world.mounts entry)) (Ok next) → OnGround next
           reached k =
               let same : topmost nat_eq world.mounts entry ≡ next = cc in
-              subst OnGround same (topmost_ground entry (on_mount _ f))
+              subst OnGround same (topmost_ground entry (entry_ground here name ground entry f))
 
   -- the end of a way
   pub way_ground : (here end : Location ℕ) (path_words : List (List ℕ)) (passed : List (Location ℕ))
