@@ -42,8 +42,8 @@ module _ {world : World ℕ} {names : List TaskName} {task : Task ℕ} (member :
 
 -- A granted mount of a plain filesystem
 module _ {world : World ℕ} {names : List TaskName} {name : TaskName} {path : List ℕ} {flags : MountFlags}
-    (it : IsCallOfTheirs world names name (MountPlain path flags)) (task : Task ℕ)
-    (called : task_called world name ≡ Some task) (fresh : Fresh ℕ) (serves : Serves nat_eq world fresh)
+    (it : IsCallOfTheirs world names name (MountPlain path flags)) {task : Task ℕ}
+    (called : task_called world name ≡ Some task) {fresh : Fresh ℕ} (serves : Serves nat_eq world fresh)
     (here : Location ℕ) (on : is_theirs world names here.mount ≡ true)
     (own : is_own world names (members world names) (mount_at nat_eq world here) ≡ true)
     (judged : judge_in nat_eq fresh world task (MountPlain path flags) ≡ Ok (ToMountPlain here flags)) where
@@ -149,8 +149,7 @@ plain_mounts_end_alike world names name path flags it fresh serves = by (task_ca
         → (j : Judgement ℕ) → judge_in nat_eq fresh world task (MountPlain path flags) ≡ j
         → IfOk j (Mounts member flags)
         → EndsAlike world names name (MountPlain path flags) fresh fresh
-    judged_by task member e (Ok permit) judged its =
-        mount_alike it task e fresh serves its.0 its.2 its.3 (judged ∙ ap Ok its.1)
+    judged_by task member e (Ok permit) judged its = mount_alike it e serves its.0 its.2 its.3 (judged ∙ ap Ok its.1)
     judged_by task member e (Err deny) judged its =
         denial_ends_alike it fresh fresh (ap (λ o. is_ok (ran name (MountPlain path flags) world fresh o).answer) e
         ∙ ap (λ j. is_ok (run_by it world fresh task j).answer) judged)

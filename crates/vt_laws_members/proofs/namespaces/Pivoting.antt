@@ -77,7 +77,7 @@ module _ (root new : Mount ℕ) (put : Location ℕ) where
 
 -- A granted pivot
 module _ {world : World ℕ} {names : List TaskName} {name : TaskName} {new_path put_path : List ℕ}
-    (it : IsCallOfTheirs world names name (PivotRoot new_path put_path)) (task : Task ℕ)
+    (it : IsCallOfTheirs world names name (PivotRoot new_path put_path)) {task : Task ℕ}
     (called : task_called world name ≡ Some task) (fresh supply : Fresh ℕ) (number : ℕ) (put : Location ℕ)
     (judged : judge_in nat_eq fresh world task (PivotRoot new_path put_path) ≡ Ok (ToPivot number put)) where
   abbrev part : World ℕ
@@ -304,8 +304,7 @@ pivots_end_alike world names name new put it fresh supply = by (task_called worl
     judged_by : (task : Task ℕ) → task_called world name ≡ Some task
         → (j : Judgement ℕ) → judge_in nat_eq fresh world task (PivotRoot new put) ≡ j
         → IfOk j (PivotsThere world it.is.mounts task) → EndsAlike world names name (PivotRoot new put) fresh supply
-    judged_by task e (Ok (ToPivot number at)) judged its =
-        pivot_alike it task e fresh supply number at judged
+    judged_by task e (Ok (ToPivot number at)) judged its = pivot_alike it e fresh supply number at judged
     judged_by task e (Ok permit) judged its = absurd its
     judged_by task e (Err deny) judged its = denial_ends_alike it fresh supply
         (ap (λ o. is_ok (ran name (PivotRoot new put) world fresh o).answer) e

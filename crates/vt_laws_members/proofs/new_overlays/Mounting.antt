@@ -14,11 +14,13 @@ use Rattle.vt_laws_members.proofs.new_overlays.NewFilesystem.{mounted_alike, now
 use Rattle.vt_laws_members.proofs.new_overlays.SameOverlay.{same_overlay}
 
 -- A granted mount of an overlay
-module _ {world : World ℕ} {names : List TaskName} {name : TaskName} {path : List ℕ} {options : Option OverlayWords}
-    {flags : MountFlags} (it : IsCallOfTheirs world names name (MountOverlay path options flags)) (task : Task ℕ)
-    (member : Among task (members world names)) (called : task_called world name ≡ Some task) (fresh : Fresh ℕ)
-    (serves : Serves nat_eq world fresh) (permit : Permit ℕ) (its : MountsOverlay (a_member (sealing_of it) member)
-    flags permit) (judged : judge_in nat_eq fresh world task (MountOverlay path options flags) ≡ Ok permit) where
+module _ {world : World ℕ} {names : List TaskName} {name : TaskName} {path : List ℕ}
+    {options : Option OverlayWords} {flags : MountFlags}
+    (it : IsCallOfTheirs world names name (MountOverlay path options flags)) {task : Task ℕ}
+    (member : Among task (members world names)) (called : task_called world name ≡ Some task) {fresh : Fresh ℕ}
+    (serves : Serves nat_eq world fresh) {permit : Permit ℕ}
+    (its : MountsOverlay (a_member (sealing_of it) member) flags permit)
+    (judged : judge_in nat_eq fresh world task (MountOverlay path options flags) ≡ Ok permit) where
   abbrev part : World ℕ
   part = part_of nat_eq world names
 
@@ -80,7 +82,7 @@ overlay_mounts_end_alike world names name path options flags it fresh serves = b
         → (j : Judgement ℕ) → judge_in nat_eq fresh world task (MountOverlay path options flags) ≡ j
         → EndsAlike world names name (MountOverlay path options flags) fresh fresh
     judged_by task member e (Ok permit) judged =
-        mount_alike it task member e fresh serves permit (mounts_overlay (a_member (sealing_of it) member) fresh path
+        mount_alike it member e serves (mounts_overlay (a_member (sealing_of it) member) fresh path
         options flags permit (calls_are_granted nat_eq (looks_of nat_eq world) (overfills nat_eq fresh world task) task
         (MountOverlay path options flags) permit judged)) judged
     judged_by task member e (Err deny) judged =

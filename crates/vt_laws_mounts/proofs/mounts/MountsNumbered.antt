@@ -207,7 +207,7 @@ module _ (world : World ℕ) (place : Location ℕ) where
       (among-from_filter (takes_part nat_eq world place) (receivers_of nat_eq world (mount_at nat_eq world place))
       mount m).1)) (takers_apart one (group_of (mount_at nat_eq world place).propagation))
 
-module _ (world : World ℕ) (new : Copies ℕ) (place : Location ℕ) (moves : Bool) (mounts : List (Mount ℕ))
+module _ {world : World ℕ} {new : Copies ℕ} (place : Location ℕ) (moves : Bool) {mounts : List (Mount ℕ)}
     (serve : ServeAsCopies world (parts_of nat_eq world place) mounts new) (own : OneNumberAMount mounts)
     (one : OneNumberAMount world.mounts) where
   abbrev tree : Graft ℕ
@@ -298,9 +298,9 @@ module _ (world : World ℕ) (new : Copies ℕ) (place : Location ℕ) (moves : 
 
 pub copies_keep_numbers : CopiesKeepNumbers
 copies_keep_numbers world new place false mounts serve own one =
-    finish world new place false mounts serve own one (parts_of nat_eq world place) (parts_apart world place one)
+    finish place false serve own one (parts_of nat_eq world place) (parts_apart world place one)
     (λ part m. (m, refl)) refl
-copies_keep_numbers world new place true mounts serve own one = finish world new place true mounts serve own one
+copies_keep_numbers world new place true mounts serve own one = finish place true serve own one
     (filter (takes_part nat_eq world place) (receivers_of nat_eq world (mount_at nat_eq world place)))
     (takers_apart world place one (group_of (mount_at nat_eq world place).propagation)) (λ part m. (
       inr m,

@@ -43,10 +43,10 @@ module _ {world : World ℕ} {fresh : Fresh ℕ} {names : List TaskName} {name :
       let left : (call_outcome nat_eq fresh world task call).world ≡ (apply nat_eq fresh world task permit).world =
       ap (λ (o : Outcome ℕ). o.world) (call_is_judged_then_applied fresh world task call
       ∙ ap (λ j. after world j (apply nat_eq fresh world task)) judged) in
-      let way = under world fresh task call permit outsider.is outsider.serves itself other outsider.few_groups judged
+      let way = under call outsider.is outsider.serves itself other outsider.few_groups judged
       in sweep_leaves_apart
       (apart_from outsider.it) outsider.sealed_off (subst (TreeInvariants nat_eq) left way.files)
-      (subst (OverlayInvariants nat_eq) left (overlays_kept world fresh task call permit outsider.is outsider.serves
+      (subst (OverlayInvariants nat_eq) left (overlays_kept call outsider.is outsider.serves
       itself other outsider.few_groups judged)) (subst (MountInvariants nat_eq) left way.mounts).one_number
       leaves
 

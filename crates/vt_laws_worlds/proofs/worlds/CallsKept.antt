@@ -132,9 +132,9 @@ module _ (world : World ℕ) (fresh : Fresh ℕ) (task : Task ℕ) (call : Call)
       let left = settling_leaves_a_world after_call unsettled in
       raising_numbers_keeps_world world name changed (settled nat_eq after_call) left.0 left.1
 
-module _ (world : World ℕ) (fresh : Fresh ℕ) (name : TaskName) (call : Call)
-    (is : IsWorld nat_eq world) (plain : IsPlain world) (serves : Serves nat_eq world fresh)
-    (other : mounts_overlay call ≡ false) (few : names_few_groups call ≡ true) where
+module _ {world : World ℕ} {fresh : Fresh ℕ} (name : TaskName) (call : Call) (is : IsWorld nat_eq world)
+    (plain : IsPlain world) (serves : Serves nat_eq world fresh) (other : mounts_overlay call ≡ false)
+    (few : names_few_groups call ≡ true) where
   unchanged : (policy nat_eq fresh world name call).world ≡ world → Kept (policy nat_eq fresh world name call).world
   unchanged same = subst Kept (sym same) (is, plain)
 
@@ -189,7 +189,7 @@ pub calls_keep_worlds : CallsKeepWorlds
 calls_keep_worlds world fresh name call is plain serves other few = by (task_called world name) refl
   where
     by : (o : Option (Task ℕ)) → task_called world name ≡ o → Kept (policy nat_eq fresh world name call).world
-    by None e = unchanged world fresh name call is plain serves other few (ap (λ o. (after world (ok_or o (denial S2))
+    by None e = unchanged name call is plain serves other few (ap (λ o. (after world (ok_or o (denial S2))
         (λ t. finished nat_eq world name call (filesystems_changed_by nat_eq world (judge_in nat_eq fresh world t call))
         (call_outcome nat_eq fresh world t call))).world) e)
-    by (Some task) e = called world fresh name call is plain serves other few task e
+    by (Some task) e = called name call is plain serves other few task e

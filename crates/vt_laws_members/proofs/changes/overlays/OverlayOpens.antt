@@ -40,12 +40,13 @@ writes_above world fresh task asked permit
     (λ i. opens_for_writing (sym kind i) && has_no_upper (looks_of nat_eq world) (sym same i)) ∙ passed.1.1.1.0
 writes_above world fresh task asked permit other_way file wanted e = absurd cc
 
-module _ {world : World ℕ} {names : List TaskName} {name : TaskName} {path : List ℕ} {access : Access} {how : Creation}
-    (it : IsCallOfTheirs world names name (OpenFile path access how)) (task : Task ℕ)
-    (called : task_called world name ≡ Some task) (fresh : Fresh ℕ) (file : Location ℕ) (wanted : Access)
-    (ground : IsTheirs world names it.is.mounts file.mount) (copied : is_copied_up nat_eq world file wanted ≡ true)
+module _ {world : World ℕ} {names : List TaskName} {name : TaskName} {path : List ℕ} {access : Access}
+    {how : Creation} (it : IsCallOfTheirs world names name (OpenFile path access how)) {task : Task ℕ}
+    (called : task_called world name ≡ Some task) {fresh : Fresh ℕ} {file : Location ℕ} (wanted : Access)
+    (ground : IsTheirs world names it.is.mounts file.mount)
+    (copied : is_copied_up nat_eq world file wanted ≡ true)
     (given : judge_in nat_eq fresh world task (OpenFile path access how) ≡ Ok (ToOpen file wanted))
-    (overlay : Overlay ℕ) (upper : Layer ℕ) (can : CanChange fresh world file (CopyUp file.node) overlay upper) where
+    {overlay : Overlay ℕ} {upper : Layer ℕ} (can : CanChange fresh world file (CopyUp file.node) overlay upper) where
   abbrev part : World ℕ
   part = part_of nat_eq world names
 
@@ -148,7 +149,7 @@ overlay_opens_end_alike world names name path access how it task called fresh se
         (sym ((λ i. parts.0 i && overlay_or false (λ (v : Overlay ℕ). not (is_some v.upper)) (overlaid i))
         ∙ ap (λ o. not (is_some o)) none) ∙ above))
     layered overlay overlaid (Some upper) has =
-        open_through_ends it task called fresh file wanted ground copied given overlay upper
+        open_through_ends it called wanted ground copied given
         (permits_can_change world fresh task call (ToOpen file wanted) file (CopyUp file.node) overlay upper it.is
         serves itself given asks overlaid has)
 

@@ -87,7 +87,7 @@ only_task (first ∷ rest) one a b m n e =
 
 -- A task with other rights
 module _ {world : World ℕ} {names : List TaskName} {name : TaskName} {call : Call}
-    (it : IsCallOfTheirs world names name call) (task : Task ℕ) (found : task_called world name ≡ Some task)
+    (it : IsCallOfTheirs world names name call) {task : Task ℕ} (found : task_called world name ≡ Some task)
     (new : Task ℕ) (named : new.name ≡ task.name) (spaced : new.namespace ≡ task.namespace)
     (rooted : (new.root ∷ new.directory ∷ []) ≡ (task.root ∷ task.directory ∷ []))
     (placed : locations_of new ≡ locations_of task) where
@@ -155,7 +155,7 @@ umasks_end_alike world names name mode it fresh other = by (task_called world na
   where
     by : (o : Option (Task ℕ)) → task_called world name ≡ o → EndsAlike world names name (Umask mode) fresh other
     by None e = unnamed_ends_alike it fresh other e
-    by (Some task) e = rights_end it task e (record task { umask = permission_bits mode }) refl refl refl refl Done
+    by (Some task) e = rights_end it e (record task { umask = permission_bits mode }) refl refl refl refl Done
         fresh other refl refl refl
 
 pub drops_end_alike : DropsEndAlike
@@ -163,7 +163,7 @@ drops_end_alike world names name which it fresh other = by (task_called world na
   where
     by : (o : Option (Task ℕ)) → task_called world name ≡ o → EndsAlike world names name (Drop which) fresh other
     by None e = unnamed_ends_alike it fresh other e
-    by (Some task) e = rights_end it task e (record task
+    by (Some task) e = rights_end it e (record task
         { credentials = with_dropped task.credentials (capabilities_of which task.credentials) }) refl refl refl refl
         Done fresh other refl refl refl
 
@@ -184,7 +184,7 @@ pub idle_end_alike : (world : World ℕ) (names : List TaskName) (name : TaskNam
     ≡ with_tasks (part_of nat_eq world names) name answer (part_of nat_eq world names).tasks
     → EndsAlike world names name call fresh other
 idle_end_alike world names name call it task found fresh other answer stays one two =
-    rights_end it task found task refl refl refl refl answer fresh other stays
+    rights_end it found task refl refl refl refl answer fresh other stays
     (one ∙ ap (with_tasks world name answer) (sym (itself_again task world.tasks (λ t m e. alone t m e))))
     (two ∙ ap (with_tasks (part_of nat_eq world names) name answer)
     (sym (itself_again task (part_of nat_eq world names).tasks

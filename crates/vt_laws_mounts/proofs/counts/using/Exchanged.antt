@@ -308,7 +308,7 @@ all_left k world (inode ∷ rest) apart there empty stand =
 
 -- Together
 
-module _ (world after : World ℕ) (gained lost : List Inode) (k : ℕ) (inodes : Inodes ℕ) (trees : HasTrees world)
+module _ {world after : World ℕ} {gained lost : List Inode} {k : ℕ} {inodes : Inodes ℕ} (trees : HasTrees world)
     (in_use : InodesInUse world) (apart : HasNoUpperIn k after) (exchange : Exchanges gained lost k world after)
     (counted : IsCounted world (filesystem_numbered nat_eq world k) inodes) (gains : AreThere k inodes gained) where
   abbrev pub f : Filesystem ℕ
@@ -410,7 +410,7 @@ module _ (world after : World ℕ) (gained lost : List Inode) (k : ℕ) (inodes 
 
 pub uses_are_exchanged_beside_overlays : UsesAreExchangedBesideOverlays
 uses_are_exchanged_beside_overlays world after gained lost filesystem inodes trees in_use apart exchange counted gains =
-    counted_last world after gained lost filesystem inodes trees in_use apart exchange counted gains
+    counted_last trees in_use apart exchange counted gains
 
 -- A world of plain filesystems has no upper layers.
 pub plain_apart : (number : ℕ) (world : World ℕ) → IsPlain world → HasNoUpperIn number world
@@ -418,8 +418,7 @@ plain_apart number world plain = grind (arith, common_steps, all_from_among, amo
 
 pub uses_are_exchanged : UsesAreExchanged
 uses_are_exchanged world after gained lost filesystem inodes trees in_use plain exchange counted gains =
-    counted_last world after gained lost filesystem inodes trees in_use (plain_apart filesystem after plain) exchange
-    counted gains
+    counted_last trees in_use (plain_apart filesystem after plain) exchange counted gains
 
 pub exchanges_turn : ExchangesTurn
 exchanges_turn world after gained lost filesystem exchange =

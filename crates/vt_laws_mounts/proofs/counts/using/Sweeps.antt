@@ -19,8 +19,8 @@ use Rattle.vt_laws_mounts.proofs.counts.using.Swept.{found_number, no_objects_in
 use Rattle.vt_spec.proofs.Inodes.{node_in_is_there}
 use Rattle.vt_laws_mounts.specs.LettingGo.TreesOverlays.{in_use_of}
 
-module _ (world after : World ℕ) (gained lost : List Inode) (k : ℕ) (inodes : Inodes ℕ) (trees : HasTrees world)
-    (in_use : InodesInUse world) (apart : HasNoUpperIn k after)
+module _ {world : World ℕ} (after : World ℕ) {gained lost : List Inode} {k : ℕ} {inodes : Inodes ℕ}
+    (trees : HasTrees world) (in_use : InodesInUse world) (apart : HasNoUpperIn k after)
     (exchange : Exchanges gained lost k world (in_use_of after))
     (counted : IsCounted world (filesystem_numbered nat_eq world k) inodes) (gains : AreThere k inodes gained) where
   abbrev f : Filesystem ℕ
@@ -93,18 +93,18 @@ module _ (world after : World ℕ) (gained lost : List Inode) (k : ℕ) (inodes 
 
   there_first : is_among nat_eq k (map (λ g. g.number) first.filesystems) ≡ true
   there_first = ap (is_among nat_eq k) (numbers_mapped (after_first after) (number-first after) lives.filesystems)
-      ∙ Exchanged.there_after world lives gained lost k inodes trees in_use apart_living exchange counted gains
+      ∙ Exchanged.there_after trees in_use apart_living exchange counted gains
 
   found : filesystem_numbered nat_eq swept k ≡ only_used_of nat_eq used f
   found = found_mapped (after_second after) (number-second after) first.filesystems k there_first
       ∙ ap (after_second after) (found_mapped (after_first after) (number-first after) lives.filesystems k
-      (Exchanged.there_after world lives gained lost k inodes trees in_use apart_living exchange counted gains)
+      (Exchanged.there_after trees in_use apart_living exchange counted gains)
       ∙ ap (after_first after) exchange.same) ∙ left_so
 
   files_left : (only_used_of nat_eq used f).files ≡ f_last.files
   files_left = aside (list_all (λ n. is_among nat_eq n used) f.files.numbers) ∙ ap (λ (g : Filesystem ℕ). g.files)
       (left_of_plain used (record f { overlay = None })
-      (Exchanged.tree world lives gained lost k inodes trees in_use apart_living exchange counted gains).numbers refl)
+      (Exchanged.tree trees in_use apart_living exchange counted gains).numbers refl)
     where
       aside : (b : Bool)
           → (only_used_by nat_eq b used f).files ≡ (only_used_by nat_eq b used (record f { overlay = None })).files
@@ -112,7 +112,7 @@ module _ (world after : World ℕ) (gained lost : List Inode) (k : ℕ) (inodes 
       aside false = refl
 
   counts : Rattle.vt_laws_mounts.proofs.counts.counting.Counts.IsCounted (inode_uses lives f) f.files.tree.node result
-  counts = Exchanged.counted_then world lives gained lost k inodes trees in_use apart_living exchange counted gains
+  counts = Exchanged.counted_then trees in_use apart_living exchange counted gains
 
   used_times : (n : ℕ) → times_in n used ≡ uses_in (result.inode n)
   used_times n = sym (counts.uses_are n)
@@ -160,7 +160,7 @@ module _ (world after : World ℕ) (gained lost : List Inode) (k : ℕ) (inodes 
       ∙ ap (λ b. cond (not (not b)) (times_in n f.files.numbers) 0) (used_there n) ∙ by (is_some (result.inode n)) refl
     where
       by : (b : Bool) → is_some (result.inode n) ≡ b → cond (not (not b)) (times_in n f.files.numbers) 0 ≡ cond b 1 0
-      by true e = Exchanged.once_f world lives gained lost k inodes trees in_use apart_living exchange counted gains n
+      by true e = Exchanged.once_f trees in_use apart_living exchange counted gains n
           ∙ ap (λ b. cond b 1 0) (ap is_some (counts.kept n e) ∙ node_in_is_there (result.inode n) e)
       by false e = refl
 
@@ -209,9 +209,8 @@ module _ (world after : World ℕ) (gained lost : List Inode) (k : ℕ) (inodes 
 
 pub uses_are_swept_beside_overlays : UsesAreSweptBesideOverlays
 uses_are_swept_beside_overlays world after gained lost filesystem inodes trees in_use apart exchange counted gains =
-    counted_settled world after gained lost filesystem inodes trees in_use apart exchange counted gains
+    counted_settled after trees in_use apart exchange counted gains
 
 pub uses_are_swept : UsesAreSwept
 uses_are_swept world after gained lost filesystem inodes trees in_use plain exchange counted gains =
-    counted_settled world after gained lost filesystem inodes trees in_use
-    (Exchanged.plain_apart filesystem after plain) exchange counted gains
+    counted_settled after trees in_use (Exchanged.plain_apart filesystem after plain) exchange counted gains

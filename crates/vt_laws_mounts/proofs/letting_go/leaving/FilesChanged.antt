@@ -93,12 +93,11 @@ module _ (world : World ℕ) (location : Location ℕ) (change : Change ℕ) (se
       ∙ shows_the_same world gone world.namespaces (hands_on world gone) location.mount)))
       (taken_and_changed_lets_go world gone swap (inodes_lost world location change) settles
       (subst (λ w. HasTrees (with_filesystems w swap)) (sym (taken_is world gone))
-      (trees_after world number then_ (names_lost tree change) settles one is_there plain changes))
+      (trees_after number settles one is_there plain changes))
       (subst (λ w. UppersArePlain (with_filesystems w swap)) (sym (taken_is world gone))
-      (uppers_after world number then_ (names_lost tree change) settles one is_there plain changes))
+      (uppers_after number settles one is_there plain changes))
       (subst (λ w. RealsAreThere (with_filesystems w swap)) (sym (taken_is world gone))
-      (reals_after world number then_ (names_lost tree change) settles one is_there plain changes))
-      (all_change world number then_ (names_lost tree change) settles one is_there plain changes
+      (reals_after number settles one is_there plain changes)) (all_change number settles one is_there plain changes
       (in_use_of (with_filesystems taken swap))))
     where
       taken : World ℕ
@@ -152,10 +151,10 @@ module _ (world : World ℕ) (location : Location ℕ) (change : Change ℕ) (se
   keeps_all_with fresh new only = subst (λ w. settled nat_eq (with_task w new) ≡ with_task w new)
       (sym (plainly world location change settles one is_there plain after may fresh world refl refl))
       (opened_keeps_all world (with_task world new).tasks swapped settles only
-      (trees_after world number_of then_tree [] settles one is_there plain keeps_names)
-      (uppers_after world number_of then_tree [] settles one is_there plain keeps_names)
-      (reals_after world number_of then_tree [] settles one is_there plain keeps_names)
-      (all_change world number_of then_tree [] settles one is_there plain keeps_names
+      (trees_after number_of settles one is_there plain keeps_names)
+      (uppers_after number_of settles one is_there plain keeps_names)
+      (reals_after number_of settles one is_there plain keeps_names)
+      (all_change number_of settles one is_there plain keeps_names
       (in_use_of (with_filesystems (with_task world new) swapped))))
     where
       number_of : ℕ

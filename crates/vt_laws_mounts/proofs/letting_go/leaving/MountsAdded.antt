@@ -15,7 +15,7 @@ pub found_before : (mounts added : List (Mount ℕ)) (number : ℕ)
 found_before [] added number h = absurd (true≢false (sym h))
 found_before (first ∷ rest) added number h = grind (arith, common_steps, found_before rest added number)
 
-module _ (world : World ℕ) (mounts : List (Mount ℕ)) (filesystems : List (Filesystem ℕ)) (master : ℕ → Option ℕ)
+module _ {world : World ℕ} (mounts : List (Mount ℕ)) (filesystems : List (Filesystem ℕ)) (master : ℕ → Option ℕ)
     (in_use : AllInUse world) (stand : MountsStand world) (located : LocationsStand world)
     (attached : list_all (λ mount. is_some mount.namespace) mounts ≡ true) where
   abbrev after : World ℕ
@@ -58,5 +58,5 @@ module _ (world : World ℕ) (mounts : List (Mount ℕ)) (filesystems : List (Fi
 pub new_mounts_keep_all : NewMountsKeepAll
 new_mounts_keep_all world mounts filesystems master in_use stand located attached shown named groups =
     nothing_lost world (world.mounts ++ mounts) master (world.filesystems ++ filesystems) in_use stand
-    (loses world mounts filesystems master in_use stand located attached) groups
-    (come world mounts filesystems master in_use stand located attached shown named)
+    (loses mounts filesystems master in_use stand located attached) groups
+    (come mounts filesystems master in_use stand located attached shown named)

@@ -233,8 +233,9 @@ module _ (world : World ℕ) (losers : Losers) (but : AllInUseBut losers world) 
   pub all_but_changed : AllInUseBut (with_lost losers lost) after
   all_but_changed = grind (arith, common_steps, filesystems_but, inodes_but)
 
-module _ (world : World ℕ) (change : Filesystem ℕ → Filesystem ℕ) (lost : List Inode) (settles : IsSettled world)
-    (trees : HasTrees (with_filesystems world change)) (uppers : UppersArePlain (with_filesystems world change))
+module _ {world : World ℕ} (change : Filesystem ℕ → Filesystem ℕ) (lost : List Inode)
+    (settles : IsSettled world) (trees : HasTrees (with_filesystems world change))
+    (uppers : UppersArePlain (with_filesystems world change))
     (reals : RealsAreThere (with_filesystems world change))
     (changes : All (λ filesystem. ChangesFilesystem (with_filesystems world change) lost filesystem
     (change filesystem)) world.filesystems) where
@@ -280,11 +281,11 @@ module _ (world : World ℕ) (change : Filesystem ℕ → Filesystem ℕ) (lost 
 
 pub changed_trees_let_go : ChangedTreesLetGo
 changed_trees_let_go world change lost settles trees uppers reals changes =
-    trees_change world change lost settles trees uppers reals changes
+    trees_change change lost settles trees uppers reals changes
 
 pub changed_trees_keep_all : ChangedTreesKeepAll
 changed_trees_keep_all world change settles trees uppers reals changes =
-    trees_change world change [] settles trees uppers reals changes
+    trees_change change [] settles trees uppers reals changes
 
 -- a plain filesystem has no real objects
 pub no_real : (f : Filesystem ℕ) → is_overlay f ≡ false → (number : ℕ) → real_in f number ≡ None
@@ -294,7 +295,7 @@ no_real f plain number = grind (arith, common_steps, true≢false)
 pub unchanged : (after : World ℕ) (lost : List Inode) (f : Filesystem ℕ) → ChangesFilesystem after lost f f
 unchanged after lost f = grind (arith, common_steps, list_all_from_among, or_left, is_among_numbers)
 
-module _ (world : World ℕ) (number : ℕ) (files : FileTree ℕ) (unnamed : List ℕ) (settles : IsSettled world)
+module _ {world : World ℕ} (number : ℕ) {files : FileTree ℕ} {unnamed : List ℕ} (settles : IsSettled world)
     (one : any_pair (λ (a b : Filesystem ℕ). nat_eq a.number b.number) world.filesystems ≡ false)
     (there : is_among nat_eq number (map (λ filesystem. filesystem.number) world.filesystems) ≡ true)
     (plain : is_overlay (filesystem_numbered nat_eq world number) ≡ false)
@@ -400,11 +401,11 @@ module _ (world : World ℕ) (number : ℕ) (files : FileTree ℕ) (unnamed : Li
       by f (is_another s) = subst (ChangesFilesystem after without_name f) (sym s) (unchanged after without_name f)
 
   unnamed_goes : settled nat_eq then_ ≡ let_go_all_inodes then_ without_name
-  unnamed_goes = trees_change world swap without_name settles trees_after uppers_after reals_after (all_change then_)
+  unnamed_goes = trees_change swap without_name settles trees_after uppers_after reals_after (all_change then_)
 
 pub unnamed_go_with_overlays : UnnamedGoWithOverlays
 unnamed_go_with_overlays world number files unnamed settles one there plain changes =
-    unnamed_goes world number files unnamed settles one there plain changes
+    unnamed_goes number settles one there plain changes
 
 -- Mounts that are taken away, and trees that change, at once
 pub taken_and_changed_lets_go : TakenAndChangedLetsGo

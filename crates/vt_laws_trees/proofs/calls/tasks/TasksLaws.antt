@@ -8,8 +8,9 @@ use Rattle.vt_laws_trees.specs.Calls.Tasks.{IsForked, IsNoMore, NewTasksAreChild
 itself_is_no_more : (was now : Credentials) → now ≡ was → IsNoMore was now
 itself_is_no_more was now same = subst (IsNoMore was) (sym same) (refl, refl, refl, λ capability held. held)
 
-module _ (fresh : Fresh ℕ) (world : World ℕ) (name : TaskName) (call : Call) (other : TaskName) (was now : Task ℕ)
-    (is : task_called world other ≡ Some was) (then_is : task_after fresh world name call other ≡ Some now) where
+module _ (fresh : Fresh ℕ) (world : World ℕ) (name : TaskName) (call : Call) (other : TaskName)
+    {was now : Task ℕ} (is : task_called world other ≡ Some was)
+    (then_is : task_after fresh world name call other ≡ Some now) where
   -- A law of a part of a task other than its change number: it holds where the part stays, where the caller is changed,
   -- and where a pivot leaves it
   abbrev unraised : Task ℕ
@@ -64,44 +65,44 @@ module _ (fresh : Fresh ℕ) (world : World ℕ) (name : TaskName) (call : Call)
 
 pub rights_only_shrink : RightsOnlyShrink
 rights_only_shrink fresh world name call other was now is then_is = subst (IsNoMore was.credentials)
-    (sym (same_part fresh world name call other was now is then_is (λ t. t.credentials)))
-    (rights fresh world name call other was now is then_is)
+    (sym (same_part fresh world name call other is then_is (λ t. t.credentials)))
+    (rights fresh world name call other is then_is)
 
 pub only_drop_takes_rights : OnlyDropTakesRights
 only_drop_takes_rights fresh world name call other was now is then_is =
     subst (λ c. (c ≡ was.credentials) ⊎ ((other ≡ name) × (which : CapabilityWord) × (call ≡ Drop which)))
-    (sym (same_part fresh world name call other was now is then_is (λ t. t.credentials)))
-    (drops fresh world name call other was now is then_is)
+    (sym (same_part fresh world name call other is then_is (λ t. t.credentials)))
+    (drops fresh world name call other is then_is)
 
 pub only_umask_sets_umask : OnlyUmaskSetsUmask
 only_umask_sets_umask fresh world name call other was now is then_is =
     subst (λ u. (u ≡ was.umask) ⊎ ((other ≡ name) × (mode : ℕ) × (call ≡ Umask mode)))
-    (sym (same_part fresh world name call other was now is then_is (λ t. t.umask)))
-    (umasks fresh world name call other was now is then_is)
+    (sym (same_part fresh world name call other is then_is (λ t. t.umask)))
+    (umasks fresh world name call other is then_is)
 
 pub only_open_gives_descriptors : OnlyOpenGivesDescriptors
 only_open_gives_descriptors fresh world name call other was now is then_is descriptor contains =
-    descriptors fresh world name call other was now is then_is descriptor (subst (λ list. Contains list descriptor)
-    (same_part fresh world name call other was now is then_is (λ t. t.descriptors)) contains)
+    descriptors fresh world name call other is then_is descriptor (subst (λ list. Contains list descriptor)
+    (same_part fresh world name call other is then_is (λ t. t.descriptors)) contains)
 
 pub only_these_move_directories : OnlyTheseMoveDirectories
 only_these_move_directories fresh world name call other was now is then_is = subst
     (λ d. ((other ≡ name) × (moves_directory call ≡ true))
     ⊎ StaysOrIsPivoted fresh world name call was.namespace was.directory d)
-    (sym (same_part fresh world name call other was now is then_is (λ t. t.directory)))
-    (directories fresh world name call other was now is then_is)
+    (sym (same_part fresh world name call other is then_is (λ t. t.directory)))
+    (directories fresh world name call other is then_is)
 
 pub only_these_move_roots : OnlyTheseMoveRoots
 only_these_move_roots fresh world name call other was now is then_is = subst
     (λ d. ((other ≡ name) × (moves_root call ≡ true)) ⊎ StaysOrIsPivoted fresh world name call was.namespace was.root d)
-    (sym (same_part fresh world name call other was now is then_is (λ t. t.root)))
-    (roots fresh world name call other was now is then_is)
+    (sym (same_part fresh world name call other is then_is (λ t. t.root)))
+    (roots fresh world name call other is then_is)
 
 pub only_these_move_namespaces : OnlyTheseMoveNamespaces
 only_these_move_namespaces fresh world name call other was now is then_is =
     subst (λ n. ((other ≡ name) × (moves_namespace call ≡ true)) ⊎ (n ≡ was.namespace))
-    (sym (same_part fresh world name call other was now is then_is (λ t. t.namespace)))
-    (namespaces fresh world name call other was now is then_is)
+    (sym (same_part fresh world name call other is then_is (λ t. t.namespace)))
+    (namespaces fresh world name call other is then_is)
 
 -- what becomes of a task that was there, and of one that was not
 module _ (fresh : Fresh ℕ) (world : World ℕ) (name : TaskName) (call : Call) (other : TaskName) where

@@ -274,10 +274,11 @@ data IsAt (files : FileTree ℕ) (number : ℕ) : Type 0 where
   is_at : (path : List (List ℕ)) → number_at_path files path ≡ Some number → IsAt files number
   is_nowhere : ((path : List (List ℕ)) → number_at_path files path ≢ Some number) → IsAt files number
 
-module _ (number_of : Real ℕ → ℕ) (held : ℕ → Option (Real ℕ)) (world : World ℕ) (one other : Filesystem ℕ)
-    (overlay another : Overlay ℕ) (upper : another.upper ≡ overlay.upper) (lowers : another.lowers ≡ overlay.lowers)
-    (is : IsMergedTree world one overlay) (named : IsNamedBy number_of held one overlay)
-    (other_is : IsMergedTree world other another) (other_named : IsNamedBy number_of held other another) where
+module _ {number_of : Real ℕ → ℕ} {held : ℕ → Option (Real ℕ)} {world : World ℕ} {one other : Filesystem ℕ}
+    {overlay another : Overlay ℕ} (upper : another.upper ≡ overlay.upper)
+    (lowers : another.lowers ≡ overlay.lowers) (is : IsMergedTree world one overlay)
+    (named : IsNamedBy number_of held one overlay) (other_is : IsMergedTree world other another)
+    (other_named : IsNamedBy number_of held other another) where
   found_at : (number : ℕ) → IsAt one.files number
   found_at number = by (nat_eq number one.files.tree.root) refl (a_name nat_eq one.files number) refl
     where
@@ -327,7 +328,7 @@ module _ (number_of : Real ℕ → ℕ) (held : ℕ → Option (Real ℕ)) (worl
 pub merged_trees_are_one : MergedTreesAreOne
 merged_trees_are_one number_of held world one other overlay another upper lowers is named other_is other_named = (
   λ i. record {
-    root = same_Some _ _ (same_paths number_of held world one other overlay another upper lowers is named other_is
+    root = same_Some _ _ (same_paths upper lowers is named other_is
         other_named []) i;
     node = λ number. (same number).0 i;
   },
@@ -337,8 +338,8 @@ merged_trees_are_one number_of held world one other overlay another upper lowers
     same : (number : ℕ) → (other.files.tree.node number ≡ one.files.tree.node number)
         × (another.real number ≡ overlay.real number)
     same number =
-        same_inode number_of held world one other overlay another upper lowers is named other_is other_named number
-        (found_at number_of held world one other overlay another upper lowers is named other_is other_named number)
+        same_inode upper lowers is named other_is other_named number
+        (found_at upper lowers is named other_is other_named number)
 
 pub overlays_are_merged_trees : OverlaysAreMergedTrees
 overlays_are_merged_trees world number overlay conditions is = record {

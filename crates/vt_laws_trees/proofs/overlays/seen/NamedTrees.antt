@@ -15,8 +15,8 @@ has_name : (tree : Tree ℕ) (number : ℕ) (d : Option ℕ) (name : List ℕ)
 has_name tree number None name e = none_is_some number e
 has_name tree number (Some directory) name e = (directory, name, e)
 
-module _ (number_of : Real ℕ → ℕ) (held : ℕ → Option (Real ℕ)) (longest : ℕ) (world : World ℕ)
-    (filesystem : Filesystem ℕ) (overlay : Overlay ℕ) (is : IsMergedTree world filesystem overlay)
+module _ (number_of : Real ℕ → ℕ) (held : ℕ → Option (Real ℕ)) (longest : ℕ) {world : World ℕ}
+    {filesystem : Filesystem ℕ} {overlay : Overlay ℕ} (is : IsMergedTree world filesystem overlay)
     (real : overlay.real ≡ real_seen number_of held longest world overlay)
     (holds : (number : ℕ) (object : Real ℕ) → held number ≡ Some object → number ≡ number_of object) where
   abbrev found : ℕ → Option (List (List ℕ))
@@ -63,6 +63,6 @@ module _ (number_of : Real ℕ → ℕ) (held : ℕ → Option (Real ℕ)) (long
 
 pub seen_trees_are_named : SeenTreesAreNamed
 seen_trees_are_named number_of held longest world filesystem overlay is real holds = record {
-  numbered = numbered number_of held longest world filesystem overlay is real holds;
-  unnamed = unnamed number_of held longest world filesystem overlay is real holds;
+  numbered = numbered number_of held longest is real holds;
+  unnamed = unnamed number_of held longest is real holds;
 }

@@ -26,10 +26,10 @@ pub shown_number : (number : ℕ) (o : Option ℕ) → holds_of (nat_eq number) 
 shown_number number None e = absurd (true≢false (sym e))
 shown_number number (Some other) e = ap Some (sym (eqb-true number other e))
 
-module _ (number_of : Real ℕ → ℕ) (held : ℕ → Option (Real ℕ)) (world : World ℕ) (filesystem : Filesystem ℕ)
-    (overlay : Overlay ℕ)
-    (is : IsMergedTree world filesystem overlay) (named : IsNamedBy number_of held filesystem overlay) (longest : ℕ)
-    (listed : AreListed world overlay) (larger : AreNoLarger longest world overlay) where
+module _ {number_of : Real ℕ → ℕ} {held : ℕ → Option (Real ℕ)} {world : World ℕ} {filesystem : Filesystem ℕ}
+    {overlay : Overlay ℕ} (is : IsMergedTree world filesystem overlay)
+    (named : IsNamedBy number_of held filesystem overlay) (longest : ℕ) (listed : AreListed world overlay)
+    (larger : AreNoLarger longest world overlay) where
   abbrev passes : ℕ → List (List ℕ) → Bool
   passes number path = holds_of (nat_eq number) (number_shown number_of world overlay path)
 
@@ -66,11 +66,11 @@ module _ (number_of : Real ℕ → ℕ) (held : ℕ → Option (Real ℕ)) (worl
 pub trees_are_seen : MergedTreesAreSeen
 trees_are_seen number_of held world filesystem overlay is named longest listed larger = (
   λ i. record {
-    root = root number_of held world filesystem overlay is named longest listed larger i;
-    node = λ number. (same number_of held world filesystem overlay is named longest listed larger number
+    root = root is named longest listed larger i;
+    node = λ number. (same is named longest listed larger number
         (path_numbered number_of longest world overlay number) refl).0 i;
   },
-  λ i. λ number. (same number_of held world filesystem overlay is named longest listed larger number
+  λ i. λ number. (same is named longest listed larger number
       (path_numbered number_of longest world overlay number) refl).1 i,
 )
 

@@ -79,8 +79,9 @@ module _ {stack : Stack ℕ} {merge : Merge ℕ} (whole : IsWhole stack merge) (
     own_no_top = named_no_top stack merge whole d w own.0 r own.1 own.2
 
 -- A directory loses its whiteouts and then its name
-module _ (top : ℕ) (files : FileTree ℕ) (good : IsGood top files) (d : ℕ) (w : List ℕ) (r : ℕ)
-    (named : entry_at files.tree d w ≡ Some r) (leaves : (word : List ℕ) (k : ℕ) → entry_at files.tree r word ≡ Some k
+module _ {top : ℕ} {files : FileTree ℕ} (good : IsGood top files) {d : ℕ} (w : List ℕ) {r : ℕ}
+    (named : entry_at files.tree d w ≡ Some r)
+    (leaves : (word : List ℕ) (k : ℕ) → entry_at files.tree r word ≡ Some k
     → is_directory_node (files.tree.node k) ≡ false)
     (apart : d ≢ r) (no_top : top ≢ r) (reached : IsReached files.tree d) where
   is : IsDirectory files.tree d
@@ -204,12 +205,12 @@ removed_goes fresh stack merge d w object whole stands vacant may =
     by None e true =
         make_over stack.directory merge.upper (upper_of merge d) w (fresh 0) (whiteout_of stack.mounter) good is reached
         (none_named whole d (upper_of merge d) real_d way.0 way.1 w e) vacant (inr refl)
-    by (Some r) e false = left_bare stack.directory merge.upper good (upper_of merge d) w r
+    by (Some r) e false = left_bare good w
         (own_entry whole d (upper_of merge d) real_d way.0 way.1 w r e empty)
         (own_leaves whole d (upper_of merge d) real_d way.0 way.1 w r e empty)
         (own_apart whole d (upper_of merge d) real_d way.0 way.1 w r e empty)
         (own_no_top whole d (upper_of merge d) real_d way.0 way.1 w r e empty) reached
-    by (Some r) e true = left_white stack.directory merge.upper good (upper_of merge d) w r
+    by (Some r) e true = left_white good w
         (own_entry whole d (upper_of merge d) real_d way.0 way.1 w r e empty)
         (own_leaves whole d (upper_of merge d) real_d way.0 way.1 w r e empty)
         (own_apart whole d (upper_of merge d) real_d way.0 way.1 w r e empty)

@@ -32,8 +32,8 @@ module _ (world : World ℕ) (fresh : Fresh ℕ) (task : Task ℕ) (permit : Per
       → IsReady (call_outcome nat_eq fresh world task given.call).world
   outcome_ready true e = mounting given.call e
   outcome_ready false e = (
-    under world fresh task given.call permit is given.serves given.called e given.few_groups given.judged,
-    overlays_kept world fresh task given.call permit is given.serves given.called e given.few_groups given.judged,
+    under given.call is given.serves given.called e given.few_groups given.judged,
+    overlays_kept given.call is given.serves given.called e given.few_groups given.judged,
   )
 
   ready : IsReady (apply nat_eq fresh world task permit).world

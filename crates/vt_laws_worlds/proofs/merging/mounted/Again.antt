@@ -38,8 +38,8 @@ files_raised changed number (filesystem ∷ list) = by (list_any (λ n. nat_eq n
         (nat_eq number filesystem.number) rest was later
     by false rest was later = pick filesystem refl (nat_eq number filesystem.number) rest was later
 
-module _ (fresh : Fresh ℕ) (later : World ℕ) (conditions : IsWorld nat_eq later)
-    (are_new : AreNewNumbers fresh later) (task : Task ℕ) (is : task_called later task.name ≡ Some task)
+module _ {fresh : Fresh ℕ} {later : World ℕ} (conditions : IsWorld nat_eq later)
+    (are_new : AreNewNumbers fresh later) {task : Task ℕ} (is : task_called later task.name ≡ Some task)
     (path : List ℕ) (words : OverlayWords) (flags : MountFlags)
     (grants : (policy nat_eq fresh later task.name (MountOverlay path (Some words) flags)).answer ≡ Ok Done) where
   abbrev mounted : Outcome ℕ
@@ -89,10 +89,10 @@ mounted_anew_shows_the_same fresh before later number left task path words flags
     subst (λ files. SameObject (then_some (number_at_path files way) files.tree.node)
     (then_some (number_at_path (filesystem_numbered nat_eq before number).files way)
     (filesystem_numbered nat_eq before number).files.tree.node))
-    (sym (files_are fresh later later_conditions are_new task task_is path words flags grants places walked))
+    (sym (files_are later_conditions are_new task_is path words flags grants places walked))
     (remount_shows_the_same (evens fresh) before later number left
     (overlay_at nat_eq later task places) conditions is later_conditions
-    (are_layers fresh later later_conditions are_new task task_is path words flags grants places walked)
+    (are_layers later_conditions are_new task_is path words flags grants places walked)
     (λ j k e. let same = are_new.distinct _ _ e in omega (arith, same)) as_left way)
 
 -- layers that were kept are as they were

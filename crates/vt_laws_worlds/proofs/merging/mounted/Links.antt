@@ -130,12 +130,12 @@ module _ (fresh : Fresh ℕ) (before later : World ℕ) (number : ℕ) (left ane
 pub mounted_anew_links_the_same : MountedAnewLinksTheSame
 mounted_anew_links_the_same fresh before later number left task path words flags places conditions is
     later_conditions are_new task_is grants walked upper lowers kept a b =
-    let files = files_are fresh later later_conditions are_new task task_is path words flags grants places walked in
+    let files = files_are later_conditions are_new task_is path words flags grants places walked in
     let old = filesystem_numbered nat_eq before number in
     subst (λ f. (number_at_path f a ≡ number_at_path f b)
     ↔ (number_at_path old.files a ≡ number_at_path old.files b)) (sym files)
     (links (evens fresh) before later number left (overlay_at nat_eq later task places) conditions is later_conditions
-    (are_layers fresh later later_conditions are_new task task_is path words flags grants places walked)
+    (are_layers later_conditions are_new task_is path words flags grants places walked)
     (λ j k e. let same = are_new.distinct _ _ e in omega (arith, same)) upper lowers kept
     (λ way. subst (λ f. SameObject (then_some (number_at_path f way) f.tree.node)
     (then_some (number_at_path old.files way) old.files.tree.node)) files

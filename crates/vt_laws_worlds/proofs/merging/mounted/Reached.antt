@@ -28,7 +28,7 @@ module _ (world later : World ℕ) (same : (layer : Layer ℕ) → is_plain_laye
 
 pub mounted_layers_are_reached : MountedLayersAreReached
 mounted_layers_are_reached fresh world task path words flags places conditions are_new called grants walked =
-    let granted = granted_so fresh world conditions are_new task called path words flags grants in
+    let granted = granted_so conditions are_new called path words flags grants in
     let mounts = overlay_is_mounted world fresh task flags path words places walked granted in
     let are = are_walked world task words places walked in
     let overlay = overlay_at nat_eq world task places in
@@ -38,7 +38,7 @@ mounted_layers_are_reached fresh world task path words flags places conditions a
     ≡ k = λ j k e. let same = are_new.distinct (2 * j) (2 * k) e in omega (arith, same) in
     reached_later world (world_mounted fresh world task path words flags) (λ layer plain.
     ap (λ w. (filesystem_numbered nat_eq w layer.filesystem).files)
-    (world_is fresh world conditions are_new task called path words flags grants)
+    (world_is conditions are_new called path words flags grants)
     ∙ files_raised (filesystems_changed_by nat_eq world (judge_in nat_eq fresh world task (MountOverlay path
     (Some words) flags))) layer.filesystem
     (call_outcome nat_eq fresh world task (MountOverlay path (Some words) flags)).world.filesystems

@@ -32,8 +32,8 @@ changes_are_by_layers fresh stack merge whole new change at (copies object place
     opened_is_copied fresh stack merge whole new object place is.0 is.1
 
 -- In a world with the filesystems of one that has all invariants
-module _ (world now : World ℕ) (conditions : IsWorld nat_eq world) (same : now.filesystems ≡ world.filesystems)
-    (location : Location ℕ) (overlay : Overlay ℕ) (upper : Layer ℕ)
+module _ {world : World ℕ} (now : World ℕ) (conditions : IsWorld nat_eq world)
+    (same : now.filesystems ≡ world.filesystems) (location : Location ℕ) {overlay : Overlay ℕ} {upper : Layer ℕ}
     (is : (filesystem_at nat_eq now location).overlay ≡ Some overlay) (has : overlay.upper ≡ Some upper) where
   abbrev number : ℕ
   number = (mount_at nat_eq now location).filesystem
@@ -120,12 +120,12 @@ module _ {world : World ℕ} (conditions : IsWorld nat_eq world) (gone : List �
       ≡ changed_above fresh (stack_of nat_eq world overlay upper)
       (filesystem_numbered nat_eq world upper.filesystem).files at
   upper_taken fresh change at new asks =
-      upper_by_layers world now conditions (filesystems-taken_away world gone) location overlay upper
+      upper_by_layers now conditions (filesystems-taken_away world gone) location
       (ap (λ f. f.overlay) filesystem_same ∙ is) has fresh change at new
       (subst (λ f. Asks (merge_of nat_eq world f overlay upper) change at) (sym filesystem_same) asks)
 
-module _ (fresh : Fresh ℕ) (world : World ℕ) (task : Task ℕ) (location : Location ℕ) (at : ChangeAt)
-    (overlay : Overlay ℕ) (upper : Layer ℕ) (conditions : IsWorld nat_eq world)
+module _ (fresh : Fresh ℕ) {world : World ℕ} (task : Task ℕ) (location : Location ℕ) (at : ChangeAt)
+    {overlay : Overlay ℕ} {upper : Layer ℕ} (conditions : IsWorld nat_eq world)
     (is : (filesystem_at nat_eq world location).overlay ≡ Some overlay) (has : overlay.upper ≡ Some upper) where
   after_call : (numbers : Fresh ℕ) (permit : Permit ℕ) (change : Change ℕ)
       → Does fresh world permit location numbers change
@@ -135,31 +135,31 @@ module _ (fresh : Fresh ℕ) (world : World ℕ) (task : Task ℕ) (location : L
       ≡ changed_above numbers (stack_of nat_eq world overlay upper)
       (filesystem_numbered nat_eq world upper.filesystem).files at
   after_call numbers permit change (does_change place made) new asks =
-      upper_by_layers world world conditions refl location overlay upper is has numbers change at new asks
+      upper_by_layers world conditions refl location is has numbers change at new asks
   after_call numbers permit change (does_make directory name node) new asks =
-      upper_by_layers world world conditions refl location overlay upper is has numbers change at new asks
+      upper_by_layers world conditions refl location is has numbers change at new asks
   after_call numbers permit change (does_open_new directory name node access) new asks =
-      upper_by_layers world world conditions refl location overlay upper is has numbers change at new asks
+      upper_by_layers world conditions refl location is has numbers change at new asks
   after_call numbers permit change (does_remove parent name directory) new asks =
       upper_taken conditions (map (λ mount. mount.number)
       (flat_map (mount_tree nat_eq world.mounts) (mounts_on nat_eq world directory)))
       location overlay upper is has numbers change at new asks
   after_call numbers permit change (does_rename from old to new_name object None) new asks =
-      upper_by_layers world world conditions refl location overlay upper is has numbers change at new asks
+      upper_by_layers world conditions refl location is has numbers change at new asks
   after_call numbers permit change (does_rename from old to new_name object (Some replaced)) new asks =
       upper_taken conditions (map (λ mount. mount.number)
       (flat_map (mount_tree nat_eq world.mounts) (mounts_on nat_eq world replaced)))
       location overlay upper is has numbers change at new asks
   after_call numbers permit change (does_open file access copied) new asks = ap (λ b. (filesystem_numbered nat_eq
       (opened (with_copy nat_eq b fresh world file) task file access).world upper.filesystem).files) copied
-      ∙ upper_by_layers world world conditions refl location overlay upper is has numbers change at new asks
+      ∙ upper_by_layers world conditions refl location is has numbers change at new asks
   after_call numbers permit change (does_write file offset byte bytes) new asks =
-      upper_by_layers world world conditions refl location overlay upper is has numbers change at new asks
+      upper_by_layers world conditions refl location is has numbers change at new asks
 
 pub upper_layers_after_calls : UpperLayersAfterCalls
 upper_layers_after_calls fresh numbers world task permit location change at overlay upper conditions does is has
     new asks =
-    after_call fresh world task location at overlay upper conditions is has numbers permit change does new asks
+    after_call fresh task location at conditions is has numbers permit change does new asks
 
 pub upper_layers_after_whole_calls : UpperLayersAfterWholeCalls
 upper_layers_after_whole_calls fresh numbers world task call permit location change at overlay upper conditions judged does is has new asks =

@@ -110,8 +110,8 @@ module _ (world : World ℕ) (is : IsWorld nat_eq world) (number : ℕ) (overlay
       → (filesystem_numbered nat_eq (settled nat_eq left) number).overlay ≡ Some now
       → LeadsAsBefore left (settled nat_eq left) layer
   swept_granted few false other now e =
-      swept_leads left (under world fresh task call permit is serves called other few granted)
-      (overlays_kept world fresh task call permit is serves called other few granted) number now e stays.after stays.is
+      swept_leads left (under call is serves called other few granted)
+      (overlays_kept call is serves called other few granted) number now e stays.after stays.is
       layer (subst (Among layer) (λ i. option_to_list (sym stays.upper i) ++ option_to_list (sym stays.work i)
       ++ sym stays.lowers i) m)
     where

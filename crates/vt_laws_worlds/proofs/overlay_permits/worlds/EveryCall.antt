@@ -80,7 +80,7 @@ module _ (world : World ℕ) (fresh : Fresh ℕ) (task : Task ℕ) where
   unchanged permit e = as_they_were refl
 
 -- A granted call
-module _ (world : World ℕ) (fresh : Fresh ℕ) (task : Task ℕ) (call : Call) (permit : Permit ℕ)
+module _ {world : World ℕ} {fresh : Fresh ℕ} {task : Task ℕ} (call : Call) {permit : Permit ℕ}
     (is : IsWorld nat_eq world) (serves : Serves nat_eq world fresh)
     (found : task_called world task.name ≡ Some task) (other : mounts_overlay call ≡ false)
     (few : names_few_groups call ≡ true) (granted : judge_in nat_eq fresh world task call ≡ Ok permit) where
@@ -199,7 +199,7 @@ module _ (world : World ℕ) (fresh : Fresh ℕ) (name : TaskName) (is : IsWorld
       → IsWorld nat_eq (policy nat_eq fresh world name call).world
   not_mounting call other few =
       policy_leads (IsWorld nat_eq) world fresh name call is (λ task permit changed found granted.
-      finished_keeps world fresh task call permit is serves found other few granted name changed)
+      finished_keeps call is serves found other few granted name changed)
 
 pub every_call_keeps_worlds : EveryCallKeepsWorlds
 every_call_keeps_worlds world fresh name call is serves few = by (mounts_overlay call) refl

@@ -122,9 +122,9 @@ module _ (fresh : Fresh ℕ) (world : World ℕ) (location : Location ℕ) (chan
           one_more n = omega arith
 
 -- A granted call, before what nothing uses is gone, and after
-module _ (world : World ℕ) (is : IsWorld nat_eq world) (number : ℕ) (overlay : Overlay ℕ)
-    (was : (filesystem_numbered nat_eq world number).overlay ≡ Some overlay)
-    (fresh : Fresh ℕ) (serves : Serves nat_eq world fresh) (task : Task ℕ) (call : Call) (permit : Permit ℕ)
+module _ {world : World ℕ} (is : IsWorld nat_eq world) (number : ℕ) {overlay : Overlay ℕ}
+    (was : (filesystem_numbered nat_eq world number).overlay ≡ Some overlay) {fresh : Fresh ℕ}
+    (serves : Serves nat_eq world fresh) {task : Task ℕ} (call : Call) {permit : Permit ℕ}
     (called : task_called world task.name ≡ Some task)
     (granted : judge_in nat_eq fresh world task call ≡ Ok permit) where
   abbrev called_world : World ℕ
@@ -220,8 +220,7 @@ every_call_uncovers_nothing world fresh name call number overlay is serves few w
     let same = same_Some after stays.after (sym now ∙ stays.is) in
     named_leads (λ w. is_live w number ≡ true → Hides world w overlay) world fresh name call
     (λ there. alike_hides world world overlay (λ layer m. leads_by_files world world layer refl))
-    (λ task found permit changed granted.
-    finished_hides world is number overlay was fresh serves task call permit
+    (λ task found permit changed granted. finished_hides is number was serves call
     (ap (task_called world) (sym (name_found world name task found)) ∙ found) granted few name changed)
     live path seen low (sym (same_shown later overlay after (ap (λ (o : Overlay ℕ). o.upper) same ∙ stays.upper)
     (ap (λ (o : Overlay ℕ). o.lowers) same ∙ stays.lowers) path) ∙ e)

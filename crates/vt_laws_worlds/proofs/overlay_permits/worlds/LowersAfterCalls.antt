@@ -147,9 +147,8 @@ module _ (world : World ℕ) (is : IsWorld nat_eq world) (number : ℕ) (overlay
             → (filesystem_numbered nat_eq (settled nat_eq left) number).overlay ≡ Some now
             → OverlayStays left (settled nat_eq left) number call_stays.after
         swept false other now e =
-            swept_stays left (under world fresh task call permit is serves called other few granted)
-            (overlays_kept world fresh task call permit is serves called other few granted) number now e
-            call_stays.after call_stays.is
+            swept_stays left (under call is serves called other few granted)
+            (overlays_kept call is serves called other few granted) number now e call_stays.after call_stays.is
         swept true mounts now e =
             subst (λ w. OverlayStays left w number call_stays.after) (sym (mounted call mounts granted))
             (stays_itself left number call_stays.after call_stays.is)

@@ -10,8 +10,8 @@ use Rattle.vt_laws_worlds.specs.Permits.Left.{IsGiven, left_by}
 use Rattle.vt_laws_worlds.specs.OverlaysStay.Left.{GivenPermitsLeaveLowers}
 use Rattle.vt_laws_worlds.proofs.overlays_stay.left.Given.{given_to_task}
 
-module _ (world : World ℕ) (fresh : Fresh ℕ) (task : Task ℕ) (permit : Permit ℕ) (number : ℕ) (overlay : Overlay ℕ)
-    (is : IsWorld nat_eq world) (given : IsGiven fresh world task permit)
+module _ {world : World ℕ} (fresh : Fresh ℕ) (task : Task ℕ) (permit : Permit ℕ) (number : ℕ)
+    {overlay : Overlay ℕ} (is : IsWorld nat_eq world) (given : IsGiven fresh world task permit)
     (was : (filesystem_numbered nat_eq world number).overlay ≡ Some overlay) where
   abbrev left : World ℕ
   left = (call_outcome nat_eq fresh world task given.call).world
@@ -27,9 +27,8 @@ module _ (world : World ℕ) (fresh : Fresh ℕ) (task : Task ℕ) (permit : Per
       → is_some o ≡ true → OverlayStays world (settled nat_eq left) number overlay
   stays_by None e there = absurd (true≢false (sym there))
   stays_by (Some now) e there = stays_both world left (settled nat_eq left) number overlay first (swept_stays left
-      (under world fresh task given.call permit is given.serves given.called given.no_overlay given.few_groups
-      given.judged)
-      (overlays_kept world fresh task given.call permit is given.serves given.called given.no_overlay given.few_groups
+      (under given.call is given.serves given.called given.no_overlay given.few_groups given.judged)
+      (overlays_kept given.call is given.serves given.called given.no_overlay given.few_groups
       given.judged) number now e first.after first.is)
 
   stays : (w : World ℕ) → left ≡ w → is_overlay (filesystem_numbered nat_eq (settled nat_eq w) number) ≡ true
@@ -42,5 +41,5 @@ pub given_permits_leave_lowers : GivenPermitsLeaveLowers
 given_permits_leave_lowers world fresh task permit number overlay is given was there =
     lowers_stay world is number overlay was (left_by fresh world task permit)
     (given_permits_leave_every_world world fresh task permit is (given_to_task fresh world task permit given))
-    (stays world fresh task permit number overlay is given was (apply nat_eq fresh world task permit).world
-    (applied world fresh task permit number overlay is given was) there)
+    (stays fresh task permit number is given was (apply nat_eq fresh world task permit).world
+    (applied fresh task permit number is given was) there)
