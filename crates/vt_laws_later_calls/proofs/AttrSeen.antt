@@ -98,12 +98,9 @@ module _ (path : List ℕ) (set : Attr → Attr) {world : World ℕ} {fresh : Fr
       ≡ Ok (Told (record (stat_line (node_at nat_eq world here.location)) { attr = attr })))
       ⊎ ((deny : Deny) × Refused deny × ((policy nat_eq later_fresh later reader (Stat path)).answer ≡ Err deny))
   told Refused reader reading called stands leads later_fresh =
-      by (object_too (looks_of nat_eq world) (looks_of nat_eq later) it.did.task reading Refused _ leads path here
-      walked)
+      by (object_too leads path here walked)
     where
-      by : EndsToo (looks_of nat_eq world) (looks_of nat_eq later) it.did.task reading Refused
-          (KnownToo changes (stay Refused) reading (own_name later reader reading called) stands) leads
-          (object_walk nat_eq (looks_of nat_eq later) reading path) here
+      by : EndsToo leads (object_walk nat_eq (looks_of nat_eq later) reading path) here
           → ((policy nat_eq later_fresh later reader (Stat path)).answer
           ≡ Ok (Told (record (stat_line (node_at nat_eq world here.location)) { attr = attr })))
           ⊎ ((deny : Deny) × Refused deny × ((policy nat_eq later_fresh later reader (Stat path)).answer ≡ Err deny))

@@ -205,8 +205,7 @@ mkdir_then_list path mode world fresh name task is plain serves called granted =
     listed reader reading found stands looks later_fresh =
         let own = own_name (policy nat_eq fresh world name (Mkdir path mode)).world reader reading found in
         let seen = node_seen it parts.3 reading own stands looks in
-        let walk = surely _ _ _ (directory_named_too (looks_of nat_eq world)
-        (looks_of nat_eq (policy nat_eq fresh world name (Mkdir path mode)).world) it.did.task reading Never _
+        let walk = surely _ _ _ (directory_named_too
         (made_leads it parts.3 reading own stands looks)
         path parts.0 parts.2 (named_place (looks_of nat_eq world) it.did.task path parts.0 parts.1 parts.2)
         (new_location it parts.3) (new_stepped it parts.3 reading own stands looks parts.0.last parts.2 refl)
@@ -263,8 +262,7 @@ symlink_then_readlink text path world fresh name task is plain serves called gra
         let own = own_name (policy nat_eq fresh world name (SymlinkAt text path)).world reader reading found in
         let seen = node_seen it parts.4 reading own stands looks in
         let at_name = named_place (looks_of nat_eq world) it.did.task path parts.0 parts.1 parts.2 in
-        let walk = surely _ _ _ (symlink_named_too (looks_of nat_eq world)
-        (looks_of nat_eq (policy nat_eq fresh world name (SymlinkAt text path)).world) it.did.task reading Never _
+        let walk = surely _ _ _ (symlink_named_too
         (made_leads it parts.4 reading own stands looks) path parts.0 parts.2 at_name (new_location it parts.4)
         (new_stepped it parts.4 reading own stands looks parts.0.last parts.2 refl)
         (λ slash. absurd (true≢false (sym slash ∙ at_name.slash_is ∙ parts.3)))) in

@@ -32,10 +32,8 @@ module _ {world : World ℕ} {fresh : Fresh ℕ} {name : TaskName} {call : Call}
 
   pub spent_unsettled : IsWorldButForUse spent_world
   spent_unsettled = subst (λ (o : Outcome ℕ). IsWorldButForUse o.world)
-      (applied world fresh it.did.task call it.did.permit it.is it.plain it.serves called_own it.other it.few
-      it.did.judged)
-      (unsettled world fresh it.did.task call it.did.permit it.is it.plain it.serves called_own it.other it.few
-      it.did.judged)
+      (applied call it.is it.plain it.serves called_own it.other it.few it.did.judged)
+      (unsettled call it.is it.plain it.serves called_own it.other it.few it.did.judged)
 
   -- each task is there after the last step,
   pub still_called : (reader : TaskName) (reading : Task ℕ) → task_called spent_world reader ≡ Some reading

@@ -81,7 +81,7 @@ word_gave looks task here next word e =
     let same = same_ok _ next both.2 in
     (parts.0, parts.1 ∙ ap (λ (h : Here ℕ). Ok h.location) same, ap (λ (h : Here ℕ). h.left) (sym same))
 
-module _ (looks later : Looks ℕ) (task reader : Task ℕ) (Refused : Deny → Type 0) (Known : Location ℕ → Type 0)
+module _ {looks later : Looks ℕ} {task reader : Task ℕ} {Refused : Deny → Type 0} {Known : Location ℕ → Type 0}
     (leads : LeadsToo looks later task reader Refused Known) where
   -- a walk ends there, at a place that is known, or is refused so
   abbrev pub Ends : Result (Here ℕ) (Stop ℕ) → Here ℕ → Type 0

@@ -115,16 +115,16 @@ last_walked_is looks task here (Named name) e = refl
 abbrev pub EndsThere : (Deny → Type 0) → Result (Here ℕ) (Stop ℕ) → Location ℕ → ℕ → Type 0
 EndsThere Refused walk next left = EndsAt walk next left ⊎ Stops Refused walk
 
-module _ (looks later : Looks ℕ) (task reader : Task ℕ) (Refused : Deny → Type 0) (Known : Location ℕ → Type 0)
+module _ {looks later : Looks ℕ} {task reader : Task ℕ} {Refused : Deny → Type 0} {Known : Location ℕ → Type 0}
     (leads : LeadsToo looks later task reader Refused Known) where
   abbrev pub EndsSo : Result (Here ℕ) (Stop ℕ) → Here ℕ → Type 0
-  EndsSo walk here = Ends looks later task reader Refused Known leads walk here
+  EndsSo walk here = Ends leads walk here
 
   pub begun : (path : List ℕ) → walk_start reader path ≡ at (walk_start task path) []
   begun path = grind (arith, common_steps, start_same)
 
   begin_known : (path : List ℕ) → Known (walk_start task path).location
-  begin_known path = start_known looks later task reader Refused Known leads task.directory path leads.working_known
+  begin_known path = start_known leads task.directory path leads.working_known
 
   -- words from the start of a path
   words_from : (path : List ℕ) (list : List (List ℕ)) (end : Here ℕ)
@@ -132,8 +132,7 @@ module _ (looks later : Looks ℕ) (task reader : Task ℕ) (Refused : Deny → 
       → EndsSo (words_walked nat_eq later reader (followed nat_eq later reader) (walk_start reader path) list) end
   words_from path list end e =
       subst (λ start. EndsSo (words_walked nat_eq later reader (followed nat_eq later reader) start list) end)
-      (sym (begun path))
-      ((words_lead looks later task reader Refused Known leads 41 41 (walk_start task path) list end (omega arith)
+      (sym (begun path)) ((words_lead leads 41 41 (walk_start task path) list end (omega arith)
       (omega arith) e).1 (begin_known path) [])
 
   -- a path that led to an object leads there
@@ -151,14 +150,13 @@ module _ (looks later : Looks ℕ) (task reader : Task ℕ) (Refused : Deny → 
   object_too path end e =
       let walks = both_walked (path_walked nat_eq looks task path) _ end e in
       let parts = walk_passing walks.0.steps (slash_rules nat_eq looks path walks.0.location) walks.0 end walks.2 in
-      then_too looks later task reader Refused Known leads (path_walked nat_eq later reader path) _ walks.0 end
+      then_too leads (path_walked nat_eq later reader path) _ walks.0 end
       (path_too path walks.0 walks.1) (λ steps known.
       inl (
         (
           steps,
           walk_passed steps (slash_rules nat_eq later path walks.0.location) (at walks.0 steps)
-              (slash_too looks later task reader Refused Known leads path walks.0.location known parts.0)
-              ∙ (λ i. Ok (at (parts.1 i) steps)),
+              (slash_too leads path walks.0.location known parts.0) ∙ (λ i. Ok (at (parts.1 i) steps)),
         ),
         subst (λ (h : Here ℕ). Known h.location) parts.1 known,
       ))
@@ -177,7 +175,7 @@ module _ (looks later : Looks ℕ) (task reader : Task ℕ) (Refused : Deny → 
       → stepped nat_eq later reader here.location word ≡ Ok next
       → EndsThere Refused (word_walked nat_eq later reader (at here steps) word) next here.left
   last_too here word next steps known pass found =
-      by (search_too looks later task reader Refused Known leads here.location known pass)
+      by (search_too leads here.location known pass)
     where
       by : NoneFails (search_rules nat_eq later reader here.location) ⊎ (Refused (denial W4)
           × ((answer : Result (Location ℕ) Deny) → unless (search_rules nat_eq later reader here.location) answer
@@ -208,8 +206,7 @@ module _ (looks later : Looks ℕ) (task reader : Task ℕ) (Refused : Deny → 
       → stepped nat_eq later reader here.location word ≡ Err deny
       → Refused deny → Stops Refused (word_walked nat_eq later reader (at here steps) word)
   last_stops here word deny steps known pass lost refused =
-      by (word_too looks later task reader Refused Known leads here here word steps known pass refl
-      (inr (deny, refused, lost)))
+      by (word_too leads here here word steps known pass refl (inr (deny, refused, lost)))
     where
       by : EndsSo (word_walked nat_eq later reader (at here steps) word) here
           → Stops Refused (word_walked nat_eq later reader (at here steps) word)

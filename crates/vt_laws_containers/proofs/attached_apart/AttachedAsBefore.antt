@@ -54,6 +54,6 @@ module _ {world : World ℕ} {names : List TaskName} {attaching : AttachesTheirs
 
   pub copies_as_before : OthersAsBefore world (attached_by nat_eq to new attaching.place false origins) names names
   copies_as_before = subst (λ w. OthersAsBefore world w names names) (sym as_grown)
-      (grown_as_before attaching.sealing up added attaching.new_ones masters grows
+      (grown_as_before attaching.sealing grows
       (groups_apart attaching.sealing fresh serves up added attaching.new_ones formed grows sourced
       (made_ours to new attaching.place false origins IsOurs (λ a b. inr (new_groups a b)) sources)))

@@ -150,8 +150,7 @@ module _ {world : World ℕ} {names : List TaskName} (sealing : IsSealed world n
 
     pub groups_apart : shares_no_events nat_eq left names ≡ true
     groups_apart = ap (λ others. list_all (λ y. list_all (λ other. not (share_events nat_eq left y other)) others)
-        (own_mounts nat_eq left names)) (others_stay sealing change added new_ones
-        (folded (masters_with nat_eq) world.master made) grows) ∙ list_all_from_among
+        (own_mounts nat_eq left names)) (others_stay sealing grows) ∙ list_all_from_among
         (λ y. list_all (λ other. not (share_events nat_eq left y other)) (other_mounts nat_eq world names))
         (own_mounts nat_eq left names) (λ y m. list_all_from_among (λ other. not (share_events nat_eq left y other))
         (other_mounts nat_eq world names) (λ other n. ap not (false_from_ne_true (share_events nat_eq left y other)

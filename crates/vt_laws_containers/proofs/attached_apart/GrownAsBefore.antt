@@ -15,9 +15,8 @@ written_layer : (filesystem : Filesystem ℕ) (number : ℕ) → Among number (c
     → (layer : Layer ℕ) × Among layer (of_overlay [] layers_of filesystem) × (number ≡ layer.filesystem)
 written_layer filesystem number = grind (arith, common_steps, among-from_map, among-append_left)
 
-module _ {world : World ℕ} {names : List TaskName} (sealing : IsSealed world names) (change : Mount ℕ → Mount ℕ)
-    (added : List (Mount ℕ))
-    (new_ones : List (Filesystem ℕ)) (master : ℕ → Option ℕ)
+module _ {world : World ℕ} {names : List TaskName} (sealing : IsSealed world names) {change : Mount ℕ → Mount ℕ}
+    {added : List (Mount ℕ)} {new_ones : List (Filesystem ℕ)} {master : ℕ → Option ℕ}
     (grows : Grows world names change added new_ones master) where
   apart : IsApart world names
   apart = apart_if_sealed sealing

@@ -21,9 +21,8 @@ use Rattle.vt_laws_containers.proofs.attached_apart.GrownAsBefore.{grown_as_befo
 use Rattle.vt_laws_members.proofs.judging.TheirCalls.{IsMember, caller_in, sealing_of}
 use Rattle.vt_laws_sealed.proofs.part.seals.ByPart.{IsSealed}
 
-module _ {world : World ℕ} {names : List TaskName} (sealing : IsSealed world names) (fresh : Fresh ℕ)
-    (serves : Serves nat_eq world fresh)
-    (from here : Location ℕ) (to : MovesTo world names from here) where
+module _ {world : World ℕ} {names : List TaskName} (sealing : IsSealed world names) {fresh : Fresh ℕ}
+    (serves : Serves nat_eq world fresh) {from here : Location ℕ} (to : MovesTo world names from here) where
   here_there : Among (mount_at nat_eq world here) world.mounts
   here_there =
       there world names sealing.is sealing.sealed_off here (theirs_from world names sealing.is.mounts here.mount to.on)
@@ -125,7 +124,7 @@ module _ {world : World ℕ} {names : List TaskName} (sealing : IsSealed world n
 
   pub moved_as_before : OthersAsBefore world (moved_to nat_eq fresh world from.mount here) names names
   moved_as_before = subst (λ w. OthersAsBefore world w names names) (sym as_grown)
-      (grown_as_before sealing change added [] masters grows (groups_apart sealing fresh serves change added [] formed
+      (grown_as_before sealing grows (groups_apart sealing fresh serves change added [] formed
       grows sourced (made_ours base_here new here true origins IsOurs new_groups sources)))
 
 pub moves_give_no_foothold : MovesGiveNoFoothold
@@ -137,7 +136,7 @@ moves_give_no_foothold world names name source path it fresh serves = by (task_c
         → GivesNoFoothold world names name (MoveMount source path) fresh
     judged_by task member e (Ok permit) judged its =
         permit_out (record { it = it; few = refl; serves = serves; called = e }) (ToMove its.0.mount its.1)
-        (judged ∙ ap Ok its.2) (λ ends. moved_as_before (sealing_of it) fresh serves its.0 its.1 its.3)
+        (judged ∙ ap Ok its.2) (λ ends. moved_as_before (sealing_of it) serves its.3)
     judged_by task member e (Err deny) judged its = refused_out it fresh
         (ap (λ o. is_ok (ran name (MoveMount source path) world fresh o).answer) e
         ∙ ap (λ j. is_ok (run_by it world fresh task j).answer) judged)

@@ -99,8 +99,8 @@ others_there world names is number h =
         && not (list_any (λ (l : Location ℕ). nat_eq number (mount_at nat_eq world l).filesystem)
         (locations (outsiders world names)))) e ∙ ap not f) ∙ k))
 
-module _ (world left : World ℕ) (names set : List TaskName) (is : IsWorld nat_eq world) (left_is : IsWorld nat_eq left)
-    (others : OthersAsBefore world left names set) where
+module _ {world left : World ℕ} {names set : List TaskName} (is : IsWorld nat_eq world)
+    (left_is : IsWorld nat_eq left) (others : OthersAsBefore world left names set) where
   -- others are on the same filesystems
   no_outsider_same : (number : ℕ) → no_outsider_on nat_eq left set number ≡ no_outsider_on nat_eq world names number
   no_outsider_same number = grind (arith, common_steps, any_alike)

@@ -36,7 +36,7 @@ module _ {world : World ℕ} {names : List TaskName} {name : TaskName} {call : C
   pub unchanged_out : later ≡ world → grown names name call answer_given ≡ names
       → GivesNoFoothold world names name call fresh
   unchanged_out same stays = subst (LeavesOthersOut world later names) (sym stays)
-      (subst (λ w. LeavesOthersOut world w names names) (sym same) (leaves_others_out world world names names it.is
+      (subst (λ w. LeavesOthersOut world w names names) (sym same) (leaves_others_out it.is
       it.is (as_itself (sealing_of it))))
 
   pub refused_out : is_ok answer_given ≡ false → GivesNoFoothold world names name call fresh
@@ -111,8 +111,7 @@ module _ {world : World ℕ} {names : List TaskName} {name : TaskName} {call : C
           let set = grown names name call (apply nat_eq fresh world did.task did.permit).answer in
           let done = (apply nat_eq fresh world did.task did.permit).world in
           let same : grown names name call its_answer ≡ set = ap (grown names name call) (e ∙ sym did.answered) in
-          subst (LeavesOthersOut world after_call names) (sym same)
-          (leaves_others_out world after_call names set it.is after_is
+          subst (LeavesOthersOut world after_call names) (sym same) (leaves_others_out it.is after_is
           (subst (λ w. OthersAsBefore world w names set) (sym did.left) (raised_as_before
           (permits did.task did.called did.permit did.judged (subst (IsWorld nat_eq) did.left after_is)) world name
           (filesystems_changed nat_eq world did.permit) it.theirs)))

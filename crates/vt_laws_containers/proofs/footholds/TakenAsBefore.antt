@@ -52,9 +52,9 @@ pub record TakesOwn (world : World ℕ) (names set : List TaskName) (is : IsWorl
       ≡ filter (λ (s : Namespace ℕ). list_any (λ (t : Task ℕ). nat_eq s.number t.namespace)
       (outsiders world names)) world.namespaces
 
-module _ {world : World ℕ} {names : List TaskName} (set : List TaskName) (sealing : IsSealed world names)
-    (tasks : List (Task ℕ)) (namespaces : List (Namespace ℕ))
-    (gone : List ℕ) (takes : TakesOwn world names set sealing.is tasks namespaces gone) where
+module _ {world : World ℕ} {names : List TaskName} {set : List TaskName} (sealing : IsSealed world names)
+    {tasks : List (Task ℕ)} {namespaces : List (Namespace ℕ)} {gone : List ℕ}
+    (takes : TakesOwn world names set sealing.is tasks namespaces gone) where
   apart : IsApart world names
   apart = apart_if_sealed sealing
 

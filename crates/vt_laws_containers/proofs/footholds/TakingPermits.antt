@@ -152,8 +152,7 @@ module _ {world : World ℕ} {names : List TaskName} {name : TaskName} {call : C
     }
 
     pub ended_as_before : OthersAsBefore world (namespaces_ended nat_eq (record world { tasks = tasks })) names set
-    ended_as_before =
-        taken_as_before set (sealing_of it) tasks (filter (has_tasks nat_eq before) world.namespaces) gone ended_takes
+    ended_as_before = taken_as_before (sealing_of it) ended_takes
 
 -- _exit(2)
 module _ {world : World ℕ} {names : List TaskName} {name : TaskName} (it : IsCallOfTheirs world names name Exit)
@@ -230,7 +229,7 @@ module _ {world : World ℕ} {names : List TaskName} {name : TaskName} {call : C
       → OthersAsBefore world (taken_away nat_eq world gone) names names
   gone_as_before gone changed goes tasked =
       subst (λ w. OthersAsBefore world w names names) (namespaces_taken_away world gone)
-      (taken_as_before names (sealing_of it.it) world.tasks world.namespaces gone (record {
+      (taken_as_before (sealing_of it.it) (record {
         going = goes;
         others = refl;
         own_less = λ n h. h;

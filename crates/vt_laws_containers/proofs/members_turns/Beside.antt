@@ -12,8 +12,8 @@ use Rattle.vt_laws_containers.specs.MembersTurns.TheirTurns.{HaveOnePart, IsTurn
 use Rattle.vt_laws_containers.proofs.members_turns.EachTurn.{each_turn_of_theirs_is_of_their_part}
 use Rattle.vt_laws_containers.proofs.members_turns.OtherQueues.{SameTurned, queue_after, same_turned, shortened_by}
 
-module _ (one other : Sched ℕ) (names : List TaskName) (same : HaveOnePart one other names) (name : TaskName)
-    (fresh : Option (Fresh ℕ)) (it : IsTurnOfTheirs one names name fresh) where
+module _ {one other : Sched ℕ} {names : List TaskName} (same : HaveOnePart one other names) {name : TaskName}
+    {fresh : Option (Fresh ℕ)} (it : IsTurnOfTheirs one names name fresh) where
   abbrev turned : Sched ℕ → Turned ℕ
   turned sched = turn nat_eq sched (Someone name) fresh
 
@@ -46,5 +46,4 @@ outsiders_change_no_turn_of_theirs sched names schedule name fresh has of it ser
     let held = schedules_hold_what_is_seen sched schedule has.is it.has.holds (fit_turns schedule sched names of) in
     let same : HaveOnePart sched later names =
     record { part = leave.part; calls = leave.calls; queues = leave.queues } in
-    turns_alike_in sched later names same name fresh it
-    (still_theirs sched later names same name fresh it leave.sealed_off held.1 serves)
+    turns_alike_in same it (still_theirs same it leave.sealed_off held.1 serves)

@@ -62,17 +62,17 @@ module _ {kin : List TaskName} {one other : Sched ℕ} {names : List TaskName} (
   later_turn = grind (arith, common_steps, later_at)
 
   lone_turn : IsTurnOfTheirs one names round.name round.fresh
-  lone_turn = still_theirs later one names same_back round.name round.fresh later_turn at.here.sealed_in at.here.holds
+  lone_turn = still_theirs same_back later_turn at.here.sealed_in at.here.holds
       lone.serves
 
   alike : TurnsAlikeIn one later names (set_left one names round.name round.fresh) round.name round.fresh
-  alike = turns_alike_in one later names same round.name round.fresh lone_turn later_turn
+  alike = turns_alike_in same lone_turn later_turn
 
   abbrev set : List TaskName
   set = set_left one names round.name round.fresh
 
   sets : set_after other names round ≡ set
-  sets = same_set one later names same round.name round.fresh lone_turn alike.reply
+  sets = same_set same lone_turn alike.reply
 
   lone_at : IsAt (turn_of_theirs one (alone round)).sched set
   lone_at =

@@ -20,8 +20,8 @@ leads_on : {A B : Type 0} (o : Option A) (next : A → Option B) (b : B) → the
 leads_on None next b e = none_is_some b e
 leads_on (Some a) next b e = (a, refl, e)
 
-module _ (world : World ℕ) (is : IsWorld nat_eq world) (number : ℕ) (overlay : Overlay ℕ)
-    (over : (filesystem_numbered nat_eq world number).overlay ≡ Some overlay) (upper : Layer ℕ)
+module _ {world : World ℕ} (is : IsWorld nat_eq world) (number : ℕ) {overlay : Overlay ℕ}
+    (over : (filesystem_numbered nat_eq world number).overlay ≡ Some overlay) {upper : Layer ℕ}
     (has : overlay.upper ≡ Some upper) where
   abbrev stack : Stack ℕ
   stack = stack_of nat_eq world overlay upper

@@ -40,7 +40,8 @@ used_in_numbered world in_use k number = by (find (λ (f : Filesystem ℕ). nat_
         (among_from_all (λ g. list_all (is_inode_used world g) g.files.numbers ≡ true) world.filesystems in_use f
         (found_in (λ (g : Filesystem ℕ). nat_eq k g.number) world.filesystems f e).0) number m
 
-module _ (world after : World ℕ) (inode : Inode) (in_use : InodesInUse world) (loses : LosesOneUse inode world after)
+module _ {world after : World ℕ} {inode : Inode} (in_use : InodesInUse world)
+    (loses : LosesOneUse inode world after)
     (one : any_pair (λ (a b : Filesystem ℕ). nat_eq a.number b.number) after.filesystems ≡ false) where
   -- it is used if it had more uses
   used_still : is_inode_used after (filesystem_numbered nat_eq after inode.0) inode.1
@@ -203,14 +204,14 @@ module _ (world after : World ℕ) (inode : Inode) (in_use : InodesInUse world) 
 
 pub inode_goes_with_its_last_use : InodeGoesWithItsLastUse
 inode_goes_with_its_last_use world after inode in_use loses plain trees one =
-    inodes_go_one_by_one after (inode ∷ []) plain trees (other_inodes world after inode in_use.inodes loses one)
-    ∙ looked_up world after inode in_use.inodes loses one
+    inodes_go_one_by_one after (inode ∷ []) plain trees (other_inodes in_use.inodes loses one)
+    ∙ looked_up in_use.inodes loses one
 
 pub inode_beside_overlays_goes_with_its_last_use : InodeBesideOverlaysGoesWithItsLastUse
 inode_beside_overlays_goes_with_its_last_use world after inode in_use loses plain trees uppers reals one =
-    beside_overlays world after inode in_use.inodes loses one plain trees uppers reals
+    beside_overlays in_use.inodes loses one plain trees uppers reals
 
 pub inode_of_overlay_goes_with_its_last_use : InodeOfOverlayGoesWithItsLastUse
 inode_of_overlay_goes_with_its_last_use world after inode in_use loses merged trees uppers reals one =
-    of_overlay_left world after inode in_use.inodes loses one merged trees uppers reals
+    of_overlay_left in_use.inodes loses one merged trees uppers reals
     (nat_lt 1 (inode_uses world (filesystem_numbered nat_eq world inode.0) inode.1)) refl

@@ -138,7 +138,7 @@ module _ (after : World ℕ) (inode : Inode) (overlay : Overlay ℕ)
 
           found : filesystem_numbered nat_eq after layer.filesystem ≡ f
           found = ap (filesystem_numbered nat_eq after) (sym (eqb-true f.number layer.filesystem e))
-              ∙ found_after world after inode in_use.inodes loses one f m
+              ∙ found_after in_use.inodes loses one f m
 
           alike : (a b : ℕ) → a ≡ b + 0 → a ≡ b
           alike a b h = omega arith
@@ -183,7 +183,7 @@ module _ (after : World ℕ) (inode : Inode) (overlay : Overlay ℕ)
 
 pub inode_over_lowers_goes_alone : InodeOverLowersGoesAlone
 inode_over_lowers_goes_alone world after inode overlay in_use loses is none trees uppers reals one =
-    of_overlay_left world after inode in_use.inodes loses one (ap is_some is) trees uppers reals
+    of_overlay_left in_use.inodes loses one (ap is_some is) trees uppers reals
     (nat_lt 1 (inode_uses world (filesystem_numbered nat_eq world inode.0) inode.1)) refl
     ∙ ap (λ list. cond (nat_lt 1 (inode_uses world (filesystem_numbered nat_eq world inode.0) inode.1)) after
     (let_go_plain (without_merged_inode after inode) list))
@@ -191,7 +191,7 @@ inode_over_lowers_goes_alone world after inode overlay in_use loses is none tree
 
 pub upper_inode_goes_with_its_last_use : UpperInodeGoesWithItsLastUse
 upper_inode_goes_with_its_last_use world after inode overlay layer object in_use loses is upper real once trees uppers
-    reals one = of_overlay_left world after inode in_use.inodes loses one (ap is_some is) trees uppers reals
+    reals one = of_overlay_left in_use.inodes loses one (ap is_some is) trees uppers reals
     (nat_lt 1 (inode_uses world (filesystem_numbered nat_eq world inode.0) inode.1)) refl
     ∙ ap (λ list. cond (nat_lt 1 (inode_uses world (filesystem_numbered nat_eq world inode.0) inode.1)) after
     (let_go_plain (without_merged_inode after inode) list))

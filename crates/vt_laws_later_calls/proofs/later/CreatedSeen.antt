@@ -101,12 +101,11 @@ module _ {looks later : Looks ℕ} {task reader : Task ℕ} {Refused : Deny → 
       (walk_start reader path) parts.front) (λ here. placed nat_eq later reader here last (ends_in_slash path))) word_is
 
   pub place_too : IsPlacedThere (place_walk nat_eq later reader path)
-  place_too = subst IsPlacedThere (sym place_is) (through looks later task reader Refused Known leads IsPlacedThere
+  place_too = subst IsPlacedThere (sym place_is) (through leads IsPlacedThere
       (words_walked nat_eq later reader (followed nat_eq later reader)
       (walk_start reader path) parts.front) _ parts.here
-      (front_too looks later task reader Refused Known leads path place named parts) (λ steps known. by steps known
-      (search_too looks later task reader Refused Known leads parts.here.location known parts.searched))
-      (λ stop refused. inr (stop, refused, refl)))
+      (front_too leads path place named parts) (λ steps known. by steps known
+      (search_too leads parts.here.location known parts.searched)) (λ stop refused. inr (stop, refused, refl)))
     where
       by : (steps : List (List ℕ)) → Known parts.here.location
           → NoneFails (search_rules nat_eq later reader parts.here.location)

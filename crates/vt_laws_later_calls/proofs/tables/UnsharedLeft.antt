@@ -29,7 +29,7 @@ only_one test (first ∷ rest) apart a b m n e f = ⊎_elim (λ same. ⊎_elim (
     parts : (list_any (test first) rest ≡ false) × (any_pair test rest ≡ false)
     parts = or_parts (list_any (test first) rest) (any_pair test rest) apart
 
-module _ (world : World ℕ) (fresh : Fresh ℕ) (task : Task ℕ) (is : IsWorld nat_eq world)
+module _ {world : World ℕ} {fresh : Fresh ℕ} {task : Task ℕ} (is : IsWorld nat_eq world)
     (serves : Serves nat_eq world fresh) (called : task_called world task.name ≡ Some task) where
   -- The world with the copies, and the task on them
 

@@ -152,34 +152,34 @@ permit_is : (looks : Looks ℕ) (too_many : Permit ℕ → Bool) (task : Task �
     → IsGranted nat_eq looks too_many task Unshare permit → permit ≡ ToUnshare
 permit_is looks too_many task permit (unshares admin) = refl
 
-module _ (world : World ℕ) (fresh : Fresh ℕ) (task : Task ℕ) (is : IsWorld nat_eq world)
+module _ {world : World ℕ} {fresh : Fresh ℕ} {task : Task ℕ} (is : IsWorld nat_eq world)
     (serves : Serves nat_eq world fresh) (called : task_called world task.name ≡ Some task) (name : TaskName) where
   abbrev base : World ℕ
-  base = UnsharedLeft.base world fresh task is serves called
+  base = UnsharedLeft.base is serves called
 
   abbrev ended : List ℕ
-  ended = UnsharedLeft.ended world fresh task is serves called
+  ended = UnsharedLeft.ended is serves called
 
   abbrev lasting : List (Namespace ℕ)
-  lasting = UnsharedLeft.lasting world fresh task is serves called
+  lasting = UnsharedLeft.lasting is serves called
 
   abbrev change : Mount ℕ → Mount ℕ
-  change = UnsharedLeft.change world fresh task is serves called
+  change = UnsharedLeft.change is serves called
 
   abbrev moved : Task ℕ
-  moved = UnsharedLeft.moved world fresh task is serves called
+  moved = UnsharedLeft.moved is serves called
 
   abbrev new : Namespace ℕ
-  new = UnsharedLeft.new world fresh task is serves called
+  new = UnsharedLeft.new is serves called
 
   abbrev mounted : World ℕ
-  mounted = UnsharedLeft.mounted world fresh task is serves called
+  mounted = UnsharedLeft.mounted is serves called
 
   abbrev last : World ℕ
   last = numbers_raised nat_eq world name [] (without_dead_groups nat_eq mounted)
 
   base_is : MountInvariants nat_eq base
-  base_is = UnsharedLeft.base_mounts world fresh task is serves called
+  base_is = UnsharedLeft.base_mounts is serves called
 
   -- The list of a namespace that has a task
   module _ (namespace : Namespace ℕ) (other : Task ℕ) (known : Among namespace base.namespaces)
@@ -191,8 +191,8 @@ module _ (world : World ℕ) (fresh : Fresh ℕ) (task : Task ℕ) (is : IsWorld
     inside mount e = grind (arith, common_steps, true≢false, eqb-true)
 
     stays : (mount : Mount ℕ) → Among mount base.mounts → IsInside mount → is_going nat_eq ended mount.number ≡ false
-    stays mount m e = UnsharedLeft.stays_if world fresh task is serves called mount m
-        (UnsharedLeft.not_ended world fresh task is serves called namespace other mount known there same e)
+    stays mount m e = UnsharedLeft.stays_if is serves called mount m
+        (UnsharedLeft.not_ended is serves called namespace other mount known there same e)
 
     below : (mount : Mount ℕ) → Among mount base.mounts → (place : Location ℕ) → mount.mount_point ≡ Some place
         → Parent base mount place
@@ -215,26 +215,25 @@ module _ (world : World ℕ) (fresh : Fresh ℕ) (task : Task ℕ) (is : IsWorld
             (ap (is_going nat_eq ended) (sym on.number) ∙ stays on.parent on.there (sym on.namespace ∙ e)) ∙ sym f
 
     lives : (mount : Mount ℕ) → Among mount base.mounts → IsInside mount
-        → UnsharedLeft.Alive world fresh task is serves called mount
-    lives mount m e = UnsharedLeft.lives_in world fresh task is serves called mount (stays mount m e) (ap is_some e)
+        → UnsharedLeft.Alive is serves called mount
+    lives mount m e = UnsharedLeft.lives_in is serves called mount (stays mount m e) (ap is_some e)
 
     mounts_same : mounts_of nat_eq last namespace.number ≡ mounts_of nat_eq base namespace.number
     mounts_same = filter_left (is_in namespace.number)
-        (mount_lives nat_eq (UnsharedLeft.ended_world world fresh task is serves called)) change base.mounts
+        (mount_lives nat_eq (UnsharedLeft.ended_world is serves called)) change base.mounts
         (λ mount m e. (unchanged mount m (inside mount e), lives mount m (inside mount e)))
         (λ mount m e. by mount e (is_going nat_eq ended mount.number) refl)
       where
         by : (mount : Mount ℕ) → is_in namespace.number mount ≡ false → (b : Bool)
             → is_going nat_eq ended mount.number ≡ b → is_in namespace.number (change mount) ≡ false
-        by mount e true goes =
-            ap (is_in namespace.number) (UnsharedLeft.goes world fresh task is serves called mount goes)
+        by mount e true goes = ap (is_in namespace.number) (UnsharedLeft.goes is serves called mount goes)
         by mount e false isnt = ap (is_in namespace.number) (MountingTaken.stays_there base ended lasting mount isnt)
             ∙ e
 
     found_parent : {mount : Mount ℕ} (place : Location ℕ) (on : Parent base mount place) → IsInside on.parent
         → mount_numbered nat_eq last place.mount ≡ mount_numbered nat_eq base place.mount
     found_parent place on too = ap (mount_numbered nat_eq mounted) (sym on.number)
-        ∙ UnsharedLeft.shown world fresh task is serves called on.parent on.there (lives on.parent on.there too)
+        ∙ UnsharedLeft.shown is serves called on.parent on.there (lives on.parent on.there too)
         ∙ unchanged on.parent on.there too ∙ sym (found_itself base.mounts base_is.one_number on.parent on.there)
         ∙ ap (mount_numbered nat_eq base) on.number
 
@@ -246,7 +245,7 @@ module _ (world : World ℕ) (fresh : Fresh ℕ) (task : Task ℕ) (is : IsWorld
         let too : IsInside on.parent = sym on.namespace ∙ inside mount from.1 in
         let left : Among on.parent mounted.mounts = subst (λ x. Among x mounted.mounts)
         (unchanged on.parent on.there too)
-        (UnsharedLeft.alive_there world fresh task is serves called on.parent on.there (lives on.parent on.there too)) in
+        (UnsharedLeft.alive_there is serves called on.parent on.there (lives on.parent on.there too)) in
         numbered_found last.mounts place.mount
         (subst (λ n. is_mount last n ≡ true) on.number (is_one_of last.mounts on.parent left))
         ∙ ap Some (found_parent place on too)
@@ -260,7 +259,7 @@ module _ (world : World ℕ) (fresh : Fresh ℕ) (task : Task ℕ) (is : IsWorld
         let it = inside mount from.1 in
         ap (λ b. cond b (base.master group) None)
         (any_from_among (is_member_of nat_eq group) mounted.mounts (change mount)
-        (UnsharedLeft.alive_there world fresh task is serves called mount from.0 (lives mount from.0 it))
+        (UnsharedLeft.alive_there is serves called mount from.0 (lives mount from.0 it))
         (ap (is_member_of nat_eq group) (unchanged mount from.0 it) ∙ shared_member group mount e))
 
     reads_so : mount_lines nat_eq last namespace.number ≡ mount_lines nat_eq base namespace.number
@@ -315,17 +314,15 @@ module _ (world : World ℕ) (fresh : Fresh ℕ) (task : Task ℕ) (is : IsWorld
     lines_stay : (t : Task ℕ) → Among t world.tasks
         → mount_lines nat_eq last (after_it t).namespace ≡ mount_lines nat_eq world t.namespace
     lines_stay t m = ⊎_elim (λ e. ap (mount_lines nat_eq last) (namespace_of_caller t e)
-        ∙ reads_so new moved (UnsharedLeft.new_there world fresh task is serves called)
-        (UnsharedLeft.moved_there world fresh task is serves called) refl
-        ∙ lists_caller world fresh task serves is.mounts
+        ∙ reads_so new moved (UnsharedLeft.new_there is serves called)
+        (UnsharedLeft.moved_there is serves called) refl ∙ lists_caller world fresh task serves is.mounts
         (new_namespace_is_empty world fresh serves is.namespaces.mounts_listed)
         ∙ ap (λ (x : Task ℕ). mount_lines nat_eq world x.namespace)
-        (sym (UnsharedLeft.that_task world fresh task is serves called t m e)))
-        (λ e. let at = (UnsharedLeft.were world fresh task is serves called).listed.of_tasks t m in
+        (sym (UnsharedLeft.that_task is serves called t m e)))
+        (λ e. let at = (UnsharedLeft.were is serves called).listed.of_tasks t m in
         ap (mount_lines nat_eq last) (namespace_of_other t e ∙ at.2)
         ∙ reads_so at.0 t (among-append_left world.namespaces (new ∷ []) at.0 at.1)
-        (UnsharedLeft.other_there world fresh task is serves called t m e) (sym at.2)
-        ∙ ap (mount_lines nat_eq base) (sym at.2)
+        (UnsharedLeft.other_there is serves called t m e) (sym at.2) ∙ ap (mount_lines nat_eq base) (sym at.2)
         ∙ lists_others world fresh task t.namespace serves is.mounts (new_is_unused t.namespace at))
         (cases_Bool (same_name task.name t.name))
 
@@ -334,35 +331,32 @@ module _ (world : World ℕ) (fresh : Fresh ℕ) (task : Task ℕ) (is : IsWorld
     told_alike later other = grind (arith, common_steps, told, called_last, lines_stay, called_there)
 
 -- What a granted unshare left
-module _ (world : World ℕ) (fresh : Fresh ℕ) (name : TaskName) (is : IsWorld nat_eq world)
+module _ {world : World ℕ} {fresh : Fresh ℕ} {name : TaskName} (is : IsWorld nat_eq world)
     (serves : Serves nat_eq world fresh) (did : IsPermitted world fresh name Unshare Done) where
   called_own : task_called world did.task.name ≡ Some did.task
   called_own = ap (task_called world) (sym (name_found world name did.task did.called)) ∙ did.called
 
-  left_so : (policy nat_eq fresh world name Unshare).world ≡ last world fresh did.task is serves called_own name
+  left_so : (policy nat_eq fresh world name Unshare).world ≡ last is serves called_own name
   left_so = did.left ∙ ap (λ permit. numbers_raised nat_eq world name (filesystems_changed nat_eq world permit)
       (settled nat_eq (apply nat_eq fresh world did.task permit).world)) (permit_is _ _ did.task did.permit did.granted)
-      ∙ ap (numbers_raised nat_eq world name []) (UnsharedLeft.settles_so world fresh did.task is serves called_own)
+      ∙ ap (numbers_raised nat_eq world name []) (UnsharedLeft.settles_so is serves called_own)
 
 pub unshare_then_mounts : UnshareListsTheSame → UnshareListsOthersTheSame → UnshareThenMounts
 unshare_then_mounts lists_caller lists_others world fresh later name other is serves granted =
     let did = permitted world fresh name Unshare Done refl granted in
-    ap (λ w. (policy nat_eq later w other ListMounts).answer) (left_so world fresh name is serves did)
-    ∙ told_alike world fresh did.task is serves (called_own world fresh name is serves did) name lists_caller
-    lists_others later other
+    ap (λ w. (policy nat_eq later w other ListMounts).answer) (left_so is serves did)
+    ∙ told_alike is serves (called_own is serves did) name lists_caller lists_others later other
 
 pub unshare_gives_a_namespace : UnshareGivesANamespace
 unshare_gives_a_namespace world fresh name task is serves granted called =
     let did = permitted world fresh name Unshare Done refl granted in
-    let own = called_own world fresh name is serves did in
-    let now : Some (after_it world fresh did.task is serves own name did.task) ≡ Some task =
-    sym (called_last world fresh did.task is serves own name name
-    ∙ ap (option_map (after_it world fresh did.task is serves own name)) did.called)
-    ∙ ap (λ w. task_called w name) (sym (left_so world fresh name is serves did)) ∙ called in
+    let own = called_own is serves did in
+    let now : Some (after_it is serves own name did.task) ≡ Some task =
+    sym (called_last is serves own name name ∙ ap (option_map (after_it is serves own name)) did.called)
+    ∙ ap (λ w. task_called w name) (sym (left_so is serves did)) ∙ called in
     let number : task.namespace ≡ evens fresh 0 = ap (λ (t : Task ℕ). t.namespace) (sym (same_Some _ task now))
-    ∙ namespace_of_caller world fresh did.task is serves own name did.task
-    ((bytes_decides did.task.name did.task.name).1 refl) in
+    ∙ namespace_of_caller is serves own name did.task ((bytes_decides did.task.name did.task.name).1 refl) in
     false_from_ne_true (is_listed nat_eq world task.namespace) (λ e.
     let at = listed_in world task.namespace e in
     true≢false (sym (eq-eqb task.namespace (evens fresh 0) number)
-    ∙ new_is_unused world fresh did.task is serves own name task.namespace at))
+    ∙ new_is_unused is serves own name task.namespace at))

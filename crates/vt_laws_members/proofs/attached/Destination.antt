@@ -75,10 +75,10 @@ module _ {world : World ℕ} {names : List TaskName} {task : Task ℕ} (member :
       (StandsHere member)
   at_source path =
       let it = alike member in
-      (source_agrees (one member) (other member) task (On member) it.walks it.directory it.rules.removed path).1
+      (source_agrees it.walks it.directory it.rules.removed path).1
 
   pub at_destination : (path : List ℕ) → IfOk
       (destination_walk nat_eq (one member) task path) (StandsHere member)
   at_destination path =
       let it = alike member in
-      (destination_agrees (one member) (other member) task (On member) it.walks it.directory it.rules.removed path).1
+      (destination_agrees it.walks it.directory it.rules.removed path).1

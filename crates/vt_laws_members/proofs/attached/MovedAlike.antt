@@ -43,9 +43,9 @@ pub record Stays (w : World ℕ) : Type 0 where
   pub nowhere : list_all is_nowhere_or_attached w.mounts ≡ true
   pub groups : All (HasLivingGroups nat_eq w) w.mounts
 
-module _ {world : World ℕ} {names : List TaskName} (sealing : IsSealed world names) (change : Mount ℕ → Mount ℕ)
-    (added : List (Mount ℕ))
-    (master master_too : ℕ → Option ℕ) (grows : Grows world names change added [] master)
+module _ {world : World ℕ} {names : List TaskName} (sealing : IsSealed world names) {change : Mount ℕ → Mount ℕ}
+    {added : List (Mount ℕ)} {master : ℕ → Option ℕ} (master_too : ℕ → Option ℕ)
+    (grows : Grows world names change added [] master)
     (known : (y : Mount ℕ) → Among y (map change world.mounts ++ added)
     → is_own world names (members world names) y ≡ true → (g : ℕ) → source_of y.propagation ≡ Some g
     → master_too g ≡ master g) where

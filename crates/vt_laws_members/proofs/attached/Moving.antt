@@ -164,12 +164,12 @@ module _ {world : World ℕ} {names : List TaskName} {name : TaskName} {source p
   now_there = moved_to nat_eq fresh part from.mount here
 
   abbrev left : World ℕ
-  left = left_here (sealing_of it) change added (with_made world.master) (with_made part.master) grows
+  left = left_here (sealing_of it) (with_made part.master) grows
       (moved_known moving (λ a b. group_new world names it.is fresh serves _))
 
   abbrev left_too : World ℕ
   left_too =
-      left_there (sealing_of it) change added (with_made world.master) (with_made part.master) grows
+      left_there (sealing_of it) (with_made part.master) grows
       (moved_known moving (λ a b. group_new world names it.is fresh serves _))
 
   abbrev attached_to : List (Mount ℕ) → World ℕ → World ℕ
@@ -188,8 +188,7 @@ module _ {world : World ℕ} {names : List TaskName} {name : TaskName} {source p
   there_so = ap (λ l. attached_to l part) same_tree ∙ ap (attached_to origins) (no_new_ones part)
       ∙ ap (λ l. attached_by nat_eq (base_part attaching) (copies_from nat_eq fresh l origins) here true origins)
       (parts_alike attaching) ∙ attached_there attaching new true origins ∙ moved_as moving part ∙ without_new
-      (ready_there (sealing_of it)) (grows_there (sealing_of it) change added
-      (with_made world.master) (with_made part.master) grows (moved_known moving
+      (ready_there (sealing_of it)) (grows_there (sealing_of it) (with_made part.master) grows (moved_known moving
       (λ a b. group_new world names it.is fresh serves _)))
 
   -- what moves exists, in both
@@ -220,7 +219,7 @@ module _ {world : World ℕ} {names : List TaskName} {name : TaskName} {source p
   parts_same : part_of nat_eq (numbers_raised nat_eq world name [] (settled nat_eq now)) names
       ≡ part_of nat_eq (numbers_raised nat_eq part name [] (settled nat_eq now_there)) names
   parts_same = ap (λ w. part_of nat_eq (numbers_raised nat_eq world name [] (settled nat_eq w)) names) now_so
-      ∙ moved_alike (sealing_of it) change added (with_made world.master) (with_made part.master) grows
+      ∙ moved_alike (sealing_of it) (with_made part.master) grows
       (moved_known moving (λ a b. group_new world names it.is fresh serves _)) stays stays_too name ∙ sym
       (ap (λ w. part_of nat_eq (numbers_raised nat_eq part name [] (settled nat_eq w)) names) there_so)
 

@@ -233,16 +233,16 @@ module _ {world : World ℕ} {names : List TaskName} {task : Task ℕ} (member :
   judged overfills (Setns name) t = setns_alike name (t name refl)
   judged overfills (MountPlain path flags) t = plain_alike one other task own uses judges overfills path flags
   judged overfills (MountOverlay path options flags) t =
-      overlay_alike one other task own uses judges layers overfills path options flags
+      overlay_alike task own judges layers overfills path options flags
   judged overfills (Bind source path recursive) t =
       bind_alike one other task own uses judges overfills source path recursive
   judged overfills (MoveMount source path) t = move_alike uses judges parents trees overfills source path
   judged overfills (Umount path) t = umount_alike uses judges parents trees path
   judged overfills (Lazy path) t = lazy_alike one other task own uses judges overfills path
-  judged overfills (Remount path flags) t = remount_alike one other task own uses judges parents path flags
+  judged overfills (Remount path flags) t = remount_alike uses judges parents path flags
   judged overfills (SetType path word recursive) t =
       type_alike one other task own uses judges overfills path word recursive
-  judged overfills (PivotRoot new put) t = pivot_alike one other task own uses judges parents new put
+  judged overfills (PivotRoot new put) t = pivot_alike uses judges parents new put
   judged overfills ListMounts t = refl
 
 pub members_are_judged_alike : MembersAreJudgedAlike

@@ -45,17 +45,16 @@ module _ {world : World ℕ} {names : List TaskName} {task : Task ℕ} (member :
   alike = judges member
 
   abbrev StandsThere : Here ℕ → Type 0
-  StandsThere = HereAt one (looks_of nat_eq part) task On alike.walks alike.directory alike.rules.removed
+  StandsThere = HereAt alike.walks alike.directory alike.rules.removed
 
   at_source : (path : List ℕ) → Agree StandsThere (source_walk nat_eq one task path) (source_walk nat_eq one task path)
-  at_source path =
-      (refl, (source_agrees one (looks_of nat_eq part) task On alike.walks alike.directory alike.rules.removed path).1)
+  at_source path = (refl, (source_agrees alike.walks alike.directory alike.rules.removed path).1)
 
   at_destination : (path : List ℕ)
       → Agree StandsThere (destination_walk nat_eq one task path) (destination_walk nat_eq one task path)
   at_destination path = (
     refl,
-    (destination_agrees one (looks_of nat_eq part) task On alike.walks alike.directory alike.rules.removed path).1,
+    (destination_agrees alike.walks alike.directory alike.rules.removed path).1,
   )
 
   theirs : (here : Location ℕ) → On here.mount → IsTheirs world names member.is.mounts here.mount

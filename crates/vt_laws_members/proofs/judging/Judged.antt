@@ -19,14 +19,14 @@ module _ (one other : Looks ℕ) (task : Task ℕ) (own uses : ℕ → Bool) (al
   On number = own number ≡ true
 
   abbrev pub Stands : Rattle.vt_spec.specs.Machine.Walking.Here ℕ → Type 0
-  Stands = HereAt one other task On alike.walks alike.directory alike.rules.removed
+  Stands = HereAt alike.walks alike.directory alike.rules.removed
 
   pub list_alike : (path : List ℕ) → list_permit nat_eq one task path ≡ list_permit nat_eq other task path
   unfolding list_permit
   list_alike path = judged_alike Stands (directory_walk nat_eq one task path) (directory_walk nat_eq other task path)
       (λ here. unless (list_rules one task here.location) (Ok (ToList here.location)))
       (λ here. unless (list_rules other task here.location) (Ok (ToList here.location)))
-      (directory_agrees one other task On alike.walks alike.directory alike.rules.removed path)
+      (directory_agrees alike.walks alike.directory alike.rules.removed path)
       (λ here on. by_mask own uses one other alike.rules
       (λ looks. unless (list_rules looks task here.location) (Ok (ToList here.location))) (λ looks. rw on refl))
 
@@ -34,20 +34,20 @@ module _ (one other : Looks ℕ) (task : Task ℕ) (own uses : ℕ → Bool) (al
   unfolding stat_permit
   stat_alike path = judged_alike Stands (object_walk nat_eq one task path) (object_walk nat_eq other task path)
       (λ here. Ok (ToStat here.location)) (λ here. Ok (ToStat here.location))
-      (object_agrees one other task On alike.walks alike.directory alike.rules.removed path) (λ here on. refl)
+      (object_agrees alike.walks alike.directory alike.rules.removed path) (λ here on. refl)
 
   pub lstat_alike : (path : List ℕ) → lstat_permit nat_eq one task path ≡ lstat_permit nat_eq other task path
   unfolding lstat_permit
   lstat_alike path = judged_alike Stands (symlink_walk nat_eq one task path) (symlink_walk nat_eq other task path)
       (λ here. Ok (ToStat here.location)) (λ here. Ok (ToStat here.location))
-      (symlink_agrees one other task On alike.walks alike.directory alike.rules.removed path) (λ here on. refl)
+      (symlink_agrees alike.walks alike.directory alike.rules.removed path) (λ here on. refl)
 
   pub readlink_alike : (path : List ℕ) → readlink_permit nat_eq one task path ≡ readlink_permit nat_eq other task path
   unfolding readlink_permit
   readlink_alike path = judged_alike Stands (symlink_walk nat_eq one task path) (symlink_walk nat_eq other task path)
       (λ here. unless (readlink_rules one here.location) (Ok (ToRead here.location)))
       (λ here. unless (readlink_rules other here.location) (Ok (ToRead here.location)))
-      (symlink_agrees one other task On alike.walks alike.directory alike.rules.removed path)
+      (symlink_agrees alike.walks alike.directory alike.rules.removed path)
       (λ here on. by_mask own uses one other alike.rules
       (λ looks. unless (readlink_rules looks here.location) (Ok (ToRead here.location))) (λ looks. rw on refl))
 
@@ -56,7 +56,7 @@ module _ (one other : Looks ℕ) (task : Task ℕ) (own uses : ℕ → Bool) (al
   read_alike path = judged_alike Stands (object_walk nat_eq one task path) (object_walk nat_eq other task path)
       (λ here. unless (read_rules one task here.location) (Ok (ToRead here.location)))
       (λ here. unless (read_rules other task here.location) (Ok (ToRead here.location)))
-      (object_agrees one other task On alike.walks alike.directory alike.rules.removed path)
+      (object_agrees alike.walks alike.directory alike.rules.removed path)
       (λ here on. by_mask own uses one other alike.rules
       (λ looks. unless (read_rules looks task here.location) (Ok (ToRead here.location))) (λ looks. rw on refl))
 
@@ -65,7 +65,7 @@ module _ (one other : Looks ℕ) (task : Task ℕ) (own uses : ℕ → Bool) (al
   exec_alike path = judged_alike Stands (object_walk nat_eq one task path) (object_walk nat_eq other task path)
       (λ here. unless (exec_rules one task here.location) (Ok Allowed))
       (λ here. unless (exec_rules other task here.location) (Ok Allowed))
-      (object_agrees one other task On alike.walks alike.directory alike.rules.removed path)
+      (object_agrees alike.walks alike.directory alike.rules.removed path)
       (λ here on. by_mask own uses one other alike.rules
       (λ looks. unless (exec_rules looks task here.location) (Ok Allowed)) (λ looks. rw on refl))
 
@@ -74,7 +74,7 @@ module _ (one other : Looks ℕ) (task : Task ℕ) (own uses : ℕ → Bool) (al
   chdir_alike path = judged_alike Stands (directory_walk nat_eq one task path) (directory_walk nat_eq other task path)
       (λ here. unless (enter_rules one task here.location) (Ok (ToSetDirectory here.location)))
       (λ here. unless (enter_rules other task here.location) (Ok (ToSetDirectory here.location)))
-      (directory_agrees one other task On alike.walks alike.directory alike.rules.removed path)
+      (directory_agrees alike.walks alike.directory alike.rules.removed path)
       (λ here on. by_mask own uses one other alike.rules
       (λ looks. unless (enter_rules looks task here.location) (Ok (ToSetDirectory here.location)))
       (λ looks. rw on refl))
@@ -85,6 +85,6 @@ module _ (one other : Looks ℕ) (task : Task ℕ) (own uses : ℕ → Bool) (al
       (judged_alike Stands (directory_walk nat_eq one task path) (directory_walk nat_eq other task path)
       (λ here. unless (enter_rules one task here.location) (Ok (ToSetRoot here.location)))
       (λ here. unless (enter_rules other task here.location) (Ok (ToSetRoot here.location)))
-      (directory_agrees one other task On alike.walks alike.directory alike.rules.removed path)
+      (directory_agrees alike.walks alike.directory alike.rules.removed path)
       (λ here on. by_mask own uses one other alike.rules
       (λ looks. unless (enter_rules looks task here.location) (Ok (ToSetRoot here.location))) (λ looks. rw on refl)))

@@ -16,10 +16,10 @@ module _ (one other : Looks ℕ) (task : Task ℕ) (own uses : ℕ → Bool) (al
   StandsHere = Stands one other task own uses alike
 
   abbrev pub IsPlaced : Place ℕ → Type 0
-  IsPlaced = PlaceAt one other task On alike.walks alike.directory alike.rules.removed
+  IsPlaced = PlaceAt alike.walks alike.directory alike.rules.removed
 
   abbrev pub IsFound : Option (Location ℕ) → Type 0
-  IsFound = FoundAt one other task On alike.walks alike.directory alike.rules.removed
+  IsFound = FoundAt alike.walks alike.directory alike.rules.removed
 
   -- what is asked of what is reached is the same in both
   pub asked_alike : {R : Type 0} (asked : Looks ℕ → R)
@@ -39,7 +39,7 @@ module _ (one other : Looks ℕ) (task : Task ℕ) (own uses : ℕ → Bool) (al
       (record { attr = new_attr task (unwrap_or mode directory_mode); content = new_directory place.parent.node }))
       (λ place. made_permit nat_eq other task place
       (record { attr = new_attr task (unwrap_or mode directory_mode); content = new_directory place.parent.node }))
-      (new_agrees one other task On alike.walks alike.directory alike.rules.removed path) (λ place at. made_alike place
+      (new_agrees alike.walks alike.directory alike.rules.removed path) (λ place at. made_alike place
       (record { attr = new_attr task (unwrap_or mode directory_mode); content = new_directory place.parent.node }) at.0)
 
   pub symlink_alike : (text path : List ℕ)
@@ -51,7 +51,7 @@ module _ (one other : Looks ℕ) (task : Task ℕ) (own uses : ℕ → Bool) (al
       (record { attr = exact_attr task symlink_mode; content = Symlink text }))
       (λ place. made_permit nat_eq other task place
       (record { attr = exact_attr task symlink_mode; content = Symlink text }))
-      (new_leaf_agrees one other task On alike.walks alike.directory alike.rules.removed path)
+      (new_leaf_agrees alike.walks alike.directory alike.rules.removed path)
       (λ place at. made_alike place (record { attr = exact_attr task symlink_mode; content = Symlink text }) at.0))
 
   abbrev whiteout_by : Place ℕ → Looks ℕ → Judgement ℕ
@@ -63,7 +63,7 @@ module _ (one other : Looks ℕ) (task : Task ℕ) (own uses : ℕ → Bool) (al
   whiteout_alike path =
       judged_alike IsPlaced (new_leaf_walk nat_eq one task path) (new_leaf_walk nat_eq other task path)
       (λ place. whiteout_by place one) (λ place. whiteout_by place other)
-      (new_leaf_agrees one other task On alike.walks alike.directory alike.rules.removed path)
+      (new_leaf_agrees alike.walks alike.directory alike.rules.removed path)
       (λ place at. let on : own place.parent.mount ≡ true = at.0 in
       asked_alike (whiteout_by place) (λ looks. rw (is_read_only, on) refl))
 
@@ -79,10 +79,10 @@ module _ (one other : Looks ℕ) (task : Task ℕ) (own uses : ℕ → Bool) (al
       judged_alike StandsHere (symlink_walk nat_eq one task old) (symlink_walk nat_eq other task old)
       (λ from. and_then (walk_end (new_leaf_walk nat_eq one task new)) (λ place. link_by from.location place one))
       (λ from. and_then (walk_end (new_leaf_walk nat_eq other task new)) (λ place. link_by from.location place other))
-      (symlink_agrees one other task On alike.walks alike.directory alike.rules.removed old) (λ from there.
+      (symlink_agrees alike.walks alike.directory alike.rules.removed old) (λ from there.
       judged_alike IsPlaced (new_leaf_walk nat_eq one task new) (new_leaf_walk nat_eq other task new)
       (λ place. link_by from.location place one) (λ place. link_by from.location place other)
-      (new_leaf_agrees one other task On alike.walks alike.directory alike.rules.removed new)
+      (new_leaf_agrees alike.walks alike.directory alike.rules.removed new)
       (λ place at. let on : own place.parent.mount ≡ true = at.0 in
       asked_alike (link_by from.location place) (λ looks. rw (is_read_only, there, on) refl)))
 
@@ -98,7 +98,7 @@ module _ (one other : Looks ℕ) (task : Task ℕ) (own uses : ℕ → Bool) (al
   write_alike path bytes = judged_alike IsPlaced (file_walk nat_eq one task path) (file_walk nat_eq other task path)
       (λ place. unless (file_word_rules place) (written_permit nat_eq one task place bytes place.object))
       (λ place. unless (file_word_rules place) (written_permit nat_eq other task place bytes place.object))
-      (file_agrees one other task On alike.walks alike.directory alike.rules.removed path)
+      (file_agrees alike.walks alike.directory alike.rules.removed path)
       (λ place at. ap (unless (file_word_rules place)) (written_by place at.0 bytes place.object at.1))
 
   pub there_own : (place : Place ℕ) → IsPlaced place → On (object_there place).mount
@@ -120,7 +120,7 @@ module _ (one other : Looks ℕ) (task : Task ℕ) (own uses : ℕ → Bool) (al
   unfolding unlink_permit
   unlink_alike path = judged_alike IsPlaced (old_leaf_walk nat_eq one task path) (old_leaf_walk nat_eq other task path)
       (λ place. unlink_by place (object_there place) one) (λ place. unlink_by place (object_there place) other)
-      (old_leaf_agrees one other task On alike.walks alike.directory alike.rules.removed path)
+      (old_leaf_agrees alike.walks alike.directory alike.rules.removed path)
       (λ place at. unlink_same place (object_there place) at.0 (there_own place at))
 
   -- Attributes
@@ -131,7 +131,7 @@ module _ (one other : Looks ℕ) (task : Task ℕ) (own uses : ℕ → Bool) (al
   chmod_alike path mode =
       judged_alike StandsHere (object_walk nat_eq one task path) (object_walk nat_eq other task path)
       (λ here. by here.location one) (λ here. by here.location other)
-      (object_agrees one other task On alike.walks alike.directory alike.rules.removed path)
+      (object_agrees alike.walks alike.directory alike.rules.removed path)
       (λ here on. asked_alike (by here.location) (λ looks. rw (is_read_only, on) refl))
     where
       by : Location ℕ → Looks ℕ → Judgement ℕ
@@ -144,7 +144,7 @@ module _ (one other : Looks ℕ) (task : Task ℕ) (own uses : ℕ → Bool) (al
   chown_alike path uid gid =
       judged_alike StandsHere (object_walk nat_eq one task path) (object_walk nat_eq other task path)
       (λ here. by here.location one) (λ here. by here.location other)
-      (object_agrees one other task On alike.walks alike.directory alike.rules.removed path)
+      (object_agrees alike.walks alike.directory alike.rules.removed path)
       (λ here on. asked_alike (by here.location) (λ looks. rw (is_read_only, on) refl))
     where
       by : Location ℕ → Looks ℕ → Judgement ℕ
@@ -158,7 +158,7 @@ module _ (one other : Looks ℕ) (task : Task ℕ) (own uses : ℕ → Bool) (al
   opaque_alike path mark = ap (unless (admin_rules task))
       (judged_alike StandsHere (directory_walk nat_eq one task path) (directory_walk nat_eq other task path)
       (λ here. by here.location one) (λ here. by here.location other)
-      (directory_agrees one other task On alike.walks alike.directory alike.rules.removed path)
+      (directory_agrees alike.walks alike.directory alike.rules.removed path)
       (λ here on. asked_alike (by here.location) (λ looks. rw (is_read_only, on) refl)))
     where
       by : Location ℕ → Looks ℕ → Judgement ℕ
@@ -191,7 +191,7 @@ module _ (one other : Looks ℕ) (task : Task ℕ) (own uses : ℕ → Bool) (al
       judged_alike StandsHere (object_walk nat_eq one task path) (object_walk nat_eq other task path)
       (λ here. open_file_permit nat_eq one task here.location access)
       (λ here. open_file_permit nat_eq other task here.location access)
-      (object_agrees one other task On alike.walks alike.directory alike.rules.removed path)
+      (object_agrees alike.walks alike.directory alike.rules.removed path)
       (λ here on. open_file_same here.location access on)
   open_by path access (OrCreate mode) =
       judged_alike IsPlaced (file_walk nat_eq one task path) (file_walk nat_eq other task path)
@@ -199,13 +199,13 @@ module _ (one other : Looks ℕ) (task : Task ℕ) (own uses : ℕ → Bool) (al
       (opened_or_created_permit nat_eq one task place access mode place.object))
       (λ place. unless (file_word_rules place)
       (opened_or_created_permit nat_eq other task place access mode place.object))
-      (file_agrees one other task On alike.walks alike.directory alike.rules.removed path)
+      (file_agrees alike.walks alike.directory alike.rules.removed path)
       (λ place at. ap (unless (file_word_rules place)) (opened_by place at.0 access mode place.object at.1))
   open_by path access (Exclusive mode) =
       judged_alike IsPlaced (new_walk nat_eq one task path) (new_walk nat_eq other task path)
       (λ place. unless (exclusive_word_rules place) (create_file_permit nat_eq one task place access mode))
       (λ place. unless (exclusive_word_rules place) (create_file_permit nat_eq other task place access mode))
-      (new_agrees one other task On alike.walks alike.directory alike.rules.removed path)
+      (new_agrees alike.walks alike.directory alike.rules.removed path)
       (λ place at. ap (unless (exclusive_word_rules place)) (create_same place access mode at.0))
 
   pub open_alike : (path : List ℕ) (access : Access) (creation : Creation)

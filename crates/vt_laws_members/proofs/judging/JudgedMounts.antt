@@ -24,7 +24,7 @@ module _ (one other : Looks ℕ) (task : Task ℕ) (own uses : ℕ → Bool) (al
   plain_alike path flags = ap (unless (admin_rules task))
       (judged_alike StandsThere (destination_walk nat_eq one task path) (destination_walk nat_eq other task path)
       (λ here. plain_by flags here.location one) (λ here. plain_by flags here.location other)
-      (destination_agrees one other task On alike.walks alike.directory alike.rules.removed path)
+      (destination_agrees alike.walks alike.directory alike.rules.removed path)
       (λ here on. by_mask own uses one other alike.rules (plain_by flags here.location) (λ looks. rw (is_elsewhere, mount_at, on) refl)))
 
   abbrev bind_by : Bool → Location ℕ → Location ℕ → Looks ℕ → Judgement ℕ
@@ -41,11 +41,11 @@ module _ (one other : Looks ℕ) (task : Task ℕ) (own uses : ℕ → Bool) (al
       bind_by recursive from.location here.location one))
       (λ from. and_then (walk_end (destination_walk nat_eq other task path)) (λ here.
       bind_by recursive from.location here.location other))
-      (source_agrees one other task On alike.walks alike.directory alike.rules.removed source) (λ from there.
+      (source_agrees alike.walks alike.directory alike.rules.removed source) (λ from there.
       judged_alike StandsThere (destination_walk nat_eq one task path) (destination_walk nat_eq other task path)
       (λ here. bind_by recursive from.location here.location one)
       (λ here. bind_by recursive from.location here.location other)
-      (destination_agrees one other task On alike.walks alike.directory alike.rules.removed path)
+      (destination_agrees alike.walks alike.directory alike.rules.removed path)
       (λ here on. by_mask own uses one other alike.rules (bind_by recursive from.location here.location)
       (λ looks. rw (is_elsewhere, mount_at, there, on) refl))))
 
@@ -57,7 +57,7 @@ module _ (one other : Looks ℕ) (task : Task ℕ) (own uses : ℕ → Bool) (al
   lazy_alike path = ap (unless (admin_rules task))
       (judged_alike StandsThere (directory_walk nat_eq one task path) (directory_walk nat_eq other task path)
       (λ here. lazy_by here.location one) (λ here. lazy_by here.location other)
-      (directory_agrees one other task On alike.walks alike.directory alike.rules.removed path)
+      (directory_agrees alike.walks alike.directory alike.rules.removed path)
       (λ here on. by_mask own uses one other alike.rules (lazy_by here.location) (λ looks. rw (is_elsewhere, is_no_root, mount_at, on) refl)))
 
   abbrev type_by : TypeWord → Bool → Location ℕ → Looks ℕ → Judgement ℕ
@@ -70,6 +70,6 @@ module _ (one other : Looks ℕ) (task : Task ℕ) (own uses : ℕ → Bool) (al
   type_alike path word recursive = ap (unless (admin_rules task))
       (judged_alike StandsThere (directory_walk nat_eq one task path) (directory_walk nat_eq other task path)
       (λ here. type_by word recursive here.location one) (λ here. type_by word recursive here.location other)
-      (directory_agrees one other task On alike.walks alike.directory alike.rules.removed path)
+      (directory_agrees alike.walks alike.directory alike.rules.removed path)
       (λ here on. by_mask own uses one other alike.rules (type_by word recursive here.location)
       (λ looks. rw (is_elsewhere, is_no_root, mount_at, on) refl)))

@@ -39,7 +39,7 @@ module _ {one other : Looks ℕ} {task : Task ℕ} {own : ℕ → Bool} (uses : 
       (judged_alike StandsThere (directory_walk nat_eq one task path) (directory_walk nat_eq other task path)
       (λ here. unmount_by here.location (one.is_busy here.location.mount) one)
       (λ here. unmount_by here.location (other.is_busy here.location.mount) other)
-      (directory_agrees one other task On alike.walks alike.directory alike.rules.removed path) (λ here on.
+      (directory_agrees alike.walks alike.directory alike.rules.removed path) (λ here on.
       busy_by here.location on (is_elsewhere nat_eq one task here.location) refl
       ∙ by_mask own uses one other alike.rules (unmount_by here.location (other.is_busy here.location.mount))
       (λ looks. rw (is_elsewhere, is_no_root, mount_at, on) refl)))
@@ -73,10 +73,10 @@ module _ {one other : Looks ℕ} {task : Task ℕ} {own : ℕ → Bool} (uses : 
       (λ here. moved from.location here.location one))
       (λ from. and_then (walk_end (destination_walk nat_eq other task path))
       (λ here. moved from.location here.location other))
-      (source_agrees one other task On alike.walks alike.directory alike.rules.removed source) (λ from there.
+      (source_agrees alike.walks alike.directory alike.rules.removed source) (λ from there.
       judged_alike StandsThere (destination_walk nat_eq one task path) (destination_walk nat_eq other task path)
       (λ here. moved from.location here.location one) (λ here. moved from.location here.location other)
-      (destination_agrees one other task On alike.walks alike.directory alike.rules.removed path) (λ here on.
+      (destination_agrees alike.walks alike.directory alike.rules.removed path) (λ here on.
       move_same (overfills (ToMove from.location.mount here.location)) from.location here.location there on)))
     where
       moved : Location ℕ → Location ℕ → Looks ℕ → Judgement ℕ

@@ -40,8 +40,8 @@ pub record LayersAlike (one other : Looks ℕ) (uses : ℕ → Bool) : Type 0 wh
       → Each (λ (l : Layer ℕ). uses l.filesystem ≡ true) (upper_and_work overlay ++ overlay.lowers)
       → one.is_in_use overlay ≡ other.is_in_use overlay
 
-module _ (one other : Looks ℕ) (task : Task ℕ) (own uses : ℕ → Bool) (alike : JudgesAlike one other task own uses)
-    (layers_alike : LayersAlike one other uses) where
+module _ {one other : Looks ℕ} (task : Task ℕ) (own : ℕ → Bool) {uses : ℕ → Bool}
+    (alike : JudgesAlike one other task own uses) (layers_alike : LayersAlike one other uses) where
   abbrev On : ℕ → Type 0
   On number = own number ≡ true
 
@@ -59,7 +59,7 @@ module _ (one other : Looks ℕ) (task : Task ℕ) (own uses : ℕ → Bool) (al
   walked_one : (path : List ℕ)
       → Agree StandsThere (walk_end (source_walk nat_eq one task path)) (walk_end (source_walk nat_eq other task path))
   walked_one path = end_agrees StandsThere (source_walk nat_eq one task path) (source_walk nat_eq other task path)
-      (source_agrees one other task On alike.walks alike.directory alike.rules.removed path)
+      (source_agrees alike.walks alike.directory alike.rules.removed path)
 
   each_agrees : (paths : List (List ℕ))
       → Agree (λ list. Each At list) (each_walked nat_eq one task paths) (each_walked nat_eq other task paths)
@@ -239,5 +239,5 @@ module _ (one other : Looks ℕ) (task : Task ℕ) (own uses : ℕ → Bool) (al
       (judged_alike StandsThere (destination_walk nat_eq one task path) (destination_walk nat_eq other task path)
       (λ here. overlay_permit_by nat_eq one overfills task here.location options flags)
       (λ here. overlay_permit_by nat_eq other overfills task here.location options flags)
-      (destination_agrees one other task On alike.walks alike.directory alike.rules.removed path)
+      (destination_agrees alike.walks alike.directory alike.rules.removed path)
       (λ here on. permit_by overfills here.location on options flags))

@@ -17,8 +17,8 @@ pub record ParentsAlike (one other : Looks ℕ) (task : Task ℕ) (own : ℕ →
   pub descends : (mount : ℕ) (here : Location ℕ) → own here.mount ≡ true
       → is_on_descendant nat_eq one mount here ≡ is_on_descendant nat_eq other mount here
 
-module _ (one other : Looks ℕ) (task : Task ℕ) (own uses : ℕ → Bool) (alike : JudgesAlike one other task own uses)
-    (parents : ParentsAlike one other task own) where
+module _ {one other : Looks ℕ} {task : Task ℕ} {own : ℕ → Bool} (uses : ℕ → Bool)
+    (alike : JudgesAlike one other task own uses) (parents : ParentsAlike one other task own) where
   abbrev On : ℕ → Type 0
   On number = own number ≡ true
 
@@ -43,7 +43,7 @@ module _ (one other : Looks ℕ) (task : Task ℕ) (own uses : ℕ → Bool) (al
       (judged_alike StandsThere (directory_walk nat_eq one task path) (directory_walk nat_eq other task path)
       (λ here. flags_by flags here.location (one.is_written_through here.location.mount) one)
       (λ here. flags_by flags here.location (other.is_written_through here.location.mount) other)
-      (directory_agrees one other task On alike.walks alike.directory alike.rules.removed path) (λ here on.
+      (directory_agrees alike.walks alike.directory alike.rules.removed path) (λ here on.
       by_namespace flags here.location on (is_elsewhere nat_eq one task here.location) refl
       ∙ by_mask own uses one other alike.rules (flags_by flags here.location (other.is_written_through here.location.mount))
       (λ looks. rw (is_elsewhere, is_no_root, mount_at, on) refl)))
@@ -85,8 +85,8 @@ module _ (one other : Looks ℕ) (task : Task ℕ) (own uses : ℕ → Bool) (al
       pivot_of one root.location here.location one))
       (λ root. and_then (walk_end (destination_walk nat_eq other task put)) (λ here.
       pivot_of other root.location here.location other))
-      (source_agrees one other task On alike.walks alike.directory alike.rules.removed new) (λ root there.
+      (source_agrees alike.walks alike.directory alike.rules.removed new) (λ root there.
       judged_alike StandsThere (destination_walk nat_eq one task put) (destination_walk nat_eq other task put)
       (λ here. pivot_of one root.location here.location one) (λ here. pivot_of other root.location here.location other)
-      (destination_agrees one other task On alike.walks alike.directory alike.rules.removed put)
+      (destination_agrees alike.walks alike.directory alike.rules.removed put)
       (λ here on. pivot_same root.location here.location there on)))

@@ -57,7 +57,7 @@ module _ (one other : Looks ℕ) (task : Task ℕ) (own uses : ℕ → Bool) (al
       (is_mount_point_in nat_eq one task.namespace (object_there place)) one))
       (λ place. unless (rmdir_word_rules place) (rmdir_by place (object_there place)
       (is_mount_point_in nat_eq other task.namespace (object_there place)) other))
-      (old_agrees one other task On alike.walks alike.directory alike.rules.removed path)
+      (old_agrees alike.walks alike.directory alike.rules.removed path)
       (λ place at. ap (unless (rmdir_word_rules place))
       (rmdir_same place (object_there place) at.0 (there_own one other task own uses alike place at)))
 
@@ -182,14 +182,14 @@ module _ (one other : Looks ℕ) (task : Task ℕ) (own uses : ℕ → Bool) (al
       (and_then (walk_end (rename_new_walk nat_eq one task new (is_directory_there nat_eq one from)))
       (to_rename from one))) (λ from. unless (old_word_rules from)
       (and_then (walk_end (rename_new_walk nat_eq other task new (is_directory_there nat_eq other from)))
-      (to_rename from other))) (old_leaf_agrees one other task On alike.walks alike.directory alike.rules.removed old)
+      (to_rename from other))) (old_leaf_agrees alike.walks alike.directory alike.rules.removed old)
       (λ from at. ap (unless (old_word_rules from))
       (judged_alike IsAt (rename_new_walk nat_eq one task new (is_directory_there nat_eq one from))
       (rename_new_walk nat_eq other task new (is_directory_there nat_eq one from))
       (to_rename from one) (to_rename from other)
-      (rename_new_agrees one other task On alike.walks alike.directory alike.rules.removed new
+      (rename_new_agrees alike.walks alike.directory alike.rules.removed new
       (is_directory_there nat_eq one from)) (λ to stands. ap (unless (old_word_rules to))
       (renamed_alike renames from to (object_there from) at.0 stands.0
       (there_own one other task own uses alike from at) stands.1))
       ∙ ap (λ b. and_then (walk_end (rename_new_walk nat_eq other task new b)) (to_rename from other))
-      (same_directory_there one other task On alike.walks alike.directory alike.rules.removed from at)))
+      (same_directory_there alike.walks alike.directory alike.rules.removed from at)))

@@ -34,7 +34,7 @@ placed_own Q R steps [] (Err deny) at q r = tt
 placed_own Q R steps ((true, rule) ∷ rules) found at q r = tt
 placed_own Q R steps ((false, rule) ∷ rules) found at q r = placed_own Q R steps rules found at q r
 
-module _ (one other : Looks ℕ) (task : Task ℕ) (Own : ℕ → Type 0) (alike : Alike one other task Own)
+module _ {one other : Looks ℕ} {task : Task ℕ} {Own : ℕ → Type 0} (alike : Alike one other task Own)
     (directory : Own task.directory.mount)
     (removed : (here : Location ℕ) → Own here.mount → one.is_removed here ≡ other.is_removed here) where
   abbrev pub At : Location ℕ → Type 0

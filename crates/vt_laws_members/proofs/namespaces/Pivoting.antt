@@ -123,7 +123,7 @@ module _ {world : World ℕ} {names : List TaskName} {name : TaskName} {new_path
       ∙ any_from_among (λ (t : Task ℕ). nat_eq space t.namespace) old task member.among (eq-eqb space space refl)
 
   new_in : Among new world.mounts
-  new_in = new_among world space root new put may it.is.mounts
+  new_in = new_among may it.is.mounts
 
   new_theirs : IsTheirs world names it.is.mounts new.number
   new_theirs = own_theirs world names it.is new new_in (owned new may.new_inside)
@@ -176,26 +176,26 @@ module _ {world : World ℕ} {names : List TaskName} {name : TaskName} {new_path
   stays : (m : Mount ℕ) → Among m world.mounts → is_own world names old m ≡ false
       → (turn m ≡ m) × (turn (seen_by_descriptor m) ≡ seen_by_descriptor m)
   stays m n other = (
-    moved_other world space root new put may it.is.mounts m not_new not_root,
-    moved_other world space root new put may it.is.mounts (seen_by_descriptor m) not_new not_root,
+    moved_other may it.is.mounts m not_new not_root,
+    moved_other may it.is.mounts (seen_by_descriptor m) not_new not_root,
   )
     where
       not_new : nat_eq m.number new.number ≡ false
       not_new = false_from_ne_true (nat_eq m.number new.number) (λ e.
           true≢false (sym (owned m (ap (λ (x : Mount ℕ). x.namespace)
-          (is_new world space root new put may it.is.mounts m n e) ∙ may.new_inside)) ∙ other))
+          (is_new may it.is.mounts m n e) ∙ may.new_inside)) ∙ other))
 
       not_root : nat_eq m.number root.number ≡ false
       not_root = false_from_ne_true (nat_eq m.number root.number) (λ e.
           true≢false (sym (owned m (ap (λ (x : Mount ℕ). x.namespace)
-          (is_root world space root new put may it.is.mounts m n e) ∙ may.root_inside)) ∙ other))
+          (is_root may it.is.mounts m n e) ∙ may.root_inside)) ∙ other))
 
   changes : ChangesTheirs remaking
   changes = record {
     shape = turned_shape root new put;
     others = stays;
     placed = λ m n own. inr (
-      moved_namespace world space root new put may it.is.mounts m,
+      moved_namespace may it.is.mounts m,
       ap (λ p. holds_of p m.namespace) (λ i k. spaces_same k i) ∙ own,
     );
     kinds = turned_kind root new put;

@@ -112,9 +112,9 @@ module _ (it : Remaking) (does : ChangesTheirs it) (moves : MovesTheirs it) wher
       (own_lowers nat_eq after_world names)
   remade_part_ready = record {
     used_are = used_same after living names (sees_living after names)
-        ∙ less_used world names it.is names after_world after less;
+        ∙ less_used it.is less;
     lowers_are = lowers_same after living names (sees_living after names)
-        ∙ less_lowers world names it.is names after_world after less;
+        ∙ less_lowers it.is less;
     one = pair-filter (λ (p q : Mount ℕ). nat_eq p.number q.number) (mount_lives nat_eq after) after.mounts
         does.kept_there.one_number;
     lives = λ y n. (among-from_filter (mount_lives nat_eq after) after.mounts y n).1;

@@ -45,8 +45,7 @@ module _ (it : Remaking) (does : ChangesTheirs it) (moves : MovesTheirs it) wher
 
   swept_alike : part_of nat_eq (settled nat_eq after) names ≡ part_of nat_eq (settled nat_eq after_part) names
   swept_alike = part_of_settled after names (used_filesystems nat_eq after names) (own_lowers nat_eq after names)
-      (remade_ready it does moves)
-      ∙ sym (ap (swept_of names) (one_part it.world names it.is names after after_part (remade_less it does moves)))
+      (remade_ready it does moves) ∙ sym (ap (swept_of names) (one_part it.is (remade_less it does moves)))
       ∙ sym (part_of_settled after_part names (used_filesystems nat_eq after names) (own_lowers nat_eq after names)
       (remade_part_ready it does moves))
 

@@ -224,6 +224,6 @@ module _ (it : Remaking) (does : ChangesTheirs it) (moves : MovesTheirs it) wher
     free = λ x m u. ⊎_elim (λ h. inl (alone x.number h)) (λ h. inr (all_named_there world names it.is x m h))
         (or_cases (used_alone nat_eq world names x.number) (wholly_locked nat_eq world names x.number)
         (used_are_free world names it.sealed_off x.number (among_numbers (used_filesystems nat_eq world names) x.number
-        (used_was world names it.is names after (v_part it does moves) (remade_less it does moves) x.number u))));
+        (used_was it.is (remade_less it does moves) x.number u))));
     cut = λ x m unused low. whole_cut world it.is (own_lowers nat_eq after names) x m;
   }

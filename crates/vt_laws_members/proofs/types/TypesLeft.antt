@@ -122,7 +122,7 @@ module _ {world : World ℕ} {names : List TaskName} (sealing : IsSealed world n
     }
 
     parts_later : part_of nat_eq later_part names ≡ part_of nat_eq later names
-    parts_later = one_part world names sealing.is names later later_part less
+    parts_later = one_part sealing.is less
 
     masters_later : (y : Mount ℕ) → Among y later.mounts → owned y ≡ true
         → master_above later_part y ≡ master_above later y

@@ -41,9 +41,10 @@ shared_source new (Slave master) source e = same_Some new source e
 shared_source new Private source e = same_Some new source e
 shared_source new Unbindable source e = same_Some new source e
 
-module _ (world : World ℕ) (new : Copies ℕ) (place : Location ℕ) (moves : Bool) (mounts : List (Mount ℕ))
+module _ {world : World ℕ} {new : Copies ℕ} (place : Location ℕ) (moves : Bool) {mounts : List (Mount ℕ)}
     (serve : ServeAsImages world (parts_of nat_eq world place) mounts new) (own : OneNumberAMount mounts)
-    (live : GroupsLive world) (sourced : (origin : Mount ℕ) → Among origin mounts → (source : ℕ)
+    (live : GroupsLive world)
+    (sourced : (origin : Mount ℕ) → Among origin mounts → (source : ℕ)
     → source_of origin.propagation ≡ Some source → LivesIn world source)
     (stay : MembersStay world new place moves mounts) (copied : HasCopies world new place moves mounts) where
   abbrev tree : Graft ℕ
@@ -73,10 +74,9 @@ module _ (world : World ℕ) (new : Copies ℕ) (place : Location ℕ) (moves : 
   -- what lived lives
   still_lives : (group : ℕ) → LivesIn world group → LivesIn after group
   still_lives group (has_no_master it has e) =
-      has_no_master it (stay it has) (old_master world new place moves mounts serve own it has ∙ e)
+      has_no_master it (stay it has) (old_master place moves serve own it has ∙ e)
   still_lives group (has_master it next has e later) =
-      has_master it next (stay it has) (old_master world new place moves mounts serve own it has ∙ e)
-      (still_lives next later)
+      has_master it next (stay it has) (old_master place moves serve own it has ∙ e) (still_lives next later)
 
   destination_lives : (source : ℕ) → source_of destination.propagation ≡ Some source → LivesIn world source
   destination_lives source e = ⊎_elim (λ there. lives_in world live destination there source e)
@@ -107,7 +107,7 @@ module _ (world : World ℕ) (new : Copies ℕ) (place : Location ℕ) (moves : 
       (new.image group origin.number)
   image_in origin group e = ap
       (λ b. if b then unwrap_or (group_of (twig origin).propagation) (new.image group origin.number)
-      else new.image group origin.number) (member_by_group world new place moves mounts serve own destination group e)
+      else new.image group origin.number) (member_by_group place moves serve own destination group e)
       ∙ ap (λ k. unwrap_or (group_of k) (new.image group origin.number)) (twig_in origin group e)
 
   has_copy : (part origin : Mount ℕ) → Among part parts → Among origin mounts → (group : ℕ)
@@ -125,19 +125,19 @@ module _ (world : World ℕ) (new : Copies ℕ) (place : Location ℕ) (moves : 
           → type_on_shared (new.image group origin.number) kind ≡ Shared (new.image group origin.number)
           → has_members nat_eq after.mounts (new.image group origin.number) ≡ true
       member kind f is = has_copy destination origin (inl refl) m (new.image group origin.number)
-          (there destination origin (at_destination world new place moves mounts serve own)
+          (there destination origin (at_destination place moves serve own)
           ∙ twig_in origin group e ∙ ap (type_on_shared (new.image group origin.number)) f ∙ is)
 
       by : (kind : Propagation ℕ) → origin.propagation ≡ kind → LivesIn after
           (unwrap_or (group_of (type_on_shared (new.image group origin.number) kind)) (new.image group origin.number))
       by (Shared one) f = still_lives one (sourced origin m one (ap source_of f))
       by (Slave master) f = has_master (new.image group origin.number) master (member (Slave master) f refl)
-          (master_there world new place moves mounts serve own origin m group e (Slave master) f refl)
+          (master_there place moves serve own origin m group e (Slave master) f refl)
           (still_lives master (sourced origin m master (ap source_of f)))
       by Private f = has_no_master (new.image group origin.number) (member Private f refl)
-          (master_there world new place moves mounts serve own origin m group e Private f refl)
+          (master_there place moves serve own origin m group e Private f refl)
       by Unbindable f = has_no_master (new.image group origin.number) (member Unbindable f refl)
-          (master_there world new place moves mounts serve own origin m group e Unbindable f refl)
+          (master_there place moves serve own origin m group e Unbindable f refl)
 
   -- the image of another group does where those of the groups up its masters do
   abbrev HigherLive : ℕ → Mount ℕ → Type 0
@@ -151,9 +151,9 @@ module _ (world : World ℕ) (new : Copies ℕ) (place : Location ℕ) (moves : 
       let part = any_among (is_member_of nat_eq group) parts has in
       let shared = member_shared group part.0 part.2 in
       by (world.master group) refl (has_copy part.0 origin part.1 m (image_of origin group)
-      (away part.0 origin (is_elsewhere world new place moves mounts serve own part.0 group part.1 part.2 lacks)
+      (away part.0 origin (is_elsewhere place moves serve own part.0 group part.1 part.2 lacks)
       ∙ ap (kind_elsewhere origin) shared))
-      (master_elsewhere world new place moves mounts serve own part.0 origin part.1 m group part.2 lacks)
+      (master_elsewhere place moves serve own part.0 origin part.1 m group part.2 lacks)
     where
       found_by : (next : ℕ) → world.master group ≡ Some next
           → has_members nat_eq after.mounts (image_of origin group) ≡ true → after.master (image_of origin group)
@@ -222,7 +222,7 @@ module _ (world : World ℕ) (new : Copies ℕ) (place : Location ℕ) (moves : 
           → source_of (kind_elsewhere origin kind) ≡ Some source → LivesIn after source
       of_copy (Shared group) f h = subst (LivesIn after) (same_Some (image_of origin group) source h)
           (image_lives group (part_lives part m group (ap source_of f)) group (here group)
-          (takes_part_in world new place moves mounts serve own part group m (ap group_of f)) origin n)
+          (takes_part_in place moves serve own part group m (ap group_of f)) origin n)
       of_copy (Slave master) f h = of_slave master f h (find (has_members nat_eq parts) (groups_up world master)) refl
       of_copy Private f h = absurd (true≢false (sym (ap is_some h)))
       of_copy Unbindable f h = absurd (true≢false (sym (ap is_some h)))

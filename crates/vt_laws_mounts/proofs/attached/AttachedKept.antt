@@ -22,8 +22,7 @@ pub binds_keep_groups : BindsKeepGroups
 binds_keep_groups world fresh source place recursive serves one all live =
     let mounts = bind_tree nat_eq world source recursive in
     let new = supplied world fresh place mounts in
-    groups_live_after world new place false mounts
-    (supplies_serve_as_images world fresh (parts_of nat_eq world place) mounts serves)
+    groups_live_after place false (supplies_serve_as_images world fresh (parts_of nat_eq world place) mounts serves)
     (binds_take_each_once world source recursive one all) live (bind_sourced world source recursive live)
     (members_stay world new place mounts) (copies_there world new place mounts)
     (old_or_copies world new place false mounts)
@@ -34,7 +33,7 @@ new_mounts_keep_groups world fresh place filesystem flags serves live =
     let larger = with_new_filesystem world filesystem in
     let mount = new_mount filesystem.number filesystem.files.tree.root flags in
     let new = supplied larger fresh place (mount ∷ []) in
-    groups_live_after larger new place false (mount ∷ [])
+    groups_live_after place false
     (supplies_serve_as_images larger fresh (parts_of nat_eq larger place) (mount ∷ []) serves) refl live
     (λ origin m group e.
     ⊎_elim (λ same. absurd (true≢false (sym (ap is_some e)
@@ -50,7 +49,7 @@ moves_keep_groups world fresh source place serves one all there live =
     let moving : (origin : Mount ℕ) → Among origin mounts → Among origin world.mounts = λ origin m. ⊎_elim
     (λ same. subst (λ x. Among x world.mounts) (sym same) (found_there world.mounts source.mount there)) (λ l. l)
     (tree_among (length world.mounts) world.mounts (mount_at nat_eq world source) origin m) in
-    groups_live_after world new place true mounts
+    groups_live_after place true
     (supplies_serve_as_images world fresh (parts_of nat_eq world place) mounts serves) own live
     (λ origin m group e. lives_in world live origin (moving origin m) group e)
     (members_move world new place mounts own one moving) (copies_arrive world new place mounts own one moving)

@@ -33,7 +33,7 @@ made_for_one master (first ∷ rest) entry m = ⊎_elim (λ kept.
     )) (λ later. let t = made_for_one (masters_with nat_eq master first) rest entry later in (t.0, inr t.1, t.2, t.3))
     m) (λ t. (t.0, inr t.1, t.2, t.3)) (made_or_old (masters_with nat_eq master first) rest entry.0)
 
-module _ (world : World ℕ) (new : Copies ℕ) (place : Location ℕ) (moves : Bool) (mounts : List (Mount ℕ))
+module _ {world : World ℕ} {new : Copies ℕ} (place : Location ℕ) (moves : Bool) {mounts : List (Mount ℕ)}
     (serve : ServeAsImages world (parts_of nat_eq world place) mounts new) (own : OneNumberAMount mounts) where
   abbrev pub tree : Graft ℕ
   tree = graft_of nat_eq world new place moves mounts

@@ -126,11 +126,11 @@ module _ (world : World ℕ) where
 pub moves_keep_standing : MovesKeepStanding
 moves_keep_standing world fresh source place serves invariants can =
     let mounts = moved_tree nat_eq world source.mount in
-    all_after world (supplied world fresh place mounts) place mounts (may_move world invariants source place can)
+    all_after (may_move world invariants source place can)
     (supplies_serve_as_copies world fresh (parts_of nat_eq world place) mounts serves)
 
 pub moves_keep_places : MovesKeepMountPoints
 moves_keep_places world fresh source place serves invariants can free =
     let mounts = moved_tree nat_eq world source.mount in
-    places_moved world (supplied world fresh place mounts) place mounts (may_move world invariants source place can)
+    places_moved (may_move world invariants source place can)
     (supplies_serve_as_copies world fresh (parts_of nat_eq world place) mounts serves) invariants.one_child free

@@ -14,7 +14,7 @@ use Rattle.vt_laws_mounts.proofs.mounts.MountsReplaced.{found_itself}
 use Rattle.vt_laws_mounts.proofs.moves.MovingLeaves.{MayMove, all_left, left, nowhere_left, one_left, places_left, same_numbers}
 use Rattle.vt_laws_mounts.proofs.moves.MovingStands.{after, all_after, copies_after, one_after}
 
-module _ (world : World ℕ) (new : Copies ℕ) (place : Location ℕ) (mounts : List (Mount ℕ))
+module _ {world : World ℕ} {new : Copies ℕ} {place : Location ℕ} {mounts : List (Mount ℕ)}
     (may : MayMove world place mounts) (serve : ServeAsCopies world (parts_of nat_eq world place) mounts new) where
   abbrev tree : Graft ℕ
   tree = graft_of nat_eq world new place true mounts
@@ -304,9 +304,9 @@ module _ (world : World ℕ) (new : Copies ℕ) (place : Location ℕ) (mounts :
         by : (list : List (Mount ℕ)) → copies part ≡ list → Among (copy part may.top) list
             → child_at nat_eq list (top_of_copies nat_eq list place) ≡ None
         by [] e absent = absurd absent
-        by (first ∷ rest) e present = topmost_free (first ∷ rest) (after world new place mounts may serve)
-            (one_after world new place mounts may serve) (all_after world new place mounts may serve)
-            (λ x n. copies_after world new place mounts may serve part m x (subst (Among x) (sym e) n)) (root_of first)
+        by (first ∷ rest) e present = topmost_free (first ∷ rest) (after may serve)
+            (one_after may serve) (all_after may serve)
+            (λ x n. copies_after may serve part m x (subst (Among x) (sym e) n)) (root_of first)
 
     same_part : (p q : Mount ℕ) → Among p takers → Among q takers → p.number ≡ q.number → p ≡ q
     same_part p q i j equal = sym (found_itself takers takers_apart p i) ∙ ap (mount_in nat_eq takers) equal

@@ -13,7 +13,7 @@ use Rattle.vt_laws_mounts.proofs.mounts.MountsPlaces.{stands_there}
 use Rattle.vt_laws_mounts.proofs.mounts.MountsReplaced.{found_itself}
 use Rattle.vt_laws_mounts.proofs.moves.MovingLeaves.{MayMove, all_left, left, namespace_kept, nowhere_left, same_numbers}
 
-module _ (world : World ℕ) (new : Copies ℕ) (place : Location ℕ) (mounts : List (Mount ℕ))
+module _ {world : World ℕ} {new : Copies ℕ} {place : Location ℕ} {mounts : List (Mount ℕ)}
     (may : MayMove world place mounts) (serve : ServeAsCopies world (parts_of nat_eq world place) mounts new) where
   abbrev tree : Graft ℕ
   tree = graft_of nat_eq world new place true mounts

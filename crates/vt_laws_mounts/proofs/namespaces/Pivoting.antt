@@ -41,7 +41,7 @@ module _ (world : World ℕ) where
   after_start zero here place m = absurd m
   after_start (suc n) here place m = grind (arith, common_steps, chain_ends, on_chain, chain_goes_on)
 
-module _ (world : World ℕ) (namespace : ℕ) (root new : Mount ℕ) (put : Location ℕ)
+module _ {world : World ℕ} {namespace : ℕ} {root new : Mount ℕ} {put : Location ℕ}
     (may : CanPivot world namespace root new put) (mounts : MountInvariants nat_eq world) where
   abbrev pub after : World ℕ
   after = pivoted nat_eq world namespace root new put
@@ -319,12 +319,12 @@ pivot_keeps_mounts world namespace root new put may mounts =
     let later = pivoted nat_eq world namespace root new put in
     record {
       one_number = pivot_keeps_numbers world namespace root new put mounts.one_number;
-      one_child = one_child_after world namespace root new put may mounts;
+      one_child = one_child_after may mounts;
       standing = all_from_among (λ (mount : Mount ℕ). Stands nat_eq later mount.number) later.mounts
-          (all_stand_after world namespace root new put may mounts);
+          (all_stand_after may mounts);
       nowhere = list_all_from_among is_nowhere_or_attached later.mounts (λ mount m.
           let from = among-from_map (pivoted_mount nat_eq root new put) world.mounts mount m in
-          ap is_nowhere_or_attached from.2 ∙ nowhere_after world namespace root new put may mounts from.0 from.1);
+          ap is_nowhere_or_attached from.2 ∙ nowhere_after may mounts from.0 from.1);
       groups = all_live later (pivot_keeps_groups world namespace root new put (tested_live world mounts.groups));
     }
 

@@ -56,7 +56,7 @@ as_many_pass p q xs one a b m n e f same =
 module _ (world : World ℕ) (namespace : ℕ) (root new : Mount ℕ) (put : Location ℕ)
     (may : CanPivot world namespace root new put) (mounts : MountInvariants nat_eq world) where
   abbrev change : Mount ℕ → Mount ℕ
-  change = move world namespace root new put may mounts
+  change = move may mounts
 
   abbrev before : Mount ℕ → Bool
   before = is_root_mount nat_eq
@@ -65,17 +65,17 @@ module _ (world : World ℕ) (namespace : ℕ) (root new : Mount ℕ) (put : Loc
   later mount = is_root_mount nat_eq (change mount)
 
   new_not_before : before new ≡ false
-  new_not_before = ap not (new_placed world namespace root new put may mounts)
+  new_not_before = ap not (new_placed may mounts)
 
   root_not_later : later root ≡ false
-  root_not_later = ap (λ p. not (is_some p)) (moved_root world namespace root new put may mounts)
+  root_not_later = ap (λ p. not (is_some p)) (moved_root may mounts)
 
   new_later : later new ≡ before root
-  new_later = ap (λ p. not (is_some p)) (moved_new world namespace root new put may mounts)
+  new_later = ap (λ p. not (is_some p)) (moved_new may mounts)
 
   other_later : (mount : Mount ℕ) → nat_eq mount.number new.number ≡ false → nat_eq mount.number root.number ≡ false
       → later mount ≡ before mount
-  other_later mount e f = ap before (moved_other world namespace root new put may mounts mount e f)
+  other_later mount e f = ap before (moved_other may mounts mount e f)
 
   -- where the old root mount is over another, no mount begins or ends to be one of a namespace
   alike : before root ≡ false → (mount : Mount ℕ) → Among mount world.mounts → later mount ≡ before mount
@@ -89,8 +89,8 @@ module _ (world : World ℕ) (namespace : ℕ) (root new : Mount ℕ) (put : Loc
     arith,
     common_steps,
     other_later,
-    is_new world namespace root new put may mounts mount m,
-    is_root world namespace root new put may mounts mount m,
+    is_new may mounts mount m,
+    is_root may mounts mount m,
     true≢false,
   )
 
@@ -125,17 +125,17 @@ module _ (world : World ℕ) (namespace : ℕ) (root new : Mount ℕ) (put : Loc
           elsewhere other f mount (here mount m).0 (here mount m).1))
       by true e true f = as_many_pass later before (mounts_of nat_eq world other)
           (pair-filter same_number (is_in other) world.mounts mounts.one_number) new root
-          (among-filter (is_in other) world.mounts new (new_among world namespace root new put may mounts)
+          (among-filter (is_in other) world.mounts new (new_among may mounts)
           (ap (holds_of (nat_eq other)) may.new_inside ∙ f))
-          (among-filter (is_in other) world.mounts root (root_among world namespace root new put may mounts)
+          (among-filter (is_in other) world.mounts root (root_among may mounts)
           (ap (holds_of (nat_eq other)) may.root_inside ∙ f))
           (new_later ∙ e) e (λ mount m. besides_alike mount (here mount m).0)
 
 pub pivot_keeps_counts : PivotKeepsCounts
 pivot_keeps_counts world namespace root new put may mounts other =
-    let change_of = move world namespace root new put may mounts in
+    let change_of = move may mounts in
     let these = as_many_mounts world (pivoted nat_eq world namespace root new put) change_of refl
-    (λ mount m. moved_namespace world namespace root new put may mounts mount) other in
+    (λ mount m. moved_namespace may mounts mount) other in
     let before_these = mounts_of nat_eq world other in
     record {
       mounts = ap length these ∙ length-map before_these change_of;

@@ -21,11 +21,10 @@ keeps_groups : (world : World ℕ) (new : Copies ℕ) (place : Location ℕ) (mo
     → LivesIn world source) → (moves ≡ true → (origin : Mount ℕ) → Among origin mounts → Among origin world.mounts)
     → GroupsLive (attached_by nat_eq world new place moves mounts)
 keeps_groups world new place false mounts serve own one live sourced moving =
-    groups_live_after world new place false mounts serve own live sourced (members_stay world new place mounts)
+    groups_live_after place false serve own live sourced (members_stay world new place mounts)
     (copies_there world new place mounts) (old_or_copies world new place false mounts)
 keeps_groups world new place true mounts serve own one live sourced moving =
-    groups_live_after world new place true mounts serve own live sourced
-    (members_move world new place mounts own one (moving refl))
+    groups_live_after place true serve own live sourced (members_move world new place mounts own one (moving refl))
     (copies_arrive world new place mounts own one (moving refl)) (old_or_copies world new place true mounts)
 
 module _ (it : Attachment) (can : CanAttach it) where
@@ -95,8 +94,7 @@ copies_hear_as_their_origins it part origin group can c d lived = by (group_of (
             let e : source_of origin.propagation ≡ Some t.0 = sym (ap source_of same_kind) ∙ t.1 in
             let life = sourced it can origin (tree_among it can origin d) t.0 e in
             ap (holds_of (λ s. is_among nat_eq group (groups_up it.world s))) e
-            ∙ up_among it.world can.groups t.0 group life
-            (old_up it.world (supply it can) it.mount_point it.moves it.mounts
+            ∙ up_among it.world can.groups t.0 group life (old_up it.mount_point it.moves
             (serve_images it can) can.each_once t.0 group life t.2)
 
         forth : receives nat_eq it.world group origin ≡ true
@@ -105,6 +103,5 @@ copies_hear_as_their_origins it part origin group can c d lived = by (group_of (
             let t = heard it.world origin group r in
             hears (world_after it) (groups_after it can) (copy_of it part origin)
             (copy_among it can part origin c d) t.0 group (ap source_of same_kind ∙ t.1)
-            (old_up_after it.world (supply it can) it.mount_point it.moves it.mounts
-            (serve_images it can) can.each_once t.0
+            (old_up_after it.mount_point it.moves (serve_images it can) can.each_once t.0
             group (sourced it can origin (tree_among it can origin d) t.0 t.1) t.2)

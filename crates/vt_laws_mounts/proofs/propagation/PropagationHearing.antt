@@ -22,7 +22,7 @@ shared_kind_of (Slave master) group e = absurd (true≢false (sym (ap is_some e)
 shared_kind_of Private group e = absurd (true≢false (sym (ap is_some e)))
 shared_kind_of Unbindable group e = absurd (true≢false (sym (ap is_some e)))
 
-module _ (world : World ℕ) (new : Copies ℕ) (place : Location ℕ) (moves : Bool) (mounts : List (Mount ℕ))
+module _ {world : World ℕ} {new : Copies ℕ} (place : Location ℕ) (moves : Bool) {mounts : List (Mount ℕ)}
     (serve : ServeAsImages world (parts_of nat_eq world place) mounts new) (own : OneNumberAMount mounts) where
   abbrev masters : ℕ → Option ℕ
   masters = (attached_by nat_eq world new place moves mounts).master
@@ -31,7 +31,7 @@ module _ (world : World ℕ) (new : Copies ℕ) (place : Location ℕ) (moves : 
   pub old_up : (source other : ℕ) → LivesIn world source → Up masters source other → Up world.master source other
   old_up source other life (here it) = here it
   old_up source other life (above it next end e way) =
-      let f : world.master it ≡ Some next = sym (old_master world new place moves mounts serve own it
+      let f : world.master it ≡ Some next = sym (old_master place moves serve own it
       (live_members world.master (has_members nat_eq world.mounts) it life)) ∙ e in
       above it next end f (old_up next end
       (lives_up world.master (has_members nat_eq world.mounts) it next life (above it next next f (here next))) way)
@@ -39,7 +39,7 @@ module _ (world : World ℕ) (new : Copies ℕ) (place : Location ℕ) (moves : 
   pub old_up_after : (source other : ℕ) → LivesIn world source → Up world.master source other → Up masters source other
   old_up_after source other life (here it) = here it
   old_up_after source other life (above it next end e way) = above it next end
-      (old_master world new place moves mounts serve own it
+      (old_master place moves serve own it
       (live_members world.master (has_members nat_eq world.mounts) it life) ∙ e) (old_up_after next end
       (lives_up world.master (has_members nat_eq world.mounts) it next life (above it next next e (here next))) way)
 
@@ -178,20 +178,20 @@ module _ (world : World ℕ) (new : Copies ℕ) (place : Location ℕ) (moves : 
       by (Shared old) e = inr (
         old,
         ap source_of e,
-        old_up world new place moves mounts serve own old one (sourced old (ap source_of e))
+        old_up place moves serve own old one (sourced old (ap source_of e))
             (subst (λ x. Up up x one) (image_by (Shared old) e) way),
       )
       by (Slave master) e = ⊎_elim (λ same. inl (same ∙ sym (image_by (Slave master) e))) (λ further_up. inr (
         master,
         ap source_of e,
-        old_up world new place moves mounts serve own master one (sourced master (ap source_of e)) further_up,
+        old_up place moves serve own master one (sourced master (ap source_of e)) further_up,
       )) (one_further master (slave_there world new place moves mounts serve own origin of_tree group master shared e)
           (image group) one way (image_by (Slave master) e))
       by Private e = inl (no_further
-          (master_there world new place moves mounts serve own origin of_tree group shared Private e refl)
+          (master_there place moves serve own origin of_tree group shared Private e refl)
           (image group) one way (image_by Private e) ∙ sym (image_by Private e))
       by Unbindable e = inl (no_further
-          (master_there world new place moves mounts serve own origin of_tree group shared Unbindable e refl)
+          (master_there place moves serve own origin of_tree group shared Unbindable e refl)
           (image group) one way (image_by Unbindable e) ∙ sym (image_by Unbindable e))
 
   from_group : (source one : ℕ) → source_of origin.propagation ≡ Some source → Up world.master source one
@@ -201,11 +201,11 @@ module _ (world : World ℕ) (new : Copies ℕ) (place : Location ℕ) (moves : 
       by : (kind : Propagation ℕ) → origin.propagation ≡ kind → Up up (image group) one
       by (Shared old) f =
           subst (λ x. Up up x one) (same_Some source old (sym e ∙ ap source_of f) ∙ sym (image_by (Shared old) f))
-          (old_up_after world new place moves mounts serve own source one (sourced source e) way)
+          (old_up_after place moves serve own source one (sourced source e) way)
       by (Slave master) f = subst (λ x. Up up x one) (sym (image_by (Slave master) f)) (above fresh_group master one
           (slave_there world new place moves mounts serve own origin of_tree group master shared f)
           (subst (λ x. Up up x one) (same_Some source master (sym e ∙ ap source_of f))
-          (old_up_after world new place moves mounts serve own source one (sourced source e) way)))
+          (old_up_after place moves serve own source one (sourced source e) way)))
       by Private f = absurd (true≢false (sym (ap is_some (sym (ap source_of f) ∙ e))))
       by Unbindable f = absurd (true≢false (sym (ap is_some (sym (ap source_of f) ∙ e))))
 
@@ -316,8 +316,7 @@ module _ (world : World ℕ) (new : Copies ℕ) (place : Location ℕ) (moves : 
     where
       apart_by : image other ≡ new.image other origin.number → one ≡ other
       apart_by f = (serve.apart one origin.number other origin.number h (is_one_of mounts origin of_tree) h_other
-          (is_one_of mounts origin of_tree)
-          (sym (image_elsewhere world new place moves mounts serve own one origin lacks) ∙ e ∙ f)).0
+          (is_one_of mounts origin of_tree) (sym (image_elsewhere place moves serve own one origin lacks) ∙ e ∙ f)).0
 
       by : (b : Bool) → is_member_of nat_eq other there ≡ b → one ≡ other
       by true f =
@@ -326,7 +325,7 @@ module _ (world : World ℕ) (new : Copies ℕ) (place : Location ℕ) (moves : 
           (λ old. absurd (true≢false (sym old.0 ∙ ap (λ g. has_members nat_eq world.mounts (image g)) (sym same)
           ∙ ap (has_members nat_eq world.mounts) (sym e)
           ∙ image_new world new place moves mounts serve own origin of_tree one h lacks))) group_image
-      by false f = apart_by (image_elsewhere world new place moves mounts serve own other origin f)
+      by false f = apart_by (image_elsewhere place moves serve own other origin f)
 
   -- what a mount of the tree hears of
   origin_hears : (source one : ℕ) → source_of origin.propagation ≡ Some source → Up world.master source one

@@ -24,10 +24,10 @@ module _ (world : World ℕ) (new : Copies ℕ) (place : Location ℕ) (moves : 
   all_parts = parts_of nat_eq world place
 
   abbrev there : Mount ℕ
-  there = destination world new place moves mounts serve own
+  there = destination place moves serve own
 
   abbrev of_tree : Mount ℕ → Twig ℕ
-  of_tree = twig world new place moves mounts serve own
+  of_tree = twig place moves serve own
 
   -- the group of the copies of a mount at the members of a group
   abbrev pub image_of : Mount ℕ → ℕ → ℕ
@@ -46,7 +46,7 @@ module _ (world : World ℕ) (new : Copies ℕ) (place : Location ℕ) (moves : 
   pub kind_there : (origin : Mount ℕ) → kind there origin ≡ (of_tree origin).propagation
   kind_there origin = ap (λ b. if b then (of_tree origin).propagation
       else copy_type nat_eq world new all_parts there (of_tree origin) there.propagation)
-      (at_destination world new place moves mounts serve own)
+      (at_destination place moves serve own)
 
   kind_away : (part origin : Mount ℕ) → nat_eq part.number place.mount ≡ false
       → kind part origin ≡ copy_type nat_eq world new all_parts there (of_tree origin) part.propagation
@@ -63,7 +63,7 @@ module _ (world : World ℕ) (new : Copies ℕ) (place : Location ℕ) (moves : 
       (new.image group origin.number)
   image_in origin group e = ap
       (λ b. if b then unwrap_or (group_of (of_tree origin).propagation) (new.image group origin.number)
-      else new.image group origin.number) (member_by_group world new place moves mounts serve own there group e)
+      else new.image group origin.number) (member_by_group place moves serve own there group e)
       ∙ ap (λ k. unwrap_or (group_of k) (new.image group origin.number)) (type_in origin group e)
 
   -- the copy at a member of a group is a member of the image
@@ -84,31 +84,29 @@ module _ (world : World ℕ) (new : Copies ℕ) (place : Location ℕ) (moves : 
   pub image_new : (origin : Mount ℕ) → Among origin mounts → (group : ℕ) → has_members nat_eq all_parts group ≡ true
       → is_member_of nat_eq group there ≡ false → has_members nat_eq world.mounts (image_of origin group) ≡ false
   image_new origin m group has lacks = ap (has_members nat_eq world.mounts)
-      (image_elsewhere world new place moves mounts serve own group origin lacks)
+      (image_elsewhere place moves serve own group origin lacks)
       ∙ unused_members world (new.image group origin.number)
       (serve.unused group origin.number has (is_one_of mounts origin m))
 
   pub lower_master : (part origin : Mount ℕ) → Among part all_parts → Among origin mounts → (group above near : ℕ)
       → part.propagation ≡ Shared group → is_member_of nat_eq group there ≡ false → world.master group ≡ Some above
       → nearest_group above ≡ Some near
-      → (after world new place moves mounts serve own).master (image_of origin group) ≡ Some (image_of origin near)
+      → (after place moves serve own).master (image_of origin group) ≡ Some (image_of origin near)
   lower_master part origin m n group above near e lacks up found =
-      master_elsewhere world new place moves mounts serve own part origin m n group (shared_member group part e) lacks
-      ∙ ap (nearest world new place moves mounts serve own origin) up ∙ ap (option_map (image_of origin)) found
+      master_elsewhere place moves serve own part origin m n group (shared_member group part e) lacks
+      ∙ ap (nearest place moves serve own origin) up ∙ ap (option_map (image_of origin)) found
 
   -- the groups that are made at a shared destination
   pub private_there : (origin : Mount ℕ) → Among origin mounts → (group : ℕ) → group_of there.propagation ≡ Some group
-      → origin.propagation ≡ Private
-      → (after world new place moves mounts serve own).master (new.image group origin.number) ≡ None
-  private_there origin m group e f = master_there world new place moves mounts serve own origin m group e Private f refl
+      → origin.propagation ≡ Private → (after place moves serve own).master (new.image group origin.number) ≡ None
+  private_there origin m group e f = master_there place moves serve own origin m group e Private f refl
 
   pub slave_there : (origin : Mount ℕ) → Among origin mounts → (group master : ℕ)
       → group_of there.propagation ≡ Some group → origin.propagation ≡ Slave master
-      → (after world new place moves mounts serve own).master (new.image group origin.number) ≡ Some master
-  slave_there origin m group master e f =
-      master_there world new place moves mounts serve own origin m group e (Slave master) f refl
+      → (after place moves serve own).master (new.image group origin.number) ≡ Some master
+  slave_there origin m group master e f = master_there place moves serve own origin m group e (Slave master) f refl
 
   pub there_new : (origin : Mount ℕ) → Among origin mounts → (group : ℕ) → group_of there.propagation ≡ Some group
       → has_members nat_eq world.mounts (new.image group origin.number) ≡ false
   there_new origin m group e = unused_members world (new.image group origin.number) (serve.unused group origin.number
-      (takes_part_in world new place moves mounts serve own there group (inl refl) e) (is_one_of mounts origin m))
+      (takes_part_in place moves serve own there group (inl refl) e) (is_one_of mounts origin m))

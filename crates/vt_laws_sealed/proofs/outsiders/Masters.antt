@@ -46,7 +46,7 @@ same_list_itself same [] each = refl
 same_list_itself same (a ∷ list) each = and_from (same a a) (same_list same list list) (each a (inl refl))
     (same_list_itself same list (λ b m. each b (inr m)))
 
-module _ (before later : World ℕ) (names : List TaskName) (sees : SeesTheSame before later names)
+module _ {before later : World ℕ} {names : List TaskName} (sees : SeesTheSame before later names)
     (is : MountInvariants nat_eq before) (apart : shares_no_events nat_eq before names ≡ true) where
   -- a mount of theirs is a member of each group that one receives from, and its master is as it was
   pub source_master : (own : Mount ℕ) (source : ℕ) → Among own (own_mounts nat_eq before names)

@@ -179,7 +179,7 @@ module _ (before left : World ℕ) (names : List TaskName) (name : TaskName) (ch
     own_stays : (namespace : Namespace ℕ) → is_own_namespace nat_eq left names namespace.number ≡ true
         → raise_of namespace ≡ namespace
     own_stays namespace own = ap (λ b. cond b namespace (record namespace { change = raised namespace.change }))
-        (same_mounts before left names sees is apart namespace.number
+        (same_mounts sees is apart namespace.number
         (ap (λ tasks. own_by tasks namespace.number) (sym sees.tasks) ∙ own))
 
     namespaces_raised : (part_of nat_eq later names).namespaces ≡ (part_of nat_eq left names).namespaces

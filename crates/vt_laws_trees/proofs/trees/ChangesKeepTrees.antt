@@ -45,7 +45,7 @@ module _ (files : FileTree ℕ) (directory : ℕ) (name : List ℕ) (number : �
   pub made_alike : with_object nat_eq files.tree directory name number node ≡ in_turn
   made_alike = λ i. record { root = files.tree.root; node = λ k. nodes_alike k i }
 
-module _ (files : FileTree ℕ) (directory : ℕ) (name : List ℕ) (number : ℕ) (node : Node ℕ)
+module _ (files : FileTree ℕ) {directory : ℕ} {name : List ℕ} {number : ℕ} {node : Node ℕ}
     (conditions : IsTree files.tree) (may : MayMake files.tree directory name number node) where
   directory_differs : directory ≢ number
   directory_differs = used_differs files.tree directory name number node conditions may.name_is_free.in_directory
@@ -82,15 +82,13 @@ module _ (files : FileTree ℕ) (directory : ℕ) (name : List ℕ) (number : �
 
 -- trees
 pub changes_keep_trees : ChangesKeepTrees
-changes_keep_trees files (Make directory name number node) conditions may =
-    made_is_tree files directory name number node conditions may
+changes_keep_trees files (Make directory name number node) conditions may = made_is_tree files conditions may
 changes_keep_trees files (AddName directory name object) conditions may =
     is_tree-rearranged files.tree (changed nat_eq files
-    (AddName directory name object)).tree.node Nobody Nowhere conditions
-    (linked_rearranged files directory name object conditions may)
+    (AddName directory name object)).tree.node Nobody Nowhere conditions (linked_rearranged files conditions may)
 changes_keep_trees files (Remove directory name object) conditions may =
     is_tree-rearranged files.tree (changed nat_eq files (Remove directory name object)).tree.node _ Nowhere conditions
-    (removed_rearranged files directory name object conditions may)
+    (removed_rearranged files conditions may)
 changes_keep_trees files (Move from old to new object) conditions may =
     subst IsTree (moved_alike files conditions may)
     (is_tree-rearranged files.tree (changed nat_eq files (Move from old to new object)).tree.node _ _ conditions
@@ -109,13 +107,13 @@ changes_keep_trees files (CopyUp object) conditions may = conditions
 -- parents of what has no name
 pub changes_keep_own_parents : ChangesKeepOwnParents
 changes_keep_own_parents files (Make directory name number node) conditions own may =
-    made_own_parents files directory name number node conditions may own
+    made_own_parents files conditions may own
 changes_keep_own_parents files (AddName directory name object) conditions own may = own_parent-rearranged files.tree
     (changed nat_eq files (AddName directory name object)).tree.node Nobody Nowhere conditions
-    (linked_rearranged files directory name object conditions may) own
+    (linked_rearranged files conditions may) own
 changes_keep_own_parents files (Remove directory name object) conditions own may = own_parent-rearranged files.tree
     (changed nat_eq files (Remove directory name object)).tree.node _ Nowhere conditions
-    (removed_rearranged files directory name object conditions may) own
+    (removed_rearranged files conditions may) own
 changes_keep_own_parents files (Move from old to new object) conditions own may =
     subst HasOwnParents (moved_alike files conditions may)
     (own_parent-rearranged files.tree (changed nat_eq files (Move from old to new object)).tree.node _ _ conditions

@@ -51,7 +51,7 @@ module _ (files : FileTree ℕ) (number : ℕ) (change : Option (Node ℕ) → O
   }
 
 -- Another name of an object
-module _ (files : FileTree ℕ) (directory : ℕ) (name : List ℕ) (object : ℕ) (conditions : IsTree files.tree)
+module _ (files : FileTree ℕ) {directory : ℕ} {name : List ℕ} {object : ℕ} (conditions : IsTree files.tree)
     (may : MayAddName files.tree directory name object) where
   abbrev linked : FileTree ℕ
   linked = with_name nat_eq files directory name object
@@ -106,7 +106,7 @@ module _ (tree : Tree ℕ) (conditions : IsTree tree) (directory : ℕ) (name : 
   not_root same = conditions.root_unnamed directory name (named ∙ ap Some (sym same))
 
 -- A name of an object taken away
-module _ (files : FileTree ℕ) (directory : ℕ) (name : List ℕ) (object : ℕ) (conditions : IsTree files.tree)
+module _ (files : FileTree ℕ) {directory : ℕ} {name : List ℕ} {object : ℕ} (conditions : IsTree files.tree)
     (may : MayRemove files.tree directory name object) where
   abbrev untaken : FileTree ℕ
   untaken = without_name nat_eq files directory name

@@ -61,7 +61,7 @@ abbrev pub Kept : World ℕ → Type 0
 Kept world = IsWorld nat_eq world × IsPlain world
 
 -- a granted call, before what nothing uses goes
-module _ (world : World ℕ) (fresh : Fresh ℕ) (task : Task ℕ) (call : Call) (permit : Permit ℕ)
+module _ {world : World ℕ} {fresh : Fresh ℕ} {task : Task ℕ} (call : Call) {permit : Permit ℕ}
     (is : IsWorld nat_eq world) (plain : IsPlain world) (serves : Serves nat_eq world fresh)
     (found : task_called world task.name ≡ Some task) (other : mounts_overlay call ≡ false)
     (few : names_few_groups call ≡ true) (granted : judge_in nat_eq fresh world task call ≡ Ok permit) where
@@ -182,7 +182,7 @@ module _ {world : World ℕ} {fresh : Fresh ℕ} (name : TaskName) (call : Call)
               ∙ ap (λ j. after world j (apply nat_eq fresh world task)) f))
               ∙ (or_parts (only_looks call) (not (is_ok outcome.answer)) e).1))
           judged (Ok permit) f = subst Kept (sym (ap (λ (o : Outcome ℕ). o.world) same))
-              (finished_keeps world fresh task call permit is plain serves
+              (finished_keeps call is plain serves
               (ap (task_called world) (sym (name_found world name task found)) ∙ found) other few f name changed)
 
 pub calls_keep_worlds : CallsKeepWorlds

@@ -44,7 +44,7 @@ HasLayerToWrite world (ToOpenNew directory name node access) =
     (filesystem_at nat_eq world directory).overlay ≡ false
 HasLayerToWrite world permit = ⊤
 
-module _ (world : World ℕ) (fresh : Fresh ℕ) (task : Task ℕ) (is : IsWorld nat_eq world)
+module _ {world : World ℕ} {fresh : Fresh ℕ} {task : Task ℕ} (is : IsWorld nat_eq world)
     (serves : Serves nat_eq world fresh) (called : task_called world task.name ≡ Some task) where
   abbrev after : Permit ℕ → World ℕ
   after permit = (apply nat_eq fresh world task permit).world
@@ -225,8 +225,7 @@ module _ (world : World ℕ) (fresh : Fresh ℕ) (task : Task ℕ) (is : IsWorld
       (in_own task.namespace top fits.own) in
       λ other m.
       let from = among-from_map (pivoted_task nat_eq task.namespace root top) world.tasks other m in
-      subst (IsPlaced (after permit)) (sym from.2)
-      (pivoted_placed world (after permit) (seen permit fits) root top task.namespace at_new from.0
+      subst (IsPlaced (after permit)) (sym from.2) (pivoted_placed (seen permit fits) root top at_new from.0
       (all_placed from.0 from.1))
   permits_keep_tasks_placed permit fits writes = all_placed
 
@@ -234,18 +233,18 @@ module _ (world : World ℕ) (fresh : Fresh ℕ) (task : Task ℕ) (is : IsWorld
 module _ (world : World ℕ) (fresh : Fresh ℕ) (task : Task ℕ) (permit : Permit ℕ) (is : IsWorld nat_eq world)
     (serves : Serves nat_eq world fresh) (called : task_called world task.name ≡ Some task)
     (fits : IsFitPermit fresh world task permit) (writes : HasLayerToWrite world permit) where
-  placed_later : ArePlaced (after world fresh task is serves called permit)
-      (after world fresh task is serves called permit).tasks
-  placed_later = permits_keep_tasks_placed world fresh task is serves called permit fits.names writes
+  placed_later : ArePlaced (after is serves called permit)
+      (after is serves called permit).tasks
+  placed_later = permits_keep_tasks_placed is serves called permit fits.names writes
 
-  pub locations_stay : LocationsAreThere (after world fresh task is serves called permit)
-  locations_stay = locations_are_there (after world fresh task is serves called permit) placed_later
+  pub locations_stay : LocationsAreThere (after is serves called permit)
+  locations_stay = locations_are_there (after is serves called permit) placed_later
 
-  pub directories_stay : TasksStandOnDirectories (after world fresh task is serves called permit)
-  directories_stay = tasks_stand_on_directories (after world fresh task is serves called permit) placed_later
+  pub directories_stay : TasksStandOnDirectories (after is serves called permit)
+  directories_stay = tasks_stand_on_directories (after is serves called permit) placed_later
 
-  pub open_files_stay : OpenFilesAreRegular (after world fresh task is serves called permit)
-  open_files_stay = open_files_are_regular (after world fresh task is serves called permit) placed_later
+  pub open_files_stay : OpenFilesAreRegular (after is serves called permit)
+  open_files_stay = open_files_are_regular (after is serves called permit) placed_later
 
 -- a plain tree is written to
 plain_writes : (world : World ℕ) → IsPlain world → (permit : Permit ℕ) → HasLayerToWrite world permit

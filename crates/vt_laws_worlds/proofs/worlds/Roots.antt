@@ -137,8 +137,8 @@ module _ (world : World ℕ) (is : IsWorld nat_eq world) where
       (in_own namespace found.0 (held_number namespace found.0.namespace mount.1))))
 
 -- A pivot
-module _ (world : World ℕ) (after : World ℕ) (seen : KeepsWhatIsSeen world after) (root new : Mount ℕ) (namespace : ℕ)
-    (at_new : StandsAt world namespace (root_of new)) where
+module _ {world : World ℕ} {after : World ℕ} (seen : KeepsWhatIsSeen world after) (root new : Mount ℕ)
+    {namespace : ℕ} (at_new : StandsAt world namespace (root_of new)) where
   pivoted_stands : (location : Location ℕ) → StandsAt world namespace location
       → StandsAt after namespace (pivoted_location nat_eq root new location)
   pivoted_stands location at = by _

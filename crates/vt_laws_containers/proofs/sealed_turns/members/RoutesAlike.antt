@@ -5,7 +5,7 @@ use Rattle.vt_spec.specs.Machine.Turns.{here_route, layer_routes, open_route, pl
 use Rattle.vt_laws_sealed.proofs.part.walks.WalksAgree.{Alike}
 use Rattle.vt_laws_members.proofs.judging.WalksLead.{PlaceAt, destination_agrees, directory_agrees, file_agrees, new_agrees, new_leaf_agrees, object_agrees, old_agrees, old_leaf_agrees, rename_new_agrees, same_directory_there, source_agrees, symlink_agrees}
 
-module _ (one other : Looks ℕ) (task : Task ℕ) (Own : ℕ → Type 0) (alike : Alike one other task Own)
+module _ {one other : Looks ℕ} {task : Task ℕ} {Own : ℕ → Type 0} (alike : Alike one other task Own)
     (directory : Own task.directory.mount)
     (removed : (here : Location ℕ) → Own here.mount → one.is_removed here ≡ other.is_removed here) where
   -- one path, walked alike
@@ -17,52 +17,52 @@ module _ (one other : Looks ℕ) (task : Task ℕ) (Own : ℕ → Type 0) (alike
 
   object : (path : List ℕ)
       → (here_route (object_walk nat_eq one task path) ∷ []) ≡ (here_route (object_walk nat_eq other task path) ∷ [])
-  object path = here_same _ _ (object_agrees one other task Own alike directory removed path).0
+  object path = here_same _ _ (object_agrees alike directory removed path).0
 
   symlink : (path : List ℕ)
       → (here_route (symlink_walk nat_eq one task path) ∷ []) ≡ (here_route (symlink_walk nat_eq other task path) ∷ [])
-  symlink path = here_same _ _ (symlink_agrees one other task Own alike directory removed path).0
+  symlink path = here_same _ _ (symlink_agrees alike directory removed path).0
 
   directories : (path : List ℕ) → (here_route (directory_walk nat_eq one task path) ∷ [])
       ≡ (here_route (directory_walk nat_eq other task path) ∷ [])
-  directories path = here_same _ _ (directory_agrees one other task Own alike directory removed path).0
+  directories path = here_same _ _ (directory_agrees alike directory removed path).0
 
   source : (path : List ℕ) → source_walk nat_eq one task path ≡ source_walk nat_eq other task path
-  source path = (source_agrees one other task Own alike directory removed path).0
+  source path = (source_agrees alike directory removed path).0
 
   destination : (path : List ℕ) → (here_route (destination_walk nat_eq one task path) ∷ [])
       ≡ (here_route (destination_walk nat_eq other task path) ∷ [])
-  destination path = here_same _ _ (destination_agrees one other task Own alike directory removed path).0
+  destination path = here_same _ _ (destination_agrees alike directory removed path).0
 
   file : (path : List ℕ)
       → (place_route (file_walk nat_eq one task path) ∷ []) ≡ (place_route (file_walk nat_eq other task path) ∷ [])
-  file path = place_same _ _ (file_agrees one other task Own alike directory removed path).0
+  file path = place_same _ _ (file_agrees alike directory removed path).0
 
   new : (path : List ℕ)
       → (place_route (new_walk nat_eq one task path) ∷ []) ≡ (place_route (new_walk nat_eq other task path) ∷ [])
-  new path = place_same _ _ (new_agrees one other task Own alike directory removed path).0
+  new path = place_same _ _ (new_agrees alike directory removed path).0
 
   new_leaf : (path : List ℕ) → (place_route (new_leaf_walk nat_eq one task path) ∷ [])
       ≡ (place_route (new_leaf_walk nat_eq other task path) ∷ [])
-  new_leaf path = place_same _ _ (new_leaf_agrees one other task Own alike directory removed path).0
+  new_leaf path = place_same _ _ (new_leaf_agrees alike directory removed path).0
 
   old : (path : List ℕ)
       → (place_route (old_walk nat_eq one task path) ∷ []) ≡ (place_route (old_walk nat_eq other task path) ∷ [])
-  old path = place_same _ _ (old_agrees one other task Own alike directory removed path).0
+  old path = place_same _ _ (old_agrees alike directory removed path).0
 
   old_leaf : (path : List ℕ) → old_leaf_walk nat_eq one task path ≡ old_leaf_walk nat_eq other task path
-  old_leaf path = (old_leaf_agrees one other task Own alike directory removed path).0
+  old_leaf path = (old_leaf_agrees alike directory removed path).0
 
   -- the old object of a rename is a directory in both
   from_directory : (path : List ℕ) → rename_from_directory nat_eq one (old_leaf_walk nat_eq one task path)
       ≡ rename_from_directory nat_eq other (old_leaf_walk nat_eq other task path)
   from_directory path =
-      by (old_leaf_walk nat_eq one task path) (old_leaf_agrees one other task Own alike directory removed path).1
+      by (old_leaf_walk nat_eq one task path) (old_leaf_agrees alike directory removed path).1
       ∙ ap (rename_from_directory nat_eq other) (old_leaf path)
     where
-      by : (a : Result (Place ℕ) (Stop ℕ)) → IfOk a (PlaceAt one other task Own alike directory removed)
+      by : (a : Result (Place ℕ) (Stop ℕ)) → IfOk a (PlaceAt alike directory removed)
           → rename_from_directory nat_eq one a ≡ rename_from_directory nat_eq other a
-      by (Ok place) at = same_directory_there one other task Own alike directory removed place at
+      by (Ok place) at = same_directory_there alike directory removed place at
       by (Err stop) at = refl
 
   renamed : (old new : List ℕ) → routes nat_eq one task (Rename old new) ≡ routes nat_eq other task (Rename old new)
@@ -71,7 +71,7 @@ module _ (one other : Looks ℕ) (task : Task ℕ) (Own : ℕ → Type 0) (alike
       ∙ ap (λ b. place_route (old_leaf_walk nat_eq other task old)
       ∷ place_route (rename_new_walk nat_eq one task new b) ∷ []) (from_directory old)
       ∙ ap (λ w. place_route (old_leaf_walk nat_eq other task old) ∷ place_route w ∷ [])
-      (rename_new_agrees one other task Own alike directory removed new
+      (rename_new_agrees alike directory removed new
       (rename_from_directory nat_eq other (old_leaf_walk nat_eq other task old))).0
 
   layers : (options : Option OverlayWords)

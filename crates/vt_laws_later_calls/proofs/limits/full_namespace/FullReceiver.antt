@@ -227,10 +227,10 @@ module _ (version : Version) where
   -- the second task stacks all mounts but one
   stacked : Fills (whole version) (codes "t.1 mount plain /q") (1 ∷ []) stacking (stacking_is_asked version) IsFilled
       (λ count world fresh filled serves room. (
-        one_more count world filled fresh serves room,
+        one_more filled serves room,
         stack_grows
             path_has_one_word filled.stack fresh plain_flags serves room,
-        fills_on count world filled fresh serves room,
+        fills_on filled serves room,
       )) 2 7 4093 world_7 (codes "t.1 mount plain /q" ∷ last_lines)
   stacked = fills (whole version) (codes "t.1 mount plain /q") (1 ∷ []) stacking
       (stacking_is_asked version) IsFilled _ 4093 2 7
@@ -247,15 +247,15 @@ module _ (version : Version) where
 
     -- the world with it
     abbrev full : World ℕ
-    full = one_more 4095 world filled (numbers_for 4101) serves_4101 room
+    full = one_more filled serves_4101 room
 
     -- in which the namespace is full
     abbrev fuller : IsFilled 4096 full
-    fuller = fills_on 4095 world filled (numbers_for 4101) serves_4101 room
+    fuller = fills_on filled serves_4101 room
 
     -- the world without it again
     abbrev left : World ℕ
-    left = one_less 4095 world filled (numbers_for 4101) serves_4101 room
+    left = one_less filled serves_4101 room
 
     -- the last mount is granted
     line_4101 : policy nat_eq (numbers_for 4101) world (1 ∷ []) stacking ≡ granted Done full
@@ -286,9 +286,8 @@ module _ (version : Version) where
     -- the mount on the shared one is granted
     line_4104 : (policy nat_eq (numbers_for 4104) left [] mounting).answer ≡ Ok Done
     line_4104 = receiver_with_room_grants left
-        (one_less_is_kept 4095 world filled (numbers_for 4101) serves_4101 room (numbers_for 4103)
-        (next_numbers_serve full 4102 has_4102))
-        (receiver_is_left 4095 world filled (numbers_for 4101) serves_4101 room) 4095
+        (one_less_is_kept filled serves_4101 room (numbers_for 4103) (next_numbers_serve full 4102 has_4102))
+        (receiver_is_left filled serves_4101 room) 4095
         (ap (mount_count left) (sym filled.own) ∙ filled.stack.counted) (numbers_for 4104) refl
 
     -- the text of these lines

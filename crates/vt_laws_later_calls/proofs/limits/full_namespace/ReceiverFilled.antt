@@ -54,7 +54,7 @@ first_is_filled = record {
   };
 }
 
-module _ (count : ℕ) (world : World ℕ) (filled : IsFilled count world) (fresh : Fresh ℕ)
+module _ {count : ℕ} {world : World ℕ} (filled : IsFilled count world) {fresh : Fresh ℕ}
     (serves : Serves nat_eq world fresh) (room : count < most_mounts) where
   abbrev pub one_more : World ℕ
   one_more = stacked_world
@@ -139,18 +139,16 @@ module _ (world : World ℕ) (kept : Kept world) (receiver : HasReceiver first_t
   needs_room = new_mount_needs_room world fresh [] (first_of_two receiver.change) (codes "/s/d") plain_flags (record {
     location = place;
     left = most_symlinks;
-    steps = (path_leads first_tree second_tree trees world kept.0 kept.1 receiver).0;
-  }) kept.0 receiver.called refl (path_leads first_tree second_tree trees world kept.0 kept.1 receiver).1
-      (no_rule_fails first_tree second_tree trees world kept.0 kept.1 receiver)
+    steps = (path_leads trees kept.0 kept.1 receiver).0;
+  }) kept.0 receiver.called refl (path_leads trees kept.0 kept.1 receiver).1
+      (no_rule_fails trees kept.0 kept.1 receiver)
 
   -- is refused while that is full
   pub full_receiver_refuses : nat_lt most_mounts (count + 1) ≡ true
       → policy nat_eq fresh world [] (MountPlain (codes "/s/d") plain_flags) ≡ denied world (denial M9)
-  full_receiver_refuses full =
-      needs_room.0 (room_of_other first_tree second_tree trees world kept.0 kept.1 receiver count counted ∙ full)
+  full_receiver_refuses full = needs_room.0 (room_of_other trees kept.0 kept.1 receiver count counted ∙ full)
 
   -- and granted while it is not
   pub receiver_with_room_grants : nat_lt most_mounts (count + 1) ≡ false
       → (policy nat_eq fresh world [] (MountPlain (codes "/s/d") plain_flags)).answer ≡ Ok Done
-  receiver_with_room_grants has =
-      needs_room.1 (room_of_other first_tree second_tree trees world kept.0 kept.1 receiver count counted ∙ has)
+  receiver_with_room_grants has = needs_room.1 (room_of_other trees kept.0 kept.1 receiver count counted ∙ has)

@@ -56,8 +56,8 @@ topmost_of_one : (mounts : List (Mount ℕ)) (at : Location ℕ) (child : Mount 
     → topmost nat_eq mounts at ≡ root_of child
 topmost_of_one mounts at child stands free some long = grind (arith, common_steps, chain_goes_on, chain_ends)
 
-module _ (first second : Filesystem ℕ) (trees : TwoTrees first second) (world : World ℕ) (is : IsWorld nat_eq world)
-    (plain : IsPlain world) (has : HasReceiver first second world) where
+module _ {first second : Filesystem ℕ} (trees : TwoTrees first second) {world : World ℕ}
+    (is : IsWorld nat_eq world) (plain : IsPlain world) (has : HasReceiver first second world) where
   abbrev task : Task ℕ
   task = first_of_two has.change
 

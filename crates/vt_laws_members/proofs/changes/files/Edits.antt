@@ -58,13 +58,13 @@ module _ {world : World ℕ} {names : List TaskName} {task : Task ℕ} (member :
   alike = judges member
 
   abbrev StandsHere : Here ℕ → Type 0
-  StandsHere = HereAt one other task On alike.walks alike.directory alike.rules.removed
+  StandsHere = HereAt alike.walks alike.directory alike.rules.removed
 
   abbrev IsPlaced : Place ℕ → Type 0
-  IsPlaced = PlaceAt one other task On alike.walks alike.directory alike.rules.removed
+  IsPlaced = PlaceAt alike.walks alike.directory alike.rules.removed
 
   abbrev IsFound : Option (Location ℕ) → Type 0
-  IsFound = FoundAt one other task On alike.walks alike.directory alike.rules.removed
+  IsFound = FoundAt alike.walks alike.directory alike.rules.removed
 
   written_there : (place : Place ℕ) (bytes : List ℕ) (o : Option (Location ℕ)) → IsFound o
       → IfOk (written_permit nat_eq one task place bytes o) Edited
@@ -81,7 +81,7 @@ module _ {world : World ℕ} {names : List TaskName} {task : Task ℕ} (member :
   unfolding write_permit
   writes_edit path bytes = of_walk IsPlaced Edited (file_walk nat_eq one task path)
       (λ place. unless (file_word_rules place) (written_permit nat_eq one task place bytes place.object))
-      (file_agrees one other task On alike.walks alike.directory alike.rules.removed path).1
+      (file_agrees alike.walks alike.directory alike.rules.removed path).1
       (λ place at. of_rules Edited (file_word_rules place) (written_permit nat_eq one task place bytes place.object)
       (written_there place bytes place.object at.1))
 
@@ -95,7 +95,7 @@ module _ {world : World ℕ} {names : List TaskName} {task : Task ℕ} (member :
   chmods_edit path mode = of_walk StandsHere Edited (object_walk nat_eq one task path)
       (λ here. attr_permit nat_eq one here.location (owns task.credentials (attr_at one here.location))
       (attr_with_mode (attr_at one here.location) mode))
-      (object_agrees one other task On alike.walks alike.directory alike.rules.removed path).1
+      (object_agrees alike.walks alike.directory alike.rules.removed path).1
       (λ here on. attr_set here.location (owns task.credentials (attr_at one here.location))
       (attr_with_mode (attr_at one here.location) mode) on)
 
@@ -105,8 +105,7 @@ module _ {world : World ℕ} {names : List TaskName} {task : Task ℕ} (member :
       (λ here. attr_permit nat_eq one here.location
       (may_chown task.credentials (attr_at one here.location) (attr_with_owner (attr_at one here.location) uid gid))
       (attr_with_owner (attr_at one here.location) uid gid))
-      (object_agrees one other task On alike.walks alike.directory alike.rules.removed path).1
-      (λ here on. attr_set here.location
+      (object_agrees alike.walks alike.directory alike.rules.removed path).1 (λ here on. attr_set here.location
       (may_chown task.credentials (attr_at one here.location) (attr_with_owner (attr_at one here.location) uid gid))
       (attr_with_owner (attr_at one here.location) uid gid) on)
 
@@ -117,6 +116,6 @@ module _ {world : World ℕ} {names : List TaskName} {task : Task ℕ} (member :
       unless (opaque_rules one here.location) (Ok (ToChange here.location (SetMark here.location.node mark)))))
       (of_walk StandsHere Edited (directory_walk nat_eq one task path)
       (λ here. unless (opaque_rules one here.location) (Ok (ToChange here.location (SetMark here.location.node mark))))
-      (directory_agrees one other task On alike.walks alike.directory alike.rules.removed path).1
+      (directory_agrees alike.walks alike.directory alike.rules.removed path).1
       (λ here on. of_rules Edited (opaque_rules one here.location)
       (Ok (ToChange here.location (SetMark here.location.node mark))) (on, tt)))

@@ -23,7 +23,7 @@ module _ {world : World ℕ} {names set : List TaskName} {gone : List ℕ} (it :
 
   swept_alike : part_of nat_eq (settled nat_eq v) set ≡ part_of nat_eq (settled nat_eq v_part) set
   swept_alike = part_of_settled v set (used_filesystems nat_eq v set) (own_lowers nat_eq v set) (ended_ready it leaves)
-      ∙ sym (ap (swept_of set) (one_part world names it.is set v v_part (ended_less it)))
+      ∙ sym (ap (swept_of set) (one_part it.is (ended_less it)))
       ∙ sym (part_of_settled v_part set (used_filesystems nat_eq v set) (own_lowers nat_eq v set)
       (ended_part_ready it leaves))
 

@@ -136,9 +136,9 @@ module _ {world : World ℕ} {names set : List TaskName} {gone : List ℕ} (it :
   pub ended_part_ready : Ready living set (used_filesystems nat_eq after_world set) (own_lowers nat_eq after_world set)
   ended_part_ready = record {
     used_are = used_same after_part living set (sees_living after_part set)
-        ∙ less_used world names it.is set after_world after_part less;
+        ∙ less_used it.is less;
     lowers_are = lowers_same after_part living set (sees_living after_part set)
-        ∙ less_lowers world names it.is set after_world after_part less;
+        ∙ less_lowers it.is less;
     one = one_living;
     lives = λ y n. (among-from_filter (mount_lives nat_eq after_part) after_part.mounts y n).1;
     located = located_so;

@@ -175,8 +175,6 @@ module _ {world : World ℕ} {names set : List TaskName} {gone : List ℕ} (it :
     free = λ x m u. ⊎_elim (λ h. inl (alone x.number h)) (λ h. inr (all_named_there world names it.is x m h))
         (or_cases (used_alone nat_eq world names x.number) (wholly_locked nat_eq world names x.number)
         (used_are_free world names it.sealed_off x.number
-        (among_numbers (used_filesystems nat_eq world names) x.number
-        (used_was world names it.is set after_world (ended_part it) (ended_less it)
-        x.number u))));
+        (among_numbers (used_filesystems nat_eq world names) x.number (used_was it.is (ended_less it) x.number u))));
     cut = λ x m unused low. whole_cut world it.is (own_lowers nat_eq after_world set) x m;
   }

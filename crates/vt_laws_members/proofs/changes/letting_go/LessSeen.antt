@@ -31,8 +31,8 @@ module _ (world : World ℕ) (names set : List TaskName) (next next_part : World
     pub direct : (number : ℕ) → Among number (used_directly nat_eq now set)
         → Among number (used_directly nat_eq world names)
 
-module _ (world : World ℕ) (names : List TaskName) (is : IsWorld nat_eq world) (set : List TaskName)
-    (next next_part : World ℕ) (less : AreLess world names set next next_part) where
+module _ {world : World ℕ} {names : List TaskName} (is : IsWorld nat_eq world) {set : List TaskName}
+    {next next_part : World ℕ} (less : AreLess world names set next next_part) where
   abbrev part : World ℕ
   part = part_of nat_eq world names
 

@@ -45,10 +45,10 @@ module _ {world : World ℕ} {names : List TaskName} {task : Task ℕ} (member :
   alike = judges member
 
   abbrev pub StandsHere : Here ℕ → Type 0
-  StandsHere = HereAt one other task On alike.walks alike.directory alike.rules.removed
+  StandsHere = HereAt alike.walks alike.directory alike.rules.removed
 
   pub at_directory : (path : List ℕ) → IfOk (directory_walk nat_eq one task path) StandsHere
-  at_directory path = (directory_agrees one other task On alike.walks alike.directory alike.rules.removed path).1
+  at_directory path = (directory_agrees alike.walks alike.directory alike.rules.removed path).1
 
   -- The permits of chdir(2) and chroot(2)
   abbrev pub SetsDirectory : Permit ℕ → Type 0

@@ -40,6 +40,6 @@ module _ (world : World ℕ) (names : List TaskName) (is : IsWorld nat_eq world)
         (λ lower. subst (λ (f : Filesystem ℕ). IsCut f.number (own_lowers nat_eq now set) f.files) lower.0 (record {
           whole = from.0.files;
           chosen = filter (lies_in_own_lower nat_eq world names from.0.number) from.0.files.numbers;
-          has = has_lowers world names is set next next_part less from.0 from.1 lower.1 lower.2;
+          has = has_lowers is less from.0 from.1 lower.1 lower.2;
           same = refl;
         })) (shown_how world names from.0 y from.2)

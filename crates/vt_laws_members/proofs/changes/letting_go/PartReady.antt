@@ -148,9 +148,9 @@ module _ {world : World ℕ} {names set : List TaskName} (left : Retasks world n
   pub part_ready : Ready living set (used_filesystems nat_eq later set) (own_lowers nat_eq later set)
   part_ready = record {
     used_are = used_same later_part living set (sees_living later_part set)
-        ∙ less_used world names left.is set later later_part sees;
+        ∙ less_used left.is sees;
     lowers_are = lowers_same later_part living set (sees_living later_part set)
-        ∙ less_lowers world names left.is set later later_part sees;
+        ∙ less_lowers left.is sees;
     one = one_number;
     lives = λ y n. (among-from_filter (mount_lives nat_eq later_part) part.mounts y n).1;
     located = located_so;

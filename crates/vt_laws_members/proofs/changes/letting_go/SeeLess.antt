@@ -95,4 +95,4 @@ module _ {world : World ℕ} {names : List TaskName} (is : IsWorld nat_eq world)
 
   -- so they have the part of the part
   pub part_of_less : part_of nat_eq now_part set ≡ part_of nat_eq now set
-  part_of_less = one_part world names is set now now_part now_less
+  part_of_less = one_part is now_less

@@ -90,7 +90,7 @@ module _ {a : World ℕ} {set : List TaskName} {used_now : List ℕ} {lowers : L
       → only_used nat_eq a c x ≡ only_used nat_eq part c x
   sweep_alike x m u false = refl
   sweep_alike x m u true = ⊎_elim (λ alone. only_alike (used_in nat_eq a x) (used_in nat_eq part x) x
-      (used_alike a set used_now lowers it one_in_part mounted x alone))
+      (used_alike it one_in_part mounted x alone))
       (λ named. named_stays a x named ∙ sym (named_stays part x named)) (it.free x m u)
 
   -- What they use stays
@@ -194,7 +194,7 @@ module _ {a : World ℕ} {set : List TaskName} {used_now : List ℕ} {lowers : L
         (cut_still x.number lowers cut.whole cut.chosen cut.has all_used) enough
 
     plain : x.overlay ≡ None
-    plain = lower_plain a set used_now lowers it one_in_part x m (ap (λ l. has_lower l x.number) it.lowers_are ∙ low)
+    plain = lower_plain it one_in_part x m (ap (λ l. has_lower l x.number) it.lowers_are ∙ low)
 
     lowered_by : (b : Bool) → lowered x.number lowers (only_used_by nat_eq b all_used x).files
         (only_used_by nat_eq b all_used x) ≡ lowered x.number lowers x.files x

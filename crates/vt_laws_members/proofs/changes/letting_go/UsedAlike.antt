@@ -111,7 +111,7 @@ objects_layered : (number object : ℕ) (merged : Filesystem ℕ) → Among obje
     → has_layer_on nat_eq number merged ≡ true
 objects_layered number object merged = grind (arith, common_steps, or_left)
 
-module _ (a : World ℕ) (set : List TaskName) (used_now : List ℕ) (lowers : List (Layer ℕ))
+module _ {a : World ℕ} {set : List TaskName} {used_now : List ℕ} {lowers : List (Layer ℕ)}
     (it : Ready a set used_now lowers) (one_in_part : OneNumberEach (part_of nat_eq a set)) where
   abbrev part : World ℕ
   part = part_of nat_eq a set

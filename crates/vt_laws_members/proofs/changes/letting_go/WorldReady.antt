@@ -183,8 +183,7 @@ module _ {world : World ℕ} {names : List TaskName} (sealing : IsSealed world n
     free = λ x m u. ⊎_elim (λ h. inl (alone x.number h)) (λ h. inr (all_named_there world names sealing.is x m h))
         (or_cases (used_alone nat_eq world names x.number) (wholly_locked nat_eq world names x.number)
         (used_are_free world names sealing.sealed_off x.number (among_numbers (used_filesystems nat_eq world names)
-        x.number (used_was world names sealing.is set later (record (part_of nat_eq world names)
-        { tasks = tasks; change = change }) (now_less sealing.is tasks change (sees_less sealing set tasks change it)
+        x.number (used_was sealing.is (now_less sealing.is tasks change (sees_less sealing set tasks change it)
         refl) x.number u))));
     cut = λ x m unused low. whole_cut world sealing.is (own_lowers nat_eq later set) x m;
   }

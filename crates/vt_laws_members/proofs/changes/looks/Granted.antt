@@ -48,16 +48,16 @@ module _ {world : World ℕ} {names : List TaskName} {task : Task ℕ} (member :
   alike = judges member
 
   abbrev StandsHere : Here ℕ → Type 0
-  StandsHere = HereAt one other task On alike.walks alike.directory alike.rules.removed
+  StandsHere = HereAt alike.walks alike.directory alike.rules.removed
 
   at_object : (path : List ℕ) → IfOk (object_walk nat_eq one task path) StandsHere
-  at_object path = (object_agrees one other task On alike.walks alike.directory alike.rules.removed path).1
+  at_object path = (object_agrees alike.walks alike.directory alike.rules.removed path).1
 
   at_symlink : (path : List ℕ) → IfOk (symlink_walk nat_eq one task path) StandsHere
-  at_symlink path = (symlink_agrees one other task On alike.walks alike.directory alike.rules.removed path).1
+  at_symlink path = (symlink_agrees alike.walks alike.directory alike.rules.removed path).1
 
   at_directory : (path : List ℕ) → IfOk (directory_walk nat_eq one task path) StandsHere
-  at_directory path = (directory_agrees one other task On alike.walks alike.directory alike.rules.removed path).1
+  at_directory path = (directory_agrees alike.walks alike.directory alike.rules.removed path).1
 
   -- an open file of theirs
   pub opened_theirs : (descriptor : Descriptor ℕ) → Among descriptor task.descriptors

@@ -56,7 +56,7 @@ module _ {world : World ℕ} {names : List TaskName} {task : Task ℕ} (member :
   alike = judges member
 
   abbrev IsPlaced : Place ℕ → Type 0
-  IsPlaced = PlaceAt one other task On alike.walks alike.directory alike.rules.removed
+  IsPlaced = PlaceAt alike.walks alike.directory alike.rules.removed
 
   abbrev AreTheirs : Option (Location ℕ × Change ℕ) → Type 0
   AreTheirs asked = (made : Location ℕ × Change ℕ) → asked ≡ Some made → Names made.1 → On made.0.mount
@@ -84,22 +84,21 @@ module _ {world : World ℕ} {names : List TaskName} {task : Task ℕ} (member :
   names_theirs asked permit (overwrites_file path bytes place file walk named is_there passed) =
       of file _ (λ none. absurd none)
   names_theirs asked permit (writes_new_file path bytes place walk named missing fits passed) =
-      placed _ place _ (file_agrees one other task On alike.walks alike.directory alike.rules.removed path).1 walk
+      placed _ place _ (file_agrees alike.walks alike.directory alike.rules.removed path).1 walk
   names_theirs asked permit (makes_directory path mode place walk passed) =
-      placed _ place _ (new_agrees one other task On alike.walks alike.directory alike.rules.removed path).1 walk
+      placed _ place _ (new_agrees alike.walks alike.directory alike.rules.removed path).1 walk
   names_theirs asked permit (makes_symlink text path place fits walk passed) =
-      placed _ place _ (new_leaf_agrees one other task On alike.walks alike.directory alike.rules.removed path).1 walk
+      placed _ place _ (new_leaf_agrees alike.walks alike.directory alike.rules.removed path).1 walk
   names_theirs asked permit (makes_whiteout path place walk passed) =
-      placed _ place _ (new_leaf_agrees one other task On alike.walks alike.directory alike.rules.removed path).1 walk
+      placed _ place _ (new_leaf_agrees alike.walks alike.directory alike.rules.removed path).1 walk
   names_theirs asked permit (makes_hard_link old new from place from_walk walk named passed) =
-      placed _ place _ (new_leaf_agrees one other task On alike.walks alike.directory alike.rules.removed new).1 walk
+      placed _ place _ (new_leaf_agrees alike.walks alike.directory alike.rules.removed new).1 walk
   names_theirs asked permit (unlinks path place walk named passed) =
-      placed _ place _ (old_leaf_agrees one other task On alike.walks alike.directory alike.rules.removed path).1 walk
+      placed _ place _ (old_leaf_agrees alike.walks alike.directory alike.rules.removed path).1 walk
   names_theirs asked permit (removes_directory path place walk word passed) =
-      placed _ place _ (old_agrees one other task On alike.walks alike.directory alike.rules.removed path).1 walk
+      placed _ place _ (old_agrees alike.walks alike.directory alike.rules.removed path).1 walk
   names_theirs asked permit (renames old new from to both two passed) =
-      placed _ from _ (old_leaf_agrees one other task On alike.walks alike.directory alike.rules.removed old).1
-      both.from_end
+      placed _ from _ (old_leaf_agrees alike.walks alike.directory alike.rules.removed old).1 both.from_end
   names_theirs asked permit (changes_mode path mode here walk passed) = of here.location _ (λ none. absurd none)
   names_theirs asked permit (changes_owner path uid gid here walk passed) = of here.location _ (λ none. absurd none)
   names_theirs asked permit (changes_mark path mark here admin walk passed) = of here.location _ (λ none. absurd none)
@@ -108,9 +107,9 @@ module _ {world : World ℕ} {names : List TaskName} {task : Task ℕ} (member :
   names_theirs asked permit (opens_existing path access mode place file few walk named is_there passed) =
       opened file (is_copied_up nat_eq world file access)
   names_theirs asked permit (creates path access mode place few walk named missing passed) =
-      placed _ place _ (file_agrees one other task On alike.walks alike.directory alike.rules.removed path).1 walk
+      placed _ place _ (file_agrees alike.walks alike.directory alike.rules.removed path).1 walk
   names_theirs asked permit (creates_exclusively path access mode place few walk named passed) =
-      placed _ place _ (new_agrees one other task On alike.walks alike.directory alike.rules.removed path).1 walk
+      placed _ place _ (new_agrees alike.walks alike.directory alike.rules.removed path).1 walk
   names_theirs asked permit (writes_part number offset bytes descriptor found passed) =
       written descriptor.location offset bytes
   names_theirs asked permit granted = λ made e. none_is_some made e

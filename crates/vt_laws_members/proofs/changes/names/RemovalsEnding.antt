@@ -46,7 +46,7 @@ module _ {world : World ℕ} {names : List TaskName} {task : Task ℕ} (member :
   judged_alike = judges member
 
   abbrev IsPlaced : Place ℕ → Type 0
-  IsPlaced = PlaceAt one other_looks task On judged_alike.walks judged_alike.directory judged_alike.rules.removed
+  IsPlaced = PlaceAt judged_alike.walks judged_alike.directory judged_alike.rules.removed
 
   object_on : (place : Place ℕ) → IsPlaced place → On (object_there place).mount
   object_on place at = grind (arith, common_steps)
@@ -61,8 +61,7 @@ module _ {world : World ℕ} {names : List TaskName} {task : Task ℕ} (member :
       subst (IsFree world names task directory) above (subst (λ object. IsFree world names task object place.parent)
       same (record {
         on = object_on place (subst (λ r. IfOk r IsPlaced) walk
-            (old_agrees one other_looks task On judged_alike.walks judged_alike.directory judged_alike.rules.removed
-            path).1);
+            (old_agrees judged_alike.walks judged_alike.directory judged_alike.rules.removed path).1);
         unlocked = (or_parts (is_locked_at nat_eq world (object_there place)) (is_locked_at nat_eq world place.parent)
             passed.1.1.1.1.0).0;
         bare = passed.1.1.1.1.1.0;
@@ -89,7 +88,7 @@ module _ {world : World ℕ} {names : List TaskName} {task : Task ℕ} (member :
       (not-false (nat_eq from_place.parent.mount to_place.parent.mount) passed.1.1.1.1.1.1.1.1.0) in
       subst (IsFree world names task replaced) source (record {
         on = (subst (λ r. IfOk r IsPlaced) both.to_end
-            (rename_new_agrees one other_looks task On judged_alike.walks judged_alike.directory
+            (rename_new_agrees judged_alike.walks judged_alike.directory
             judged_alike.rules.removed other (is_directory_there nat_eq one from_place)).1).1 replaced same;
         unlocked = (or_parts (is_locked_at nat_eq world replaced) false
             (subst (λ o. list_any one.is_locked (option_to_list o) ≡ false) same

@@ -41,13 +41,13 @@ module _ {world : World ℕ} {names : List TaskName} {task : Task ℕ} (member :
   alike = judges member
 
   abbrev StandsHere : Here ℕ → Type 0
-  StandsHere = HereAt one other task On alike.walks alike.directory alike.rules.removed
+  StandsHere = HereAt alike.walks alike.directory alike.rules.removed
 
   abbrev IsPlaced : Place ℕ → Type 0
-  IsPlaced = PlaceAt one other task On alike.walks alike.directory alike.rules.removed
+  IsPlaced = PlaceAt alike.walks alike.directory alike.rules.removed
 
   abbrev IsFound : Option (Location ℕ) → Type 0
-  IsFound = FoundAt one other task On alike.walks alike.directory alike.rules.removed
+  IsFound = FoundAt alike.walks alike.directory alike.rules.removed
 
   opens_there : (file : Location ℕ) (access : Access) → On file.mount
       → IfOk (open_file_permit nat_eq one task file access) Opens
@@ -67,18 +67,18 @@ module _ {world : World ℕ} {names : List TaskName} {task : Task ℕ} (member :
       → IfOk (open_by_permit nat_eq one task path access how) Opens
   opens_by path access NoCreation = of_walk StandsHere Opens (object_walk nat_eq one task path)
       (λ here. open_file_permit nat_eq one task here.location access)
-      (object_agrees one other task On alike.walks alike.directory alike.rules.removed path).1
+      (object_agrees alike.walks alike.directory alike.rules.removed path).1
       (λ here on. opens_there here.location access on)
   opens_by path access (OrCreate mode) = of_walk IsPlaced Opens (file_walk nat_eq one task path)
       (λ place. unless (file_word_rules place)
       (opened_or_created_permit nat_eq one task place access mode place.object))
-      (file_agrees one other task On alike.walks alike.directory alike.rules.removed path).1
+      (file_agrees alike.walks alike.directory alike.rules.removed path).1
       (λ place at. of_rules Opens (file_word_rules place)
       (opened_or_created_permit nat_eq one task place access mode place.object)
       (opens_either place access mode place.object at.1))
   opens_by path access (Exclusive mode) = of_walk IsPlaced Opens (new_walk nat_eq one task path)
       (λ place. unless (exclusive_word_rules place) (create_file_permit nat_eq one task place access mode))
-      (new_agrees one other task On alike.walks alike.directory alike.rules.removed path).1
+      (new_agrees alike.walks alike.directory alike.rules.removed path).1
       (λ place at. of_rules Opens (exclusive_word_rules place) (create_file_permit nat_eq one task place access mode)
       (opens_new place access mode))
 

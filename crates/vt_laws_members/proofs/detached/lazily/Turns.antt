@@ -136,7 +136,7 @@ module _ {world : World ℕ} {names : List TaskName} (sealing : IsSealed world n
         ∙ going_but_groups now_part there same_there it_there.kept (after mount)
         ∙ sym (going_alike there names kept_there (apart_there go b) (after mount) in_there
         (ap (λ ts. is_own world names ts (after mount)) (same_members world names) ∙ own_after h)) ∙ ap
-        (λ w. going nat_eq w (after mount)) (one_part world names sealing.is names here there
+        (λ w. going nat_eq w (after mount)) (one_part sealing.is
         (ended_less (all_stay go b))) ∙ going_alike here names kept_here (apart_here go b) (after mount)
         (among-map after world.mounts mount at) (own_after h)
 

@@ -64,10 +64,10 @@ module _ {world : World ℕ} {names : List TaskName} {gone : List ℕ} (go : The
       (theirs_there : ChangesTheirs living_part names used_now step) where
     -- both worlds are ready to be swept
     ready_here : Ready (without_dead_mounts nat_eq (with_filesystems here step)) names used_now lowers_now
-    ready_here = stepped_ready living names used_now lowers_now (ended_ready stay leaves) step theirs
+    ready_here = stepped_ready (ended_ready stay leaves) theirs
 
     ready_there : Ready (without_dead_mounts nat_eq (with_filesystems there step)) names used_now lowers_now
-    ready_there = stepped_ready living_part names used_now lowers_now (ended_part_ready stay leaves) step theirs_there
+    ready_there = stepped_ready (ended_part_ready stay leaves) theirs_there
 
     -- their parts before the sweep
     abbrev is_less : AreLess world names names here there
@@ -76,10 +76,9 @@ module _ {world : World ℕ} {names : List TaskName} {gone : List ℕ} (go : The
     parts_before : part_of nat_eq (with_filesystems here step) names
         ≡ part_of nat_eq (with_filesystems there step) names
     parts_before = part_with_layers here names step theirs.numbered theirs.changing theirs.lowering theirs.kept
-        ∙ ap (λ w. with_filesystems w step) (sym (one_part world names go.is names here there is_less))
+        ∙ ap (λ w. with_filesystems w step) (sym (one_part go.is is_less))
         ∙ sym (part_with_layers there names step theirs_there.numbered theirs_there.changing theirs_there.lowering
-        (λ x unused. theirs_there.kept x (ap (is_among nat_eq x.number)
-        (sym (less_used world names go.is names here there is_less)) ∙ unused)))
+        (λ x unused. theirs_there.kept x (ap (is_among nat_eq x.number) (sym (less_used go.is is_less)) ∙ unused)))
 
     swept_alike : part_of nat_eq (settled nat_eq (with_filesystems here step)) names
         ≡ part_of nat_eq (settled nat_eq (with_filesystems there step)) names
@@ -95,12 +94,11 @@ module _ {world : World ℕ} {names : List TaskName} {gone : List ℕ} (go : The
         → part_of nat_eq (numbers_raised nat_eq world name numbers (settled nat_eq (with_filesystems here step))) names
         ≡ part_of nat_eq (numbers_raised nat_eq part name numbers (settled nat_eq (with_filesystems there step))) names
     detached_and_changed name numbers used =
-        raised_part (with_filesystems here step) names used_now lowers_now ready_here numbers used world name
+        raised_part (with_filesystems here step) ready_here numbers used world name
         ∙ (λ i. record (with_filesystems (swept_alike i) (raised_if_changed nat_eq numbers)) {
           namespaces = (sym (raised_alike stay) ∙ ap (λ ts. filter (spaces ts)
               (map (raised_namespace nat_eq part (settled nat_eq there)) there.namespaces))
               (sym (same_members world names))) i;
           tasks = (raised_members names name world.tasks ∙ ap (map (raised_task name)) (sym (same_members world names))
               ∙ sym (raised_members names name part.tasks)) i;
-        })
-        ∙ sym (raised_part (with_filesystems there step) names used_now lowers_now ready_there numbers used part name)
+        }) ∙ sym (raised_part (with_filesystems there step) ready_there numbers used part name)

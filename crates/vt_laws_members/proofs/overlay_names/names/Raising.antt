@@ -9,7 +9,7 @@ use Rattle.vt_laws_members.proofs.changes.letting_go.Sweep.{used_of_settled}
 use Rattle.vt_laws_members.proofs.changes.tasks.Retasked.{retasked}
 
 -- A world that is ready to be swept, and numbers of filesystems that the set uses
-module _ (w : World ℕ) (set : List TaskName) (used : List ℕ) (lowers : List (Layer ℕ))
+module _ (w : World ℕ) {set : List TaskName} {used : List ℕ} {lowers : List (Layer ℕ)}
     (ready : Ready (without_dead_mounts nat_eq w) set used lowers) (numbers : List ℕ)
     (theirs : (n : ℕ) → Among n numbers → is_among nat_eq n used ≡ true) where
   abbrev pub raise : Filesystem ℕ → Filesystem ℕ

@@ -21,11 +21,12 @@ use Rattle.vt_laws_members.proofs.overlay_names.names.Raising.{raised_part}
 use Rattle.vt_laws_members.proofs.overlay_names.names.SteppedReady.{ChangesTheirs, stepped_ready}
 
 -- A world after the last step, in which mounts stay
-module _ (before : World ℕ) (in_use : AllInUse before) (private_ones : DetachedArePrivate before) (set : List TaskName)
-    (tasks : List (Task ℕ)) (step : Filesystem ℕ → Filesystem ℕ) (name : TaskName) (numbers used : List ℕ)
-    (lowers : List (Layer ℕ))
+module _ {before : World ℕ} (in_use : AllInUse before) (private_ones : DetachedArePrivate before)
+    {set : List TaskName} (tasks : List (Task ℕ)) (step : Filesystem ℕ → Filesystem ℕ) (name : TaskName)
+    (numbers : List ℕ) {used : List ℕ} {lowers : List (Layer ℕ)}
     (ready : Ready (without_dead_mounts nat_eq (with_filesystems (record before { tasks = tasks }) step)) set used
-    lowers) (theirs : (n : ℕ) → Among n numbers → is_among nat_eq n used ≡ true) where
+    lowers)
+    (theirs : (n : ℕ) → Among n numbers → is_among nat_eq n used ≡ true) where
   abbrev changed : World ℕ
   changed = with_filesystems (record before { tasks = tasks }) step
 
@@ -33,7 +34,7 @@ module _ (before : World ℕ) (in_use : AllInUse before) (private_ones : Detache
       ≡ record (with_filesystems (part_of nat_eq (settled nat_eq changed) set) (raised_if_changed nat_eq numbers)) {
         tasks = filter (is_member_task set) (map (raised_task name) tasks);
       }
-  part_of_raised = raised_part changed set used lowers ready numbers theirs before name
+  part_of_raised = raised_part changed ready numbers theirs before name
       ∙ (λ i. record (with_filesystems (part_of nat_eq (settled nat_eq changed) set)
       (raised_if_changed nat_eq numbers)) {
         namespaces = filter (λ (n : Namespace ℕ). is_own_namespace nat_eq changed set n.number)
@@ -70,15 +71,15 @@ module _ {world : World ℕ} {names set : List TaskName} {name : TaskName} {call
         (theirs_there : ChangesTheirs living_part set used_now step)
       where
         ready : Ready (without_dead_mounts nat_eq (with_filesystems now step)) set used_now lowers_now
-        ready = stepped_ready living set used_now lowers_now
-            (world_ready left.sealing set left.tasks world.change left.lets) step theirs
+        ready = stepped_ready
+            (world_ready left.sealing set left.tasks world.change left.lets) theirs
 
         ready_there : Ready (without_dead_mounts nat_eq (with_filesystems now_part step)) set used_now lowers_now
-        ready_there = stepped_ready living_part set used_now lowers_now (part_ready left world.change part.change) step
+        ready_there = stepped_ready (part_ready left world.change part.change)
             theirs_there
 
         used_there : used_filesystems nat_eq now_part set ≡ used_now
-        used_there = less_used world names left.is set now now_part
+        used_there = less_used left.is
             (now_less left.is left.tasks_too part.change
             (sees_less left.sealing set left.tasks world.change left.lets) left.same)
 
@@ -106,13 +107,13 @@ module _ {world : World ℕ} {names set : List TaskName} {name : TaskName} {call
 
           parts_left : part_of nat_eq ends_here set ≡ part_of nat_eq ends_there set
           parts_left =
-              part_of_raised world (all_in_use world left.is) (private_in_world world left.is) set left.tasks step name
-              numbers used_now lowers_now ready used
+              part_of_raised (all_in_use world left.is) (private_in_world world left.is) left.tasks step name
+              numbers ready used
               ∙ (λ i. record (with_filesystems (swept_parts i) (raised_if_changed nat_eq numbers)) {
                 tasks = (raised_members set name left.tasks ∙ ap (map (raised_task name)) (sym left.same)
                     ∙ sym (raised_members set name left.tasks_too)) i;
-              }) ∙ sym (part_of_raised part (part_in_use left.sealing)
-              (private_in_part world names left.is) set left.tasks_too step name numbers used_now lowers_now ready_there
+              }) ∙ sym (part_of_raised (part_in_use left.sealing)
+              (private_in_part world names left.is) left.tasks_too step name numbers ready_there
               used)
 
           pub stepped_ends : (task : Task ℕ) → task_called world name ≡ Some task → (fresh other : Fresh ℕ)

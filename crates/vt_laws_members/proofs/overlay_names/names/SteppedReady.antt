@@ -18,8 +18,8 @@ pub record ChangesTheirs (a : World ℕ) (set : List TaskName) (used : List ℕ)
   pub kept : (x : Filesystem ℕ) → is_among nat_eq x.number used ≡ false → step x ≡ x
   pub moved : (x : Filesystem ℕ) → Among x a.filesystems → (step x ≡ x) ⊎ Alone a set x.number
 
-module _ (a : World ℕ) (set : List TaskName) (used : List ℕ) (lowers : List (Layer ℕ)) (it : Ready a set used lowers)
-    (step : Filesystem ℕ → Filesystem ℕ) (theirs : ChangesTheirs a set used step) where
+module _ {a : World ℕ} {set : List TaskName} {used : List ℕ} {lowers : List (Layer ℕ)}
+    (it : Ready a set used lowers) {step : Filesystem ℕ → Filesystem ℕ} (theirs : ChangesTheirs a set used step) where
   abbrev later : World ℕ
   later = with_filesystems a step
 

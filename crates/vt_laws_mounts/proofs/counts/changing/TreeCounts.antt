@@ -56,7 +56,7 @@ changed_counts uses node inodes place change counted same none some = by (inodes
         node_kept n = ⊎_elim (λ t. ap node t.1 ∙ no_node ∙ sym (ap change no_node ∙ none)
             ∙ sym (ap (λ b. cond b (change (node place)) (node n)) t.0))
             (λ t. sym (ap (λ b. cond b (change (node place)) (node n)) t.0)) (eqb_tells n place)
-    by (Some inode) is = counted_changed uses node inodes counted place inode is change (some inode.node).0
+    by (Some inode) is = counted_changed counted place is change (some inode.node).0
         (some inode.node).1
 
 -- the nodes of inodes that are changed
@@ -216,8 +216,7 @@ module _ (base : ℕ → ℕ) (node : ℕ → Option (Node ℕ)) (numbers : List
         let inode = some_inode (inodes_on.inode object)
         (counted_some uses node_on inodes_on counted_on object object_used) in
         other_uses (λ n. one_if n object + uses n) (uses_of base node_on numbers) node_on
-        (with_name nat_eq inodes directory name object) more
-        (counted_pinned uses node_on inodes_on counted_on object inode.0 inode.1);
+        (with_name nat_eq inodes directory name object) more (counted_pinned counted_on object inode.1);
     once = λ n. once n ∙ ap (λ b. cond b 1 0) (sym (part_at is_some node directory (node_with_entry name object)
         (is_some-node_with_entry name object (node directory)) n));
   }

@@ -39,8 +39,8 @@ pub some_inode : (o : Option (Inode ℕ)) → is_some o ≡ true → (inode : In
 some_inode None e = cc
 some_inode (Some inode) e = (inode, refl)
 
-module _ (uses : ℕ → ℕ) (node : ℕ → Option (Node ℕ)) (inodes : Inodes ℕ) (counted : IsCounted uses node inodes)
-    (place : ℕ) (inode : Inode ℕ) (is : inodes.inode place ≡ Some inode) where
+module _ {uses : ℕ → ℕ} {node : ℕ → Option (Node ℕ)} {inodes : Inodes ℕ} (counted : IsCounted uses node inodes)
+    (place : ℕ) {inode : Inode ℕ} (is : inodes.inode place ≡ Some inode) where
   here_uses : inode.uses ≡ uses place
   here_uses = sym (ap uses_in is) ∙ counted.uses_are place
 

@@ -46,7 +46,7 @@ module _ (k : ℕ) (node : ℕ → Option (Node ℕ)) where
           (λ n. let here : cond (nat_eq k first.0 && nat_eq n first.1) 1 0
           ≡ one_if n first.1 = ap (λ b. cond (b && nat_eq n first.1) 1 0) e in omega arith)
           (later (λ n. one_if n first.1 + uses n) (Trees.pinned nat_eq inodes first.1)
-          (counted_pinned uses node inodes counted first.1 inode.0 inode.1)
+          (counted_pinned counted first.1 inode.1)
           (λ other m same. let some = used other (inr m) same in omega arith))
       by false e later = other_uses (λ n. uses n + times (is_inode k n) rest)
           (λ n. uses n + (cond (nat_eq k first.0 && nat_eq n first.1) 1 0 + times (is_inode k n) rest)) node

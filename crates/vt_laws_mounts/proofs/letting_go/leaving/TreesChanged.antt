@@ -67,7 +67,7 @@ module _ (world : World ℕ) (number : ℕ) (files : FileTree ℕ) (in_use : All
   same_living = ap (without_dead_filesystems nat_eq) (mounts_stay with_new in_use.mounts)
       ∙ filesystems_stay with_new filesystems_after
 
-module _ (world : World ℕ) (number : ℕ) (files : FileTree ℕ) (unnamed : List ℕ) (settles : IsSettledPlain world)
+module _ {world : World ℕ} (number : ℕ) {files : FileTree ℕ} {unnamed : List ℕ} (settles : IsSettledPlain world)
     (there : is_among nat_eq number (map (λ filesystem. filesystem.number) world.filesystems) ≡ true)
     (changes : ChangesTree (filesystem_numbered nat_eq world number).files files unnamed) where
   abbrev old : Filesystem ℕ
@@ -151,8 +151,7 @@ module _ (world : World ℕ) (number : ℕ) (files : FileTree ℕ) (unnamed : Li
       })
 
 pub unnamed_go : UnnamedGo
-unnamed_go world number files unnamed settles there changes =
-    unnamed_goes world number files unnamed settles there changes
+unnamed_go world number files unnamed settles there changes = unnamed_goes number settles there changes
 
 pub named_stay : NamedStay
-named_stay world number files settles there changes = unnamed_goes world number files [] settles there changes
+named_stay world number files settles there changes = unnamed_goes number settles there changes

@@ -23,7 +23,7 @@ pub record AlikeWhereSeen (one other : Looks ℕ) (task : Task ℕ) (Own : ℕ �
   pub lost : (here : Location ℕ) → Own here.mount → Seen (mount_at one here).filesystem
       → is_lost nat_eq one here ≡ is_lost nat_eq other here
 
-module _ (one other : Looks ℕ) (task : Task ℕ) (Own : ℕ → Type 0) (Seen : ℕ → Type 0)
+module _ {one other : Looks ℕ} {task : Task ℕ} {Own : ℕ → Type 0} {Seen : ℕ → Type 0}
     (alike : AlikeWhereSeen one other task Own Seen) where
   abbrev Fs : Location ℕ → ℕ
   Fs here = (mount_at one here).filesystem
@@ -115,7 +115,7 @@ module _ (one other : Looks ℕ) (task : Task ℕ) (Own : ℕ → Type 0) (Seen 
         by.1,
       )
 
-module _ (one other : Looks ℕ) (task : Task ℕ) (own seen : ℕ → Bool)
+module _ {one other : Looks ℕ} {task : Task ℕ} {own seen : ℕ → Bool}
     (alike : ShowAlikeWhereSeen one other task own seen) where
   all_alike : AlikeWhereSeen one other task (λ number. own number ≡ true) (λ filesystem. seen filesystem ≡ true)
   all_alike = record {
@@ -131,14 +131,14 @@ module _ (one other : Looks ℕ) (task : Task ℕ) (own seen : ℕ → Bool)
   }
 
   both_pass : (found : Result (Location ℕ) Deny)
-      → IfOk found (Good one other task (λ number. own number ≡ true) (λ filesystem. seen filesystem ≡ true) all_alike)
+      → IfOk found (Good all_alike)
       → IfOk found (λ there. (own there.mount && seen (mount_at one there).filesystem) ≡ true)
   both_pass (Ok there) good = and_from (own there.mount) (seen (mount_at one there).filesystem) good.0 good.1
   both_pass (Err deny) good = tt
 
 pub steps_lead_alike : StepsAgree
 steps_lead_alike one other task own seen alike here word is met =
-    let step = stepped_agrees one other task (λ number. own number ≡ true) (λ filesystem. seen filesystem ≡ true)
-    (all_alike one other task own seen alike) here is word
+    let step = stepped_agrees
+    (all_alike alike) here is word
     (λ filesystem m. met filesystem (contains_from_among (met_by nat_eq one task here word) filesystem m)) in
-    (step.0, both_pass one other task own seen alike (stepped nat_eq one task here word) step.1)
+    (step.0, both_pass alike (stepped nat_eq one task here word) step.1)

@@ -107,8 +107,7 @@ module _ (fresh : Fresh ℕ) (stack : Stack ℕ) (before : Merge ℕ) (fit : IsF
       record {
         tree = ap (λ m. (merge_with_link nat_eq m directory name object).files) ready.soundly.is;
         reaches = subst (λ m. ReachesUpper m (merge_with_link nat_eq m directory name object)
-            (AddName directory name object)) (sym ready.soundly.is)
-            (λ reached. linked_named before.files before.real nothing_spared ready.soundly.real ready.soundly.upper
+            (AddName directory name object)) (sym ready.soundly.is) (λ reached. linked_named
             ready.soundly.sound directory seen.0 seen.1 reached name object);
         stands = stands_now fresh before fit nothing_spared
             (line_to nat_eq before.files object ++ line_to nat_eq before.files directory) _ ready;

@@ -44,8 +44,8 @@ other_name_stays hidden fresh stack upper directory other old name apart new =
     grind (arith, common_steps, apart, ne_eqb, node_set, name_stays_put, kept_elsewhere, eqb_tells, name_stays_without)
 
 -- Changes of an overlay where what they ask is copied
-module _ (files : FileTree ℕ) (first : ℕ → Option (Real ℕ)) (spare : ℕ → Type 0) (real : ℕ → Option (Real ℕ))
-    (upper : FileTree ℕ) (sound : IsSound files first spare real upper) where
+module _ {files : FileTree ℕ} {first : ℕ → Option (Real ℕ)} {spare : ℕ → Type 0} {real : ℕ → Option (Real ℕ)}
+    {upper : FileTree ℕ} (sound : IsSound files first spare real upper) where
   abbrev here : Merge ℕ
   here = State files first spare real upper
 
@@ -77,7 +77,7 @@ module _ (files : FileTree ℕ) (first : ℕ → Option (Real ℕ)) (fresh : Fre
   is_old : (number seen : ℕ) → upper_object (real number) ≡ Some seen → upper_of there number ≢ fresh 0
   is_old number seen has same = sound.spared number seen has (
     0,
-    sym (upper_is files first (IsNewBy fresh) real upper sound number seen has) ∙ same,
+    sym (upper_is sound number seen has) ∙ same,
   )
 
   module _ (directory : ℕ) (name : List ℕ) (number : ℕ) (node : Node ℕ) (seen : ℕ)
@@ -128,7 +128,7 @@ module _ (files : FileTree ℕ) (first : ℕ → Option (Real ℕ)) (fresh : Fre
         (node_without_entry old) (without_entry_keeps old).directory (upper_of there to)
         ∙ freed_part is_directory_node (λ change keeps. keeps.directory) freed replaced (upper_of there to)
         ∙ emptied_part is_directory_node (λ change keeps. keeps.directory) upper (upper_directory_named there to name)
-        (upper_of there to) ∙ directory_there files first (IsNewBy fresh) real upper sound to seen_to has_to reached
+        (upper_of there to) ∙ directory_there sound to seen_to has_to reached
 
     away_named : entry_at away.tree (upper_of there to) name ≡ Some (upper_of there object)
     away_named =

@@ -18,8 +18,8 @@ same_directory None (Some other) same = absurd same
 same_directory (Some node) None same = absurd same
 same_directory (Some node) (Some other) same = sym (same_content_kind node.content other.content same.1)
 
-module _ (world : World ℕ) (conditions : IsWorld nat_eq world) (number : ℕ) (overlay : Overlay ℕ)
-    (is : (filesystem_numbered nat_eq world number).overlay ≡ Some overlay) (upper : Layer ℕ)
+module _ {world : World ℕ} (conditions : IsWorld nat_eq world) (number : ℕ) {overlay : Overlay ℕ}
+    (is : (filesystem_numbered nat_eq world number).overlay ≡ Some overlay) {upper : Layer ℕ}
     (has : overlay.upper ≡ Some upper) where
   abbrev merged : Filesystem ℕ
   merged = filesystem_numbered nat_eq world number
@@ -70,4 +70,4 @@ pub overlays_are_fit : (fresh : Fresh ℕ) (world : World ℕ) (number : ℕ) (o
     → ((j k : ℕ) → fresh j ≡ fresh k → j ≡ k) → ((k : ℕ) → inode_in world upper.filesystem (fresh k) ≡ None)
     → IsFitToChange fresh (merge_of nat_eq world (filesystem_numbered nat_eq world number) overlay upper)
 overlays_are_fit fresh world number overlay upper conditions is has distinct vacant =
-    overlay_is_fit world conditions number overlay is upper has fresh distinct vacant
+    overlay_is_fit conditions number is has fresh distinct vacant

@@ -84,8 +84,8 @@ lowers_have (first ∷ lowers) depth place object layer path there is at d =
     by place f e o a rest = grind (arith, common_steps, over, shown_from, here, below)
 
 -- The name of a directory of the overlay in the upper layer
-module _ (stack : Stack ℕ) (merge : Merge ℕ) (whole : IsWhole stack merge) (d ud : ℕ) (w : List ℕ) (object uo : ℕ)
-    (named : entry_at merge.files.tree d w ≡ Some object) (real_d : merge.real d ≡ Some (Upper ud))
+module _ {stack : Stack ℕ} {merge : Merge ℕ} (whole : IsWhole stack merge) (d ud : ℕ) (w : List ℕ) {object : ℕ}
+    (uo : ℕ) (named : entry_at merge.files.tree d w ≡ Some object) (real_d : merge.real d ≡ Some (Upper ud))
     (real_o : merge.real object ≡ Some (Upper uo)) where
   pub way : (q : List (List ℕ)) × (number_at_path merge.files q ≡ Some d)
   way = let reached = is_reached_in merge.files whole.tree d w object named in

@@ -265,7 +265,7 @@ module _ (fresh : Fresh ℕ) (stack : Stack ℕ) (merge : Merge ℕ) (whole : Is
           own : (b : Bool) → is_directory_node (merge.files.tree.node o) ≡ b
               → hides (upper.tree.node k) ≡ hides (merge.upper.tree.node k)
           own true d =
-              absurd (true≢false (sym (one_named stack merge whole f uf old o uo may.named real_f real_o d front
+              absurd (true≢false (sym (one_named whole f uf old uo may.named real_f real_o d front
               (l ∙ ap Some (eqb-true k uo e))) ∙ named_not uf old front no_old))
           own false d =
               let hid : hides (merge.upper.tree.node k) ≡ true =

@@ -66,16 +66,16 @@ module _ (fresh : Fresh ℕ) {stack : Stack ℕ} {merge : Merge ℕ} (whole : Is
   ut_directory = directory_stands stack merge whole t ut real_t ∙ may.in_directory
 
   abbrev pub from_way : List (List ℕ)
-  from_way = (way stack merge whole f uf old o uo may.named real_f real_o).0
+  from_way = (way whole f uf old uo may.named real_f real_o).0
 
   pub from_number : number_at_path merge.files from_way ≡ Some f
-  from_number = (way stack merge whole f uf old o uo may.named real_f real_o).1
+  from_number = (way whole f uf old uo may.named real_f real_o).1
 
   pub up_from : led merge.upper.tree stack.directory from_way ≡ Some uf
-  up_from = up_way stack merge whole f uf old o uo may.named real_f real_o
+  up_from = up_way whole f uf old uo may.named real_f real_o
 
   pub named_up : entry_at merge.upper.tree uf old ≡ Some uo
-  named_up = named_in_upper stack merge whole f uf old o uo may.named real_f real_o
+  named_up = named_in_upper whole f uf old uo may.named real_f real_o
 
   -- names behind the old name, in the overlay and in the upper layer
   pub number_behind : (rest : List (List ℕ))
@@ -354,7 +354,7 @@ module _ (fresh : Fresh ℕ) {stack : Stack ℕ} {merge : Merge ℕ} (whole : Is
 
         named_so : (p : List (List ℕ)) → led merge.upper.tree stack.directory p ≡ Some r
             → names_entry before ut new p ≡ true
-        named_so p l = one_named stack merge whole t ut new own.0 r own.1 real_t own.2 own.3 p l
+        named_so p l = one_named whole t ut new r own.1 real_t own.2 own.3 p l
 
         -- behind the object
         behind : (rest : List (List ℕ)) → led merge.upper.tree uo rest ≡ Some r → ⊥

@@ -103,13 +103,13 @@ pub change_reaches : (files : FileTree ℕ) (change : Change ℕ) → IsTree fil
 change_reaches files (Make d w c node) conditions may number spares is reached =
     made_reached files d w c node conditions may number is reached
 change_reaches files (AddName d w object) conditions may number spares is reached =
-    let moves = linked_rearranged files d w object conditions may in (
+    let moves = linked_rearranged files conditions may in (
       moves.directories number ∙ is,
       rearranged_reached files.tree (changed nat_eq files (AddName d w object)).tree Nobody Nowhere moves
           (changes_keep_trees files (AddName d w object) conditions may) refl number (λ no. no) is reached,
     )
 change_reaches files (Remove d w object) conditions may number spares is reached =
-    let moves = removed_rearranged files d w object conditions may in (
+    let moves = removed_rearranged files conditions may in (
       moves.directories number ∙ is,
       rearranged_reached files.tree (changed nat_eq files (Remove d w object)).tree _ Nowhere moves
           (changes_keep_trees files (Remove d w object) conditions may) refl number spares is reached,

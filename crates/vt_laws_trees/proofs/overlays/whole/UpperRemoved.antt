@@ -57,7 +57,7 @@ module _ {stack : Stack ℕ} {merge : Merge ℕ} (whole : IsWhole stack merge) (
     own = own_upper merge d w r is
 
     pub own_entry : entry_at merge.upper.tree ud w ≡ Some r
-    own_entry = named_in_upper stack merge whole d ud w own.0 r own.1 real_d own.2
+    own_entry = named_in_upper whole d ud w r own.1 real_d own.2
 
     pub own_leaves : (word : List ℕ) (k : ℕ) → entry_at merge.upper.tree r word ≡ Some k
         → is_directory_node (merge.upper.tree.node k) ≡ false

@@ -28,7 +28,7 @@ then_if : {A B : Type 0} (P : A → Type 0) (a : Result A (Stop ℕ)) (f g : A �
 then_if P (Ok x) f g p same = same x p
 then_if P (Err stop) f g p same = refl
 
-module _ (world later : World ℕ) (isw : IsWorld nat_eq world) (isl : IsWorld nat_eq later) (task : Task ℕ)
+module _ {world later : World ℕ} (isw : IsWorld nat_eq world) (isl : IsWorld nat_eq later) {task : Task ℕ}
     (stands : StandsAsItStood world later task) where
   abbrev before : Looks ℕ
   before = one world later isw isl task stands.mounts
@@ -577,5 +577,5 @@ module _ (world later : World ℕ) (isw : IsWorld nat_eq world) (isl : IsWorld n
 
 pub first_words_lead_alike : FirstWordsLeadAlike
 first_words_lead_alike world later task aim path count isw isl stands kept =
-    words_lead_alike world later isw isl task stands aim path count (λ f m.
+    words_lead_alike isw isl stands aim path count (λ f m.
     kept f (contains_from_among (met_in (words_walked_in count world task aim path)) f m))

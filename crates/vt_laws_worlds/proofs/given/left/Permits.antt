@@ -9,7 +9,7 @@ use Rattle.vt_laws_worlds.proofs.overlay_permits.worlds.EveryCall.{overlays_kept
 use Rattle.vt_laws_worlds.proofs.overlay_permits.worlds.SweptWorlds.{settled_is_a_world}
 use Rattle.vt_laws_worlds.specs.Given.LeftWorlds.{GivenPermitsAreUnderWayAnywhere, GivenPermitsLeaveEveryWorld, IsGivenToTask}
 
-module _ (world : World ℕ) (fresh : Fresh ℕ) (task : Task ℕ) (permit : Permit ℕ) (is : IsWorld nat_eq world)
+module _ {world : World ℕ} {fresh : Fresh ℕ} {task : Task ℕ} {permit : Permit ℕ} (is : IsWorld nat_eq world)
     (given : IsGivenToTask fresh world task permit) where
   abbrev IsReady : World ℕ → Type 0
   IsReady w = IsUnderWay w × OverlayInvariants nat_eq w
@@ -40,9 +40,9 @@ module _ (world : World ℕ) (fresh : Fresh ℕ) (task : Task ℕ) (permit : Per
   ready = subst IsReady applied (outcome_ready (mounts_overlay given.call) refl)
 
 pub given_permits_are_under_way_anywhere : GivenPermitsAreUnderWayAnywhere
-given_permits_are_under_way_anywhere = ready
+given_permits_are_under_way_anywhere world fresh task permit is given = ready is given
 
 pub given_permits_leave_every_world : GivenPermitsLeaveEveryWorld
 given_permits_leave_every_world world fresh task permit is given =
-    let before = ready world fresh task permit is given in
+    let before = ready is given in
     settled_is_a_world (apply nat_eq fresh world task permit).world before.0 before.1

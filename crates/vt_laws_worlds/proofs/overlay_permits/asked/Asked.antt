@@ -24,8 +24,8 @@ use Rattle.vt_laws_worlds.proofs.worlds.CallsKept.{new_numbers}
 use Rattle.vt_laws_worlds.proofs.worlds.ReachedWalks.{Found, link_walk_found, object_end}
 use Rattle.vt_laws_trees.proofs.trees.PlacesReached.{NewPlace, file_is, new_is, new_leaf_is, old_is, old_leaf_is, rename_new_is}
 
-module _ (world : World ℕ) (whole : IsWorld nat_eq world) (task : Task ℕ)
-    (called : task_called world task.name ≡ Some task) (fresh : Fresh ℕ) (serves : Serves nat_eq world fresh) where
+module _ {world : World ℕ} (whole : IsWorld nat_eq world) {task : Task ℕ}
+    (called : task_called world task.name ≡ Some task) {fresh : Fresh ℕ} (serves : Serves nat_eq world fresh) where
   abbrev looks : Looks ℕ
   looks = looks_of nat_eq world
 
@@ -208,5 +208,5 @@ module _ (world : World ℕ) (whole : IsWorld nat_eq world) (task : Task ℕ)
 
 pub permits_ask_well : PermitsAskWell
 permits_ask_well world fresh task call permit whole serves called judged =
-    granted_asks world whole task called fresh serves call permit
+    granted_asks whole called serves call permit
     (calls_are_granted nat_eq (looks_of nat_eq world) (overfills nat_eq fresh world task) task call permit judged)

@@ -20,8 +20,8 @@ layers_both : (a b c : World ℕ) (number : ℕ) (overlay : Overlay ℕ) (first 
 layers_both a b c number overlay first second = grind (arith, common_steps, leads_both)
 
 -- A line that changes nothing through the overlay, and leaves it live
-module _ (world : World ℕ) (is : IsWorld nat_eq world) (number : ℕ) (overlay : Overlay ℕ)
-    (was : (filesystem_numbered nat_eq world number).overlay ≡ Some overlay) (fresh : Fresh ℕ)
+module _ {world : World ℕ} (is : IsWorld nat_eq world) (number : ℕ) {overlay : Overlay ℕ}
+    (was : (filesystem_numbered nat_eq world number).overlay ≡ Some overlay) {fresh : Fresh ℕ}
     (serves : Serves nat_eq world fresh) where
   abbrev IsApart : Option Request → Type 0
   IsApart request = (name : TaskName) (call : Call) → request ≡ Some (Calling name call)
@@ -60,7 +60,7 @@ lines_leave grammar number world (line ∷ lines) (true ∷ refused) left overla
 lines_leave grammar number world (line ∷ lines) (false ∷ refused) left overlay is was leads =
     let next = step_world world (line_step nat_eq grammar world line (Some leads.0)) in
     let first : LayersStay world next number overlay =
-    line_leaves world is number overlay was leads.0 leads.1 (nat_lt longest_line (length line))
+    line_leaves is number was leads.1 (nat_lt longest_line (length line))
     (is_silent line) grammar line leads.2 leads.3 in
     layers_both world next left number overlay first (lines_leave grammar number next lines refused left first.after
     (line_keeps (nat_lt longest_line (length line))

@@ -146,8 +146,8 @@ module _ (chosen : Filesystem ℕ → Bool) (world : World ℕ) (files : HasFile
       (λ test e. ap (any_pair test) same_live ∙ e)
 
 -- What is left of an overlay
-module _ (world : World ℕ) (f : Filesystem ℕ) (overlay : Overlay ℕ) (used : List ℕ) (holds : HoldsTree used f.files)
-    (is : IsFileTree f.files) (was : IsMerged nat_eq world f overlay) where
+module _ {world : World ℕ} {f : Filesystem ℕ} {overlay : Overlay ℕ} {used : List ℕ}
+    (holds : HoldsTree used f.files) (is : IsFileTree f.files) (was : IsMerged nat_eq world f overlay) where
   abbrev Left : Overlay ℕ
   Left = real_among nat_eq used overlay
 
@@ -264,9 +264,9 @@ module _ (world : World ℕ) (files : HasFileTrees world)
         → GoesOn world first_later number after
     by_used found b same after e =
         let holds = named_is_used world f found.file_tree in
-        let left = left_by first_later f before (used_in nat_eq world f) holds found.file_tree still_merged b in
+        let left = left_by holds found.file_tree still_merged b in
         let left_is : left ≡ after = same_Some left after (sym (ap (λ (g : Filesystem ℕ). g.overlay) same
-        ∙ overlay_by first_later f before (used_in nat_eq world f) holds found.file_tree still_merged was b) ∙ e) in
+        ∙ overlay_by holds found.file_tree still_merged was b) ∙ e) in
         subst (GoesOn world first_later number) left_is (record {
           before = before;
           is = was;
@@ -274,7 +274,7 @@ module _ (world : World ℕ) (files : HasFileTrees world)
           work = works b;
           lowers = lowers b;
           merged = subst (λ g. IsMerged nat_eq first_later g left) (sym same)
-              (merged_by first_later f before (used_in nat_eq world f) holds found.file_tree still_merged b);
+              (merged_by holds found.file_tree still_merged b);
           objects = λ inode object. objects b inode object;
           leads = λ layer m. leads_same world first_later layer (layer_stays layer m);
           reached = λ top g. subst (λ (x : Filesystem ℕ). IsReached x.files.tree top.directory)
@@ -282,7 +282,7 @@ module _ (world : World ℕ) (files : HasFileTrees world)
         })
       where
         abbrev_left : Bool → Overlay ℕ
-        abbrev_left b = left_by first_later f before (used_in nat_eq world f)
+        abbrev_left b = left_by
             (named_is_used world f found.file_tree) found.file_tree still_merged b
 
         uppers : (b : Bool) → (abbrev_left b).upper ≡ before.upper

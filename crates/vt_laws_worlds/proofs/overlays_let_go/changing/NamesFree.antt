@@ -52,8 +52,8 @@ module _ (top : OpenLayer ℕ) (lower : List (OpenLayer ℕ)) (path : List (List
       by None f = f
       by (Some object) f = white object f (is_kind_in White (top.tree.node object)) refl
 
-module _ (world : World ℕ) (conditions : IsWorld nat_eq world) (number : ℕ) (overlay : Overlay ℕ)
-    (is : (filesystem_numbered nat_eq world number).overlay ≡ Some overlay) (upper : Layer ℕ)
+module _ {world : World ℕ} (conditions : IsWorld nat_eq world) (number : ℕ) {overlay : Overlay ℕ}
+    (is : (filesystem_numbered nat_eq world number).overlay ≡ Some overlay) {upper : Layer ℕ}
     (has : overlay.upper ≡ Some upper) where
   abbrev files : FileTree ℕ
   files = (filesystem_numbered nat_eq world number).files

@@ -149,7 +149,7 @@ module _ {fresh : Fresh ℕ} {world : World ℕ} {location : Location ℕ} {chan
       → entry_at before.upper.tree seen name ≡ None
 
   free : IsFree
-  free = names_free world conditions (mount_at nat_eq world location).filesystem overlay can.overlay_there upper
+  free = names_free conditions (mount_at nat_eq world location).filesystem can.overlay_there
       can.upper_there
 
   -- by each kind of change

@@ -334,8 +334,8 @@ only_these_lose_names fresh world location change overlay upper conditions can =
     ⊎_elim (λ named. absurd (true≢false (sym (named_among later_upper can.upper_tree k named)
     ∙ not-true (is_among nat_eq k (named_in later_upper)) from.1))) (λ gone. is_among_numbers k lost gone)
     (loses fresh (stack_of nat_eq world overlay upper) (merge_at world location overlay upper)
-    (fit conditions can) can.unused (names_free world conditions
-    (mount_at nat_eq world location).filesystem overlay can.overlay_there upper can.upper_there)
+    (fit conditions can) can.unused (names_free conditions
+    (mount_at nat_eq world location).filesystem can.overlay_there can.upper_there)
     change place.0 place.1 k place.2))
   where
     layer : Filesystem ℕ

@@ -11,7 +11,7 @@ use Rattle.vt_laws_trees.proofs.overlays.merged.Numbers.{overlays_are_merged_tre
 use Rattle.vt_laws_trees.proofs.overlays.seen.NamedTrees.{seen_trees_are_named}
 use Rattle.vt_laws_worlds.specs.OverlaysStay.Named.{SeenOverlaysHaveNames, SeenWorldsHaveNames}
 
-module _ (number_of : Real ℕ → ℕ) (world : World ℕ) (f : Filesystem ℕ) (overlay : Overlay ℕ)
+module _ {number_of : Real ℕ → ℕ} {world : World ℕ} {f : Filesystem ℕ} {overlay : Overlay ℕ}
     (merged : IsMergedTree world f overlay) (named : IsNamedBy number_of (λ inode. None) f overlay) where
   tree : IsListedTree f.files
   tree = record { tree = merged.tree; numbers = merged.numbers }
@@ -47,7 +47,7 @@ seen_overlays_have_names number_of longest world number overlay is was seen =
     let merged = overlays_are_merged_trees world number overlay is was in
     let named = seen_trees_are_named number_of (λ inode. None) longest world (filesystem_numbered nat_eq world number)
     overlay merged seen (λ inode object none. absurd cc) in
-    (named, only_named number_of world (filesystem_numbered nat_eq world number) overlay merged named)
+    (named, only_named merged named)
 
 pub seen_worlds_have_names : SeenWorldsHaveNames
 seen_worlds_have_names number_of longest world is seen =

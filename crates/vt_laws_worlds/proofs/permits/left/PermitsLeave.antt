@@ -10,10 +10,8 @@ use Rattle.vt_laws_worlds.specs.Worlds.Kept.{IsWorldButForUse}
 pub given_permits_are_under_way : GivenPermitsAreUnderWay
 given_permits_are_under_way world fresh task permit is plain given =
     subst (λ (outcome : Outcome ℕ). IsWorldButForUse outcome.world)
-    (applied world fresh task given.call permit is plain given.serves given.called given.no_overlay given.few_groups
-    given.judged)
-    (unsettled world fresh task given.call permit is plain given.serves given.called given.no_overlay given.few_groups
-    given.judged)
+    (applied given.call is plain given.serves given.called given.no_overlay given.few_groups given.judged)
+    (unsettled given.call is plain given.serves given.called given.no_overlay given.few_groups given.judged)
 
 pub given_permits_leave_worlds : GivenPermitsLeaveWorlds
 given_permits_leave_worlds world fresh task permit is plain given =

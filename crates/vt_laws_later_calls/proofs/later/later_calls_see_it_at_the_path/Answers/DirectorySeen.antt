@@ -154,16 +154,15 @@ module _ {world : World ℕ} {fresh : Fresh ℕ} {name : TaskName} {old new : Li
     new_told later_fresh = ⊎_elim (λ ends. inl (lstat_of later later_fresh reader reading called new _ ends.1
         ∙ ap (λ line. Ok (Told line)) (told_alike was (node_at nat_eq later place_after) kept)))
         (λ stop. inr (lstat_refused later later_fresh reader reading called new stop.0 stop.2 ∙ ap Err stop.1))
-        (symlink_named_too (looks_of nat_eq world)
-        (looks_of nat_eq later) it.did.task reading Missing KnownSo leads new to parts.to_named
+        (symlink_named_too leads new to parts.to_named
         (named_place (looks_of nat_eq world) it.did.task new to to_walked parts.to_named) place_after new_stepped
         (λ slash. (directory_no_link (node_at nat_eq later place_after) directory_after, directory_after)))
 
     old_missing : (later_fresh : Fresh ℕ)
         → (policy nat_eq later_fresh later reader (Lstat old)).answer ≡ Err (denial W6)
     old_missing later_fresh =
-        let stop = symlink_missing (looks_of nat_eq world)
-        (looks_of nat_eq later) it.did.task reading Missing KnownSo leads old from parts.from_named
+        let stop = symlink_missing
+        leads old from parts.from_named
         (named_place (looks_of nat_eq world) it.did.task old from parts.from_walked parts.from_named) (denial W6) refl
         (λ known.
         stepped_by later reading from.parent from.last parts.from_named None
@@ -174,8 +173,8 @@ module _ {world : World ℕ} {fresh : Fresh ℕ} {name : TaskName} {old new : Li
     -- its names
     list_walk : EndsThere Missing (directory_walk nat_eq (looks_of nat_eq later) reading new) place_after
         (named_place (looks_of nat_eq world) it.did.task new to to_walked parts.to_named).here.left
-    list_walk = directory_named_too (looks_of nat_eq world)
-        (looks_of nat_eq later) it.did.task reading Missing KnownSo leads new to parts.to_named
+    list_walk = directory_named_too
+        leads new to parts.to_named
         (named_place (looks_of nat_eq world) it.did.task new to to_walked parts.to_named) place_after new_stepped
         (directory_no_link (node_at nat_eq later place_after) directory_after) directory_after
 

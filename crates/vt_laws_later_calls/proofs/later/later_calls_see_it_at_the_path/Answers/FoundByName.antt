@@ -138,8 +138,7 @@ module _ {world : World ℕ} {fresh : Fresh ℕ} {name : TaskName} {old new : Li
       → (policy nat_eq other_fresh world name (Lstat old)).answer ≡ Ok (Told (stat_line before))
   old_told other_fresh =
       let walk = surely _ _ _
-      (symlink_named_too (looks_of nat_eq world) (looks_of nat_eq world) it.did.task it.did.task Never
-      (IsFound world it.is it.did.task)
+      (symlink_named_too
       (itself_leads Never world it.is it.plain it.did.task own) old from parts.from_named at_old place_before
       (λ known. old_stepped) (λ slash.
       let directory = is_directory_before (parts.from_slash (sym at_old.slash_is ∙ slash)) in
@@ -151,8 +150,7 @@ module _ {world : World ℕ} {fresh : Fresh ℕ} {name : TaskName} {old new : Li
       ⊎ ((policy nat_eq other_fresh world name (Ls old)).answer ≡ Err (denial C1))
   old_listed directory_there other_fresh =
       let directory = is_directory_before directory_there in
-      let walk = surely _ _ _ (directory_named_too (looks_of nat_eq world)
-      (looks_of nat_eq world) it.did.task it.did.task Never (IsFound world it.is it.did.task)
+      let walk = surely _ _ _ (directory_named_too
       (itself_leads Never world it.is it.plain it.did.task own) old from parts.from_named at_old place_before
       (λ known. old_stepped) (directory_no_link before directory) directory) in
       by (node_allows it.did.task.credentials read_right before)
@@ -182,11 +180,10 @@ module _ {world : World ℕ} {fresh : Fresh ℕ} {name : TaskName} {old new : Li
 
       -- the directory is found, through this mount
       parent_found : IsFound later left_is.0 reading lead.place.parent
-      parent_found = ⊎_elim (λ ends. parent_known (looks_of nat_eq later) (looks_of nat_eq later) reading reading Never
-          (IsFound later left_is.0 reading) (itself_leads Never later left_is.0 left_is.1 reading
+      parent_found = ⊎_elim (λ ends. parent_known
+          (itself_leads Never later left_is.0 left_is.1 reading
           (own_name later reader reading called)) path lead.place named_so at_name ends.1) (λ stop. absurd stop.1)
-          (front_too (looks_of nat_eq later) (looks_of nat_eq later) reading reading Never
-          (IsFound later left_is.0 reading) (itself_leads Never later left_is.0 left_is.1 reading
+          (front_too (itself_leads Never later left_is.0 left_is.1 reading
           (own_name later reader reading called)) path lead.place named_so at_name)
 
       parent_fs : (mount_at nat_eq later lead.place.parent).filesystem ≡ fs
@@ -244,8 +241,7 @@ module _ {world : World ℕ} {fresh : Fresh ℕ} {name : TaskName} {old new : Li
           → (later_fresh : Fresh ℕ)
           → (policy nat_eq later_fresh later reader (Lstat path)).answer ≡ Ok (Told (stat_line before))
       new_told slashed later_fresh =
-          let walk = surely _ _ _ (symlink_named_too (looks_of nat_eq later)
-          (looks_of nat_eq later) reading reading Never (IsFound later left_is.0 reading)
+          let walk = surely _ _ _ (symlink_named_too
           (itself_leads Never later left_is.0 left_is.1 reading (own_name later reader reading called)) path lead.place
           (named_so to.parent to.last parts.to_named to_fs lead)
           (at_name to.parent to.last parts.to_named to_fs lead) place_after (λ known. new_stepped)
@@ -259,8 +255,7 @@ module _ {world : World ℕ} {fresh : Fresh ℕ} {name : TaskName} {old new : Li
           ⊎ ((policy nat_eq later_fresh later reader (Ls path)).answer ≡ Err (denial C1))
       new_listed directory_there later_fresh =
           let now = directory_after directory_there in
-          let walk = surely _ _ _ (directory_named_too (looks_of nat_eq later)
-          (looks_of nat_eq later) reading reading Never (IsFound later left_is.0 reading)
+          let walk = surely _ _ _ (directory_named_too
           (itself_leads Never later left_is.0 left_is.1 reading (own_name later reader reading called)) path lead.place
           (named_so to.parent to.last parts.to_named to_fs lead)
           (at_name to.parent to.last parts.to_named to_fs lead) place_after
@@ -280,8 +275,8 @@ module _ {world : World ℕ} {fresh : Fresh ℕ} {name : TaskName} {old new : Li
         → (policy nat_eq later_fresh later reader (Lstat path)).answer ≡ Err (denial W6)
     old_gone lead later_fresh =
         let named : is_special lead.place.last ≡ false = named_so from.parent from.last parts.from_named refl lead in
-        let stop = symlink_missing (looks_of nat_eq later) (looks_of nat_eq later) reading reading Missing
-        (IsFound later left_is.0 reading) (itself_leads Missing later left_is.0 left_is.1 reading
+        let stop = symlink_missing
+        (itself_leads Missing later left_is.0 left_is.1 reading
         (own_name later reader reading called)) path lead.place named
         (at_name from.parent from.last parts.from_named refl lead) (denial W6) refl (λ known.
         stepped_by later reading lead.place.parent lead.place.last named None

@@ -113,8 +113,8 @@ module _ {world : World ℕ} {fresh : Fresh ℕ} {name : TaskName} {old new : Li
   there reader reading called stands looks later_fresh =
       let own = own_name later reader reading called in
       let at_name = named_place (looks_of nat_eq world) it.did.task new place parts.walked parts.named in
-      let walk = surely _ _ _ (symlink_named_too (looks_of nat_eq world)
-      (looks_of nat_eq later) it.did.task reading Never _ (leads changes stay reading own stands rights looks) new
+      let walk = surely _ _ _ (symlink_named_too
+      (leads changes stay reading own stands rights looks) new
       place parts.named at_name
       (record { mount = place.parent.mount; node = object.node }) (λ known.
       stepped_by later reading place.parent place.last parts.named (Some object.node)

@@ -106,8 +106,8 @@ module _ {world : World ℕ} {fresh : Fresh ℕ} {name : TaskName} {path : List 
       gone : (later_fresh : Fresh ℕ)
           → (deny : Deny) × Refused deny × ((policy nat_eq later_fresh later reader (Lstat path)).answer ≡ Err deny)
       gone later_fresh =
-          let stop = symlink_missing (looks_of nat_eq world)
-          (looks_of nat_eq later) it.did.task reading Refused KnownSo leads path place parts.named
+          let stop = symlink_missing
+          leads path place parts.named
           (named_place (looks_of nat_eq world) it.did.task path place parts.walked parts.named) (denial W6) missing
           (λ known.
           stepped_by later reading place.parent place.last parts.named None

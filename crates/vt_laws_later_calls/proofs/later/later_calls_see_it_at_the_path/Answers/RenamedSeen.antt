@@ -199,9 +199,7 @@ module _ {world : World ℕ} {fresh : Fresh ℕ} {name : TaskName} {old new : Li
       let at_name = named_place (looks_of nat_eq world) it.did.task old from parts.from_walked parts.from_named in
       let own = called_own it in
       let walk = surely _ _ _
-      (symlink_named_too (looks_of nat_eq world) (looks_of nat_eq world) it.did.task it.did.task Never
-      (IsFound world it.is it.did.task) (itself_leads Never world it.is it.plain it.did.task own) old from
-      parts.from_named at_name
+      (symlink_named_too (itself_leads Never world it.is it.plain it.did.task own) old from parts.from_named at_name
       (record { mount = from.parent.mount; node = object })
       (λ known. stepped_by world it.did.task from.parent from.last parts.from_named (Some object) may.moves.named
       ∙ ap Ok (uncovered world it.is (record { mount = from.parent.mount; node = object }) no_directory))
@@ -253,16 +251,15 @@ module _ {world : World ℕ} {fresh : Fresh ℕ} {name : TaskName} {old new : Li
         ⊎_elim (λ ends. inl (lstat_of later later_fresh reader reading called new _ ends.1
         ∙ ap (λ o. Ok (Told (stat_line o))) object_seen))
         (λ stop. inr (lstat_refused later later_fresh reader reading called new stop.0 stop.2 ∙ ap Err stop.1))
-        (symlink_named_too (looks_of nat_eq world)
-        (looks_of nat_eq later) it.did.task reading Missing _ leads_so new to parts.to_named at_name
+        (symlink_named_too leads_so new to parts.to_named at_name
         (record { mount = from.parent.mount; node = object }) new_stepped
         (λ slash. absurd (true≢false (sym slash ∙ at_name.slash_is ∙ parts.to_slash))))
 
     old_missing : (later_fresh : Fresh ℕ)
         → (policy nat_eq later_fresh later reader (Lstat old)).answer ≡ Err (denial W6)
     old_missing later_fresh =
-        let stop = symlink_missing (looks_of nat_eq world)
-        (looks_of nat_eq later) it.did.task reading Missing _ leads_so old from parts.from_named
+        let stop = symlink_missing
+        leads_so old from parts.from_named
         (named_place (looks_of nat_eq world) it.did.task old from parts.from_walked parts.from_named) (denial W6) refl
         (λ known.
         stepped_by later reading from.parent from.last parts.from_named None

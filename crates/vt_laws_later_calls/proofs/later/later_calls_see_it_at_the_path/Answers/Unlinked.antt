@@ -95,7 +95,7 @@ module _ {world : World ℕ} {fresh : Fresh ℕ} {name : TaskName} {path : List 
       → StandsAs it.did.task reading → MayLook it.did.task reading → (later_fresh : Fresh ℕ)
       → (policy nat_eq later_fresh later reader (Lstat path)).answer ≡ Err (denial W6)
   gone reader reading called stands looks later_fresh =
-      let stop = symlink_missing (looks_of nat_eq world) (looks_of nat_eq later) it.did.task reading Missing _
+      let stop = symlink_missing
       (leads changes stay reading (own_name later reader reading called) stands
       (rights_removed (files_at nat_eq world place.parent) Missing place.parent.node (name_of place.last)
       (object_there place).node seen_to.1.named seen_to.2) looks)

@@ -124,12 +124,10 @@ module _ {looks later : Looks ℕ} {task reader : Task ℕ} {Refused : Deny → 
       → EndsThere Refused (words_walked nat_eq later reader (followed_to depth later reader) (at start steps)
       (word ∷ front)) next here.left
   named_from depth start here word front next few few_too walked searched found no_link known steps =
-      through looks later task reader Refused Known leads (λ r. EndsThere Refused r next here.left)
+      through leads (λ r. EndsThere Refused r next here.left)
       (words_walked nat_eq later reader (followed_to depth later reader) (at start steps) front) _ here
-      ((words_lead looks later task reader Refused Known leads 41 depth start front here few few_too walked).1 known
-      steps) (λ steps_there known_there.
-      by steps_there (last_too looks later task reader Refused Known leads here
-      (last_word word) next steps_there known_there searched (found known_there)))
+      ((words_lead leads 41 depth start front here few few_too walked).1 known steps) (λ steps_there known_there.
+      by steps_there (last_too leads here (last_word word) next steps_there known_there searched (found known_there)))
       (λ stop refused. inr (stop, refused, refl))
     where
       by : (steps_there : List (List ℕ))
@@ -170,13 +168,12 @@ module _ {looks later : Looks ℕ} {task reader : Task ℕ} {Refused : Deny → 
       (word ∷ front)) next left
   linked_from depth start here word front link inner next left few few_too walked searched stepping same text follows
       no_slash ends known steps =
-      through looks later task reader Refused Known leads (λ r. EndsThere Refused r next left)
+      through leads (λ r. EndsThere Refused r next left)
       (words_walked nat_eq later reader (followed_to (suc depth) later reader) (at start steps) front) _ here
-      ((words_lead looks later task reader Refused Known leads 41
+      ((words_lead leads 41
       (suc depth) start front here few few_too walked).1 known steps) (λ steps_there known_there.
-      through looks later task reader Refused Known leads (λ r. EndsThere Refused r next left)
-      (word_walked nat_eq later reader (at here steps_there) (last_word word)) _ link
-      (word_too looks later task reader Refused Known leads here link
+      through leads (λ r. EndsThere Refused r next left)
+      (word_walked nat_eq later reader (at here steps_there) (last_word word)) _ link (word_too leads here link
       (last_word word) steps_there known_there searched same
       (leads.step here.location (last_word word) link.location known_there (not-false _ searched.0) stepping))
       (λ steps_link known_link.
@@ -208,7 +205,7 @@ module _ {looks later : Looks ℕ} {task reader : Task ℕ} {Refused : Deny → 
           then_walk (words_walked nat_eq later reader (followed_to depth later reader) start (reverse (words inner)))
           (λ reached. walk_unless reached.steps (slash_rules nat_eq later inner reached.location) reached))) next left)
           (sym (pass ∙ (λ i. Ok (record {
-            location = start_same looks later task reader Refused Known leads here.location here.location inner refl i;
+            location = start_same leads here.location here.location inner refl i;
             left = link.left - 1;
             steps = (symlink_start nat_eq later reader here.location (at link steps_link) inner).steps;
           })))) (finish _ ends_so)
@@ -227,8 +224,7 @@ module _ {looks later : Looks ℕ} {task reader : Task ℕ} {Refused : Deny → 
   front_left : (start here : Here ℕ) (list : List (List ℕ)) → suc start.left ≤ 41
       → prefix_walked nat_eq looks task (followed nat_eq looks task) start list ≡ Ok here → here.left ≤ start.left
   front_left start here [] few e = subst (λ (h : Here ℕ). h.left ≤ start.left) (same_end start here e) (omega arith)
-  front_left start here (word ∷ front) few e =
-      (words_lead looks later task reader Refused Known leads 41 41 start front here few few e).0
+  front_left start here (word ∷ front) few e = (words_lead leads 41 41 start front here few few e).0
 
   -- A file is found by the links that led to its place, also where it was not there.
   pub file_too : (depth : ℕ) (start : Here ℕ) (text : List ℕ) (slash : Bool) (end : Place ℕ) → suc start.left ≤ 41
@@ -319,5 +315,5 @@ module _ {looks later : Looks ℕ} {task reader : Task ℕ} {Refused : Deny → 
                 (words_walked nat_eq later reader (followed_to other later reader)
                 (at h steps) (reverse (words inner))) file rest.2) (sym begins.1)
                 (rest.3 (subst (λ (h : Here ℕ). Known h.location) begins.1
-                (start_known looks later task reader Refused Known leads here.location inner known)) steps)),
+                (start_known leads here.location inner known)) steps)),
           )

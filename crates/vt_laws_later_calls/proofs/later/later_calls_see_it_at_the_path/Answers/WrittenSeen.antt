@@ -105,10 +105,8 @@ module _ (world later : World ℕ) (is : IsWorld nat_eq world) (task : Task ℕ)
         finds.2,
         object_by_words (looks_of nat_eq later) reader path file finds.2 parts.parsed finds.1 (surely _ file finds.2
             (subst (λ start. EndsThere Never (words_walked nat_eq (looks_of nat_eq later) reader (followed_to 41
-            (looks_of nat_eq later) reader) start (reverse (words path))) file finds.2)
-            (sym (begun (looks_of nat_eq world) (looks_of nat_eq later) task reader Never Known leads_so path))
-            (finds.3 (start_known (looks_of nat_eq world) (looks_of nat_eq later) task reader Never Known leads_so
-            task.directory path leads_so.working_known) []))),
+            (looks_of nat_eq later) reader) start (reverse (words path))) file finds.2) (sym (begun leads_so path))
+            (finds.3 (start_known leads_so task.directory path leads_so.working_known) []))),
       )
 
 -- where nothing is refused a step is taken

@@ -177,8 +177,7 @@ module _ (world : World ℕ) (fresh : Fresh ℕ) (place : Location ℕ) (first :
           → receives nat_eq world one x ≡ true
       still_hears one x m r =
           let t = heard after x one r in
-          hears world can.groups x m t.0 one t.1
-          (old_up world (supply it can) place false (first ∷ []) (serve_images it can) can.each_once t.0 one
+          hears world can.groups x m t.0 one t.1 (old_up place false (serve_images it can) can.each_once t.0 one
           (lives_in world can.groups x m t.0 t.1) t.2)
 
   stays : (number : ℕ) → is_mount world number ≡ true → goes_with after gone number ≡ false
@@ -257,7 +256,7 @@ module _ (world : World ℕ) (fresh : Fresh ℕ) (place : Location ℕ) (first :
   hears_later part c group e =
       let t = heard world part group (hears_group world fresh place first there part c group e) in
       hears after groups_later part (part_later part c) t.0 group t.1
-      (old_up_after world (supply it can) place false (first ∷ []) (serve_images it can) can.each_once t.0 group
+      (old_up_after place false (serve_images it can) can.each_once t.0 group
       (lives_in world can.groups part (part_old world fresh place first there part c) t.0 t.1) t.2)
 
   -- nothing stands on a copy
@@ -322,13 +321,12 @@ module _ (world : World ℕ) (fresh : Fresh ℕ) (place : Location ℕ) (first :
           (mount_numbered nat_eq after gone))))
           (middle after (going nat_eq after (mount_numbered nat_eq after gone))).mounts)
           (middle after (going nat_eq after (mount_numbered nat_eq after gone))) group
-          (old_master world (supply it can) place false (first ∷ []) (serve_images it can) can.each_once group has ∙ e)
-          ∙ sym e
+          (old_master place false (serve_images it can) can.each_once group has ∙ e) ∙ sym e
       by (Some master) e =
           let one = any_among (is_member_of nat_eq group) world.mounts has in
           let life = lives_in world can.groups one.0 one.1 group (ap source_of (member_shared group one.0 one.2)) in
           groups_keep_their_masters after gone group master
-          (old_master world (supply it can) place false (first ∷ []) (serve_images it can) can.each_once group has ∙ e)
+          (old_master place false (serve_images it can) can.each_once group has ∙ e)
           (still_members master (live_members world.master (has_members nat_eq world.mounts) master
           (lives_up world.master (has_members nat_eq world.mounts) group master life (above group master master e
           (here master))))) ∙ sym e
