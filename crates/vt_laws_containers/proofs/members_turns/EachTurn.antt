@@ -56,7 +56,8 @@ module _ (sched : Sched ℕ) (names : List TaskName) (name : TaskName) (is : IsW
 
   others_again : their_calls names (without_progress name part.under_way)
       ≡ their_calls names (without_progress name sched.under_way)
-  others_again = ap (filter own) (filters_swapped others own sched.under_way) ∙ filter_again own (filter others sched.under_way)
+  others_again = ap (filter own) (filters_swapped others own sched.under_way) ∙ filter_again own
+      (filter others sched.under_way)
 
   module _ (fresh : Option (Fresh ℕ)) where
     abbrev whole : Turned ℕ

@@ -68,7 +68,8 @@ module _ (world : World ℕ) (names : List TaskName) (is : MountInvariants nat_e
         it : nat_eq number x.number ≡ true → kept x ≡ Some x
         it e =
             let same : own.0 ≡ x =
-            sym (numbered world names is own.0 own.1) ∙ ap (mount_numbered nat_eq world) (own.2 ∙ eqb-true number x.number e)
+            sym (numbered world names is own.0 own.1) ∙ ap (mount_numbered nat_eq world)
+            (own.2 ∙ eqb-true number x.number e)
             ∙ numbered world names is x (all x (inl refl)) in
             subst (λ (m : Mount ℕ). kept m ≡ Some m) same (ground_whole own.0 own.3)
 
@@ -108,7 +109,8 @@ module _ (world : World ℕ) (names : List TaskName) (is : MountInvariants nat_e
   pub child_theirs : (a : Location ℕ) (child : Mount ℕ) → IsTheirs a.mount → Among child world.mounts
       → child.mount_point ≡ Some a → is_own world names theirs child ≡ true
   child_theirs a child (mount, m, number, ground) there at =
-      let same : child.namespace ≡ mount.namespace = sym (ap (λ (x : Mount ℕ). x.namespace) (numbered world names is child there))
+      let same : child.namespace ≡ mount.namespace =
+      sym (ap (λ (x : Mount ℕ). x.namespace) (numbered world names is child there))
       ∙ namespace_below world child.number a (stands_itself child there)
       (ap (λ (x : Mount ℕ). x.mount_point) (numbered world names is child there) ∙ at)
       ∙ ap (λ n. (mount_numbered nat_eq world n).namespace) (sym number)
@@ -148,7 +150,8 @@ module _ (world : World ℕ) (names : List TaskName) (is : MountInvariants nat_e
       (λ found. (mount_numbered nat_eq world point.mount, found, number-mount_in world.mounts point.mount, inl there))
       (λ none. absurd (true≢false (sym there ∙ ap (is_own world names theirs) none)))
       (found_or_none world.mounts point.mount))
-      (λ stood. absurd (nowhere_stands world names is mount point m stood.0 (ap (λ (x : Mount ℕ). x.mount_point) (sym it) ∙ e))) ground
+      (λ stood. absurd (nowhere_stands world names is mount point m stood.0
+      (ap (λ (x : Mount ℕ). x.mount_point) (sym it) ∙ e))) ground
 
   pub over_alike : (here : Location ℕ) → IsTheirs here.mount
       → mounts_over nat_eq part.mounts here ≡ mounts_over nat_eq world.mounts here

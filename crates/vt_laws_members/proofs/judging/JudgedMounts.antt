@@ -25,7 +25,8 @@ module _ (one other : Looks ℕ) (task : Task ℕ) (own uses : ℕ → Bool) (al
       (judged_alike StandsThere (destination_walk nat_eq one task path) (destination_walk nat_eq other task path)
       (λ here. plain_by flags here.location one) (λ here. plain_by flags here.location other)
       (destination_agrees alike.walks alike.directory alike.rules.removed path)
-      (λ here on. by_mask own uses one other alike.rules (plain_by flags here.location) (λ looks. rw (is_elsewhere, mount_at, on) refl)))
+      (λ here on. by_mask own uses one other alike.rules (plain_by flags here.location)
+      (λ looks. rw (is_elsewhere, mount_at, on) refl)))
 
   abbrev bind_by : Bool → Location ℕ → Location ℕ → Looks ℕ → Judgement ℕ
   bind_by recursive from here looks =
@@ -58,7 +59,8 @@ module _ (one other : Looks ℕ) (task : Task ℕ) (own uses : ℕ → Bool) (al
       (judged_alike StandsThere (directory_walk nat_eq one task path) (directory_walk nat_eq other task path)
       (λ here. lazy_by here.location one) (λ here. lazy_by here.location other)
       (directory_agrees alike.walks alike.directory alike.rules.removed path)
-      (λ here on. by_mask own uses one other alike.rules (lazy_by here.location) (λ looks. rw (is_elsewhere, is_no_root, mount_at, on) refl)))
+      (λ here on. by_mask own uses one other alike.rules (lazy_by here.location)
+      (λ looks. rw (is_elsewhere, is_no_root, mount_at, on) refl)))
 
   abbrev type_by : TypeWord → Bool → Location ℕ → Looks ℕ → Judgement ℕ
   type_by word recursive here looks =

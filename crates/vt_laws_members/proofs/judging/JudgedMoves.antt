@@ -61,7 +61,8 @@ module _ {one other : Looks ℕ} {task : Task ℕ} {own : ℕ → Bool} (uses : 
   move_same overfull from here there on = cc (
     parents.parent from there,
     trees.tree from there,
-    by_mask own uses one other alike.rules (move_of overfull from here other) (λ looks. rw (is_elsewhere, is_no_root, mount_at, there, on) refl),
+    by_mask own uses one other alike.rules (move_of overfull from here other)
+        (λ looks. rw (is_elsewhere, is_no_root, mount_at, there, on) refl),
   )
 
   pub move_alike : (overfills : Permit ℕ → Bool) (source path : List ℕ)

@@ -225,7 +225,8 @@ module _ {one other : Looks ℕ} (task : Task ℕ) (own : ℕ → Bool) {uses : 
       by (Ok layers) (e, all) =
           ap (λ rules. unless rules (attach_permit (new_mount_rules nat_eq one task here) overfills
           (ToMountOverlay here (overlay_at one task layers) flags))) (same_rules layers all)
-          ∙ by_mask own uses one other alike.rules (mount_by overfills here flags layers (overlay_at one task layers) other)
+          ∙ by_mask own uses one other alike.rules
+          (mount_by overfills here flags layers (overlay_at one task layers) other)
           (λ looks. rw (is_elsewhere, mount_at, on) refl)
           ∙ ap (λ overlay. mount_by overfills here flags layers overlay other other) (same_overlay layers all)
           ∙ ap (λ r. and_then r (next other)) e

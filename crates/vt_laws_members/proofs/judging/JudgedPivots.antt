@@ -45,7 +45,8 @@ module _ {one other : Looks ℕ} {task : Task ℕ} {own : ℕ → Bool} (uses : 
       (λ here. flags_by flags here.location (other.is_written_through here.location.mount) other)
       (directory_agrees alike.walks alike.directory alike.rules.removed path) (λ here on.
       by_namespace flags here.location on (is_elsewhere nat_eq one task here.location) refl
-      ∙ by_mask own uses one other alike.rules (flags_by flags here.location (other.is_written_through here.location.mount))
+      ∙ by_mask own uses one other alike.rules
+      (flags_by flags here.location (other.is_written_through here.location.mount))
       (λ looks. rw (is_elsewhere, is_no_root, mount_at, on) refl)))
 
   -- the rules of pivot_root(2), with what they ask of mounts below
@@ -66,7 +67,8 @@ module _ {one other : Looks ℕ} {task : Task ℕ} {own : ℕ → Bool} (uses : 
       → pivot_of one new put one ≡ pivot_of other new put other
   pivot_same new put on_new on_put =
       let on_root : own task.root.mount ≡ true = alike.walks.root in
-      by_mask own uses one other alike.rules (pivot_of one new put) (λ looks. rw (is_elsewhere, is_no_root, mount_at, on_root, on_new, on_put) refl)
+      by_mask own uses one other alike.rules (pivot_of one new put)
+      (λ looks. rw (is_elsewhere, is_no_root, mount_at, on_root, on_new, on_put) refl)
       ∙ ap (λ b. pivot_by new put b (lies_under_location nat_eq one new put) (has_shared_parent one new)
       (has_shared_parent one task.root) other) (parents.descends task.root.mount new on_new)
       ∙ ap (λ b. pivot_by new put (is_on_descendant nat_eq other task.root.mount new) b (has_shared_parent one new)

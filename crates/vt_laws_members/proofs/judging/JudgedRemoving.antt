@@ -47,7 +47,8 @@ module _ (one other : Looks ℕ) (task : Task ℕ) (own uses : ℕ → Bool) (al
       → rmdir_by place object (is_mount_point_in nat_eq one task.namespace object) one
       ≡ rmdir_by place object (is_mount_point_in nat_eq other task.namespace object) other
   rmdir_same place object on there =
-      by_mask own uses one other alike.rules (rmdir_by place object (is_mount_point_in nat_eq one task.namespace object))
+      by_mask own uses one other alike.rules
+      (rmdir_by place object (is_mount_point_in nat_eq one task.namespace object))
       (λ looks. rw (is_read_only, there, on) refl) ∙ ap (λ b. rmdir_by place object b other) (same_points object there)
 
   pub rmdir_alike : (path : List ℕ) → rmdir_permit nat_eq one task path ≡ rmdir_permit nat_eq other task path

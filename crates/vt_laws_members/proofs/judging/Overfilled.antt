@@ -179,7 +179,8 @@ module _ {world : World ℕ} {names : List TaskName} (sealing : IsSealed world n
         ≡ overfills nat_eq other part task (ToMountPlain place flags)
     plain_overfills fresh other task flags = copies_alike (with_new_filesystem world (plain_filesystem nat_eq fresh))
         (with_new_filesystem part (plain_filesystem nat_eq other)) refl refl refl refl
-        (same_parts world sealing.is (plain_filesystem nat_eq fresh) place) (added_parts_in_part (plain_filesystem nat_eq other))
+        (same_parts world sealing.is (plain_filesystem nat_eq fresh) place)
+        (added_parts_in_part (plain_filesystem nat_eq other))
         (odds fresh) (odds other) (mount_of flags (plain_filesystem nat_eq fresh))
         (mount_of flags (plain_filesystem nat_eq other)) refl
       where

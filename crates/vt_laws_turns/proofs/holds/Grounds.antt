@@ -24,7 +24,8 @@ module _ (world : World ℕ) (is : IsWorld nat_eq world) (task : Task ℕ)
   Seen filesystem = is_seen_by world task filesystem ≡ true
 
   -- what is shown there is seen
-  pub shown_seen : (number : ℕ) → IsGround world is task there number → Seen (mount_numbered nat_eq world number).filesystem
+  pub shown_seen : (number : ℕ) → IsGround world is task there number
+      → Seen (mount_numbered nat_eq world number).filesystem
   shown_seen number (inl own) =
       let mount : Mount ℕ = mount_numbered nat_eq world number in
       let own_one : holds_of (nat_eq task.namespace) mount.namespace ≡ true =
@@ -109,7 +110,8 @@ module _ (world : World ℕ) (is : IsWorld nat_eq world) (task : Task ℕ)
   met_seen here (Named name) ground =
       shown_on (here ∷ flat_map looks.mounts_over (option_to_list (entry_location nat_eq looks here name)))
       (λ l m. ⊎_elim (λ e. subst OnGround (sym e) ground)
-      (λ n. object_ground (entry_location nat_eq looks here name) (entry_ground world is task there here name ground) l n) m)
+      (λ n. object_ground (entry_location nat_eq looks here name) (entry_ground world is task there here name ground)
+      l n) m)
   met_seen here DotDot ground = shown_on (hops nat_eq looks task here ++ entered_upward nat_eq looks task (top_of here))
       (λ l m. ⊎_elim (λ n. hops_ground here ground l n) (λ n. upward_ground (top_of here) (top_ground here ground) l n)
       (among-append (hops nat_eq looks task here) (entered_upward nat_eq looks task (top_of here)) l m))

@@ -319,7 +319,8 @@ module _ (sched : Sched ℕ) (is : IsWorld nat_eq sched.world) (holds : HoldsWha
     seen_next : HoldsItsTask sched.world task next → (held : ℕ × ℕ) → Contains next.filesystems held
         → is_seen_by sched.world task held.0 ≡ true
     seen_next current held c =
-        ⊎_elim (seen_before (record { task_change = current.task_change; namespace_change = current.namespace_change }) held)
+        ⊎_elim (seen_before
+        (record { task_change = current.task_change; namespace_change = current.namespace_change }) held)
         (word_seen sched.world is task called call further.met
         (nth_among (words_of (routes nat_eq (looks_of nat_eq sched.world) task call)) before.walked further.met
         further.word) held.0) (newly_held sched.world further.met before.filesystems held

@@ -20,8 +20,10 @@ pub nobody_on : (world : World ℕ) (names : List TaskName) (number : ℕ) → n
     → (list_any (λ (m : Mount ℕ). nat_eq number m.filesystem) (other_mounts nat_eq world names) ≡ false)
     × (list_any (λ l. nat_eq number (mount_at nat_eq world l).filesystem) (locations (outsiders world names)) ≡ false)
 nobody_on world names number none =
-    let both = and_parts (not (list_any (λ (m : Mount ℕ). nat_eq number m.filesystem) (other_mounts nat_eq world names)))
-    (not (list_any (λ l. nat_eq number (mount_at nat_eq world l).filesystem) (locations (outsiders world names)))) none in
+    let both = and_parts
+    (not (list_any (λ (m : Mount ℕ). nat_eq number m.filesystem) (other_mounts nat_eq world names)))
+    (not (list_any (λ l. nat_eq number (mount_at nat_eq world l).filesystem) (locations (outsiders world names))))
+    none in
     (not-true _ both.0, not-true _ both.1)
 
 -- without dead mounts the set sees what it saw
@@ -116,7 +118,8 @@ module _ {world : World ℕ} {names : List TaskName} (sealing : IsSealed world n
             which true own = inl (owned_same sealing set tasks change it m
                 ∙ ap (holds_of (is_own_namespace nat_eq world names)) f ∙ own)
             which false other = absurd (true≢false (sym (eq-eqb number m.filesystem (sym e))
-                ∙ none_among (λ (y : Mount ℕ). nat_eq number y.filesystem) (other_mounts nat_eq world names) (nobody_on world names number none).0 m
+                ∙ none_among (λ (y : Mount ℕ). nat_eq number y.filesystem) (other_mounts nat_eq world names)
+                (nobody_on world names number none).0 m
                 (among-filter (λ (y : Mount ℕ). holds_of (λ i. not (is_own_namespace nat_eq world names i)) y.namespace)
                 world.mounts m (there m n)
                 (ap (holds_of (λ i. not (is_own_namespace nat_eq world names i))) f ∙ ap not other))))

@@ -125,7 +125,8 @@ module _ {world : World ℕ} {names : List TaskName} {name : TaskName} {call : C
     more = λ location m. subst (Among location)
         (sym (flat_map-step replaced locations_of w.tasks (λ t n. replaced_is locations_of placed t (within t n)))) m;
     sees = subst (λ l. SeeAlike w names names l (raised w.change)) (sym (map_twice (raised_task name) replaced w.tasks))
-        (sees_alike w names both both_named (λ t m. raised_is name (λ (x : Task ℕ). x.namespace) (λ x. refl) (replaced t)
+        (sees_alike w names both both_named
+        (λ t m. raised_is name (λ (x : Task ℕ). x.namespace) (λ x. refl) (replaced t)
         ∙ replaced_is (λ (x : Task ℕ). x.namespace) spaced t (within t m))
         (λ t m. raised_is name (λ (x : Task ℕ). x.root ∷ x.directory ∷ []) (λ x. refl) (replaced t)
         ∙ replaced_is (λ (x : Task ℕ). x.root ∷ x.directory ∷ []) rooted t (within t m)) (raised w.change)
