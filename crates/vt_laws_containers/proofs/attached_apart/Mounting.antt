@@ -8,7 +8,7 @@ use Rattle.vt_laws_members.specs.Judging.{is_theirs}
 use Rattle.vt_laws_members.proofs.changes.looks.Told.{ran}
 use Rattle.vt_laws_members.proofs.changes.tasks.Denied.{run_by}
 use Rattle.vt_laws_members.proofs.attached.PlainMounting.{Mounts, mounts_there}
-use Rattle.vt_laws_members.proofs.new_overlays.NewFilesystem.{attaching, new, origins, shows}
+use Rattle.vt_laws_members.proofs.new_overlays.NewFilesystem.{origins, shows}
 use Rattle.vt_laws_containers.specs.Footholds.{GivesNoFoothold}
 use Rattle.vt_laws_containers.proofs.footholds.AsBefore.{OthersAsBefore}
 use Rattle.vt_laws_containers.proofs.footholds.Granting.{refused_out}

@@ -10,7 +10,7 @@ use Rattle.vt_laws_sealed.proofs.part.part.PartOfPart.{is_own, keep, kept_how}
 use Rattle.vt_laws_sealed.proofs.outsiders.SeenLater.{shown_at}
 use Rattle.vt_laws_members.proofs.judging.Grounds.{IsTheirs, its_mount, same_mount}
 use Rattle.vt_laws_members.proofs.judging.WalksLead.{destination_agrees, source_agrees}
-use Rattle.vt_laws_members.proofs.changes.letting_go.Moving.{On, StandsHere, alike, one, other}
+use Rattle.vt_laws_members.proofs.changes.letting_go.Moving.{StandsHere, alike, one}
 use Rattle.vt_laws_members.proofs.changes.letting_go.PartMounts.{part_mounts}
 use Rattle.vt_laws_sealed.proofs.part.seals.ByPart.{sealed_by}
 

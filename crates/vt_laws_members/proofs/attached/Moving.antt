@@ -1,6 +1,6 @@
 -- Each mount(2) with MS_MOVE ends in the part as in the world.
 use Rattle.std.proofs.Common.{arith, ◌≡◌, refl, sym, ap, subst, ◌∙◌, ℕ, nat_eq, true, false, true≢false, List, [], Option, Some, None, Ok, Err, is_some, not, eqb-true, IfOk, is_ok}
-use Rattle.vt_spec.proofs.Common.{Among, Copies, Done, Fresh, Judgement, Location, Mount, MountInvariants, MoveMount, Permit, Serves, Task, TaskName, ToMove, World, admin_rules, among-filter, among-map, and_then, attach, attach_permit, attached_by, common_steps, copies_from, destination_walk, granted, holds_of, is_among_numbers, is_elsewhere, is_own_mount, judge_in, members, mount_at, mount_tree, move_permit, move_rules, moved_to, moved_tree, not-false, number-mount_in, numbers_raised, or_parts, overfills, own_lowers, part_of, policy, settled, source_walk, task_called, used_filesystems, walk_end}
+use Rattle.vt_spec.proofs.Common.{Among, Copies, Done, Fresh, Judgement, Location, Mount, MountInvariants, MoveMount, Permit, Serves, Task, TaskName, ToMove, World, admin_rules, among-filter, among-map, and_then, attach, attach_permit, attached_by, common_steps, copies_from, destination_walk, granted, holds_of, is_among_numbers, is_elsewhere, is_own_mount, judge_in, members, mount_at, mount_tree, move_permit, move_rules, moved_to, moved_tree, not-false, number-mount_in, numbers_raised, or_parts, overfills, part_of, policy, settled, source_walk, task_called, walk_end}
 use Rattle.vt_laws_members.proofs.judging.TheirCalls.{IsMember, caller_in, sealing_of}
 use Rattle.vt_laws_mounts.specs.Mounts.Attaching.{is_mount, numbers_of}
 use Rattle.vt_laws_mounts.specs.Mounts.Moving.{CanMove}

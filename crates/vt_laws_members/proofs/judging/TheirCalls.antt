@@ -1,5 +1,5 @@
 -- A task of a sealed set, and a call of theirs.
-use Rattle.std.proofs.Common.{◌≡◌, sym, ap, ◌∙◌, ℕ, nat_eq, true, List, Some}
+use Rattle.std.proofs.Common.{◌≡◌, sym, ap, ◌∙◌, ℕ, true, List, Some}
 use Rattle.vt_spec.proofs.Common.{Among, Call, Task, TaskName, World, among-filter, found_among, found_passes, is_among, is_member_task, members, same_name, same_task_name, task_called}
 use Rattle.vt_laws_sealed.proofs.part.seals.ByPart.{IsSealed, sealed_by}
 use Rattle.vt_laws_members.specs.Changes.Changes.{IsCallOfTheirs}

@@ -12,7 +12,7 @@ use Rattle.vt_laws_members.proofs.changes.letting_go.LessSeen.{used_was}
 use Rattle.vt_laws_members.proofs.changes.letting_go.NamespaceLess.{ground_at}
 use Rattle.vt_laws_members.proofs.changes.letting_go.Ready.{Alone, NoOthers, Ready, layered_overlay}
 use Rattle.vt_laws_members.proofs.changes.letting_go.WorldReady.{all_named_there, plain_in, sees_living, whole_cut}
-use Rattle.vt_laws_members.proofs.namespaces.Remade.{ChangesTheirs, MovesTheirs, OnAdded, Remaking, filesystem_after, placed_old, remade_less, shown_after, turned_in, v, v_part}
+use Rattle.vt_laws_members.proofs.namespaces.Remade.{ChangesTheirs, MovesTheirs, OnAdded, Remaking, filesystem_after, placed_old, remade_less, shown_after, turned_in, v}
 
 -- a mount of no namespace has no mount point
 pub nowhere_pointed : (b : World ℕ) → MountInvariants nat_eq b → (m : Mount ℕ) → Among m b.mounts

@@ -1,5 +1,5 @@
 -- A call of a task outside a sealed set, by the task that makes it.
-use Rattle.std.proofs.Common.{◌≡◌, ℕ, nat_eq, List, Some}
+use Rattle.std.proofs.Common.{◌≡◌, ℕ, List, Some}
 use Rattle.vt_spec.proofs.Common.{Call, Fresh, Task, TaskName, World, task_called}
 use Rattle.vt_laws_sealed.specs.Part.Seals.{IsApart}
 use Rattle.vt_laws_sealed.proofs.part.seals.ByPart.{apart_if_sealed, sealed_by}

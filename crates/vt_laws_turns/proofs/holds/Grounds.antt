@@ -1,5 +1,5 @@
 -- Where a task gets: to mounts of its namespace, or where it stands. These show what it sees.
-use Rattle.std.proofs.Common.{arith, ◌≡◌, refl, sym, ap, subst, ◌∙◌, ◌⊎◌, inl, inr, ⊎_elim, ℕ, nat_eq, Bool, true, false, List, [], ◌∷◌, ◌++◌, ◌||◌, Option, Some, None, Ok, Err, Result, flat_map, length, option_map, option_to_list}
+use Rattle.std.proofs.Common.{arith, ◌≡◌, refl, sym, ap, subst, ◌∙◌, inl, inr, ⊎_elim, ℕ, nat_eq, Bool, true, false, List, [], ◌∷◌, ◌++◌, ◌||◌, Option, Some, None, Ok, Err, Result, flat_map, length, option_map, option_to_list}
 use Rattle.vt_spec.proofs.Common.{Among, Dot, DotDot, IsWorld, LastWord, Location, Looks, Mount, Named, NoWord, Task, World, among-append, among-filter, among-from_map, and_then, any_from_among, child_at, common_steps, entered_upward, entry_location, filesystems_of, found_among, holds_of, hops, last_or, list_any, looks_of, met_at, met_by, mount_at, mount_numbered, mounts_of, nat_eq_itself, object_named, root_of, same_Some, stepped, task_called}
 use Rattle.vt_spec.specs.declared.errors.Deny.{Deny}
 use Rattle.vt_spec.specs.Machine.Walking.{hop}

@@ -9,7 +9,7 @@ use Rattle.vt_laws_sealed.proofs.part.part.PartOfPart.{is_own}
 use Rattle.vt_laws_sealed.proofs.part.seals.ByPart.{used_are_free}
 use Rattle.vt_laws_members.proofs.changes.letting_go.Changed.{mount_under, mount_parent}
 use Rattle.vt_laws_members.proofs.changes.letting_go.LessSeen.{used_was}
-use Rattle.vt_laws_members.proofs.changes.letting_go.NamespaceLess.{Detaches, KeepsShape, LeavesWorlds, ended, ended_less, ended_mount, ended_part, one_after, place_shown, placed_so, root_ground, shape_kept}
+use Rattle.vt_laws_members.proofs.changes.letting_go.NamespaceLess.{Detaches, KeepsShape, LeavesWorlds, ended, ended_less, ended_mount, one_after, place_shown, placed_so, root_ground, shape_kept}
 use Rattle.vt_laws_members.proofs.changes.letting_go.Ready.{Alone, NoOthers, Ready, layered_overlay}
 use Rattle.vt_laws_members.proofs.changes.letting_go.Regrouped.{left_by}
 use Rattle.vt_laws_members.proofs.changes.letting_go.WorldReady.{all_named_there, nobody_on, plain_in, sees_living, whole_cut}

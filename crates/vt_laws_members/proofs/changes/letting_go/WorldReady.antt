@@ -1,6 +1,6 @@
 -- A world in which tasks of a sealed set let locations go is ready to be swept.
 use Rattle.std.proofs.Common.{arith, ◌≡◌, refl, sym, ap, subst, ◌∙◌, ◌⊎◌, inl, inr, ⊎_elim, ℕ, nat_eq, Bool, true, false, true≢false, List, [], Option, Some, None, filter, is_some, not, eq-eqb, eqb-true}
-use Rattle.vt_spec.proofs.Common.{Among, Filesystem, IsTree, IsWorld, Layer, ListsNumbers, Location, Mount, Overlay, Task, TaskName, World, all_locations, among-filter, among-flat_map, among-from_filter, among-from_flat_map, among_from_all, among_from_list_all, among_numbers, and_parts, any_among, any_from_among, common_steps, filesystem_numbered, has_layer_on, holds_of, is_among_numbers, is_located, is_member_task, is_overlay, is_own_namespace, layers_of, list_any, locations, locations_of, members, mount_at, mount_lives, mount_numbered, no_outsider_on, none_among, none_from_not_some, not-true, or_cases, or_left, or_right, other_mounts, outsiders, overlay_or, own_lowers, pair-filter, part_of, used_alone, used_filesystems, wholly_locked, without_dead_mounts}
+use Rattle.vt_spec.proofs.Common.{Among, Filesystem, IsTree, IsWorld, Layer, ListsNumbers, Location, Mount, Overlay, Task, TaskName, World, all_locations, among-filter, among-flat_map, among-from_filter, among-from_flat_map, among_from_all, among_from_list_all, among_numbers, and_parts, any_among, any_from_among, common_steps, filesystem_numbered, has_layer_on, holds_of, is_among_numbers, is_located, is_member_task, is_overlay, is_own_namespace, layers_of, list_any, locations, locations_of, members, mount_at, mount_lives, mount_numbered, no_outsider_on, none_among, none_from_not_some, not-true, or_cases, or_left, or_right, other_mounts, outsiders, overlay_or, own_lowers, pair-filter, used_alone, used_filesystems, wholly_locked, without_dead_mounts}
 use Rattle.vt_laws_mounts.proofs.letting_go.sweeps.OfWorlds.{found_filesystem}
 use Rattle.vt_laws_mounts.proofs.mounts.MountsReplaced.{found_itself}
 use Rattle.vt_laws_sealed.specs.Part.Parts.{SeesTheSame}

@@ -7,7 +7,7 @@ use Rattle.vt_laws_members.proofs.changes.files.FilesRaised.{swap}
 use Rattle.vt_laws_members.proofs.changes.files.OneFilesystem.{old_number, one_in_part, one_in_world}
 use Rattle.vt_laws_members.proofs.changes.letting_go.Taken.{part_after, world_after}
 use Rattle.vt_laws_members.proofs.detached.removals.WithTree.{changes_theirs}
-use Rattle.vt_laws_members.proofs.overlay_names.names.Detaching.{alone_here, alone_there, detached_and_changed, living, living_part}
+use Rattle.vt_laws_members.proofs.overlay_names.names.Detaching.{alone_here, alone_there, detached_and_changed}
 use Rattle.vt_laws_members.proofs.changes.letting_go.Regrouped.{TheirsGo}
 
 module _ {world : World ℕ} {names : List TaskName} {gone : List ℕ} (go : TheirsGo world names gone)
