@@ -34,10 +34,8 @@ mapped_root : (change : Filesystem ℕ → Filesystem ℕ) → ((f : Filesystem 
     → ((f : Filesystem ℕ) → (change f).files.tree.root ≡ f.files.tree.root) → (number : ℕ) (list : List (Filesystem ℕ))
     → (numbered number (map change list)).files.tree.root ≡ (numbered number list).files.tree.root
 mapped_root change same root number [] = refl
-mapped_root change same root number (first ∷ rest) = ap (λ n. (unwrap_or (cond (nat_eq number n) (Some (change first))
-    (find (λ (f : Filesystem ℕ). nat_eq number f.number) (map change rest)))
-    (no_filesystem number)).files.tree.root) (same first)
-    ∙ by (nat_eq number first.number) (mapped_root change same root number rest)
+mapped_root change same root number (first ∷ rest) =
+    cc (same first, by (nat_eq number first.number) (mapped_root change same root number rest))
   where
     by : (b : Bool) → (numbered number (map change rest)).files.tree.root ≡ (numbered number rest).files.tree.root
         → (unwrap_or (cond b (Some (change first))
@@ -85,7 +83,7 @@ module _ (world : World ℕ) (inodes : List Inode) where
 pub listed : (number : ℕ) (list : List (Filesystem ℕ)) (object : ℕ)
     → is_some ((numbered number list).files.tree.node object) ≡ true
     → is_among nat_eq number (map (λ (f : Filesystem ℕ). f.number) list) ≡ true
-listed number [] object there = absurd (true≢false (sym there))
+listed number [] object there = cc
 listed number (first ∷ rest) object there = by (nat_eq number first.number) there (listed number rest object)
   where
     by : (b : Bool)
@@ -120,8 +118,7 @@ module _ {world : World ℕ} {fresh : Fresh ℕ} {name : TaskName} {call : Call}
 
   -- it is a world
   pub later_is : IsWorld nat_eq later × IsPlain later
-  later_is = subst (λ w. IsWorld nat_eq w × IsPlain w) (sym it.did.left) (let settles = settling_leaves_a_world spent
-      (spent_unsettled it) in
+  later_is = rw it.did.left (let settles = settling_leaves_a_world spent (spent_unsettled it) in
       raising_numbers_keeps_world world name (filesystems_changed nat_eq world it.did.permit) left settles.0 settles.1)
 
   pub later_files : (number : ℕ)
@@ -140,7 +137,7 @@ module _ {world : World ℕ} {fresh : Fresh ℕ} {name : TaskName} {call : Call}
   pub as_spent : (filesystem number : ℕ) → is_some (node_in later filesystem number) ≡ true
       → node_in later filesystem number ≡ node_in spent filesystem number
   as_spent filesystem number there =
-      ⊎_elim (λ same. same) (λ gone. absurd (true≢false (sym there ∙ ap is_some gone))) (or_gone filesystem number)
+      ⊎_elim (λ same. same) (λ gone. absurd (true≢false (cc))) (or_gone filesystem number)
 
   -- A change of a tree, where there is something
   pub record ChangesTree (location : Location ℕ) (change : Change ℕ) (from : Fresh ℕ) : Type 0 where
@@ -185,7 +182,7 @@ module _ {world : World ℕ} {fresh : Fresh ℕ} {name : TaskName} {call : Call}
 
     spent_files : (number : ℕ) → (filesystem_numbered nat_eq spent number).files
         ≡ (filesystem_numbered nat_eq (with_change nat_eq from world location change) number).files
-    spent_files number = ap (λ w. (filesystem_numbered nat_eq w number).files) changes.does
+    spent_files number = cc changes.does
 
     pub spent_shown : (filesystem_numbered nat_eq spent shown).files ≡ changed nat_eq files change
     spent_shown = spent_files shown ∙ files_changed from world it.plain location change changes.something
@@ -193,8 +190,7 @@ module _ {world : World ℕ} {fresh : Fresh ℕ} {name : TaskName} {call : Call}
     -- what is seen where the mount of the location shows it
     pub node_changed : (number : ℕ) → is_some (node_in later shown number) ≡ true
         → node_in later shown number ≡ (changed nat_eq files change).tree.node number
-    node_changed number there_later =
-        as_spent shown number there_later ∙ ap (λ (f : FileTree ℕ). f.tree.node number) spent_shown
+    node_changed number there_later = cc (as_spent shown number there_later, spent_shown)
 
     -- where no name is lost nothing goes
     pub all_stays : names_lost files change ≡ [] → (number : ℕ)
@@ -213,8 +209,7 @@ module _ {world : World ℕ} {fresh : Fresh ℕ} {name : TaskName} {call : Call}
     in_each P here elsewhere number = by (nat_eq shown number) refl
       where
         by : (b : Bool) → nat_eq shown number ≡ b → P number (filesystem_numbered nat_eq spent number).files
-        by true e = subst (λ n. P n (filesystem_numbered nat_eq spent n).files) (eqb-true shown number e)
-            (subst (P shown) (sym spent_shown) here)
+        by true e = rw (← eqb-true shown number e) (subst (P shown) (sym spent_shown) here)
         by false e = subst (P number)
             (sym (spent_files number ∙ files_other from world it.plain location change number e))
             (elsewhere number)

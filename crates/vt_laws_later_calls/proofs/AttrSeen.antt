@@ -47,7 +47,7 @@ object_there_is world is task called path here walk =
 -- what stat tells of an object with other attributes
 line_with_attr : (attr : Attr) (o : Option (Node ℕ)) → is_some o ≡ true
     → stat_line (node_with_attr attr o) ≡ record (stat_line o) { attr = attr }
-line_with_attr attr None e = absurd (true≢false (sym e))
+line_with_attr attr None e = cc
 line_with_attr attr (Some node) e = refl
 
 abbrev Hidden : Deny → Type 0
@@ -76,11 +76,11 @@ module _ (path : List ℕ) (set : Attr → Attr) {world : World ℕ} {fresh : Fr
   tree = tree_there world it.is it.plain here.location something
 
   asks : change_of fresh world it.did.permit ≡ Some (here.location, change)
-  asks = ap (change_of fresh world) permit
+  asks = cc
 
   does : spent it
       ≡ with_change nat_eq fresh world here.location change
-  does = ap (λ p. (apply nat_eq fresh world it.did.task p).world) permit
+  does = cc
 
   abbrev changes : ChangesTree it here.location change fresh
   changes = record { asks = asks; does = does; something = something; may = tt; tree = tree }
@@ -104,12 +104,16 @@ module _ (path : List ℕ) (set : Attr → Attr) {world : World ℕ} {fresh : Fr
           → ((policy nat_eq later_fresh later reader (Stat path)).answer
           ≡ Ok (Told (record (stat_line (node_at nat_eq world here.location)) { attr = attr })))
           ⊎ ((deny : Deny) × Refused deny × ((policy nat_eq later_fresh later reader (Stat path)).answer ≡ Err deny))
-      by (inl ends) = inl (stat_of later later_fresh reader reading called path _ ends.0.1
-          ∙ ap (λ o. Ok (Told (stat_line o)))
-          (seen_there changes (stay Refused) reading (own_name later reader reading called) stands ends.1
-          ∙ changed_node_there (files_at nat_eq world here.location) here.location.node (node_with_attr attr))
-          ∙ ap (λ line. Ok (Told line)) (line_with_attr attr (node_at nat_eq world here.location) something))
-      by (inr stop) = inr (stop.0.deny, stop.1, stat_refused later later_fresh reader reading called path stop.0 stop.2)
+      by (inl ends) =
+          inl (cc (
+            stat_of later later_fresh reader called path _ ends.0.1,
+            seen_there changes (stay Refused) reading
+                (own_name later reader reading called) stands ends.1,
+            changed_node_there (files_at nat_eq world here.location)
+                here.location.node (node_with_attr attr),
+            line_with_attr attr (node_at nat_eq world here.location) something,
+          ))
+      by (inr stop) = inr (stop.0.deny, stop.1, stat_refused later later_fresh reader called path stop.0 stop.2)
 
   caller_there : task_called later name ≡ Some (raised_task name it.did.task)
   caller_there =
@@ -157,7 +161,7 @@ tells : {call : Call} (path : List ℕ) (set : Attr → Attr) {world : World ℕ
     (Told (record line { attr = set line.attr }))
 tells path set {world = world} task called it here walked permit = (
   stat_line (node_at nat_eq world here.location),
-  λ other_fresh. stat_of world other_fresh _ it.did.task it.did.called path here walked,
+  λ other_fresh. stat_of world other_fresh _ it.did.called path here walked,
   own_told path set it here walked permit,
   λ reader reading looks. all_told path set it here walked permit reader reading looks.called
       (subst (λ t. StandsAs t reading) (same_Some task it.did.task (sym called ∙ it.did.called))

@@ -57,7 +57,7 @@ module _ (fresh : Fresh ℕ) (world : World ℕ) (plain : IsPlain world) (at : L
   -- another filesystem
   pub files_other : (number : ℕ) → nat_eq shown number ≡ false
       → (filesystem_numbered nat_eq changed_world number).files ≡ (filesystem_numbered nat_eq world number).files
-  files_other number other =
-      ap (λ w. (filesystem_numbered nat_eq w number).files) (change_of_plain fresh world plain at change)
-      ∙ ap (λ (f : Filesystem ℕ). f.files)
-      (found_other new world.filesystems number (ap (λ n. nat_eq n number) new_number ∙ other))
+  files_other number other = cc (
+    change_of_plain fresh world plain at change,
+    found_other new world.filesystems number (ap (λ n. nat_eq n number) new_number ∙ other),
+  )

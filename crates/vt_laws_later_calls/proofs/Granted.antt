@@ -65,12 +65,7 @@ module _ (world : World ℕ) (fresh : Fresh ℕ) (name : TaskName) (call : Call)
     judged = f;
     granted = calls_are_granted nat_eq (looks_of nat_eq world) (overfills nat_eq fresh world task) task call permit f;
     answered = same_answer task (Ok permit) g;
-    left = ap (λ (o : Outcome ℕ). o.world)
-        (policy_judges_then_applies fresh world name call ∙ ap judged_as e ∙ ap (done_by task) f
-        ∙ ap (λ b. finished_by nat_eq b world name (filesystems_changed nat_eq world permit)
-        (apply nat_eq fresh world task permit))
-        (ap (λ b. b || not (is_ok (apply nat_eq fresh world task permit).answer)) changes
-        ∙ ap (λ a. not (is_ok a)) (same_answer task (Ok permit) g)));
+    left = cc (policy_judges_then_applies fresh world name call, same_answer task (Ok permit) g);
   }
 
   of_task : (o : Option (Task ℕ)) → task_called world name ≡ o → (judged_as o).answer ≡ Ok answer
@@ -86,7 +81,7 @@ module _ (world : World ℕ) (fresh : Fresh ℕ) (name : TaskName) (call : Call)
 pub called_raised : (name reader : TaskName) (task : Task ℕ) (tasks : List (Task ℕ))
     → find (λ (t : Task ℕ). same_name reader t.name) tasks ≡ Some task
     → find (λ (t : Task ℕ). same_name reader t.name) (map (raised_task name) tasks) ≡ Some (raised_task name task)
-called_raised name reader task tasks e = found_raised tasks ∙ ap (option_map (raised_task name)) e
+called_raised name reader task tasks e = cc (found_raised tasks)
   where
     same : (t : Task ℕ) → same_name reader (raised_task name t).name ≡ same_name reader t.name
     same t = grind (arith, common_steps)
@@ -94,9 +89,7 @@ called_raised name reader task tasks e = found_raised tasks ∙ ap (option_map (
     found_raised : (list : List (Task ℕ)) → find (λ (t : Task ℕ). same_name reader t.name) (map (raised_task name) list)
         ≡ option_map (raised_task name) (find (λ (t : Task ℕ). same_name reader t.name) list)
     found_raised [] = refl
-    found_raised (t ∷ list) = ap (λ b. cond b (Some (raised_task name t))
-        (find (λ (t : Task ℕ). same_name reader t.name) (map (raised_task name) list))) (same t)
-        ∙ by (same_name reader t.name) (found_raised list)
+    found_raised (t ∷ list) = cc (same t, by (same_name reader t.name) (found_raised list))
       where
         by : (b : Bool) → find (λ (t : Task ℕ). same_name reader t.name) (map (raised_task name) list)
             ≡ option_map (raised_task name) (find (λ (t : Task ℕ). same_name reader t.name) list)

@@ -29,7 +29,7 @@ pub read_all : (who : Credentials) → reads_all who ≡ true → (attr : Attr) 
 read_all who all attr content = grind (arith, common_steps, granted_by)
 
 -- a call of a task, which is there
-module _ (world : World ℕ) (fresh : Fresh ℕ) (name : TaskName) (task : Task ℕ)
+module _ (world : World ℕ) (fresh : Fresh ℕ) (name : TaskName) {task : Task ℕ}
     (called : task_called world name ≡ Some task) (path : List ℕ) where
   abbrev by_task : Call → Option (Task ℕ) → Outcome ℕ
   by_task call o = after world (ok_or o (denial S2)) (λ t.

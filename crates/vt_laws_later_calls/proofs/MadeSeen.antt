@@ -51,11 +51,11 @@ new_leaf_parts looks task path place e =
     let leaf = walk_passing walks.0.steps
     ((walks.0.slash && not (is_some walks.0.object), W6) ∷ []) walks.0 place walks.2 in (
       new_parts looks task path place (walks.1 ∙ ap Ok leaf.1),
-      ap (λ (p : Place ℕ). p.slash && not (is_some p.object)) (sym leaf.1) ∙ leaf.0.0,
+      cc (leaf.1, leaf.0.0),
     )
 
 pub no_slash_there : (slash some : Bool) → some ≡ false → (slash && not some) ≡ false → slash ≡ false
-no_slash_there true some none e = absurd (true≢false (sym (ap not none) ∙ e))
+no_slash_there true some none e = cc
 no_slash_there false some none e = refl
 
 -- A call that made an object
@@ -82,7 +82,7 @@ module _ {world : World ℕ} {fresh : Fresh ℕ} {name : TaskName} {call : Call}
   new = unused_inode world fresh it.serves it.is.files.numbers 0 (mount_at nat_eq world parent).filesystem
 
   pub asks : change_of fresh world it.did.permit ≡ Some (parent, change)
-  asks = ap (change_of fresh world) permit
+  asks = cc
 
   pub does : spent it
       ≡ with_change nat_eq (odds fresh) world parent change
@@ -120,8 +120,8 @@ module _ {world : World ℕ} {fresh : Fresh ℕ} {name : TaskName} {call : Call}
     made_leads = leads changes stay reader called stands rights looks
 
     pub node_seen : node_at nat_eq later new_location ≡ Some node
-    node_seen = seen_at changes stay reader called stands (fresh 0)
-        ∙ all_stays it changes (ap option_to_list may.name_is_free.free) (fresh 0)
+    node_seen =
+        seen_at changes stay reader called stands (fresh 0) ∙ all_stays it changes (cc may.name_is_free.free) (fresh 0)
         ∙ made_node (files_at nat_eq world parent) parent.node entry (fresh 0) node may.name_is_free.in_directory new
 
     pub entry_seen : KnownHere parent → entry_named entry (entries_in (node_at nat_eq later parent)) ≡ Some (fresh 0)
@@ -132,13 +132,12 @@ module _ {world : World ℕ} {fresh : Fresh ℕ} {name : TaskName} {call : Call}
 
     -- no mount stands over it
     over : topmost nat_eq later.mounts new_location ≡ new_location
-    over = ap (λ mounts. topmost nat_eq mounts new_location)
-        (later_mounts it changes) ∙ uncovered world it.is new_location (ap is_directory_node new)
+    over = cc (later_mounts it changes, uncovered world it.is new_location (ap is_directory_node new))
 
     pub new_stepped : (last : LastWord) → is_special last ≡ false → name_of last ≡ entry → KnownHere parent
         → stepped nat_eq (looks_of nat_eq later) reader parent last ≡ Ok new_location
-    new_stepped last special same known = stepped_by later reader parent last special (Some (fresh 0))
-        (ap (λ e. entry_named e (entries_in (node_at nat_eq later parent))) same ∙ entry_seen known) ∙ ap Ok over
+    new_stepped last special same known =
+        stepped_by later reader parent last special (Some (fresh 0)) (cc (entry_seen known)) ∙ ap Ok over
 
 -- mkdir(2)
 mkdir_parts : (looks : Looks ℕ) {too_many : Permit ℕ → Bool} (task : Task ℕ) (path : List ℕ) (mode : Option ℕ)
@@ -175,7 +174,7 @@ mkdir_then_list path mode world fresh name task is plain serves called granted =
     }
 
     task_is : it.did.task ≡ task
-    task_is = same_Some it.did.task task (sym it.did.called ∙ called)
+    task_is = same_Some it.did.task task (cc it.did.called)
 
     parts : (place : Place ℕ) × (place_walk nat_eq (looks_of nat_eq world) it.did.task path ≡ Ok place)
         × (is_special place.last ≡ false) × (it.did.permit ≡ make_permit place (directory_made it.did.task place mode))
@@ -210,7 +209,7 @@ mkdir_then_list path mode world fresh name task is plain serves called granted =
         path parts.0 parts.2 (named_place (looks_of nat_eq world) it.did.task path parts.0 parts.1 parts.2)
         (new_location it parts.3) (new_stepped it parts.3 reading own stands looks parts.0.last parts.2 refl)
         (ap symlink_text seen) (ap is_directory_node seen)) in
-        list_of (policy nat_eq fresh world name (Mkdir path mode)).world later_fresh reader reading found path
+        list_of (policy nat_eq fresh world name (Mkdir path mode)).world later_fresh reader found path
         (later_is it).1 _ walk.1
         ∙ (λ i. cond (node_allows reading.credentials read_right (seen i)) (Ok (Names (names_in (seen i))))
         (Err (denial C1)))
@@ -267,5 +266,5 @@ symlink_then_readlink text path world fresh name task is plain serves called gra
         (new_stepped it parts.4 reading own stands looks parts.0.last parts.2 refl)
         (λ slash. absurd (true≢false (sym slash ∙ at_name.slash_is ∙ parts.3)))) in
         readlink_of (policy nat_eq fresh world name
-        (SymlinkAt text path)).world later_fresh reader reading found path _ walk.1 (ap (is_kind_in Symlink) seen)
+        (SymlinkAt text path)).world later_fresh reader found path _ walk.1 (ap (is_kind_in Symlink) seen)
         ∙ ap (λ o. Ok (Bytes (bytes_in o))) seen

@@ -10,7 +10,7 @@ use Rattle.vt_laws_trees.proofs.runs.answered.PlainStays.{plain_numbered}
 pub inserted_found : (number : ℕ) (descriptors : List (Descriptor ℕ)) (new : Descriptor ℕ)
     → are_ascending_from number descriptors ≡ true → new.number ≡ free_from number descriptors
     → find (λ (d : Descriptor ℕ). nat_eq new.number d.number) (inserted new descriptors) ≡ Some new
-inserted_found number [] new order free = ap (λ b. cond b (Some new) None) (eq-eqb new.number new.number refl)
+inserted_found number [] new order free = cc (eq-eqb new.number new.number refl)
 inserted_found number (descriptor ∷ rest) new order free =
     by (nat_eq descriptor.number number) refl (inserted_found (number + 1) rest new)
   where
@@ -19,7 +19,7 @@ inserted_found number (descriptor ∷ rest) new order free =
 
     is_free : (c : Bool) → nat_eq descriptor.number number ≡ c
         → new.number ≡ cond c (free_from (number + 1) rest) number
-    is_free c e = free ∙ ap (λ b. cond b (free_from (number + 1) rest) number) e
+    is_free c e = cc
 
     less : (a b : ℕ) → nat_le a b ≡ true → nat_eq b a ≡ false → a < b
     less a b h e = grind arith
@@ -50,7 +50,7 @@ called_replaced world name task new called own = go world.tasks called
     go (t ∷ list) e = by (same_name name t.name) refl (go list)
       where
         test : same_name new.name t.name ≡ same_name name t.name
-        test = ap (λ n. same_name n t.name) own
+        test = cc
 
         by : (b : Bool) → same_name name t.name ≡ b → (find (λ (t : Task ℕ). same_name name t.name) list ≡ Some task
             → find (λ (t : Task ℕ). same_name name t.name) (map (replaced_if_called new) list) ≡ Some new)
@@ -71,9 +71,8 @@ open_parts looks task path access permit (opens _ _ here room end passed) = (her
 -- without overlays nothing is copied when a file is opened
 pub open_spent : (fresh : Fresh ℕ) (world : World ℕ) (plain : IsPlain world) (task : Task ℕ) (file : Location ℕ)
     (access : Access) → apply nat_eq fresh world task (ToOpen file access) ≡ opened world task file access
-open_spent fresh world plain task file access = ap (λ b. opened (with_copy nat_eq b fresh world file) task file access)
-    (ap (λ o. opens_for_writing access && overlay_or false (λ overlay. lies_only_in_lowers overlay file.node) o)
-    (plain_numbered world plain (mount_at nat_eq world file).filesystem) ∙ and-false (opens_for_writing access))
+open_spent fresh world plain task file access =
+    cc (plain_numbered world plain (mount_at nat_eq world file).filesystem, and-false (opens_for_writing access))
 
 pub opened_number : (a b : ℕ) → Path (Result Answer Deny) (Ok (Opened a)) (Ok (Opened b)) → b ≡ a
 opened_number a b e = grind (arith, common_steps)

@@ -25,9 +25,9 @@ use Rattle.vt_laws_rules.specs.Granted.IsGranted.{creates, creates_exclusively, 
 
 -- A call that leaves a descriptor on a file, in a world that has the tasks of the one before
 module _ {world : World ℕ} {fresh : Fresh ℕ} {name : TaskName} {path : List ℕ} {access : Access} {creation : Creation}
-    {number : ℕ} (it : HasSucceeded world fresh name (OpenFile path access creation) (Opened number))
-    (task : Task ℕ) (called : task_called world name ≡ Some task) (base : World ℕ)
-    (file : Location ℕ) (outcome : apply nat_eq fresh world it.did.task it.did.permit ≡ opened base task file access)
+    {number : ℕ} (it : HasSucceeded world fresh name (OpenFile path access creation) (Opened number)) {task : Task ℕ}
+    (called : task_called world name ≡ Some task) {base : World ℕ} (file : Location ℕ)
+    (outcome : apply nat_eq fresh world it.did.task it.did.permit ≡ opened base task file access)
     (tasks : base.tasks ≡ world.tasks) where
   abbrev call : Call
   call = OpenFile path access creation
@@ -36,7 +36,7 @@ module _ {world : World ℕ} {fresh : Fresh ℕ} {name : TaskName} {path : List 
   later = (policy nat_eq fresh world name call).world
 
   is_free : number ≡ free_number task
-  is_free = opened_number (free_number task) number (sym (ap (λ (o : Outcome ℕ). o.answer) outcome) ∙ it.did.answered)
+  is_free = opened_number (free_number task) number (cc (outcome, it.did.answered))
 
   abbrev new_task : Task ℕ
   new_task = with_descriptor task file access
@@ -50,7 +50,7 @@ module _ {world : World ℕ} {fresh : Fresh ℕ} {name : TaskName} {path : List 
   }
 
   spent : (apply nat_eq fresh world it.did.task it.did.permit).world ≡ with_task base new_task
-  spent = ap (λ (o : Outcome ℕ). o.world) outcome
+  spent = cc outcome
 
   there : task_called (apply nat_eq fresh world it.did.task it.did.permit).world name ≡ Some new_task
   there = ap (λ w. task_called w name) spent
@@ -74,7 +74,7 @@ module _ {world : World ℕ} {fresh : Fresh ℕ} {name : TaskName} {path : List 
   still = still_called it name new_task there
 
   still_found : descriptor_numbered (raised_task name new_task) number ≡ Some new_descriptor
-  still_found = ap (find (λ (d : Descriptor ℕ). nat_eq number d.number)) (raised_descriptors name new_task) ∙ found
+  still_found = cc (raised_descriptors name new_task, found)
 
   pub opens_file : OpensFile world fresh name task call file access number
   opens_file = grind (arith, common_steps, is_free, still, still_found)
@@ -91,12 +91,12 @@ there_parts : (looks : Looks ℕ) {too_many : Permit ℕ → Bool} (task : Task 
     → IsGranted nat_eq looks too_many task (OpenFile path access (OrCreate mode)) permit → permit ≡ ToOpen file access
 there_parts looks task path access mode place file permit walk object
     (opens_existing _ _ _ other found room end named there passed) =
-    let same : other ≡ place = same_end other place (sym end ∙ walk) in
-    ap (λ f. ToOpen f access) (same_Some found file (sym there ∙ ap (λ (p : Place ℕ). p.object) same ∙ object))
+    let same : other ≡ place = same_end other place (cc) in
+    cc (same_Some found file (sym there ∙ ap (λ (p : Place ℕ). p.object) same ∙ object))
 there_parts looks task path access mode place file permit walk object
     (creates _ _ _ other room end named missing passed) =
-    let same : other ≡ place = same_end other place (sym end ∙ walk) in
-    none_is_not None file refl (sym missing ∙ ap (λ (p : Place ℕ). p.object) same ∙ object)
+    let same : other ≡ place = same_end other place (cc) in
+    none_is_not None file refl (cc)
 
 missing_parts : (looks : Looks ℕ) {too_many : Permit ℕ → Bool} (task : Task ℕ) (path : List ℕ) (access : Access)
     (mode : ℕ) (place : Place ℕ) (permit : Permit ℕ) → file_walk nat_eq looks task path ≡ Ok place → place.object ≡ None
@@ -104,10 +104,10 @@ missing_parts : (looks : Looks ℕ) {too_many : Permit ℕ → Bool} (task : Tas
     → permit ≡ open_new_permit task place access mode
 missing_parts looks task path access mode place permit walk object
     (opens_existing _ _ _ other found room end named there passed) =
-    let same : other ≡ place = same_end other place (sym end ∙ walk) in
-    none_is_not None found refl (sym object ∙ ap (λ (p : Place ℕ). p.object) (sym same) ∙ there)
+    let same : other ≡ place = same_end other place (cc) in
+    none_is_not None found refl (cc there)
 missing_parts looks task path access mode place permit walk object (creates _ _ _ other room end named missing passed) =
-    ap (λ p. open_new_permit task p access mode) (same_end other place (sym end ∙ walk))
+    cc (same_end other place (sym end ∙ walk))
 
 pub exclusive_parts : (looks : Looks ℕ) {too_many : Permit ℕ → Bool} (task : Task ℕ) (path : List ℕ) (access : Access)
     (mode : ℕ) (permit : Permit ℕ) → IsGranted nat_eq looks too_many task (OpenFile path access (Exclusive mode)) permit
@@ -131,7 +131,7 @@ pub given_of : (world : World ℕ) (fresh : Fresh ℕ) (name : TaskName) (call :
     → (did : IsPermitted world fresh name call answer) → IsGiven fresh world did.task did.permit
 given_of world fresh name call answer serves other few did = record {
   serves = serves;
-  called = ap (task_called world) (sym (name_found world name did.task did.called)) ∙ did.called;
+  called = cc (name_found world name did.task did.called, did.called);
   call = call;
   no_overlay = other;
   few_groups = few;
@@ -162,11 +162,11 @@ module _ {world : World ℕ} {fresh : Fresh ℕ} (is : IsWorld nat_eq world) (pl
       (unused_inode world fresh serves is.files.numbers 0 (mount_at nat_eq world directory).filesystem)
 
 module _ {world : World ℕ} {fresh : Fresh ℕ} {name : TaskName} {path : List ℕ} {access : Access} {creation : Creation}
-    {number : ℕ} (it : HasSucceeded world fresh name (OpenFile path access creation) (Opened number))
-    (task : Task ℕ) (called : task_called world name ≡ Some task) (mode : ℕ) (place : Place ℕ)
+    {number : ℕ} (it : HasSucceeded world fresh name (OpenFile path access creation) (Opened number)) {task : Task ℕ}
+    (called : task_called world name ≡ Some task) (mode : ℕ) (place : Place ℕ)
     (permit : it.did.permit ≡ open_new_permit task place access mode) where
   task_is : it.did.task ≡ task
-  task_is = same_Some it.did.task task (sym it.did.called ∙ called)
+  task_is = same_Some it.did.task task (cc it.did.called)
 
   seen_to : SeesTo world it.did.task it.did.permit
   seen_to = given_permits_are_seen_to world fresh it.did.task it.did.permit it.is
@@ -182,7 +182,7 @@ module _ {world : World ℕ} {fresh : Fresh ℕ} {name : TaskName} {path : List 
   new_place = record { mount = place.parent.mount; node = fresh 0 }
 
   outcome : apply nat_eq fresh world it.did.task it.did.permit ≡ opened base task new_place access
-  outcome = ap (apply nat_eq fresh world it.did.task) permit ∙ ap (λ t. opened base t new_place access) task_is
+  outcome = cc task_is
 
   tasks : base.tasks ≡ world.tasks
   tasks = made_tasks it.is it.plain it.serves may
@@ -192,18 +192,18 @@ module _ {world : World ℕ} {fresh : Fresh ℕ} {name : TaskName} {path : List 
 
   pub opens_new_file : OpensNewFile world fresh name task (OpenFile path access creation) place access mode number
   opens_new_file = (
-    opens_file it task called base new_place outcome tasks,
-    file_seen it task called base new_place outcome tasks ∙ seen,
-    subst (ReadsBy world fresh name (OpenFile path access creation) access number) (ap bytes_in seen)
-        (reads_by it task called base new_place outcome tasks),
+    opens_file it called new_place outcome tasks,
+    file_seen it called new_place outcome tasks ∙ seen,
+    subst (ReadsBy world fresh name (OpenFile path access creation) access number) (cc seen)
+        (reads_by it called new_place outcome tasks),
   )
 
 pub open_then_pread : OpenThenPread
 open_then_pread world fresh name task path access number is plain serves called granted = (
   here,
-  ap (λ t. object_walk nat_eq (looks_of nat_eq world) t path) (sym task_is) ∙ parts.1,
-  opens_file it task called world here.location outcome refl,
-  reads_by it task called world here.location outcome
+  cc (task_is, parts.1),
+  opens_file it called here.location outcome refl,
+  reads_by it called here.location outcome
       refl,
 )
   where
@@ -218,7 +218,7 @@ open_then_pread world fresh name task path access number is plain serves called 
     }
 
     task_is : it.did.task ≡ task
-    task_is = same_Some it.did.task task (sym it.did.called ∙ called)
+    task_is = same_Some it.did.task task (cc it.did.called)
 
     parts : (here : Here ℕ) × (object_walk nat_eq (looks_of nat_eq world) it.did.task path ≡ Ok here)
         × (it.did.permit ≡ ToOpen here.location access)
@@ -228,13 +228,11 @@ open_then_pread world fresh name task path access number is plain serves called 
     here = parts.0
 
     outcome : apply nat_eq fresh world it.did.task it.did.permit ≡ opened world task here.location access
-    outcome = ap (apply nat_eq fresh world it.did.task) parts.2
-        ∙ open_spent fresh world plain it.did.task here.location access
-        ∙ ap (λ t. opened world t here.location access) task_is
+    outcome = cc (parts.2, open_spent fresh world plain it.did.task here.location access, task_is)
 
 pub open_or_create_then_pread : OpenOrCreateThenPread
 open_or_create_then_pread world fresh name task path access mode number place file is plain serves called walk object
-    granted = (opens_file it task called world file outcome refl, reads_by it task called world file outcome refl)
+    granted = (opens_file it called file outcome refl, reads_by it called file outcome refl)
   where
     it : HasSucceeded world fresh name (OpenFile path access (OrCreate mode)) (Opened number)
     it = record {
@@ -247,7 +245,7 @@ open_or_create_then_pread world fresh name task path access mode number place fi
     }
 
     task_is : it.did.task ≡ task
-    task_is = same_Some it.did.task task (sym it.did.called ∙ called)
+    task_is = same_Some it.did.task task (cc it.did.called)
 
     outcome : apply nat_eq fresh world it.did.task it.did.permit ≡ opened world task file access
     outcome = ap (apply nat_eq fresh world it.did.task)
@@ -257,10 +255,11 @@ open_or_create_then_pread world fresh name task path access mode number place fi
 
 pub create_then_pread : CreateThenPread
 create_then_pread world fresh name task path access mode number place is plain serves called walk object granted =
-    opens_new_file it task called mode place
-    (missing_parts (looks_of nat_eq world) it.did.task path access mode place it.did.permit
-    (ap (λ t. file_walk nat_eq (looks_of nat_eq world) t path) task_is ∙ walk) object it.did.granted
-    ∙ ap (λ t. open_new_permit t place access mode) task_is)
+    opens_new_file it called mode place (cc (
+      missing_parts (looks_of nat_eq world) it.did.task path access mode place
+          it.did.permit (ap (λ t. file_walk nat_eq (looks_of nat_eq world) t path) task_is ∙ walk) object it.did.granted,
+      task_is,
+    ))
   where
     it : HasSucceeded world fresh name (OpenFile path access (OrCreate mode)) (Opened number)
     it = record {
@@ -273,13 +272,13 @@ create_then_pread world fresh name task path access mode number place is plain s
     }
 
     task_is : it.did.task ≡ task
-    task_is = same_Some it.did.task task (sym it.did.called ∙ called)
+    task_is = same_Some it.did.task task (cc it.did.called)
 
 pub exclusive_then_pread : ExclusiveThenPread
 exclusive_then_pread world fresh name task path access mode number is plain serves called granted = (
   parts.0,
-  ap (λ t. new_walk nat_eq (looks_of nat_eq world) t path) (sym task_is) ∙ parts.1,
-  opens_new_file it task called mode parts.0 (parts.4 ∙ ap (λ t. open_new_permit t parts.0 access mode) task_is),
+  cc (task_is, parts.1),
+  opens_new_file it called mode parts.0 (cc (parts.4, task_is)),
 )
   where
     it : HasSucceeded world fresh name (OpenFile path access (Exclusive mode)) (Opened number)
@@ -293,7 +292,7 @@ exclusive_then_pread world fresh name task path access mode number is plain serv
     }
 
     task_is : it.did.task ≡ task
-    task_is = same_Some it.did.task task (sym it.did.called ∙ called)
+    task_is = same_Some it.did.task task (cc it.did.called)
 
     parts : (place : Place ℕ) × (new_walk nat_eq (looks_of nat_eq world) it.did.task path ≡ Ok place)
         × (is_special place.last ≡ false) × (place.slash ≡ false)

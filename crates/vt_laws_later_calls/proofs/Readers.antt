@@ -22,7 +22,7 @@ use Rattle.vt_laws_later_calls.proofs.WaysStay.{Known, SeesLater, StandsAs, Worl
 -- a task goes by its own name
 pub own_name : (world : World ℕ) (name : TaskName) (task : Task ℕ) → task_called world name ≡ Some task
     → task_called world task.name ≡ Some task
-own_name world name task e = ap (task_called world) (sym (name_found world name task e)) ∙ e
+own_name world name task e = cc (name_found world name task e)
 
 -- with the same credentials, or those that may search and read everything
 abbrev pub MayLook : Task ℕ → Task ℕ → Type 0
@@ -41,18 +41,16 @@ all_stands world task name reading looks = record { root = looks.root; directory
 
 -- A name in a directory
 pub named_last : (last : LastWord) → is_special last ≡ false → last ≡ Named (name_of last)
-named_last NoWord e = absurd (true≢false e)
-named_last Dot e = absurd (true≢false e)
-named_last DotDot e = absurd (true≢false e)
+named_last NoWord e = cc
+named_last Dot e = cc
+named_last DotDot e = cc
 named_last (Named name) e = refl
 
 pub stepped_by : (world : World ℕ) (reader : Task ℕ) (here : Location ℕ) (last : LastWord) → is_special last ≡ false
     → (o : Option ℕ) → entry_named (name_of last) (entries_in (node_at nat_eq world here)) ≡ o
     → stepped nat_eq world reader here last ≡ ok_or (option_map (topmost nat_eq world.mounts)
     (option_map (λ object. record { mount = here.mount; node = object }) o)) (denial W6)
-stepped_by world reader here last special o e = ap (stepped nat_eq world reader here) (named_last last special)
-    ∙ ap (λ o. ok_or (option_map (topmost nat_eq world.mounts)
-    (option_map (λ object. record { mount = here.mount; node = object }) o)) (denial W6)) e
+stepped_by world reader here last special o e = cc (named_last last special)
 
 -- over what is no directory no mount stands
 pub uncovered : (world : World ℕ) → IsWorld nat_eq world → (location : Location ℕ)
@@ -73,10 +71,9 @@ uncovered world is location no_directory = by (child_at nat_eq world.mounts loca
     by None e = over (length world.mounts) e
     by (Some mount) e =
         let found = found_in (stands_at nat_eq location) world.mounts mount e in
-        absurd (true≢false (sym (among_from_all (λ (m : Mount ℕ). (place : Location ℕ) → m.mount_point ≡ Some place
-        → is_directory_at nat_eq world place ≡ true)
-        world.mounts (worlds_are_standing world is).places mount found.0 location (stands_there location mount found.1))
-        ∙ no_directory))
+        cc (among_from_all (λ (m : Mount ℕ). (place : Location ℕ) → m.mount_point ≡ Some place → is_directory_at nat_eq
+        world place ≡ true) world.mounts (worlds_are_standing world is).places mount found.0 location
+        (stands_there location mount found.1))
 
 module _ {world : World ℕ} {fresh : Fresh ℕ} {name : TaskName} {call : Call} {answer : Answer}
     {it : HasSucceeded world fresh name call answer} {location : Location ℕ} {change : Change ℕ} {from : Fresh ℕ}
@@ -94,10 +91,8 @@ module _ {world : World ℕ} {fresh : Fresh ℕ} {name : TaskName} {call : Call}
 
   -- the caller is there still
   pub caller : task_called left name ≡ Some (raised_task name it.did.task)
-  caller = still_called it name it.did.task
-      (ap (λ w. task_called w name) changes.does
-      ∙ ap (find (λ (t : Task ℕ). same_name name t.name)) (tasks-with_change from world location change)
-      ∙ it.did.called)
+  caller =
+      still_called it name it.did.task (cc (changes.does, tasks-with_change from world location change, it.did.called))
 
   module _ (reader : Task ℕ) (called : task_called left reader.name ≡ Some reader)
       (stands : StandsAs it.did.task reader) where
@@ -118,8 +113,7 @@ module _ {world : World ℕ} {fresh : Fresh ℕ} {name : TaskName} {call : Call}
 
     pub known_there : (here : Location ℕ) → KnownToo here
         → is_some (node_in left (mount_at nat_eq world here).filesystem here.node) ≡ true
-    known_there here known = ap is_some (sym (node_here both here))
-        ∙ known.1.1
+    known_there here known = cc (node_here both here, known.1.1)
 
     -- what is at the location of the change
     pub seen_there : KnownToo location → node_at nat_eq left location
@@ -143,9 +137,11 @@ module _ {world : World ℕ} {fresh : Fresh ℕ} {name : TaskName} {call : Call}
     searched_by_all : reads_all reader.credentials ≡ true → (here : Location ℕ) → KnownToo here
         → is_directory_at nat_eq world here ≡ true → may (looks_of nat_eq left) reader here execute_right ≡ true
     searched_by_all all here known directory = search_all reader.credentials all (node_at nat_eq left here)
-        (ap is_directory_node (node_here both here)
-        ∙ stays.directory (mount_at nat_eq world here).filesystem here.node known.0.1 (known_there here known)
-        ∙ directory)
+        (cc (
+          node_here both here,
+          stays.directory (mount_at nat_eq world here).filesystem here.node known.0.1
+              (known_there here known),
+        ))
 
     -- where rights stay
     pub leads : RightsStay (files_at nat_eq world location).tree
@@ -153,11 +149,12 @@ module _ {world : World ℕ} {fresh : Fresh ℕ} {name : TaskName} {call : Call}
         → MayLook it.did.task reader → LeadsToo (looks_of nat_eq world)
         (looks_of nat_eq left) it.did.task reader Refused KnownToo
     leads rights (inr all) = leads_by (λ here known directory e. inl (searched_by_all all here known directory))
-    leads rights (inl same) = leads_by (λ here known directory e. inl
-        (ap (λ who. node_allows who execute_right (node_at nat_eq left here)) same
-        ∙ ap (node_allows it.did.task.credentials execute_right) (node_here both here) ∙ world_rights it changes
-        rights (mount_at nat_eq world here).filesystem here.node execute_right it.did.task.credentials known.0.1
-        (known_there here known) ∙ e))
+    leads rights (inl same) = leads_by (λ here known directory e. inl (cc (
+      node_here both here,
+      world_rights it changes
+          rights (mount_at nat_eq world here).filesystem here.node execute_right it.did.task.credentials known.0.1
+          (known_there here known),
+    )))
 
     -- where they may be lost, and that is a refusal
     pub leads_or_hides : Refused (denial W4)

@@ -28,7 +28,7 @@ module _ {world : World ℕ} {fresh : Fresh ℕ} {name : TaskName} {call : Call}
   later = (policy nat_eq fresh world name call).world
 
   pub called_own : task_called world it.did.task.name ≡ Some it.did.task
-  called_own = ap (task_called world) (sym (name_found world name it.did.task it.did.called)) ∙ it.did.called
+  called_own = cc (name_found world name it.did.task it.did.called, it.did.called)
 
   pub spent_unsettled : IsWorldButForUse spent_world
   spent_unsettled = subst (λ (o : Outcome ℕ). IsWorldButForUse o.world)
@@ -38,8 +38,7 @@ module _ {world : World ℕ} {fresh : Fresh ℕ} {name : TaskName} {call : Call}
   -- each task is there after the last step,
   pub still_called : (reader : TaskName) (reading : Task ℕ) → task_called spent_world reader ≡ Some reading
       → task_called later reader ≡ Some (raised_task name reading)
-  still_called reader reading e =
-      ap (λ w. task_called w reader) it.did.left ∙ called_raised name reader reading spent_world.tasks e
+  still_called reader reading e = cc (it.did.left, called_raised name reader reading spent_world.tasks e)
 
   -- and where it is, or has a file open, stands what the call left there
   pub still_seen : (reader : TaskName) (reading : Task ℕ) → task_called spent_world reader ≡ Some reading

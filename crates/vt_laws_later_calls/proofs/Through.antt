@@ -17,26 +17,27 @@ use Rattle.vt_laws_rules.specs.Granted.IsGranted.{writes_part}
 
 -- bytes with zeros after them, as long as they must be
 padded_long : (offset : ℕ) (old : List ℕ) → length (padded offset old) ≡ length old + (offset - length old)
-padded_long offset old = length-append old (replicate {A = ℕ} (offset - length old) 0)
-    ∙ ap (λ n. length old + n) (length-replicate {A = ℕ} (offset - length old) 0)
+padded_long offset old =
+    cc (length-append old (replicate {A = ℕ} (offset - length old) 0), length-replicate {A = ℕ} (offset - length old) 0)
 
 -- what was written over is at its offset
 written_over : (offset : ℕ) (new old : List ℕ) → take (length new) (drop offset (overwritten offset new old)) ≡ new
 written_over offset new old =
     let long : length (padded offset old) ≡ length old + (offset - length old) = padded_long offset old in
-    let front : length (take offset (padded offset old)) ≡ offset =
-    length-take-le offset (padded offset old) (omega arith) in
-    ap (λ n. take (length new) (drop n (overwritten offset new old))) (sym front)
-    ∙ ap (λ bytes. take (length new) (drop (length (take offset (padded offset old))) bytes))
-    (append_assoc (take offset (padded offset old)) new (drop (offset + length new) old)) ∙ ap (take (length new))
-    (drop-append_seam (take offset (padded offset old)) (new ++ drop (offset + length new) old))
-    ∙ take-append_seam new (drop (offset + length new) old)
+    let front : length (take offset (padded offset old)) ≡ offset = length-take-le offset (padded offset old)
+    (omega arith) in
+    cc (
+      append_assoc (take offset (padded offset old)) new (drop (offset + length new) old),
+      drop-append_seam
+          (take offset (padded offset old)) (new ++ drop (offset + length new) old),
+      take-append_seam new
+          (drop (offset + length new) old),
+    )
 
 -- a descriptor that is there and may do it is found
 descriptor_found : (o : Option (Descriptor ℕ)) (may : Descriptor ℕ → Bool) (descriptor : Descriptor ℕ)
     → o ≡ Some descriptor → may descriptor ≡ true → ok_or (find may (option_to_list o)) (denial S4) ≡ Ok descriptor
-descriptor_found o may descriptor is e = ap (λ o. ok_or (find may (option_to_list o)) (denial S4)) is
-    ∙ ap (λ b. ok_or (cond b (Some descriptor) None) (denial S4)) e
+descriptor_found o may descriptor is e = cc
 
 -- a task with its change number raised has what it had
 pub raised_descriptors : (name : TaskName) (task : Task ℕ) → (raised_task name task).descriptors ≡ task.descriptors
@@ -57,8 +58,8 @@ pwrite_parts : (looks : Looks ℕ) {too_many : Permit ℕ → Bool} (task : Task
     → IsGranted nat_eq looks too_many task (Pwrite written.number offset bytes) permit
     → permit ≡ ToWritePart written.location offset bytes
 pwrite_parts looks task written offset bytes permit is (writes_part _ _ _ descriptor found passed) =
-    ap (λ (d : Descriptor ℕ). ToWritePart d.location offset bytes) (same_Some descriptor written
-    (sym (Rattle.vt_spec.proofs.Given.descriptor_found task written.number (λ d. d.writes) descriptor found).0 ∙ is))
+    cc (same_Some descriptor written (sym (Rattle.vt_spec.proofs.Given.descriptor_found task written.number
+    (λ d. d.writes) descriptor found).0 ∙ is))
 
 -- a regular file with other bytes has these
 bytes_set : (bytes : List ℕ) (o : Option (Node ℕ)) → is_kind_in File o ≡ true
@@ -145,14 +146,12 @@ pwrite_then_pread world fresh name reader task reading written read offset bytes
     }
 
     task_is : task ≡ it.did.task
-    task_is = same_Some task it.did.task (sym called ∙ it.did.called)
+    task_is = same_Some task it.did.task (cc it.did.called)
 
     spent : (apply nat_eq fresh world it.did.task it.did.permit).world
         ≡ pwritten nat_eq fresh world written.location offset bytes
-    spent = ap (λ p. (apply nat_eq fresh world it.did.task p).world)
-        (pwrite_parts (looks_of nat_eq world) it.did.task written offset bytes it.did.permit
-        (ap (λ t. descriptor_numbered t written.number) (sym task_is) ∙ found) it.did.granted)
+    spent = ap (λ p. (apply nat_eq fresh world it.did.task p).world) (pwrite_parts (looks_of nat_eq world) it.did.task
+        written offset bytes it.did.permit (cc (task_is, found)) it.did.granted)
 
     there : task_called (apply nat_eq fresh world it.did.task it.did.permit).world reader ≡ Some reading
-    there = ap (λ w. task_called w reader) spent ∙ ap (find (λ (t : Task ℕ). same_name reader t.name))
-        (tasks-pwritten fresh world written.location offset bytes) ∙ called_too
+    there = cc (spent, tasks-pwritten fresh world written.location offset bytes)

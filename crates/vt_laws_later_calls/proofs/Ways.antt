@@ -29,7 +29,7 @@ walk_passing steps rules a b e =
 
 pub walk_passed : {A : Type 0} (steps : List (List ℕ)) (rules : Rules) (a : A) → NoneFails rules
     → walk_unless steps rules a ≡ Ok a
-walk_passed steps rules a pass = ap (stopped_by steps) (passed rules (Ok a) pass)
+walk_passed steps rules a pass = cc (passed rules (Ok a) pass)
 
 -- the place of a walk, whatever filesystems it met
 abbrev pub at : Here ℕ → List (List ℕ) → Here ℕ
@@ -74,12 +74,12 @@ pub word_gave : (looks : Looks ℕ) (task : Task ℕ) (here next : Here ℕ) (wo
     × (stepped nat_eq looks task here.location word ≡ Ok next.location) × (next.left ≡ here.left)
 word_gave looks task here next word e =
     let both = and_then-Ok (unless (search_rules nat_eq looks task here.location)
-    (stepped nat_eq looks task here.location word)) _ next
-    (not_stopped (steps_with nat_eq looks task here word) _ next e) in
-    let parts = passing (search_rules nat_eq looks task here.location)
-    (stepped nat_eq looks task here.location word) both.0 both.1 in
+    (stepped nat_eq looks task here.location word)) _ next (not_stopped (steps_with nat_eq looks task here word) _ next
+    e) in
+    let parts = passing (search_rules nat_eq looks task here.location) (stepped nat_eq looks task here.location word)
+    both.0 both.1 in
     let same = same_ok _ next both.2 in
-    (parts.0, parts.1 ∙ ap (λ (h : Here ℕ). Ok h.location) same, ap (λ (h : Here ℕ). h.left) (sym same))
+    (parts.0, cc parts.1, cc)
 
 module _ {looks later : Looks ℕ} {task reader : Task ℕ} {Refused : Deny → Type 0} {Known : Location ℕ → Type 0}
     (leads : LeadsToo looks later task reader Refused Known) where
@@ -90,8 +90,8 @@ module _ {looks later : Looks ℕ} {task reader : Task ℕ} {Refused : Deny → 
   pub then_too : (first : Result (Here ℕ) (Stop ℕ)) (next : Here ℕ → Result (Here ℕ) (Stop ℕ)) (a b : Here ℕ)
       → Ends first a → ((steps : List (List ℕ)) → Known a.location → Ends (next (at a steps)) b)
       → Ends (then_walk first next) b
-  then_too first next a b (inl e) ends = subst (λ r. Ends (then_walk r next) b) (sym e.0.1) (ends e.0.0 e.1)
-  then_too first next a b (inr stop) ends = inr (stop.0, stop.1, ap (λ r. then_walk r next) stop.2)
+  then_too first next a b (inl e) ends = rw e.0.1 (ends e.0.0 e.1)
+  then_too first next a b (inr stop) ends = inr (stop.0, stop.1, cc stop.2)
 
   -- searched before is searched, or that is the refusal
   pub search_too : (here : Location ℕ) → Known here → NoneFails (search_rules nat_eq looks task here)
@@ -140,8 +140,7 @@ module _ {looks later : Looks ℕ} {task reader : Task ℕ} {Refused : Deny → 
       by (inr hidden) stepping = inr (
         record { deny = denial W4; steps = steps_with nat_eq later reader (at here steps) word },
         hidden.0,
-        ap (λ r. stopped_by (steps_with nat_eq later reader (at here steps) word) (and_then r (on here steps word)))
-            (hidden.1 (stepped nat_eq later reader here.location word)),
+        cc (hidden.1 (stepped nat_eq later reader here.location word)),
       )
 
   -- Ways to follow links, of which the other ends where the first does, and leaves no more links than there were
@@ -158,8 +157,8 @@ module _ {looks later : Looks ℕ} {task reader : Task ℕ} {Refused : Deny → 
       → Ends (words_walked nat_eq later reader other (at start steps) words) end)
   words_too most follow other follows start [] end less e =
       let same = same_end start end e in (
-        subst (λ (h : Here ℕ). h.left ≤ start.left) same (omega arith),
-        λ known steps. inl ((steps, λ i. Ok (at (same i) steps)), subst (λ (h : Here ℕ). Known h.location) same known),
+        rw (← same) (omega arith),
+        λ known steps. inl ((steps, λ i. Ok (at (same i) steps)), rw (← same) known),
       )
   words_too most follow other follows start (word ∷ front) end less e =
       let prefixes = both_walked (words_walked nat_eq looks task follow start front) _ end e in
@@ -180,8 +179,7 @@ module _ {looks later : Looks ℕ} {task reader : Task ℕ} {Refused : Deny → 
             (word_too reached next (last_word word) steps_there known_there gave.0 same
             (leads.step reached.location (last_word word) next.location known_there (not-false _ gave.0.0) gave.1))
             (λ steps_next known_next.
-            subst (λ o. Ends (if_symlink (at next steps_next) o (other reached.location (at next steps_next))) end)
-            (sym (leads.link next.location known_next)) (after.1 known_there known_next steps_next))),
+            rw (leads.link next.location known_next) (after.1 known_there known_next steps_next))),
       )
     where
       linked : (reached next end : Here ℕ) (text : Option (List ℕ)) → next.left ≤ most
@@ -190,7 +188,7 @@ module _ {looks later : Looks ℕ} {task reader : Task ℕ} {Refused : Deny → 
           → Ends (if_symlink (at next steps) text (other reached.location (at next steps))) end)
       linked reached next end None less e =
           let same = same_end next end e in (
-            subst (λ (h : Here ℕ). h.left ≤ next.left) same (omega arith),
+            rw (← same) (omega arith),
             λ known known_next steps.
                 inl ((steps, λ i. Ok (at (same i) steps)), subst (λ (h : Here ℕ). Known h.location) same known_next),
           )
@@ -241,9 +239,7 @@ module _ {looks later : Looks ℕ} {task reader : Task ℕ} {Refused : Deny → 
       (λ inside next inner. symlink_walked nat_eq other later reader inside next inner)
       (λ at_directory next inner stop less gives.
       link_too depth other at_directory next inner stop (omega arith) (omega arith) gives)
-      begun (reverse (words text)) reached (omega arith) (ap (λ start. words_walked nat_eq looks task
-      (λ inside next inner. symlink_walked nat_eq depth looks task inside next inner) start
-      (reverse (words text))) begins.1 ∙ inside.1) in (
+      begun (reverse (words text)) reached (omega arith) (cc (begins.1, inside.1)) in (
         (let least : reached.left ≤ link.left - 1 = walked.0 in subst (λ (h : Here ℕ). h.left ≤ link.left) same
             (omega arith)),
         λ known known_link steps.

@@ -124,21 +124,22 @@ module _ (files : FileTree ℕ) (Refused : Deny → Type 0) where
 
     -- the name leads to the object
     pub name_leads : entry_at named.tree directory name ≡ Some object
-    name_leads = entry_now name ∙ ap (λ b. cond b (Some object) (entry_at files.tree directory name))
-        (ap is_eq (tied_itself nat_list_cmp_total name))
+    name_leads = cc (entry_now name, tied_itself nat_list_cmp_total name)
 
     -- and each other where it led
     entry_stays : (here : ℕ) (other : List ℕ) (next : ℕ) → entry_at files.tree here other ≡ Some next
         → entry_at named.tree here other ≡ Some next
-    entry_stays here other next e = ⊎_elim (λ t. ap (λ m. entry_at named.tree m other) t.1 ∙ entry_now other
-        ∙ by (eq_by_cmp name_cmp other name) refl (ap (λ m. entry_at files.tree m other) (sym t.1) ∙ e))
-        (λ t. ap (λ o. entry_named other (entries_in o))
-        (elsewhere files directory (node_with_entry name object) here t.1) ∙ e) (eqb_tells here directory)
+    entry_stays here other next e = ⊎_elim (λ t. cc (
+      t.1,
+      entry_now other,
+      by (eq_by_cmp name_cmp other name) refl
+          (ap (λ m. entry_at files.tree m other) (sym t.1) ∙ e),
+    )) (λ t. cc
+        (elsewhere files directory (node_with_entry name object) here t.1)) (eqb_tells here directory)
       where
         by : (b : Bool) → eq_by_cmp name_cmp other name ≡ b → entry_at files.tree directory other ≡ Some next
             → cond b (Some object) (entry_at files.tree directory other) ≡ Some next
-        by true tie is = none_is_not (entry_at files.tree directory other) next
-            (ap (entry_at files.tree directory) (same_name other name tie) ∙ free) is
+        by true tie is = none_is_not (entry_at files.tree directory other) next (cc (same_name other name tie)) is
         by false tie is = is
 
     pub ways_named : TreeStays files.tree named.tree Refused
@@ -167,7 +168,7 @@ module _ (files : FileTree ℕ) (Refused : Deny → Type 0) where
       made = changed nat_eq files (Make directory name object node)
 
       not_new : (n : ℕ) → is_some (files.tree.node n) ≡ true → n ≢ object
-      not_new n is same = true≢false (sym is ∙ ap (λ m. is_some (files.tree.node m)) same ∙ ap is_some new)
+      not_new n is same = true≢false (cc)
 
       directory_is : is_some (files.tree.node directory) ≡ true
       directory_is = Rattle.vt_spec.proofs.Nodes.directory_used files.tree directory in_directory
@@ -177,17 +178,16 @@ module _ (files : FileTree ℕ) (Refused : Deny → Type 0) where
       made_other n is = grind (arith, common_steps, ne_eqb, not_new, directory_is)
 
       pub made_entry : entry_at made.tree directory name ≡ Some object
-      made_entry = ap (λ o. entry_named name (entries_in o)) (made_other directory directory_is) ∙ name_leads
+      made_entry = cc (made_other directory directory_is, name_leads)
 
       pub ways_made : TreeStays files.tree made.tree Refused
       ways_made = record {
         root = refl;
-        directory = λ n is. ap is_directory_node (made_other n is) ∙ ways_named.directory n is;
-        parent = λ n is. ap (parent_in n) (made_other n is) ∙ ways_named.parent n is;
-        link = λ n is. ap symlink_text (made_other n is) ∙ ways_named.link n is;
+        directory = λ n is. cc (made_other n is, ways_named.directory n is);
+        parent = λ n is. cc (made_other n is, ways_named.parent n is);
+        link = λ n is. cc (made_other n is, ways_named.link n is);
         entry = λ here other next e.
-            inl (ap (λ o. entry_named other (entries_in o)) (made_other here (some_there here other next e))
-            ∙ entry_stays here other next e);
+            inl (cc (made_other here (some_there here other next e), entry_stays here other next e));
       }
         where
           some_there : (here : ℕ) (other : List ℕ) (next : ℕ) → entry_at files.tree here other ≡ Some next
@@ -196,7 +196,7 @@ module _ (files : FileTree ℕ) (Refused : Deny → Type 0) where
               (directory_from_entry other next (files.tree.node here) e)
 
       pub rights_made : RightsStay files.tree made.tree
-      rights_made who wanted n is = ap (node_allows who wanted) (made_other n is) ∙ rights_named who wanted n is
+      rights_made who wanted n is = cc (made_other n is, rights_named who wanted n is)
 
   module _ (directory : ℕ) (name : List ℕ) (object : ℕ) (named_so : entry_at files.tree directory name ≡ Some object)
       (no_directory : is_directory_node (files.tree.node object) ≡ false) where
@@ -225,14 +225,12 @@ module _ (files : FileTree ℕ) (Refused : Deny → Type 0) where
         ∙ entry_named-without_entry other name (entries_in (files.tree.node directory))
 
     pub name_missing : entry_at removed.tree directory name ≡ None
-    name_missing = entry_less name ∙ ap (λ b. cond (not b) (entry_at files.tree directory name) None)
-        ((bytes_decides name name).1 refl)
+    name_missing = cc (entry_less name, (bytes_decides name name).1 refl)
 
     removed_part : {A : Type 0} (part : Option (Node ℕ) → A)
         → ((o : Option (Node ℕ)) → part (node_without_entry name o) ≡ part o)
         → (n : ℕ) → part (removed.tree.node n) ≡ part (files.tree.node n)
-    removed_part part same n = ap part (removed_node n)
-        ∙ part_stays files directory (node_without_entry name) part same n
+    removed_part part same n = cc (removed_node n, part_stays files directory (node_without_entry name) part same n)
 
     pub ways_removed : Refused (denial W6) → TreeStays files.tree removed.tree Refused
     ways_removed missing = record {
@@ -247,10 +245,8 @@ module _ (files : FileTree ℕ) (Refused : Deny → Type 0) where
             → (entry_at removed.tree here other ≡ Some next)
             ⊎ ((entry_at removed.tree here other ≡ None) × (is_directory_node (files.tree.node next) ≡ false)
             × Refused (denial W6))
-        entry_or here other next e = ⊎_elim
-            (λ t. by (bytes_eq other name) refl (ap (λ m. entry_at removed.tree m other) t.1 ∙ entry_less other)
-            (ap (λ m. entry_at files.tree m other) (sym t.1) ∙ e)) (λ t. inl (ap (λ o. entry_named other (entries_in o))
-            (removed_node here ∙ elsewhere files directory (node_without_entry name) here t.1) ∙ e))
+        entry_or here other next e = ⊎_elim (λ t. by (bytes_eq other name) refl (cc (t.1, entry_less other)) (cc t.1))
+            (λ t. inl (cc (removed_node here, elsewhere files directory (node_without_entry name) here t.1)))
             (eqb_tells here directory)
           where
             by : (b : Bool) → bytes_eq other name ≡ b
@@ -260,19 +256,18 @@ module _ (files : FileTree ℕ) (Refused : Deny → Type 0) where
                 × Refused (denial W6))
             by true same now was =
                 let name_is : other ≡ name = (bytes_decides other name).0 same in
-                let object_is : object ≡ next =
-                same_Some object next (sym named_so ∙ ap (entry_at files.tree directory) (sym name_is) ∙ was) in
-                inr (now, ap (λ m. is_directory_node (files.tree.node m)) (sym object_is) ∙ no_directory, missing)
-            by false same now was = inl (now ∙ was)
+                let object_is : object ≡ next = same_Some object next (cc) in
+                inr (now, cc, missing)
+            by false same now was = inl (cc)
 
     pub rights_removed : RightsStay files.tree removed.tree
     rights_removed who wanted n is = removed_part (node_allows who wanted) (allows_without name who wanted) n
 
 -- An object that is no directory leaves one name for another, which was free
-module _ (files : FileTree ℕ) (Refused : Deny → Type 0) (from : ℕ) (old : List ℕ) (to : ℕ) (new : List ℕ) (object : ℕ)
+module _ (files : FileTree ℕ) (Refused : Deny → Type 0) (from : ℕ) (old : List ℕ) (to : ℕ) (new : List ℕ) {object : ℕ}
     (named_so : entry_at files.tree from old ≡ Some object)
-    (no_directory : is_directory_node (files.tree.node object) ≡ false)
-    (in_directory : IsDirectory files.tree to) (free : entry_at files.tree to new ≡ None) where
+    (no_directory : is_directory_node (files.tree.node object) ≡ false) (in_directory : IsDirectory files.tree to)
+    (free : entry_at files.tree to new ≡ None) where
   abbrev less : FileTree ℕ
   less = without_name nat_eq files from old
 
@@ -290,18 +285,21 @@ module _ (files : FileTree ℕ) (Refused : Deny → Type 0) (from : ℕ) (old : 
   less_kind n = part_stays files from (node_without_entry old) is_directory_node (is_directory-node_without_entry old) n
 
   less_directory : IsDirectory less.tree to
-  less_directory = less_kind to ∙ in_directory
+  less_directory = cc (less_kind to)
 
   less_entry : (here : ℕ) (other : List ℕ) → entry_at less.tree here other ≡ entry_at (changed nat_eq files
       (Remove from old object)).tree here other
-  less_entry here other = ap (λ o. entry_named other (entries_in o)) (less_removed here)
+  less_entry here other = cc (less_removed here)
 
   less_free : entry_at less.tree to new ≡ None
-  less_free = ⊎_elim (λ t. ap (λ m. entry_at less.tree m new) t.1 ∙ less_entry from new
-      ∙ entry_less files Refused from old object named_so no_directory new
-      ∙ by (bytes_eq new old) (ap (λ m. entry_at files.tree m new) (sym t.1) ∙ free))
-      (λ t. ap (λ o. entry_named new (entries_in o)) (elsewhere files from (node_without_entry old) to t.1) ∙ free)
-      (eqb_tells to from)
+  less_free = ⊎_elim (λ t. cc (
+    t.1,
+    less_entry from new,
+    entry_less files Refused from old object named_so no_directory
+        new,
+    by (bytes_eq new old) (ap (λ m. entry_at files.tree m new) (sym t.1) ∙ free),
+  ))
+      (λ t. cc (elsewhere files from (node_without_entry old) to t.1)) (eqb_tells to from)
     where
       by : (b : Bool) → entry_at files.tree from new ≡ None → cond (not b) (entry_at files.tree from new) None ≡ None
       by true e = refl
@@ -319,17 +317,18 @@ module _ (files : FileTree ℕ) (Refused : Deny → Type 0) (from : ℕ) (old : 
   )
 
   pub moved_entry : entry_at moved.tree to new ≡ Some object
-  moved_entry = ap (λ o. entry_named new (entries_in o)) (moved_node to)
-      ∙ name_leads less Refused to new object less_directory less_free
+  moved_entry = cc (moved_node to, name_leads less Refused to new object less_directory less_free)
 
   -- a name that is missing is missing still
   missing_stays : (here : ℕ) (other : List ℕ) → entry_at less.tree here other ≡ None → (here ≡ to → other ≡ new → ⊥)
       → entry_at renamed.tree here other ≡ None
-  missing_stays here other e apart = ⊎_elim (λ t. ap (λ m. entry_at renamed.tree m other) t.1
-      ∙ entry_now less Refused to new object less_directory less_free other
-      ∙ by t.1 (eq_by_cmp name_cmp other new) refl (ap (λ m. entry_at less.tree m other) (sym t.1) ∙ e))
-      (λ t. ap (λ o. entry_named other (entries_in o)) (elsewhere less to (node_with_entry new object) here t.1) ∙ e)
-      (eqb_tells here to)
+  missing_stays here other e apart = ⊎_elim (λ t. cc (
+    t.1,
+    entry_now less Refused to new object less_directory less_free
+        other,
+    by t.1 (eq_by_cmp name_cmp other new) refl (ap (λ m. entry_at less.tree m other) (sym t.1) ∙ e),
+  ))
+      (λ t. cc (elsewhere less to (node_with_entry new object) here t.1)) (eqb_tells here to)
     where
       by : here ≡ to → (b : Bool) → eq_by_cmp name_cmp other new ≡ b → entry_at less.tree to other ≡ None
           → cond b (Some object) (entry_at less.tree to other) ≡ None
@@ -352,9 +351,7 @@ module _ (files : FileTree ℕ) (Refused : Deny → Type 0) (from : ℕ) (old : 
 
   pub ways_moved : Refused (denial W6) → TreeStays files.tree moved.tree Refused
   ways_moved missing = record {
-    root = ap (λ o. (changed_node nat_eq
-        (with_name nat_eq (without_name nat_eq (without_parent nat_eq files o) from old) to new object)
-        object (node_with_parent to)).tree.root) free;
+    root = cc;
     directory = λ n is. moved_part is_directory_node (is_directory-node_without_entry old)
         (is_directory-node_with_entry new object) n;
     parent = λ n is. moved_part (parent_in n) (parent-node_without_entry old n) (parent-node_with_entry new object n) n;
@@ -370,9 +367,11 @@ module _ (files : FileTree ℕ) (Refused : Deny → Type 0) (from : ℕ) (old : 
           → (entry_at moved.tree here other ≡ Some next)
           ⊎ ((entry_at moved.tree here other ≡ None) × (is_directory_node (files.tree.node next) ≡ false)
           × Refused (denial W6))
-      by here other next e (inl same) = inl (ap (λ o. entry_named other (entries_in o)) (moved_node here)
-          ∙ entry_stays less Refused to new object less_directory less_free here other next
-          (less_entry here other ∙ same))
+      by here other next e (inl same) = inl (cc (
+        moved_node here,
+        entry_stays less Refused to new object less_directory
+            less_free here other next (less_entry here other ∙ same),
+      ))
       by here other next e (inr lost) = inr (
         ap (λ o. entry_named other (entries_in o)) (moved_node here)
             ∙ missing_stays here other (less_entry here other ∙ lost.0) (λ same_directory same_word.

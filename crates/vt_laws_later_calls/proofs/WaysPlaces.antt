@@ -37,23 +37,23 @@ pub record IsPlacedAt (looks : Looks ℕ) (task : Task ℕ) (here : Here ℕ) (l
 
 no_name : (last : LastWord) (place : Place ℕ) → last ≡ place.last → is_special last ≡ true
     → is_special place.last ≡ false → ⊥
-no_name last place e special named = true≢false (sym special ∙ ap is_special e ∙ named)
+no_name last place e special named = true≢false (cc)
 
 pub placed_at : (looks : Looks ℕ) (task : Task ℕ) (here : Here ℕ) (last : LastWord) (slash : Bool) (place : Place ℕ)
     → placed nat_eq looks task here last slash ≡ Ok place → is_special place.last ≡ false
     → IsPlacedAt looks task here last slash place
 placed_at looks task here NoWord slash place e special =
-    absurd (no_name NoWord place (ap (λ (p : Place ℕ). p.last) (same_end _ place e)) refl special)
+    absurd (no_name NoWord place (cc (same_end _ place e)) refl special)
 placed_at looks task here Dot slash place e special =
     let both = and_then-Ok (unless (search_rules nat_eq looks task here.location)
-    (object_named nat_eq looks task here.location Dot)) _ place
-    (not_stopped (steps_at nat_eq looks task here Dot) _ place e) in
-    absurd (no_name Dot place (ap (λ (p : Place ℕ). p.last) (same_ok _ place both.2)) refl special)
+    (object_named nat_eq looks task here.location Dot)) _ place (not_stopped (steps_at nat_eq looks task here Dot) _
+    place e) in
+    absurd (no_name Dot place (cc (same_ok _ place both.2)) refl special)
 placed_at looks task here DotDot slash place e special =
     let both = and_then-Ok (unless (search_rules nat_eq looks task here.location)
-    (object_named nat_eq looks task here.location DotDot)) _ place
-    (not_stopped (steps_at nat_eq looks task here DotDot) _ place e) in
-    absurd (no_name DotDot place (ap (λ (p : Place ℕ). p.last) (same_ok _ place both.2)) refl special)
+    (object_named nat_eq looks task here.location DotDot)) _ place (not_stopped (steps_at nat_eq looks task here DotDot)
+    _ place e) in
+    absurd (no_name DotDot place (cc (same_ok _ place both.2)) refl special)
 placed_at looks task here (Named name) slash place e special =
     let both = and_then-Ok (unless (search_rules nat_eq looks task here.location)
     (object_named nat_eq looks task here.location (Named name))) _ place
@@ -63,10 +63,10 @@ placed_at looks task here (Named name) slash place e special =
     let same = same_ok _ place both.2 in
     record {
       searched = parts.0;
-      parent_is = ap (λ (p : Place ℕ). p.parent) same;
-      last_is = ap (λ (p : Place ℕ). p.last) same;
-      object_is = parts.1 ∙ ap (λ (p : Place ℕ). Ok p.object) same;
-      slash_is = ap (λ (p : Place ℕ). p.slash) same;
+      parent_is = cc;
+      last_is = cc;
+      object_is = cc parts.1;
+      slash_is = cc;
     }
 
 pub named_place : (looks : Looks ℕ) (task : Task ℕ) (path : List ℕ) (place : Place ℕ)
@@ -74,17 +74,16 @@ pub named_place : (looks : Looks ℕ) (task : Task ℕ) (path : List ℕ) (place
 named_place looks task path place e special =
     let texts = both_walked (path_text {N = ℕ} path) _ place e in
     let same : path ≡ texts.0 = path_parsed path texts.0 texts.1 in
-    let rest = subst (λ text. then_walk
-    (prefix_walked nat_eq looks task (followed nat_eq looks task) (walk_start task text) (reverse (words text)))
-    (λ here. placed nat_eq looks task here (final_word (reverse (words text))) (ends_in_slash text)) ≡ Ok place)
-    (sym same) texts.2 in
-    by (reverse (words path)) refl (texts.1 ∙ ap Ok (sym same)) rest
+    let rest = subst (λ text. then_walk (prefix_walked nat_eq looks task (followed nat_eq looks task)
+    (walk_start task text) (reverse (words text))) (λ here. placed nat_eq looks task here
+    (final_word (reverse (words text))) (ends_in_slash text)) ≡ Ok place) (sym same) texts.2 in
+    by (reverse (words path)) refl (cc texts.1) rest
   where
     by : (list : List (List ℕ)) → reverse (words path) ≡ list → path_text {N = ℕ} path ≡ Ok path
         → then_walk (prefix_walked nat_eq looks task (followed nat_eq looks task) (walk_start task path) list)
         (λ here. placed nat_eq looks task here (final_word list) (ends_in_slash path)) ≡ Ok place
         → NamedPlace looks task path place
-    by [] is parsed f = absurd (no_name NoWord place (ap (λ (p : Place ℕ). p.last) (same_end _ place f)) refl special)
+    by [] is parsed f = absurd (no_name NoWord place (cc (same_end _ place f)) refl special)
     by (word ∷ front) is parsed f =
         let prefixes = both_walked (words_walked nat_eq looks task (followed nat_eq looks task)
         (walk_start task path) front) _ place f in
@@ -106,7 +105,7 @@ named_place looks task path place e special =
 -- a name is taken as one word
 last_walked_is : (looks : Looks ℕ) (task : Task ℕ) (here : Here ℕ) (last : LastWord) → is_special last ≡ false
     → last_walked nat_eq looks task here last ≡ word_walked nat_eq looks task here last
-last_walked_is looks task here NoWord e = absurd (true≢false e)
+last_walked_is looks task here NoWord e = cc
 last_walked_is looks task here Dot e = refl
 last_walked_is looks task here DotDot e = refl
 last_walked_is looks task here (Named name) e = refl
@@ -130,9 +129,7 @@ module _ {looks later : Looks ℕ} {task reader : Task ℕ} {Refused : Deny → 
   words_from : (path : List ℕ) (list : List (List ℕ)) (end : Here ℕ)
       → words_walked nat_eq looks task (followed nat_eq looks task) (walk_start task path) list ≡ Ok end
       → EndsSo (words_walked nat_eq later reader (followed nat_eq later reader) (walk_start reader path) list) end
-  words_from path list end e =
-      subst (λ start. EndsSo (words_walked nat_eq later reader (followed nat_eq later reader) start list) end)
-      (sym (begun path)) ((words_lead leads 41 41 (walk_start task path) list end (omega arith)
+  words_from path list end e = rw (begun path) ((words_lead leads 41 41 (walk_start task path) list end (omega arith)
       (omega arith) e).1 (begin_known path) [])
 
   -- a path that led to an object leads there
@@ -141,9 +138,7 @@ module _ {looks later : Looks ℕ} {task reader : Task ℕ} {Refused : Deny → 
   path_too path end e =
       let texts = both_walked (path_text {N = ℕ} path) _ end e in
       let same : path ≡ texts.0 = path_parsed path texts.0 texts.1 in
-      subst (λ r. EndsSo (then_walk r (λ text.
-      words_walked nat_eq later reader (followed nat_eq later reader) (walk_start reader text)
-      (reverse (words text)))) end) (sym texts.1) (words_from texts.0 (reverse (words texts.0)) end texts.2)
+      rw texts.1 (words_from texts.0 (reverse (words texts.0)) end texts.2)
 
   pub object_too : (path : List ℕ) (end : Here ℕ) → object_walk nat_eq looks task path ≡ Ok end
       → EndsSo (object_walk nat_eq later reader path) end
@@ -158,7 +153,7 @@ module _ {looks later : Looks ℕ} {task reader : Task ℕ} {Refused : Deny → 
           walk_passed steps (slash_rules nat_eq later path walks.0.location) (at walks.0 steps)
               (slash_too leads path walks.0.location known parts.0) ∙ (λ i. Ok (at (parts.1 i) steps)),
         ),
-        subst (λ (h : Here ℕ). Known h.location) parts.1 known,
+        rw (← parts.1) known,
       ))
 
   -- what is led through a walk that ends so
@@ -166,8 +161,8 @@ module _ {looks later : Looks ℕ} {task reader : Task ℕ} {Refused : Deny → 
       (next : Here ℕ → Result B (Stop ℕ))
       (a : Here ℕ) → EndsSo first a → ((steps : List (List ℕ)) → Known a.location → P (next (at a steps)))
       → ((stop : Stop ℕ) → Refused stop.deny → P (Err stop)) → P (then_walk first next)
-  through P first next a (inl e) ends stops = subst (λ r. P (then_walk r next)) (sym e.0.1) (ends e.0.0 e.1)
-  through P first next a (inr stop) ends stops = subst (λ r. P (then_walk r next)) (sym stop.2) (stops stop.0 stop.1)
+  through P first next a (inl e) ends stops = rw e.0.1 (ends e.0.0 e.1)
+  through P first next a (inr stop) ends stops = rw stop.2 (stops stop.0 stop.1)
 
   -- the last word, which leads to what is there now
   pub last_too : (here : Here ℕ) (word : LastWord) (next : Location ℕ) (steps : List (List ℕ)) → Known here.location
@@ -193,12 +188,7 @@ module _ {looks later : Looks ℕ} {task reader : Task ℕ} {Refused : Deny → 
       by (inr hidden) = inr (
         record { deny = denial W4; steps = steps_with nat_eq later reader (at here steps) word },
         hidden.0,
-        ap (λ r. stopped_by (steps_with nat_eq later reader (at here steps) word) (and_then r (λ reached.
-            Ok (record {
-              location = reached;
-              left = here.left;
-              steps = steps_with nat_eq later reader (at here steps) word;
-            })))) (hidden.1 (stepped nat_eq later reader here.location word)),
+        cc (hidden.1 (stepped nat_eq later reader here.location word)),
       )
 
   last_stops : (here : Here ℕ) (word : LastWord) (deny : Deny) (steps : List (List ℕ)) → Known here.location
@@ -222,7 +212,7 @@ module _ {looks later : Looks ℕ} {task reader : Task ℕ} {Refused : Deny → 
   module _ (path : List ℕ) (place : Place ℕ) (named : is_special place.last ≡ false)
       (parts : NamedPlace looks task path place) where
     named_word : is_special (last_word parts.word) ≡ false
-    named_word = ap is_special parts.last_is ∙ named
+    named_word = cc parts.last_is
 
     stepped_there : (next : Result (Location ℕ) Deny) → stepped nat_eq later reader place.parent place.last ≡ next
         → stepped nat_eq later reader parts.here.location (last_word parts.word) ≡ next
@@ -239,10 +229,7 @@ module _ {looks later : Looks ℕ} {task reader : Task ℕ} {Refused : Deny → 
     path_is : path_walked nat_eq later reader path
         ≡ words_walked nat_eq later reader (followed nat_eq later reader) (walk_start reader path)
         (parts.word ∷ parts.front)
-    path_is = ap (λ r. then_walk r (λ text.
-        words_walked nat_eq later reader (followed nat_eq later reader) (walk_start reader text)
-        (reverse (words text)))) parts.parsed
-        ∙ ap (words_walked nat_eq later reader (followed nat_eq later reader) (walk_start reader path)) parts.words_are
+    path_is = cc (parts.parsed, parts.words_are)
 
     unfollowed_is : symlink_walk_by nat_eq false later reader path
         ≡ then_walk (words_walked nat_eq later reader (followed nat_eq later reader)
@@ -262,12 +249,11 @@ module _ {looks later : Looks ℕ} {task reader : Task ℕ} {Refused : Deny → 
         → stepped nat_eq later reader place.parent place.last ≡ Ok next) where
       pub named_path_too : symlink_text (later.node next) ≡ None
           → EndsThere Refused (path_walked nat_eq later reader path) next parts.here.left
-      named_path_too no_link = subst (λ r. EndsThere Refused r next parts.here.left) (sym path_is)
-          (through (λ r. EndsThere Refused r next parts.here.left)
-          (words_walked nat_eq later reader (followed nat_eq later reader)
-          (walk_start reader path) parts.front) _ parts.here front_too (λ steps known.
-          by steps (last_too parts.here (last_word parts.word) next steps known parts.searched
-          (stepped_there (Ok next) (found (parent_known known))))) (λ stop refused. inr (stop, refused, refl)))
+      named_path_too no_link = rw path_is (through (λ r. EndsThere Refused r next parts.here.left)
+          (words_walked nat_eq later reader (followed nat_eq later reader) (walk_start reader path) parts.front) _
+          parts.here front_too (λ steps known. by steps (last_too parts.here (last_word parts.word) next steps known
+          parts.searched (stepped_there (Ok next) (found (parent_known known)))))
+          (λ stop refused. inr (stop, refused, refl)))
         where
           by : (steps : List (List ℕ)) → EndsThere Refused (word_walked nat_eq later reader (at parts.here steps)
               (last_word parts.word)) next parts.here.left → EndsThere Refused (then_walk
@@ -276,28 +262,20 @@ module _ {looks later : Looks ℕ} {task reader : Task ℕ} {Refused : Deny → 
               (followed nat_eq later reader parts.here.location there))) next parts.here.left
           by steps (inl e) = inl (
             e.0,
-            ap (λ r. then_walk r (λ there.
-                if_symlink there (symlink_text (later.node there.location))
-                (followed nat_eq later reader parts.here.location there))) e.1
-                ∙ ap (λ o. if_symlink (record { location = next; left = parts.here.left; steps = e.0 }) o
-                (followed nat_eq later reader parts.here.location
-                (record { location = next; left = parts.here.left; steps = e.0 }))) no_link,
+            cc e.1,
           )
           by steps (inr stop) = inr (
             stop.0,
             stop.1,
-            ap (λ r. then_walk r (λ there.
-                if_symlink there (symlink_text (later.node there.location))
-                (followed nat_eq later reader parts.here.location there))) stop.2,
+            cc stop.2,
           )
 
       unfollowed_too : EndsThere Refused (symlink_walk_by nat_eq false later reader path) next parts.here.left
-      unfollowed_too = subst (λ r. EndsThere Refused r next parts.here.left) (sym unfollowed_is)
-          (through (λ r. EndsThere Refused r next parts.here.left)
-          (words_walked nat_eq later reader (followed nat_eq later reader)
-          (walk_start reader path) parts.front) _ parts.here front_too
-          (λ steps known. last_too parts.here (last_word parts.word) next steps known parts.searched
-          (stepped_there (Ok next) (found (parent_known known)))) (λ stop refused. inr (stop, refused, refl)))
+      unfollowed_too = rw unfollowed_is (through (λ r. EndsThere Refused r next parts.here.left)
+          (words_walked nat_eq later reader (followed nat_eq later reader) (walk_start reader path) parts.front) _
+          parts.here front_too (λ steps known. last_too parts.here (last_word parts.word) next steps known
+          parts.searched (stepped_there (Ok next) (found (parent_known known))))
+          (λ stop refused. inr (stop, refused, refl)))
 
       -- what rules let pass after the walk
       after_path : EndsThere Refused (path_walked nat_eq later reader path) next parts.here.left
@@ -309,14 +287,13 @@ module _ {looks later : Looks ℕ} {task reader : Task ℕ} {Refused : Deny → 
         ap (λ r. then_walk r (λ here. walk_unless here.steps (rules here.location) here)) e.1
             ∙ walk_passed e.0 (rules next) (record { location = next; left = parts.here.left; steps = e.0 }) pass,
       )
-      after_path (inr stop) rules pass =
-          inr (stop.0, stop.1, ap (λ r. then_walk r (λ here. walk_unless here.steps (rules here.location) here)) stop.2)
+      after_path (inr stop) rules pass = inr (stop.0, stop.1, cc stop.2)
 
       -- a directory, which a slash may follow
       pub directory_named_too : symlink_text (later.node next) ≡ None → is_directory_at later next ≡ true
           → EndsThere Refused (directory_walk nat_eq later reader path) next parts.here.left
       directory_named_too no_link is =
-          after_path (named_path_too no_link) (λ here. (not (is_directory_at later here), W3) ∷ []) (ap not is, tt)
+          after_path (named_path_too no_link) (λ here. (not (is_directory_at later here), W3) ∷ []) (cc, tt)
 
       slash_passes : (slash : Bool) → (slash ≡ true → is_directory_at later next ≡ true)
           → cond slash (not (is_directory_at later next)) false ≡ false
@@ -344,22 +321,19 @@ module _ {looks later : Looks ℕ} {task reader : Task ℕ} {Refused : Deny → 
     module _ (deny : Deny) (refused : Refused deny) (lost : Known place.parent
         → stepped nat_eq later reader place.parent place.last ≡ Err deny) where
       missing_path_too : Stops Refused (path_walked nat_eq later reader path)
-      missing_path_too = subst (Stops Refused) (sym path_is) (through (Stops Refused)
-          (words_walked nat_eq later reader (followed nat_eq later reader)
-          (walk_start reader path) parts.front) _ parts.here front_too (λ steps known.
-          let stop = last_stops parts.here (last_word parts.word) deny steps known parts.searched
+      missing_path_too = rw path_is (through (Stops Refused) (words_walked nat_eq later reader
+          (followed nat_eq later reader) (walk_start reader path) parts.front) _ parts.here front_too
+          (λ steps known. let stop = last_stops parts.here (last_word parts.word) deny steps known parts.searched
           (stepped_there (Err deny) (lost (parent_known known))) refused in (
             stop.0,
             stop.1,
-            ap (λ r. then_walk r (λ there.
-                if_symlink there (symlink_text (later.node there.location))
+            ap (λ r. then_walk r (λ there. if_symlink there (symlink_text (later.node there.location))
                 (followed nat_eq later reader parts.here.location there))) stop.2,
           )) (λ stop refused. (stop, refused, refl)))
 
       unfollowed_missing : Stops Refused (symlink_walk_by nat_eq false later reader path)
-      unfollowed_missing = subst (Stops Refused) (sym unfollowed_is) (through (Stops Refused)
-          (words_walked nat_eq later reader (followed nat_eq later reader)
-          (walk_start reader path) parts.front) _ parts.here front_too
+      unfollowed_missing = rw unfollowed_is (through (Stops Refused) (words_walked nat_eq later reader
+          (followed nat_eq later reader) (walk_start reader path) parts.front) _ parts.here front_too
           (λ steps known. last_stops parts.here (last_word parts.word) deny steps known parts.searched
           (stepped_there (Err deny) (lost (parent_known known))) refused) (λ stop refused. (stop, refused, refl)))
 
@@ -370,7 +344,6 @@ module _ {looks later : Looks ℕ} {task reader : Task ℕ} {Refused : Deny → 
           by true = (
             missing_path_too.0,
             missing_path_too.1,
-            ap (λ r. then_walk r (λ here.
-                walk_unless here.steps (slash_rules nat_eq later path here.location) here)) missing_path_too.2,
+            cc missing_path_too.2,
           )
           by false = unfollowed_missing

@@ -79,11 +79,11 @@ module _ {world later : World ℕ} {task reader : Task ℕ} {Refused : Deny → 
   KnownDirectory here = IsFoundDirectory world it.is task here × IsFoundDirectory later it.is_later reader here
 
   same_mount : (number : ℕ) → mount_numbered nat_eq later number ≡ mount_numbered nat_eq world number
-  same_mount number = ap (λ mounts. mount_in nat_eq mounts number) it.stay.mounts
+  same_mount number = cc it.stay.mounts
 
   pub node_here : (here : Location ℕ)
       → node_at nat_eq later here ≡ node_in later (mount_at nat_eq world here).filesystem here.node
-  node_here here = ap (λ (m : Mount ℕ). node_in later m.filesystem here.node) (same_mount here.mount)
+  node_here here = cc (same_mount here.mount)
 
   there : (here : Location ℕ) → Known here
       → is_some (node_in world (mount_at nat_eq world here).filesystem here.node) ≡ true
@@ -91,7 +91,7 @@ module _ {world later : World ℕ} {task reader : Task ℕ} {Refused : Deny → 
 
   there_later : (here : Location ℕ) → Known here
       → is_some (node_in later (mount_at nat_eq world here).filesystem here.node) ≡ true
-  there_later here known = ap is_some (sym (node_here here)) ∙ known.1.1
+  there_later here known = cc (node_here here, known.1.1)
 
   directory_too : (here : Location ℕ) → Known here
       → is_directory_at nat_eq later here ≡ is_directory_at nat_eq world here
@@ -148,10 +148,9 @@ module _ {world later : World ℕ} {task reader : Task ℕ} {Refused : Deny → 
           → named_by world.mounts here (entry_named name (entries_in (node_at nat_eq world here))) ≡ Ok next
           → ((stepped nat_eq later reader here (Named name) ≡ Ok next) × Known next)
           ⊎ ((deny : Deny) × Refused deny × (stepped nat_eq later reader here (Named name) ≡ Err deny))
-      by None f g = absurd (no_answer (denial W6) next (ap (named_by world.mounts here) (sym f) ∙ g))
-      by (Some object) f g = inside object (ap (named_by world.mounts here) (sym f) ∙ g) e
-          (it.stay.entry (mount_at nat_eq world here).filesystem here.node name object f
-          (there_later here (directory_known here known)))
+      by None f g = absurd (no_answer (denial W6) next (cc))
+      by (Some object) f g = inside object (cc) e (it.stay.entry (mount_at nat_eq world here).filesystem here.node name
+          object f (there_later here (directory_known here known)))
 
   -- Up
   abbrev hop_by : List (Mount ℕ) → Location ℕ → Location ℕ → Option (Location ℕ)
@@ -228,15 +227,14 @@ module _ {world later : World ℕ} {task reader : Task ℕ} {Refused : Deny → 
       parts = or_parts _ _ e
 
       tree_later : IsFileTree (filesystem_numbered nat_eq later (mount_at nat_eq world here).filesystem).files
-      tree_later = subst (λ (m : Mount ℕ). IsFileTree (filesystem_numbered nat_eq later m.filesystem).files)
-          (same_mount here.mount) (tree_here later it.is_later here known.1.1)
+      tree_later = rw (← same_mount here.mount) (tree_here later it.is_later here known.1.1)
 
       names : DirectoryNamesStay (λ n. ⊤) (tree_in world (mount_at nat_eq world here).filesystem)
           (tree_in later (mount_at nat_eq world here).filesystem)
       names directory name number entry is_directory keeps is_there = grind (arith, common_steps, true≢false)
 
       is_directory_later : is_directory_node (node_in later (mount_at nat_eq world here).filesystem here.node) ≡ true
-      is_directory_later = ap is_directory_node (sym (node_here here)) ∙ known.1.1
+      is_directory_later = cc (node_here here, known.1.1)
 
       -- the root of its mount is there
       root_there : is_some (node_in later (mount_at nat_eq world here).filesystem (mount_at nat_eq world here).root)
@@ -246,15 +244,15 @@ module _ {world later : World ℕ} {task reader : Task ℕ} {Refused : Deny → 
           (mount_root later it.is_later here.mount known.1.0.0))
 
       present : is_removed nat_eq files_later.tree here.node ≡ false
-      present = present_later (λ n. ⊤) files_here files_later (tree_here world it.is here known.0.1).tree tree_later
+      present = present_later files_here (tree_here world it.is here known.0.1).tree tree_later
           (it.stay.root (mount_at nat_eq world here).filesystem) (λ directory name number entry keeps. tt) names
-          (mount_at nat_eq world here).root here.node known.0.1 is_directory_later tt root_there parts.0
+          (mount_at nat_eq world here).root known.0.1 is_directory_later tt root_there parts.0
           (not-false _ parts.1)
 
       under : is_directory_under nat_eq files_later point.root here.node ≡ true
-      under = under_later (λ n. ⊤) files_here files_later (tree_here world it.is here known.0.1).tree tree_later
+      under = under_later files_here (tree_here world it.is here known.0.1).tree tree_later
           (it.stay.root (mount_at nat_eq world here).filesystem) (λ directory name number entry keeps. tt) names
-          (mount_at nat_eq world here).root here.node known.0.1 is_directory_later tt root_there parts.0
+          (mount_at nat_eq world here).root known.0.1 is_directory_later tt root_there parts.0
           (not-false _ parts.1)
 
   up_too : (here next : Location ℕ) → KnownDirectory here → stepped nat_eq world task here DotDot ≡ Ok next

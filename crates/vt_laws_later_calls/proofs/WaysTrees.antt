@@ -11,8 +11,7 @@ module _ (tree : Tree ℕ) (conditions : IsTree tree) where
   by_parent : (d : ℕ) → IsDirectory tree d → IsReached tree d → (p : ℕ) → named_parent nat_eq tree d ≡ Some p
       → (name : List ℕ) × (entry_at tree p name ≡ Some d) × IsDirectory tree p × IsReached tree p
   by_parent d is reached p e = ⊎_elim (λ root. none_is_not None p refl
-      (sym (ap (λ b. cond b None (when (has_entry_to nat_eq tree (parent_in d (tree.node d)) d)
-      (parent_in d (tree.node d)))) (eq-eqb d tree.root (sym root))) ∙ e)) (λ named.
+      (cc (eq-eqb d tree.root (sym root)))) (λ named.
       let same : named.0 ≡ p = same_Some named.0 p
       (sym (parent_named tree conditions named.0 named.1 d named.2 is) ∙ e) in (
         named.1,
@@ -29,13 +28,13 @@ module _ (tree : Tree ℕ) (conditions : IsTree tree) where
     where
       by : (b : Bool) → nat_eq top d ≡ b → (b || false) ≡ true → Some top ≡ Some d
       by true e g = ap Some (eqb-true top d e)
-      by false e g = absurd (true≢false (sym g))
+      by false e g = cc
   under_led (suc most) top d is reached h =
       by (named_parent nat_eq tree d) refl h (λ p p_is p_reached g. under_led most top p p_is p_reached g)
     where
       itself : (b : Bool) → nat_eq top d ≡ b → (b || false) ≡ true → Some top ≡ Some d
       itself true e g = ap Some (eqb-true top d e)
-      itself false e g = absurd (true≢false (sym g))
+      itself false e g = cc
 
       more : (p : ℕ) → named_parent nat_eq tree d ≡ Some p → (b : Bool) → nat_eq top d ≡ b
           → (b || is_among nat_eq top (chain most (named_parent nat_eq tree) p)) ≡ true
@@ -60,10 +59,8 @@ module _ (tree : Tree ℕ) (conditions : IsTree tree) where
 
   -- a directory that is reached is not removed
   pub reached_not_removed : (d : ℕ) → IsDirectory tree d → IsReached tree d → is_removed nat_eq tree d ≡ false
-  reached_not_removed d is reached = ⊎_elim
-      (λ root. ap (λ b. not (b || is_some (named_parent nat_eq tree d))) (eq-eqb d tree.root (sym root)))
-      (λ named. ap (λ o. not (nat_eq d tree.root || is_some o))
-      (parent_named tree conditions named.0 named.1 d named.2 is) ∙ either (nat_eq d tree.root))
+  reached_not_removed d is reached = ⊎_elim (λ root. cc (eq-eqb d tree.root (sym root)))
+      (λ named. cc (parent_named tree conditions named.0 named.1 d named.2 is, either (nat_eq d tree.root)))
       (reached_named tree d reached)
     where
       either : (b : Bool) → not (b || true) ≡ false
@@ -82,10 +79,10 @@ KeepsAbove Keeps tree =
     (directory : ℕ) (name : List ℕ) (number : ℕ) → entry_at tree directory name ≡ Some number → Keeps number
     → Keeps directory
 
-module _ (Keeps : ℕ → Type 0) (tree later : Tree ℕ) (before : IsTree tree) (after : IsTree later)
+module _ {Keeps : ℕ → Type 0} {tree later : Tree ℕ} (before : IsTree tree) (after : IsTree later)
     (above : KeepsAbove Keeps tree) (stay : DirectoryNamesStay Keeps tree later) where
   keeps_through : (from : ℕ) (names : List (List ℕ)) (to : ℕ) → led tree from names ≡ Some to → Keeps to → Keeps from
-  keeps_through from [] to e keeps = subst Keeps (sym (same_Some from to e)) keeps
+  keeps_through from [] to e keeps = rw (same_Some from to e) keeps
   keeps_through from (name ∷ names) to e keeps =
       let step = found (λ next. led tree next names) (entry_at tree from name) to e in
       above from name step.0 step.1 (keeps_through step.0 names to step.2 keeps)
@@ -97,13 +94,12 @@ module _ (Keeps : ℕ → Type 0) (tree later : Tree ℕ) (before : IsTree tree)
       let step = found (λ next. led tree next names) (entry_at tree from name) to e in
       let entry = stay from name step.0 step.1 (led_directory tree before step.0 names to step.2 is)
       (keeps_through step.0 names to step.2 keeps) there in
-      ap (option_and_then (λ next. led later next names)) entry
-      ∙ led_stays step.0 names to step.2 is keeps (after.alive from name step.0 entry)
+      cc (led_stays step.0 names to step.2 is keeps (after.alive from name step.0 entry))
 
 -- so a directory that is not lost, under another that is there, is not lost later
-module _ (Keeps : ℕ → Type 0) (files later : FileTree ℕ) (before : IsTree files.tree) (after : IsFileTree later)
-    (root : later.tree.root ≡ files.tree.root) (above : KeepsAbove Keeps files.tree)
-    (stay : DirectoryNamesStay Keeps files.tree later.tree) (top d : ℕ) (is : IsDirectory files.tree d)
+module _ {Keeps : ℕ → Type 0} (files : FileTree ℕ) {later : FileTree ℕ} (before : IsTree files.tree)
+    (after : IsFileTree later) (root : later.tree.root ≡ files.tree.root) (above : KeepsAbove Keeps files.tree)
+    (stay : DirectoryNamesStay Keeps files.tree later.tree) (top : ℕ) {d : ℕ} (is : IsDirectory files.tree d)
     (is_later : IsDirectory later.tree d) (keeps : Keeps d) (top_there : is_some (later.tree.node top) ≡ true)
     (present : is_removed nat_eq files.tree d ≡ false) (under : is_directory_under nat_eq files top d ≡ true) where
   reached : IsReached files.tree d
@@ -113,7 +109,7 @@ module _ (Keeps : ℕ → Type 0) (files later : FileTree ℕ) (before : IsTree 
   reached_later = (
     reached.0,
     ap (λ n. led later.tree n reached.0) root
-        ∙ led_stays Keeps files.tree later.tree before after.tree above stay files.tree.root reached.0 d reached.1 is
+        ∙ led_stays before after.tree above stay files.tree.root reached.0 d reached.1 is
         keeps (subst (λ n. is_some (later.tree.node n) ≡ true) root
         (directory_used later.tree later.tree.root after.tree.root_directory)),
   )
@@ -125,4 +121,4 @@ module _ (Keeps : ℕ → Type 0) (files later : FileTree ℕ) (before : IsTree 
   under_later =
       let names = under_led files.tree before (length files.numbers) top d is reached under in
       under_seen later after d is_later reached_later top names.0
-      (led_stays Keeps files.tree later.tree before after.tree above stay top names.0 d names.1 is keeps top_there)
+      (led_stays before after.tree above stay top names.0 d names.1 is keeps top_there)

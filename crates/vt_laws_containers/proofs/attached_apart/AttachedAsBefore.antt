@@ -46,7 +46,7 @@ module _ {world : World ℕ} {names : List TaskName} {attaching : AttachesTheirs
       (λ more. let of = of_copies attaching new false origins y more in
       copy_ours to new attaching.place false origins IsOurs (λ a b. inr (new_groups a b)) sources of.0 of.2 of.3 g
       (ap (λ (x : Mount ℕ). source_of x.propagation) (sym of.4) ∙ e))
-      (own_how world names up added attaching.new_ones masters grows y m mine)
+      (own_how grows y m mine)
 
   as_grown : attached_by nat_eq to new attaching.place false origins ≡ grown_world world names up added
       attaching.new_ones masters
@@ -55,5 +55,5 @@ module _ {world : World ℕ} {names : List TaskName} {attaching : AttachesTheirs
   pub copies_as_before : OthersAsBefore world (attached_by nat_eq to new attaching.place false origins) names names
   copies_as_before = subst (λ w. OthersAsBefore world w names names) (sym as_grown)
       (grown_as_before attaching.sealing grows
-      (groups_apart attaching.sealing fresh serves up added attaching.new_ones formed grows sourced
+      (groups_apart attaching.sealing fresh serves formed grows sourced
       (made_ours to new attaching.place false origins IsOurs (λ a b. inr (new_groups a b)) sources)))

@@ -24,9 +24,9 @@ use Rattle.vt_laws_containers.proofs.attached_apart.AttachedAsBefore.{copies_as_
 use Rattle.vt_laws_containers.proofs.attached_apart.GroupsApart.{Ours, source_ours}
 use Rattle.vt_laws_sealed.proofs.part.seals.ByPart.{IsSealed}
 
-module _ {world : World ℕ} {names : List TaskName} (sealing : IsSealed world names) (fresh : Fresh ℕ)
-    (serves : Serves nat_eq world fresh)
-    (from here : Location ℕ) (recursive : Bool) (from_on : is_theirs world names from.mount ≡ true)
+module _ {world : World ℕ} {names : List TaskName} (sealing : IsSealed world names) {fresh : Fresh ℕ}
+    (serves : Serves nat_eq world fresh) (from here : Location ℕ) (recursive : Bool)
+    (from_on : is_theirs world names from.mount ≡ true)
     (from_own : is_own world names (members world names) (mount_at nat_eq world from) ≡ true)
     (on : is_theirs world names here.mount ≡ true)
     (own : is_own world names (members world names) (mount_at nat_eq world here) ≡ true) where
@@ -88,7 +88,7 @@ binds_give_no_foothold world names name source path recursive it fresh serves = 
         → GivesNoFoothold world names name (Bind source path recursive) fresh
     judged_by task member e (Ok permit) judged its =
         permit_out (record { it = it; few = refl; serves = serves; called = e }) (ToBind its.0 its.1 recursive)
-        (judged ∙ ap Ok its.2) (λ ends. bound_as_before (sealing_of it) fresh serves its.0 its.1 recursive its.3 its.4
+        (judged ∙ ap Ok its.2) (λ ends. bound_as_before (sealing_of it) serves its.0 its.1 recursive its.3 its.4
         its.5 its.6)
     judged_by task member e (Err deny) judged its = refused_out it fresh
         (ap (λ o. is_ok (ran name (Bind source path recursive) world fresh o).answer) e

@@ -84,7 +84,7 @@ module _ {world : World ℕ} {names : List TaskName} (sealing : IsSealed world n
       world.mounts other m).0 group how new) its
 
   -- The world that is left
-  module _ (change : Mount ℕ → Mount ℕ) (added : List (Mount ℕ)) (new_ones : List (Filesystem ℕ))
+  module _ {change : Mount ℕ → Mount ℕ} {added : List (Mount ℕ)} {new_ones : List (Filesystem ℕ)}
       (made : List (ℕ × Option ℕ))
       (grows : Grows world names change added new_ones (folded (masters_with nat_eq) world.master made))
       (sourced : (y : Mount ℕ) → Among y (map change world.mounts ++ added) → is_own_mount nat_eq world names y ≡ true

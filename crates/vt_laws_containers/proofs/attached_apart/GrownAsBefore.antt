@@ -74,7 +74,7 @@ module _ {world : World ℕ} {names : List TaskName} (sealing : IsSealed world n
 
   shown_still : (l : Location ℕ) → Among l (all_locations world)
       → (mount_at nat_eq left l).filesystem ≡ (mount_at nat_eq world l).filesystem
-  shown_still l m = shows_still world names change added new_ones master grows l.mount (numbered_there l m)
+  shown_still l m = shows_still grows l.mount (numbered_there l m)
 
   owned_still : (x : Mount ℕ) → Among x world.mounts → owns (change x) ≡ owns x
   owned_still x m = grind (arith, common_steps)
@@ -89,7 +89,7 @@ module _ {world : World ℕ} {names : List TaskName} (sealing : IsSealed world n
       search [] sub h = absurd (true≢false (sym h))
       search (x ∷ rest) sub h = ap (λ n. owns (unwrap_or (cond (nat_eq number n) (Some (change x))
           (find (λ (m : Mount ℕ). nat_eq number m.number) (map change rest ++ added))) (no_mount number)))
-          (as_before world names change added new_ones master grows x (sub x (inl refl))).0
+          (as_before grows x (sub x (inl refl))).0
           ∙ by (nat_eq number x.number) h (search rest (λ y m. sub y (inr m)))
         where
           by : (b : Bool) → (b || is_among nat_eq number (map (λ (m : Mount ℕ). m.number) rest)) ≡ true
@@ -135,11 +135,11 @@ module _ {world : World ℕ} {names : List TaskName} (sealing : IsSealed world n
       → Among y.filesystem (used_directly nat_eq world names) ⊎ (IsThere world y.filesystem → ⊥)
   shown_was y m own = ⊎_elim (λ old. inl (among-append_left mounted located_at y.filesystem
       (subst (λ n. Among n mounted) (sym (ap (λ (x : Mount ℕ). x.filesystem) old.3
-      ∙ (as_before world names change added new_ones master grows old.0 old.1).1))
+      ∙ (as_before grows old.0 old.1).1))
       (among-map (λ (x : Mount ℕ). x.filesystem) (own_mounts nat_eq world names) old.0
       (among-filter owns world.mounts old.0 old.1 old.2)))))
       (λ more. ⊎_elim inl (λ new. inr (new_is_not_there y.filesystem new)) (grows.shown y more))
-      (own_how world names change added new_ones master grows y m own)
+      (own_how grows y m own)
 
   direct_was : (number : ℕ) → Among number (used_directly nat_eq left names)
       → Among number (used_directly nat_eq world names) ⊎ (IsThere world number → ⊥)

@@ -19,15 +19,14 @@ use Rattle.vt_laws_containers.proofs.attached_apart.GroupsApart.{Ours}
 use Rattle.vt_laws_sealed.proofs.part.seals.ByPart.{IsSealed}
 
 -- A new filesystem, mounted at a mount of theirs
-module _ {world : World ℕ} {names : List TaskName} (sealing : IsSealed world names) (fresh : Fresh ℕ)
-    (serves : Serves nat_eq world fresh)
-    (here : Location ℕ) (on : is_theirs world names here.mount ≡ true)
+module _ {world : World ℕ} {names : List TaskName} (sealing : IsSealed world names) {fresh : Fresh ℕ}
+    (serves : Serves nat_eq world fresh) (here : Location ℕ) (on : is_theirs world names here.mount ≡ true)
     (own : is_own world names (members world names) (mount_at nat_eq world here) ≡ true) (new_one : Filesystem ℕ)
     (number : new_one.number ≡ fresh 0) (layers : (layer : Layer ℕ) → Among layer (of_overlay [] layers_of new_one)
-    → Among layer.filesystem (used_directly nat_eq world names))
-    (named : has_only_named new_one ≡ true) (flags : MountFlags) where
+    → Among layer.filesystem (used_directly nat_eq world names)) (named : has_only_named new_one ≡ true)
+    (flags : MountFlags) where
   abbrev its_origins : List (Mount ℕ)
-  its_origins = origins sealing fresh serves here on own new_one number layers named flags
+  its_origins = origins sealing serves here on own new_one number layers named flags
 
   -- it is private
   sources : (o : Mount ℕ) → Among o its_origins → (g : ℕ) → source_of o.propagation ≡ Some g
@@ -37,7 +36,7 @@ module _ {world : World ℕ} {names : List TaskName} (sealing : IsSealed world n
 
   pub mounted_as_before : OthersAsBefore world (mounted nat_eq (odds fresh) world here new_one flags) names names
   mounted_as_before = copies_as_before serves
-      (λ a b. (_, refl)) sources (shows sealing fresh serves here on own new_one number layers named flags)
+      (λ a b. (_, refl)) sources (shows sealing serves here on own new_one number layers named flags)
 
 -- A plain one
 pub plain_mounts_give_no_foothold : PlainMountsGiveNoFoothold
@@ -49,7 +48,7 @@ plain_mounts_give_no_foothold world names name path flags it fresh serves = by (
         → GivesNoFoothold world names name (MountPlain path flags) fresh
     judged_by task member e (Ok permit) judged its =
         permit_out (record { it = it; few = refl; serves = serves; called = e }) (ToMountPlain its.0 flags)
-        (judged ∙ ap Ok its.1) (λ ends. mounted_as_before (sealing_of it) fresh serves its.0 its.2 its.3
+        (judged ∙ ap Ok its.1) (λ ends. mounted_as_before (sealing_of it) serves its.0 its.2 its.3
         (plain_filesystem nat_eq fresh) refl (λ layer m. absurd m) (ap (λ b. b && true)
         (or_left (nat_eq (evens fresh 1) (evens fresh 1)) (is_among nat_eq (evens fresh 1)
         (named_in (plain_filesystem nat_eq fresh).files)) (eq-eqb (evens fresh 1) (evens fresh 1) refl))) flags)

@@ -117,14 +117,14 @@ module _ {world : World ℕ} {names : List TaskName} (sealing : IsSealed world n
       more in
       copy_ours base_here new here true origins IsOurs new_groups sources of.0 of.2 of.3 g
       (ap (λ (x : Mount ℕ). source_of x.propagation) (sym of.4) ∙ e))
-      (own_how world names change added [] masters grows y m mine)
+      (own_how grows y m mine)
 
   as_grown : moved_to nat_eq fresh world from.mount here ≡ grown_world world names change added [] masters
   as_grown = ap (λ w. attach nat_eq w fresh here true origins) (no_new_ones world) ∙ moved_as moving world
 
   pub moved_as_before : OthersAsBefore world (moved_to nat_eq fresh world from.mount here) names names
   moved_as_before = subst (λ w. OthersAsBefore world w names names) (sym as_grown)
-      (grown_as_before sealing grows (groups_apart sealing fresh serves change added [] formed
+      (grown_as_before sealing grows (groups_apart sealing fresh serves formed
       grows sourced (made_ours base_here new here true origins IsOurs new_groups sources)))
 
 pub moves_give_no_foothold : MovesGiveNoFoothold

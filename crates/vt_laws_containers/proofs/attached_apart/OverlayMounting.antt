@@ -23,7 +23,7 @@ overlay_mounts_give_no_foothold world names name path options flags it fresh ser
     granted_out task member e permit judged its =
         let overlay : Overlay ℕ = overlay_at (looks_of nat_eq world) task its.places in
         permit_out (record { it = it; few = refl; serves = serves; called = e }) (ToMountOverlay its.here overlay flags)
-        (judged ∙ ap Ok its.is_so) (λ ends. mounted_as_before (sealing_of it) fresh serves its.here its.on its.own
+        (judged ∙ ap Ok its.is_so) (λ ends. mounted_as_before (sealing_of it) serves its.here its.on its.own
         (overlay_filesystem nat_eq (evens fresh) world overlay) refl (all_used (a_member (sealing_of it) member)
         its.places its.all) (new_overlays_are_named (evens fresh) world overlay it.is its.are_layers
         (evens-distinct fresh (served-distinct world fresh serves))) flags)

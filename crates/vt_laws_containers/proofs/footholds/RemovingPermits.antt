@@ -44,9 +44,8 @@ module _ {world : World ℕ} {names : List TaskName} {name : TaskName} {call : C
   member = caller_in it.it it.called
 
   -- A change by which a directory goes, with the mounts on it
-  module _ (permit : Permit ℕ) (judged : judge_in nat_eq fresh world task call ≡ Ok permit)
-      (gone location : Location ℕ) (change : Change ℕ)
-      (asks : change_asked fresh world permit ≡ Some (location, change)) (names_it : Names change)
+  module _ {permit : Permit ℕ} (judged : judge_in nat_eq fresh world task call ≡ Ok permit) {gone location : Location ℕ}
+      {change : Change ℕ} (asks : change_asked fresh world permit ≡ Some (location, change)) (names_it : Names change)
       (free : IsFree world names task gone location) where
     on : OnTheirs world names it.is gone
     on = theirs_from world names it.is.mounts gone.mount free.on
@@ -106,8 +105,8 @@ module _ {world : World ℕ} {names : List TaskName} {name : TaskName} {call : C
       → Before it (ToRemoveDirectory parent entry directory)
   removes_before parent entry directory judged ends =
       kept it (ToRemoveDirectory parent entry directory) judged refl (apply nat_eq fresh world task
-      (ToRemoveDirectory parent entry directory)).world (removed_before (ToRemoveDirectory parent entry directory)
-      judged directory parent (Remove parent.node entry directory.node) refl tt
+      (ToRemoveDirectory parent entry directory)).world (removed_before
+      judged refl tt
       (removed_free member fresh call (ToRemoveDirectory parent entry directory)
       (calls_are_granted nat_eq (looks_of nat_eq world) (overfills nat_eq fresh world task) task call
       (ToRemoveDirectory parent entry directory) judged) parent entry directory refl) _ ends)
@@ -124,8 +123,8 @@ module _ {world : World ℕ} {names : List TaskName} {name : TaskName} {call : C
       (Move from.node old to.node new object.node)))
   renames_before from old to new object (Some gone) judged ends =
       kept it (ToRename from old to new object (Some gone)) judged refl (apply nat_eq fresh world task
-      (ToRename from old to new object (Some gone))).world (removed_before (ToRename from old to new object (Some gone))
-      judged gone from (Move from.node old to.node new object.node) refl tt
+      (ToRename from old to new object (Some gone))).world (removed_before
+      judged refl tt
       (replaced_free member fresh call (ToRename from old to new object (Some gone))
       (calls_are_granted nat_eq (looks_of nat_eq world) (overfills nat_eq fresh world task) task call
       (ToRename from old to new object (Some gone)) judged) from old to new object gone refl) _ ends)

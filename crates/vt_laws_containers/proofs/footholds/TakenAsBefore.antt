@@ -109,7 +109,7 @@ module _ {world : World ℕ} {names : List TaskName} {set : List TaskName} (seal
   }
 
   leaves : LeavesApart beside mirror_left others_names []
-  leaves = taken_leaves_apart stands (out apart) namespaces moved gone mirror_goes
+  leaves = taken_leaves_apart stands moved gone mirror_goes
 
   abbrev taken_ones : List (Mount ℕ)
   taken_ones = (taken_away nat_eq world gone).mounts
@@ -127,7 +127,7 @@ module _ {world : World ℕ} {names : List TaskName} {set : List TaskName} (seal
   was : (mount : Mount ℕ) → Among mount taken_ones → (n : ℕ) → mount.namespace ≡ Some n
       → (old : Mount ℕ) × Among old world.mounts × (old.number ≡ mount.number) × (old.namespace ≡ Some n)
   was mount m n e =
-      taken_from stands (out apart) namespaces moved gone mirror_goes mount (subst (Among mount) (sym mirror_mounts) m)
+      taken_from stands moved gone mirror_goes mount (subst (Among mount) (sym mirror_mounts) m)
       n e
 
   listed_still : (mount : Mount ℕ) → Among mount taken_ones → (n : ℕ) → mount.namespace ≡ Some n
@@ -261,7 +261,7 @@ module _ {world : World ℕ} {names : List TaskName} {set : List TaskName} (seal
 
   one_left : OneNumberEach left
   one_left = subst OneNumberAMount (mirror_mounts ∙ sym left_mounts)
-      (one_taken stands (out apart) namespaces moved gone mirror_goes)
+      (one_taken stands moved gone mirror_goes)
 
   -- a mount of theirs was one, and shows what it showed
   own_showed : (mount : Mount ℕ) → Among mount left.mounts → (o : Option ℕ) → mount.namespace ≡ o

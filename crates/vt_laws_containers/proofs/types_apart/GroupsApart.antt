@@ -36,9 +36,8 @@ pub in_group : (o : Option ℕ) (mount : Mount ℕ) → holds_of (λ group. is_m
 in_group None mount h = absurd (true≢false (sym h))
 in_group (Some group) mount h = (group, refl, member_group group mount h)
 
-module _ {world : World ℕ} {names : List TaskName} (sealing : IsSealed world names) (fresh : Fresh ℕ)
-    (serves : Serves nat_eq world fresh)
-    (word : TypeWord) (named : List (Mount ℕ))
+module _ {world : World ℕ} {names : List TaskName} (sealing : IsSealed world names) {fresh : Fresh ℕ}
+    (serves : Serves nat_eq world fresh) (word : TypeWord) (named : List (Mount ℕ))
     (named_own : (m : Mount ℕ) → Among m named → Among m (own_mounts nat_eq world names)) where
   abbrev apart : IsApart world names
   apart = apart_if_sealed sealing

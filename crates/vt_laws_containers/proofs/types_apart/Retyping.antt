@@ -27,9 +27,9 @@ module _ {world : World ℕ} {names : List TaskName} {name : TaskName} {path : L
       let granted = judged ∙ ap Ok its.1 in
       swept_out (record { it = it; few = refl; serves = serves; called = e }) (ToSetType its.0.mount word recursive)
       granted (λ ends. subst (λ w. OthersAsBefore world w names names) (sym
-      (types_settled world (all_in_use world it.is) fresh word (named it task e fresh fresh its.0 its.2 its.3 granted)))
-      (types_as_before (sealing_of it) fresh serves word (named it task e fresh fresh its.0 its.2 its.3 granted)
-      (all_own it task e fresh fresh its.0 its.2 its.3 granted)))
+      (types_settled world (all_in_use world it.is) fresh word (named it e fresh fresh its.0 its.2 its.3 granted)))
+      (types_as_before (sealing_of it) serves word (named it e fresh fresh its.0 its.2 its.3 granted)
+      (all_own it e fresh fresh its.0 its.2 its.3 granted)))
   judged_by task member e (Err deny) judged its = refused_out it fresh
       (ap (λ o. is_ok (ran name (SetType path word recursive) world fresh o).answer) e
       ∙ ap (λ j. is_ok (run_by it world fresh task j).answer) judged)

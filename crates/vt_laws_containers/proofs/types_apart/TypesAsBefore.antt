@@ -17,15 +17,14 @@ module _ {A : Type 0} (kind : Mount ℕ → Propagation ℕ) (f : Mount ℕ → 
   kept_at [] = refl
   kept_at (m ∷ rest) = grind (arith, common_steps, kept_at rest)
 
-module _ {world : World ℕ} {names : List TaskName} (sealing : IsSealed world names) (fresh : Fresh ℕ)
-    (serves : Serves nat_eq world fresh)
-    (word : TypeWord) (named : List (Mount ℕ))
+module _ {world : World ℕ} {names : List TaskName} (sealing : IsSealed world names) {fresh : Fresh ℕ}
+    (serves : Serves nat_eq world fresh) (word : TypeWord) (named : List (Mount ℕ))
     (named_own : (m : Mount ℕ) → Among m named → Among m (own_mounts nat_eq world names)) where
   abbrev now : World ℕ
-  now = left sealing fresh serves word named named_own
+  now = left sealing serves word named named_own
 
   abbrev kind : Mount ℕ → Propagation ℕ
-  kind = kind_after sealing fresh serves word named named_own
+  kind = kind_after sealing serves word named named_own
 
   abbrev typed : Mount ℕ → Mount ℕ
   typed m = record m { propagation = kind m }
@@ -50,10 +49,10 @@ module _ {world : World ℕ} {names : List TaskName} (sealing : IsSealed world n
   pub types_as_before : OthersAsBefore world now names names
   types_as_before = record {
     others = refl;
-    mounts = others_kept sealing fresh serves word named named_own;
+    mounts = others_kept sealing serves word named named_own;
     shown = λ l m. shown_still l;
     tasks = (apart_if_sealed sealing).tasks;
-    events = groups_apart sealing fresh serves word named named_own;
+    events = groups_apart sealing serves word named named_own;
     places = list_all_from_among (λ l. not (owned (mount_at nat_eq now l))) (locations (outsiders world names))
         (λ l m. ap not (kept_at kind owned (λ x. refl) l.mount world.mounts)
         ∙ among_from_list_all (λ k. not (owned (mount_at nat_eq world k))) (locations (outsiders world names))

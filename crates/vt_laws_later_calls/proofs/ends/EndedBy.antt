@@ -34,14 +34,13 @@ only_whiteouts_are_taken world fresh task call is serves called only no_type =
 -- where nothing is replaced nothing goes
 pub other_calls_keep_all : OtherCallsKeepAll
 other_calls_keep_all world fresh task call is serves called only no_type none =
-    other_calls_let_whiteouts_go world fresh task call is serves called only no_type
-    ∙ ap (let_go_plain (call_outcome nat_eq fresh world task call).world) none
+    cc (other_calls_let_whiteouts_go world fresh task call is serves called only no_type)
 
 -- a filesystem that is found is found among more
 found_among_more : (more list : List (Filesystem ℕ)) (filesystem number : ℕ)
     → is_some ((numbered filesystem list).files.tree.node number) ≡ true
     → is_some ((numbered filesystem (list ++ more)).files.tree.node number) ≡ true
-found_among_more more [] filesystem number there = absurd (true≢false (sym there))
+found_among_more more [] filesystem number there = cc
 found_among_more more (first ∷ rest) filesystem number there =
     by (nat_eq filesystem first.number) there (found_among_more more rest filesystem number)
   where
@@ -70,7 +69,7 @@ module _ {world : World ℕ} {fresh : Fresh ℕ} (call : Call) (is : IsWorld nat
   IsThere left = is_some (inode_in left filesystem number) ≡ true
 
   same_there : (a b : World ℕ) → a.filesystems ≡ b.filesystems → IsThere b → IsThere a
-  same_there a b same h = ap (λ fs. is_some ((numbered filesystem fs).files.tree.node number)) same ∙ h
+  same_there a b same h = cc
 
   module _ (task : Task ℕ) (called : task_called world task.name ≡ Some task) where
     -- A call that takes no use away takes no name away
@@ -102,8 +101,7 @@ module _ {world : World ℕ} {fresh : Fresh ℕ} (call : Call) (is : IsWorld nat
         later = (apply nat_eq fresh world task permit).world
 
         with_more : (new : Filesystem ℕ) → later.filesystems ≡ world.filesystems ++ (new ∷ []) → IsThere later
-        with_more new more = ap (λ fs. is_some ((numbered filesystem fs).files.tree.node number)) more
-            ∙ found_among_more (new ∷ []) world.filesystems filesystem number there
+        with_more new more = cc (found_among_more (new ∷ []) world.filesystems filesystem number there)
 
         with_none : LeavesFilesystems world fresh task permit → IsThere later
         with_none (as_they_were same) = same_there later world same there
@@ -114,7 +112,7 @@ module _ {world : World ℕ} {fresh : Fresh ℕ} (call : Call) (is : IsWorld nat
         by None asks = with_none (unchanged world fresh task permit asks)
         by (Some made) asks = same_there later (with_change nat_eq (numbers_left fresh permit) world made.0 made.1)
             (permits_make_their_change world fresh task permit made.0 made.1 asks)
-            (change_remains number (numbers_left fresh permit) world is made.0 made.1 (subst TakesNone asks
+            (change_remains number (numbers_left fresh permit) is made.0 made.1 (subst TakesNone asks
             (takes_none permit (permits_are_for_their_calls fresh world task call permit judged))) filesystem there)
 
     abbrev left : World ℕ
@@ -129,14 +127,11 @@ module _ {world : World ℕ} {fresh : Fresh ℕ} (call : Call) (is : IsWorld nat
     not_taken : (is_kind_in White (inode_in world filesystem number) ≡ false)
         ⊎ (list_any (has_upper_in filesystem) world.filesystems ≡ false)
         → IsWhiteoutOfUpper world (filesystem, number) → ⊥
-    not_taken (inl other) taken = true≢false (sym taken.white ∙ other)
+    not_taken (inl other) taken = true≢false (cc taken.white)
     not_taken (inr none) taken = true≢false (sym has ∙ has_none)
       where
         has : has_upper_in filesystem (filesystem_numbered nat_eq world taken.merged) ≡ true
-        has = ap (overlay_or false (λ (overlay : Overlay ℕ). holds_of (λ (layer : Layer ℕ).
-            nat_eq filesystem layer.filesystem) overlay.upper)) taken.overlay_there
-            ∙ ap (holds_of (λ (layer : Layer ℕ). nat_eq filesystem layer.filesystem)) taken.upper_there
-            ∙ eq-eqb filesystem taken.upper.filesystem taken.in_upper
+        has = cc (taken.overlay_there, taken.upper_there, eq-eqb filesystem taken.upper.filesystem taken.in_upper)
 
         has_none : has_upper_in filesystem (filesystem_numbered nat_eq world taken.merged) ≡ false
         has_none = numbered_anyhow (λ f. has_upper_in filesystem f ≡ false) taken.merged world.filesystems
@@ -158,11 +153,13 @@ module _ {world : World ℕ} {fresh : Fresh ℕ} (call : Call) (is : IsWorld nat
 pub only_these_end_other_inodes : OnlyTheseEndOtherInodes
 only_these_end_other_inodes world fresh name call filesystem number is serves only there spared =
     policy_leads (λ w. is_some (inode_in w filesystem number) ≡ true) world fresh name call there
-    (λ task permit changed called judged.
-    ap (λ (f : FileTree ℕ). is_some (f.tree.node number))
-    (raised_files world name changed (settled nat_eq (call_outcome nat_eq fresh world task call).world) filesystem)
-    ∙ swept_remains call is serves only filesystem number there task called spared
-    (call_remains call is serves only filesystem number there task called permit judged))
+    (λ task permit changed called judged. cc (
+      raised_files world name changed
+          (settled nat_eq (call_outcome nat_eq fresh world task call).world) filesystem,
+      swept_remains call is serves only
+          filesystem number there task called spared (call_remains call is serves only filesystem number there task called
+          permit judged),
+    ))
 
 -- what changes a plain filesystem replaces nothing
 pub plain_changes_keep_all : PlainChangesKeepAll

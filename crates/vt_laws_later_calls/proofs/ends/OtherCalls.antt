@@ -60,14 +60,14 @@ groups_leave (group ∷ groups) world = groups_leave groups (let_go_group world 
 
 -- what takes nothing takes masters at the most
 kept_but_masters : (left : World ℕ) → KeepsAll left → KeepsAllButMasters left
-kept_but_masters left e = e ∙ ap (λ master. record left { master = master }) (ap (λ (w : World ℕ). w.master) (sym e))
+kept_but_masters left e = e ∙ ap (λ master. record left { master = master }) (cc)
 
 -- Calls that change a mount ask for no change of a filesystem
 module _ (world : World ℕ) (fresh : Fresh ℕ) (task : Task ℕ) (call : Call)
     (of_mounts : changes_no_mount call ≡ false) where
   -- so it is none of the others
   not_that : {A : Type 0} (other : Call) → call ≡ other → changes_no_mount other ≡ true → A
-  not_that other e files = absurd (true≢false (sym files ∙ ap changes_no_mount (sym e) ∙ of_mounts))
+  not_that other e files = cc files
 
   no_change : (location : Location ℕ) (change : Change ℕ)
       → IsFor (looks_of nat_eq world) task call (ToChange location change) → ⊥
@@ -78,7 +78,7 @@ module _ (world : World ℕ) (fresh : Fresh ℕ) (task : Task ℕ) (call : Call)
       → change_asked fresh world permit ≡ None
   asks_nothing permit for = grind (arith, common_steps, no_change, true≢false, makes_files)
 
-module _ (world : World ℕ) (fresh : Fresh ℕ) (task : Task ℕ) (is : IsWorld nat_eq world)
+module _ {world : World ℕ} {fresh : Fresh ℕ} {task : Task ℕ} (is : IsWorld nat_eq world)
     (serves : Serves nat_eq world fresh) (called : task_called world task.name ≡ Some task) where
   settles : IsSettled world
   settles = worlds_are_settled world is
@@ -90,10 +90,9 @@ module _ (world : World ℕ) (fresh : Fresh ℕ) (task : Task ℕ) (is : IsWorld
   among_tasks = contains_from_among world.tasks task (called_there world.tasks task.name task called)
 
   -- A change of a tree, plain or an overlay, by which no name is lost
-  module _ (call : Call) (permit : Permit ℕ) (judged : judge_in nat_eq fresh world task call ≡ Ok permit)
-      (location : Location ℕ) (change : Change ℕ)
-      (asks : change_asked fresh world permit ≡ Some (location, change)) (none : takes_a_name change ≡ false)
-      (something : is_some (node_at nat_eq world location) ≡ true) where
+  module _ (call : Call) {permit : Permit ℕ} (judged : judge_in nat_eq fresh world task call ≡ Ok permit)
+      {location : Location ℕ} {change : Change ℕ} (asks : change_asked fresh world permit ≡ Some (location, change))
+      (none : takes_a_name change ≡ false) (something : is_some (node_at nat_eq world location) ≡ true) where
     abbrev files : FileTree ℕ
     files = files_at nat_eq world location
 
@@ -141,9 +140,8 @@ module _ (world : World ℕ) (fresh : Fresh ℕ) (task : Task ℕ) (is : IsWorld
       where
         over : (overlay : Overlay ℕ) → merged.overlay ≡ Some overlay → (o : Option (Layer ℕ)) → overlay.upper ≡ o
             → LetsGo left (replaced_in world overlay o change)
-        over overlay e None u = subst KeepsAll
-            (sym (ap (λ o. filesystem_changed nat_eq (numbers_left fresh permit) world merged o change) e
-            ∙ ap (λ o. overlay_changed nat_eq (numbers_left fresh permit) world merged overlay o change) u))
+        over overlay e None u = rw (ap (λ o. filesystem_changed nat_eq (numbers_left fresh permit) world merged o
+            change) e ∙ ap (λ o. overlay_changed nat_eq (numbers_left fresh permit) world merged overlay o change) u)
             is.nothing_unused
         over overlay e (Some upper) u =
             given_names_let_go (numbers_left fresh permit) world location change overlay upper is
@@ -151,7 +149,7 @@ module _ (world : World ℕ) (fresh : Fresh ℕ) (task : Task ℕ) (is : IsWorld
             e u) proper none
 
         by : (o : Option (Overlay ℕ)) → merged.overlay ≡ o → LetsGo left (replaced_over world o change)
-        by None e = plain_keeps (ap is_some e)
+        by None e = plain_keeps (cc)
         by (Some overlay) e = over overlay e overlay.upper refl
 
     -- with a new file that is opened
@@ -168,7 +166,7 @@ module _ (world : World ℕ) (fresh : Fresh ℕ) (task : Task ℕ) (is : IsWorld
         opens = (apply nat_eq fresh world task (ToOpenNew location name node access)).world
 
         judged_so : judge_in nat_eq fresh world task call ≡ Ok (ToOpenNew location name node access)
-        judged_so = judged ∙ ap Ok same
+        judged_so = cc
 
         made_well : IsProper files.tree made
         made_well =
@@ -195,9 +193,11 @@ module _ (world : World ℕ) (fresh : Fresh ℕ) (task : Task ℕ) (is : IsWorld
 
         by : (o : Option (Overlay ℕ)) → merged.overlay ≡ o → LetsGo opens (replaced_over world o made)
         by None e = opened_new_keeps_all fresh world task location name node access settles is.files.one_filesystem
-            is.tasks.one_task among_tasks there (ap is_some e) made_tree
-            (record { in_directory = made_well.name_is_free.in_directory; is_new = made_well.number_is_new })
-            made_well.name_is_free.free
+            is.tasks.one_task among_tasks there (cc) made_tree (record {
+              in_directory =
+                  made_well.name_is_free.in_directory;
+              is_new = made_well.number_is_new;
+            }) made_well.name_is_free.free
         by (Some overlay) e = over overlay e overlay.upper refl
 
   -- a file that is opened is copied up, or not
@@ -243,7 +243,7 @@ module _ (world : World ℕ) (fresh : Fresh ℕ) (task : Task ℕ) (is : IsWorld
 
   -- a mount may be attached at a destination
   attached : (place : Location ℕ) → IsDestination world task place → is_attached world place.mount ≡ true
-  attached place at = ap is_some at.own
+  attached place at = cc at.own
 
   -- what a walk reaches is there
   reached_something : (location : Location ℕ) → IsReached world task location
@@ -274,18 +274,17 @@ module _ (world : World ℕ) (fresh : Fresh ℕ) (task : Task ℕ) (is : IsWorld
         → is_some (node_at nat_eq world location) ≡ true → Goes (ToChange location change)
     change_leaves location (Make directory name object node) judged for something = absurd for
     change_leaves location (AddName directory name object) judged for something =
-        change_goes call (ToChange location (AddName directory name object)) judged location
-        (AddName directory name object) refl refl something
+        change_goes call judged refl refl something
     change_leaves location (Remove directory name object) judged for something = not_this (Unlink for.0) for.1 refl
     change_leaves location (Move from old to new object) judged for something = absurd for
     change_leaves location (SetBytes file bytes) judged for something =
-        change_goes call (ToChange location (SetBytes file bytes)) judged location (SetBytes file bytes) refl refl
+        change_goes call judged refl refl
         something
     change_leaves location (SetAttr object attr) judged for something =
-        change_goes call (ToChange location (SetAttr object attr)) judged location (SetAttr object attr) refl refl
+        change_goes call judged refl refl
         something
     change_leaves location (SetMark directory mark) judged for something =
-        change_goes call (ToChange location (SetMark directory mark)) judged location (SetMark directory mark) refl refl
+        change_goes call judged refl refl
         something
     change_leaves location (CopyUp object) judged for something = absurd for
 
@@ -295,8 +294,7 @@ module _ (world : World ℕ) (fresh : Fresh ℕ) (task : Task ℕ) (is : IsWorld
         → is_some (node_at nat_eq world file) ≡ true → Goes (ToWritePart file offset bytes)
     written_leaves file offset [] judged something = is.nothing_unused
     written_leaves file offset (byte ∷ bytes) judged something =
-        change_goes call (ToWritePart file offset (byte ∷ bytes)) judged file
-        (SetBytes file.node (overwritten offset (byte ∷ bytes) (bytes_in (node_at nat_eq world file)))) refl refl
+        change_goes call judged refl refl
         something
 
     -- each permit
@@ -305,17 +303,16 @@ module _ (world : World ℕ) (fresh : Fresh ℕ) (task : Task ℕ) (is : IsWorld
     permit_leaves (ToChange location change) judged for names =
         change_leaves location change judged for (reached_something location names.0)
     permit_leaves (ToMake directory name node) judged for names =
-        change_goes call (ToMake directory name node) judged directory (Make directory.node name (evens fresh 0) node)
+        change_goes call judged
         refl refl (reached_something directory names.reached)
     permit_leaves (ToRemoveDirectory parent name directory) judged for names = not_this (Rmdir for.0) for.1 refl
     permit_leaves (ToRename from old to new object replaced) judged for names = not_this (Rename for.0 for.1) for.2 refl
-    permit_leaves (ToOpen file access) judged for names =
-        opened_keeps call file access judged (reached_on_mount world task file names.reached)
-        ∙ ap (let_go_plain (spent (ToOpen file access)))
-        (sym (nothing_replaced file (is_copied_up nat_eq world file access)))
+    permit_leaves (ToOpen file access) judged for names = cc (
+      opened_keeps call file access judged (reached_on_mount world task file names.reached),
+      nothing_replaced file (is_copied_up nat_eq world file access),
+    )
     permit_leaves (ToOpenNew directory name node access) judged for names =
-        opened_goes call (ToOpenNew directory name node access) judged directory
-        (Make directory.node name (evens fresh 0) node) refl refl (reached_something directory names.0.reached) name
+        opened_goes call judged refl refl (reached_something directory names.0.reached) name
         node access refl (reached_on_mount world task directory names.0.reached)
     permit_leaves (ToWritePart file offset bytes) judged for names =
         written_leaves file offset bytes judged (file_is_there (node_at nat_eq world file) names)
@@ -343,9 +340,7 @@ module _ (world : World ℕ) (fresh : Fresh ℕ) (task : Task ℕ) (is : IsWorld
     permit_leaves (ToUnmountLazily mount) judged for names = not_this (Lazy for.0) for.1 refl
     permit_leaves (ToSetFlags mount flags) judged for names =
         flags_keep_all world (record { mount = mount; node = 0 }) flags is.mounts.one_number in_use
-    permit_leaves (ToSetType mount word recursive) judged for names =
-        lets ∙ groups_leave groups left ∙ ap (λ master. record left { master = master })
-        (ap (λ (w : World ℕ). w.master) (sym lets))
+    permit_leaves (ToSetType mount word recursive) judged for names = cc (lets, groups_leave groups left)
       where
         left : World ℕ
         left = spent (ToSetType mount word recursive)
@@ -354,8 +349,7 @@ module _ (world : World ℕ) (fresh : Fresh ℕ) (task : Task ℕ) (is : IsWorld
         groups = groups_of_types fresh world mount recursive
 
         lets : settled nat_eq left ≡ let_go_groups left groups
-        lets = set_types_let_go fresh world task mount word recursive in_use (mounts_of_worlds_stand world is)
-            (ap is_some names)
+        lets = set_types_let_go fresh world task mount word recursive in_use (mounts_of_worlds_stand world is) (cc)
     permit_leaves (ToPivot new put) judged for names = not_this (PivotRoot for.0 for.1) for.2 refl
     permit_leaves permit judged for names = is.nothing_unused
 
@@ -369,15 +363,14 @@ module _ (world : World ℕ) (fresh : Fresh ℕ) (task : Task ℕ) (is : IsWorld
     -- where no types are set, the permit looks at what it replaces
     no_types : (permit : Permit ℕ) → IsFor (looks_of nat_eq world) task call permit → sets_type call ≡ false
         → Leaves permit → Goes permit
-    no_types (ToSetType mount word recursive) for none leaves = absurd (true≢false (sym (ap sets_type for.1) ∙ none))
+    no_types (ToSetType mount word recursive) for none leaves = absurd (cc (for.1, none))
     no_types permit for none leaves = leaves
 
     -- and a permit that asks for no change leaves all but masters
     but_masters : (permit : Permit ℕ) → change_asked fresh world permit ≡ None → Leaves permit
         → KeepsAllButMasters (spent permit)
     but_masters (ToSetType mount word recursive) none leaves = leaves
-    but_masters permit none leaves =
-        kept_but_masters (spent permit) (leaves ∙ ap (λ o. let_go_plain (spent permit) (replaced_if world o)) none)
+    but_masters permit none leaves = kept_but_masters (spent permit) (cc none)
 
   -- a call leaves what its judgement leaves
   by_judgement : (P : World ℕ → Type 0) (call : Call) (judgement : Judgement ℕ)
@@ -392,16 +385,15 @@ module _ (world : World ℕ) (fresh : Fresh ℕ) (task : Task ℕ) (is : IsWorld
   mounting_goes : (path : List ℕ) (options : Option OverlayWords) (flags : MountFlags)
       → LetsGo (call_outcome nat_eq fresh world task (MountOverlay path options flags)).world
       (replaced_by fresh world task (MountOverlay path options flags))
-  mounting_goes path options flags =
-      mounting_lets_nothing_go fresh world task path options flags is (are_new world is fresh serves task called)
-      ∙ ap (let_go_plain (call_outcome nat_eq fresh world task (MountOverlay path options flags)).world)
-      (sym (none (judge_in nat_eq fresh world task (MountOverlay path options flags)) refl))
+  mounting_goes path options flags = cc (
+    mounting_lets_nothing_go fresh world task path options flags is (are_new world is fresh serves task called),
+    none (judge_in nat_eq fresh world task (MountOverlay path options flags)) refl,
+  )
     where
       none : (judgement : Judgement ℕ) → judge_in nat_eq fresh world task (MountOverlay path options flags) ≡ judgement
           → replaced_as fresh world judgement ≡ []
       none (Err deny) e = refl
-      none (Ok permit) e = ap (replaced_if world)
-          (asks_nothing world fresh task (MountOverlay path options flags) refl permit
+      none (Ok permit) e = cc (asks_nothing world fresh task (MountOverlay path options flags) refl permit
           (permits_are_for_their_calls fresh world task (MountOverlay path options flags) permit e))
 
   -- any other call, granted or refused
@@ -419,8 +411,7 @@ module _ (world : World ℕ) (fresh : Fresh ℕ) (task : Task ℕ) (is : IsWorld
       by : (judgement : Judgement ℕ) → judge_in nat_eq fresh world task call ≡ judgement
           → LetsGo (call_outcome nat_eq fresh world task call).world (replaced_by fresh world task call)
       by judgement e = by_judgement (λ w. LetsGo w (replaced_by fresh world task call)) call judgement e
-          (subst (λ j. LetsGo (after world judgement (apply nat_eq fresh world task)).world (replaced_as fresh world j))
-          (sym e) (judged_goes judgement e))
+          (cc (judged_goes judgement e))
 
 -- the mount of an overlay, or not
 abbrev IsMounting : Call → Type 0
@@ -432,11 +423,12 @@ mounting_or (MountOverlay path options flags) = inl (path, options, flags, refl)
 mounting_or call = inr refl
 
 pub other_calls_let_whiteouts_go : OtherCallsLetWhiteoutsGo
-other_calls_let_whiteouts_go world fresh task call is serves called only no_type = ⊎_elim
-    (λ (mounting : IsMounting call).
-    subst (λ c. LetsGo (call_outcome nat_eq fresh world task c).world (replaced_by fresh world task c))
-    (sym mounting.3) (mounting_goes world fresh task is serves called mounting.0 mounting.1 mounting.2))
-    (λ plainly. call_goes world fresh task is serves called call only no_type plainly) (mounting_or call)
+other_calls_let_whiteouts_go world fresh task call is serves called only no_type =
+    ⊎_elim (λ (mounting : IsMounting call). cc (
+      mounting.3,
+      mounting_goes is serves called mounting.0 mounting.1
+          mounting.2,
+    )) (λ plainly. call_goes is serves called call only no_type plainly) (mounting_or call)
 
 pub all_types_leave_all_but_masters : AllTypesLeaveAllButMasters
 all_types_leave_all_but_masters world fresh task path word recursive is serves called =
@@ -447,12 +439,12 @@ all_types_leave_all_but_masters world fresh task path word recursive is serves c
 
     judged_keeps : (judgement : Judgement ℕ) → judge_in nat_eq fresh world task call ≡ judgement
         → KeepsAllButMasters (after world judgement (apply nat_eq fresh world task)).world
-    judged_keeps (Ok permit) e = but_masters world fresh task is serves called call refl permit
+    judged_keeps (Ok permit) e = but_masters is serves called call refl permit
         (asks_nothing world fresh task call refl permit (permits_are_for_their_calls fresh world task call permit e))
-        (granted_leaves world fresh task is serves called call refl permit refl e)
+        (granted_leaves is serves called call refl permit refl e)
     judged_keeps (Err deny) e = kept_but_masters world is.nothing_unused
 
     by : (judgement : Judgement ℕ) → judge_in nat_eq fresh world task call ≡ judgement
         → KeepsAllButMasters (call_outcome nat_eq fresh world task call).world
-    by judgement e = by_judgement world fresh task is serves called KeepsAllButMasters call judgement e
+    by judgement e = by_judgement is serves called KeepsAllButMasters call judgement e
         (judged_keeps judgement e)

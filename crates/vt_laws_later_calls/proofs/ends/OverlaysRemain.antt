@@ -94,8 +94,8 @@ module _ (other : ℕ) where
 
       two : Merge ℕ
       two = copied_up nat_eq (odds fresh) one directory
-  merge_remains fresh stack merge (Remove directory name object) none = absurd (true≢false none)
-  merge_remains fresh stack merge (Move from old to new object) none = absurd (true≢false none)
+  merge_remains fresh stack merge (Remove directory name object) none = cc
+  merge_remains fresh stack merge (Move from old to new object) none = cc
   merge_remains fresh stack merge (SetBytes file bytes) none =
       set_remains fresh merge file (node_with_bytes bytes) (λ node. refl)
   merge_remains fresh stack merge (SetAttr object attr) none =
@@ -109,70 +109,68 @@ module _ (other : ℕ) where
       → In (filesystem_numbered nat_eq world new.number).files new.files → (filesystem : ℕ)
       → is_some (inode_in world filesystem other) ≡ true
       → is_some (inode_in (with_filesystem nat_eq world new) filesystem other) ≡ true
-  placed_remains world new grows filesystem there = ⊎_elim
-      (λ same. filesystem_there (λ f. is_some (f.files.tree.node other) ≡ true) world new filesystem same.1
-      (grows (ap (λ n. is_some (inode_in world n other)) (sym same.1) ∙ there))
-      (λ none. sym (ap (λ (f : Filesystem ℕ). is_some (f.files.tree.node other)) none) ∙ there))
-      (λ differ. ap (λ (f : Filesystem ℕ). is_some (f.files.tree.node other))
-      (filesystem_elsewhere world new filesystem differ.1) ∙ there) (eqb_tells filesystem new.number)
+  placed_remains world new grows filesystem there = ⊎_elim (λ same. filesystem_there (λ f. is_some
+      (f.files.tree.node other) ≡ true) world new filesystem same.1 (grows (cc same.1)) (λ none. cc))
+      (λ differ. cc (filesystem_elsewhere world new filesystem differ.1)) (eqb_tells filesystem new.number)
 
-  module _ (fresh : Fresh ℕ) (world : World ℕ) (is : IsWorld nat_eq world) (location : Location ℕ) (change : Change ℕ)
-      (none : takes_a_name change ≡ false) (filesystem : ℕ)
-      (there : is_some (inode_in world filesystem other) ≡ true) where
-    abbrev number : ℕ
-    number = (mount_at nat_eq world location).filesystem
+  module _ (fresh : Fresh ℕ) {world : World ℕ} (is : IsWorld nat_eq world) (location : Location ℕ) (change : Change ℕ)
+      (none : takes_a_name change ≡ false) (filesystem : ℕ) (there : is_some (inode_in world filesystem other) ≡ true)
+    where
+      abbrev number : ℕ
+      number = (mount_at nat_eq world location).filesystem
 
-    abbrev merged : Filesystem ℕ
-    merged = filesystem_at nat_eq world location
+      abbrev merged : Filesystem ℕ
+      merged = filesystem_at nat_eq world location
 
-    abbrev Remains : World ℕ → Type 0
-    Remains left = is_some (inode_in left filesystem other) ≡ true
+      abbrev Remains : World ℕ → Type 0
+      Remains left = is_some (inode_in left filesystem other) ≡ true
 
-    -- the filesystem of the change is the one of its number
-    at_own : (files : FileTree ℕ) → In merged.files files
-        → In (filesystem_numbered nat_eq world merged.number).files files
-    at_own files grows there =
-        grows (ap (λ n. is_some (inode_in world n other)) (sym (number_of_filesystem world number)) ∙ there)
+      -- the filesystem of the change is the one of its number
+      at_own : (files : FileTree ℕ) → In merged.files files
+          → In (filesystem_numbered nat_eq world merged.number).files files
+      at_own files grows there = grows (cc (number_of_filesystem world number))
 
-    -- of a plain filesystem
-    plain_remains : Remains (filesystem_changed nat_eq fresh world merged None change)
-    plain_remains = placed_remains world (with_files merged (changed nat_eq merged.files change))
-        (at_own (changed nat_eq merged.files change) (changed_remains other merged.files change)) filesystem there
+      -- of a plain filesystem
+      plain_remains : Remains (filesystem_changed nat_eq fresh world merged None change)
+      plain_remains = placed_remains world (with_files merged (changed nat_eq merged.files change))
+          (at_own (changed nat_eq merged.files change) (changed_remains other merged.files change)) filesystem there
 
-    -- of an overlay, and then of the filesystem of its upper layer
-    merged_remains : (overlay : Overlay ℕ) (upper : Layer ℕ) → merged.overlay ≡ Some overlay
-        → overlay.upper ≡ Some upper → Remains (overlay_changed nat_eq fresh world merged overlay (Some upper) change)
-    merged_remains overlay upper o u = placed_remains (with_filesystem nat_eq world new_merged) new_layer
-        (λ here. both.upper (ap (λ (f : Filesystem ℕ). is_some (f.files.tree.node other))
-        (sym (ap (filesystem_numbered nat_eq (with_filesystem nat_eq world new_merged))
-        (number_of_filesystem world upper.filesystem) ∙ filesystem_elsewhere world new_merged upper.filesystem
-        (λ e. upper_elsewhere world is number overlay o upper u (e ∙ number_of_filesystem world number)))) ∙ here))
-        filesystem (placed_remains world new_merged (at_own later.files both.files) filesystem there)
-      where
-        later : Merge ℕ
-        later = merge_changed nat_eq fresh (stack_of nat_eq world overlay upper)
-            (merge_at world location overlay upper) change
+      -- of an overlay, and then of the filesystem of its upper layer
+      merged_remains : (overlay : Overlay ℕ) (upper : Layer ℕ) → merged.overlay ≡ Some overlay
+          → overlay.upper ≡ Some upper → Remains (overlay_changed nat_eq fresh world merged overlay (Some upper) change)
+      merged_remains overlay upper o u = placed_remains (with_filesystem nat_eq world new_merged) new_layer
+          (λ here. both.upper (cc (
+            number_of_filesystem world upper.filesystem,
+            filesystem_elsewhere world new_merged
+                upper.filesystem (λ e. upper_elsewhere world is number overlay o upper u
+                (e ∙ number_of_filesystem world number)),
+          ))) filesystem (placed_remains world new_merged
+          (at_own later.files both.files) filesystem there)
+        where
+          later : Merge ℕ
+          later = merge_changed nat_eq fresh (stack_of nat_eq world overlay upper)
+              (merge_at world location overlay upper) change
 
-        both : BothRemain (merge_at world location overlay upper) later
-        both = merge_remains fresh (stack_of nat_eq world overlay upper) (merge_at world location overlay upper) change
-            none
+          both : BothRemain (merge_at world location overlay upper) later
+          both = merge_remains fresh (stack_of nat_eq world overlay upper) (merge_at world location overlay upper) change
+              none
 
-        new_merged : Filesystem ℕ
-        new_merged = record merged { files = later.files; overlay = Some (record overlay { real = later.real }) }
+          new_merged : Filesystem ℕ
+          new_merged = record merged { files = later.files; overlay = Some (record overlay { real = later.real }) }
 
-        new_layer : Filesystem ℕ
-        new_layer = with_files (filesystem_numbered nat_eq world upper.filesystem) later.upper
+          new_layer : Filesystem ℕ
+          new_layer = with_files (filesystem_numbered nat_eq world upper.filesystem) later.upper
 
-    -- so of every filesystem
-    pub change_remains : Remains (with_change nat_eq fresh world location change)
-    change_remains = by merged.overlay refl
-      where
-        over : (overlay : Overlay ℕ) → merged.overlay ≡ Some overlay → (o : Option (Layer ℕ)) → overlay.upper ≡ o
-            → Remains (overlay_changed nat_eq fresh world merged overlay o change)
-        over overlay o None u = there
-        over overlay o (Some upper) u = merged_remains overlay upper o u
+      -- so of every filesystem
+      pub change_remains : Remains (with_change nat_eq fresh world location change)
+      change_remains = by merged.overlay refl
+        where
+          over : (overlay : Overlay ℕ) → merged.overlay ≡ Some overlay → (o : Option (Layer ℕ)) → overlay.upper ≡ o
+              → Remains (overlay_changed nat_eq fresh world merged overlay o change)
+          over overlay o None u = there
+          over overlay o (Some upper) u = merged_remains overlay upper o u
 
-        by : (o : Option (Overlay ℕ)) → merged.overlay ≡ o
-            → Remains (filesystem_changed nat_eq fresh world merged o change)
-        by None o = plain_remains
-        by (Some overlay) o = over overlay o overlay.upper refl
+          by : (o : Option (Overlay ℕ)) → merged.overlay ≡ o
+              → Remains (filesystem_changed nat_eq fresh world merged o change)
+          by None o = plain_remains
+          by (Some overlay) o = over overlay o overlay.upper refl

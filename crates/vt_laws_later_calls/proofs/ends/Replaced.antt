@@ -52,8 +52,7 @@ module _ {world : World ℕ} (is : IsWorld nat_eq world) (number : ℕ) {overlay
           (upper_is (overlay.real directory) stands.0 stands.1)) ∙ stands.2
 
       nothing : number_at_path merge.files (way ++ name ∷ []) ≡ None
-      nothing = last_name merge.files.tree merge.files.tree.root way name
-          ∙ ap (option_and_then (λ d. entry_at merge.files.tree d name)) free.reached.1 ∙ free.free
+      nothing = cc (last_name merge.files.tree merge.files.tree.root way name, free.reached.1, free.free)
 
       by : (b : Bool) → is_kind_in White (merge.upper.tree.node object) ≡ b → b ≡ true
       by true white = refl
@@ -62,7 +61,7 @@ module _ {world : World ℕ} (is : IsWorld nat_eq world) (number : ℕ) {overlay
           none_is_some shown.0 (sym nothing ∙ shown.1)
 
 -- What a change replaces
-module _ (world : World ℕ) (is : IsWorld nat_eq world) (location : Location ℕ) (change : Change ℕ)
+module _ {world : World ℕ} (is : IsWorld nat_eq world) (location : Location ℕ) (change : Change ℕ)
     (may : IsProper (filesystem_at nat_eq world location).files.tree change) (inode : Inode) where
   abbrev number : ℕ
   number = (mount_at nat_eq world location).filesystem
@@ -92,7 +91,7 @@ replaced_are_whiteouts world fresh task call is serves called only inode contain
         → (o : Option (Location ℕ × Change ℕ)) → change_asked fresh world permit ≡ o
         → Among inode (replaced_if world o) → IsWhiteoutOfUpper world inode
     asked permit judged None asks m = absurd m
-    asked permit judged (Some made) asks m = over_is_white world is made.0 made.1
+    asked permit judged (Some made) asks m = over_is_white is made.0 made.1
         (permits_ask_properly world fresh task call permit made.0 made.1 is serves called judged asks).0 inode
         (filesystem_at nat_eq world made.0).overlay refl m
 

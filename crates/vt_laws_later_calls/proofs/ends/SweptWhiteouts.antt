@@ -23,8 +23,7 @@ module _ (world : World ℕ) (inode : Inode) where
   same_numbers : (list : List (Filesystem ℕ)) → map (λ (f : Filesystem ℕ). f.number) (map change list)
       ≡ map (λ (f : Filesystem ℕ). f.number) list
   same_numbers [] = refl
-  same_numbers (f ∷ rest) = ap (λ n. n ∷ map (λ (f : Filesystem ℕ). f.number) (map change rest)) (same_number f)
-      ∙ ap (λ l. f.number ∷ l) (same_numbers rest)
+  same_numbers (f ∷ rest) = cc (same_number f, same_numbers rest)
 
   -- what becomes of an inode: it stays, or it is the one that is looked at, and goes
   module _ (filesystem number : ℕ) where
@@ -38,11 +37,7 @@ module _ (world : World ℕ) (inode : Inode) where
     in_list : (list : List (Filesystem ℕ)) → StaysOrGoes ((numbered filesystem list).files.tree.node number)
         ((numbered filesystem (map change list)).files.tree.node number)
     in_list [] = inl refl
-    in_list (first ∷ rest) = subst (λ n. StaysOrGoes ((numbered filesystem (first ∷ rest)).files.tree.node number)
-        ((unwrap_or (cond (nat_eq filesystem n) (Some (change first))
-        (find (λ (f : Filesystem ℕ). nat_eq filesystem f.number) (map change rest)))
-        (no_filesystem filesystem)).files.tree.node number)) (sym (same_number first))
-        (by (nat_eq filesystem first.number) refl (in_list rest))
+    in_list (first ∷ rest) = rw (same_number first) (by (nat_eq filesystem first.number) refl (in_list rest))
       where
         by : (b : Bool) → nat_eq filesystem first.number ≡ b
             → StaysOrGoes ((numbered filesystem rest).files.tree.node number)
@@ -67,10 +62,9 @@ inodes_stay : (list : List Inode) (world : World ℕ) (filesystem number : ℕ)
     → (inode_in (let_go_plain world list) filesystem number ≡ inode_in world filesystem number)
     ⊎ (Among (filesystem, number) list × (inode_in (let_go_plain world list) filesystem number ≡ None))
 inodes_stay [] world filesystem number = inl refl
-inodes_stay (inode ∷ rest) world filesystem number = ⊎_elim
-    (λ same. ⊎_elim (λ stays. inl (same ∙ stays)) (λ goes. inr (inl goes.0, same ∙ goes.1))
-    (in_list world inode filesystem number world.filesystems)) (λ gone. inr (inr gone.0, gone.1))
-    (inodes_stay rest (let_go_in is_plain world inode) filesystem number)
+inodes_stay (inode ∷ rest) world filesystem number = ⊎_elim (λ same. ⊎_elim (λ stays. inl (cc))
+    (λ goes. inr (inl goes.0, same ∙ goes.1)) (in_list world inode filesystem number world.filesystems))
+    (λ gone. inr (inr gone.0, gone.1)) (inodes_stay rest (let_go_in is_plain world inode) filesystem number)
 
 pub leaves_all_but : (world : World ℕ) (list : List Inode) → LeavesAllBut list world (let_go_plain world list)
 leaves_all_but world list =

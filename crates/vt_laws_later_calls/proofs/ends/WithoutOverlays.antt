@@ -18,11 +18,9 @@ none_replaced world plain fresh task call = grind (arith, common_steps, plain_nu
 -- and none has an upper layer
 no_upper : (world : World ℕ) → IsPlain world → (filesystem : ℕ)
     → list_any (has_upper_in filesystem) world.filesystems ≡ false
-no_upper world plain filesystem = none_from_among (has_upper_in filesystem) world.filesystems (λ f m.
-    ap (overlay_or false (λ (overlay : Overlay ℕ). holds_of (λ (layer : Layer ℕ).
-    nat_eq filesystem layer.filesystem) overlay.upper))
-    (none_from_not_some f.overlay (among_from_all (λ (g : Filesystem ℕ).
-    is_overlay g ≡ false) world.filesystems plain f m)))
+no_upper world plain filesystem = none_from_among (has_upper_in filesystem) world.filesystems
+    (λ f m. cc (none_from_not_some f.overlay (among_from_all (λ (g : Filesystem ℕ). is_overlay g ≡ false)
+    world.filesystems plain f m)))
 
 pub other_calls_leave_all : OtherCallsLeaveAll
 other_calls_leave_all world fresh task call is plain serves called plainly only sets_none =

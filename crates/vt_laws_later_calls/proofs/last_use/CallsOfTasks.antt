@@ -39,8 +39,8 @@ numbered_alike a b = a.number == b.number
 at_least : (least : ℕ) (list : List (Descriptor ℕ)) → are_ascending_from least list ≡ true → (d : Descriptor ℕ)
     → Among d list → nat_le least d.number ≡ true
 at_least least [] order d m = absurd m
-at_least least (first ∷ rest) order d m = ⊎_elim (λ is. ap (λ (x : Descriptor ℕ). nat_le least x.number) is ∙ parts.0)
-    (λ later. between least first.number d.number parts.0 (at_least (first.number + 1) rest parts.1 d later)) m
+at_least least (first ∷ rest) order d m = ⊎_elim (λ is. cc parts.0) (λ later. between least first.number d.number
+    parts.0 (at_least (first.number + 1) rest parts.1 d later)) m
   where
     parts : (nat_le least first.number ≡ true) × (are_ascending_from (first.number + 1) rest ≡ true)
     parts = and_parts (nat_le least first.number) (are_ascending_from (first.number + 1) rest) order
@@ -63,8 +63,8 @@ no_two least (first ∷ rest) order = (λ i. none_from_among (numbered_alike fir
     apart a b e = grind (arith, nat_tests)
 
 -- A descriptor is closed: the locations before and after
-module _ (world : World ℕ) (whole : IsWorld nat_eq world) (task : Task ℕ) (there : Contains world.tasks task)
-    (descriptor : Descriptor ℕ) (is_open : Contains task.descriptors descriptor) where
+module _ {world : World ℕ} (whole : IsWorld nat_eq world) {task : Task ℕ} (there : Contains world.tasks task)
+    {descriptor : Descriptor ℕ} (is_open : Contains task.descriptors descriptor) where
   abbrev closed : Task ℕ
   closed = without_descriptor task descriptor.number
 
@@ -100,27 +100,26 @@ module _ (world : World ℕ) (whole : IsWorld nat_eq world) (task : Task ℕ) (t
       ∙ regrouped (flat_map locations_of split.front) (own of.front) (map at list) (flat_map locations_of split.back)
     where
       regrouped : (a b c d : List (Location ℕ)) → a ++ ((b ++ c) ++ d) ≡ (a ++ b) ++ (c ++ d)
-      regrouped a b c d = ap (λ l. a ++ l) (append_assoc b c d) ∙ sym (append_assoc a b (c ++ d))
+      regrouped a b c d = cc (append_assoc b c d, append_assoc a b (c ++ d))
 
   located_before : all_locations world ≡ ahead ++ (descriptor.location ∷ behind)
-  located_before = ap (flat_map locations_of) split.whole ∙ spread task (descriptor ∷ of.back) (ap own of.whole)
+  located_before = cc (split.whole, spread task (descriptor ∷ of.back) (ap own of.whole))
 
   located_after : all_locations (with_task world closed) ≡ ahead ++ behind
-  located_after = ap (flat_map locations_of) (split.changed (replaced_if_called closed)
-      (λ other differs. ap (λ b. cond b closed other) differs))
-      ∙ ap (λ b. flat_map locations_of (split.front ++ (cond b closed task ∷ split.back))) (same_name_itself task.name)
-      ∙ spread closed of.back (ap own of.left)
+  located_after = ap (flat_map locations_of) (split.changed (replaced_if_called closed) (λ other differs. cc)) ∙
+      ap (λ b. flat_map locations_of (split.front ++ (cond b closed task ∷ split.back))) (same_name_itself task.name) ∙
+      spread closed of.back (ap own of.left)
 
 pub close_takes_its_inode : CloseTakesItsInode
 close_takes_its_inode fresh world task descriptor whole there is_open plain stays =
     location_takes_its_inode world (with_task world (without_descriptor task descriptor.number)).tasks
-    (ahead world whole task there descriptor is_open) (behind world whole task there descriptor is_open)
-    descriptor.location whole plain (located_before world whole task there descriptor is_open)
-    (located_after world whole task there descriptor is_open) stays
+    (ahead whole there is_open) (behind whole there is_open)
+    descriptor.location whole plain (located_before whole there is_open)
+    (located_after whole there is_open) stays
 
 pub close_takes_its_filesystem : CloseTakesItsFilesystem
 close_takes_its_filesystem fresh world task descriptor whole plain there is_open goes last =
     location_takes_its_filesystem world (with_task world (without_descriptor task descriptor.number)).tasks
-    (ahead world whole task there descriptor is_open) (behind world whole task there descriptor is_open)
-    descriptor.location whole plain (located_before world whole task there descriptor is_open)
-    (located_after world whole task there descriptor is_open) goes last
+    (ahead whole there is_open) (behind whole there is_open)
+    descriptor.location whole plain (located_before whole there is_open)
+    (located_after whole there is_open) goes last

@@ -18,9 +18,8 @@ use Rattle.vt_laws_later_calls.proofs.last_use.OneLess.{some_without_another, so
 -- the master of a group that lives has a member
 master_lives : (members : ℕ → Bool) (master : ℕ → Option ℕ) (group : ℕ) → Lives members master group
     → list_all members (option_to_list (master group)) ≡ true
-master_lives members master group (has_no_master it has e) = ap (λ o. list_all members (option_to_list o)) e
-master_lives members master group (has_master it above has e later) = ap (λ o. list_all members (option_to_list o)) e
-    ∙ ap (λ b. b && true) (live_members master members above later)
+master_lives members master group (has_no_master it has e) = cc
+master_lives members master group (has_master it above has e later) = cc (live_members master members above later)
 
 -- a mount has lost no group where its group and the master of that have members
 unlost : (world : World ℕ) (mount : Mount ℕ)
@@ -41,9 +40,7 @@ unlost world mount live = by (source_of mount.propagation) refl
     by : (o : Option ℕ) → source_of mount.propagation ≡ o
         → (is_lost_group nat_eq world o || is_lost_group nat_eq world (then_some o world.master)) ≡ false
     by None e = refl
-    by (Some group) e =
-        let both = live group e in
-        ap (λ b. not b || is_lost_group nat_eq world (world.master group)) both.0 ∙ master (world.master group) both.1
+    by (Some group) e = let both = live group e in cc (both.0, master (world.master group) both.1)
 
 -- where groups live, no mount has lost one
 pub none_lost : (world : World ℕ) → MountInvariants nat_eq world
@@ -56,7 +53,7 @@ none_lost world mounts = none_from_among (lost_a_group nat_eq world) world.mount
     )))
 
 -- One mount leaves a group
-module _ (world : World ℕ) (front back : List (Mount ℕ)) (old new : Mount ℕ) (group : ℕ)
+module _ (world : World ℕ) (front back : List (Mount ℕ)) (old new : Mount ℕ) {group : ℕ}
     (before : world.mounts ≡ front ++ (old ∷ back)) (was : old.propagation ≡ Shared group)
     (is : source_of new.propagation ≡ None) where
   abbrev after : World ℕ
@@ -66,21 +63,21 @@ module _ (world : World ℕ) (front back : List (Mount ℕ)) (old new : Mount �
   new_is_none other = by new.propagation is
     where
       by : (kind : Propagation ℕ) → source_of kind ≡ None → holds_of (nat_eq other) (group_of kind) ≡ false
-      by (Shared own) e = absurd (true≢false (ap is_some e))
+      by (Shared own) e = cc
       by (Slave master) e = refl
       by Private e = refl
       by Unbindable e = refl
 
   old_is_one : (other : ℕ) → is_member_of nat_eq other old ≡ nat_eq other group
-  old_is_one other = ap (λ kind. holds_of (nat_eq other) (group_of kind)) was
+  old_is_one other = cc
 
   -- other groups have members as before
   members_as_before : (other : ℕ) → nat_eq other group ≡ false
       → has_members nat_eq after.mounts other ≡ has_members nat_eq world.mounts other
-  members_as_before other differs =
-      sym (some_without_another (is_member_of nat_eq other) new (new_is_none other) front back)
-      ∙ some_without_another (is_member_of nat_eq other) old (old_is_one other ∙ differs) front back
-      ∙ ap (list_any (is_member_of nat_eq other)) (sym before)
+  members_as_before other differs = cc (
+    some_without_another (is_member_of nat_eq other) new (new_is_none other) front back,
+    some_without_another (is_member_of nat_eq other) old (old_is_one other ∙ differs) front back,
+  )
 
   -- the group has one if it had more
   members_still : has_members nat_eq after.mounts group ≡ nat_lt 1 (member_count world group)
@@ -90,12 +87,12 @@ module _ (world : World ℕ) (front back : List (Mount ℕ)) (old new : Mount �
 
   other_groups : AllInUse world → GroupsInUseBut (group ∷ []) after
   other_groups in_use other among none =
-      in_use.groups other (sym (members_as_before other (or_false_left (nat_eq other group) false among)) ∙ none)
+      in_use.groups other (cc (members_as_before other (or_false_left (nat_eq other group) false among)))
 
   pub group_left : AllInUse world → without_dead_groups nat_eq after
       ≡ cond (nat_lt 1 (member_count world group)) after (without_master after group)
-  group_left in_use = groups_go_one_by_one after (group ∷ []) (other_groups in_use) ∙ group_is_looked_up after group
-      ∙ ap (λ b. cond b after (without_master after group)) members_still
+  group_left in_use =
+      cc (groups_go_one_by_one after (group ∷ []) (other_groups in_use), group_is_looked_up after group, members_still)
 
   module _ (in_use : AllInUse world) (mounts : MountInvariants nat_eq world) where
     abbrev members : ℕ → Bool
@@ -113,30 +110,27 @@ module _ (world : World ℕ) (front back : List (Mount ℕ)) (old new : Mount �
     was_there : (mount : Mount ℕ) → Among mount after.mounts
         → (source_of mount.propagation ≡ None) ⊎ Among mount world.mounts
     was_there mount m = ⊎_elim (λ f. inr (there (among-append_left front (old ∷ back) mount f)))
-        (λ rest. ⊎_elim (λ same. inl (ap (λ x. source_of x.propagation) same ∙ is))
-        (λ b. inr (there (among-append_right front (old ∷ back) mount (inr b)))) rest)
-        (among-append front (new ∷ back) mount m)
+        (λ rest. ⊎_elim (λ same. inl (cc)) (λ b. inr (there (among-append_right front (old ∷ back) mount (inr b))))
+        rest) (among-append front (new ∷ back) mount m)
       where
         there : Among mount (front ++ (old ∷ back)) → Among mount world.mounts
-        there n = subst (Among mount) (sym before) n
+        there n = rw before n
 
     source_lives : (mount : Mount ℕ) → Among mount after.mounts → (source : ℕ)
         → source_of mount.propagation ≡ Some source → Lives members world.master source
-    source_lives mount m source e = ⊎_elim (λ none. absurd (true≢false (ap is_some (sym e ∙ none))))
-        (λ n. among_from_all (HasLivingGroups nat_eq world) world.mounts mounts.groups mount n source e)
-        (was_there mount m)
+    source_lives mount m source e = ⊎_elim (λ none. cc) (λ n. among_from_all (HasLivingGroups nat_eq world) world.mounts
+        mounts.groups mount n source e) (was_there mount m)
 
     -- a group with members lives
     lives : (other : ℕ) → members other ≡ true → Lives members world.master other
     lives other has =
         let t = any_among (is_member_of nat_eq other) world.mounts has in
         among_from_all (HasLivingGroups nat_eq world) world.mounts mounts.groups t.0 t.1 other
-        (ap source_of (member_shared other t.0 t.2))
+        (cc (member_shared other t.0 t.2))
 
     its_life : Lives members world.master group
     its_life = lives group (any_from_among (is_member_of nat_eq group) world.mounts old
-        (subst (Among old) (sym before) (among-append_right front (old ∷ back) old (inl refl)))
-        (old_is_one group ∙ eq-eqb group group refl))
+        (rw before (among-append_right front (old ∷ back) old (inl refl))) (old_is_one group ∙ eq-eqb group group refl))
 
     -- its master is another group, and has members
     master_has : list_all (has_members nat_eq after.mounts) (option_to_list (world.master group)) ≡ true
@@ -145,12 +139,12 @@ module _ (world : World ℕ) (front back : List (Mount ℕ)) (old new : Mount �
         by : (o : Option ℕ) → world.master group ≡ o → list_all members (option_to_list o) ≡ true
             → list_all (has_members nat_eq after.mounts) (option_to_list o) ≡ true
         by None e h = refl
-        by (Some above) e h = ap (λ b. b && true) (members_as_before above (apart (nat_eq above group) refl)) ∙ h
+        by (Some above) e h = cc (members_as_before above (apart (nat_eq above group) refl))
           where
             apart : (b : Bool) → nat_eq above group ≡ b → b ≡ false
             apart false f = refl
-            apart true f = absurd (no_loop world.master members group its_life above e
-                (subst (λ g. Up world.master g group) (sym (eqb-true above group f)) (here group)))
+            apart true f =
+                absurd (no_loop world.master members group its_life above e (rw (eqb-true above group f) (here group)))
 
     live_but : GroupsLiveBut group after
     live_but = record {
@@ -165,15 +159,14 @@ module _ (world : World ℕ) (front back : List (Mount ℕ)) (old new : Mount �
         of : (mount : Mount ℕ) → Among mount after.mounts → (o : Option ℕ) → source_of mount.propagation ≡ o
             → list_all (is_group_or_lives after group) (option_to_list o) ≡ true
         of mount m None e = refl
-        of mount m (Some source) e = ap (λ b. b && true)
-            (had_members source (live_members world.master members source (source_lives mount m source e)))
+        of mount m (Some source) e =
+            cc (had_members source (live_members world.master members source (source_lives mount m source e)))
 
         above : (other : ℕ) (b : Bool) → members other ≡ b
             → list_all (is_group_or_lives after group) (option_to_list (world.master other)) ≡ true
         above other true has =
             had_members_all (world.master other) (master_lives members world.master other (lives other has))
-        above other false none =
-            ap (λ o. list_all (is_group_or_lives after group) (option_to_list o)) (in_use.groups other none)
+        above other false none = cc (in_use.groups other none)
 
     -- where the group has members left, none has lost a group
     none_lost_after : has_members nat_eq after.mounts group ≡ true
@@ -189,7 +182,7 @@ module _ (world : World ℕ) (front back : List (Mount ℕ)) (old new : Mount �
         still other had = by (nat_eq other group) refl
           where
             by : (b : Bool) → nat_eq other group ≡ b → has_members nat_eq after.mounts other ≡ true
-            by true e = ap (has_members nat_eq after.mounts) (eqb-true other group e) ∙ has
+            by true e = cc (eqb-true other group e)
             by false e = members_as_before other e ∙ had
 
         all_still : (o : Option ℕ) → list_all members (option_to_list o) ≡ true
@@ -198,18 +191,17 @@ module _ (world : World ℕ) (front back : List (Mount ℕ)) (old new : Mount �
 
     pub group_handed_on : OneGroupIsHandedOn → regrouped nat_eq after
         ≡ cond (nat_lt 1 (member_count world group)) after (hand_on after group)
-    group_handed_on one = by (has_members nat_eq after.mounts group) refl
-        ∙ ap (λ b. cond b after (hand_on after group)) members_still
+    group_handed_on one = cc (by (has_members nat_eq after.mounts group) refl, members_still)
       where
         by : (b : Bool) → has_members nat_eq after.mounts group ≡ b
             → regrouped nat_eq after ≡ cond b after (hand_on after group)
-        by true has = ap (λ lost. regrouped_by nat_eq lost after) (none_lost_after has)
+        by true has = cc (none_lost_after has)
         by false none = one after group live_but none
 
 pub group_is_handed_on_with_its_last_member : OneGroupIsHandedOn → GroupIsHandedOnWithItsLastMember
 group_is_handed_on_with_its_last_member one world front back old new group in_use mounts before was is =
-    group_handed_on world front back old new group before was is in_use mounts one
+    group_handed_on world front back old new before was is in_use mounts one
 
 pub group_goes_with_its_last_member : GroupGoesWithItsLastMember
 group_goes_with_its_last_member world front back old new group in_use before was is =
-    group_left world front back old new group before was is in_use
+    group_left world front back old new before was is in_use

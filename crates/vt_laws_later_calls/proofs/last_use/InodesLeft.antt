@@ -17,7 +17,7 @@ use Rattle.vt_laws_later_calls.proofs.last_use.OneLess.{some_left}
 
 pub exchange_of_one_loses_one_use : ExchangeOfOneLosesOneUse
 exchange_of_one_loses_one_use world after inode exchange = record {
-  numbers = λ filesystem. ap (λ f. f.files.numbers) (exchange filesystem).same;
+  numbers = λ filesystem. cc ((exchange filesystem).same);
   uses = λ filesystem number. alike (inode_uses world (filesystem_numbered nat_eq world filesystem) number)
       (inode_uses after (filesystem_numbered nat_eq after filesystem) number)
       (cond (is_inode filesystem number inode) 1 0) ((exchange filesystem).uses number);
@@ -108,13 +108,12 @@ module _ {world after : World ℕ} {inode : Inode} (in_use : InodesInUse world)
   -- the filesystem of its number
   pub its_kind : (b : Bool) → is_overlay (filesystem_numbered nat_eq after inode.0) ≡ b → (filesystem : Filesystem ℕ)
       → Among filesystem after.filesystems → nat_eq filesystem.number inode.0 ≡ true → is_overlay filesystem ≡ b
-  its_kind b kind filesystem m e = ap is_overlay (sym (found_after filesystem m))
-      ∙ ap (λ k. is_overlay (filesystem_numbered nat_eq after k)) (eqb-true filesystem.number inode.0 e) ∙ kind
+  its_kind b kind filesystem m e = cc (found_after filesystem m, eqb-true filesystem.number inode.0 e)
 
   looked_up : let_go_inode after inode
       ≡ cond (nat_lt 1 (inode_uses world (filesystem_numbered nat_eq world inode.0) inode.1)) after
       (without_inode_at after inode)
-  looked_up = inode_is_looked_up after inode one ∙ ap (λ b. cond b after (without_inode_at after inode)) used_still
+  looked_up = cc (inode_is_looked_up after inode one, used_still)
 
   -- Of a plain tree, beside overlays
   module _ (plain : is_overlay (filesystem_numbered nat_eq after inode.0) ≡ false) where
@@ -128,7 +127,7 @@ module _ {world after : World ℕ} {inode : Inode} (in_use : InodesInUse world)
       where
         none : (o : Option (Overlay ℕ)) → is_some o ≡ false → overlay_or [] (uppers_in inode.1) o ≡ []
         none None e = refl
-        none (Some overlay) e = absurd (true≢false e)
+        none (Some overlay) e = cc
 
         by : (f : Filesystem ℕ) → Among f after.filesystems → (b : Bool) → nat_eq f.number inode.0 ≡ b
             → cond b (of_overlay [] (uppers_in inode.1) f) [] ≡ []
@@ -151,9 +150,7 @@ module _ {world after : World ℕ} {inode : Inode} (in_use : InodesInUse world)
     unused : nat_lt 1 (inode_uses world (filesystem_numbered nat_eq world inode.0) inode.1) ≡ false
         → (f : Filesystem ℕ) → Among f after.filesystems → nat_eq f.number inode.0 ≡ true
         → is_inode_used after f inode.1 ≡ false
-    unused last f m e = ap (λ g. is_inode_used after g inode.1) (sym (found_after f m))
-        ∙ ap (λ k. is_inode_used after (filesystem_numbered nat_eq after k) inode.1) (eqb-true f.number inode.0 e)
-        ∙ used_still ∙ last
+    unused last f m e = cc (found_after f m, eqb-true f.number inode.0 e, used_still)
 
     -- it goes
     merged_goes : nat_lt 1 (inode_uses world (filesystem_numbered nat_eq world inode.0) inode.1) ≡ false
@@ -162,17 +159,15 @@ module _ {world after : World ℕ} {inode : Inode} (in_use : InodesInUse world)
 
     -- no plain tree has its number
     no_plain : let_go_in is_plain (without_merged_inode after inode) inode ≡ without_merged_inode after inode
-    no_plain = ap (λ filesystems. record after { filesystems = filesystems })
-        (map_same (let_go_in_of is_plain (without_merged_inode after inode) inode)
-        (map (without_inode_of_any inode) after.filesystems)
-        (λ g m. let from = among-from_map (without_inode_of_any inode) after.filesystems g m in
-        ap (let_go_in_of is_plain (without_merged_inode after inode) inode) from.2
-        ∙ by from.0 from.1 (nat_eq from.0.number inode.0) refl ∙ sym from.2))
+    no_plain = cc (map_same (let_go_in_of is_plain (without_merged_inode after inode) inode)
+        (map (without_inode_of_any inode) after.filesystems) (λ g m. let from = among-from_map
+        (without_inode_of_any inode) after.filesystems g m in ap (let_go_in_of is_plain
+        (without_merged_inode after inode) inode) from.2 ∙ by from.0 from.1 (nat_eq from.0.number inode.0) refl ∙
+        sym from.2))
       where
         stays : (g : Filesystem ℕ) → (is_plain g && nat_eq g.number inode.0) ≡ false
             → let_go_in_of is_plain (without_merged_inode after inode) inode g ≡ g
-        stays g e = ap (λ b. cond (b && not (is_inode_used (without_merged_inode after inode) g inode.1))
-            (without_inode_of inode.1 g) g) e
+        stays g e = cc
 
         still_merged : (o : Option (Overlay ℕ)) → is_some (option_map (without_real inode.1) o) ≡ is_some o
         still_merged None = refl
@@ -181,26 +176,17 @@ module _ {world after : World ℕ} {inode : Inode} (in_use : InodesInUse world)
         by : (f : Filesystem ℕ) → Among f after.filesystems → (b : Bool) → nat_eq f.number inode.0 ≡ b
             → let_go_in_of is_plain (without_merged_inode after inode) inode (without_inode_of_any inode f)
             ≡ without_inode_of_any inode f
-        by f m true e = stays (without_inode_of_any inode f)
-            (ap (λ b. is_plain (cond b (without_inode_of inode.1 f) f) && nat_eq
-            (cond b (without_inode_of inode.1 f) f).number inode.0) e
-            ∙ ap (λ b. not b && nat_eq f.number inode.0) (still_merged f.overlay ∙ its_kind true merged f m e))
-        by f m false e = stays (without_inode_of_any inode f)
-            (ap (λ b. is_plain (cond b (without_inode_of inode.1 f) f) && nat_eq
-            (cond b (without_inode_of inode.1 f) f).number inode.0) e
-            ∙ ap (λ b. is_plain f && b) e ∙ and-false (is_plain f))
+        by f m true e = stays (without_inode_of_any inode f) (cc (still_merged f.overlay, its_kind true merged f m e))
+        by f m false e = stays (without_inode_of_any inode f) (cc (and-false (is_plain f)))
 
     pub of_overlay_left : HasTrees after → UppersArePlain after → RealsAreThere after → (more : Bool)
         → nat_lt 1 (inode_uses world (filesystem_numbered nat_eq world inode.0) inode.1) ≡ more
         → without_dead_inodes nat_eq after
         ≡ cond more after (let_go_plain (without_merged_inode after inode) (uppers_of after (inode ∷ [])))
     of_overlay_left trees uppers reals true e =
-        ap (without_dead_in nat_eq (λ f. not (is_overlay f))) (inodes_stay is_overlay after (all_used e))
-        ∙ inodes_stay (λ f. not (is_overlay f)) after (all_used e)
+        cc (inodes_stay is_overlay after (all_used e), inodes_stay (λ f. not (is_overlay f)) after (all_used e))
     of_overlay_left trees uppers reals false e =
-        all_inodes_go_one_by_one after (inode ∷ []) trees uppers reals other_inodes
-        ∙ ap (λ w. let_go_plain w (inode ∷ uppers_of after (inode ∷ []))) (merged_goes e)
-        ∙ ap (λ w. let_go_plain w (uppers_of after (inode ∷ []))) no_plain
+        cc (all_inodes_go_one_by_one after (inode ∷ []) trees uppers reals other_inodes, merged_goes e, no_plain)
 
 pub inode_goes_with_its_last_use : InodeGoesWithItsLastUse
 inode_goes_with_its_last_use world after inode in_use loses plain trees one =

@@ -37,7 +37,7 @@ found_beside (first ∷ rest) k gone differs =
         ≡ cond c (Some first) (find (λ (f : Filesystem ℕ). nat_eq k f.number) rest)
     by b e c h later = grind (arith, common_steps, true≢false, eqb-true)
 
-module _ (world : World ℕ) (tasks : List (Task ℕ)) (front back : List (Location ℕ)) (location : Location ℕ)
+module _ {world : World ℕ} (tasks : List (Task ℕ)) (front back : List (Location ℕ)) (location : Location ℕ)
     (whole : IsWorld nat_eq world) (plain : IsPlain world) (before : all_locations world ≡ front ++ (location ∷ back))
     (left : all_locations (with_tasks world tasks) ≡ front ++ back)
     (goes : (is_some (mount_at nat_eq world location).namespace || nat_lt 1 (mount_uses world location.mount)) ≡ false)
@@ -64,7 +64,7 @@ module _ (world : World ℕ) (tasks : List (Task ℕ)) (front back : List (Locat
   at_mounts = locations_of_worlds_stand world whole
 
   located : Among location (all_locations world)
-  located = subst (Among location) (sym before) (among-append_right front (location ∷ back) location (inl refl))
+  located = rw before (among-append_right front (location ∷ back) location (inl refl))
 
   -- the mount is there
   numbered : is_among nat_eq location.mount (map (λ mount. mount.number) world.mounts) ≡ true
@@ -76,25 +76,22 @@ module _ (world : World ℕ) (tasks : List (Task ℕ)) (front back : List (Locat
   its_there =
       let from = among-from_map (λ (mount : Mount ℕ). mount.number) world.mounts location.mount
       (among_numbers location.mount (map (λ mount. mount.number) world.mounts) numbered) in
-      let found : its ≡ from.0 = ap (mount_in nat_eq world.mounts) from.2
-      ∙ found_itself world.mounts stand.one_number from.0 from.1 in
-      (subst (λ m. Among m world.mounts) (sym found) from.1, ap (λ m. m.number) found ∙ sym from.2)
+      let found : its ≡ from.0 = cc (from.2, found_itself world.mounts stand.one_number from.0 from.1) in
+      (rw found from.1, cc from.2)
 
   split : IsSplit (λ (a b : Mount ℕ). nat_eq a.number b.number) world.mounts its
   split = split_around (λ (a b : Mount ℕ). nat_eq a.number b.number) (λ m. eq-eqb m.number m.number refl)
       (λ a b. nat_eq-swapped a.number b.number false) world.mounts stand.one_number its its_there.0
 
   mount_goes : without_dead_mounts nat_eq after ≡ unmounted
-  mount_goes = mount_goes_with_its_last_use world tasks front back location in_use stand.one_number before left
-      ∙ ap (λ b. cond b after unmounted) goes
+  mount_goes = cc (mount_goes_with_its_last_use world tasks front back location in_use stand.one_number before left)
 
   filesystem_goes : without_dead_filesystems nat_eq unmounted ≡ freed
   filesystem_goes =
-      filesystem_goes_with_its_last_use world unmounted split.front split.back its in_use plain refl split.whole
+      cc (filesystem_goes_with_its_last_use world unmounted split.front split.back its in_use plain refl split.whole
       (filter_alike (λ mount. not (nat_eq mount.number location.mount)) (λ mount. not (nat_eq its.number mount.number))
-      world.mounts (λ mount m. ap (λ n. not (nat_eq mount.number n)) (sym its_there.1)
-      ∙ ap not (nat_eq-swapped its.number mount.number (nat_eq its.number mount.number) refl)) ∙ split.left)
-      ∙ ap (λ b. cond b unmounted freed) last
+      world.mounts (λ mount m. ap (λ n. not (nat_eq mount.number n)) (sym its_there.1) ∙ ap not
+      (nat_eq-swapped its.number mount.number (nat_eq its.number mount.number) refl)) ∙ split.left))
 
   -- Inodes of other filesystems are used as before
 
@@ -102,15 +99,14 @@ module _ (world : World ℕ) (tasks : List (Task ℕ)) (front back : List (Locat
   stand_after = record { one_number = stand.one_number; nowhere = stand.nowhere; on_attached = stand.on_attached }
 
   at_mounts_after : LocationsStand after
-  at_mounts_after = ap (list_all (λ l. is_among nat_eq l.mount (map (λ mount. mount.number) world.mounts))) left
-      ∙ list_all_from_among (λ l. is_among nat_eq l.mount (map (λ mount. mount.number) world.mounts)) (front ++ back)
-      (λ l m. among_from_list_all (λ x. is_among nat_eq x.mount (map (λ mount. mount.number) world.mounts))
-      (all_locations world)
-      at_mounts l (subst (Among l) (sym before) (⊎_elim (λ f. among-append_left front (location ∷ back) l f)
-      (λ b. among-append_right front (location ∷ back) l (inr b)) (among-append front back l m))))
+  at_mounts_after = cc (list_all_from_among (λ l. is_among nat_eq l.mount (map (λ mount. mount.number) world.mounts))
+      (front ++ back) (λ l m. among_from_list_all (λ x. is_among nat_eq x.mount
+      (map (λ mount. mount.number) world.mounts)) (all_locations world) at_mounts l
+      (subst (Among l) (sym before) (⊎_elim (λ f. among-append_left front (location ∷ back) l f)
+      (λ b. among-append_right front (location ∷ back) l (inr b)) (among-append front back l m)))))
 
   unused : is_mount_used after location.mount ≡ false
-  unused = ap (λ b. is_some its.namespace || b) (located_still world tasks front back location before left) ∙ goes
+  unused = cc (located_still world tasks front back location before left)
 
   plain_there : Counted.IsPlain unmounted
   plain_there = all_from_among (λ f. is_overlay f ≡ false) world.filesystems
@@ -123,14 +119,12 @@ module _ (world : World ℕ) (tasks : List (Task ℕ)) (front back : List (Locat
 
   exchange : (k : ℕ) → nat_eq k its.filesystem ≡ false
       → Exchanges [] (inode_at world location ∷ root_inode after location.mount ∷ []) k world freed
-  exchange k differs =
-      exchanges_follow world unmounted freed [] (inode_at world location ∷ root_inode after location.mount ∷ []) [] [] k
-      (exchanges_follow world after unmounted [] (inode_at world location ∷ []) []
-      (root_inode after location.mount ∷ []) k
-      (locations_are_uses world after [] (location ∷ []) front back refl refl before left k)
-      (mounts_leave_their_roots after location.mount stand_after at_mounts_after numbered unused k))
+  exchange k differs = exchanges_follow world unmounted freed [] (inode_at world location ∷ root_inode after
+      location.mount ∷ []) [] [] k (exchanges_follow world after unmounted [] (inode_at world location ∷ []) []
+      (root_inode after location.mount ∷ []) k (locations_are_uses world after [] (location ∷ []) front back refl refl
+      before left k) (mounts_leave_their_roots after location.mount stand_after at_mounts_after numbered unused k))
       (others_use_nothing unmounted freed k plain_there plain_freed refl refl
-      (ap (λ o. unwrap_or o (no_filesystem k)) (found_beside world.filesystems k its.filesystem differs)))
+      (cc (found_beside world.filesystems k its.filesystem differs)))
 
   inodes_used : InodesInUse freed
   inodes_used = all_from_among (λ f. list_all (is_inode_used freed f) f.files.numbers ≡ true) freed.filesystems
@@ -151,33 +145,35 @@ module _ (world : World ℕ) (tasks : List (Task ℕ)) (front back : List (Locat
       as_before : (f : Filesystem ℕ) → Among f world.filesystems → nat_eq f.number its.filesystem ≡ false
           → (number : ℕ) → is_inode_used world f number ≡ true → is_inode_used freed f number ≡ true
       as_before f m differs number was =
-          let found : filesystem_numbered nat_eq world f.number ≡ f =
-          found_by (λ (x : Filesystem ℕ). x.number) (no_filesystem f.number) world.filesystems
-          whole.files.one_filesystem f m in
+          let found : filesystem_numbered nat_eq world f.number ≡ f = found_by (λ (x : Filesystem ℕ). x.number)
+          (no_filesystem f.number) world.filesystems whole.files.one_filesystem f m in
           let moved = exchange f.number differs in
-          used_while_counted freed f number ∙ ap (λ g. nat_lt 0 (inode_uses freed g number)) (sym (moved.same ∙ found))
-          ∙ ap (nat_lt 0) (sym (alike (inode_uses world (filesystem_numbered nat_eq world f.number) number)
-          (inode_uses freed (filesystem_numbered nat_eq freed f.number) number) (moved.uses number
-          ∙ ap (λ b. inode_uses freed (filesystem_numbered nat_eq freed f.number) number
-          + (cond (b && nat_eq number location.node) 1 0 + (cond (b && nat_eq number its.root) 1 0 + 0))) differs)))
-          ∙ ap (λ g. nat_lt 0 (inode_uses world g number)) found ∙ sym (used_while_counted world f number) ∙ was
+          cc (
+            used_while_counted freed f number,
+            moved.same,
+            alike (inode_uses world
+                (filesystem_numbered nat_eq world f.number) number) (inode_uses freed
+                (filesystem_numbered nat_eq freed f.number) number) (moved.uses number ∙
+                ap (λ b. inode_uses freed (filesystem_numbered nat_eq freed f.number) number +
+                (cond (b && nat_eq number location.node) 1 0 + (cond (b && nat_eq number its.root) 1 0 + 0))) differs),
+            used_while_counted world f number,
+          )
 
   -- the mount was in no group
   groups_used : GroupsInUse freed
-  groups_used group none = in_use.groups group
-      (sym (any-filter (is_member_of nat_eq group) (λ mount. not (nat_eq mount.number location.mount)) world.mounts
-      (λ mount m gone. private_is_no_member group mount
-      (nowhere_parts mount (among_from_list_all is_nowhere_or_attached world.mounts stand.nowhere mount m)
-      (ap (λ x. is_some x.namespace) (itself mount m (named (nat_eq mount.number location.mount) gone))
-      ∙ (or_parts (is_some its.namespace) (nat_lt 1 (mount_uses world location.mount)) goes).0)).1)) ∙ none)
+  groups_used group none = in_use.groups group (cc (any-filter (is_member_of nat_eq group)
+      (λ mount. not (nat_eq mount.number location.mount)) world.mounts
+      (λ mount m gone. private_is_no_member group mount (nowhere_parts mount
+      (among_from_list_all is_nowhere_or_attached world.mounts stand.nowhere mount m)
+      (ap (λ x. is_some x.namespace) (itself mount m (named (nat_eq mount.number location.mount) gone)) ∙
+      (or_parts (is_some its.namespace) (nat_lt 1 (mount_uses world location.mount)) goes).0)).1)))
     where
       named : (b : Bool) → not b ≡ false → b ≡ true
       named true e = refl
       named false e = sym e
 
       itself : (mount : Mount ℕ) → Among mount world.mounts → nat_eq mount.number location.mount ≡ true → mount ≡ its
-      itself mount m e = sym (found_itself world.mounts stand.one_number mount m)
-          ∙ ap (mount_in nat_eq world.mounts) (eqb-true mount.number location.mount e)
+      itself mount m e = cc (found_itself world.mounts stand.one_number mount m, eqb-true mount.number location.mount e)
 
   pub all_goes : settled nat_eq after ≡ freed
   all_goes =
@@ -189,4 +185,4 @@ module _ (world : World ℕ) (tasks : List (Task ℕ)) (front back : List (Locat
 
 pub location_takes_its_filesystem : LocationTakesItsFilesystem
 location_takes_its_filesystem world tasks front back location whole plain before left goes last =
-    all_goes world tasks front back location whole plain before left goes last
+    all_goes tasks front back location whole plain before left goes last

@@ -21,43 +21,37 @@ module _ (world : World ℕ) (tasks : List (Task ℕ)) (front back : List (Locat
   -- other mounts are located as before
   located_as_before : (number : ℕ) → nat_eq number location.mount ≡ false
       → is_located nat_eq after number ≡ is_located nat_eq world number
-  located_as_before number differs = ap (list_any (λ (l : Location ℕ). nat_eq number l.mount)) left
-      ∙ some_without_another (λ (l : Location ℕ). nat_eq number l.mount) location differs front back
-      ∙ ap (list_any (λ (l : Location ℕ). nat_eq number l.mount)) (sym before)
+  located_as_before number differs =
+      cc (some_without_another (λ (l : Location ℕ). nat_eq number l.mount) location differs front back)
 
   -- its own mount is located if it was more than once
   pub located_still : is_located nat_eq after location.mount ≡ nat_lt 1 (mount_uses world location.mount)
-  located_still = ap (list_any (λ (l : Location ℕ). nat_eq location.mount l.mount)) left
-      ∙ some_without_it (λ (l : Location ℕ). nat_eq location.mount l.mount) location
-      (eq-eqb location.mount location.mount refl) front back
-      ∙ ap (λ list. nat_lt 1 (times (λ (l : Location ℕ). nat_eq location.mount l.mount) list)) (sym before)
+  located_still = cc (some_without_it (λ (l : Location ℕ). nat_eq location.mount l.mount) location
+      (eq-eqb location.mount location.mount refl) front back)
 
   other_mounts : MountsInUse world → MountsInUseBut (location.mount ∷ []) after
   other_mounts in_use = grind (arith, common_steps, list_all_from_among, among_from_list_all, located_as_before)
 
 pub mount_goes_with_its_last_use : MountGoesWithItsLastUse
-mount_goes_with_its_last_use world tasks front back location in_use one before left =
-    mounts_go_one_by_one (with_tasks world tasks) (location.mount ∷ [])
-    (other_mounts world tasks front back location before left in_use.mounts)
-    ∙ mount_is_looked_up (with_tasks world tasks) location.mount one
-    ∙ ap (λ b. cond (is_some (mount_at nat_eq world location).namespace || b) (with_tasks world tasks)
-    (without_mount (with_tasks world tasks) location.mount)) (located_still world tasks front back location before left)
+mount_goes_with_its_last_use world tasks front back location in_use one before left = cc (
+  mounts_go_one_by_one (with_tasks world tasks) (location.mount ∷ [])
+      (other_mounts world tasks front back location before left in_use.mounts),
+  mount_is_looked_up (with_tasks world tasks) location.mount one,
+  located_still world tasks front back location before left,
+)
 
 module _ (world after : World ℕ) (front back : List (Mount ℕ)) (mount : Mount ℕ)
     (before : world.mounts ≡ front ++ (mount ∷ back)) (left : after.mounts ≡ front ++ back) where
   -- other filesystems are mounted as before
   pub mounted_as_before : (number : ℕ) → nat_eq number mount.filesystem ≡ false
       → is_mounted nat_eq after number ≡ is_mounted nat_eq world number
-  mounted_as_before number differs = ap (list_any (λ (m : Mount ℕ). nat_eq number m.filesystem)) left
-      ∙ some_without_another (λ (m : Mount ℕ). nat_eq number m.filesystem) mount differs front back
-      ∙ ap (list_any (λ (m : Mount ℕ). nat_eq number m.filesystem)) (sym before)
+  mounted_as_before number differs =
+      cc (some_without_another (λ (m : Mount ℕ). nat_eq number m.filesystem) mount differs front back)
 
   -- its own filesystem is mounted if it was more than once
   pub mounted_still : is_mounted nat_eq after mount.filesystem ≡ nat_lt 1 (mounts_showing world mount.filesystem)
-  mounted_still = ap (list_any (λ (m : Mount ℕ). nat_eq mount.filesystem m.filesystem)) left
-      ∙ some_without_it (λ (m : Mount ℕ). nat_eq mount.filesystem m.filesystem) mount
-      (eq-eqb mount.filesystem mount.filesystem refl) front back
-      ∙ ap (λ list. nat_lt 1 (times (λ (m : Mount ℕ). nat_eq mount.filesystem m.filesystem) list)) (sym before)
+  mounted_still = cc (some_without_it (λ (m : Mount ℕ). nat_eq mount.filesystem m.filesystem) mount
+      (eq-eqb mount.filesystem mount.filesystem refl) front back)
 
   module _ (plain : IsPlain world) (same : after.filesystems ≡ world.filesystems) where
     -- a plain filesystem is in use just while it is mounted

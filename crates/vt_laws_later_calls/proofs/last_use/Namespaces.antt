@@ -10,7 +10,7 @@ use Rattle.vt_laws_later_calls.specs.LastUse.{NamespaceEndsWithItsLastTask, task
 use Rattle.vt_laws_later_calls.proofs.last_use.Groups.{none_lost}
 use Rattle.vt_laws_later_calls.proofs.last_use.OneLess.{some_without_another, some_without_it}
 
-module _ (world : World ℕ) (front back : List (Task ℕ)) (task : Task ℕ) (mounts : MountInvariants nat_eq world)
+module _ {world : World ℕ} (front back : List (Task ℕ)) (task : Task ℕ) (mounts : MountInvariants nat_eq world)
     (namespaces : NamespaceInvariants nat_eq world) (before : world.tasks ≡ front ++ (task ∷ back)) where
   abbrev after : World ℕ
   after = with_tasks world (front ++ back)
@@ -21,9 +21,8 @@ module _ (world : World ℕ) (front back : List (Task ℕ)) (task : Task ℕ) (m
 
   -- its own namespace has tasks if it had more
   entered_still : is_entered task.namespace ≡ nat_lt 1 (task_count world task.namespace)
-  entered_still = some_without_it (λ (other : Task ℕ). nat_eq task.namespace other.namespace) task
-      (eq-eqb task.namespace task.namespace refl) front back
-      ∙ ap (λ tasks. nat_lt 1 (times (λ (other : Task ℕ). nat_eq task.namespace other.namespace) tasks)) (sym before)
+  entered_still = cc (some_without_it (λ (other : Task ℕ). nat_eq task.namespace other.namespace) task
+      (eq-eqb task.namespace task.namespace refl) front back)
 
   -- other namespaces have tasks as before
   entered_as_before : (namespace : Namespace ℕ) → Among namespace world.namespaces

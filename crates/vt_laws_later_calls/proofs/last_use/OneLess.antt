@@ -12,15 +12,13 @@ module _ {A : Type 0} (test : A → Bool) where
   -- without one that passes, some pass just where more than one did
   pub some_without_it : (a : A) → test a ≡ true → (front back : List A)
       → list_any test (front ++ back) ≡ nat_lt 1 (times test (front ++ (a ∷ back)))
-  some_without_it a e front back = any_counted test (front ++ back)
-      ∙ some_left (times test (front ++ (a ∷ back))) (times test (front ++ back))
-      (times_around test front back a ∙ ap (λ b. times test (front ++ back) + cond b 1 0) e)
+  some_without_it a e front back = any_counted test (front ++ back) ∙ some_left (times test (front ++ (a ∷ back)))
+      (times test (front ++ back)) (cc (times_around test front back a))
 
   -- without one that does not pass, some pass just where some did
   pub some_without_another : (a : A) → test a ≡ false → (front back : List A)
       → list_any test (front ++ back) ≡ list_any test (front ++ (a ∷ back))
-  some_without_another a e front back = list_any-append test front back
-      ∙ ap (λ b. list_any test front || (b || list_any test back)) (sym e) ∙ sym (list_any-append test front (a ∷ back))
+  some_without_another a e front back = cc (list_any-append test front back, list_any-append test front (a ∷ back))
 
 -- A list around one of it, of which no two are the same: without it, and with another in its place
 pub record IsSplit {A : Type 0} (same : A → A → Bool) (list : List A) (it : A) : Type 0 where
@@ -44,21 +42,21 @@ module _ {A : Type 0} (same : A → A → Bool) (itself : (a : A) → same a a �
       at_first is = record {
         front = [];
         back = rest;
-        whole = ap (λ a. a ∷ rest) (sym is);
-        left = filter_skip (λ a. not (same it a)) first rest (ap (λ a. not (same it a)) (sym is) ∙ ap not (itself it))
+        whole = cc;
+        left = filter_skip (λ a. not (same it a)) first rest (cc (itself it))
             ∙ filter_all (λ a. not (same it a)) rest (λ a n. ap not (differs a n));
         changed = λ change stays. λ i. change (sym is i) ∷ map_same change rest (λ a n. stays a (differs a n)) i;
       }
         where
           differs : (a : A) → Among a rest → same it a ≡ false
-          differs a n = ap (λ x. same x a) is ∙ none_among (same first) rest parts.0 a n
+          differs a n = cc (none_among (same first) rest parts.0 a n)
 
       later : Among it rest → IsSplit same rest it → IsSplit same (first ∷ rest) it
       later n next = record {
         front = first ∷ next.front;
         back = next.back;
-        whole = ap (λ l. first ∷ l) next.whole;
-        left = filter_here (λ a. not (same it a)) first rest (ap not differs) ∙ ap (λ l. first ∷ l) next.left;
+        whole = cc next.whole;
+        left = cc (filter_here (λ a. not (same it a)) first rest (ap not differs), next.left);
         changed = λ change stays. λ i. stays first differs i ∷ next.changed change stays i;
       }
         where

@@ -35,11 +35,9 @@ module _ (world after : World ℕ) (front back : List (Mount ℕ)) (mount : Moun
   -- Where it was a plain one, overlays are mounted as before
   module _ (plain : is_overlay (filesystem_numbered nat_eq world mount.filesystem) ≡ false) where
     layered_as_before : (number : ℕ) → is_layered after number ≡ is_layered world number
-    layered_as_before number =
-        ap (list_any (λ merged. has_layer_on nat_eq number merged && is_mounted nat_eq after merged.number)) same
-        ∙ any_alike (λ merged. has_layer_on nat_eq number merged && is_mounted nat_eq after merged.number)
-        (λ merged. has_layer_on nat_eq number merged && is_mounted nat_eq world merged.number) world.filesystems
-        (λ merged m. by merged m (nat_eq merged.number mount.filesystem) refl)
+    layered_as_before number = cc (any_alike (λ merged. has_layer_on nat_eq number merged && is_mounted nat_eq after
+        merged.number) (λ merged. has_layer_on nat_eq number merged && is_mounted nat_eq world merged.number)
+        world.filesystems (λ merged m. by merged m (nat_eq merged.number mount.filesystem) refl))
       where
         by : (merged : Filesystem ℕ) → Among merged world.filesystems → (b : Bool)
             → nat_eq merged.number mount.filesystem ≡ b
@@ -48,12 +46,10 @@ module _ (world after : World ℕ) (front back : List (Mount ℕ)) (mount : Moun
         by merged m b e = grind (arith, common_steps, no_layer, its_own, mounted_as_before)
 
     other_filesystems : FilesystemsInUseBut (mount.filesystem ∷ []) after
-    other_filesystems = ap (list_all (λ filesystem. is_among nat_eq filesystem.number (mount.filesystem ∷ [])
-        || filesystem_lives nat_eq after filesystem)) same
-        ∙ list_all_from_among (λ filesystem. is_among nat_eq filesystem.number (mount.filesystem ∷ [])
-        || filesystem_lives nat_eq after filesystem) world.filesystems
-        (λ f m. by f (nat_eq f.number mount.filesystem) refl
-        (among_from_list_all (filesystem_lives nat_eq world) world.filesystems in_use f m))
+    other_filesystems =
+        cc (list_all_from_among (λ filesystem. is_among nat_eq filesystem.number (mount.filesystem ∷ []) ||
+        filesystem_lives nat_eq after filesystem) world.filesystems (λ f m. by f (nat_eq f.number mount.filesystem) refl
+        (among_from_list_all (filesystem_lives nat_eq world) world.filesystems in_use f m)))
       where
         by : (f : Filesystem ℕ) (b : Bool) → nat_eq f.number mount.filesystem ≡ b
             → filesystem_lives nat_eq world f ≡ true → ((b || false) || filesystem_lives nat_eq after f) ≡ true
@@ -80,10 +76,8 @@ module _ (world after : World ℕ) (front back : List (Mount ℕ)) (mount : Moun
         → has_layer_on nat_eq number merged ≡ true → is_mounted nat_eq after merged.number ≡ true
         → (is_mounted nat_eq after number || is_layered after number) ≡ true
     lives_layered number merged m has mounted = or_right (is_mounted nat_eq after number) (is_layered after number)
-        (ap (list_any (λ x. has_layer_on nat_eq number x && is_mounted nat_eq after x.number)) same
-        ∙ any_from_among (λ x. has_layer_on nat_eq number x && is_mounted nat_eq after x.number) world.filesystems
-        merged m
-        (λ i. has i && mounted i))
+        (cc (any_from_among (λ x. has_layer_on nat_eq number x && is_mounted nat_eq after x.number) world.filesystems
+        merged m (λ i. has i && mounted i)))
 
     -- a filesystem was mounted, or an overlay with a layer in it
     lived : (f : Filesystem ℕ) → Among f world.filesystems
@@ -92,19 +86,17 @@ module _ (world after : World ℕ) (front back : List (Mount ℕ)) (mount : Moun
     lived f m = grind (arith, common_steps, any_among, and_parts, or_cases, among_from_list_all)
 
     all_but : FilesystemsInUseBut (mount.filesystem ∷ layers) after
-    all_but = ap (list_all (λ filesystem. is_among nat_eq filesystem.number (mount.filesystem ∷ layers)
-        || filesystem_lives nat_eq after filesystem)) same
-        ∙ list_all_from_among (λ filesystem. is_among nat_eq filesystem.number (mount.filesystem ∷ layers)
-        || filesystem_lives nat_eq after filesystem) world.filesystems
-        (λ f m. by f (nat_eq f.number mount.filesystem) refl (lived f m))
+    all_but = cc (list_all_from_among (λ filesystem. is_among nat_eq filesystem.number (mount.filesystem ∷ layers) ||
+        filesystem_lives nat_eq after filesystem) world.filesystems (λ f m. by f (nat_eq f.number mount.filesystem) refl
+        (lived f m)))
       where
         is_layer : (f merged : Filesystem ℕ) → Among merged world.filesystems
             → nat_eq merged.number mount.filesystem ≡ true → has_layer_on nat_eq f.number merged ≡ true
             → is_among nat_eq f.number layers ≡ true
-        is_layer f merged m e has =
-            any-map (nat_eq f.number) (λ layer. layer.filesystem) (layers_of overlay) (λ layer. refl)
-            ∙ sym (ap (overlay_or false (λ o. list_any (λ layer. nat_eq f.number layer.filesystem) (layers_of o))) is)
-            ∙ ap (has_layer_on nat_eq f.number) (its_own merged m e) ∙ has
+        is_layer f merged m e has = cc (
+          any-map (nat_eq f.number) (λ layer. layer.filesystem) (layers_of overlay) (λ layer. refl),
+          its_own merged m e,
+        )
 
         by : (f : Filesystem ℕ) (b : Bool) → nat_eq f.number mount.filesystem ≡ b
             → (is_mounted nat_eq world f.number ≡ true) ⊎ ((merged : Filesystem ℕ) × Among merged world.filesystems
@@ -126,20 +118,18 @@ module _ (world after : World ℕ) (front back : List (Mount ℕ)) (mount : Moun
 
     -- while another mount shows it, all are in use
     all_mounted : is_mounted nat_eq after mount.filesystem ≡ true → FilesystemsInUse after
-    all_mounted still = ap (list_all (filesystem_lives nat_eq after)) same
-        ∙ list_all_from_among (filesystem_lives nat_eq after) world.filesystems (λ f m. ⊎_elim
-        (λ mounted. or_left (is_mounted nat_eq after f.number) (is_layered after f.number) (as_before f.number mounted))
-        (λ t. lives_layered f.number t.0 t.1 t.2 (as_before t.0.number t.3)) (lived f m))
+    all_mounted still = cc (list_all_from_among (filesystem_lives nat_eq after) world.filesystems
+        (λ f m. ⊎_elim (λ mounted. or_left (is_mounted nat_eq after f.number) (is_layered after f.number)
+        (as_before f.number mounted)) (λ t. lives_layered f.number t.0 t.1 t.2 (as_before t.0.number t.3)) (lived f m)))
       where
         as_before : (number : ℕ) → is_mounted nat_eq world number ≡ true → is_mounted nat_eq after number ≡ true
         as_before number was = grind (arith, common_steps, eqb-true, mounted_as_before)
 
     -- no overlay has a layer in it
     not_layered : is_layered after mount.filesystem ≡ false
-    not_layered = ap (list_any (λ x. has_layer_on nat_eq mount.filesystem x && is_mounted nat_eq after x.number)) same
-        ∙ none_from_among (λ x. has_layer_on nat_eq mount.filesystem x && is_mounted nat_eq after x.number)
+    not_layered = cc (none_from_among (λ x. has_layer_on nat_eq mount.filesystem x && is_mounted nat_eq after x.number)
         world.filesystems (λ x m. ap (λ b. b && is_mounted nat_eq after x.number)
-        (none_among (has_layer_on nat_eq mount.filesystem) world.filesystems no_layers x m))
+        (none_among (has_layer_on nat_eq mount.filesystem) world.filesystems no_layers x m)))
 
     overlay_left : (b : Bool) → is_mounted nat_eq after mount.filesystem ≡ b → without_dead_filesystems nat_eq after
         ≡ cond b after (let_go_filesystems (without_filesystem after mount.filesystem) layers)

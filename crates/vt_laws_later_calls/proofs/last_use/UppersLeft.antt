@@ -26,13 +26,16 @@ given_by_one : {B : Type 0} (give : Filesystem ℕ → List B) (filesystems : Li
     → (it : Filesystem ℕ) → Among it filesystems → ((f : Filesystem ℕ) → nat_eq f.number it.number ≡ false
     → give f ≡ []) → flat_map give filesystems ≡ give it
 given_by_one give [] one it m none = absurd m
-given_by_one give (first ∷ rest) one it m none = ⊎_elim (λ same. ap (λ l. give first ++ l)
-    (flat_map_none give rest (λ f n. none f (nat_eq-swapped it.number f.number false
-    (ap (λ (x : Filesystem ℕ). nat_eq x.number f.number) same
-    ∙ none_among (λ (b : Filesystem ℕ). nat_eq first.number b.number) rest parts.0 f n))))
-    ∙ append-nil (give first) ∙ ap give (sym same)) (λ later. ap (λ l. l ++ flat_map give rest)
-    (none first (none_among (λ (b : Filesystem ℕ). nat_eq first.number b.number) rest parts.0 it later))
-    ∙ given_by_one give rest parts.1 it later none) m
+given_by_one give (first ∷ rest) one it m none = ⊎_elim (λ same. cc (
+  flat_map_none give rest
+      (λ f n. none f (nat_eq-swapped it.number f.number false (ap (λ (x : Filesystem ℕ). nat_eq x.number f.number) same ∙
+      none_among (λ (b : Filesystem ℕ). nat_eq first.number b.number) rest parts.0 f n))),
+  append-nil (give first),
+))
+    (λ later. cc (
+      none first (none_among (λ (b : Filesystem ℕ). nat_eq first.number b.number) rest parts.0 it later),
+      given_by_one give rest parts.1 it later none,
+    )) m
   where
     parts : (list_any (λ (b : Filesystem ℕ). nat_eq first.number b.number) rest ≡ false)
         × (any_pair (λ (a b : Filesystem ℕ). nat_eq a.number b.number) rest ≡ false)
@@ -47,7 +50,7 @@ found_there world k = by (find (λ (f : Filesystem ℕ). nat_eq k f.number) worl
     by : (o : Option (Filesystem ℕ)) → find (λ (f : Filesystem ℕ). nat_eq k f.number) world.filesystems ≡ o
         → is_overlay (unwrap_or o (no_filesystem k)) ≡ true → Among (unwrap_or o (no_filesystem k)) world.filesystems
         × (nat_eq k (unwrap_or o (no_filesystem k)).number ≡ true)
-    by None e h = absurd (true≢false (sym h))
+    by None e h = cc
     by (Some f) e h = found_in (λ (g : Filesystem ℕ). nat_eq k g.number) world.filesystems f e
 
 -- an upper inode in an upper layer
@@ -62,11 +65,11 @@ module _ (after : World ℕ) (inode : Inode) (overlay : Overlay ℕ)
   merged = filesystem_numbered nat_eq after inode.0
 
   there : Among merged after.filesystems × (nat_eq inode.0 merged.number ≡ true)
-  there = found_there after inode.0 (ap is_some is)
+  there = found_there after inode.0 (cc)
 
   -- its number is that of the inode's filesystem
   its_number : (k : ℕ) → nat_eq k merged.number ≡ nat_eq k inode.0
-  its_number k = ap (nat_eq k) (sym (eqb-true inode.0 merged.number there.1))
+  its_number k = cc (eqb-true inode.0 merged.number there.1)
 
   uppers_are : uppers_of after (inode ∷ []) ≡ uppers_in inode.1 overlay
   uppers_are = grind (arith, common_steps, append-nil, given_by_one, there, its_number, eq-eqb)
@@ -91,13 +94,9 @@ module _ (after : World ℕ) (inode : Inode) (overlay : Overlay ℕ)
         where
           by : (b : Bool) → is_overlay f ≡ b → b ≡ false
           by false h = refl
-          by true h = absurd (true≢false
-              (sym (ap (overlay_or false (λ o. holds_of (λ l. nat_eq f.number l.filesystem) o.upper)) is
-              ∙ ap (holds_of (λ l. nat_eq f.number l.filesystem)) upper ∙ e)
-              ∙ among_from_all (λ g. has_upper_in f.number g ≡ false) after.filesystems
-              (among_from_all (λ x. is_overlay x ≡ true
-              → All (λ g. has_upper_in x.number g ≡ false) after.filesystems) after.filesystems uppers f m h)
-              merged there.0))
+          by true h = cc (among_from_all (λ g. has_upper_in f.number g ≡ false) after.filesystems
+              (among_from_all (λ x. is_overlay x ≡ true → All (λ g. has_upper_in x.number g ≡ false) after.filesystems)
+              after.filesystems uppers f m h) merged there.0)
 
       -- so it is not that of the inode
       apart : (f : Filesystem ℕ) → Among f after.filesystems → nat_eq f.number layer.filesystem ≡ true
@@ -110,18 +109,15 @@ module _ (after : World ℕ) (inode : Inode) (overlay : Overlay ℕ)
           ≡ nat_lt 1 (inode_uses world (filesystem_numbered nat_eq world layer.filesystem) object)
       upper_used f m e = ap (λ filesystems. is_inode_used (record after { filesystems = filesystems }) f object)
           (changed ∙ ap (λ b. split.front ++ (cond b (without_inode_of inode.1 merged) merged ∷ split.back))
-          (sym (its_number merged.number) ∙ eq-eqb merged.number merged.number refl))
-          ∙ used_while_counted (record after { filesystems = last }) f object
-          ∙ some_left (inode_uses after f object) (inode_uses (record after { filesystems = last }) f object)
-          (one_upper_use_less after split.front split.back merged overlay layer inode.1 object split.whole is upper real once
-          f object ∙ ap (λ b. inode_uses (record after { filesystems = last }) f object + cond b 1 0)
-          (λ i. e i && eq-eqb object object refl i)) ∙ ap (λ g. nat_lt 1 (inode_uses after g object)) (sym found)
-          ∙ ap (nat_lt 1) (sym (alike (inode_uses world (filesystem_numbered nat_eq world layer.filesystem) object)
+          (sym (its_number merged.number) ∙ eq-eqb merged.number merged.number refl)) ∙ used_while_counted
+          (record after { filesystems = last }) f object ∙ some_left (inode_uses after f object)
+          (inode_uses (record after { filesystems = last }) f object) (one_upper_use_less after split.front split.back
+          merged overlay layer inode.1 object split.whole is upper real once f object ∙
+          ap (λ b. inode_uses (record after { filesystems = last }) f object + cond b 1 0)
+          (λ i. e i && eq-eqb object object refl i)) ∙ ap (λ g. nat_lt 1 (inode_uses after g object)) (sym found) ∙
+          ap (nat_lt 1) (sym (alike (inode_uses world (filesystem_numbered nat_eq world layer.filesystem) object)
           (inode_uses after (filesystem_numbered nat_eq after layer.filesystem) object)
-          (loses.uses layer.filesystem object
-          ∙ ap (λ b. inode_uses after (filesystem_numbered nat_eq after layer.filesystem) object
-          + cond (b && nat_eq object inode.1) 1 0)
-          (ap (λ k. nat_eq k inode.0) (sym (eqb-true f.number layer.filesystem e)) ∙ apart f m e))))
+          (cc (loses.uses layer.filesystem object, eqb-true f.number layer.filesystem e, apart f m e))))
         where
           split : IsSplit (λ (a b : Filesystem ℕ). nat_eq a.number b.number) after.filesystems merged
           split = split_around (λ (a b : Filesystem ℕ). nat_eq a.number b.number) (λ g. eq-eqb g.number g.number refl)
@@ -129,16 +125,14 @@ module _ (after : World ℕ) (inode : Inode) (overlay : Overlay ℕ)
 
           changed : map (without_inode_of_any inode) after.filesystems
               ≡ split.front ++ (without_inode_of_any inode merged ∷ split.back)
-          changed = split.changed (without_inode_of_any inode)
-              (λ g differs. ap (λ b. cond b (without_inode_of inode.1 g) g)
-              (sym (its_number g.number) ∙ nat_eq-swapped merged.number g.number false differs))
+          changed = split.changed (without_inode_of_any inode) (λ g differs. cc
+              (its_number g.number, nat_eq-swapped merged.number g.number false differs))
 
           last : List (Filesystem ℕ)
           last = split.front ++ (without_inode_of inode.1 merged ∷ split.back)
 
           found : filesystem_numbered nat_eq after layer.filesystem ≡ f
-          found = ap (filesystem_numbered nat_eq after) (sym (eqb-true f.number layer.filesystem e))
-              ∙ found_after in_use.inodes loses one f m
+          found = cc (eqb-true f.number layer.filesystem e, found_after in_use.inodes loses one f m)
 
           alike : (a b : ℕ) → a ≡ b + 0 → a ≡ b
           alike a b h = omega arith
@@ -156,7 +150,7 @@ module _ (after : World ℕ) (inode : Inode) (overlay : Overlay ℕ)
         where
           no_real : (o : Option (Overlay ℕ)) → is_some o ≡ false → option_map (without_real object) o ≡ o
           no_real None h = refl
-          no_real (Some x) h = absurd (true≢false h)
+          no_real (Some x) h = cc
 
           of : (still : Bool)
               → nat_lt 1 (inode_uses world (filesystem_numbered nat_eq world layer.filesystem) object) ≡ still
@@ -169,25 +163,23 @@ module _ (after : World ℕ) (inode : Inode) (overlay : Overlay ℕ)
               → nat_lt 1 (inode_uses world (filesystem_numbered nat_eq world layer.filesystem) object) ≡ still
               → let_go_in is_plain left (layer.filesystem, object)
               ≡ cond still left (without_inode_at left (layer.filesystem, object))
-          by true k = ap (λ filesystems. record after { filesystems = filesystems })
-              (map_same (let_go_in_of is_plain left (layer.filesystem, object)) left.filesystems
-              (λ g m. of true k g m (nat_eq g.number layer.filesystem) refl
-              ∙ ap (λ b. cond b (record g { files = without_inode object g.files }) g)
+          by true k = cc (map_same (let_go_in_of is_plain left (layer.filesystem, object)) left.filesystems
+              (λ g m. of true k g m (nat_eq g.number layer.filesystem) refl ∙
+              ap (λ b. cond b (record g { files = without_inode object g.files }) g)
               (and-false (nat_eq g.number layer.filesystem))))
-          by false k = ap (λ filesystems. record after { filesystems = filesystems })
-              (map_alike (let_go_in_of is_plain left (layer.filesystem, object))
+          by false k = cc (map_alike (let_go_in_of is_plain left (layer.filesystem, object))
               (without_inode_in (layer.filesystem, object)) left.filesystems
-              (λ g m. of false k g m (nat_eq g.number layer.filesystem) refl
-              ∙ ap (λ b. cond b (record g { files = without_inode object g.files }) g)
+              (λ g m. of false k g m (nat_eq g.number layer.filesystem) refl ∙
+              ap (λ b. cond b (record g { files = without_inode object g.files }) g)
               (and-true (nat_eq g.number layer.filesystem))))
 
 pub inode_over_lowers_goes_alone : InodeOverLowersGoesAlone
-inode_over_lowers_goes_alone world after inode overlay in_use loses is none trees uppers reals one =
-    of_overlay_left in_use.inodes loses one (ap is_some is) trees uppers reals
-    (nat_lt 1 (inode_uses world (filesystem_numbered nat_eq world inode.0) inode.1)) refl
-    ∙ ap (λ list. cond (nat_lt 1 (inode_uses world (filesystem_numbered nat_eq world inode.0) inode.1)) after
-    (let_go_plain (without_merged_inode after inode) list))
-    (uppers_are after inode overlay one is ∙ no_upper after inode overlay one is none)
+inode_over_lowers_goes_alone world after inode overlay in_use loses is none trees uppers reals one = cc (
+  of_overlay_left in_use.inodes loses one (ap is_some is) trees uppers reals
+      (nat_lt 1 (inode_uses world (filesystem_numbered nat_eq world inode.0) inode.1)) refl,
+  uppers_are after inode overlay one is,
+  no_upper after inode overlay one is none,
+)
 
 pub upper_inode_goes_with_its_last_use : UpperInodeGoesWithItsLastUse
 upper_inode_goes_with_its_last_use world after inode overlay layer object in_use loses is upper real once trees uppers

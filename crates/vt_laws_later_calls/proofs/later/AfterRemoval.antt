@@ -68,7 +68,7 @@ module _ {world : World ℕ} {fresh : Fresh ℕ} {name : TaskName} {call : Call}
   pub reaches : IsReached world it.did.task parent
       × (is_mount_point_in nat_eq (looks_of nat_eq world) it.did.task.namespace object ≡ false)
   reaches = removal_reached fresh world it.is it.did.task own_task call (ToRemoveDirectory parent word object)
-      (it.did.judged ∙ ap Ok permit_is)
+      (cc it.did.judged)
 
   pub own_parent : IsOn world it.is it.did.task parent.mount
   own_parent = ((and_parts _ _ reaches.0.there).0, reaches.0.seen)
@@ -96,27 +96,28 @@ module _ {world : World ℕ} {fresh : Fresh ℕ} {name : TaskName} {call : Call}
   does = ap (λ p. (apply nat_eq fresh world it.did.task p).world) permit_is
 
   living : left.mounts ≡ filter (mount_lives nat_eq spent) middle.mounts
-  living = ap (λ (w : World ℕ). w.mounts) it.did.left ∙ ap (filter (mount_lives nat_eq spent))
-      (ap (λ (w : World ℕ). w.mounts) does ∙ mounts-with_change middle fresh parent change)
+  living = cc (it.did.left, does, mounts-with_change middle fresh parent change)
 
   attached_live : (mount : Mount ℕ) → is_some mount.namespace ≡ true → mount_lives nat_eq spent mount ≡ true
   attached_live mount e = ap (λ b. b || is_located nat_eq spent mount.number) e
 
   -- the caller is there still
   pub caller : task_called left name ≡ Some (raised_task name it.did.task)
-  caller = still_called it name it.did.task
-      (ap (λ w. task_called w name) does ∙ ap (find (λ (t : Task ℕ). same_name name t.name))
-      (tasks-with_change fresh middle parent change ∙ tasks-taken_away world gone) ∙ it.did.called)
+  caller = still_called it name it.did.task (cc (
+    does,
+    tasks-with_change fresh middle parent change,
+    tasks-taken_away
+        world gone,
+    it.did.called,
+  ))
 
   pub mounts_seen : (reader : Task ℕ) → reader.root ≡ it.did.task.root
       → MountsSeen it.is it.plain is_left.0 is_left.1 it.did.task reader
   mounts_seen reader roots = record {
-    own = own_mount world left it.is is_left.0 it.did.task gone closed (mount_lives nat_eq spent) living attached_live
+    own = own_mount it.is is_left.0 it.did.task gone closed living attached_live
         stays;
-    topmost_is = topmost_same world left it.is is_left.0 it.did.task gone closed
-        (mount_lives nat_eq spent) living attached_live stays;
-    top_is = top_same world left it.is is_left.0 it.did.task gone closed
-        (mount_lives nat_eq spent) living attached_live stays reader roots;
+    topmost_is = topmost_same it.is is_left.0 it.did.task gone closed living attached_live stays;
+    top_is = top_same it.is is_left.0 it.did.task gone closed living attached_live stays reader roots;
   }
 
   -- Filesystems
@@ -124,16 +125,14 @@ module _ {world : World ℕ} {fresh : Fresh ℕ} {name : TaskName} {call : Call}
   middle_shown = (kept_by_number world gone parent.mount (stays parent.mount own_parent)).filesystem
 
   middle_numbered : (number : ℕ) → filesystem_numbered nat_eq middle number ≡ filesystem_numbered nat_eq world number
-  middle_numbered number = ap (λ list. unwrap_or (find (λ (f : Filesystem ℕ). nat_eq number f.number) list)
-      (no_filesystem number)) (filesystems-taken_away world gone)
+  middle_numbered number = cc (filesystems-taken_away world gone)
 
   middle_files : files_at nat_eq middle parent ≡ files_at nat_eq world parent
-  middle_files = ap (λ n. (filesystem_numbered nat_eq middle n).files) middle_shown
-      ∙ ap (λ (f : Filesystem ℕ). f.files) (middle_numbered shown)
+  middle_files = cc (middle_shown, middle_numbered shown)
 
   spent_files : (number : ℕ) → (filesystem_numbered nat_eq spent number).files
       ≡ (filesystem_numbered nat_eq (with_change nat_eq fresh middle parent change) number).files
-  spent_files number = ap (λ w. (filesystem_numbered nat_eq w number).files) does
+  spent_files number = cc does
 
   pub spent_shown : (filesystem_numbered nat_eq spent shown).files
       ≡ changed nat_eq (files_at nat_eq world parent) change
@@ -173,8 +172,8 @@ module _ {world : World ℕ} {fresh : Fresh ℕ} {name : TaskName} {call : Call}
       same = grind (arith, common_steps)
 
       by : (b : Bool) → nat_eq shown number ≡ b → IsLess number (tree_in world number) (tree_in spent number)
-      by true e = subst (λ n. IsLess n (tree_in world n) (tree_in spent n)) (eqb-true shown number e)
-          (subst (λ (f : FileTree ℕ). IsLess shown (tree_in world shown) f.tree) (sym spent_shown) here)
+      by true e = rw (← eqb-true shown number e) (subst (λ (f : FileTree ℕ). IsLess shown (tree_in world shown) f.tree)
+          (sym spent_shown) here)
       by false e = subst (λ (f : FileTree ℕ). IsLess number (tree_in world number) f.tree) (sym (spent_files number
           ∙ files_other fresh middle middle_plain parent change number (ap (λ n. nat_eq n number) middle_shown ∙ e)
           ∙ ap (λ (f : Filesystem ℕ). f.files) (middle_numbered number))) same
@@ -196,15 +195,13 @@ module _ {world : World ℕ} {fresh : Fresh ℕ} {name : TaskName} {call : Call}
       → is_some (node_in world filesystem number) ≡ true → (who : Credentials) (wanted : ℕ)
       → node_allows who wanted (node_in left filesystem number)
       ≡ node_allows who wanted (node_in world filesystem number)
-  rights_left filesystem number now was who wanted = ap (node_allows who wanted) (node_left filesystem number now)
-      ∙ (each filesystem).rights who wanted number was
+  rights_left filesystem number now was who wanted =
+      cc (node_left filesystem number now, (each filesystem).rights who wanted number was)
 
   pub objects_stay : (Refused : Deny → Type 0) → Refused (denial W6) → ObjectsStay world left Refused
   objects_stay Refused missing = record {
-    directory = λ filesystem number was now. ap is_directory_node (node_left filesystem number now)
-        ∙ (each filesystem).directory number;
-    link = λ filesystem number was now. ap symlink_text (node_left filesystem number now)
-        ∙ (each filesystem).link number;
+    directory = λ filesystem number was now. cc (node_left filesystem number now, (each filesystem).directory number);
+    link = λ filesystem number was now. cc (node_left filesystem number now, (each filesystem).link number);
     entry = λ filesystem here any next e now. by filesystem here any next now ((each filesystem).entry here any next e);
   }
     where
@@ -213,10 +210,8 @@ module _ {world : World ℕ} {fresh : Fresh ℕ} {name : TaskName} {call : Call}
           ⊎ ((entry_at (tree_in spent filesystem) here any ≡ None) × (filesystem ≡ shown) × (next ≡ object.node))
           → (entry_at (tree_in left filesystem) here any ≡ Some next)
           ⊎ ((entry_at (tree_in left filesystem) here any ≡ None) × Refused (denial W6))
-      by filesystem here any next now (inl same) =
-          inl (ap (λ o. entry_named any (entries_in o)) (node_left filesystem here now) ∙ same)
-      by filesystem here any next now (inr lost) =
-          inr (ap (λ o. entry_named any (entries_in o)) (node_left filesystem here now) ∙ lost.0, missing)
+      by filesystem here any next now (inl same) = inl (cc (node_left filesystem here now, same))
+      by filesystem here any next now (inr lost) = inr (cc (node_left filesystem here now, lost.0), missing)
 
   -- the name is missing
   pub name_left : is_some (node_in left shown parent.node) ≡ true

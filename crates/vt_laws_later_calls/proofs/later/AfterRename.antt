@@ -36,22 +36,21 @@ module _ (world : World ℕ) (is : IsWorld nat_eq world) (object : Location ℕ)
   pub none_on_it : (mount : Mount ℕ) (place : Location ℕ) → Among mount world.mounts → mount.mount_point ≡ Some place
       → (mount_at nat_eq world place).filesystem ≡ (mount_at nat_eq world object).filesystem → place.node ≡ object.node
       → ⊥
-  none_on_it mount place m at same node = true≢false
-      (sym (any_from_among (λ (m : Mount ℕ). is_some m.namespace) (mounts_on nat_eq world object) mount
+  none_on_it mount place m at same node =
+      true≢false (cc (any_from_among (λ (m : Mount ℕ). is_some m.namespace) (mounts_on nat_eq world object) mount
       (among-filter (λ (m : Mount ℕ). list_any (λ point. is_point nat_eq world point.0 point.1 m)
-      (points_of nat_eq world object)) world.mounts mount m on_it) (attached (is_some mount.namespace) refl))
-      ∙ uncovered)
+      (points_of nat_eq world object)) world.mounts mount m on_it) (attached (is_some mount.namespace) refl)))
     where
       number_is : (mount_at nat_eq world place).filesystem ≡ (filesystem_at nat_eq world object).number
-      number_is = same ∙ sym (number_numbered (mount_at nat_eq world object).filesystem world.filesystems)
+      number_is = cc (number_numbered (mount_at nat_eq world object).filesystem world.filesystems)
 
       on_it : list_any (λ point. is_point nat_eq world point.0 point.1 mount) (points_of nat_eq world object) ≡ true
       on_it = grind (arith, common_steps, and_from, eq-eqb, number_is)
 
       attached : (b : Bool) → is_some mount.namespace ≡ b → is_some mount.namespace ≡ true
       attached true e = e
-      attached false e = absurd (true≢false (sym (ap is_some at) ∙ (nowhere_parts mount
-          (among_from_list_all is_nowhere_or_attached world.mounts is.mounts.nowhere mount m) e).0))
+      attached false e = cc ((nowhere_parts mount (among_from_list_all is_nowhere_or_attached world.mounts
+          is.mounts.nowhere mount m) e).0)
 
   pub free_over : (place : Location ℕ)
       → (mount_at nat_eq world place).filesystem ≡ (mount_at nat_eq world object).filesystem
@@ -62,7 +61,7 @@ module _ (world : World ℕ) (is : IsWorld nat_eq world) (object : Location ℕ)
     where
       by : (o : Option (Mount ℕ)) → child_at nat_eq world.mounts place ≡ o
           → option_map root_of (child_at nat_eq world.mounts place) ≡ None
-      by None e = ap (option_map root_of) e
+      by None e = cc
       by (Some mount) e =
           let found = found_in (stands_at nat_eq place) world.mounts mount e in
           absurd (none_on_it mount place found.0 (stands_there place mount found.1) same node)
@@ -103,10 +102,10 @@ module _ {world : World ℕ} {fresh : Fresh ℕ} {name : TaskName} {call : Call}
   tree = tree_here world it.is from from_directory
 
   pub object_shown : (mount_at nat_eq world object).filesystem ≡ shown
-  object_shown = ap (λ m. (mount_numbered nat_eq world m).filesystem) may.object_mount
+  object_shown = cc may.object_mount
 
   pub to_shown : (mount_at nat_eq world to).filesystem ≡ shown
-  to_shown = ap (λ m. (mount_numbered nat_eq world m).filesystem) may.to_mount
+  to_shown = cc may.to_mount
 
   -- Filesystems
   middle_plain : IsPlain middle
@@ -118,7 +117,7 @@ module _ {world : World ℕ} {fresh : Fresh ℕ} {name : TaskName} {call : Call}
       (filesystems-without_replaced world replaced)
 
   does : spent ≡ with_change nat_eq fresh middle from change
-  does = ap (λ p. (apply nat_eq fresh world it.did.task p).world) permit_is
+  does = cc
 
   spent_shown : (filesystem_numbered nat_eq spent shown).files ≡ changed nat_eq (files_at nat_eq world from) change
   spent_shown = ap (λ w. (filesystem_numbered nat_eq w shown).files) does
@@ -130,8 +129,7 @@ module _ {world : World ℕ} {fresh : Fresh ℕ} {name : TaskName} {call : Call}
 
   node_left : (number : ℕ) → is_some (node_in left shown number) ≡ true
       → node_in left shown number ≡ (changed nat_eq (files_at nat_eq world from) change).tree.node number
-  node_left number there = as_spent it shown number there
-      ∙ ap (λ (f : FileTree ℕ). f.tree.node number) spent_shown
+  node_left number there = cc (as_spent it shown number there, spent_shown)
 
   entry_left : (directory : ℕ) (word : List ℕ) → is_some (node_in left shown directory) ≡ true
       → entry_at (tree_in left shown) directory word ≡ cond (is_entry to.node new directory word) (Some object.node)
@@ -141,8 +139,7 @@ module _ {world : World ℕ} {fresh : Fresh ℕ} {name : TaskName} {call : Call}
       word
 
   entry_itself : (directory : ℕ) (word : List ℕ) → is_entry directory word directory word ≡ true
-  entry_itself directory word = ap (λ b. b && bytes_eq word word) (eq-eqb directory directory refl)
-      ∙ (bytes_decides word word).1 refl
+  entry_itself directory word = cc (eq-eqb directory directory refl, (bytes_decides word word).1 refl)
 
   -- the object has its new name, and no longer the old one
   pub new_left : is_some (node_in left shown to.node) ≡ true
@@ -162,31 +159,27 @@ module _ {world : World ℕ} {fresh : Fresh ℕ} {name : TaskName} {call : Call}
           let same = is_that_entry to.node new from.node old e in
           absurd (two ((λ i. entry_at (files_at nat_eq world from).tree (sym same.0 i) (sym same.1 i))
           ∙ may.moves.named))
-      by false e =
-          ap (λ b. cond b None (entry_at (files_at nat_eq world from).tree from.node old)) (entry_itself from.node old)
+      by false e = cc (entry_itself from.node old)
 
   -- and is as it was
   pub object_left : is_some (node_in left shown object.node) ≡ true
       → IsKept ((files_at nat_eq world from).tree.node object.node) (node_in left shown object.node)
   object_left there = kept_both _ _ _ (others_stay (files_at nat_eq world from) change object.node
-      (ap (λ b. b || (nat_eq object.node to.node || false)) (ne_eqb object.node from.node not_from)
-      ∙ ap (λ b. b || false) (ne_eqb object.node to.node not_to))) (kept_same _ _ (node_left object.node there))
+      (cc (ne_eqb object.node from.node not_from, ne_eqb object.node to.node not_to)))
+      (kept_same _ _ (node_left object.node there))
     where
       not_from : object.node ≢ from.node
-      not_from same = no_way_up (files_at nat_eq world from) tree.tree from.node old object.node may.moves.named []
-          (ap Some same)
+      not_from same = no_way_up (files_at nat_eq world from) tree.tree from.node old object.node may.moves.named [] (cc)
 
       not_to : object.node ≢ to.node
-      not_to same = may.moves.not_under [] (ap Some same)
+      not_to same = may.moves.not_under [] (cc)
 
   -- Mounts
   living : left.mounts ≡ filter (mount_lives nat_eq spent) middle.mounts
-  living = ap (λ (w : World ℕ). w.mounts) it.did.left ∙ ap (filter (mount_lives nat_eq spent))
-      (ap (λ (w : World ℕ). w.mounts) does ∙ mounts-with_change middle fresh from change)
+  living = cc (it.did.left, does, mounts-with_change middle fresh from change)
 
   in_middle : (mount : Mount ℕ) → Among mount left.mounts → Among mount middle.mounts
-  in_middle mount m = (among-from_filter (mount_lives nat_eq spent) middle.mounts mount
-      (subst (Among mount) living m)).0
+  in_middle mount m = (among-from_filter (mount_lives nat_eq spent) middle.mounts mount (rw (← living) m)).0
 
   placed_in_world : (mount : Mount ℕ) (place : Location ℕ) → Among mount left.mounts → mount.mount_point ≡ Some place
       → (was : Mount ℕ) × Among was world.mounts × (was.mount_point ≡ Some place)
@@ -219,9 +212,9 @@ module _ {world : World ℕ} {fresh : Fresh ℕ} {name : TaskName} {call : Call}
     where
       by : (o : Option (Mount ℕ)) → child_at nat_eq left.mounts place ≡ o
           → option_map root_of (child_at nat_eq left.mounts place) ≡ None
-      by None e = ap (option_map root_of) e
+      by None e = cc
       by (Some mount) e =
           let found = found_in (stands_at nat_eq place) left.mounts mount e in
           let was = placed_in_world mount place found.0 (stands_there place mount found.1) in
           absurd (none_on_it world it.is object uncovered was.0 place was.1 was.2
-          (sym (left_mount place.mount listed) ∙ same ∙ sym object_shown) node)
+          (cc (left_mount place.mount listed, object_shown)) node)

@@ -36,9 +36,9 @@ use Rattle.vt_laws_mounts.proofs.mounts.MountsLeft.{mounts-with_change}
 use Rattle.vt_laws_trees.proofs.runs.answered.PlainStays.{plain_numbered}
 
 -- A world in which one filesystem shows another tree
-module _ (world later : World ℕ) (shown : ℕ) (files : FileTree ℕ) (mounts : later.mounts ≡ world.mounts)
-    (here : (filesystem_numbered nat_eq later shown).files ≡ files)
-    (elsewhere : (number : ℕ) → nat_eq shown number ≡ false
+module _ (world later : World ℕ) (shown : ℕ) {files : FileTree ℕ} (mounts : later.mounts ≡ world.mounts)
+    (here : (filesystem_numbered nat_eq later shown).files ≡ files) (elsewhere : (number : ℕ)
+    → nat_eq shown number ≡ false
     → (filesystem_numbered nat_eq later number).files ≡ (filesystem_numbered nat_eq world number).files) where
   in_each : (P : ℕ → FileTree ℕ → Type 0) → P shown files
       → ((number : ℕ) → P number (filesystem_numbered nat_eq world number).files)
@@ -101,11 +101,10 @@ module _ {looks later : Looks ℕ} {task reader : Task ℕ} {Refused : Deny → 
       (walk_start reader path) parts.front) (λ here. placed nat_eq later reader here last (ends_in_slash path))) word_is
 
   pub place_too : IsPlacedThere (place_walk nat_eq later reader path)
-  place_too = subst IsPlacedThere (sym place_is) (through leads IsPlacedThere
-      (words_walked nat_eq later reader (followed nat_eq later reader)
-      (walk_start reader path) parts.front) _ parts.here
-      (front_too leads path place named parts) (λ steps known. by steps known
-      (search_too leads parts.here.location known parts.searched)) (λ stop refused. inr (stop, refused, refl)))
+  place_too = rw place_is (through leads IsPlacedThere (words_walked nat_eq later reader (followed nat_eq later reader)
+      (walk_start reader path) parts.front) _ parts.here (front_too leads path place named parts)
+      (λ steps known. by steps known (search_too leads parts.here.location known parts.searched))
+      (λ stop refused. inr (stop, refused, refl)))
     where
       by : (steps : List (List ℕ)) → Known parts.here.location
           → NoneFails (search_rules nat_eq later reader parts.here.location)
@@ -244,13 +243,12 @@ module _ {path : List ℕ} {world : World ℕ} {fresh : Fresh ℕ} {name : TaskN
 
   settles : settled nat_eq (spent it)
       ≡ with_task base new_task
-  settles = ap (λ p. settled nat_eq (apply nat_eq fresh world it.did.task p).world) permit
-      ∙ opened_new_keeps_all fresh world it.did.task parent entry node access
-      (worlds_are_settled world it.is) it.is.files.one_filesystem
-      it.is.tasks.one_task (contains_from_among world.tasks it.did.task (found_among (λ
-      (t : Task ℕ). same_name name t.name) world.tasks it.did.task it.did.called))
+  settles = ap (λ p. settled nat_eq (apply nat_eq fresh world it.did.task p).world) permit ∙ opened_new_keeps_all fresh
+      world it.did.task parent entry node access (worlds_are_settled world it.is) it.is.files.one_filesystem
+      it.is.tasks.one_task (contains_from_among world.tasks it.did.task
+      (found_among (λ (t : Task ℕ). same_name name t.name) world.tasks it.did.task it.did.called))
       (listed (mount_at nat_eq world parent).filesystem world.filesystems parent.node something)
-      (ap is_some (plain_numbered world it.plain (mount_at nat_eq world parent).filesystem)) after_tree
+      (cc (plain_numbered world it.plain (mount_at nat_eq world parent).filesystem)) after_tree
       (record { in_directory = may.name_is_free.in_directory; is_new = new }) may.name_is_free.free
 
   mounts_stay : later.mounts ≡ world.mounts
@@ -271,8 +269,7 @@ module _ {path : List ℕ} {world : World ℕ} {fresh : Fresh ℕ} {name : TaskN
   other_files n other = files_stay n ∙ files_other (odds fresh) world it.plain parent change n other
 
   stays : WorldStays world later Never
-  stays = stays_by world later (mount_at nat_eq world parent).filesystem
-      (changed nat_eq (files_at nat_eq world parent) change) mounts_stay here_files other_files Never
+  stays = stays_by world later (mount_at nat_eq world parent).filesystem mounts_stay here_files other_files Never
       (ways_made (files_at nat_eq world parent) Never parent.node entry
       (fresh 0) may.name_is_free.in_directory may.name_is_free.free node new)
 
@@ -280,10 +277,12 @@ module _ {path : List ℕ} {world : World ℕ} {fresh : Fresh ℕ} {name : TaskN
   is_later = later_is it
 
   caller_there : task_called later name ≡ Some (raised_task name new_task)
-  caller_there = still_called it name new_task
-      (ap (λ w. task_called w name) spent_is ∙ called_replaced base name it.did.task new_task
-      (ap (find (λ (t : Task ℕ). same_name name t.name)) (tasks-with_change (odds fresh) world parent change)
-      ∙ it.did.called) (sym (name_found world name it.did.task it.did.called)))
+  caller_there = still_called it name new_task (cc (
+    spent_is,
+    called_replaced base name it.did.task new_task
+        (ap (find (λ (t : Task ℕ). same_name name t.name)) (tasks-with_change (odds fresh) world parent change) ∙
+        it.did.called) (sym (name_found world name it.did.task it.did.called)),
+  ))
 
   again_refused : (reader : TaskName) (reading : Task ℕ) → task_called later reader ≡ Some reading
       → StandsAs it.did.task reading
@@ -324,17 +323,18 @@ module _ {path : List ℕ} {world : World ℕ} {fresh : Fresh ℕ} {name : TaskN
               → Look.may (looks_of nat_eq world) it.did.task here execute_right ≡ true → MayLook it.did.task reading
               → Look.may (looks_of nat_eq later) reading here execute_right ≡ true
           searched here known directory e (inr all) = search_all reading.credentials all (node_at nat_eq later here)
-              (ap is_directory_node (at_node here)
-              ∙ stays.directory (mount_at nat_eq world here).filesystem here.node known.0.1
-              (ap is_some (sym (at_node here)) ∙ known.1.1) ∙ directory)
-          searched here known directory e (inl same) =
-              ap (λ who. node_allows who execute_right (node_at nat_eq later here)) same
-              ∙ ap (node_allows it.did.task.credentials execute_right) (at_node here)
-              ∙ rights_by world later (mount_at nat_eq world parent).filesystem (changed nat_eq
-              (files_at nat_eq world parent) change) mounts_stay here_files other_files
-              (rights_made (files_at nat_eq world parent) Never parent.node entry
-              (fresh 0) may.name_is_free.in_directory may.name_is_free.free node new)
-              (mount_at nat_eq world here).filesystem here.node execute_right it.did.task.credentials known.0.1 ∙ e
+              (cc (
+                at_node here,
+                stays.directory (mount_at nat_eq world here).filesystem here.node known.0.1
+                    (ap is_some (sym (at_node here)) ∙ known.1.1),
+              ))
+          searched here known directory e (inl same) = cc (
+            at_node here,
+            rights_by world later (mount_at nat_eq world parent).filesystem mounts_stay here_files other_files
+                (rights_made (files_at nat_eq world parent) Never parent.node entry (fresh 0)
+                may.name_is_free.in_directory may.name_is_free.free node new) (mount_at nat_eq world here).filesystem
+                here.node execute_right it.did.task.credentials known.0.1,
+          )
 
       there : Known both parent
           → entry_location nat_eq (looks_of nat_eq later) parent entry
@@ -383,7 +383,7 @@ exclusive_twice path world fresh name task access again mode other number is pla
     }
 
     task_is : it.did.task ≡ task
-    task_is = same_Some it.did.task task (sym it.did.called ∙ called)
+    task_is = same_Some it.did.task task (cc it.did.called)
 
     facts : (place : Place ℕ) × (new_walk nat_eq (looks_of nat_eq world) it.did.task path ≡ Ok place)
         × (is_special place.last ≡ false)

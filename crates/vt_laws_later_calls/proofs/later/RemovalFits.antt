@@ -62,13 +62,11 @@ module _ {world : World ℕ} {fresh : Fresh ℕ} {name : TaskName} {call : Call}
   -- what has entries is not that
   not_above : (number : ℕ) (any : List ℕ) (next : ℕ) → number ≡ fs
       → entry_at (tree_in world number) object.node any ≡ Some next → ⊥
-  not_above number any next same e = nothing_in_it (files_at nat_eq world parent) parent.node word object.node
-      (may it permit_is) any next
-      (ap (λ n. entry_at (tree_in world n) object.node any) (sym same) ∙ e)
+  not_above number any next same e =
+      nothing_in_it (files_at nat_eq world parent) parent.node word object.node (may it permit_is) any next (cc)
 
   not_root : object.node ≢ tree.root
-  not_root same = file_tree.tree.root_unnamed parent.node word
-      ((may it permit_is).named ∙ ap Some same)
+  not_root same = file_tree.tree.root_unnamed parent.node word (cc ((may it permit_is).named))
 
   module _ (here : Location ℕ)
       (known : BothAre it.is it.plain is_later.0 is_later.1 it.did.task reader here) where
@@ -79,18 +77,17 @@ module _ {world : World ℕ} {fresh : Fresh ℕ} {name : TaskName} {call : Call}
     alike = (mounts_seen it permit_is reader roots).own here.mount known.0.0 known.1.0.0
 
     files_here : files_at nat_eq later here ≡ (filesystem_numbered nat_eq later number).files
-    files_here = ap (λ n. (filesystem_numbered nat_eq later n).files) alike.filesystem
+    files_here = cc alike.filesystem
 
     there : is_some (node_in later number here.node) ≡ true
-    there = ap (λ (f : FileTree ℕ). is_some (f.tree.node here.node)) (sym files_here)
-        ∙ directory_used (files_at nat_eq later here).tree here.node known.1.1
+    there = cc (files_here, directory_used (files_at nat_eq later here).tree here.node known.1.1)
 
     as_spent : node_in later number here.node ≡ node_in spent_world number here.node
     as_spent = node_left it permit_is number
         here.node there
 
     tree_later : IsFileTree (filesystem_numbered nat_eq later number).files
-    tree_later = subst IsFileTree files_here (tree_here later is_later.0 here known.1.1)
+    tree_later = rw (← files_here) (tree_here later is_later.0 here known.1.1)
 
     tree_before : IsFileTree (filesystem_numbered nat_eq world number).files
     tree_before = tree_here world it.is here known.0.1
@@ -117,8 +114,7 @@ module _ {world : World ℕ} {fresh : Fresh ℕ} {name : TaskName} {call : Call}
     Keeps n = number ≡ fs → n ≢ object.node
 
     above : KeepsAbove Keeps (tree_in world number)
-    above directory any next e keeps same at =
-        not_above number any next same (ap (λ n. entry_at (tree_in world number) n any) (sym at) ∙ e)
+    above directory any next e keeps same at = not_above number any next same (cc at)
 
     names : DirectoryNamesStay Keeps (tree_in world number) (tree_in later number)
     names directory any next e is_one keeps now =
@@ -131,16 +127,13 @@ module _ {world : World ℕ} {fresh : Fresh ℕ} {name : TaskName} {call : Call}
         by : (entry_at (tree_in spent_world number) directory any ≡ Some next)
             ⊎ ((entry_at (tree_in spent_world number) directory any ≡ None) × (number ≡ fs) × (next ≡ object.node))
             → entry_at (tree_in later number) directory any ≡ Some next
-        by (inl same) = ap (λ o. entry_named any (entries_in o)) node ∙ same
+        by (inl same) = cc node
         by (inr lost) = absurd (keeps lost.1 lost.2)
 
     goes_up : Keeps here.node → is_lost nat_eq world here ≡ false
         → GoesUp it.is it.plain is_later.0 is_later.1 it.did.task reader here
     goes_up keeps found = record {
-      parent = ap (λ (f : FileTree ℕ). parent_in here.node (f.tree.node here.node)) files_here
-          ∙ ap (parent_in here.node) as_spent
-          ∙ (each it permit_is
-          number).parents here.node keeps;
+      parent = cc (files_here, as_spent, (each it permit_is number).parents here.node keeps);
       not_lost = (λ i. is_removed nat_eq (files_here i).tree here.node
           || not (is_directory_under nat_eq (files_here i) (alike.root i) here.node))
           ∙ (λ i. present i || not (under i));
@@ -152,7 +145,7 @@ module _ {world : World ℕ} {fresh : Fresh ℕ} {name : TaskName} {call : Call}
         parts = or_parts _ _ found
 
         now_directory : is_directory_node (node_in later number here.node) ≡ true
-        now_directory = ap (λ (f : FileTree ℕ). is_directory_node (f.tree.node here.node)) (sym files_here) ∙ known.1.1
+        now_directory = cc (files_here, known.1.1)
 
         root_there : is_some (node_in later number (mount_at nat_eq world here).root) ≡ true
         root_there = (λ i. is_some (node_in later (sym alike.filesystem i) (sym alike.root i)))
@@ -160,26 +153,25 @@ module _ {world : World ℕ} {fresh : Fresh ℕ} {name : TaskName} {call : Call}
             (mount_root later is_later.0 here.mount known.1.0.0)
 
         present : is_removed nat_eq (tree_in later number) here.node ≡ false
-        present = present_later Keeps (filesystem_numbered nat_eq world number).files
-            (filesystem_numbered nat_eq later number).files tree_before.tree tree_later root_same above names
-            (mount_at nat_eq world here).root here.node known.0.1 now_directory keeps root_there parts.0
+        present = present_later (filesystem_numbered nat_eq world number).files tree_before.tree tree_later root_same above names
+            (mount_at nat_eq world here).root known.0.1 now_directory keeps root_there parts.0
             (not-false _ parts.1)
 
         under : is_directory_under nat_eq (filesystem_numbered nat_eq later number).files
             (mount_at nat_eq world here).root here.node ≡ true
-        under = under_later Keeps (filesystem_numbered nat_eq world number).files
-            (filesystem_numbered nat_eq later number).files tree_before.tree tree_later root_same above names
-            (mount_at nat_eq world here).root here.node known.0.1 now_directory keeps root_there parts.0
+        under = under_later (filesystem_numbered nat_eq world number).files tree_before.tree tree_later root_same above names
+            (mount_at nat_eq world here).root known.0.1 now_directory keeps root_there parts.0
             (not-false _ parts.1)
 
     -- and never to it
     up_outside : is_lost nat_eq world here ≡ false → IsRemoved (parent_location nat_eq world here) → ⊥
-    up_outside found removed = ⊎_elim (λ root. not_root (sym removed.1
-        ∙ ap (λ n. parent_in n (node_in world number n)) (sym root)
-        ∙ tree_before.tree.root_parent ∙ ap (λ n. (tree_in world n).root) removed.0))
-        (λ named. not_above number named.1 here.node removed.0 (ap (λ n. entry_at (tree_in world number) n named.1)
-        (sym removed.1 ∙ tree_before.tree.one_parent named.0 named.1 here.node named.2 known.0.1) ∙ named.2))
-        (reached_named (tree_in world number) here.node
+    up_outside found removed = ⊎_elim (λ root. not_root (cc (removed.1, tree_before.tree.root_parent, removed.0)))
+        (λ named. not_above number named.1 here.node removed.0 (cc (
+          removed.1,
+          tree_before.tree.one_parent named.0
+              named.1 here.node named.2 known.0.1,
+          named.2,
+        ))) (reached_named (tree_in world number) here.node
         (not_removed_reached (tree_in world number) tree_before.tree here.node known.0.1 (or_false_left _ _ found)))
 
     -- its name leads there no longer
@@ -193,14 +185,10 @@ module _ {world : World ℕ} {fresh : Fresh ℕ} {name : TaskName} {call : Call}
         ∙ removed_name (files_at nat_eq world parent) parent.node word object.node (may it permit_is)) f
       where
         named : entry_at tree here.node any ≡ Some object.node
-        named = ap (λ n. entry_at (tree_in world n) here.node any) (sym same) ∙ e
+        named = cc
 
         is_directory : is_directory_node (tree.node object.node) ≡ true
-        is_directory =
-            let seen =
-            seen_to it permit_is in
-            ap (λ m. is_directory_node (node_in world (mount_numbered nat_eq world m).filesystem object.node))
-            (sym seen.0) ∙ seen.2
+        is_directory = let seen = seen_to it permit_is in cc (seen.0, seen.2)
 
         at : here.node ≡ parent.node
         at = sym (file_tree.tree.one_parent here.node any object.node named is_directory)
@@ -209,9 +197,7 @@ module _ {world : World ℕ} {fresh : Fresh ℕ} {name : TaskName} {call : Call}
             is_directory
 
         word_is : any ≡ word
-        word_is =
-            file_tree.tree.one_name parent.node any word object.node (ap (λ n. entry_at tree n any) (sym at) ∙ named)
-            (may it permit_is).named
+        word_is = file_tree.tree.one_name parent.node any word object.node (cc (at, named)) (may it permit_is).named
             is_directory
 
   -- Mounts
@@ -246,8 +232,8 @@ module _ {world : World ℕ} {fresh : Fresh ℕ} {name : TaskName} {call : Call}
       same_mount = (seen_to it permit_is).0
 
       number_is : (mount_at nat_eq world b).filesystem ≡ (filesystem_at nat_eq world object).number
-      number_is = removed.0 ∙ ap (λ m. (mount_numbered nat_eq world m).filesystem) (sym same_mount)
-          ∙ sym (number_numbered (mount_at nat_eq world object).filesystem world.filesystems)
+      number_is =
+          cc (removed.0, same_mount, number_numbered (mount_at nat_eq world object).filesystem world.filesystems)
 
       on_it : list_any (λ point. is_point nat_eq world point.0 point.1 (mount_at nat_eq world a))
           (points_of nat_eq world object) ≡ true
@@ -286,7 +272,7 @@ module _ {world : World ℕ} {fresh : Fresh ℕ} {name : TaskName} {call : Call}
             → (GoesUp it.is it.plain is_later.0 is_later.1 it.did.task reader here
             × Fits (parent_location nat_eq world here)) ⊎ (Refused (denial W8) × (is_lost nat_eq later here ≡ true))
         at_it removed (inl refused) = inr (refused, lost_there here known removed)
-        at_it removed (inr outside) = absurd (true≢false (sym (outside removed) ∙ not_top))
+        at_it removed (inr outside) = cc (outside removed)
 
         elsewhere : ((mount_at nat_eq world here).filesystem ≡ fs → here.node ≢ object.node)
             → (GoesUp it.is it.plain is_later.0 is_later.1 it.did.task reader here
@@ -300,10 +286,8 @@ module _ {world : World ℕ} {fresh : Fresh ℕ} {name : TaskName} {call : Call}
             → (GoesUp it.is it.plain is_later.0 is_later.1 it.did.task reader here
             × Fits (parent_location nat_eq world here)) ⊎ (Refused (denial W8) × (is_lost nat_eq later here ≡ true))
         by true true e f = at_it (eqb-true _ _ e, eqb-true _ _ f) fits
-        by true false e f = elsewhere (λ same same_node.
-            absurd (true≢false (sym (eq-eqb here.node object.node same_node) ∙ f)))
-        by false q e f = elsewhere (λ same same_node.
-            absurd (true≢false (sym (eq-eqb (mount_at nat_eq world here).filesystem fs same) ∙ e)))
+        by true false e f = elsewhere (λ same same_node. cc (eq-eqb here.node object.node same_node))
+        by false q e f = elsewhere (λ same same_node. cc (eq-eqb (mount_at nat_eq world here).filesystem fs same))
 
     pub fits_ways : FitsWays it.is it.plain is_later.0 is_later.1 it.did.task reader Refused Fits
     fits_ways = record {
@@ -320,8 +304,7 @@ module _ {world : World ℕ} {fresh : Fresh ℕ} {name : TaskName} {call : Call}
             → Fits here → Fits (record { mount = here.mount; node = next })
         named here any next known e f (inl refused) = inl refused
         named here any next known e f (inr outside) =
-            inr (λ removed. absurd (name_outside here known any (e ∙ ap Some removed.1)
-            (f ∙ ap Some removed.1) removed.0))
+            inr (λ removed. absurd (name_outside here known any (cc removed.1) (cc removed.1) removed.0))
 
         over : (place : Location ℕ) → Fits place → Fits (topmost nat_eq world.mounts place)
         over place (inl refused) = inl refused

@@ -36,16 +36,16 @@ use Rattle.vt_laws_later_calls.proofs.WaysStay.{node_in, tree_in}
 link_same : (was now : Option (Node ℕ)) → is_some now ≡ is_some was → kind_in now ≡ kind_in was
     → bytes_in now ≡ bytes_in was → symlink_text now ≡ symlink_text was
 link_same None None there kind bytes = refl
-link_same None (Some now) there kind bytes = absurd (true≢false there)
-link_same (Some was) None there kind bytes = absurd (true≢false (sym there))
+link_same None (Some now) there kind bytes = cc there
+link_same (Some was) None there kind bytes = cc there
 link_same (Some was) (Some now) there kind bytes = λ i. when (is_kind Symlink (kind i)) (bytes i)
 
 allows_same : (was now : Option (Node ℕ)) → is_some now ≡ is_some was → kind_in now ≡ kind_in was
     → attr_in now ≡ attr_in was
     → (who : Credentials) (wanted : ℕ) → node_allows who wanted now ≡ node_allows who wanted was
 allows_same None None there kind attr who wanted = refl
-allows_same None (Some now) there kind attr who wanted = absurd (true≢false there)
-allows_same (Some was) None there kind attr who wanted = absurd (true≢false (sym there))
+allows_same None (Some now) there kind attr who wanted = cc there
+allows_same (Some was) None there kind attr who wanted = cc there
 allows_same (Some was) (Some now) there kind attr who wanted = λ i. allows who (attr i) (kind i) wanted
 
 -- what a move to a free name leaves of a tree
@@ -58,7 +58,7 @@ pub record IsMovedIn (object : ℕ) (own : Type 0) (tree later : Tree ℕ) : Typ
   pub entry : (here : ℕ) (any : List ℕ) (next : ℕ) → entry_at tree here any ≡ Some next
       → (entry_at later here any ≡ Some next) ⊎ ((entry_at later here any ≡ None) × own × (next ≡ object))
 
-module _ (files : FileTree ℕ) (from : ℕ) (old : List ℕ) (to : ℕ) (new : List ℕ) (object : ℕ)
+module _ (files : FileTree ℕ) (from : ℕ) (old : List ℕ) (to : ℕ) (new : List ℕ) {object : ℕ}
     (named : entry_at files.tree from old ≡ Some object) (in_directory : is_directory_node (files.tree.node to) ≡ true)
     (free : entry_at files.tree to new ≡ None) (own : Type 0) (itself : own) where
   abbrev moved : FileTree ℕ
@@ -141,8 +141,7 @@ module _ {world : World ℕ} {fresh : Fresh ℕ} {name : TaskName} {call : Call}
   file_tree = tree_here world it.is from from_directory
 
   free : entry_at (files_at nat_eq world from).tree to.node new ≡ None
-  free = ap (λ m. entry_at (files_at nat_eq world (record { mount = m; node = from.node })).tree to.node new)
-      (sym seen.to_mount) ∙ none_of (entry_at (files_at nat_eq world to).tree to.node new) (sym seen.replaces)
+  free = cc (seen.to_mount, none_of (entry_at (files_at nat_eq world to).tree to.node new) (sym seen.replaces))
     where
       none_of : (o : Option ℕ) → option_map {U = Location ℕ} (λ number. record { mount = to.mount; node = number }) o
           ≡ None → o ≡ None
@@ -156,7 +155,7 @@ module _ {world : World ℕ} {fresh : Fresh ℕ} {name : TaskName} {call : Call}
   does = ap (λ p. (apply nat_eq fresh world it.did.task p).world) permit_is
 
   asks : change_of fresh world it.did.permit ≡ Some (from, change)
-  asks = ap (change_of fresh world) permit_is
+  asks = cc
 
   something : is_some (node_at nat_eq world from) ≡ true
   something = directory_used (files_at nat_eq world from).tree from.node from_directory
@@ -174,7 +173,7 @@ module _ {world : World ℕ} {fresh : Fresh ℕ} {name : TaskName} {call : Call}
   pub each : (number : ℕ) → IsMovedIn object.node (number ≡ fs) (tree_in world number) (tree_in spent number)
   each =
       in_each it changes (λ number f. IsMovedIn object.node (number ≡ fs) (tree_in world number) f.tree)
-      (moved_in (files_at nat_eq world from) from.node old to.node new object.node seen.moves.named
+      (moved_in (files_at nat_eq world from) from.node old to.node new seen.moves.named
       seen.moves.in_directory free (fs ≡ fs) refl) (λ number. record {
         root = refl;
         directory = λ n. refl;
@@ -193,16 +192,15 @@ module _ {world : World ℕ} {fresh : Fresh ℕ} {name : TaskName} {call : Call}
   pub object_later : is_some (node_in later fs object.node) ≡ true
   object_later =
       let files = files_at nat_eq world from in
-      ap is_some (all_stays it changes (ap option_to_list free) object.node)
-      ∙ directory_used (changed nat_eq files change).tree object.node
-      ((moved_in files from.node old to.node new object.node seen.moves.named seen.moves.in_directory free
-      (fs ≡ fs) refl).directory object.node ∙ is_directory)
+      cc (
+        all_stays it changes (ap option_to_list free) object.node,
+        directory_used (changed nat_eq files change).tree
+            object.node ((moved_in files from.node old to.node new seen.moves.named seen.moves.in_directory free (fs ≡ fs)
+            refl).directory object.node ∙ is_directory),
+      )
 
   pub caller : task_called later name ≡ Some (raised_task name it.did.task)
-  caller = still_called it name it.did.task
-      (ap (λ w. task_called w name) does
-      ∙ ap (find (λ (t : Task ℕ). same_name name t.name)) (tasks-with_change fresh world from change)
-      ∙ it.did.called)
+  caller = still_called it name it.did.task (cc (does, tasks-with_change fresh world from change, it.did.called))
 
   pub root_left : (filesystem number : ℕ) → is_some (node_in later filesystem number) ≡ true
       → (tree_in later filesystem).root ≡ (tree_in world filesystem).root
@@ -217,14 +215,12 @@ module _ {world : World ℕ} {fresh : Fresh ℕ} {name : TaskName} {call : Call}
       → node_allows who wanted (node_in later filesystem number)
       ≡ node_allows who wanted (node_in world filesystem number)
   rights_left filesystem number now was who wanted =
-      ap (node_allows who wanted) (node_left filesystem number now) ∙ (each filesystem).rights who wanted number was
+      cc (node_left filesystem number now, (each filesystem).rights who wanted number was)
 
   pub objects_stay : (Refused : Deny → Type 0) → Refused (denial W6) → ObjectsStay world later Refused
   objects_stay Refused missing = record {
-    directory = λ filesystem number was now. ap is_directory_node (node_left filesystem number now)
-        ∙ (each filesystem).directory number;
-    link = λ filesystem number was now. ap symlink_text (node_left filesystem number now)
-        ∙ (each filesystem).link number;
+    directory = λ filesystem number was now. cc (node_left filesystem number now, (each filesystem).directory number);
+    link = λ filesystem number was now. cc (node_left filesystem number now, (each filesystem).link number);
     entry = λ filesystem here any next e now. by filesystem here any next now ((each filesystem).entry here any next e);
   }
     where
@@ -233,10 +229,8 @@ module _ {world : World ℕ} {fresh : Fresh ℕ} {name : TaskName} {call : Call}
           ⊎ ((entry_at (tree_in spent filesystem) here any ≡ None) × (filesystem ≡ fs) × (next ≡ object.node))
           → (entry_at (tree_in later filesystem) here any ≡ Some next)
           ⊎ ((entry_at (tree_in later filesystem) here any ≡ None) × Refused (denial W6))
-      by filesystem here any next now (inl same) =
-          inl (ap (λ o. entry_named any (entries_in o)) (node_left filesystem here now) ∙ same)
-      by filesystem here any next now (inr lost) =
-          inr (ap (λ o. entry_named any (entries_in o)) (node_left filesystem here now) ∙ lost.0, missing)
+      by filesystem here any next now (inl same) = inl (cc (node_left filesystem here now))
+      by filesystem here any next now (inr lost) = inr (cc (node_left filesystem here now, lost.0), missing)
 
   -- What lies in the directory, by names
   abbrev pub InIt : ℕ → Type 0
@@ -276,7 +270,7 @@ module _ {world : World ℕ} {fresh : Fresh ℕ} {name : TaskName} {call : Call}
       ∙ file_tree.tree.one_parent from.node old object.node seen.moves.named is_directory in (
         at,
         file_tree.tree.one_name from.node any old object.node
-            (ap (λ n. entry_at tree n any) (sym at) ∙ e) seen.moves.named is_directory,
+            (cc at) seen.moves.named is_directory,
       )
 
   -- outside, or on a mount whose root is inside
@@ -286,7 +280,7 @@ module _ {world : World ℕ} {fresh : Fresh ℕ} {name : TaskName} {call : Call}
       → InIt (mount_at nat_eq world here).root
 
   outside_fits : (here : Location ℕ) → lies_in world object here ≡ false → Fits here
-  outside_fits here lies same directory way = absurd (true≢false (sym (lies_so here same directory way) ∙ lies))
+  outside_fits here lies same directory way = cc (lies_so here same directory way)
 
   pub root_fits : Fits it.did.task.root
   root_fits = outside_fits it.did.task.root outside.root

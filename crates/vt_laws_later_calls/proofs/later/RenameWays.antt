@@ -127,7 +127,7 @@ module _ {world : World ℕ} {fresh : Fresh ℕ} {name : TaskName} {call : Call}
       (left_is it permit_is uncovered is_directory outside).1 it.did.task reader
   mounts_seen = record {
     own = λ number own listed. alike_by number;
-    topmost_is = λ place own. ap (λ mounts. topmost nat_eq mounts place) same;
+    topmost_is = λ place own. cc same;
     top_is = λ here known. λ i. top_by (same i) (roots i) here;
   }
     where
@@ -136,7 +136,7 @@ module _ {world : World ℕ} {fresh : Fresh ℕ} {name : TaskName} {call : Call}
           uncovered is_directory outside
 
       mount_same : (number : ℕ) → mount_numbered nat_eq left_world number ≡ mount_numbered nat_eq world number
-      mount_same number = ap (λ mounts. mount_in nat_eq mounts number) same
+      mount_same number = cc same
 
       alike_by : (number : ℕ) → SeenAlike (mount_numbered nat_eq world number) (mount_numbered nat_eq left_world number)
       alike_by number = grind (arith, common_steps, mount_same)
@@ -149,17 +149,16 @@ module _ {world : World ℕ} {fresh : Fresh ℕ} {name : TaskName} {call : Call}
     alike = mounts_seen.own here.mount known.0.0 known.1.0.0
 
     files_here : files_at nat_eq left_world here ≡ (filesystem_numbered nat_eq left_world number).files
-    files_here = ap (λ n. (filesystem_numbered nat_eq left_world n).files) alike.filesystem
+    files_here = cc alike.filesystem
 
     there : is_some (node_in left_world number here.node) ≡ true
-    there = ap (λ (f : FileTree ℕ). is_some (f.tree.node here.node)) (sym files_here)
-        ∙ directory_used (files_at nat_eq left_world here).tree here.node known.1.1
+    there = cc (files_here, directory_used (files_at nat_eq left_world here).tree here.node known.1.1)
 
     as_spent : node_in left_world number here.node ≡ node_in spent_world number here.node
     as_spent = left_node number here.node there
 
     tree_later : IsFileTree (filesystem_numbered nat_eq left_world number).files
-    tree_later = subst IsFileTree files_here (tree_here left_world is_left.0 here known.1.1)
+    tree_later = rw (← files_here) (tree_here left_world is_left.0 here known.1.1)
 
     tree_before : IsFileTree (filesystem_numbered nat_eq world number).files
     tree_before = tree_here world it.is here known.0.1
@@ -170,7 +169,7 @@ module _ {world : World ℕ} {fresh : Fresh ℕ} {name : TaskName} {call : Call}
         is_directory outside number here.node there
 
     now_directory : is_directory_node (node_in left_world number here.node) ≡ true
-    now_directory = ap (λ (f : FileTree ℕ). is_directory_node (f.tree.node here.node)) (sym files_here) ∙ known.1.1
+    now_directory = cc (files_here, known.1.1)
 
     root_there : is_some (node_in left_world number (mount_at nat_eq world here).root) ≡ true
     root_there = (λ i. is_some (node_in left_world (sym alike.filesystem i) (sym alike.root i)))
@@ -189,7 +188,7 @@ module _ {world : World ℕ} {fresh : Fresh ℕ} {name : TaskName} {call : Call}
         by : (entry_at (tree_in spent_world number) at any ≡ Some next)
             ⊎ ((entry_at (tree_in spent_world number) at any ≡ None) × (number ≡ own_fs) × (next ≡ object.node))
             → entry_at (tree_in left_world number) at any ≡ Some next
-        by (inl same) = ap (λ o. entry_named any (entries_in o)) node ∙ same
+        by (inl same) = cc (node, same)
         by (inr lost) = absurd (differs lost.1 lost.2)
 
     goes : parent_in here.node (node_in left_world number here.node)
@@ -198,7 +197,7 @@ module _ {world : World ℕ} {fresh : Fresh ℕ} {name : TaskName} {call : Call}
         → is_directory_under nat_eq (filesystem_numbered nat_eq left_world number).files
         (mount_at nat_eq world here).root here.node ≡ true → Up here
     goes parent present under = record {
-      parent = ap (λ (f : FileTree ℕ). parent_in here.node (f.tree.node here.node)) files_here ∙ parent;
+      parent = cc files_here;
       not_lost = (λ i. is_removed nat_eq (files_here i).tree here.node
           || not (is_directory_under nat_eq (files_here i) (alike.root i) here.node))
           ∙ (λ i. present i || not (under i));
@@ -223,7 +222,7 @@ module _ {world : World ℕ} {fresh : Fresh ℕ} {name : TaskName} {call : Call}
 
       at_fs : number ≡ own_fs → (at : ℕ) (any : List ℕ) (next : ℕ) → entry_at (tree_in world number) at any ≡ Some next
           → entry_at whole at any ≡ Some next
-      at_fs same at any next e = ap (λ n. entry_at (tree_in world n) at any) (sym same) ∙ e
+      at_fs same at any next e = cc same
 
       above : KeepsAbove Keeps (tree_in world number)
       above directory any next e keeps same way =
@@ -231,25 +230,21 @@ module _ {world : World ℕ} {fresh : Fresh ℕ} {name : TaskName} {call : Call}
 
       names : DirectoryNamesStay Keeps (tree_in world number) (tree_in left_world number)
       names directory any next e is_one keeps now =
-          entry_later directory any next e (λ same it. keeps same ([], ap Some (sym it))) now
+          entry_later directory any next e (λ same it. keeps same ([], cc)) now
 
       outside_goes : Keeps here.node → Up here
-      outside_goes keeps = goes (ap (parent_in here.node) as_spent
-          ∙ (each_in number).parents here.node (λ same it. keeps same ([], ap Some (sym it))))
-          (present_later Keeps (filesystem_numbered nat_eq world number).files
-          (filesystem_numbered nat_eq left_world number).files tree_before.tree tree_later root_same above names
-          (mount_at nat_eq world here).root here.node known.0.1 now_directory keeps root_there present_before
-          under_before) (under_later Keeps (filesystem_numbered nat_eq world number).files
-          (filesystem_numbered nat_eq left_world number).files tree_before.tree tree_later root_same above names
-          (mount_at nat_eq world here).root here.node known.0.1 now_directory keeps root_there present_before
-          under_before)
+      outside_goes keeps =
+          goes (cc (as_spent, (each_in number).parents here.node (λ same it. keeps same ([], ap Some (sym it)))))
+          (present_later (filesystem_numbered nat_eq world number).files tree_before.tree tree_later root_same above
+          names (mount_at nat_eq world here).root known.0.1 now_directory keeps root_there present_before under_before)
+          (under_later (filesystem_numbered nat_eq world number).files tree_before.tree tree_later root_same above names
+          (mount_at nat_eq world here).root known.0.1 now_directory keeps root_there present_before under_before)
 
       outside_fits : Keeps here.node → FitsIn (parent_location nat_eq world here)
-      outside_fits keeps same directory way = absurd (⊎_elim (λ root. keeps same (subst Inside
-          (ap (λ n. parent_in n (node_in world number n)) (sym root) ∙ tree_before.tree.root_parent ∙ root) way))
-          (λ named. keeps same (further named.0 named.1 here.node
-          (subst Inside (tree_before.tree.one_parent named.0 named.1 here.node named.2 known.0.1) way)
-          (at_fs same named.0 named.1 here.node named.2)))
+      outside_fits keeps same directory way =
+          absurd (⊎_elim (λ root. keeps same (subst Inside (cc tree_before.tree.root_parent) way))
+          (λ named. keeps same (further named.0 named.1 here.node (rw (← tree_before.tree.one_parent named.0 named.1
+          here.node named.2 known.0.1) way) (at_fs same named.0 named.1 here.node named.2)))
           (reached_named (tree_in world number) here.node reached_before))
 
       -- Inside, on a mount whose root is inside
@@ -262,15 +257,14 @@ module _ {world : World ℕ} {fresh : Fresh ℕ} {name : TaskName} {call : Call}
             → led (tree_in world number) start path ≡ Some end → Inside end
         led_on start path end in_it e = (
           in_it.0 ++ path,
-          led_parts whole in_it.0 path object.node start in_it.1
-              ∙ ap (λ n. led (tree_in world n) start path) (sym same) ∙ e,
+          cc (led_parts whole in_it.0 path object.node start in_it.1, same),
         )
 
         -- an entry inside never leads to it
         not_moved : (at : ℕ) (any : List ℕ) (next : ℕ) → Inside at → entry_at (tree_in world number) at any ≡ Some next
             → next ≢ object.node
-        not_moved at any next in_it e it = not_around
-            (subst Inside (only_entry at any (at_fs same at any next e ∙ ap Some it)).0 in_it)
+        not_moved at any next in_it e it =
+            not_around (rw (← (only_entry at any (at_fs same at any next e ∙ ap Some it)).0) in_it)
 
         led_later : (start : ℕ) (path : List (List ℕ)) (end : ℕ) → Inside start
             → led (tree_in world number) start path ≡ Some end
@@ -290,13 +284,13 @@ module _ {world : World ℕ} {fresh : Fresh ℕ} {name : TaskName} {call : Call}
             known.0.1 reached_before under_before
 
         here_not_moved : here.node ≢ object.node
-        here_not_moved it = ⊎_elim (λ at_top. true≢false (sym (eq-eqb here.node top_of (sym at_top)) ∙ not_top))
+        here_not_moved it = ⊎_elim (λ at_top. true≢false (cc (eq-eqb here.node top_of (sym at_top))))
             (λ step. not_moved step.0 step.1 here.node (led_on top_of step.3 step.0 root_in step.4) step.2 it)
             (last_step (tree_in world number) top_of from_top.0 here.node from_top.1)
 
         parent_same : parent_in here.node (node_in left_world number here.node)
             ≡ parent_in here.node (node_in world number here.node)
-        parent_same = ap (parent_in here.node) as_spent ∙ (each_in number).parents here.node (λ own. here_not_moved)
+        parent_same = cc (as_spent, (each_in number).parents here.node (λ own. here_not_moved))
 
         reached_later : IsReached (tree_in left_world number) here.node
         reached_later = ⊎_elim (λ root. absurd (⊎_elim (λ it. here_not_moved (sym it))
@@ -333,7 +327,7 @@ module _ {world : World ℕ} {fresh : Fresh ℕ} {name : TaskName} {call : Call}
 
       directory_here : (mount_at nat_eq world here).filesystem ≡ own_fs
           → is_directory_node (whole.node here.node) ≡ true
-      directory_here same = ap (λ n. is_directory_node (node_in world n here.node)) (sym same) ∙ known.0.1
+      directory_here same = cc (same, known.0.1)
 
       inside : (same : (mount_at nat_eq world here).filesystem ≡ own_fs) → Inside here.node
           → Up here × FitsIn (parent_location nat_eq world here)

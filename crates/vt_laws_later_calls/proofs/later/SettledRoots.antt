@@ -12,8 +12,7 @@ looked_up-map : (change : Filesystem ℕ → Filesystem ℕ) → ((f : Filesyste
     (list : List (Filesystem ℕ)) → looked_up number (map change list) ≡ option_map change (looked_up number list)
 looked_up-map change same number [] = refl
 looked_up-map change same number (first ∷ rest) =
-    ap (λ n. cond (nat_eq number n) (Some (change first)) (looked_up number (map change rest))) (same first)
-    ∙ by (nat_eq number first.number) (looked_up-map change same number rest)
+    cc (same first, by (nat_eq number first.number) (looked_up-map change same number rest))
   where
     by : (b : Bool) → looked_up number (map change rest) ≡ option_map change (looked_up number rest)
         → cond b (Some (change first)) (looked_up number (map change rest))
@@ -24,15 +23,13 @@ looked_up-map change same number (first ∷ rest) =
 -- what is found has the number, and is one of the list
 looked_up_is : (number : ℕ) (list : List (Filesystem ℕ)) (f : Filesystem ℕ) → looked_up number list ≡ Some f
     → Among f list × (number ≡ f.number)
-looked_up_is number [] f e = absurd (true≢false (sym (ap is_some e)))
+looked_up_is number [] f e = cc
 looked_up_is number (first ∷ rest) f e = by (nat_eq number first.number) refl e (looked_up_is number rest f)
   where
     by : (b : Bool) → nat_eq number first.number ≡ b → cond b (Some first) (looked_up number rest) ≡ Some f
         → (looked_up number rest ≡ Some f → Among f rest × (number ≡ f.number))
         → Among f (first ∷ rest) × (number ≡ f.number)
-    by true g h later =
-        let same : first ≡ f = same_Some first f h in
-        (inl (sym same), eqb-true number first.number g ∙ ap (λ (x : Filesystem ℕ). x.number) same)
+    by true g h later = let same : first ≡ f = same_Some first f h in (inl (cc), cc (eqb-true number first.number g))
     by false g h later = let found = later h in (inr found.0, found.1)
 
 module _ (world : World ℕ) (one : any_pair (λ (a b : Filesystem ℕ). nat_eq a.number b.number) world.filesystems
@@ -67,8 +64,7 @@ module _ (world : World ℕ) (one : any_pair (λ (a b : Filesystem ℕ). nat_eq 
       left : (o : Option (Filesystem ℕ)) → looked_up number living.filesystems ≡ o
           → filesystem_numbered nat_eq (settled nat_eq world) number
           ≡ unwrap_or (option_map twice (option_map once o)) (no_filesystem number)
-      left o e = ap (λ x. unwrap_or x (no_filesystem number)) (looked_up_settled number)
-          ∙ ap (λ x. unwrap_or (option_map twice (option_map once x)) (no_filesystem number)) e
+      left o e = cc (looked_up_settled number)
 
       by : (o : Option (Filesystem ℕ)) → looked_up number living.filesystems ≡ o
           → (filesystem_numbered nat_eq (settled nat_eq world) number).files.tree.root

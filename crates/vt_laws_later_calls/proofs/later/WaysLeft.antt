@@ -87,11 +87,11 @@ module _ {world later : World ℕ} (is : IsWorld nat_eq world) (plain : IsPlain 
 
     pub node_here : (here : Location ℕ) → BothFound here
         → node_at nat_eq later here ≡ node_in later (mount_at nat_eq world here).filesystem here.node
-    node_here here known = ap (λ n. node_in later n here.node) (alike here known).filesystem
+    node_here here known = cc ((alike here known).filesystem)
 
     pub there_later : (here : Location ℕ) → BothFound here
         → is_some (node_in later (mount_at nat_eq world here).filesystem here.node) ≡ true
-    there_later here known = ap is_some (sym (node_here here known)) ∙ known.1.1
+    there_later here known = cc (node_here here known, known.1.1)
 
     directory_too : (here : Location ℕ) → BothFound here
         → is_directory_at nat_eq later here ≡ is_directory_at nat_eq world here
@@ -129,7 +129,7 @@ module _ {world later : World ℕ} (is : IsWorld nat_eq world) (plain : IsPlain 
       where
         at_later : (o : Option ℕ) → entry_at (tree_in later (mount_at nat_eq world here).filesystem) here.node name ≡ o
             → entry_named name (entries_in (node_at nat_eq later here)) ≡ o
-        at_later o f = ap (λ n. entry_named name (entries_in n)) (node_here here (both_found here known)) ∙ f
+        at_later o f = cc (node_here here (both_found here known))
 
         inside : (object : ℕ) → entry_named name (entries_in (node_at nat_eq world here)) ≡ Some object
             → named_by world.mounts here (Some object) ≡ Ok next
@@ -155,10 +155,9 @@ module _ {world later : World ℕ} (is : IsWorld nat_eq world) (plain : IsPlain 
         by : (o : Option ℕ) → entry_named name (entries_in (node_at nat_eq world here)) ≡ o
             → named_by world.mounts here (entry_named name (entries_in (node_at nat_eq world here))) ≡ Ok next
             → Steps here (Named name) next
-        by None f g = absurd (no_answer (denial W6) next (ap (named_by world.mounts here) (sym f) ∙ g))
-        by (Some object) f g = inside object f (ap (named_by world.mounts here) (sym f) ∙ g)
-            (it.stay.entry (mount_at nat_eq world here).filesystem here.node name object f
-            (there_later here (both_found here known)))
+        by None f g = absurd (no_answer (denial W6) next (cc))
+        by (Some object) f g = inside object f (cc) (it.stay.entry (mount_at nat_eq world here).filesystem here.node
+            name object f (there_later here (both_found here known)))
 
     -- Up
     abbrev is_top_by : Location ℕ → ℕ → Location ℕ → Bool
@@ -175,8 +174,7 @@ module _ {world later : World ℕ} (is : IsWorld nat_eq world) (plain : IsPlain 
       above_known : BothAre above
       above_known = (
         top_known world is task here known.0,
-        subst (IsFoundDirectory later is_later reader) (it.seen.top_is here known)
-            (top_known later is_later reader here known.1),
+        rw (← it.seen.top_is here known) (top_known later is_later reader here known.1),
       )
 
       ends_same : is_top_by reader.root (mount_at nat_eq later above).root above
@@ -202,10 +200,9 @@ module _ {world later : World ℕ} (is : IsWorld nat_eq world) (plain : IsPlain 
               → Path (Result (Location ℕ) Deny) (Ok (topmost nat_eq world.mounts (parent_location nat_eq world above)))
               (Ok next) → (GoesUp above × Fits (parent_location nat_eq world above))
               ⊎ (Refused (denial W8) × (is_lost nat_eq later above ≡ true)) → Steps here DotDot next
-          on p g (inl goes) = found_too (later_up
-              ∙ (λ i. up_by later.mounts (p i) (goes.0.not_lost i) (goes.0.parent i) above)
-              ∙ ap Ok (it.seen.topmost_is (parent_location nat_eq world above) above_known.0.0) ∙ g)
-              (subst Fits (same_ok (topmost nat_eq world.mounts (parent_location nat_eq world above)) next g)
+          on p g (inl goes) = found_too (later_up ∙ (λ i. up_by later.mounts (p i) (goes.0.not_lost i) (goes.0.parent i)
+              above) ∙ ap Ok (it.seen.topmost_is (parent_location nat_eq world above) above_known.0.0) ∙ g)
+              (rw (← same_ok (topmost nat_eq world.mounts (parent_location nat_eq world above)) next g)
               (it.fits.over (parent_location nat_eq world above) above_known.0.0 goes.1))
           on p g (inr lost) = inr (
             denial W8,
@@ -218,18 +215,16 @@ module _ {world later : World ℕ} (is : IsWorld nat_eq world) (plain : IsPlain 
               → (q : Bool) → is_lost nat_eq world above ≡ q
               → up_by world.mounts p q (parent_in above.node (node_at nat_eq world above)) above ≡ Ok next
               → Steps here DotDot next
-          by true f q lost g = found_too (later_up ∙ ap (λ b. up_by later.mounts b (is_lost nat_eq later above)
-              (parent_in above.node (node_at nat_eq later above)) above) f ∙ g)
-              (subst Fits (same_ok above next g) (it.fits.hopped here known fit))
+          by true f q lost g =
+              found_too (cc later_up) (subst Fits (same_ok above next g) (it.fits.hopped here known fit))
           by false f true lost g = absurd (no_answer (denial W8) next g)
           by false f false lost g = on f g (it.fits.up above above_known (it.fits.hopped here known fit) f lost)
 
     step_too : (here : Location ℕ) (word : LastWord) (next : Location ℕ) → BothAre here → Fits here
         → stepped nat_eq world task here word ≡ Ok next → Steps here word next
     step_too here NoWord next known fit e =
-        inl (e, (next_found here NoWord next known e e, subst Fits (same_ok here next e) fit))
-    step_too here Dot next known fit e =
-        inl (e, (next_found here Dot next known e e, subst Fits (same_ok here next e) fit))
+        inl (e, (next_found here NoWord next known e e, rw (← same_ok here next e) fit))
+    step_too here Dot next known fit e = inl (e, (next_found here Dot next known e e, rw (← same_ok here next e) fit))
     step_too here DotDot next known fit e = up_too here next known fit e
     step_too here (Named name) next known fit e = name_too here name next known fit e
 

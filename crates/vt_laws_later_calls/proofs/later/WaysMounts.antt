@@ -22,11 +22,11 @@ use Rattle.vt_laws_worlds.proofs.worlds.Reached.{IsFoundDirectory, IsOn, namespa
 module _ {A : Type 0} where
   pub stops : (n : ℕ) (next : A → Option A) (a : A) → next a ≡ None → last_or a (chain n next a) ≡ a
   stops zero next a e = refl
-  stops (suc n) next a e = ap (last_or a) (chain_ends next n a e)
+  stops (suc n) next a e = cc (chain_ends next n a e)
 
   goes : (n : ℕ) (next : A → Option A) (a b : A) → next a ≡ Some b
       → last_or a (chain (suc n) next a) ≡ last_or b (chain n next b)
-  goes n next a b e = ap (last_or a) (chain_goes_on next n a b e) ∙ last_of_chain next n b a
+  goes n next a b e = cc (chain_goes_on next n a b e, last_of_chain next n b a)
 
   pub chains_agree : (f g : A → Option A) (Q : A → Type 0) → ((a : A) → Q a → g a ≡ f a)
       → ((a b : A) → Q a → f a ≡ Some b → Q b)
@@ -41,9 +41,8 @@ module _ {A : Type 0} where
           → last_or b (chain k g b) ≡ last_or b (chain m f b)) → last_or a (chain n g a) ≡ last_or a (chain (suc m) f a)
       by None e n h rest = stops n g a (same a q ∙ e) ∙ sym (stops (suc m) f a e)
       by (Some b) e zero h rest = none_is_not (g a) b h (same a q ∙ e)
-      by (Some b) e (suc k) h rest = goes k g a b (same a q ∙ e)
-          ∙ rest k b (on a b q e) (sym (ap f (goes m f a b e)) ∙ ends) (sym (ap g (goes k g a b (same a q ∙ e))) ∙ h)
-          ∙ sym (goes m f a b e)
+      by (Some b) e (suc k) h rest = goes k g a b (same a q ∙ e) ∙ rest k b (on a b q e) (cc (goes m f a b e))
+          (cc (goes k g a b (same a q ∙ e))) ∙ sym (goes m f a b e)
 
 -- Where `..` goes on from
 module _ (world : World ℕ) (is : IsWorld nat_eq world) (task : Task ℕ) where
@@ -77,7 +76,7 @@ module _ (world : World ℕ) (is : IsWorld nat_eq world) (task : Task ℕ) where
       by : (o : Option (Location ℕ)) → hop nat_eq world task here ≡ o → ((b : Location ℕ) → deep b.mount ≤ n
           → hop nat_eq world task (last_or b (chain n (hop nat_eq world task) b)) ≡ None)
           → hop nat_eq world task (last_or here (chain (suc n) (hop nat_eq world task) here)) ≡ None
-      by None e rest = ap (hop nat_eq world task) (stops (suc n) (hop nat_eq world task) here e) ∙ e
+      by None e rest = cc (stops (suc n) (hop nat_eq world task) here e)
       by (Some b) e rest = ap (hop nat_eq world task) (goes n (hop nat_eq world task) here b e) ∙ rest b
           (let child = rank_child world is.mounts.one_number is.mounts.standing here.mount b
           (hop_place here b e) in omega arith)
@@ -105,7 +104,7 @@ module _ (world : World ℕ) (is : IsWorld nat_eq world) (gone : List ℕ) (clos
           (taking_away_keeps_numbers world gone is.mounts.one_number) new m
 
       at : (mount_numbered nat_eq (taken_away nat_eq world gone) new.number).mount_point ≡ Some place
-      at = ap (λ (m : Mount ℕ). m.mount_point) itself ∙ e
+      at = cc itself
 
       on : is_going nat_eq gone new.number ≡ false → (before : Location ℕ)
           → (mount_numbered nat_eq world new.number).mount_point ≡ Some before
@@ -113,12 +112,11 @@ module _ (world : World ℕ) (is : IsWorld nat_eq world) (gone : List ℕ) (clos
           → (was : Mount ℕ) × Among was world.mounts × (was.mount_point ≡ Some place)
       on keeps before f true g =
           let there = placed_among world.mounts new.number before f in
-          absurd (true≢false (sym (ap (is_going nat_eq gone) (sym (number-mount_in world.mounts new.number))
-          ∙ closed (mount_numbered nat_eq world new.number) before there f g) ∙ keeps))
+          cc (number-mount_in world.mounts new.number, closed (mount_numbered nat_eq world new.number) before there f g)
       on keeps before f false g = (
         mount_numbered nat_eq world new.number,
         placed_among world.mounts new.number before f,
-        f ∙ ap Some (same_Some before place (sym (place_kept world gone new.number before keeps f g) ∙ at)),
+        cc (same_Some before place (sym (place_kept world gone new.number before keeps f g) ∙ at)),
       )
 
       by_place : is_going nat_eq gone new.number ≡ false → (o : Option (Location ℕ))
@@ -132,11 +130,11 @@ module _ (world : World ℕ) (is : IsWorld nat_eq world) (gone : List ℕ) (clos
       by : (b : Bool) → is_going nat_eq gone new.number ≡ b
           → (was : Mount ℕ) × Among was world.mounts × (was.mount_point ≡ Some place)
       by true f = none_is_not (mount_numbered nat_eq (taken_away nat_eq world gone) new.number).mount_point place
-          (ap (λ (m : Mount ℕ). m.mount_point) (detached_by_number world gone new.number f)) at
+          (cc (detached_by_number world gone new.number f)) at
       by false f = by_place f (mount_numbered nat_eq world new.number).mount_point refl
 
-module _ (world later : World ℕ) (is : IsWorld nat_eq world) (is_later : IsWorld nat_eq later) (task : Task ℕ)
-    (gone : List ℕ) (closed : AreClosed world gone) (lives : Mount ℕ → Bool)
+module _ {world later : World ℕ} (is : IsWorld nat_eq world) (is_later : IsWorld nat_eq later) (task : Task ℕ)
+    (gone : List ℕ) (closed : AreClosed world gone) {lives : Mount ℕ → Bool}
     (living : later.mounts ≡ filter lives (taken_away nat_eq world gone).mounts)
     (attached_live : (mount : Mount ℕ) → is_some mount.namespace ≡ true → lives mount ≡ true)
     (stays : (number : ℕ) → IsOn world is task number → is_going nat_eq gone number ≡ false) where
@@ -150,7 +148,7 @@ module _ (world later : World ℕ) (is : IsWorld nat_eq world) (is_later : IsWor
   IsListed number = is_among nat_eq number (numbers_of later.mounts) ≡ true
 
   from_taken : (mount : Mount ℕ) → Among mount later.mounts → Among mount taken.mounts
-  from_taken mount m = (among-from_filter lives taken.mounts mount (subst (Among mount) living m)).0
+  from_taken mount m = (among-from_filter lives taken.mounts mount (rw (← living) m)).0
 
   later_mount : (number : ℕ) → IsListed number → mount_numbered nat_eq later number ≡ mount_numbered nat_eq taken number
   later_mount number listed = sym (ap (mount_numbered nat_eq taken) (sym (number-mount_in later.mounts number))
@@ -161,10 +159,10 @@ module _ (world later : World ℕ) (is : IsWorld nat_eq world) (is_later : IsWor
   pub own_mount : (number : ℕ) → IsOn world is task number → IsListed number
       → SeenAlike (mount_numbered nat_eq world number) (mount_numbered nat_eq later number)
   own_mount number own listed = record {
-    filesystem = ap (λ (m : Mount ℕ). m.filesystem) same ∙ kept.filesystem;
-    root = ap (λ (m : Mount ℕ). m.root) same ∙ kept.root;
-    flags = ap (λ (m : Mount ℕ). m.flags) same ∙ kept.flags;
-    mount_point = ap (λ (m : Mount ℕ). m.mount_point) same ∙ by (mount_numbered nat_eq world number).mount_point refl;
+    filesystem = cc (same, kept.filesystem);
+    root = cc (same, kept.root);
+    flags = cc (same, kept.flags);
+    mount_point = cc (same, by (mount_numbered nat_eq world number).mount_point refl);
   }
     where
       same : mount_numbered nat_eq later number ≡ mount_numbered nat_eq taken number
@@ -187,9 +185,9 @@ module _ (world later : World ℕ) (is : IsWorld nat_eq world) (is_later : IsWor
       let itself = found_itself world.mounts is.mounts.one_number child found.0 in
       let below = namespace_below world child.number place
       (among_from_all (λ (m : Mount ℕ). Stands nat_eq world m.number) world.mounts is.mounts.standing child found.0)
-      (ap (λ (m : Mount ℕ). m.mount_point) itself ∙ stands_there place child found.1) in (
+      (cc (itself, stands_there place child found.1)) in (
         is_one_of world.mounts child found.0,
-        ap (λ o. list_all (nat_eq task.namespace) (option_to_list o)) below ∙ own.1,
+        cc own.1,
       )
 
   abbrev child_root : World ℕ → Location ℕ → Option (Location ℕ)
@@ -234,17 +232,17 @@ module _ (world later : World ℕ) (is : IsWorld nat_eq world) (is_later : IsWor
     where
       none : child_at nat_eq world.mounts place ≡ None → (o : Option (Mount ℕ)) → child_at nat_eq later.mounts place ≡ o
           → child_root later place ≡ None
-      none e None f = ap (option_map root_of) f
+      none e None f = cc
       none e (Some new) f = absurd (none_there place e new f)
 
       by : (o : Option (Mount ℕ)) → child_at nat_eq world.mounts place ≡ o
           → child_root later place ≡ child_root world place
-      by None e = none e (child_at nat_eq later.mounts place) refl ∙ sym (ap (option_map root_of) e)
-      by (Some child) e = child_there place own child e ∙ sym (ap (option_map root_of) e)
+      by None e = cc (none e (child_at nat_eq later.mounts place) refl)
+      by (Some child) e = cc (child_there place own child e)
 
   free_top : (w : World ℕ) → IsWorld nat_eq w → (place : Location ℕ)
       → child_root w (topmost nat_eq w.mounts place) ≡ None
-  free_top w is_w place = ap (option_map root_of) (topmost_is_free w place is_w.mounts)
+  free_top w is_w place = cc (topmost_is_free w place is_w.mounts)
 
   pub topmost_same : (place : Location ℕ) → IsOn world is task place.mount
       → topmost nat_eq later.mounts place ≡ topmost nat_eq world.mounts place

@@ -62,15 +62,13 @@ module _ (files : FileTree ℕ) (directory : ℕ) (name : List ℕ) (object : �
       ∙ entry_named-without_entry other name (entries_in (files.tree.node directory))
 
   pub removed_name : entry_at removed.tree directory name ≡ None
-  removed_name = entry_less name ∙ ap (λ b. cond (not b) (entry_at files.tree directory name) None)
-      ((bytes_decides name name).1 refl)
+  removed_name = cc (entry_less name, (bytes_decides name name).1 refl)
 
   pub removed_entry : (here : ℕ) (other : List ℕ) (next : ℕ) → entry_at files.tree here other ≡ Some next
       → (entry_at removed.tree here other ≡ Some next) ⊎ ((entry_at removed.tree here other ≡ None) × (next ≡ object))
-  removed_entry here other next e = ⊎_elim
-      (λ t. by (bytes_eq other name) refl (ap (λ m. entry_at removed.tree m other) t.1 ∙ entry_less other)
-      (ap (λ m. entry_at files.tree m other) (sym t.1) ∙ e)) (λ t. inl (ap (entry_named other) (removed_entries here
-      ∙ ap entries_in (elsewhere files directory (node_without_entry name) here t.1)) ∙ e)) (eqb_tells here directory)
+  removed_entry here other next e = ⊎_elim (λ t. by (bytes_eq other name) refl (cc (t.1, entry_less other)) (cc t.1))
+      (λ t. inl (cc (removed_entries here, elsewhere files directory (node_without_entry name) here t.1)))
+      (eqb_tells here directory)
     where
       by : (b : Bool) → bytes_eq other name ≡ b
           → entry_at removed.tree here other ≡ cond (not b) (entry_at files.tree directory other) None
@@ -78,18 +76,16 @@ module _ (files : FileTree ℕ) (directory : ℕ) (name : List ℕ) (object : �
           ⊎ ((entry_at removed.tree here other ≡ None) × (next ≡ object))
       by true same now was =
           let name_is : other ≡ name = (bytes_decides other name).0 same in
-          inr (now, same_Some next object (sym was ∙ ap (entry_at files.tree directory) name_is ∙ may.named))
-      by false same now was = inl (now ∙ was)
+          inr (now, same_Some next object (cc may.named))
+      by false same now was = inl (cc)
 
   -- the directory is empty, and stands alone
   pub nothing_in_it : (other : List ℕ) (next : ℕ) → entry_at files.tree object other ≡ Some next → ⊥
   nothing_in_it other next e = grind (arith, common_steps, true≢false)
 
   removed_empty : entries_in (removed.tree.node object) ≡ []
-  removed_empty = removed_entries object ∙ ⊎_elim
-      (λ t. absurd (nothing_in_it name object (ap (λ m. entry_at files.tree m name) t.1 ∙ may.named)))
-      (λ t. ap entries_in (elsewhere files directory (node_without_entry name) object t.1) ∙ may.empty)
-      (eqb_tells object directory)
+  removed_empty = removed_entries object ∙ ⊎_elim (λ t. absurd (nothing_in_it name object (cc (t.1, may.named))))
+      (λ t. cc (elsewhere files directory (node_without_entry name) object t.1, may.empty)) (eqb_tells object directory)
 
   pub removed_alone : (tree : Tree ℕ) → tree.node object ≡ removed.tree.node object → object ≢ tree.root
       → is_removed nat_eq tree object ≡ true

@@ -75,7 +75,7 @@ module _ (fresh : Fresh ℕ) (world : World ℕ) (place : Location ℕ) (flags :
       → map (pushed_up nat_eq larger (copies_from nat_eq (odds fresh) (destination ∷ []) (origin ∷ [])) alone_graft
       (destination ∷ [])) list ≡ list
   nothing_is_pushed [] = refl
-  nothing_is_pushed (mount ∷ list) = ap (λ rest. mount ∷ rest) (nothing_is_pushed list)
+  nothing_is_pushed (mount ∷ list) = cc (nothing_is_pushed list)
 
   -- numbers of the new mount
   abbrev alone_copies : Copies ℕ
@@ -96,7 +96,7 @@ module _ (fresh : Fresh ℕ) (world : World ℕ) (place : Location ℕ) (flags :
   -- on a private mount one mount comes, the last one
   pub mounts-new_mount : destination.propagation ≡ Private → (task : Task ℕ)
       → (apply nat_eq fresh world task (ToMountPlain place flags)).world.mounts ≡ world.mounts ++ (added_mount ∷ [])
-  mounts-new_mount private task = ap mounts_with (no_receivers (ap group_of private))
+  mounts-new_mount private task = ap mounts_with (no_receivers (cc))
       ∙ append-nil (mounts_with_copies (destination ∷ []))
       ∙ (λ i. nothing_is_pushed world.mounts i ++ (record added_mount {
         mount_point = Some (point_is_destination i);

@@ -4,7 +4,7 @@ use Rattle.vt_spec.proofs.Common.{Call, Fresh, Judgement, Outcome, Task, TaskNam
 use Rattle.vt_spec.specs.declared.errors.Deny.{Deny}
 use Rattle.vt_laws_rules.proofs.judged.CallsJudged.{policy_judges_then_applies}
 
-module _ (world : World ℕ) (fresh : Fresh ℕ) (name : TaskName) (task : Task ℕ) (call : Call)
+module _ (world : World ℕ) (fresh : Fresh ℕ) (name : TaskName) {task : Task ℕ} (call : Call)
     (called : task_called world name ≡ Some task) where
   -- a call of a task by its judgement
   abbrev pub outcome_by : Judgement ℕ → Outcome ℕ

@@ -63,7 +63,7 @@ pub record IsDestination (world : World ℕ) (top : Location ℕ) : Type 0 where
   pub directory : is_directory_at nat_eq world top ≡ true
   pub stays : is_removed_at nat_eq world top ≡ false
 
-module _ (world : World ℕ) (task : Task ℕ) (path : List ℕ) (end : Here ℕ)
+module _ {world : World ℕ} (task : Task ℕ) (path : List ℕ) (end : Here ℕ)
     (walked : path_walked nat_eq world task path ≡ Ok end) (is : IsDestination world end.location) where
   -- a path that leads to such a place is walked to it as to a directory
   pub directory_is_walked : directory_walk nat_eq world task path ≡ Ok end
@@ -102,7 +102,7 @@ module _ (world : World ℕ) (task : Task ℕ) where
   walked_from_root path list parsed absolute words_are = grind (arith, common_steps)
 
   -- a path of one word
-  module _ (path word : List ℕ) (one : HasOneWord path word) (object : ℕ) (top : Location ℕ)
+  module _ {path word : List ℕ} (one : HasOneWord path word) {object : ℕ} {top : Location ℕ}
       (way : WordLeads world task task.root word object top) where
     -- where the walk ends
     abbrev pub end_of_one : Here ℕ
@@ -115,8 +115,8 @@ module _ (world : World ℕ) (task : Task ℕ) where
         ∙ word_goes_on most_symlinks [] way
 
   -- a path of two words
-  module _ (path first second : List ℕ) (two : HasTwoWords path first second) (object inner : ℕ)
-      (middle top : Location ℕ) (first_way : WordLeads world task task.root first object middle)
+  module _ {path first second : List ℕ} (two : HasTwoWords path first second) {object inner : ℕ}
+      {middle top : Location ℕ} (first_way : WordLeads world task task.root first object middle)
       (second_way : WordLeads world task middle second inner top) where
     abbrev between : Here ℕ
     between = there most_symlinks [] first_way

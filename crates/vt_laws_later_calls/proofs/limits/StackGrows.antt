@@ -32,7 +32,7 @@ filesystem_stays world added number node directory = grind (arith, common_steps,
 pub filesystems_not_raised : (filesystems : List (Filesystem ℕ)) → map (raised_if_changed nat_eq []) filesystems
     ≡ filesystems
 filesystems_not_raised [] = refl
-filesystems_not_raised (filesystem ∷ rest) = ap (λ others. filesystem ∷ others) (filesystems_not_raised rest)
+filesystems_not_raised (filesystem ∷ rest) = cc (filesystems_not_raised rest)
 
 -- namespaces keep their numbers where change numbers are raised
 pub numbers-raised_namespaces : (before left : World ℕ) (namespaces : List (Namespace ℕ))
@@ -62,9 +62,8 @@ module _ {world : World ℕ} {name : TaskName} {path word : List ℕ} (one : Has
   -- a full namespace refuses one more mount
   pub full_stack_refuses : most_mounts ≤ count
       → policy nat_eq fresh world name (MountPlain path flags) ≡ denied world (denial M9)
-  full_stack_refuses full = refused_call world fresh name stack.task (MountPlain path flags) stack.called (denial M9)
-      (judged_by_room one stack fresh flags
-      ∙ ap (λ b. unless ((b, M9) ∷ []) (Ok (ToMountPlain stack.top flags))) over)
+  full_stack_refuses full = refused_call world fresh name (MountPlain path flags) stack.called (denial M9)
+      (cc (judged_by_room one stack fresh flags, over))
     where
       over : nat_lt most_mounts (suc count) ≡ true
       over = grind (arith, nat_tests)
@@ -92,11 +91,11 @@ module _ {world : World ℕ} {name : TaskName} {path word : List ℕ} (one : Has
     -- the sweep takes nothing
     nothing_goes : settled nat_eq mounted ≡ mounted
     nothing_goes = new_mounts_of_trees_keep_all fresh world stack.task stack.top flags (all_in_use world stack.is)
-        (mounts_of_worlds_stand world stack.is) (locations_of_worlds_stand world stack.is) (ap is_some stack.inside)
+        (mounts_of_worlds_stand world stack.is) (locations_of_worlds_stand world stack.is) (cc stack.inside)
 
     -- the call is granted
     pub stack_grows : policy nat_eq fresh world name (MountPlain path flags) ≡ granted Done stacked_world
-    stack_grows = policy_by_judgement world fresh name stack.task (MountPlain path flags) stack.called
+    stack_grows = policy_by_judgement world fresh name (MountPlain path flags) stack.called
         (Ok (ToMountPlain stack.top flags)) (judged_by_room one stack fresh flags
         ∙ ap (λ b. unless ((b, M9) ∷ []) (Ok (ToMountPlain stack.top flags))) below)
         ∙ ap (λ left. granted Done (numbers_raised nat_eq world name [] left)) nothing_goes
@@ -106,7 +105,7 @@ module _ {world : World ℕ} {name : TaskName} {path word : List ℕ} (one : Has
 
     -- the invariants hold after the call
     kept : IsWorld nat_eq stacked_world × IsPlain stacked_world
-    kept = subst (λ (left : World ℕ). IsWorld nat_eq left × IsPlain left) (ap (λ outcome. outcome.world) stack_grows)
+    kept = subst (λ (left : World ℕ). IsWorld nat_eq left × IsPlain left) (cc stack_grows)
         (calls_keep_worlds world fresh name (MountPlain path flags) stack.is stack.plain serves refl refl)
 
     -- Mounts
@@ -115,7 +114,7 @@ module _ {world : World ℕ} {name : TaskName} {path word : List ℕ} (one : Has
 
     -- the new mount is the last one
     new_is_there : Among new stacked_world.mounts
-    new_is_there = subst (Among new) (sym mounts_are) (among-append_right world.mounts (new ∷ []) new (inl refl))
+    new_is_there = rw mounts_are (among-append_right world.mounts (new ∷ []) new (inl refl))
 
     -- it is found by its number
     new_is_found : mount_numbered nat_eq stacked_world new.number ≡ new
@@ -128,7 +127,7 @@ module _ {world : World ℕ} {name : TaskName} {path word : List ℕ} (one : Has
     -- so is its filesystem
     added_is_found : filesystem_numbered nat_eq stacked_world added.number ≡ added
     added_is_found = found_filesystem stacked_world.filesystems kept.0.files.one_filesystem added
-        (subst (Among added) (sym filesystems_are) (among-append_right world.filesystems (added ∷ []) added (inl refl)))
+        (rw filesystems_are (among-append_right world.filesystems (added ∷ []) added (inl refl)))
 
     -- its root is that of its filesystem
     new_node : node_at nat_eq stacked_world (root_of new) ≡ added.files.tree.node new.root
@@ -151,14 +150,17 @@ module _ {world : World ℕ} {name : TaskName} {path word : List ℕ} (one : Has
             let found = found_in (stands_at nat_eq (root_of new)) world.mounts child e in
             let attached = place_attached world (mounts_of_worlds_stand world stack.is) child found.0 (root_of new)
             (stands_there (root_of new) child found.1) in
-            absurd (true≢false (sym (eq-eqb new.number new.number refl)
-            ∙ other_number fresh world stack.top flags serves new.number (attached_is_mount world new.number attached)))
+            cc (
+              eq-eqb new.number new.number refl,
+              other_number fresh world stack.top flags serves new.number
+                  (attached_is_mount world new.number attached),
+            )
 
     -- nor does it stand on itself
     new_stands_apart : stands_at nat_eq (root_of new) new ≡ false
     new_stands_apart = ap (λ b. b && nat_eq new.root stack.top.node) (nat_eq_false_turned stack.top.mount new.number
         (other_number fresh world stack.top flags serves stack.top.mount
-        (attached_is_mount world stack.top.mount (ap is_some stack.inside))))
+        (attached_is_mount world stack.top.mount (cc stack.inside))))
 
     -- it is the topmost mount over the place of the stack
     new_is_topmost : topmost nat_eq stacked_world.mounts (record { mount = stack.task.root.mount; node = stack.object })
@@ -204,7 +206,7 @@ module _ {world : World ℕ} {name : TaskName} {path word : List ℕ} (one : Has
           is = kept.0;
           plain = kept.1;
           task = record stack.task { change = task_is.0 };
-          called = called_raised name name stack.task world.tasks stack.called ∙ ap (λ task. Some task) task_is.1;
+          called = cc (called_raised name name stack.task world.tasks stack.called, task_is.1);
           admin = stack.admin;
           object = stack.object;
           top = root_of new;

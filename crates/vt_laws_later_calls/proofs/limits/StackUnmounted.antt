@@ -77,16 +77,15 @@ module _ {world : World ℕ} {name : TaskName} {path word : List ℕ} (one : Has
 
   -- the mount is found by its number
   top_is_in : (one : World ℕ) → one ≡ with_mount → mount_numbered nat_eq one new.number ≡ new
-  top_is_in one same =
-      cc (new_is_found stack.top flags stack.is stack.plain serves stack.private (ap is_some
-      stack.inside) stacked.tasks stacked.namespaces stacked.change same_locations given_back_in_use)
+  top_is_in one same = cc (new_is_found stack.top flags stack.is stack.plain serves stack.private (cc stack.inside)
+      stacked.tasks stacked.namespaces stacked.change same_locations given_back_in_use)
 
   -- nothing stands on it, and no task uses it
   not_busy : (one : World ℕ) → one ≡ with_mount → is_busy nat_eq one new.number ≡ false
-  not_busy one same = ap (λ (w : World ℕ). is_busy nat_eq w new.number) same
-      ∙ (λ i. none_on_new stack.top flags stack.is stack.plain serves stack.private
-      (ap is_some stack.inside) stacked.tasks stacked.namespaces stacked.change same_locations given_back_in_use i
-      || none_uses_new stack.top flags stack.is stack.plain serves stack.private (ap is_some stack.inside)
+  not_busy one same =
+      ap (λ (w : World ℕ). is_busy nat_eq w new.number) same ∙ (λ i. none_on_new stack.top flags stack.is stack.plain
+      serves stack.private (cc stack.inside) stacked.tasks stacked.namespaces stacked.change same_locations
+      given_back_in_use i || none_uses_new stack.top flags stack.is stack.plain serves stack.private (cc stack.inside)
       stacked.tasks stacked.namespaces stacked.change same_locations given_back_in_use i)
 
   -- no rule refuses the unmount
@@ -94,9 +93,9 @@ module _ {world : World ℕ} {name : TaskName} {path word : List ℕ} (one : Has
   unfolding umount_permit
   judged_unmount =
       ap (λ b. unless ((b, K1) ∷ []) (and_then (walk_end (directory_walk nat_eq stacked grown.task path)) judged_at))
-      grown.admin ∙ ap (λ walk. and_then (walk_end walk) judged_at) (directory_is_walked stacked grown.task path
-      (end_of_one stacked grown.task path word one grown.object grown.top grown.way)
-      (one_word_leads stacked grown.task path word one grown.object grown.top grown.way) grown.destination)
+      grown.admin ∙ ap (λ walk. and_then (walk_end walk) judged_at) (directory_is_walked grown.task path
+      (end_of_one stacked grown.task one grown.way)
+      (one_word_leads stacked grown.task one grown.way) grown.destination)
       ∙ ap (λ namespace. judged_by namespace grown.top) grown.inside ∙ ap (judged_by (Some grown.task.namespace))
       (grown_top one stack fresh flags serves room)
       ∙ (λ i. unless ((not (eq-eqb grown.task.namespace grown.task.namespace refl i), M2)
@@ -125,7 +124,7 @@ module _ {world : World ℕ} {name : TaskName} {path word : List ℕ} (one : Has
   pub top_is_unmounted : (handed : Fresh ℕ)
       → policy nat_eq handed stacked name (Umount path) ≡ granted Done unmounted_world
   top_is_unmounted handed =
-      policy_by_judgement stacked handed name grown.task (Umount path) grown.called (Ok permit) judged_unmount
+      policy_by_judgement stacked handed name (Umount path) grown.called (Ok permit) judged_unmount
       ∙ ap (λ (w : World ℕ). granted Done (numbers_raised nat_eq stacked name [] (settled nat_eq
       (unmounted nat_eq w new.number)))) (stacked_world_is one stack fresh flags serves room)
       ∙ ap (λ left. granted Done (numbers_raised nat_eq stacked name [] left))

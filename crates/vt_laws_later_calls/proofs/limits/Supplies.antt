@@ -22,7 +22,7 @@ opening_has_first_numbers =
     (first 2 (omega arith)) (first 3 (omega arith))
   where
     first : (number : ℕ) → suc number ≤ 4 → is_handed_until 0 number ≡ true
-    first number low = ap (λ n. nat_le n 0) (row_first number low)
+    first number low = cc (row_first number low)
 
 -- a later line has been handed more
 pub more_are_handed : (last number : ℕ) → is_handed_until last number ≡ true → is_handed_until (suc last) number ≡ true

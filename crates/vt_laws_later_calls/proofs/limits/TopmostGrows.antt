@@ -3,23 +3,22 @@ use Rattle.std.proofs.Common.{◌≡◌, refl, ap, ◌∙◌, ℕ, zero, suc, na
 use Rattle.vt_spec.proofs.Common.{Location, Mount, chain, chain_ends, chain_goes_on, child_at, common_steps, find-append, last_or, none_is_some, root_of, stands_at, topmost}
 
 -- a chain that ended goes on by one step
-module _ {A : Type 0} (step grown : A → Option A) (end next : A)
-    (kept : (a b : A) → step a ≡ Some b → grown a ≡ Some b) (ended : grown end ≡ Some next)
-    (ends : grown next ≡ None) where
-  one_more_step : (n : ℕ) (a d : A) → a ≡ end → last_or d (chain (suc n) grown a) ≡ next
-  one_more_step zero a d is = cc (chain_goes_on grown zero a next (ap grown is ∙ ended))
-  one_more_step (suc n) a d is =
-      cc (chain_goes_on grown (suc n) a next (ap grown is ∙ ended), chain_ends grown n next ends)
+module _ {A : Type 0} (step : A → Option A) {grown : A → Option A} {end next : A}
+    (kept : (a b : A) → step a ≡ Some b → grown a ≡ Some b) (ended : grown end ≡ Some next) (ends : grown next ≡ None)
+  where
+    one_more_step : (n : ℕ) (a d : A) → a ≡ end → last_or d (chain (suc n) grown a) ≡ next
+    one_more_step zero a d is = cc (chain_goes_on grown zero a next (cc))
+    one_more_step (suc n) a d is = cc (chain_goes_on grown (suc n) a next (cc), chain_ends grown n next ends)
 
-  -- wherever it began
-  pub chain_grows : (n : ℕ) (a d e : A) → last_or d (chain n step a) ≡ end → last_or e (chain (suc n) grown a) ≡ next
-  chain_grows zero a d e is = one_more_step zero a e is
-  chain_grows (suc n) a d e is = by (step a) refl (chain_grows n)
-    where
-      by : (o : Option A) → step a ≡ o
-          → ((b f g : A) → last_or f (chain n step b) ≡ end → last_or g (chain (suc n) grown b) ≡ next)
-          → last_or e (chain (suc (suc n)) grown a) ≡ next
-      by o found later = grind (arith, common_steps, one_more_step, chain_ends, chain_goes_on, kept)
+    -- wherever it began
+    pub chain_grows : (n : ℕ) (a d e : A) → last_or d (chain n step a) ≡ end → last_or e (chain (suc n) grown a) ≡ next
+    chain_grows zero a d e is = one_more_step zero a e is
+    chain_grows (suc n) a d e is = by (step a) refl (chain_grows n)
+      where
+        by : (o : Option A) → step a ≡ o
+            → ((b f g : A) → last_or f (chain n step b) ≡ end → last_or g (chain (suc n) grown b) ≡ next)
+            → last_or e (chain (suc (suc n)) grown a) ≡ next
+        by o found later = grind (arith, common_steps, one_more_step, chain_ends, chain_goes_on, kept)
 
 module _ (mounts : List (Mount ℕ)) (new : Mount ℕ) (top : Location ℕ) where
   abbrev step_up : List (Mount ℕ) → Location ℕ → Option (Location ℕ)
@@ -42,10 +41,8 @@ module _ (mounts : List (Mount ℕ)) (new : Mount ℕ) (top : Location ℕ) wher
   topmost_is_new place is free stands nothing apart =
       let counted = length-append mounts (new ∷ []) in
       let longer : length (mounts ++ (new ∷ [])) ≡ suc (length mounts) = omega arith in
-      ap (λ n. last_or place (chain n (step_up (mounts ++ (new ∷ []))) place)) longer
-      ∙ chain_grows (step_up mounts) (step_up (mounts ++ (new ∷ []))) top (root_of new) kept
-      (ap (option_map root_of) (child_alone top true free stands))
-      (ap (option_map root_of) (child_alone (root_of new) false nothing apart)) (length mounts) place place place is
+      cc (chain_grows (step_up mounts) kept (ap (option_map root_of) (child_alone top true free stands))
+      (ap (option_map root_of) (child_alone (root_of new) false nothing apart)) (length mounts) place place place is)
     where
       kept : (a b : Location ℕ) → step_up mounts a ≡ Some b → step_up (mounts ++ (new ∷ [])) a ≡ Some b
       kept a b e = grind (arith, common_steps, none_is_some, child_stays)

@@ -84,7 +84,7 @@ module _ {world : World ℕ} {fresh : Fresh ℕ} (place : Location ℕ) (flags :
       where
         by : (mount : Mount ℕ) → Among mount world.mounts → (point : Option (Location ℕ)) → mount.mount_point ≡ point
             → stands_on nat_eq new.number mount ≡ false
-        by mount m None e = ap (λ o. holds_of (λ (at : Location ℕ). nat_eq new.number at.mount) o) e
+        by mount m None e = cc
         by mount m (Some at) e = cc (
             nat_eq_false_turned at.mount new.number (other_number fresh world place flags serves at.mount
             (attached_is_mount world at.mount (place_attached world (mounts_of_worlds_stand world is) mount m at e))))
@@ -105,10 +105,9 @@ module _ {world : World ℕ} {fresh : Fresh ℕ} (place : Location ℕ) (flags :
     -- the mount alone is detached
     placed_nowhere : without_place (with_new new) new.number ≡ with_new (detached new)
     placed_nowhere = ap (λ mounts. record (with_new new) { mounts = mounts })
-        (map-append (detached_if new.number) world.mounts (new ∷ [])
-        ∙ (λ i. (map_alike (detached_if new.number) (λ mount. mount) world.mounts
-        (λ mount m. ap (λ b. cond b (detached mount) mount) (other_mount mount m)) ∙ map-id world.mounts) i
-        ++ ap (λ b. cond b (detached new) new ∷ []) (eq-eqb new.number new.number refl) i))
+        (map-append (detached_if new.number) world.mounts (new ∷ []) ∙
+        (λ i. (map_alike (detached_if new.number) (λ mount. mount) world.mounts (λ mount m. cc (other_mount mount m)) ∙
+        map-id world.mounts) i ++ ap (λ b. cond b (detached new) new ∷ []) (eq-eqb new.number new.number refl) i))
 
     -- no group loses its members
     same_members : (group : ℕ)
@@ -122,8 +121,7 @@ module _ {world : World ℕ} {fresh : Fresh ℕ} (place : Location ℕ) (flags :
     no_group_is_lost : (mount : Mount ℕ) → Among mount (world.mounts ++ (detached new ∷ []))
         → lost_a_group nat_eq (with_new (detached new)) mount ≡ false
     no_group_is_lost mount m = ⊎_elim (λ old. by old (source_of mount.propagation) refl)
-        (λ last. ⊎_elim (λ same. ap (lost_a_group nat_eq (with_new (detached new))) same) (λ none. absurd none) last)
-        (among-append world.mounts (detached new ∷ []) mount m)
+        (λ last. ⊎_elim (λ same. cc) (λ none. absurd none) last) (among-append world.mounts (detached new ∷ []) mount m)
       where
         of_master : (group : ℕ) → Lives (has_members nat_eq world.mounts) world.master group
             → (is_lost_group nat_eq (with_new (detached new)) (Some group)
@@ -176,12 +174,9 @@ module _ {world : World ℕ} {fresh : Fresh ℕ} (place : Location ℕ) (flags :
 
     -- none has one
     no_layers : (number : ℕ) → list_any (has_its_layer number) (world.filesystems ++ (added ∷ [])) ≡ false
-    no_layers number = none_from_among (has_its_layer number) (world.filesystems ++ (added ∷ [])) (λ merged m.
-        ⊎_elim (λ old. ap (λ overlay. overlay_or false (λ one.
-        list_any (λ (layer : Layer ℕ). nat_eq number layer.filesystem)
-        (layers_of one)) overlay && is_mounted nat_eq without_new merged.number) (no_overlay world plain merged old))
-        (λ last. ⊎_elim (λ same. ap (has_its_layer number) same) (λ none. absurd none) last)
-        (among-append world.filesystems (added ∷ []) merged m))
+    no_layers number = none_from_among (has_its_layer number) (world.filesystems ++ (added ∷ []))
+        (λ merged m. ⊎_elim (λ old. cc (no_overlay world plain merged old))
+        (λ last. ⊎_elim (λ same. cc) (λ none. absurd none) last) (among-append world.filesystems (added ∷ []) merged m))
 
     -- each filesystem that was there stays
     filesystem_stays_alive : (filesystem : Filesystem ℕ) → Among filesystem world.filesystems
@@ -204,19 +199,16 @@ module _ {world : World ℕ} {fresh : Fresh ℕ} (place : Location ℕ) (flags :
     -- no task uses the mount
     pub none_uses_new : is_used nat_eq (with_new new) (going nat_eq (with_new new)
         (mount_numbered nat_eq (with_new new) new.number)) ≡ false
-    none_uses_new = ap (λ mount. is_used nat_eq (with_new new) (going nat_eq (with_new new) mount)) new_is_found
-        ∙ ap (λ (mount : Mount ℕ). is_used nat_eq (with_new new)
-        (going_from nat_eq (with_new new) new place (is_shared mount.propagation)))
-        (found-append world.mounts (new ∷ []) place.mount (attached_is_mount world place.mount attached))
-        ∙ ap (λ kind. is_used nat_eq (with_new new)
-        (going_from nat_eq (with_new new) new place (is_shared kind))) private
-        ∙ ap (list_any (λ location. is_among nat_eq location.mount (new.number ∷ []))) same_locations
-        ∙ none_from_among (λ (location : Location ℕ). is_among nat_eq location.mount (new.number ∷ []))
-        (all_locations world) (λ location m. ap (λ b. b || false)
-        (other_number fresh world place flags serves location.mount
+    none_uses_new = ap (λ mount. is_used nat_eq (with_new new) (going nat_eq (with_new new) mount)) new_is_found ∙
+        ap (λ (mount : Mount ℕ). is_used nat_eq (with_new new) (going_from nat_eq (with_new new) new place
+        (is_shared mount.propagation))) (found-append world.mounts (new ∷ []) place.mount
+        (attached_is_mount world place.mount attached)) ∙ ap (λ kind. is_used nat_eq (with_new new)
+        (going_from nat_eq (with_new new) new place (is_shared kind))) private ∙
+        ap (list_any (λ location. is_among nat_eq location.mount (new.number ∷ []))) same_locations ∙ none_from_among
+        (λ (location : Location ℕ). is_among nat_eq location.mount (new.number ∷ [])) (all_locations world)
+        (λ location m. cc (other_number fresh world place flags serves location.mount
         (among_from_list_all (λ (at : Location ℕ). is_among nat_eq at.mount (numbers_of world.mounts))
-        (all_locations world)
-        (locations_of_worlds_stand world is) location m)))
+        (all_locations world) (locations_of_worlds_stand world is) location m)))
 
     -- the sweep after the unmount leaves the world before, with these tasks
     pub unmount_gives_back : settled nat_eq (unmounted nat_eq (with_new new) new.number) ≡ before

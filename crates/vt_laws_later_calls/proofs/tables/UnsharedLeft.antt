@@ -20,10 +20,9 @@ use Rattle.vt_laws_trees.proofs.trees.TreesTasks.{called_there}
 only_one : {A : Type 0} (test : A → A → Bool) (xs : List A) → any_pair test xs ≡ false → (a b : A) → Among a xs
     → Among b xs → test a b ≡ true → test b a ≡ true → a ≡ b
 only_one test [] apart a b m n e f = absurd m
-only_one test (first ∷ rest) apart a b m n e f = ⊎_elim (λ same. ⊎_elim (λ too. same ∙ sym too)
-    (λ later. absurd (true≢false (sym e ∙ ap (λ x. test x b) same ∙ none_among (test first) rest parts.0 b later))) n)
-    (λ before. ⊎_elim
-    (λ too. absurd (true≢false (sym f ∙ ap (λ x. test x a) too ∙ none_among (test first) rest parts.0 a before)))
+only_one test (first ∷ rest) apart a b m n e f =
+    ⊎_elim (λ same. ⊎_elim (λ too. cc) (λ later. cc (none_among (test first) rest parts.0 b later)) n)
+    (λ before. ⊎_elim (λ too. cc (none_among (test first) rest parts.0 a before))
     (λ later. only_one test rest parts.1 a b before later e f) n) m
   where
     parts : (list_any (test first) rest ≡ false) × (any_pair test rest ≡ false)
@@ -61,20 +60,21 @@ module _ {world : World ℕ} {fresh : Fresh ℕ} {task : Task ℕ} (is : IsWorld
   own_name = (bytes_decides task.name task.name).1 refl
 
   pub moved_there : Among moved base.tasks
-  moved_there = subst (λ t. Among t base.tasks) (ap (λ b. cond b moved task) own_name)
-      (among-map (replaced_if_called moved) world.tasks task (called_there world.tasks task.name task called))
+  moved_there = subst (λ t. Among t base.tasks) (cc own_name) (among-map (replaced_if_called moved) world.tasks task
+      (called_there world.tasks task.name task called))
 
   -- a task of another name stays
   pub other_there : (other : Task ℕ) → Among other world.tasks → same_name task.name other.name ≡ false
       → Among other base.tasks
-  other_there other m e = subst (λ t. Among t base.tasks) (ap (λ b. cond b moved other) e)
-      (among-map (replaced_if_called moved) world.tasks other m)
+  other_there other m e =
+      rw (← ap (λ b. cond b moved other) e) (among-map (replaced_if_called moved) world.tasks other m)
 
   pub that_task : (other : Task ℕ) → Among other world.tasks → same_name task.name other.name ≡ true → other ≡ task
   that_task other m e = only_one (λ (a b : Task ℕ). same_name a.name b.name) world.tasks is.tasks.one_task other task m
-      (called_there world.tasks task.name task called)
-      (ap (λ n. same_name other.name n) (same_task_name task.name other.name e)
-      ∙ (bytes_decides other.name other.name).1 refl) e
+      (called_there world.tasks task.name task called) (cc (
+        same_task_name task.name other.name e,
+        (bytes_decides other.name other.name).1 refl,
+      )) e
 
   -- Namespaces that end
 
@@ -90,11 +90,13 @@ module _ {world : World ℕ} {fresh : Fresh ℕ} {task : Task ℕ} (is : IsWorld
   pub not_ended : (namespace : Namespace ℕ) (other : Task ℕ) (mount : Mount ℕ) → Among namespace base.namespaces
       → Among other base.tasks → namespace.number ≡ other.namespace → mount.namespace ≡ Some namespace.number
       → is_in_ended nat_eq base mount ≡ false
-  not_ended namespace other mount m n e f = ap ended_by f
-      ∙ ap not (any_from_among (is_kept namespace.number) base.namespaces namespace m
-      (ap (λ b. b && has_tasks nat_eq base namespace) (eq-eqb namespace.number namespace.number refl)
-      ∙ any_from_among (λ (t : Task ℕ). nat_eq namespace.number t.namespace) base.tasks other n
-      (eq-eqb namespace.number other.namespace e)))
+  not_ended namespace other mount m n e f = ap ended_by f ∙ ap not (any_from_among (is_kept namespace.number)
+      base.namespaces namespace m (cc (
+        eq-eqb namespace.number namespace.number refl,
+        any_from_among
+            (λ (t : Task ℕ). nat_eq namespace.number t.namespace) base.tasks other n
+            (eq-eqb namespace.number other.namespace e),
+      )))
     where
       is_kept : ℕ → Namespace ℕ → Bool
       is_kept number namespace = nat_eq number namespace.number && has_tasks nat_eq base namespace
@@ -136,17 +138,15 @@ module _ {world : World ℕ} {fresh : Fresh ℕ} {task : Task ℕ} (is : IsWorld
   -- what goes has a copy
   pub going_is_copied : (mount : Mount ℕ) → Among mount base.mounts → is_going nat_eq ended mount.number ≡ true
       → Among mount copied
-  going_is_copied mount m going = ⊎_elim (λ old. by old mount.namespace refl)
-      (λ copy_m. let from = among-from_map copy copied mount copy_m in
-      absurd (true≢false (sym going ∙ ap (λ (x : Mount ℕ). is_going nat_eq ended x.number) from.2
-      ∙ copy_stays from.0 from.1))) (among-append world.mounts (map copy copied) mount m)
+  going_is_copied mount m going =
+      ⊎_elim (λ old. by old mount.namespace refl) (λ copy_m. let from = among-from_map copy copied mount copy_m in cc
+      (from.2, copy_stays from.0 from.1)) (among-append world.mounts (map copy copied) mount m)
     where
       inside : is_in_ended nat_eq base mount ≡ true
-      inside = ⊎_elim (λ e. e) (λ e. absurd (true≢false (sym going ∙ stays_if mount m e)))
-          (cases_Bool (is_in_ended nat_eq base mount))
+      inside = ⊎_elim (λ e. e) (λ e. cc (stays_if mount m e)) (cases_Bool (is_in_ended nat_eq base mount))
 
       by : Among mount world.mounts → (o : Option ℕ) → mount.namespace ≡ o → Among mount copied
-      by old None e = absurd (true≢false (sym inside ∙ ap ended_by e))
+      by old None e = absurd (cc inside)
       by old (Some number) e =
           let at = were.listed.of_mounts mount old number e in
           let live = were.live at.0 at.1 in
@@ -190,10 +190,8 @@ module _ {world : World ℕ} {fresh : Fresh ℕ} {task : Task ℕ} (is : IsWorld
 
       stays_member : (mount : Mount ℕ) → Among mount base.mounts → is_member_of nat_eq group mount ≡ true
           → is_going nat_eq ended mount.number ≡ false → has_members nat_eq without.mounts group ≡ true
-      stays_member mount m member isnt =
-          any_from_among (is_member_of nat_eq group) without.mounts (change mount)
-          (among-map change base.mounts mount m)
-          (ap (is_member_of nat_eq group) (MountingTaken.stays_there base ended lasting mount isnt) ∙ member)
+      stays_member mount m member isnt = any_from_among (is_member_of nat_eq group) without.mounts (change mount)
+          (among-map change base.mounts mount m) (cc (MountingTaken.stays_there base ended lasting mount isnt))
 
       by : (mount : Mount ℕ) → Among mount base.mounts → is_member_of nat_eq group mount ≡ true
           → (b : Bool) → is_going nat_eq ended mount.number ≡ b → has_members nat_eq without.mounts group ≡ true
@@ -213,8 +211,8 @@ module _ {world : World ℕ} {fresh : Fresh ℕ} {task : Task ℕ} (is : IsWorld
 
   master_kept : (group : ℕ) → Lives (has_members nat_eq base.mounts) base.master group
       → is_lost_group nat_eq without (base.master group) ≡ false
-  master_kept group (has_no_master it has e) = ap (is_lost_group nat_eq without) e
-  master_kept group (has_master it above has e later) = ap (is_lost_group nat_eq without) e ∙ group_kept above later
+  master_kept group (has_no_master it has e) = cc
+  master_kept group (has_master it above has e later) = cc (group_kept above later)
 
   not_lost : (mount : Mount ℕ) → Among mount base.mounts → lost_a_group nat_eq without (change mount) ≡ false
   not_lost mount m = by (is_going nat_eq ended mount.number) refl
@@ -227,9 +225,9 @@ module _ {world : World ℕ} {fresh : Fresh ℕ} {task : Task ℕ} (is : IsWorld
       of_source o e = grind (arith, common_steps, living, group_kept, master_kept)
 
       by : (b : Bool) → is_going nat_eq ended mount.number ≡ b → lost_a_group nat_eq without (change mount) ≡ false
-      by true e = ap (lost_a_group nat_eq without) (goes mount e)
-      by false e = ap (lost_a_group nat_eq without) (MountingTaken.stays_there base ended lasting mount e)
-          ∙ of_source (source_of mount.propagation) refl
+      by true e = cc (goes mount e)
+      by false e =
+          cc (MountingTaken.stays_there base ended lasting mount e, of_source (source_of mount.propagation) refl)
 
   abbrev pub ended_world : World ℕ
   ended_world = record without { namespaces = lasting }
@@ -237,9 +235,8 @@ module _ {world : World ℕ} {fresh : Fresh ℕ} {task : Task ℕ} (is : IsWorld
   -- so no group is handed on
   pub ends_so : namespaces_ended nat_eq base ≡ ended_world
   ends_so = ap (λ b. record (regrouped_by nat_eq b without) { namespaces = lasting })
-      (none_from_among (lost_a_group nat_eq without) without.mounts (λ mount m.
-      let from = among-from_map change base.mounts mount m in
-      ap (lost_a_group nat_eq without) from.2 ∙ not_lost from.0 from.1))
+      (none_from_among (lost_a_group nat_eq without) without.mounts (λ mount m. let from = among-from_map change
+      base.mounts mount m in cc (from.2, not_lost from.0 from.1)))
 
   -- Mounts that live
 
@@ -261,14 +258,13 @@ module _ {world : World ℕ} {fresh : Fresh ℕ} {task : Task ℕ} (is : IsWorld
 
   pub shown : (mount : Mount ℕ) → Among mount base.mounts → Alive mount
       → mount_numbered nat_eq mounted mount.number ≡ change mount
-  shown mount m lives = ap (mount_numbered nat_eq mounted) (sym (same_number mount))
-      ∙ found_itself mounted.mounts one_mounted (change mount) (alive_there mount m lives)
+  shown mount m lives =
+      cc (same_number mount, found_itself mounted.mounts one_mounted (change mount) (alive_there mount m lives))
 
   pub lives_in : (mount : Mount ℕ) → is_going nat_eq ended mount.number ≡ false → is_some mount.namespace ≡ true
       → Alive mount
-  lives_in mount isnt inside =
-      or_left (is_some (change mount).namespace) (is_located nat_eq ended_world (change mount).number)
-      (ap is_some (MountingTaken.same_namespace base ended lasting false mount isnt) ∙ inside)
+  lives_in mount isnt inside = or_left (is_some (change mount).namespace) (is_located nat_eq ended_world
+      (change mount).number) (cc (MountingTaken.same_namespace base ended lasting false mount isnt, inside))
 
   lives_at : (mount : Mount ℕ) (location : Location ℕ) → Among location (all_locations base)
       → mount.number ≡ location.mount → Alive mount
@@ -287,9 +283,9 @@ module _ {world : World ℕ} {fresh : Fresh ℕ} {task : Task ℕ} (is : IsWorld
       ⊎ ((is_copied nat_eq copied location ≡ true) × Among (location_on_copy new_number location) (all_locations base))
   still_located location m =
       let from = among-from_flat_map locations_of world.tasks location m in
-      ⊎_elim (λ same. mine (subst (λ t. Among location (locations_of t)) (that_task from.0 from.1 same) from.2))
-      (λ another. inl (among-flat_map locations_of base.tasks from.0 location
-      (other_there from.0 from.1 another) from.2)) (cases_Bool (same_name task.name from.0.name))
+      ⊎_elim (λ same. mine (rw (← that_task from.0 from.1 same) from.2))
+      (λ another. inl (among-flat_map locations_of base.tasks from.0 location (other_there from.0 from.1 another)
+      from.2)) (cases_Bool (same_name task.name from.0.name))
     where
       Still : Location ℕ → Type 0
       Still at = Among at (all_locations base)
@@ -302,9 +298,8 @@ module _ {world : World ℕ} {fresh : Fresh ℕ} {task : Task ℕ} (is : IsWorld
       here at n = among-flat_map locations_of base.tasks moved at moved_there n
 
       mine : Among location (locations_of task) → Still location
-      mine n = ⊎_elim (λ root. subst Still (sym root)
-          (moves task.root (here (moved_location nat_eq copied new_number task.root) (inl refl)))) (λ rest. ⊎_elim
-          (λ directory. subst Still (sym directory)
+      mine n = ⊎_elim (λ root. rw root (moves task.root (here (moved_location nat_eq copied new_number task.root)
+          (inl refl)))) (λ rest. ⊎_elim (λ directory. subst Still (sym directory)
           (moves task.directory (here (moved_location nat_eq copied new_number task.directory) (inr (inl refl)))))
           (λ opened. inl (here location (inr (inr opened)))) rest) n
 
@@ -359,8 +354,7 @@ module _ {world : World ℕ} {fresh : Fresh ℕ} {task : Task ℕ} (is : IsWorld
       let one = any_among (λ (x : Mount ℕ). nat_eq number x.filesystem) world.mounts was in
       let other = stand_in one.0 one.1 in
       any_from_among (λ (x : Mount ℕ). nat_eq number x.filesystem) mounted.mounts (change other.image)
-      (alive_there other.image other.there other.alive)
-      (ap (nat_eq number) (same_filesystem other.image ∙ other.filesystem) ∙ one.2)
+      (alive_there other.image other.there other.alive) (cc (same_filesystem other.image, other.filesystem, one.2))
 
   filesystems_live : FilesystemsInUse mounted
   filesystems_live = list_all_from_among (filesystem_lives nat_eq mounted) world.filesystems (λ filesystem m.
@@ -382,12 +376,11 @@ module _ {world : World ℕ} {fresh : Fresh ℕ} {task : Task ℕ} (is : IsWorld
           (still_mounted filesystem.number here)
       by filesystem (inr layered) =
           let one = any_among (shows world filesystem) world.filesystems layered in
-          let parts = and_parts (has_layer_on nat_eq filesystem.number one.0)
-          (is_mounted nat_eq world one.0.number) one.2 in
-          or_right (is_mounted nat_eq mounted filesystem.number)
-          (list_any (shows mounted filesystem) world.filesystems)
+          let parts = and_parts (has_layer_on nat_eq filesystem.number one.0) (is_mounted nat_eq world one.0.number)
+          one.2 in
+          or_right (is_mounted nat_eq mounted filesystem.number) (list_any (shows mounted filesystem) world.filesystems)
           (any_from_among (shows mounted filesystem) world.filesystems one.0 one.1
-          (ap (λ b. b && is_mounted nat_eq mounted one.0.number) parts.0 ∙ still_mounted one.0.number parts.1))
+          (cc (parts.0, still_mounted one.0.number parts.1)))
 
   -- Places that are used still
 
@@ -414,8 +407,7 @@ module _ {world : World ℕ} {fresh : Fresh ℕ} {task : Task ℕ} (is : IsWorld
   -- what is shown at a number that a mount of the world has
   shown_by : (mount : Mount ℕ) → Among mount world.mounts → (location : Location ℕ) → mount.number ≡ location.mount
       → mount.filesystem ≡ (mount_at nat_eq world location).filesystem
-  shown_by mount m location e =
-      ap (λ (x : Mount ℕ). x.filesystem) (sym (itself mount m) ∙ ap (mount_numbered nat_eq world) e)
+  shown_by mount m location e = cc (itself mount m)
 
   of_copy : (mount : Mount ℕ) → Among mount copied → (location : Location ℕ) → mount.number ≡ location.mount
       → (mount_at nat_eq mounted (location_on_copy new_number location)).filesystem
@@ -427,9 +419,8 @@ module _ {world : World ℕ} {fresh : Fresh ℕ} {task : Task ℕ} (is : IsWorld
   of_itself : (mount : Mount ℕ) → Among mount world.mounts → Alive mount → (location : Location ℕ)
       → mount.number ≡ location.mount
       → (mount_at nat_eq mounted location).filesystem ≡ (mount_at nat_eq world location).filesystem
-  of_itself mount m lives location e = ap (λ n. (mount_numbered nat_eq mounted n).filesystem) (sym e)
-      ∙ ap (λ (x : Mount ℕ). x.filesystem) (shown mount (old_there mount m) lives)
-      ∙ same_filesystem mount ∙ shown_by mount m location e
+  of_itself mount m lives location e =
+      cc (shown mount (old_there mount m) lives, same_filesystem mount, shown_by mount m location e)
 
   of_location : (location : Location ℕ) → Among location (places_of world) → Among location (all_locations world)
       → SamePlace location
@@ -478,49 +469,47 @@ module _ {world : World ℕ} {fresh : Fresh ℕ} {task : Task ℕ} (is : IsWorld
 
       inside : (o : Option ℕ) → mount.namespace ≡ o → is_some mount.namespace ≡ true
       inside None f = absurd (placed_inside world is.mounts mount m place e f)
-      inside (Some namespace) f = ap is_some f
+      inside (Some namespace) f = cc
 
       outside : is_going nat_eq ended mount.number ≡ false → is_in_ended nat_eq base mount ≡ false
-      outside isnt = false_from_ne_true (is_in_ended nat_eq base mount) (λ it.
-          true≢false (sym (goes_if mount (old_there mount m) it) ∙ isnt))
+      outside isnt = false_from_ne_true (is_in_ended nat_eq base mount) (λ it. true≢false
+          (cc (goes_if mount (old_there mount m) it)))
 
       by : (b : Bool) → is_going nat_eq ended mount.number ≡ b → SamePlace place
       by true going =
           let c = going_is_copied mount (old_there mount m) going in
           let below_copied : Among below.parent copied = among-filter (is_in task.namespace) world.mounts below.parent
-          below.there (ap (holds_of (nat_eq task.namespace)) (sym below.namespace)
-          ∙ (among-from_filter (is_in task.namespace) world.mounts mount c).1) in
+          below.there (cc (below.namespace, (among-from_filter (is_in task.namespace) world.mounts mount c).1)) in
           let on : is_going nat_eq ended (new_number place.mount) ≡ false =
-          ap (λ n. is_going nat_eq ended (new_number n)) (sym below.number) ∙ copy_stays below.parent below_copied in (
+          cc (below.number, copy_stays below.parent below_copied) in (
             location_on_copy new_number place,
             point_place (copy mount) (copy_there mount c) (copy_lives mount c) (location_on_copy new_number place)
                 (MountingTaken.same_place base ended lasting false (copy mount) (location_on_copy new_number place)
-                (ap (option_map (location_on_copy new_number)) e) (copy_stays mount c) on),
+                (cc) (copy_stays mount c) on),
             refl,
             of_copy below.parent below_copied place below.number,
           )
       by false isnt =
           let below_stays : is_going nat_eq ended below.parent.number ≡ false =
           stays_if below.parent (old_there below.parent below.there)
-          (ap ended_by (sym below.namespace) ∙ outside isnt) in
+          (cc (below.namespace, outside isnt)) in
           let in_one = inside mount.namespace refl in (
             place,
             point_place mount (old_there mount m) (lives_in mount isnt in_one) place
                 (MountingTaken.same_place base ended lasting false mount place e isnt
-                (ap (is_going nat_eq ended) (sym below.number) ∙ below_stays)),
+                (cc below.number)),
             refl,
             of_itself below.parent below.there
-                (lives_in below.parent below_stays (ap is_some (sym below.namespace) ∙ in_one)) place below.number,
+                (lives_in below.parent below_stays (cc below.namespace)) place below.number,
           )
 
   same_place : (location : Location ℕ) → Among location (places_of world) → SamePlace location
-  same_place location m = ⊎_elim (λ front. ⊎_elim (λ at. of_location location m at)
-      (λ root. let from = among-from_map root_of world.mounts location root in
-      subst SamePlace (sym from.2) (of_root from.0 from.1))
-      (among-append (all_locations world) (map root_of world.mounts) location front))
-      (λ point. let from = among-from_filter_map (λ (x : Mount ℕ). x.mount_point) world.mounts location point in
-      of_point from.0 from.1 location from.2)
-      (among-append (all_locations world ++ map root_of world.mounts) (points world.mounts) location m)
+  same_place location m =
+      ⊎_elim (λ front. ⊎_elim (λ at. of_location location m at) (λ root. let from = among-from_map root_of world.mounts
+      location root in rw from.2 (of_root from.0 from.1)) (among-append (all_locations world) (map root_of world.mounts)
+      location front)) (λ point. let from = among-from_filter_map (λ (x : Mount ℕ). x.mount_point) world.mounts location
+      point in of_point from.0 from.1 location from.2) (among-append (all_locations world ++ map root_of world.mounts)
+      (points world.mounts) location m)
 
   -- Inodes
 
@@ -567,8 +556,12 @@ module _ {world : World ℕ} {fresh : Fresh ℕ} {task : Task ℕ} (is : IsWorld
           (among_numbers number was there) in
           let here = among-from_filter shows (places_of world) from.0 from.1 in
           let other = same_place from.0 here.0 in
-          ap (is_inode_used mounted filesystem) (from.2 ∙ sym other.2) ∙ used_at mounted filesystem other.0 other.1
-          (eqb-true filesystem.number (mount_at nat_eq world from.0).filesystem here.1 ∙ sym other.3)
+          cc (
+            from.2,
+            other.2,
+            used_at mounted filesystem other.0 other.1
+                (eqb-true filesystem.number (mount_at nat_eq world from.0).filesystem here.1 ∙ sym other.3),
+          )
 
   inodes_live : InodesInUse mounted
   inodes_live = all_from_among (λ (f : Filesystem ℕ). list_all (is_inode_used mounted f) f.files.numbers ≡ true)

@@ -34,8 +34,8 @@ filter_left p q f (y ∷ ys) same out =
   where
     skipped : (c : Bool) → q (f y) ≡ c → p (f y) ≡ false
         → filter p (filter q (f y ∷ map f ys)) ≡ filter p (filter q (map f ys))
-    skipped true g h = ap (filter p) (filter_here q (f y) (map f ys) g) ∙ filter_skip p (f y) (filter q (map f ys)) h
-    skipped false g h = ap (filter p) (filter_skip q (f y) (map f ys) g)
+    skipped true g h = cc (filter_here q (f y) (map f ys) g, filter_skip p (f y) (filter q (map f ys)) h)
+    skipped false g h = cc (filter_skip q (f y) (map f ys) g)
 
     by : (b : Bool) → p y ≡ b → filter p (filter q (map f ys)) ≡ filter p ys
         → filter p (filter q (f y ∷ map f ys)) ≡ filter p (y ∷ ys)
@@ -62,7 +62,7 @@ module _ (before later : World ℕ) (namespace : ℕ) (filesystems : later.files
   groups_alike mount m = by mount.propagation refl
     where
       by : (kind : Propagation ℕ) → mount.propagation ≡ kind → groups_in_type later kind ≡ groups_in_type before kind
-      by (Shared group) e = ap (λ o. group ∷ option_to_list o) (masters mount m group e)
+      by (Shared group) e = cc (masters mount m group e)
       by (Slave group) e = refl
       by Private e = refl
       by Unbindable e = refl
@@ -71,18 +71,16 @@ module _ (before later : World ℕ) (namespace : ℕ) (filesystems : later.files
   seen = groups_seen nat_eq before list
 
   same_seen : groups_seen nat_eq later list ≡ seen
-  same_seen = ap (each_once nat_eq) (flat_map_alike (groups_shown later) (groups_shown before) list groups_alike)
+  same_seen = cc (flat_map_alike (groups_shown later) (groups_shown before) list groups_alike)
 
   type_alike : (mount : Mount ℕ) → Among mount list
       → type_line nat_eq later (groups_seen nat_eq later list) mount.propagation
       ≡ type_line nat_eq before seen mount.propagation
-  type_alike mount m = ap (λ s. type_line nat_eq later s mount.propagation) same_seen ∙ by mount.propagation refl
+  type_alike mount m = cc (same_seen, by mount.propagation refl)
     where
       by : (kind : Propagation ℕ) → mount.propagation ≡ kind
           → type_line nat_eq later seen kind ≡ type_line nat_eq before seen kind
-      by (Shared group) e =
-          ap (λ o. SharedLine (number_among nat_eq seen group) (option_map (number_among nat_eq seen) o))
-          (masters mount m group e)
+      by (Shared group) e = cc (masters mount m group e)
       by (Slave group) e = refl
       by Private e = refl
       by Unbindable e = refl
@@ -119,17 +117,14 @@ module _ (before later : World ℕ) (namespace : ℕ) (filesystems : later.files
   }
 
   lines_alike : mount_lines nat_eq later namespace ≡ mount_lines nat_eq before namespace
-  lines_alike = ap (λ (l : List (Mount ℕ)). map (mount_line nat_eq later l) l) mounts
-      ∙ map_alike (mount_line nat_eq later list) (mount_line nat_eq before list) list line_alike
+  lines_alike = cc (map_alike (mount_line nat_eq later list) (mount_line nat_eq before list) list line_alike)
 
 -- a task is found by its name where each has the name that it had
 find_named : (f : Task ℕ → Task ℕ) → ((t : Task ℕ) → (f t).name ≡ t.name) → (name : TaskName) (tasks : List (Task ℕ))
     → find (λ (t : Task ℕ). same_name name t.name) (map f tasks)
     ≡ option_map f (find (λ (t : Task ℕ). same_name name t.name) tasks)
 find_named f names name [] = refl
-find_named f names name (t ∷ tasks) =
-    ap (λ n. cond (same_name name n) (Some (f t)) (find (λ (x : Task ℕ). same_name name x.name) (map f tasks)))
-    (names t) ∙ by (same_name name t.name) (find_named f names name tasks)
+find_named f names name (t ∷ tasks) = cc (names t, by (same_name name t.name) (find_named f names name tasks))
   where
     by : (b : Bool) → find (λ (x : Task ℕ). same_name name x.name) (map f tasks)
         ≡ option_map f (find (λ (x : Task ℕ). same_name name x.name) tasks)
@@ -207,16 +202,19 @@ module _ {world : World ℕ} {fresh : Fresh ℕ} {task : Task ℕ} (is : IsWorld
 
         points : (o : Option (Location ℕ)) → mount.mount_point ≡ o
             → option_map (mount_point_left nat_eq base ended) mount.mount_point ≡ mount.mount_point
-        points None f = ap (option_map (mount_point_left nat_eq base ended)) f ∙ sym f
+        points None f = cc
         points (Some place) f =
             let on = below mount m place f in
-            sym (ap (λ (x : Mount ℕ). x.mount_point) (MountingTaken.stays_there base ended lasting mount isnt))
-            ∙ MountingTaken.same_place base ended lasting false mount place f isnt
-            (ap (is_going nat_eq ended) (sym on.number) ∙ stays on.parent on.there (sym on.namespace ∙ e)) ∙ sym f
+            cc (
+              MountingTaken.stays_there base ended lasting mount isnt,
+              MountingTaken.same_place base ended lasting
+                  false mount place f isnt (ap (is_going nat_eq ended) (sym on.number) ∙ stays on.parent on.there
+                  (sym on.namespace ∙ e)),
+            )
 
     lives : (mount : Mount ℕ) → Among mount base.mounts → IsInside mount
         → UnsharedLeft.Alive is serves called mount
-    lives mount m e = UnsharedLeft.lives_in is serves called mount (stays mount m e) (ap is_some e)
+    lives mount m e = UnsharedLeft.lives_in is serves called mount (stays mount m e) (cc)
 
     mounts_same : mounts_of nat_eq last namespace.number ≡ mounts_of nat_eq base namespace.number
     mounts_same = filter_left (is_in namespace.number)
@@ -226,9 +224,8 @@ module _ {world : World ℕ} {fresh : Fresh ℕ} {task : Task ℕ} (is : IsWorld
       where
         by : (mount : Mount ℕ) → is_in namespace.number mount ≡ false → (b : Bool)
             → is_going nat_eq ended mount.number ≡ b → is_in namespace.number (change mount) ≡ false
-        by mount e true goes = ap (is_in namespace.number) (UnsharedLeft.goes is serves called mount goes)
-        by mount e false isnt = ap (is_in namespace.number) (MountingTaken.stays_there base ended lasting mount isnt)
-            ∙ e
+        by mount e true goes = cc (UnsharedLeft.goes is serves called mount goes)
+        by mount e false isnt = cc (MountingTaken.stays_there base ended lasting mount isnt)
 
     found_parent : {mount : Mount ℕ} (place : Location ℕ) (on : Parent base mount place) → IsInside on.parent
         → mount_numbered nat_eq last place.mount ≡ mount_numbered nat_eq base place.mount
@@ -243,24 +240,24 @@ module _ {world : World ℕ} {fresh : Fresh ℕ} {task : Task ℕ} (is : IsWorld
         let from = among-from_filter (is_in namespace.number) base.mounts mount m in
         let on = below mount from.0 place e in
         let too : IsInside on.parent = sym on.namespace ∙ inside mount from.1 in
-        let left : Among on.parent mounted.mounts = subst (λ x. Among x mounted.mounts)
-        (unchanged on.parent on.there too)
+        let left : Among on.parent mounted.mounts = rw (← unchanged on.parent on.there too)
         (UnsharedLeft.alive_there is serves called on.parent on.there (lives on.parent on.there too)) in
-        numbered_found last.mounts place.mount
-        (subst (λ n. is_mount last n ≡ true) on.number (is_one_of last.mounts on.parent left))
-        ∙ ap Some (found_parent place on too)
-        ∙ sym (numbered_found base.mounts place.mount
-        (subst (λ n. is_mount base n ≡ true) on.number (is_one_of base.mounts on.parent on.there)))
+        cc (
+          numbered_found last.mounts place.mount (subst (λ n. is_mount last n ≡ true) on.number
+              (is_one_of last.mounts on.parent left)),
+          found_parent place on too,
+          numbered_found base.mounts place.mount
+              (subst (λ n. is_mount base n ≡ true) on.number (is_one_of base.mounts on.parent on.there)),
+        )
 
     masters_same : (mount : Mount ℕ) → Among mount (mounts_of nat_eq base namespace.number) → (group : ℕ)
         → mount.propagation ≡ Shared group → last.master group ≡ base.master group
     masters_same mount m group e =
         let from = among-from_filter (is_in namespace.number) base.mounts mount m in
         let it = inside mount from.1 in
-        ap (λ b. cond b (base.master group) None)
-        (any_from_among (is_member_of nat_eq group) mounted.mounts (change mount)
-        (UnsharedLeft.alive_there is serves called mount from.0 (lives mount from.0 it))
-        (ap (is_member_of nat_eq group) (unchanged mount from.0 it) ∙ shared_member group mount e))
+        ap (λ b. cond b (base.master group) None) (any_from_among (is_member_of nat_eq group) mounted.mounts
+        (change mount) (UnsharedLeft.alive_there is serves called mount from.0 (lives mount from.0 it))
+        (cc (unchanged mount from.0 it, shared_member group mount e)))
 
     reads_so : mount_lines nat_eq last namespace.number ≡ mount_lines nat_eq base namespace.number
     reads_so = lines_alike base last namespace.number
@@ -313,18 +310,23 @@ module _ {world : World ℕ} {fresh : Fresh ℕ} {task : Task ℕ} (is : IsWorld
   module _ (lists_caller : UnshareListsTheSame) (lists_others : UnshareListsOthersTheSame) where
     lines_stay : (t : Task ℕ) → Among t world.tasks
         → mount_lines nat_eq last (after_it t).namespace ≡ mount_lines nat_eq world t.namespace
-    lines_stay t m = ⊎_elim (λ e. ap (mount_lines nat_eq last) (namespace_of_caller t e)
-        ∙ reads_so new moved (UnsharedLeft.new_there is serves called)
-        (UnsharedLeft.moved_there is serves called) refl ∙ lists_caller world fresh task serves is.mounts
-        (new_namespace_is_empty world fresh serves is.namespaces.mounts_listed)
-        ∙ ap (λ (x : Task ℕ). mount_lines nat_eq world x.namespace)
-        (sym (UnsharedLeft.that_task is serves called t m e)))
-        (λ e. let at = (UnsharedLeft.were is serves called).listed.of_tasks t m in
-        ap (mount_lines nat_eq last) (namespace_of_other t e ∙ at.2)
-        ∙ reads_so at.0 t (among-append_left world.namespaces (new ∷ []) at.0 at.1)
-        (UnsharedLeft.other_there is serves called t m e) (sym at.2) ∙ ap (mount_lines nat_eq base) (sym at.2)
-        ∙ lists_others world fresh task t.namespace serves is.mounts (new_is_unused t.namespace at))
-        (cases_Bool (same_name task.name t.name))
+    lines_stay t m =
+        ⊎_elim (λ e. cc (
+          namespace_of_caller t e,
+          reads_so new moved (UnsharedLeft.new_there is serves called)
+              (UnsharedLeft.moved_there is serves called) refl,
+          lists_caller world fresh task serves is.mounts
+              (new_namespace_is_empty world fresh serves is.namespaces.mounts_listed),
+          UnsharedLeft.that_task is serves called
+              t m e,
+        )) (λ e. let at = (UnsharedLeft.were is serves called).listed.of_tasks t m in cc (
+          namespace_of_other t e,
+          at.2,
+          reads_so at.0 t (among-append_left world.namespaces (new ∷ []) at.0 at.1)
+              (UnsharedLeft.other_there is serves called t m e) (sym at.2),
+          lists_others world fresh task t.namespace serves
+              is.mounts (new_is_unused t.namespace at),
+        )) (cases_Bool (same_name task.name t.name))
 
     told_alike : (later : Fresh ℕ) (other : TaskName)
         → (policy nat_eq later last other ListMounts).answer ≡ (policy nat_eq later world other ListMounts).answer
@@ -334,29 +336,32 @@ module _ {world : World ℕ} {fresh : Fresh ℕ} {task : Task ℕ} (is : IsWorld
 module _ {world : World ℕ} {fresh : Fresh ℕ} {name : TaskName} (is : IsWorld nat_eq world)
     (serves : Serves nat_eq world fresh) (did : IsPermitted world fresh name Unshare Done) where
   called_own : task_called world did.task.name ≡ Some did.task
-  called_own = ap (task_called world) (sym (name_found world name did.task did.called)) ∙ did.called
+  called_own = cc (name_found world name did.task did.called, did.called)
 
   left_so : (policy nat_eq fresh world name Unshare).world ≡ last is serves called_own name
-  left_so = did.left ∙ ap (λ permit. numbers_raised nat_eq world name (filesystems_changed nat_eq world permit)
-      (settled nat_eq (apply nat_eq fresh world did.task permit).world)) (permit_is _ _ did.task did.permit did.granted)
-      ∙ ap (numbers_raised nat_eq world name []) (UnsharedLeft.settles_so is serves called_own)
+  left_so = cc (did.left, permit_is _ _ did.task did.permit did.granted, UnsharedLeft.settles_so is serves called_own)
 
 pub unshare_then_mounts : UnshareListsTheSame → UnshareListsOthersTheSame → UnshareThenMounts
 unshare_then_mounts lists_caller lists_others world fresh later name other is serves granted =
     let did = permitted world fresh name Unshare Done refl granted in
-    ap (λ w. (policy nat_eq later w other ListMounts).answer) (left_so is serves did)
-    ∙ told_alike is serves (called_own is serves did) name lists_caller lists_others later other
+    cc (
+      left_so is serves did,
+      told_alike is serves (called_own is serves did) name lists_caller lists_others later
+          other,
+    )
 
 pub unshare_gives_a_namespace : UnshareGivesANamespace
 unshare_gives_a_namespace world fresh name task is serves granted called =
     let did = permitted world fresh name Unshare Done refl granted in
     let own = called_own is serves did in
     let now : Some (after_it is serves own name did.task) ≡ Some task =
-    sym (called_last is serves own name name ∙ ap (option_map (after_it is serves own name)) did.called)
-    ∙ ap (λ w. task_called w name) (sym (left_so is serves did)) ∙ called in
-    let number : task.namespace ≡ evens fresh 0 = ap (λ (t : Task ℕ). t.namespace) (sym (same_Some _ task now))
-    ∙ namespace_of_caller is serves own name did.task ((bytes_decides did.task.name did.task.name).1 refl) in
-    false_from_ne_true (is_listed nat_eq world task.namespace) (λ e.
-    let at = listed_in world task.namespace e in
-    true≢false (sym (eq-eqb task.namespace (evens fresh 0) number)
-    ∙ new_is_unused is serves own name task.namespace at))
+    sym (called_last is serves own name name ∙ ap (option_map (after_it is serves own name)) did.called) ∙
+    ap (λ w. task_called w name) (sym (left_so is serves did)) ∙ called in
+    let number : task.namespace ≡ evens fresh 0 = cc (
+      same_Some _ task now,
+      namespace_of_caller is serves own name
+          did.task ((bytes_decides did.task.name did.task.name).1 refl),
+    ) in
+    false_from_ne_true (is_listed nat_eq world task.namespace) (λ e. let at = listed_in world task.namespace e in
+    true≢false (sym (eq-eqb task.namespace (evens fresh 0) number) ∙ new_is_unused is serves own name task.namespace
+    at))

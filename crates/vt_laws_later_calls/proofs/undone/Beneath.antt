@@ -31,8 +31,7 @@ use Rattle.vt_laws_mounts.proofs.propagation.OneAttached.{one_of, later_number, 
 -- a mount that does not stand on itself is the topmost one over its root, where it is alone
 top_alone : (mount : Mount ℕ) → stands_at nat_eq (root_of mount) mount ≡ false
     → topmost nat_eq (mount ∷ []) (root_of mount) ≡ root_of mount
-top_alone mount e = ap (last_or (root_of mount))
-    (chain_ends (λ here. option_map root_of (child_at nat_eq (mount ∷ []) here)) zero (root_of mount)
+top_alone mount e = cc (chain_ends (λ here. option_map root_of (child_at nat_eq (mount ∷ []) here)) zero (root_of mount)
     (ap (λ b. option_map root_of (cond b (Some mount) None)) e))
 
 -- mounts that all stand at the root of another, no two at one place, are one at most
@@ -40,13 +39,13 @@ only_one : (mount : Mount ℕ) (list : List (Mount ℕ)) → OneMountAMountPoint
     → ((x : Mount ℕ) → Among x list → x.mount_point ≡ Some (root_of mount)) → only_cover nat_eq mount list ≡ true
 only_one mount [] apart all = refl
 only_one mount (x ∷ []) apart all = stands_at_its_place (root_of mount) x (all x (inl refl))
-only_one mount (x ∷ y ∷ rest) apart all = absurd (true≢false
-    (sym (one_place_of_two (root_of mount) x y (all x (inl refl)) (all y (inr (inl refl))))
-    ∙ none_among (share_a_mount_point nat_eq x) (y ∷ rest)
-    (or_parts (list_any (share_a_mount_point nat_eq x) (y ∷ rest))
-    (any_pair (share_a_mount_point nat_eq) (y ∷ rest)) apart).0 y (inl refl)))
+only_one mount (x ∷ y ∷ rest) apart all = cc (
+  one_place_of_two (root_of mount) x y (all x (inl refl)) (all y (inr (inl refl))),
+  none_among (share_a_mount_point nat_eq x) (y ∷ rest) (or_parts (list_any (share_a_mount_point nat_eq x) (y ∷ rest))
+      (any_pair (share_a_mount_point nat_eq) (y ∷ rest)) apart).0 y (inl refl),
+)
 
-module _ (world : World ℕ) (fresh : Fresh ℕ) (place : Location ℕ) (first : Mount ℕ)
+module _ {world : World ℕ} {fresh : Fresh ℕ} {place : Location ℕ} {first : Mount ℕ}
     (can : CanAttach (one_of world fresh place first)) (there : is_mount world place.mount ≡ true)
     (on_old : (mount : Mount ℕ) → Among mount world.mounts → (at : Location ℕ) → mount.mount_point ≡ Some at
     → is_mount world at.mount ≡ true) (ends : ChainsEnd (world_after (one_of world fresh place first)))
@@ -97,8 +96,8 @@ module _ (world : World ℕ) (fresh : Fresh ℕ) (place : Location ℕ) (first :
       (first ∷ []) number is
 
   kept_itself : (mount : Mount ℕ) → Among mount world.mounts → mount_numbered nat_eq after mount.number ≡ push_it mount
-  kept_itself mount m = kept mount.number (is_one_of world.mounts mount m)
-      ∙ ap push_it (found_itself world.mounts can.one_number mount m)
+  kept_itself mount m =
+      cc (kept mount.number (is_one_of world.mounts mount m), found_itself world.mounts can.one_number mount m)
 
   -- a mount was there, or is a copy
   abbrev IsOldOrNew : Mount ℕ → Type 0
@@ -144,13 +143,16 @@ module _ (world : World ℕ) (fresh : Fresh ℕ) (place : Location ℕ) (first :
   -- a copy has the number of no mount that was there
   new_apart : (part : Mount ℕ) → IsPart it part → (other : Mount ℕ) → Among other world.mounts
       → nat_eq (copy part).number other.number ≡ false
-  new_apart part c other m = false_from_ne_true (nat_eq (copy part).number other.number) (λ same.
-      true≢false (sym (is_one_of world.mounts other m)
-      ∙ ap (is_mount world) (sym (eqb-true (copy part).number other.number same) ∙ copy_number part) ∙ copy_new part c))
+  new_apart part c other m = false_from_ne_true (nat_eq (copy part).number other.number)
+      (λ same. true≢false (cc (
+        is_one_of world.mounts other m,
+        eqb-true (copy part).number other.number same,
+        copy_number part,
+        copy_new part c,
+      )))
 
   destination_later : (mount_numbered nat_eq after destination.number).propagation ≡ destination.propagation
-  destination_later =
-      ap (λ (x : Mount ℕ). x.propagation) (kept_itself destination destination_among) ∙ (keeps destination).propagation
+  destination_later = cc (kept_itself destination destination_among, (keeps destination).propagation)
 
   -- What stands where, after the attachment
 
@@ -197,9 +199,8 @@ module _ (world : World ℕ) (fresh : Fresh ℕ) (place : Location ℕ) (first :
           )
 
   push_among : (mount : Mount ℕ) → Among mount world.mounts → Among (push_it mount) after.mounts
-  push_among mount m = subst (λ x. Among x after.mounts) (kept_itself mount m)
-      (found_there after.mounts mount.number (later_number world fresh place first there mount.number
-      (is_one_of world.mounts mount m)))
+  push_among mount m = rw (← kept_itself mount m) (found_there after.mounts mount.number
+      (later_number world fresh place first there mount.number (is_one_of world.mounts mount m)))
 
   copy_among : (part : Mount ℕ) → IsPart it part → Among (copy part) after.mounts
   copy_among part c = among_from_contains after.mounts (copy part) (each_is_copied it part first can c of_first).there
@@ -209,8 +210,7 @@ module _ (world : World ℕ) (fresh : Fresh ℕ) (place : Location ℕ) (first :
   hears_later part c group e =
       let t = heard world part group (hears_group world fresh place first there part c group e) in
       hears after groups_later (push_it part) (push_among part (part_old world fresh place first there part c)) t.0
-      group (ap source_of (keeps part).propagation ∙ t.1)
-      (old_up_after place false (serve_images it can) can.each_once t.0 group
+      group (cc ((keeps part).propagation, t.1)) (old_up_after place false (serve_images it can) can.each_once t.0 group
       (lives_in world can.groups part (part_old world fresh place first there part c) t.0 t.1) t.2)
 
   -- what stands on a copy covers its root
@@ -219,9 +219,7 @@ module _ (world : World ℕ) (fresh : Fresh ℕ) (place : Location ℕ) (first :
   covers part c mount m on = by mount.mount_point refl
     where
       no_old : (at : Location ℕ) → nat_eq (copy part).number at.mount ≡ true → is_mount world at.mount ≡ true → ⊥
-      no_old at same is =
-          true≢false (sym is ∙ ap (is_mount world) (sym (eqb-true (copy part).number at.mount same) ∙ copy_number part)
-          ∙ copy_new part c)
+      no_old at same is = true≢false (cc (eqb-true (copy part).number at.mount same, copy_number part, copy_new part c))
 
       at_place : (at : Location ℕ) → mount.mount_point ≡ Some at → nat_eq (copy part).number at.mount ≡ true
           → IsOldOrNew mount → mount.mount_point ≡ Some (root_of (copy part))
@@ -265,21 +263,19 @@ module _ (world : World ℕ) (fresh : Fresh ℕ) (place : Location ℕ) (first :
           → Goes after (copy destination) (copy part).number
       only e f = subst (λ x. Goes after (copy destination) (copy x).number) (sym (only_part it can f part c))
           (alone (record { mount = destination.number; node = place.node }) (copy_stands destination destination_part)
-          (ap is_shared destination_later ∙ e))
+          (cc destination_later))
 
       by : (kind : Propagation ℕ) → destination.propagation ≡ kind → Goes after (copy destination) (copy part).number
-      by (Shared group) e =
-          at_receiver (record { mount = destination.number; node = place.node }) group (push_it part) (copy part)
-          (copy_stands destination destination_part) (destination_later ∙ e)
+      by (Shared group) e = at_receiver (record { mount = destination.number; node = place.node }) group (push_it part)
+          (copy part) (copy_stands destination destination_part) (destination_later ∙ e)
           (contains_from_among after.mounts (push_it part) (push_among part
-          (part_old world fresh place first there part c)))
-          (receives_soundly after group (push_it part) (hears_later part c group e))
-          (found_at_its_place after.mounts one_place (copy part) (copy_among part c)
-          (record { mount = (push_it part).number; node = place.node }) (copy_stands part c
-          ∙ ap (λ n. Some (record { mount = n; node = place.node })) (sym (keeps part).number))) (may_leave part c)
-      by (Slave master) e = only (ap is_shared e) (ap group_of e)
-      by Private e = only (ap is_shared e) (ap group_of e)
-      by Unbindable e = only (ap is_shared e) (ap group_of e)
+          (part_old world fresh place first there part c))) (receives_soundly after group (push_it part)
+          (hears_later part c group e)) (found_at_its_place after.mounts one_place (copy part) (copy_among part c)
+          (record { mount = (push_it part).number; node = place.node }) (cc (copy_stands part c, (keeps part).number)))
+          (may_leave part c)
+      by (Slave master) e = only (cc) (cc)
+      by Private e = only (cc) (cc)
+      by Unbindable e = only (cc) (cc)
 
   goes : (part : Mount ℕ) → IsPart it part → goes_with after gone (copy part).number ≡ true
   goes part c = (what_goes_is_named after gone (copy part).number groups_later).1 (copy_goes part c)
@@ -338,9 +334,9 @@ module _ (world : World ℕ) (fresh : Fresh ℕ) (place : Location ℕ) (first :
       → receives nat_eq after group (push_it x) ≡ true
   hears_after x m group r =
       let t = heard world x group r in
-      hears after groups_later (push_it x) (push_among x m) t.0 group (ap source_of (keeps x).propagation ∙ t.1)
-      (old_up_after place false (serve_images it can) can.each_once t.0 group
-      (lives_in world can.groups x m t.0 t.1) t.2)
+      hears after groups_later (push_it x) (push_among x m) t.0 group (cc ((keeps x).propagation, t.1))
+      (old_up_after place false (serve_images it can) can.each_once t.0 group (lives_in world can.groups x m t.0 t.1)
+      t.2)
 
   -- the node of the place, on a mount
   abbrev place_on : ℕ → Location ℕ
@@ -406,15 +402,13 @@ module _ (world : World ℕ) (fresh : Fresh ℕ) (place : Location ℕ) (first :
         → receives nat_eq after group (copy part) ≡ true → (mount : Mount ℕ) → Among mount world.mounts
         → mount.mount_point ≡ Some (record { mount = part.number; node = place.node })
         → (nat_eq (copy part).root place.node ≡ false) ⊎ (may_go nat_eq after (push_it mount) ≡ false)
-    off_root part c group e hearing mount m at = ⊎_elim (λ quiet. absurd (true≢false (sym hearing
-        ∙ copies_hear_as_their_origins it part first group can c of_first
-        (any_from_among (is_member_of nat_eq group) world.mounts destination destination_among
-        (shared_member group destination e)) ∙ quiet))) (λ rest. ⊎_elim
-        (λ other. inl (ap (λ n. nat_eq n place.node) (each_is_copied it part first can c of_first).root ∙ other))
-        (λ stays_on. inr (ap (may_go nat_eq after) (sym (kept_itself mount m)) ∙ stays_on)) rest)
+    off_root part c group e hearing mount m at = ⊎_elim (λ quiet. cc (copies_hear_as_their_origins it part first group
+        can c of_first (any_from_among (is_member_of nat_eq group) world.mounts destination destination_among
+        (shared_member group destination e)))) (λ rest. ⊎_elim (λ other. inl
+        (cc ((each_is_copied it part first can c of_first).root))) (λ stays_on. inr (cc (kept_itself mount m))) rest)
         (apart_from group part mount e (part_old world fresh place first there part c)
-        (hears_group world fresh place first there part c group e) m
-        (stands_at_its_place (record { mount = part.number; node = place.node }) mount at))
+        (hears_group world fresh place first there part c group e) m (stands_at_its_place
+        (record { mount = part.number; node = place.node }) mount at))
 
     -- nothing that was there goes
     still_hears : (one : ℕ) (x : Mount ℕ) → Among x world.mounts → receives nat_eq after one x ≡ true
@@ -441,16 +435,16 @@ module _ (world : World ℕ) (fresh : Fresh ℕ) (place : Location ℕ) (first :
             → stands_at nat_eq (record { mount = part.number; node = place.node }) old ≡ false)
             → IsOldOrNew receiver → ⊥
         still stayed (inl was) =
-            let number : receiver.number ≡ was.0.number = ap (λ (x : Mount ℕ). x.number) was.2 ∙ (keeps was.0).number in
+            let number : receiver.number ≡ was.0.number = cc (was.2, (keeps was.0).number) in
             let there_still : stands_at nat_eq (record { mount = was.0.number; node = place.node }) old ≡ true =
             (λ i. stands_at nat_eq (record { mount = sym number i; node = place.node })
             ((sym stayed.0 ∙ sym child_is) i)) ∙ stood in
             let heard_before : receives nat_eq world group was.0 ≡ true = still_hears group was.0 was.1
             (ap (λ k. holds_of (λ source. is_among nat_eq group (groups_up after source)) (source_of k))
             (sym (keeps was.0).propagation ∙ ap (λ (x : Mount ℕ). x.propagation) (sym was.2)) ∙ hearing) in
-            true≢false (sym there_still ∙ stayed.1 was.0
-            (among-filter (takes_part nat_eq world place) (receivers_of nat_eq world destination) was.0
-            (subst (λ k. Among was.0 (unwrap_or (option_map (receivers nat_eq world) (group_of k)) [])) (sym shared)
+            true≢false (sym there_still ∙ stayed.1 was.0 (among-filter (takes_part nat_eq world place)
+            (receivers_of nat_eq world destination) was.0 (subst (λ k. Among was.0
+            (unwrap_or (option_map (receivers nat_eq world) (group_of k)) [])) (sym shared)
             (among-filter (receives nat_eq world group) world.mounts was.0 was.1 heard_before))
             (takes group was.0 old shared was.1 heard_before old_m there_still)))
         still stayed (inr copied) = true≢false
@@ -463,16 +457,15 @@ module _ (world : World ℕ) (fresh : Fresh ℕ) (place : Location ℕ) (first :
             → old.mount_point ≡ Some (record { mount = part.number; node = place.node })
             → (push_it old).mount_point ≡ Some (root_of (copy part)) → ⊥
         rose part c was risen =
-            let here : record { mount = receiver.number; node = place.node } ≡ root_of (copy part) =
-            same_Some (record { mount = receiver.number; node = place.node }) (root_of (copy part))
-            (sym stands ∙ ap (λ (x : Mount ℕ). x.mount_point) child_is ∙ risen) in
-            let it_is : receiver ≡ copy part = sym (found_itself after.mounts one_after receiver m)
-            ∙ ap (mount_numbered nat_eq after) (ap (λ (l : Location ℕ). l.mount) here)
-            ∙ found_itself after.mounts one_after (copy part) (copy_among part c) in
-            ⊎_elim (λ other. true≢false
-            (sym (eq-eqb (copy part).root place.node (sym (ap (λ (l : Location ℕ). l.node) here))) ∙ other))
-            (λ stays_on. true≢false (sym may ∙ ap (may_go nat_eq after) child_is ∙ stays_on))
-            (off_root part c group shared (ap (receives nat_eq after group) (sym it_is) ∙ hearing) old old_m was)
+            let here : record { mount = receiver.number; node = place.node } ≡ root_of (copy part) = same_Some
+            (record { mount = receiver.number; node = place.node }) (root_of (copy part)) (cc (stands, risen)) in
+            let it_is : receiver ≡ copy part = sym (found_itself after.mounts one_after receiver m) ∙
+            ap (mount_numbered nat_eq after) (ap (λ (l : Location ℕ). l.mount) here) ∙ found_itself after.mounts
+            one_after (copy part) (copy_among part c) in
+            ⊎_elim (λ other. true≢false (sym (eq-eqb (copy part).root place.node
+            (sym (ap (λ (l : Location ℕ). l.node) here))) ∙ other)) (λ stays_on. true≢false
+            (sym may ∙ ap (may_go nat_eq after) child_is ∙ stays_on)) (off_root part c group shared
+            (ap (receives nat_eq after group) (sym it_is) ∙ hearing) old old_m was)
 
     not_gone : (went : ℕ) → Goes after (copy destination) went → (number : ℕ) → is_mount world number ≡ true
         → went ≡ number → ⊥
@@ -514,14 +507,13 @@ module _ (world : World ℕ) (fresh : Fresh ℕ) (place : Location ℕ) (first :
 
     same_type : (number : ℕ) → is_mount world number ≡ true
         → (mount_numbered nat_eq after number).propagation ≡ (mount_numbered nat_eq world number).propagation
-    same_type number is =
-        ap (λ (x : Mount ℕ). x.propagation) (kept number is) ∙ (keeps (mount_numbered nat_eq world number)).propagation
+    same_type number is = cc (kept number is, (keeps (mount_numbered nat_eq world number)).propagation)
 
     type_stays : (number : ℕ) → is_mount world number ≡ true
         → has_its_master undone (mount_numbered nat_eq world number).propagation ≡ true
         → (mount_left after gone number).propagation ≡ (mount_numbered nat_eq world number).propagation
-    type_stays number is e = what_stays_keeps_its_type after gone number (stays number is)
-        (ap (has_its_master undone) (same_type number is) ∙ e) ∙ same_type number is
+    type_stays number is e =
+        what_stays_keeps_its_type after gone number (stays number is) (cc (same_type number is)) ∙ same_type number is
 
     -- groups keep members
     still_members : (group : ℕ) → has_members nat_eq world.mounts group ≡ true
@@ -529,12 +521,11 @@ module _ (world : World ℕ) (fresh : Fresh ℕ) (place : Location ℕ) (first :
     still_members group has =
         let member = any_among (is_member_of nat_eq group) world.mounts has in
         let is = is_one_of world.mounts member.0 member.1 in
-        let shared : (mount_numbered nat_eq world member.0.number).propagation ≡ Shared group =
-        ap (λ (x : Mount ℕ). x.propagation) (found_itself world.mounts can.one_number member.0 member.1)
-        ∙ member_shared group member.0 member.2 in
+        let shared : (mount_numbered nat_eq world member.0.number).propagation ≡ Shared group = cc
+        (found_itself world.mounts can.one_number member.0 member.1, member_shared group member.0 member.2) in
         any_from_among (is_member_of nat_eq group) undone.mounts (mount_left after gone member.0.number)
         (left_among member.0.number is) (shared_member group (mount_left after gone member.0.number)
-        (type_stays member.0.number is (ap (has_its_master undone) shared) ∙ shared))
+        (type_stays member.0.number is (cc) ∙ shared))
 
     master_there : (number : ℕ) → is_mount world number ≡ true
         → has_its_master undone (mount_numbered nat_eq world number).propagation ≡ true
@@ -542,13 +533,12 @@ module _ (world : World ℕ) (fresh : Fresh ℕ) (place : Location ℕ) (first :
       where
         by : (kind : Propagation ℕ) → (mount_numbered nat_eq world number).propagation ≡ kind
             → has_its_master undone (mount_numbered nat_eq world number).propagation ≡ true
-        by (Shared group) e = ap (has_its_master undone) e
-        by (Slave master) e = ap (has_its_master undone) e ∙ still_members master
-            (live_members world.master (has_members nat_eq world.mounts) master
-            (lives_in world can.groups (mount_numbered nat_eq world number) (found_there world.mounts number is) master
-            (ap source_of e)))
-        by Private e = ap (has_its_master undone) e
-        by Unbindable e = ap (has_its_master undone) e
+        by (Shared group) e = cc
+        by (Slave master) e = cc (still_members master (live_members world.master (has_members nat_eq world.mounts)
+            master (lives_in world can.groups (mount_numbered nat_eq world number) (found_there world.mounts number is)
+            master (ap source_of e))))
+        by Private e = cc
+        by Unbindable e = cc
 
     -- what a copy came beneath falls back to its place
     falls_back : (number : ℕ) → is_mount world number ≡ true → (part : Mount ℕ) → IsPart it part
@@ -574,7 +564,7 @@ module _ (world : World ℕ) (fresh : Fresh ℕ) (place : Location ℕ) (first :
           where
             as_before : (mount_numbered nat_eq after number).mount_point
                 ≡ (mount_numbered nat_eq world number).mount_point
-            as_before = ap (λ (x : Mount ℕ). x.mount_point) (kept number is ∙ stayed.0)
+            as_before = cc (kept number is, stayed.0)
 
             by : (found : Option (Location ℕ)) → (mount_numbered nat_eq world number).mount_point ≡ found
                 → (mount_left after gone number).mount_point ≡ (mount_numbered nat_eq world number).mount_point
@@ -587,8 +577,7 @@ module _ (world : World ℕ) (fresh : Fresh ℕ) (place : Location ℕ) (first :
             ≡ Some (record { mount = part.number; node = place.node }))
             × ((push_it (mount_numbered nat_eq world number)).mount_point ≡ Some (root_of (copy part)))
             → (mount_left after gone number).mount_point ≡ (mount_numbered nat_eq world number).mount_point
-        risen up =
-            falls_back number is up.0 up.1 (ap (λ (x : Mount ℕ). x.mount_point) (kept number is) ∙ up.3) ∙ sym up.2
+        risen up = falls_back number is up.0 up.1 (cc (kept number is, up.3)) ∙ sym up.2
 
     pub has_its_record_back : (number : ℕ) → is_mount world number ≡ true
         → mount_left after gone number ≡ mount_numbered nat_eq world number
@@ -607,8 +596,7 @@ module _ (world : World ℕ) (fresh : Fresh ℕ) (place : Location ℕ) (first :
         }
 
     pub copy_is_gone : (part : Mount ℕ) → IsPart it part → mount_left after gone (new part) ≡ detached (copy part)
-    copy_is_gone part c = what_goes_is_detached after gone (new part)
-        (ap (goes_with after gone) (sym (copy_number part)) ∙ goes part c)
+    copy_is_gone part c = what_goes_is_detached after gone (new part) (cc (copy_number part, goes part c))
 
     pub masters_back : (group : ℕ) → has_members nat_eq world.mounts group ≡ true
         → undone.master group ≡ world.master group
@@ -622,9 +610,8 @@ module _ (world : World ℕ) (fresh : Fresh ℕ) (place : Location ℕ) (first :
             (old_master place false (serve_images it can) can.each_once group has ∙ e) ∙ sym e
         by (Some master) e =
             let one = any_among (is_member_of nat_eq group) world.mounts has in
-            let life = lives_in world can.groups one.0 one.1 group (ap source_of (member_shared group one.0 one.2)) in
-            groups_keep_their_masters after gone group master
-            (old_master place false (serve_images it can) can.each_once group has
-            ∙ e) (still_members master (live_members world.master (has_members nat_eq world.mounts) master
-            (lives_up world.master (has_members nat_eq world.mounts) group master life (above group master master e
-            (here master))))) ∙ sym e
+            let life = lives_in world can.groups one.0 one.1 group (cc (member_shared group one.0 one.2)) in
+            groups_keep_their_masters after gone group master (old_master place false (serve_images it can)
+            can.each_once group has ∙ e) (still_members master (live_members world.master
+            (has_members nat_eq world.mounts) master (lives_up world.master (has_members nat_eq world.mounts) group
+            master life (above group master master e (here master))))) ∙ sym e

@@ -41,10 +41,10 @@ module _ {world : World ℕ} {names : List TaskName} (sealing : IsSealed world n
   }
 
   of_world : part_of nat_eq u names ≡ grown_by part (part_of_master nat_eq u names)
-  of_world = part_grown world names change added new_ones master grows
+  of_world = part_grown grows
 
   of_part : part_of nat_eq u_part names ≡ grown_by part (part_of_master nat_eq u_part names)
-  of_part = part_grown part names change added new_ones master_too
+  of_part = part_grown
       (part_grows sealing.is master_too grows) ∙ ap
       (λ (w : World ℕ). grown_by w (part_of_master nat_eq u_part names)) (part_again world names sealing.is)
 
@@ -82,9 +82,9 @@ module _ {world : World ℕ} {names : List TaskName} (sealing : IsSealed world n
       name
 
 -- So it is where copies come.
-module _ {world : World ℕ} {names : List TaskName} (attaching : AttachesTheirs world names)
-    (new : Copies ℕ) (origins : List (Mount ℕ)) (new_groups : (a b : ℕ) → world.master (new.image a b) ≡ None)
-    (sources : (o : Mount ℕ) → Among o origins → (g : ℕ) → source_of o.propagation ≡ Some g
+module _ {world : World ℕ} {names : List TaskName} (attaching : AttachesTheirs world names) {new : Copies ℕ}
+    {origins : List (Mount ℕ)} (new_groups : (a b : ℕ) → world.master (new.image a b) ≡ None) (sources : (o : Mount ℕ)
+    → Among o origins → (g : ℕ) → source_of o.propagation ≡ Some g
     → (part_of nat_eq world names).master g ≡ world.master g) (shows : ShowTheirs attaching new false origins) where
   abbrev up : Mount ℕ → Mount ℕ
   up = push attaching new false origins
@@ -110,7 +110,7 @@ module _ {world : World ℕ} {names : List TaskName} (attaching : AttachesTheirs
       (λ more. let of = of_copies attaching new false origins y more in
       copy_known attaching new false origins new_groups sources of.0 of.2 of.3 g
       (ap (λ (x : Mount ℕ). source_of x.propagation) (sym of.4) ∙ e))
-      (own_how world names up added attaching.new_ones (with_made world.master) grows y m mine))
+      (own_how grows y m mine))
 
   -- the worlds that are left
   as_grown : (w : World ℕ) → attached_as attaching new false origins w

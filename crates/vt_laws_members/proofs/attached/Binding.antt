@@ -112,9 +112,9 @@ module _ (world : World ℕ) (names : List TaskName) (is : IsWorld nat_eq world)
 
 -- A granted bind
 module _ {world : World ℕ} {names : List TaskName} {name : TaskName} {source path : List ℕ} {recursive : Bool}
-    (it : IsCallOfTheirs world names name (Bind source path recursive)) (task : Task ℕ)
-    (called : task_called world name ≡ Some task) (fresh : Fresh ℕ) (serves : Serves nat_eq world fresh)
-    (from here : Location ℕ) (from_on : is_theirs world names from.mount ≡ true)
+    (it : IsCallOfTheirs world names name (Bind source path recursive)) {task : Task ℕ}
+    (called : task_called world name ≡ Some task) {fresh : Fresh ℕ} (serves : Serves nat_eq world fresh)
+    {from here : Location ℕ} (from_on : is_theirs world names from.mount ≡ true)
     (from_own : is_own world names (members world names) (mount_at nat_eq world from) ≡ true)
     (on : is_theirs world names here.mount ≡ true)
     (own : is_own world names (members world names) (mount_at nat_eq world here) ≡ true)
@@ -212,7 +212,7 @@ module _ {world : World ℕ} {names : List TaskName} {name : TaskName} {source p
   parts_same : part_of nat_eq (numbers_raised nat_eq world name [] now) names
       ≡ part_of nat_eq (numbers_raised nat_eq part name [] now_there) names
   parts_same = ap (λ w. part_of nat_eq (numbers_raised nat_eq world name [] w) names) now_so
-      ∙ copies_alike attaching new origins new_groups sources shows name
+      ∙ copies_alike attaching new_groups sources shows name
       ∙ sym (ap (λ w. part_of nat_eq (numbers_raised nat_eq part name [] w) names) there_so)
 
   bind_ends : EndsAlike world names name (Bind source path recursive) fresh fresh
@@ -226,7 +226,7 @@ binds_end_alike world names name source path recursive it fresh serves = by (tas
         → IfOk j (Binds member recursive)
         → EndsAlike world names name (Bind source path recursive) fresh fresh
     judged_by task member e (Ok permit) judged its =
-        bind_ends it task e fresh serves its.0 its.1 its.3 its.4 its.5 its.6 (judged ∙ ap Ok its.2)
+        bind_ends it e serves its.3 its.4 its.5 its.6 (judged ∙ ap Ok its.2)
     judged_by task member e (Err deny) judged its =
         denial_ends_alike it fresh fresh (ap (λ o. is_ok (ran name (Bind source path recursive) world fresh o).answer) e
         ∙ ap (λ j. is_ok (run_by it world fresh task j).answer) judged)

@@ -104,8 +104,8 @@ module _ (v : World ℕ) (names : List TaskName) (change : Mount ℕ → Mount �
         → Among layer.filesystem (used_directly nat_eq v names)
     pub mounted : (f : Filesystem ℕ) → Among f new → (x : Mount ℕ) × Among x added × (x.filesystem ≡ f.number)
 
-module _ (v : World ℕ) (names : List TaskName) (change : Mount ℕ → Mount ℕ) (added : List (Mount ℕ))
-    (new : List (Filesystem ℕ)) (master : ℕ → Option ℕ) (it : Grows v names change added new master) where
+module _ {v : World ℕ} {names : List TaskName} {change : Mount ℕ → Mount ℕ} {added : List (Mount ℕ)}
+    {new : List (Filesystem ℕ)} {master : ℕ → Option ℕ} (it : Grows v names change added new master) where
   abbrev u : World ℕ
   u = grown_world v names change added new master
 

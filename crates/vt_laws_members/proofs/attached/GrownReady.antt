@@ -31,11 +31,11 @@ module _ {v : World ℕ} {names : List TaskName} {change : Mount ℕ → Mount �
 
   used_now : (n : ℕ) → is_among nat_eq n (used_filesystems nat_eq grown names) ≡ is_among nat_eq n used
   used_now n = sym (ap (λ w. is_among nat_eq n (used_filesystems nat_eq w names)) without_new)
-      ∙ used_same v names change added [] master grows n refl ∙ ap (is_among nat_eq n) ready.used_are
+      ∙ used_same grows n refl ∙ ap (is_among nat_eq n) ready.used_are
 
   lowers_now : (test : Layer ℕ → Bool) → list_any test (own_lowers nat_eq grown names) ≡ list_any test lowers
   lowers_now test = sym (ap (λ w. list_any test (own_lowers nat_eq w names)) without_new)
-      ∙ lowers_stay v names change added [] master grows (λ f m. m) test ∙ ap (list_any test) ready.lowers_are
+      ∙ lowers_stay grows (λ f m. m) test ∙ ap (list_any test) ready.lowers_are
 
   -- a mount afterwards is theirs, or as it was
   grown_how : (y : Mount ℕ) → Among y grown.mounts → (owns y ≡ true) ⊎ (Among y v.mounts × (owns y ≡ false))
@@ -60,7 +60,7 @@ module _ {v : World ℕ} {names : List TaskName} {change : Mount ℕ → Mount �
       let x = ready.located l m in (
         change x.0,
         among-append_left (map change v.mounts) added (change x.0) (among-map change v.mounts x.0 x.1),
-        x.2 ∙ sym (as_before v names change added [] master grows x.0 x.1).0,
+        x.2 ∙ sym (as_before grows x.0 x.1).0,
       )
 
   stood_now : (y : Mount ℕ) → Among y grown.mounts
@@ -74,7 +74,7 @@ module _ {v : World ℕ} {names : List TaskName} {change : Mount ℕ → Mount �
     none_now n none = record {
       mounts = λ y m e. ⊎_elim inl (λ still. none.mounts y still.0 e) (grown_how y m);
       locations = λ l m e. none.locations l m
-          (sym (shows_still v names change added [] master grows l.mount (placed l m)) ∙ e);
+          (sym (shows_still grows l.mount (placed l m)) ∙ e);
     }
 
     alone_now : (n : ℕ) → Alone v names n → Alone grown names n

@@ -208,7 +208,7 @@ module _ {world : World ℕ} {names : List TaskName} (moving : MovesTheirs world
         ∙ keeps (λ (x : Mount ℕ). source_of x.propagation) (λ x at. refl) (went old.0)) ∙ e))
         (λ more. let of = at_receiver y more in
         known_copy of.0 of.2 of.3 g (ap (λ (x : Mount ℕ). source_of x.propagation) (sym of.4) ∙ e))
-        (own_how world names moved at_receivers [] (moved_master world.master)
+        (own_how
         (moved_grows (moved_master world.master)) y m mine))
       where
         by : (x : Mount ℕ) → Among x world.mounts → owns x ≡ true → source_of (went x).propagation ≡ Some g

@@ -21,7 +21,7 @@ use Rattle.vt_laws_members.proofs.changes.letting_go.Moving.{StandsHere, one}
 use Rattle.vt_laws_members.proofs.changes.letting_go.PartMounts.{part_mounts}
 use Rattle.vt_laws_members.proofs.changes.letting_go.Umounting.{of_passed}
 use Rattle.vt_laws_members.proofs.changes.looks.Granted.{of_rules, of_walk}
-use Rattle.vt_laws_members.proofs.changes.looks.Told.{ran, same_caller}
+use Rattle.vt_laws_members.proofs.changes.looks.Told.{ended_alike, ran, same_caller}
 use Rattle.vt_laws_members.proofs.changes.tasks.Denied.{denial_ends_alike, ran_there, run_by, unnamed_ends_alike}
 use Rattle.vt_laws_members.specs.Attached.Attaching.{MovesEndAlike}
 use Rattle.vt_laws_members.proofs.attached.CopiesAlike.{AttachesTheirs, attached_there, base_part, no_new_ones, parts, parts_alike}
@@ -98,7 +98,7 @@ moves_stay w fresh from here serves kept can attached from_there = record {
 
 -- A granted move
 module _ {world : World ℕ} {names : List TaskName} {name : TaskName} {source path : List ℕ}
-    (it : IsCallOfTheirs world names name (MoveMount source path)) (task : Task ℕ)
+    (it : IsCallOfTheirs world names name (MoveMount source path)) {task : Task ℕ}
     (called : task_called world name ≡ Some task) {fresh : Fresh ℕ} (serves : Serves nat_eq world fresh)
     {from here : Location ℕ} (to : MovesTo world names from here)
     (judged : judge_in nat_eq fresh world task (MoveMount source path) ≡ Ok (ToMove from.mount here)) where
@@ -233,12 +233,7 @@ module _ {world : World ℕ} {names : List TaskName} {name : TaskName} {source p
       (same_caller (sealing_of it) name it.theirs ∙ called) ∙ ran_there it fresh fresh task called judged
 
   move_ends : EndsAlike world names name (MoveMount source path) fresh fresh
-  move_ends = subst (λ p. EndAlike
-      (grown names name (MoveMount source path) (policy nat_eq fresh world name (MoveMount source path)).answer)
-      (policy nat_eq fresh world name (MoveMount source path)) p) (sym second)
-      (subst (λ o. EndAlike (grown names name (MoveMount source path) o.answer) o
-      (granted Done (numbers_raised nat_eq part name [] (settled nat_eq now_there)))) (sym first)
-      (record { answer = refl; part = parts_same }))
+  move_ends = ended_alike names name (MoveMount source path) first second (record { answer = refl; part = parts_same })
 
 pub moves_end_alike : MovesEndAlike
 moves_end_alike world names name source path it fresh serves = by (task_called world name) refl
@@ -247,7 +242,7 @@ moves_end_alike world names name source path it fresh serves = by (task_called w
         → (j : Judgement ℕ) → judge_in nat_eq fresh world task (MoveMount source path) ≡ j
         → IfOk j (Moves member)
         → EndsAlike world names name (MoveMount source path) fresh fresh
-    judged_by task member e (Ok permit) judged its = move_ends it task e serves its.3 (judged ∙ ap Ok its.2)
+    judged_by task member e (Ok permit) judged its = move_ends it e serves its.3 (judged ∙ ap Ok its.2)
     judged_by task member e (Err deny) judged its =
         denial_ends_alike it fresh fresh (ap (λ o. is_ok (ran name (MoveMount source path) world fresh o).answer) e
         ∙ ap (λ j. is_ok (run_by it world fresh task j).answer) judged)

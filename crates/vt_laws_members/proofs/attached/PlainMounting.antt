@@ -12,7 +12,7 @@ use Rattle.vt_laws_members.specs.Changes.Changes.{EndAlike, EndsAlike, IsCallOfT
 use Rattle.vt_laws_members.proofs.changes.letting_go.Moving.{StandsHere, one}
 use Rattle.vt_laws_members.proofs.changes.letting_go.Umounting.{of_passed}
 use Rattle.vt_laws_members.proofs.changes.looks.Granted.{of_rules, of_walk}
-use Rattle.vt_laws_members.proofs.changes.looks.Told.{ran, same_caller}
+use Rattle.vt_laws_members.proofs.changes.looks.Told.{ended_alike, ran, same_caller}
 use Rattle.vt_laws_members.proofs.changes.part.SettledPart.{part_in_use}
 use Rattle.vt_laws_members.proofs.changes.tasks.Denied.{denial_ends_alike, ran_there, run_by, unnamed_ends_alike}
 use Rattle.vt_laws_members.specs.Attached.Attaching.{PlainMountsEndAlike}
@@ -44,7 +44,7 @@ module _ {world : World ℕ} {names : List TaskName} {task : Task ℕ} (member :
 module _ {world : World ℕ} {names : List TaskName} {name : TaskName} {path : List ℕ} {flags : MountFlags}
     (it : IsCallOfTheirs world names name (MountPlain path flags)) {task : Task ℕ}
     (called : task_called world name ≡ Some task) {fresh : Fresh ℕ} (serves : Serves nat_eq world fresh)
-    (here : Location ℕ) (on : is_theirs world names here.mount ≡ true)
+    {here : Location ℕ} (on : is_theirs world names here.mount ≡ true)
     (own : is_own world names (members world names) (mount_at nat_eq world here) ≡ true)
     (judged : judge_in nat_eq fresh world task (MountPlain path flags) ≡ Ok (ToMountPlain here flags)) where
   abbrev part : World ℕ
@@ -131,16 +131,12 @@ module _ {world : World ℕ} {names : List TaskName} {name : TaskName} {path : L
 
   parts_same : part_of nat_eq (numbers_raised nat_eq world name [] now) names
       ≡ part_of nat_eq (numbers_raised nat_eq part name [] now_there) names
-  parts_same = copies_alike attaching new origins new_groups sources shows name
+  parts_same = copies_alike attaching new_groups sources shows name
       ∙ sym (ap (λ w. part_of nat_eq (numbers_raised nat_eq part name [] w) names) same_numbers)
 
   mount_alike : EndsAlike world names name (MountPlain path flags) fresh fresh
-  mount_alike = subst (λ p. EndAlike
-      (grown names name (MountPlain path flags) (policy nat_eq fresh world name (MountPlain path flags)).answer)
-      (policy nat_eq fresh world name (MountPlain path flags)) p) (sym second)
-      (subst (λ o. EndAlike (grown names name (MountPlain path flags) o.answer) o
-      (granted Done (numbers_raised nat_eq part name [] now_there))) (sym first)
-      (record { answer = refl; part = parts_same }))
+  mount_alike = ended_alike names name (MountPlain path flags) first second
+      (record { answer = refl; part = parts_same })
 
 pub plain_mounts_end_alike : PlainMountsEndAlike
 plain_mounts_end_alike world names name path flags it fresh serves = by (task_called world name) refl
@@ -149,7 +145,7 @@ plain_mounts_end_alike world names name path flags it fresh serves = by (task_ca
         → (j : Judgement ℕ) → judge_in nat_eq fresh world task (MountPlain path flags) ≡ j
         → IfOk j (Mounts member flags)
         → EndsAlike world names name (MountPlain path flags) fresh fresh
-    judged_by task member e (Ok permit) judged its = mount_alike it e serves its.0 its.2 its.3 (judged ∙ ap Ok its.1)
+    judged_by task member e (Ok permit) judged its = mount_alike it e serves its.2 its.3 (judged ∙ ap Ok its.1)
     judged_by task member e (Err deny) judged its =
         denial_ends_alike it fresh fresh (ap (λ o. is_ok (ran name (MountPlain path flags) world fresh o).answer) e
         ∙ ap (λ j. is_ok (run_by it world fresh task j).answer) judged)

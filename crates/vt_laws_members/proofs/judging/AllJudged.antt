@@ -200,48 +200,48 @@ module _ {world : World ℕ} {names : List TaskName} {task : Task ℕ} (member :
   pub judged : (overfills : Permit ℕ → Bool) (call : Call)
       → ((name : TaskName) → call ≡ Setns name → is_among same_name name names ≡ true)
       → judge nat_eq one overfills task call ≡ judge nat_eq other overfills task call
-  judged overfills (Ls path) t = list_alike one other task own uses judges path
-  judged overfills (Stat path) t = stat_alike one other task own uses judges path
-  judged overfills (Lstat path) t = lstat_alike one other task own uses judges path
-  judged overfills (Readlink path) t = readlink_alike one other task own uses judges path
-  judged overfills (Read path) t = read_alike one other task own uses judges path
-  judged overfills (Write path bytes) t = write_alike one other task own uses judges path bytes
-  judged overfills (Exec path) t = exec_alike one other task own uses judges path
-  judged overfills (Mkdir path mode) t = mkdir_alike one other task own uses judges path mode
-  judged overfills (SymlinkAt text path) t = symlink_alike one other task own uses judges text path
-  judged overfills (MakeWhiteout path) t = whiteout_alike one other task own uses judges path
-  judged overfills (LinkTo old new) t = hard_link_alike one other task own uses judges old new
-  judged overfills (Unlink path) t = unlink_alike one other task own uses judges path
+  judged overfills (Ls path) t = list_alike judges path
+  judged overfills (Stat path) t = stat_alike judges path
+  judged overfills (Lstat path) t = lstat_alike judges path
+  judged overfills (Readlink path) t = readlink_alike judges path
+  judged overfills (Read path) t = read_alike judges path
+  judged overfills (Write path bytes) t = write_alike judges path bytes
+  judged overfills (Exec path) t = exec_alike judges path
+  judged overfills (Mkdir path mode) t = mkdir_alike judges path mode
+  judged overfills (SymlinkAt text path) t = symlink_alike judges text path
+  judged overfills (MakeWhiteout path) t = whiteout_alike judges path
+  judged overfills (LinkTo old new) t = hard_link_alike judges old new
+  judged overfills (Unlink path) t = unlink_alike judges path
   judged overfills (Rmdir path) t =
-      rmdir_alike one other task own uses judges (points_alike world names member.is task member.among) path
+      rmdir_alike judges (points_alike world names member.is task member.among) path
   judged overfills (Rename old new) t =
-      rename_alike one other task own uses judges (points_alike world names member.is task member.among) renames old new
-  judged overfills (Chmod path mode) t = chmod_alike one other task own uses judges path mode
-  judged overfills (Chown path uid gid) t = chown_alike one other task own uses judges path uid gid
-  judged overfills (Opaque path mark) t = opaque_alike one other task own uses judges path mark
-  judged overfills (OpenFile path access how) t = open_alike one other task own uses judges path access how
+      rename_alike judges (points_alike world names member.is task member.among) renames old new
+  judged overfills (Chmod path mode) t = chmod_alike judges path mode
+  judged overfills (Chown path uid gid) t = chown_alike judges path uid gid
+  judged overfills (Opaque path mark) t = opaque_alike judges path mark
+  judged overfills (OpenFile path access how) t = open_alike judges path access how
   judged overfills (Pread descriptor offset size) t = refl
   judged overfills (Pwrite descriptor offset bytes) t = pwrite_alike descriptor offset bytes
   judged overfills (Close descriptor) t = refl
-  judged overfills (Chdir path) t = chdir_alike one other task own uses judges path
-  judged overfills (Chroot path) t = chroot_alike one other task own uses judges path
+  judged overfills (Chdir path) t = chdir_alike judges path
+  judged overfills (Chroot path) t = chroot_alike judges path
   judged overfills (Umask mode) t = refl
   judged overfills (Drop which) t = refl
   judged overfills (Fork words) t = refl
   judged overfills Exit t = refl
   judged overfills Unshare t = refl
   judged overfills (Setns name) t = setns_alike name (t name refl)
-  judged overfills (MountPlain path flags) t = plain_alike one other task own uses judges overfills path flags
+  judged overfills (MountPlain path flags) t = plain_alike judges overfills path flags
   judged overfills (MountOverlay path options flags) t =
       overlay_alike task own judges layers overfills path options flags
   judged overfills (Bind source path recursive) t =
-      bind_alike one other task own uses judges overfills source path recursive
+      bind_alike judges overfills source path recursive
   judged overfills (MoveMount source path) t = move_alike uses judges parents trees overfills source path
   judged overfills (Umount path) t = umount_alike uses judges parents trees path
-  judged overfills (Lazy path) t = lazy_alike one other task own uses judges overfills path
+  judged overfills (Lazy path) t = lazy_alike judges overfills path
   judged overfills (Remount path flags) t = remount_alike uses judges parents path flags
   judged overfills (SetType path word recursive) t =
-      type_alike one other task own uses judges overfills path word recursive
+      type_alike judges overfills path word recursive
   judged overfills (PivotRoot new put) t = pivot_alike uses judges parents new put
   judged overfills ListMounts t = refl
 

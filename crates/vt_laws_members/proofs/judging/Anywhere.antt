@@ -18,8 +18,8 @@ module _ {world : World ℕ} {names : List TaskName} (sealing : IsSealed world n
   uses number = is_among nat_eq number (used_filesystems nat_eq world names)
 
   -- a mount of another namespace, at a point
-  module _ (mount : Mount ℕ) (there : Among mount world.mounts) (n : ℕ) (placed : mount.namespace ≡ Some n)
-      (outside : is_own_namespace nat_eq world names n ≡ false) (point : Location ℕ)
+  module _ (mount : Mount ℕ) (there : Among mount world.mounts) {n : ℕ} (placed : mount.namespace ≡ Some n)
+      (outside : is_own_namespace nat_eq world names n ≡ false) {point : Location ℕ}
       (at : mount.mount_point ≡ Some point) where
     abbrev shows : ℕ
     shows = (mount_at nat_eq world point).filesystem
@@ -64,7 +64,7 @@ module _ {world : World ℕ} {names : List TaskName} (sealing : IsSealed world n
     locked used = grind (arith, common_steps, tree_there, directory, all_locked, whole, directory_used)
 
   -- an upper or work directory is in nothing that is wholly locked
-  module _ (merged : Filesystem ℕ) (there : Among merged world.filesystems) (overlay : Overlay ℕ)
+  module _ (merged : Filesystem ℕ) (there : Among merged world.filesystems) {overlay : Overlay ℕ}
       (e : merged.overlay ≡ Some overlay) (upper : Layer ℕ) (its : Among upper (upper_and_work overlay)) where
     upper_apart : overlaps_one_of nat_eq world (live_lowers nat_eq world) upper ≡ false
     upper_apart = none_among (overlaps_one_of nat_eq world (live_lowers nat_eq world))
@@ -126,7 +126,7 @@ module _ {world : World ℕ} {names : List TaskName} (sealing : IsSealed world n
           let at = at_point filesystem node h in
           let same : (mount_at nat_eq world at.0).filesystem ≡ number = at.3 ∙ f in
           true≢false (sym (ap (λ a. is_locked nat_eq world number a) (sym (at.2 ∙ k))
-          ∙ ap (λ g. is_locked nat_eq world g at.0.node) (sym same) ∙ locked mount there n placed outside at.0 at.1
+          ∙ ap (λ g. is_locked nat_eq world g at.0.node) (sym same) ∙ locked mount there placed outside at.1
           (ap uses same ∙ theirs_used world names sealing.is here own)) ∙ free)
 
       not_above : (overlay : Overlay ℕ) → (filesystem_at nat_eq world here).overlay ≡ Some overlay
@@ -142,11 +142,10 @@ module _ {world : World ℕ} {names : List TaskName} (sealing : IsSealed world n
               let at = at_point p.0 p.1 h in
               let shows : (mount_at nat_eq world at.0).filesystem ≡ upper.filesystem = at.3
               ∙ ap (λ (q : ℕ × ℕ). q.0) same in
-              not_whole (filesystem_at nat_eq world here) (overlay_there world names sealing.is number overlay e)
-              overlay e upper (among-append_left (option_to_list overlay.upper) (option_to_list overlay.work) upper
+              not_whole (filesystem_at nat_eq world here) (overlay_there world names sealing.is number overlay e) e upper (among-append_left (option_to_list overlay.upper) (option_to_list overlay.work) upper
               (subst (λ o. Among upper (option_to_list o)) (sym u) (inl refl)))
               (subst (λ g. wholly_locked nat_eq world names g ≡ true) shows
-              (whole mount there n placed outside at.0 at.1 (ap uses shows ∙ upper_used world names sealing.is here own
+              (whole mount there placed outside at.1 (ap uses shows ∙ upper_used world names sealing.is here own
               overlay e upper (subst (λ o. Among upper (option_to_list o)) (sym u) (inl refl)))))
 
           by : (o : Option (Layer ℕ)) → overlay.upper ≡ o

@@ -14,7 +14,7 @@ pub record JudgesAlike (one other : Looks ℕ) (task : Task ℕ) (own uses : ℕ
   pub rules : RulesSeeAlike one other own uses
   pub seen : (number : ℕ) → own number ≡ true → uses (one.mount number).filesystem ≡ true
 
-module _ (one other : Looks ℕ) (task : Task ℕ) (own uses : ℕ → Bool) (alike : JudgesAlike one other task own uses) where
+module _ {one other : Looks ℕ} {task : Task ℕ} {own uses : ℕ → Bool} (alike : JudgesAlike one other task own uses) where
   abbrev On : ℕ → Type 0
   On number = own number ≡ true
 

@@ -8,12 +8,12 @@ use Rattle.vt_laws_members.proofs.judging.Judged.{JudgesAlike, Stands}
 use Rattle.vt_laws_members.proofs.judging.Masks.{by_mask, masked}
 use Rattle.vt_laws_members.proofs.judging.WalksLead.{FoundAt, PlaceAt, directory_agrees, file_agrees, judged_alike, new_agrees, new_leaf_agrees, object_agrees, old_leaf_agrees, symlink_agrees}
 
-module _ (one other : Looks ℕ) (task : Task ℕ) (own uses : ℕ → Bool) (alike : JudgesAlike one other task own uses) where
+module _ {one other : Looks ℕ} {task : Task ℕ} {own uses : ℕ → Bool} (alike : JudgesAlike one other task own uses) where
   abbrev On : ℕ → Type 0
   On number = own number ≡ true
 
   abbrev pub StandsHere : Rattle.vt_spec.specs.Machine.Walking.Here ℕ → Type 0
-  StandsHere = Stands one other task own uses alike
+  StandsHere = Stands alike
 
   abbrev pub IsPlaced : Place ℕ → Type 0
   IsPlaced = PlaceAt alike.walks alike.directory alike.rules.removed

@@ -7,13 +7,13 @@ use Rattle.vt_laws_members.proofs.judging.Judged.{JudgesAlike, Stands}
 use Rattle.vt_laws_members.proofs.judging.Masks.{by_mask}
 use Rattle.vt_laws_members.proofs.judging.WalksLead.{destination_agrees, directory_agrees, judged_alike, source_agrees}
 
-module _ (one other : Looks ℕ) (task : Task ℕ) (own uses : ℕ → Bool) (alike : JudgesAlike one other task own uses)
+module _ {one other : Looks ℕ} {task : Task ℕ} {own uses : ℕ → Bool} (alike : JudgesAlike one other task own uses)
     (overfills : Permit ℕ → Bool) where
   abbrev On : ℕ → Type 0
   On number = own number ≡ true
 
   abbrev StandsThere : Here ℕ → Type 0
-  StandsThere = Stands one other task own uses alike
+  StandsThere = Stands alike
 
   abbrev plain_by : MountFlags → Location ℕ → Looks ℕ → Judgement ℕ
   plain_by flags here looks = attach_permit (new_mount_rules nat_eq looks task here) overfills (ToMountPlain here flags)

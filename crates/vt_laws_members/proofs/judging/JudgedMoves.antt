@@ -21,7 +21,7 @@ module _ {one other : Looks ℕ} {task : Task ℕ} {own : ℕ → Bool} (uses : 
   On number = own number ≡ true
 
   abbrev StandsThere : Here ℕ → Type 0
-  StandsThere = Stands one other task own uses alike
+  StandsThere = Stands alike
 
   -- the rules of umount(2), with whether the mount is busy
   abbrev unmount_by : Location ℕ → Bool → Looks ℕ → Judgement ℕ

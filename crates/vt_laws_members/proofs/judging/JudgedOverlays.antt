@@ -46,7 +46,7 @@ module _ {one other : Looks ℕ} (task : Task ℕ) (own : ℕ → Bool) {uses : 
   On number = own number ≡ true
 
   abbrev StandsThere : Here ℕ → Type 0
-  StandsThere = Stands one other task own uses alike
+  StandsThere = Stands alike
 
   abbrev At : Location ℕ → Type 0
   At here = On here.mount

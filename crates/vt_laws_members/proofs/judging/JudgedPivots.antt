@@ -23,7 +23,7 @@ module _ {one other : Looks ℕ} {task : Task ℕ} {own : ℕ → Bool} (uses : 
   On number = own number ≡ true
 
   abbrev StandsThere : Here ℕ → Type 0
-  StandsThere = Stands one other task own uses alike
+  StandsThere = Stands alike
 
   -- the rules of a change of flags, with whether a file is open for writing through the mount
   abbrev flags_by : MountFlags → Location ℕ → Bool → Looks ℕ → Judgement ℕ

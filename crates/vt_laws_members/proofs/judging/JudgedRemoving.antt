@@ -23,16 +23,16 @@ pub record RenamesAlike (one other : Looks ℕ) (own : ℕ → Bool) : Type 0 wh
   pub lower : (here : Location ℕ) (name : List ℕ) → own here.mount ≡ true
       → one.has_lower_directory here name ≡ other.has_lower_directory here name
 
-module _ (one other : Looks ℕ) (task : Task ℕ) (own uses : ℕ → Bool) (alike : JudgesAlike one other task own uses)
+module _ {one other : Looks ℕ} {task : Task ℕ} {own uses : ℕ → Bool} (alike : JudgesAlike one other task own uses)
     (same_points : PointsAlike one other task own) where
   abbrev On : ℕ → Type 0
   On number = own number ≡ true
 
   abbrev IsAt : Place ℕ → Type 0
-  IsAt = IsPlaced one other task own uses alike
+  IsAt = IsPlaced alike
 
   abbrev IsFoundAt : Option (Location ℕ) → Type 0
-  IsFoundAt = IsFound one other task own uses alike
+  IsFoundAt = IsFound alike
 
   -- the rules of rmdir(2), with P1 given
   abbrev rmdir_by : Place ℕ → Location ℕ → Bool → Looks ℕ → Judgement ℕ
@@ -60,7 +60,7 @@ module _ (one other : Looks ℕ) (task : Task ℕ) (own uses : ℕ → Bool) (al
       (is_mount_point_in nat_eq other task.namespace (object_there place)) other))
       (old_agrees alike.walks alike.directory alike.rules.removed path)
       (λ place at. ap (unless (rmdir_word_rules place))
-      (rmdir_same place (object_there place) at.0 (there_own one other task own uses alike place at)))
+      (rmdir_same place (object_there place) at.0 (there_own alike place at)))
 
   -- Renaming
 
@@ -191,6 +191,6 @@ module _ (one other : Looks ℕ) (task : Task ℕ) (own uses : ℕ → Bool) (al
       (rename_new_agrees alike.walks alike.directory alike.rules.removed new
       (is_directory_there nat_eq one from)) (λ to stands. ap (unless (old_word_rules to))
       (renamed_alike renames from to (object_there from) at.0 stands.0
-      (there_own one other task own uses alike from at) stands.1))
+      (there_own alike from at) stands.1))
       ∙ ap (λ b. and_then (walk_end (rename_new_walk nat_eq other task new b)) (to_rename from other))
       (same_directory_there alike.walks alike.directory alike.rules.removed from at)))

@@ -37,7 +37,7 @@ module _ {world : World ℕ} {names : List TaskName} (sealing : IsSealed world n
       → merged.overlay ≡ Some overlay → (layer : Layer ℕ) → Among layer (upper_and_work overlay)
       → number ≡ layer.filesystem → ⊥
   none_written whole merged m overlay e layer its inside = not_whole sealing merged
-      (among-from_filter is_overlay world.filesystems merged m).0 overlay e layer
+      (among-from_filter is_overlay world.filesystems merged m).0 e layer
       its (subst (λ n. wholly_locked nat_eq world names n ≡ true) inside whole)
 
   pub under_alike : (object : ℕ) (layer : Layer ℕ)

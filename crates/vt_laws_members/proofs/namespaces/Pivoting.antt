@@ -11,7 +11,7 @@ use Rattle.vt_laws_members.proofs.judging.MountTrees.{own_theirs}
 use Rattle.vt_laws_members.proofs.judging.SeenInPart.{directory_theirs, root_theirs}
 use Rattle.vt_laws_sealed.proofs.outsiders.OtherMounts.{namespace_outside}
 use Rattle.vt_laws_members.specs.Changes.Changes.{EndAlike, EndsAlike, IsCallOfTheirs, grown}
-use Rattle.vt_laws_members.proofs.changes.looks.Told.{ran, same_caller}
+use Rattle.vt_laws_members.proofs.changes.looks.Told.{ended_alike, ran, same_caller}
 use Rattle.vt_laws_members.proofs.changes.tasks.Denied.{denial_ends_alike, run_by, same_judgement, unnamed_ends_alike}
 use Rattle.vt_laws_members.proofs.changes.letting_go.Heard.{apart}
 use Rattle.vt_laws_members.proofs.changes.letting_go.NamespaceLess.{KeepsShape}
@@ -78,7 +78,7 @@ module _ (root new : Mount ℕ) (put : Location ℕ) where
 -- A granted pivot
 module _ {world : World ℕ} {names : List TaskName} {name : TaskName} {new_path put_path : List ℕ}
     (it : IsCallOfTheirs world names name (PivotRoot new_path put_path)) {task : Task ℕ}
-    (called : task_called world name ≡ Some task) (fresh supply : Fresh ℕ) (number : ℕ) (put : Location ℕ)
+    (called : task_called world name ≡ Some task) (fresh supply : Fresh ℕ) {number : ℕ} {put : Location ℕ}
     (judged : judge_in nat_eq fresh world task (PivotRoot new_path put_path) ≡ Ok (ToPivot number put)) where
   abbrev part : World ℕ
   part = part_of nat_eq world names
@@ -292,11 +292,8 @@ module _ {world : World ℕ} {names : List TaskName} {name : TaskName} {new_path
       (λ w. granted Done (numbers_raised nat_eq part name [] (settled nat_eq w))) pivots_part
 
   pivot_alike : EndsAlike world names name (PivotRoot new_path put_path) fresh supply
-  pivot_alike = subst (λ p. EndAlike (grown names name (PivotRoot new_path put_path)
-      (policy nat_eq fresh world name (PivotRoot new_path put_path)).answer)
-      (policy nat_eq fresh world name (PivotRoot new_path put_path)) p) (sym second)
-      (subst (λ o. EndAlike (grown names name (PivotRoot new_path put_path) o.answer) o (granted Done left_too))
-      (sym first) (record { answer = refl; part = remade_parts remaking changes moves name }))
+  pivot_alike = ended_alike names name (PivotRoot new_path put_path) first second
+      (record { answer = refl; part = remade_parts remaking changes moves name })
 
 pub pivots_end_alike : PivotsEndAlike
 pivots_end_alike world names name new put it fresh supply = by (task_called world name) refl
@@ -304,7 +301,7 @@ pivots_end_alike world names name new put it fresh supply = by (task_called worl
     judged_by : (task : Task ℕ) → task_called world name ≡ Some task
         → (j : Judgement ℕ) → judge_in nat_eq fresh world task (PivotRoot new put) ≡ j
         → IfOk j (PivotsThere world it.is.mounts task) → EndsAlike world names name (PivotRoot new put) fresh supply
-    judged_by task e (Ok (ToPivot number at)) judged its = pivot_alike it e fresh supply number at judged
+    judged_by task e (Ok (ToPivot number at)) judged its = pivot_alike it e fresh supply judged
     judged_by task e (Ok permit) judged its = absurd its
     judged_by task e (Err deny) judged its = denial_ends_alike it fresh supply
         (ap (λ o. is_ok (ran name (PivotRoot new put) world fresh o).answer) e

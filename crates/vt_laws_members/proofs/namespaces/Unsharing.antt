@@ -13,7 +13,7 @@ use Rattle.vt_laws_sealed.proofs.outsiders.OtherMounts.{namespace_outside, numbe
 use Rattle.vt_laws_members.specs.Changes.Changes.{EndAlike, IsCallOfTheirs, grown}
 use Rattle.vt_laws_members.specs.Changes.NameChanges.{EndsAlikeByOne}
 use Rattle.vt_laws_members.proofs.changes.looks.Granted.{of_rules}
-use Rattle.vt_laws_members.proofs.changes.looks.Told.{ran, same_caller}
+use Rattle.vt_laws_members.proofs.changes.looks.Told.{ended_alike, ran, same_caller}
 use Rattle.vt_laws_members.proofs.changes.tasks.Denied.{denial_ends_alike, ran_there, run_by, unnamed_ends_alike}
 use Rattle.vt_laws_members.proofs.changes.tasks.Rights.{only_task}
 use Rattle.vt_laws_members.proofs.changes.letting_go.CutNamespace.{in_space}
@@ -331,10 +331,8 @@ module _ {world : World ℕ} {names : List TaskName} {name : TaskName} (it : IsC
         ap (ran name Unshare part fresh) (same_caller (sealing_of it) name it.theirs ∙ called) ∙ ran_there it fresh
         fresh task called judged
         ∙ ap (λ w. granted Done (numbers_raised nat_eq part name [] (settled nat_eq w))) part_so in
-        subst (λ p. EndAlike (grown names name Unshare (policy nat_eq fresh world name Unshare).answer)
-        (policy nat_eq fresh world name Unshare) p) (sym second)
-        (subst (λ o. EndAlike (grown names name Unshare o.answer) o (granted Done left_too)) (sym first)
-        (record { answer = refl; part = remade_parts remaking changes moves name }))
+        ended_alike names name Unshare first second
+        (record { answer = refl; part = remade_parts remaking changes moves name })
 
   -- by whether another task is in the namespace of the caller
   abbrev rest : List (Task ℕ)

@@ -6,7 +6,7 @@ use Rattle.vt_laws_rules.proofs.given.Inversion.{calls_are_granted}
 use Rattle.vt_laws_mounts.specs.LettingGo.Keeping.{has_only_named}
 use Rattle.vt_laws_worlds.proofs.overlays_let_go.mounting.NewOverlays.{new_overlays_are_named}
 use Rattle.vt_laws_members.specs.Changes.Changes.{EndAlike, EndsAlike, IsCallOfTheirs, grown}
-use Rattle.vt_laws_members.proofs.changes.looks.Told.{ran, same_caller}
+use Rattle.vt_laws_members.proofs.changes.looks.Told.{ended_alike, ran, same_caller}
 use Rattle.vt_laws_members.proofs.changes.tasks.Denied.{denial_ends_alike, ran_there, run_by, unnamed_ends_alike}
 use Rattle.vt_laws_members.specs.NewOverlays.OverlayMounts.{OverlayMountsEndAlike}
 use Rattle.vt_laws_members.proofs.new_overlays.LayersTheirs.{MountsOverlay, all_used, mounts_overlay, shown_used}
@@ -14,10 +14,9 @@ use Rattle.vt_laws_members.proofs.new_overlays.NewFilesystem.{mounted_alike, now
 use Rattle.vt_laws_members.proofs.new_overlays.SameOverlay.{same_overlay}
 
 -- A granted mount of an overlay
-module _ {world : World ℕ} {names : List TaskName} {name : TaskName} {path : List ℕ}
-    {options : Option OverlayWords} {flags : MountFlags}
-    (it : IsCallOfTheirs world names name (MountOverlay path options flags)) {task : Task ℕ}
-    (member : Among task (members world names)) (called : task_called world name ≡ Some task) {fresh : Fresh ℕ}
+module _ {world : World ℕ} {names : List TaskName} {name : TaskName} {path : List ℕ} {options : Option OverlayWords}
+    {flags : MountFlags} (it : IsCallOfTheirs world names name (MountOverlay path options flags)) {task : Task ℕ}
+    {member : Among task (members world names)} (called : task_called world name ≡ Some task) {fresh : Fresh ℕ}
     (serves : Serves nat_eq world fresh) {permit : Permit ℕ}
     (its : MountsOverlay (a_member (sealing_of it) member) flags permit)
     (judged : judge_in nat_eq fresh world task (MountOverlay path options flags) ≡ Ok permit) where
@@ -42,19 +41,19 @@ module _ {world : World ℕ} {names : List TaskName} {name : TaskName} {path : L
   new_layers = all_used (a_member (sealing_of it) member) its.places its.all
 
   abbrev later : World ℕ
-  later = now (sealing_of it) fresh serves its.here its.on its.own new_one refl new_layers new_named
+  later = now (sealing_of it) serves its.here its.on its.own new_one refl new_layers new_named
       flags
 
   abbrev later_there : World ℕ
   later_there =
-      now_there (sealing_of it) fresh serves its.here its.on its.own new_one refl new_layers new_named flags
+      now_there (sealing_of it) serves its.here its.on its.own new_one refl new_layers new_named flags
 
   granted_so : judge_in nat_eq fresh world task call ≡ Ok (ToMountOverlay its.here overlay flags)
   granted_so = judged ∙ ap Ok its.is_so
 
   first : policy nat_eq fresh world name call ≡ granted Done (numbers_raised nat_eq world name [] later)
   first = ap (ran name call world fresh) called ∙ ap (run_by it world fresh task) granted_so
-      ∙ ap (λ w. granted Done (numbers_raised nat_eq world name [] w)) (settled_here (sealing_of it) fresh serves
+      ∙ ap (λ w. granted Done (numbers_raised nat_eq world name [] w)) (settled_here (sealing_of it) serves
       its.here its.on its.own new_one refl new_layers new_named flags)
 
   second : policy nat_eq fresh part name call ≡ granted Done (numbers_raised nat_eq part name [] later_there)
@@ -62,18 +61,16 @@ module _ {world : World ℕ} {names : List TaskName} {name : TaskName} {path : L
       ∙ ran_there it fresh fresh task called granted_so
       ∙ ap (λ f. granted Done (numbers_raised nat_eq part name []
       (settled nat_eq (mounted nat_eq (odds fresh) part its.here f flags))))
-      (same_overlay world names it.is overlay its.are_layers (shown_used (a_member (sealing_of it) member) its.places
+      (same_overlay names it.is overlay its.are_layers (shown_used (a_member (sealing_of it) member) its.places
       its.all) (evens fresh)) ∙ ap (λ w. granted Done (numbers_raised nat_eq part name [] w))
-      (settled_there (sealing_of it) fresh serves its.here its.on its.own new_one refl new_layers new_named flags)
+      (settled_there (sealing_of it) serves its.here its.on its.own new_one refl new_layers new_named flags)
 
   mount_alike : EndsAlike world names name call fresh fresh
-  mount_alike = subst (λ p. EndAlike (grown names name call (policy nat_eq fresh world name call).answer)
-      (policy nat_eq fresh world name call) p) (sym second) (subst (λ o. EndAlike (grown names name call o.answer) o
-      (granted Done (numbers_raised nat_eq part name [] later_there))) (sym first) (record {
-        answer = refl;
-        part = mounted_alike (sealing_of it) fresh serves its.here its.on its.own new_one refl
-            new_layers new_named flags name;
-      }))
+  mount_alike = ended_alike names name call first second (record {
+    answer = refl;
+    part = mounted_alike (sealing_of it) serves its.here its.on its.own new_one refl
+        new_layers new_named flags name;
+  })
 
 pub overlay_mounts_end_alike : OverlayMountsEndAlike
 overlay_mounts_end_alike world names name path options flags it fresh serves = by (task_called world name) refl
@@ -82,7 +79,7 @@ overlay_mounts_end_alike world names name path options flags it fresh serves = b
         → (j : Judgement ℕ) → judge_in nat_eq fresh world task (MountOverlay path options flags) ≡ j
         → EndsAlike world names name (MountOverlay path options flags) fresh fresh
     judged_by task member e (Ok permit) judged =
-        mount_alike it member e serves (mounts_overlay (a_member (sealing_of it) member) fresh path
+        mount_alike it e serves (mounts_overlay (a_member (sealing_of it) member) fresh path
         options flags permit (calls_are_granted nat_eq (looks_of nat_eq world) (overfills nat_eq fresh world task) task
         (MountOverlay path options flags) permit judged)) judged
     judged_by task member e (Err deny) judged =

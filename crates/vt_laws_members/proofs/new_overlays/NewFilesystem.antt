@@ -15,13 +15,12 @@ use Rattle.vt_laws_members.proofs.attached.PushedUp.{ShowTheirs}
 use Rattle.vt_laws_members.proofs.attached.Unused.{filesystem_unlike, group_new, used_unlike}
 use Rattle.vt_laws_sealed.proofs.part.seals.ByPart.{IsSealed}
 
-module _ {world : World ℕ} {names : List TaskName} (sealing : IsSealed world names) (fresh : Fresh ℕ)
-    (serves : Serves nat_eq world fresh)
-    (here : Location ℕ) (on : is_theirs world names here.mount ≡ true)
+module _ {world : World ℕ} {names : List TaskName} (sealing : IsSealed world names) {fresh : Fresh ℕ}
+    (serves : Serves nat_eq world fresh) (here : Location ℕ) (on : is_theirs world names here.mount ≡ true)
     (own : is_own world names (members world names) (mount_at nat_eq world here) ≡ true) (new_one : Filesystem ℕ)
     (number : new_one.number ≡ fresh 0) (layers : (layer : Layer ℕ) → Among layer (of_overlay [] layers_of new_one)
-    → Among layer.filesystem (used_directly nat_eq world names))
-    (named : has_only_named new_one ≡ true) (flags : MountFlags) where
+    → Among layer.filesystem (used_directly nat_eq world names)) (named : has_only_named new_one ≡ true)
+    (flags : MountFlags) where
   abbrev part : World ℕ
   part = part_of nat_eq world names
 
@@ -106,5 +105,5 @@ module _ {world : World ℕ} {names : List TaskName} (sealing : IsSealed world n
   pub mounted_alike : (name : TaskName) → part_of nat_eq (numbers_raised nat_eq world name [] now) names
       ≡ part_of nat_eq (numbers_raised nat_eq part name [] now_there) names
   mounted_alike name =
-      copies_alike attaching new origins new_groups sources shows name
+      copies_alike attaching new_groups sources shows name
       ∙ sym (ap (λ w. part_of nat_eq (numbers_raised nat_eq part name [] w) names) same_numbers)

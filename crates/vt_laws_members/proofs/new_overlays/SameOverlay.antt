@@ -68,7 +68,7 @@ module _ (layers : List (OpenLayer ℕ)) where
   objects_alike most other within among =
       ap (filter_map (merged_at layers)) (paths_alike most other within among most other [] (omega arith) (omega arith))
 
-module _ (world : World ℕ) (names : List TaskName) (is : IsWorld nat_eq world) (overlay : Overlay ℕ)
+module _ {world : World ℕ} (names : List TaskName) (is : IsWorld nat_eq world) (overlay : Overlay ℕ)
     (are_layers : AreLayers world overlay) (used : (layer : Layer ℕ) → Among layer (shown_layers overlay)
     → is_among nat_eq layer.filesystem (used_filesystems nat_eq world names) ≡ true) where
   abbrev part : World ℕ

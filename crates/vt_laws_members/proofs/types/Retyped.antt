@@ -108,12 +108,10 @@ new_none world is fresh serves k =
     true≢false (sym (eq-eqb (fresh k) (fresh k) refl) ∙ unlike world fresh serves y.0 y.1 (fresh k)
     (source_from_group y.0.propagation (fresh k) (member_group (fresh k) y.0 y.2)) k)))
 
-module _ {world : World ℕ} {names : List TaskName} (sealing : IsSealed world names) (fresh : Fresh ℕ)
-    (serves : Serves nat_eq world fresh)
-    (word : TypeWord) (named : List (Mount ℕ))
+module _ {world : World ℕ} {names : List TaskName} (sealing : IsSealed world names) {fresh : Fresh ℕ}
+    (serves : Serves nat_eq world fresh) (word : TypeWord) (named : List (Mount ℕ))
     (named_own : (m : Mount ℕ) → Among m named → Among m (own_mounts nat_eq world names)) (masters_there : ℕ → Option ℕ)
-    (kept_there : (g : ℕ) → IsHeard sealing g
-    → masters_there g ≡ (part_of nat_eq world names).master g)
+    (kept_there : (g : ℕ) → IsHeard sealing g → masters_there g ≡ (part_of nat_eq world names).master g)
     (agree : (g : ℕ) → IsNewGroup fresh word g → masters_there g ≡ new_masters fresh word named world g) where
   abbrev part : World ℕ
   part = part_of nat_eq world names
@@ -332,9 +330,8 @@ module _ {world : World ℕ} {names : List TaskName} (sealing : IsSealed world n
   }
 
 -- The numbers that are handed in
-module _ {world : World ℕ} {names : List TaskName} (sealing : IsSealed world names) (fresh : Fresh ℕ)
-    (serves : Serves nat_eq world fresh)
-    (word : TypeWord) (named : List (Mount ℕ))
+module _ {world : World ℕ} {names : List TaskName} (sealing : IsSealed world names) {fresh : Fresh ℕ}
+    (serves : Serves nat_eq world fresh) (word : TypeWord) (named : List (Mount ℕ))
     (named_own : (m : Mount ℕ) → Among m named → Among m (own_mounts nat_eq world names)) where
   abbrev there : World ℕ
   there = part_of nat_eq world names
@@ -361,7 +358,7 @@ module _ {world : World ℕ} {names : List TaskName} (sealing : IsSealed world n
       (master_left world taken (new_masters fresh word named world))
       (master_left there taken (new_masters fresh word named there))
   alike_by_one =
-      retyped_alike sealing fresh serves word named named_own (new_masters fresh word named there)
+      retyped_alike sealing serves word named named_own (new_masters fresh word named there)
       (old_there fresh (λ m own. unlike world fresh serves m (among-from_filter (is_own_mount nat_eq world names)
       world.mounts m own).0)) new_agree
 
@@ -377,6 +374,6 @@ module _ {world : World ℕ} {names : List TaskName} (sealing : IsSealed world n
         (master_left world taken (new_masters fresh word named world))
         (master_left there taken (new_masters other word named there))
     alike_by_any =
-        retyped_alike sealing fresh serves word named named_own (new_masters other word named there)
+        retyped_alike sealing serves word named named_own (new_masters other word named there)
         (old_there other (λ m own. unlike there other serves_there m (own_in_part sealing m own)))
         (λ g new. absurd (true≢false (sym new.0 ∙ no_groups)))

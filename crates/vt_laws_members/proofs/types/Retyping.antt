@@ -12,7 +12,7 @@ use Rattle.vt_laws_members.proofs.judging.MountPoints.{in_own}
 use Rattle.vt_laws_members.proofs.judging.MountTrees.{children_own, own_theirs, tree_alike}
 use Rattle.vt_laws_members.specs.Changes.Changes.{EndAlike, EndsAlike, IsCallOfTheirs, grown}
 use Rattle.vt_laws_members.proofs.changes.looks.Granted.{of_rules, of_walk}
-use Rattle.vt_laws_members.proofs.changes.looks.Told.{ran, same_caller}
+use Rattle.vt_laws_members.proofs.changes.looks.Told.{ended_alike, ran, same_caller}
 use Rattle.vt_laws_members.proofs.changes.tasks.Denied.{denial_ends_alike, ran_there, run_by, unnamed_ends_alike}
 use Rattle.vt_laws_members.proofs.changes.letting_go.Moving.{StandsHere, at_directory, one}
 use Rattle.vt_laws_members.proofs.changes.letting_go.Umounting.{of_passed}
@@ -96,93 +96,88 @@ module _ (world : World ℕ) (names : List TaskName) (is : IsWorld nat_eq world)
 
 -- A granted call
 module _ {world : World ℕ} {names : List TaskName} {name : TaskName} {path : List ℕ} {word : TypeWord}
-    {recursive : Bool} (it : IsCallOfTheirs world names name (SetType path word recursive)) (task : Task ℕ)
+    {recursive : Bool} (it : IsCallOfTheirs world names name (SetType path word recursive)) {task : Task ℕ}
     (called : task_called world name ≡ Some task) (fresh other : Fresh ℕ) (here : Location ℕ)
     (on : is_theirs world names here.mount ≡ true)
     (own : is_own world names (members world names) (mount_at nat_eq world here) ≡ true)
-    (judged : judge_in nat_eq fresh world task (SetType path word recursive)
-    ≡ Ok (ToSetType here.mount word recursive)) where
-  abbrev there : World ℕ
-  there = part_of nat_eq world names
+    (judged : judge_in nat_eq fresh world task (SetType path word recursive) ≡ Ok (ToSetType here.mount word recursive))
+  where
+    abbrev there : World ℕ
+    there = part_of nat_eq world names
 
-  abbrev mount_of : Mount ℕ
-  mount_of = mount_numbered nat_eq world here.mount
+    abbrev mount_of : Mount ℕ
+    mount_of = mount_numbered nat_eq world here.mount
 
-  theirs : IsTheirs world names it.is.mounts here.mount
-  theirs = theirs_from world names it.is.mounts here.mount on
+    theirs : IsTheirs world names it.is.mounts here.mount
+    theirs = theirs_from world names it.is.mounts here.mount on
 
-  its_own : Among mount_of (own_mounts nat_eq world names)
-  its_own = among-filter (is_own_mount nat_eq world names) world.mounts mount_of
-      (subst (λ m. Among m world.mounts) (sym (its_mount world names it.is.mounts here.mount theirs)) theirs.1) own
+    its_own : Among mount_of (own_mounts nat_eq world names)
+    its_own = among-filter (is_own_mount nat_eq world names) world.mounts mount_of
+        (subst (λ m. Among m world.mounts) (sym (its_mount world names it.is.mounts here.mount theirs)) theirs.1) own
 
-  abbrev pub named : List (Mount ℕ)
-  named = named_mounts nat_eq world here.mount recursive
+    abbrev pub named : List (Mount ℕ)
+    named = named_mounts nat_eq world here.mount recursive
 
-  pub all_own : (m : Mount ℕ) → Among m named → Among m (own_mounts nat_eq world names)
-  all_own = named_own world names it.is here.mount theirs its_own recursive
+    pub all_own : (m : Mount ℕ) → Among m named → Among m (own_mounts nat_eq world names)
+    all_own = named_own world names it.is here.mount theirs its_own recursive
 
-  abbrev kind : Mount ℕ → Propagation ℕ
-  kind = new_kind fresh word named
+    abbrev kind : Mount ℕ → Propagation ℕ
+    kind = new_kind fresh word named
 
-  abbrev now : World ℕ
-  now = after_types world (all_in_use world it.is) fresh word named
+    abbrev now : World ℕ
+    now = after_types world (all_in_use world it.is) fresh word named
 
-  module _ (kind_there : Mount ℕ → Propagation ℕ) (masters_there : ℕ → Option ℕ)
-      (settled_there : settled nat_eq (retyped nat_eq there (numbers_by nat_eq other named) word named)
-      ≡ with_changed there (λ m. record m { propagation = kind_there m }) masters_there)
-      (typed : AreTypedAlike (sealing_of it)
-      (kind_left world kind (new_masters fresh word named world)) kind_there
-      (master_left world kind (new_masters fresh word named world)) masters_there) where
-    abbrev now_there : World ℕ
-    now_there = with_changed there (λ m. record m { propagation = kind_there m }) masters_there
+    module _ (kind_there : Mount ℕ → Propagation ℕ) (masters_there : ℕ → Option ℕ) (settled_there : settled nat_eq
+        (retyped nat_eq there (numbers_by nat_eq other named) word named)
+        ≡ with_changed there (λ m. record m { propagation = kind_there m }) masters_there) (typed : AreTypedAlike
+        (sealing_of it) (kind_left world kind (new_masters fresh word named world)) kind_there (master_left world kind
+        (new_masters fresh word named world)) masters_there) where
+      abbrev now_there : World ℕ
+      now_there = with_changed there (λ m. record m { propagation = kind_there m }) masters_there
 
-    first : policy nat_eq fresh world name (SetType path word recursive)
-        ≡ granted Done (numbers_raised nat_eq world name [] now)
-    first = ap (ran name (SetType path word recursive) world fresh) called ∙ ap (run_by it world fresh task) judged
-        ∙ ap (λ w. granted Done (numbers_raised nat_eq world name [] w))
-        (types_settled world (all_in_use world it.is) fresh word named)
+      first : policy nat_eq fresh world name (SetType path word recursive)
+          ≡ granted Done (numbers_raised nat_eq world name [] now)
+      first = ap (ran name (SetType path word recursive) world fresh) called ∙ ap (run_by it world fresh task) judged
+          ∙ ap (λ w. granted Done (numbers_raised nat_eq world name [] w))
+          (types_settled world (all_in_use world it.is) fresh word named)
 
-    second : policy nat_eq other there name (SetType path word recursive)
-        ≡ granted Done (numbers_raised nat_eq there name [] now_there)
-    second = ap (ran name (SetType path word recursive) there other)
-        (same_caller (sealing_of it) name it.theirs ∙ called) ∙ ran_there it fresh other task called judged ∙ ap
-        (λ l. granted Done (numbers_raised nat_eq there name [] (settled nat_eq
-        (retyped nat_eq there (numbers_by nat_eq other l) word l)))) (named_alike world names it.is here.mount theirs
-        its_own recursive) ∙ ap (λ w. granted Done (numbers_raised nat_eq there name [] w)) settled_there
+      second : policy nat_eq other there name (SetType path word recursive)
+          ≡ granted Done (numbers_raised nat_eq there name [] now_there)
+      second = ap (ran name (SetType path word recursive) there other)
+          (same_caller (sealing_of it) name it.theirs ∙ called) ∙ ran_there it fresh other task called judged ∙ ap
+          (λ l. granted Done (numbers_raised nat_eq there name [] (settled nat_eq
+          (retyped nat_eq there (numbers_by nat_eq other l) word l)))) (named_alike world names it.is here.mount theirs
+          its_own recursive) ∙ ap (λ w. granted Done (numbers_raised nat_eq there name [] w)) settled_there
 
-    pub type_alike : EndsAlike world names name (SetType path word recursive) fresh other
-    type_alike = subst (λ p. EndAlike (grown names name (SetType path word recursive)
-        (policy nat_eq fresh world name (SetType path word recursive)).answer)
-        (policy nat_eq fresh world name (SetType path word recursive)) p) (sym second)
-        (subst (λ o. EndAlike (grown names name (SetType path word recursive) o.answer) o
-        (granted Done (numbers_raised nat_eq there name [] now_there))) (sym first) (record {
-          answer = refl;
-          part = types_left (sealing_of it)
-              (kind_left world kind (new_masters fresh word named world)) kind_there
-              (master_left world kind (new_masters fresh word named world)) masters_there typed name;
-        }))
+      pub type_alike : EndsAlike world names name (SetType path word recursive) fresh other
+      type_alike = ended_alike names name (SetType path word recursive) first second (record {
+        answer = refl;
+        part = types_left (sealing_of it)
+            (kind_left world kind (new_masters fresh word named world)) kind_there
+            (master_left world kind (new_masters fresh word named world)) masters_there typed name;
+      })
 
-  pub by_one : Serves nat_eq world fresh → fresh ≡ other
-      → EndsAlike world names name (SetType path word recursive) fresh other
-  by_one serves same = type_alike (kind_left there kind (new_masters fresh word named there))
-      (master_left there kind (new_masters fresh word named there))
-      (ap (λ supply. settled nat_eq (retyped nat_eq there (numbers_by nat_eq supply named) word named)) (sym same)
-      ∙ types_settled there (part_in_use (sealing_of it)) fresh word named)
-      (alike_by_one (sealing_of it) fresh serves word named all_own)
+    pub by_one : Serves nat_eq world fresh → fresh ≡ other
+        → EndsAlike world names name (SetType path word recursive) fresh other
+    by_one serves same = type_alike (kind_left there kind (new_masters fresh word named there))
+        (master_left there kind (new_masters fresh word named there))
+        (ap (λ supply. settled nat_eq (retyped nat_eq there (numbers_by nat_eq supply named) word named)) (sym same)
+        ∙ types_settled there (part_in_use (sealing_of it)) fresh word named)
+        (alike_by_one (sealing_of it) serves word named all_own)
 
-  pub by_any : Serves nat_eq world fresh → Serves nat_eq there other → takes_groups word ≡ false
-      → EndsAlike world names name (SetType path word recursive) fresh other
-  by_any serves serves_there no_groups = type_alike (kind_left there kind (new_masters other word named there))
-      (master_left there kind (new_masters other word named there)) (types_settled there (part_in_use (sealing_of it))
-      other word named ∙ (λ i. with_changed there (λ m. record m {
-        propagation = kind_left there (λ x. same x i)
-            (new_masters other word named there) m;
-      }) (master_left there (λ x. same x i)
-      (new_masters other word named there)))) (alike_by_any (sealing_of it) fresh serves word named all_own other
-      serves_there no_groups)
-    where
-      same : (m : Mount ℕ) → new_kind other word named m ≡ kind m
-      same = same_kind (sealing_of it) fresh serves word named all_own other serves_there no_groups
+    pub by_any : Serves nat_eq world fresh → Serves nat_eq there other → takes_groups word ≡ false
+        → EndsAlike world names name (SetType path word recursive) fresh other
+    by_any serves serves_there no_groups = type_alike (kind_left there kind (new_masters other word named there))
+        (master_left there kind (new_masters other word named there)) (types_settled there (part_in_use (sealing_of it))
+        other word named ∙ (λ i. with_changed there (λ m. record m {
+          propagation = kind_left there (λ x. same x i)
+              (new_masters other word named there) m;
+        }) (master_left there (λ x. same x i)
+        (new_masters other word named there)))) (alike_by_any (sealing_of it) serves word named all_own other
+        serves_there no_groups)
+      where
+        same : (m : Mount ℕ) → new_kind other word named m ≡ kind m
+        same = same_kind (sealing_of it) serves word named all_own other serves_there no_groups
 
 -- A call, granted or refused
 module _ {world : World ℕ} {names : List TaskName} {name : TaskName} {path : List ℕ} {word : TypeWord}
@@ -211,10 +206,10 @@ module _ {world : World ℕ} {names : List TaskName} {name : TaskName} {path : L
 
 pub types_end_alike : TypesEndAlike
 types_end_alike world names name path word recursive it fresh serves =
-    all_end it fresh fresh (λ task e here on own judged. by_one it task e fresh fresh here on own judged serves refl)
+    all_end it fresh fresh (λ task e here on own judged. by_one it e fresh fresh here on own judged serves refl)
     (task_called world name) refl
 
 pub other_types_end_alike : OtherTypesEndAlike
 other_types_end_alike world names name path word recursive it no_groups fresh other serves serves_there =
-    all_end it fresh other (λ task e here on own judged. by_any it task e fresh other here on own judged serves
+    all_end it fresh other (λ task e here on own judged. by_any it e fresh other here on own judged serves
     serves_there no_groups) (task_called world name) refl

@@ -23,11 +23,10 @@ OriginOf world fresh names origin =
     × (origin.filesystem ≡ other.filesystem))
     ⊎ ((origin.propagation ≡ Private) × (k : ℕ) × (origin.filesystem ≡ fresh k))
 
-module _ {world : World ℕ} {names : List TaskName} (apart : IsApart world names) (fresh : Fresh ℕ)
-    (serves : Serves nat_eq world fresh) (filesystems : List (Filesystem ℕ))
-    (supply : Fresh ℕ) (supplied : (k : ℕ) → (j : ℕ) × (supply k ≡ fresh j)) (place : Location ℕ)
-    (mounts : List (Mount ℕ)) (origins : (origin : Mount ℕ) → Among origin mounts → OriginOf world fresh names origin)
-    (moves : Bool) where
+module _ {world : World ℕ} {names : List TaskName} (apart : IsApart world names) {fresh : Fresh ℕ}
+    (serves : Serves nat_eq world fresh) (filesystems : List (Filesystem ℕ)) (supply : Fresh ℕ)
+    (supplied : (k : ℕ) → (j : ℕ) × (supply k ≡ fresh j)) (place : Location ℕ) (mounts : List (Mount ℕ))
+    (origins : (origin : Mount ℕ) → Among origin mounts → OriginOf world fresh names origin) (moves : Bool) where
   abbrev so_far : StandsApart world names (IsNewBy fresh)
   so_far = standing_apart_with world names apart fresh serves
 

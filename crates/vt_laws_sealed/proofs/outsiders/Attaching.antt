@@ -41,13 +41,13 @@ found_first number (x ∷ xs) ys mount m e =
     by false f next = ⊎_elim
         (λ here. absurd (true≢false (sym e ∙ ap (λ (y : Mount ℕ). nat_eq number y.number) here ∙ f))) next m
 
-module _ {world : World ℕ} {names : List TaskName} (apart : IsApart world names) (fresh : Fresh ℕ)
-    (serves : Serves nat_eq world fresh) (filesystems : List (Filesystem ℕ))
+module _ {world : World ℕ} {names : List TaskName} (apart : IsApart world names) {fresh : Fresh ℕ}
+    (serves : Serves nat_eq world fresh) {filesystems : List (Filesystem ℕ)}
     (sees_base : SeesTheSame world (record world { filesystems = filesystems }) names) (more : List (Filesystem ℕ))
-    (grown : overlays (record world { filesystems = filesystems }) ≡ overlays world ++ more)
-    (none_there : (merged : Filesystem ℕ) → Among merged more → (number : ℕ)
-    → no_outsider_on nat_eq world names number ≡ true → has_layer_on nat_eq number merged ≡ false)
-    (supply : Fresh ℕ) (supplied : (k : ℕ) → (j : ℕ) × (supply k ≡ fresh j)) (place : Location ℕ) (namespace : ℕ)
+    (grown : overlays (record world { filesystems = filesystems }) ≡ overlays world ++ more) (none_there : (merged :
+    Filesystem ℕ) → Among merged more → (number : ℕ) → no_outsider_on nat_eq world names number ≡ true
+    → has_layer_on nat_eq number merged ≡ false) (supply : Fresh ℕ)
+    (supplied : (k : ℕ) → (j : ℕ) × (supply k ≡ fresh j)) (place : Location ℕ) {namespace : ℕ}
     (outside : is_own_namespace nat_eq world names namespace ≡ false)
     (placed : (mount_at nat_eq world place).namespace ≡ Some namespace) (mounts : List (Mount ℕ))
     (origins : (origin : Mount ℕ) → Among origin mounts → OriginOf world fresh names origin) (moves : Bool)
@@ -96,7 +96,7 @@ module _ {world : World ℕ} {names : List TaskName} (apart : IsApart world name
       (found_or_none world.mounts place.mount)
 
   destination_other : Among destination (other_mounts nat_eq world names)
-  destination_other = is_other world names namespace outside destination destination_there placed
+  destination_other = is_other world names outside destination destination_there placed
 
   receiver_other : (part : Mount ℕ)
       → Among part (filter (takes_part nat_eq base place) (receivers_of nat_eq base destination))
@@ -132,7 +132,7 @@ module _ {world : World ℕ} {names : List TaskName} (apart : IsApart world name
                   (among-filter (is_own_mount nat_eq world names) world.mounts part there
                   (ap (holds_of (is_own_namespace nat_eq world names)) f ∙ own)))
                   (contains_from_among (other_mounts nat_eq world names) destination destination_other) e))
-              which false other = is_other world names n other part there f
+              which false other = is_other world names other part there f
 
   part_other : (part : Mount ℕ) → Among part parts → Among part (other_mounts nat_eq world names)
   part_other part m = ⊎_elim (λ e. subst (λ x. Among x (other_mounts nat_eq world names)) (sym e) destination_other)
@@ -157,10 +157,10 @@ module _ {world : World ℕ} {names : List TaskName} (apart : IsApart world name
 
   -- A copy is of a mount that is attached, at a part.
   abbrev copied : Mount ℕ → Mount ℕ → Mount ℕ
-  copied = copied_to apart fresh serves filesystems supply supplied place mounts origins moves
+  copied = copied_to apart serves filesystems supply supplied place mounts origins moves
 
   abbrev IsCopy : Mount ℕ → Type 0
-  IsCopy = IsCopyOf apart fresh serves filesystems supply supplied place mounts origins moves
+  IsCopy = IsCopyOf apart serves filesystems supply supplied place mounts origins moves
 
   at_part : (part mount : Mount ℕ) → Among mount (copies_at nat_eq base new tree parts part)
       → (origin : Mount ℕ) × Among origin mounts × (mount ≡ copied part origin)
@@ -436,9 +436,9 @@ module _ {world : World ℕ} {names : List TaskName} (apart : IsApart world name
       let unpushed : HearsGroup so_far left (relocated moves old).propagation group =
       subst (λ kind. HearsGroup so_far left kind group)
       (pushed_value (λ (x : Mount ℕ). x.propagation) (λ x at. refl) (relocated moves old)) how in
-      ⊎_elim (λ same. old_foreign apart fresh serves filesystems supply supplied place mounts origins moves old m group
+      ⊎_elim (λ same. old_foreign apart serves filesystems supply supplied place mounts origins moves old m group
       (subst (λ (x : Mount ℕ). HearsGroup so_far left x.propagation group) same unpushed))
-      (λ goes. copy_foreign apart fresh serves filesystems supply supplied place mounts origins moves
+      (λ goes. copy_foreign apart serves filesystems supply supplied place mounts origins moves
       (relocated moves old) (destination, inl refl, old, goes.0, goes.2) group unpushed)
       (relocated_is old (other_there old m) moves refl)
 
@@ -451,7 +451,7 @@ module _ {world : World ℕ} {names : List TaskName} (apart : IsApart world name
     where
       by : (kind : Propagation ℕ) → own.propagation ≡ kind → master_of left kind ≡ master_of world kind
       by (Shared g) e =
-          own_master_stays apart fresh serves filesystems supply supplied place mounts origins moves g
+          own_master_stays apart serves filesystems supply supplied place mounts origins moves g
           (any_from_among (is_member_of nat_eq g) (own_mounts nat_eq world names) own m
           (ap (λ kind. holds_of (nat_eq g) (group_of kind)) e ∙ eq-eqb g g refl))
       by (Slave g) e = refl
@@ -462,7 +462,7 @@ module _ {world : World ℕ} {names : List TaskName} (apart : IsApart world name
   events = events_stay_apart so_far left (own_mounts_same world left names sees) own_masters
       (λ other m group how. ⊎_elim (λ old. changed_foreign old.0 old.1 group
       (subst (λ (x : Mount ℕ). HearsGroup so_far left x.propagation group) old.2 how))
-      (λ copy. copy_foreign apart fresh serves filesystems supply supplied place mounts origins moves other copy.0 group
+      (λ copy. copy_foreign apart serves filesystems supply supplied place mounts origins moves other copy.0 group
       how) (others_from other m))
 
   -- What is found at a location is as it was, but for where it stands, and for its type.

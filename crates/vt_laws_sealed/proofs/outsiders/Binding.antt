@@ -41,13 +41,13 @@ module _ {world : World ℕ} {names : List TaskName} (apart : IsApart world name
     of_bound : (origin : Mount ℕ) → origin ≡ bound nat_eq world source → OriginOf world fresh names origin
     of_bound origin e = inl (
       mount_at nat_eq world source,
-      is_other world names namespace outside (mount_at nat_eq world source) source_in.0 placed,
+      is_other world names outside (mount_at nat_eq world source) source_in.0 placed,
       ap (λ (x : Mount ℕ). x.propagation) e,
       ap (λ (x : Mount ℕ). x.filesystem) e,
     )
 
     of_tree : (origin : Mount ℕ) → IsIn world namespace origin → OriginOf world fresh names origin
-    of_tree origin is = inl (origin, is_other world names namespace outside origin is.0 is.1, refl, refl)
+    of_tree origin is = inl (origin, is_other world names outside origin is.0 is.1, refl, refl)
 
     pub bind_origins : (recursive : Bool) (origin : Mount ℕ) → Among origin (bind_tree nat_eq world source recursive)
         → OriginOf world fresh names origin
@@ -77,9 +77,8 @@ module _ {world : World ℕ} {fresh : Fresh ℕ} {names : List TaskName} {name :
       let outside = namespace_outside world names apart task
       (caller_outside outsider) in
       subst (λ w. LeavesApart world w names []) (sym (nothing_is_swept outsider (ToBind source place recursive) judged
-      (ap takes_uses for.2) (ap sets_type for.2) refl)) (attaching_leaves_apart apart fresh outsider.serves
-      world.filesystems (leaves_apart_itself outsider.it).sees [] (sym (append-nil (overlays world)))
-      (λ merged m number free. absurd m) fresh (λ k. (k, refl)) place task.namespace outside named.2.own
+      (ap takes_uses for.2) (ap sets_type for.2) refl)) (attaching_leaves_apart apart outsider.serves (leaves_apart_itself outsider.it).sees [] (sym (append-nil (overlays world)))
+      (λ merged m number free. absurd m) fresh (λ k. (k, refl)) place outside named.2.own
       (bind_tree nat_eq world source recursive) (bind_origins apart task.namespace outside fresh source named.1
       recursive) false (λ moving. absurd (true≢false (sym moving))))
 
@@ -97,10 +96,9 @@ module _ {world : World ℕ} {fresh : Fresh ℕ} {names : List TaskName} {name :
       (caller_outside outsider) in
       let added : Filesystem ℕ = plain_filesystem nat_eq fresh in
       subst (λ w. LeavesApart world w names []) (sym (nothing_is_swept outsider (ToMountPlain place flags) judged
-      (ap takes_uses for.1) (ap sets_type for.1) refl)) (attaching_leaves_apart apart fresh outsider.serves
-      (world.filesystems ++ added ∷ []) (larger_sees apart fresh outsider.serves added 0 refl) []
+      (ap takes_uses for.1) (ap sets_type for.1) refl)) (attaching_leaves_apart apart outsider.serves (larger_sees apart fresh outsider.serves added 0 refl) []
       (larger_overlays apart fresh outsider.serves added 0 refl refl ∙ sym (append-nil (overlays world)))
-      (λ merged m number free. absurd m) (odds fresh) (λ k. (2 * k + 1, refl)) place task.namespace outside named.own
+      (λ merged m number free. absurd m) (odds fresh) (λ k. (2 * k + 1, refl)) place outside named.own
       (new_mount added.number added.files.tree.root flags ∷ []) (λ origin m. ⊎_elim
       (λ e. inr (ap (λ (x : Mount ℕ). x.propagation) e, 0, ap (λ (x : Mount ℕ). x.filesystem) e)) (λ none. absurd none)
       m) false (λ moving. absurd (true≢false (sym moving))))

@@ -62,7 +62,7 @@ module _ {world : World ℕ} {fresh : Fresh ℕ} {names : List TaskName} {name :
       call_swept (changes_mount_no_overlay world fresh task call permit granted (location, change) asks)
       (filesystems_changed nat_eq world permit)
       (subst (LeavesApart world (apply nat_eq fresh world task permit).world names) (sym raised)
-      (changed_files_leave outsider permit judged location change asks base (apply nat_eq fresh world task permit).world
+      (changed_files_leave outsider judged asks base (apply nat_eq fresh world task permit).world
       same (left ∙ ap (λ list. record base { filesystems = list }) (permits_make_their_change world fresh task permit
       location change asks)) leaves))
 

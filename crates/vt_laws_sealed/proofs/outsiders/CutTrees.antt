@@ -95,9 +95,9 @@ filter_within p used [] within = refl
 filter_within p used (x ∷ xs) within = grind (arith, common_steps, true≢false, filter_within p used xs)
 
 -- The part of a lower tree is the same once what nothing uses is gone.
-module _ (used : List ℕ) (files : FileTree ℕ) (holds : HoldsTree used files) (conditions : IsFileTree files)
-    (number : ℕ) (lowers : List (Layer ℕ))
-    (tops : (layer : Layer ℕ) → Among layer lowers → nat_eq number layer.filesystem ≡ true
+module _ {used : List ℕ} {files : FileTree ℕ} (holds : HoldsTree used files) (conditions : IsFileTree files)
+    (number : ℕ) (lowers : List (Layer ℕ)) (tops : (layer : Layer ℕ) → Among layer lowers
+    → nat_eq number layer.filesystem ≡ true
     → (is_among nat_eq layer.directory used ≡ true) × IsDirectory files.tree layer.directory) where
   abbrev lies_in : FileTree ℕ → ℕ → Bool
   lies_in tree object =

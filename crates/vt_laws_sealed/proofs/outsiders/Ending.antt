@@ -86,10 +86,10 @@ module _ {world : World ℕ} {names : List TaskName} {New : ℕ → Type 0} (apa
   }
 
   pub ended_leaves_apart : LeavesApart world (namespaces_ended nat_eq before) names []
-  ended_leaves_apart = taken_leaves_apart apart tasks namespaces_left moved gone others_go
+  ended_leaves_apart = taken_leaves_apart apart moved gone others_go
 
   pub filesystems_ended : (namespaces_ended nat_eq before).filesystems ≡ world.filesystems
-  filesystems_ended = filesystems_taken apart tasks namespaces_left moved gone others_go
+  filesystems_ended = filesystems_taken apart moved gone others_go
 
 -- So it is after the sweep.
 pub ending_leaves_apart : (world : World ℕ) (names : List TaskName) → IsApart world names

@@ -18,7 +18,7 @@ pub ground_of_others : {world : World ℕ} {names : List TaskName} (apart : IsAp
     → Among task (outsiders world names) → (there : Among task world.tasks) → (location : Location ℕ)
     → IsGround world apart.is task there location.mount → IsOutside world names location
 ground_of_others {world} {names} apart task outside there location ground = ⊎_elim
-    (λ own. inr (is_other world names task.namespace (namespace_outside world names apart task outside)
+    (λ own. inr (is_other world names (namespace_outside world names apart task outside)
     (mount_at nat_eq world location) (⊎_elim (λ m. m)
     (λ missing. none_is_some task.namespace (sym (ap (λ m. m.namespace) missing) ∙ own))
     (found_or_none world.mounts location.mount)) own)) (λ none. ⊎_elim

@@ -64,9 +64,9 @@ copies_are_of_overlays world fresh task call permit for made asks copy =
         → change_asked fresh world permit ≡ Some one → is_some (filesystem_at nat_eq world one.0).overlay ≡ true
     by permit for copied one e = search (arith, common_steps, opened, layered, and_parts, none_is_some)
 
-module _ {world : World ℕ} {fresh : Fresh ℕ} {names : List TaskName} {name : TaskName} {call : Call}
-    {task : Task ℕ} (outsider : IsOthersCall world fresh names name call task) (permit : Permit ℕ)
-    (judged : judge_in nat_eq fresh world task call ≡ Ok permit) (location : Location ℕ) (change : Change ℕ)
+module _ {world : World ℕ} {fresh : Fresh ℕ} {names : List TaskName} {name : TaskName} {call : Call} {task : Task ℕ}
+    (outsider : IsOthersCall world fresh names name call task) {permit : Permit ℕ}
+    (judged : judge_in nat_eq fresh world task call ≡ Ok permit) {location : Location ℕ} {change : Change ℕ}
     (asks : change_asked fresh world permit ≡ Some (location, change)) where
   abbrev supply : Fresh ℕ
   supply = numbers_left fresh permit

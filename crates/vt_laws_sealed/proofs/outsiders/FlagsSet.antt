@@ -89,8 +89,8 @@ module _ {world : World ℕ} {fresh : Fresh ℕ} {names : List TaskName} {name :
             let no : (is_own world names (members world names) mount
             || is_at nat_eq (roots_and_directories (members world names)) mount) ≡ false =
             ap (λ b. b || is_at nat_eq (roots_and_directories (members world names)) mount)
-            (not_own world names task.namespace outside mount m at)
-            ∙ not_stood_on apart_before task.namespace outside mount m at in
+            (not_own world names outside mount m at)
+            ∙ not_stood_on apart_before outside mount m at in
             ap (λ b. cond b (Some (record mount { flags = flags }))
             (when (is_at nat_eq (locations (members world names)) mount) (seen_by_descriptor mount))) no
             ∙ sym (ap (λ b. cond b (Some mount)

@@ -92,7 +92,7 @@ module _ {world before : World ℕ} {names : List TaskName} (apart : IsApart wor
         files = files;
         overlay = option_map (real_among nat_eq (used_in nat_eq before x)) x.overlay;
         change = 0;
-      }) (lower_part_same (used_in nat_eq before x) x.files (named_is_used before x conditions) conditions
+      }) (lower_part_same (named_is_used before x conditions) conditions
           x.number lowers tops) ∙ ap (λ o. record (lowered_by used lowers x.files x) {
             overlay = option_map (real_among nat_eq (used_in nat_eq before x)) o;
           }) plain ∙ ap (λ o. record (lowered_by used lowers x.files x) { overlay = o }) (sym plain)

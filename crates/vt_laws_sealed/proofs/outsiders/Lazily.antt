@@ -69,11 +69,11 @@ module _ {world : World ℕ} {names : List TaskName} (apart : IsApart world name
 
     step_leaves : LeavesApart now later names []
     step_leaves = subst (λ w. LeavesApart now w names []) (namespaces_taken_away now gone)
-        (taken_leaves_apart gone_so_far.standing now.tasks now.namespaces rest_now gone others_now)
+        (taken_leaves_apart gone_so_far.standing rest_now gone others_now)
 
     from : (mount : Mount ℕ) → Among mount later.mounts → (n : ℕ) → mount.namespace ≡ Some n
         → (old : Mount ℕ) × Among old now.mounts × (old.number ≡ mount.number) × (old.namespace ≡ Some n)
-    from mount m n e = taken_from gone_so_far.standing now.tasks now.namespaces rest_now gone others_now mount
+    from mount m n e = taken_from gone_so_far.standing rest_now gone others_now mount
         (subst (λ (w : World ℕ). Among mount w.mounts) (sym (namespaces_taken_away now gone)) m) n e
 
     goes_on : HasGone later
@@ -82,7 +82,7 @@ module _ {world : World ℕ} {names : List TaskName} (apart : IsApart world name
           (sym (ap (λ (w : World ℕ). w.namespaces) (namespaces_taken_away now gone))) from;
       leaves = leaves_on world now later names gone_so_far.same gone_so_far.leaves step_leaves;
       same = sym (ap (λ (w : World ℕ). w.filesystems) (namespaces_taken_away now gone))
-          ∙ filesystems_taken gone_so_far.standing now.tasks now.namespaces rest_now gone others_now
+          ∙ filesystems_taken gone_so_far.standing rest_now gone others_now
           ∙ gone_so_far.same;
       was_in = λ k n e. ⊎_elim (λ there.
           let old = from (mount_numbered nat_eq later k) there n e in

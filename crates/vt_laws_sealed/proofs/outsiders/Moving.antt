@@ -38,10 +38,10 @@ module _ {world : World ℕ} {fresh : Fresh ℕ} {names : List TaskName} {name :
       judged).names in
       let outside = namespace_outside world names set_apart task
       (caller_outside outsider) in
-      call_swept outsider (ToMove number place) judged no_overlay [] (attaching_leaves_apart set_apart fresh
-      outsider.serves world.filesystems (leaves_apart_itself outsider.it).sees [] (sym (append-nil (overlays world)))
-      (λ merged m n free. absurd m) fresh (λ k. (k, refl)) place task.namespace outside named.destination.own
+      call_swept outsider (ToMove number place) judged no_overlay [] (attaching_leaves_apart set_apart
+      outsider.serves (leaves_apart_itself outsider.it).sees [] (sym (append-nil (overlays world)))
+      (λ merged m n free. absurd m) fresh (λ k. (k, refl)) place outside named.destination.own
       (moved_tree nat_eq world number) (λ origin m.
       let is = moved_in world names set_apart task.namespace number named.own origin m in
-      inl (origin, is_other world names task.namespace outside origin is.0 is.1, refl, refl)) true
+      inl (origin, is_other world names outside origin is.0 is.1, refl, refl)) true
       (λ moving origin m. moved_in world names set_apart task.namespace number named.own origin m))

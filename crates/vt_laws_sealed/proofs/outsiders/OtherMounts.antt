@@ -12,7 +12,7 @@ use Rattle.vt_laws_sealed.specs.Part.Seals.{IsApart}
 use Rattle.vt_laws_sealed.proofs.outsiders.StandingApart.{NothingNew, StandsApart}
 
 -- A mount of a namespace of others is not theirs,
-module _ (world : World ℕ) (names : List TaskName) (namespace : ℕ)
+module _ (world : World ℕ) (names : List TaskName) {namespace : ℕ}
     (outside : is_own_namespace nat_eq world names namespace ≡ false) (mount : Mount ℕ)
     (there : Among mount world.mounts) (placed : mount.namespace ≡ Some namespace) where
   pub not_own : is_own world names (members world names) mount ≡ false
@@ -24,7 +24,7 @@ module _ (world : World ℕ) (names : List TaskName) (namespace : ℕ)
       (ap (holds_of (λ n. not (is_own_namespace nat_eq world names n))) placed ∙ ap not outside)
 
 -- and no root or working directory of theirs is on it.
-module _ {world : World ℕ} {names : List TaskName} (apart : IsApart world names) (namespace : ℕ)
+module _ {world : World ℕ} {names : List TaskName} (apart : IsApart world names) {namespace : ℕ}
     (outside : is_own_namespace nat_eq world names namespace ≡ false) (mount : Mount ℕ)
     (there : Among mount world.mounts) (placed : mount.namespace ≡ Some namespace) where
   pub not_stood_on : is_at nat_eq (roots_and_directories (members world names)) mount ≡ false

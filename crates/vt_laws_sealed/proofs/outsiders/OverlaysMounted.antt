@@ -143,14 +143,13 @@ module _ {world : World ℕ} {fresh : Fresh ℕ} {names : List TaskName} {name :
       (ToMountOverlay place overlay flags) judged) place overlay flags refl in
       let added : Filesystem ℕ = overlay_filesystem nat_eq (evens fresh) world overlay in
       subst (λ w. LeavesApart world w names []) (sym (nothing_is_swept outsider (ToMountOverlay place overlay flags)
-      judged (ap takes_uses for.2) (ap sets_type for.2) refl)) (attaching_leaves_apart set_apart fresh outsider.serves
-      (world.filesystems ++ added ∷ []) (larger_sees set_apart fresh outsider.serves added 0 refl) (added ∷ [])
+      judged (ap takes_uses for.2) (ap sets_type for.2) refl)) (attaching_leaves_apart set_apart outsider.serves (larger_sees set_apart fresh outsider.serves added 0 refl) (added ∷ [])
       (larger_with_overlay set_apart fresh outsider.serves added 0 refl refl)
       (λ merged m number free. ⊎_elim (λ e. ap (has_layer_on nat_eq number) e ∙ none_from_among
       (λ (layer : Layer ℕ). nat_eq number layer.filesystem) (layers_of overlay)
       (λ layer n. false_from_ne_true (nat_eq number layer.filesystem) (λ at. true≢false
       (sym free ∙ ap (no_outsider_on nat_eq world names) (eqb-true number layer.filesystem at) ∙ others.1 layer n))))
-      (λ none. absurd none) m) (odds fresh) (λ k. (2 * k + 1, refl)) place task.namespace
+      (λ none. absurd none) m) (odds fresh) (λ k. (2 * k + 1, refl)) place
       (namespace_outside world names set_apart task (caller_outside outsider)) others.0
       (new_mount added.number added.files.tree.root flags ∷ []) (λ origin m. ⊎_elim
       (λ e. inr (ap (λ (x : Mount ℕ). x.propagation) e, 0, ap (λ (x : Mount ℕ). x.filesystem) e)) (λ none. absurd none)

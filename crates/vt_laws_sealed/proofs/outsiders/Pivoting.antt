@@ -117,7 +117,7 @@ module _ {world : World ℕ} {fresh : Fresh ℕ} {names : List TaskName} {name :
       )
 
   new_root_other : Among new_root (other_mounts nat_eq world names)
-  new_root_other = is_other world names task.namespace outside new_root
+  new_root_other = is_other world names outside new_root
       (⊎_elim (λ m. m) (λ none. none_is_some task.namespace (sym (ap (λ (x : Mount ℕ). x.namespace) none) ∙ fits.own))
       (found_or_none world.mounts new)) fits.own
 

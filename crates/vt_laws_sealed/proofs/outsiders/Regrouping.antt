@@ -32,12 +32,10 @@ module _ {world : World ℕ} {names : List TaskName} {New : ℕ → Type 0} (apa
     (nowhere_same : (mount : Mount ℕ) → Among mount world.mounts → mount.namespace ≡ None → change mount ≡ mount)
     (kinds : (other : Mount ℕ) → Among other (other_mounts nat_eq world names)
     → IsOfOthers apart (change other).propagation) (middle_master : ℕ → Option ℕ)
-    (middle_above : (number above : ℕ) → Foreign apart number
-    → middle_master number ≡ Some above → Foreign apart above) (own_middle : (number : ℕ) → list_any
-    (is_member_of nat_eq number) (own_mounts nat_eq world names) ≡ true
-    → middle_master number ≡ world.master number)
-    (tasks : List (Task ℕ)) (namespaces : List (Namespace ℕ)) (moved : OthersMove world names tasks namespaces)
-    (lost : Bool) where
+    (middle_above : (number above : ℕ) → Foreign apart number → middle_master number ≡ Some above → Foreign apart above)
+    (own_middle : (number : ℕ) → list_any (is_member_of nat_eq number) (own_mounts nat_eq world names) ≡ true
+    → middle_master number ≡ world.master number) {tasks : List (Task ℕ)} {namespaces : List (Namespace ℕ)}
+    (moved : OthersMove world names tasks namespaces) (lost : Bool) where
   abbrev IsForeign : ℕ → Type 0
   IsForeign = Foreign apart
 

@@ -110,7 +110,7 @@ module _ {world : World ℕ} {names : List TaskName} (apart : IsApart world name
   unmounting_leaves_apart =
       let so_far = standing_apart world names apart in
       subst (λ w. LeavesApart world w names []) (namespaces_taken_away world gone)
-      (taken_leaves_apart so_far world.tasks world.namespaces (others_rest world names so_far) gone others_go)
+      (taken_leaves_apart so_far (others_rest world names so_far) gone others_go)
 
 module _ {world : World ℕ} {fresh : Fresh ℕ} {names : List TaskName} {name : TaskName} {call : Call}
     {task : Task ℕ} (outsider : IsOthersCall world fresh names name call task) where
@@ -160,9 +160,9 @@ module _ {world : World ℕ} {fresh : Fresh ℕ} {names : List TaskName} {name :
   replaced_in asked permit granted from old to new object replaced e = absurd cc
 
   -- So mounts on it are of others.
-  module _ (permit : Permit ℕ) (judged : judge_in nat_eq fresh world task call ≡ Ok permit) (location : Location ℕ)
-      (change : Change ℕ) (asks : change_asked fresh world permit ≡ Some (location, change))
-      (directory : Location ℕ) (at : InOneFilesystem directory location) where
+  module _ {permit : Permit ℕ} (judged : judge_in nat_eq fresh world task call ≡ Ok permit) {location : Location ℕ}
+      {change : Change ℕ} (asks : change_asked fresh world permit ≡ Some (location, change)) (directory : Location ℕ)
+      (at : InOneFilesystem directory location) where
     abbrev there : Filesystem ℕ
     there = filesystem_at nat_eq world location
 
@@ -205,7 +205,7 @@ module _ {world : World ℕ} {fresh : Fresh ℕ} {names : List TaskName} {name :
       (settled nat_eq (apply nat_eq fresh world task (ToRemoveDirectory parent entry directory)).world) names
       (filesystems_changed nat_eq world (ToRemoveDirectory parent entry directory))
   directory_removal_leaves parent entry directory judged =
-      removal_leaves (ToRemoveDirectory parent entry directory) judged parent (Remove parent.node entry directory.node)
+      removal_leaves judged
       refl directory (removed_in call (ToRemoveDirectory parent entry directory)
       (calls_are_granted nat_eq (looks_of nat_eq world) (overfills nat_eq fresh world task) task call
       (ToRemoveDirectory parent entry directory) judged) parent entry directory refl) refl refl
@@ -220,8 +220,7 @@ module _ {world : World ℕ} {fresh : Fresh ℕ} {names : List TaskName} {name :
       (Move from.node old to.node new object.node) refl (the_rest_stays fresh world from
       (Move from.node old to.node new object.node)) refl
   renaming_leaves from old to new object (Some replaced) judged =
-      removal_leaves (ToRename from old to new object (Some replaced)) judged from
-      (Move from.node old to.node new object.node) refl replaced (replaced_in call
+      removal_leaves judged refl replaced (replaced_in call
       (ToRename from old to new object (Some replaced)) (calls_are_granted nat_eq (looks_of nat_eq world)
       (overfills nat_eq fresh world task) task call (ToRename from old to new object (Some replaced)) judged) from old
       to new object replaced refl) refl refl

@@ -47,7 +47,7 @@ reshaped_kept world names apart mount there new shaped own_same nowhere_same = b
             let no : (is_own world names (members world names) mount
             || is_at nat_eq (roots_and_directories (members world names)) mount) ≡ false =
             ap (λ b. b || is_at nat_eq (roots_and_directories (members world names)) mount)
-            (not_own world names n other mount there e) ∙ no_place in
+            (not_own world names other mount there e) ∙ no_place in
             let no_later : (holds_of (is_own_namespace nat_eq world names) shaped.0
             || is_at nat_eq (roots_and_directories (members world names)) mount) ≡ false =
             ap (λ b. b || is_at nat_eq (roots_and_directories (members world names)) mount)

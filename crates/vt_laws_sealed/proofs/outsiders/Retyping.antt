@@ -39,11 +39,11 @@ new_masters group number (mount ∷ rest) master = ⊎_elim (λ same. by (nat_eq
         × (with_new_groups nat_eq group master (mount ∷ rest) number ≡ master_after one.propagation))
     by b e same = grind (arith, common_steps, eqb-true)
 
-module _ {world : World ℕ} {names : List TaskName} (apart : IsApart world names) (fresh : Fresh ℕ)
-    (serves : Serves nat_eq world fresh) (namespace : ℕ)
-    (outside : is_own_namespace nat_eq world names namespace ≡ false)
-    (group : ℕ → ℕ) (new_group : (number : ℕ) → (k : ℕ) × (group number ≡ fresh k)) (word : TypeWord)
-    (named : List (Mount ℕ)) (named_in : (mount : Mount ℕ) → Among mount named → IsIn world namespace mount) where
+module _ {world : World ℕ} {names : List TaskName} (apart : IsApart world names) {fresh : Fresh ℕ}
+    (serves : Serves nat_eq world fresh) {namespace : ℕ}
+    (outside : is_own_namespace nat_eq world names namespace ≡ false) (group : ℕ → ℕ)
+    (new_group : (number : ℕ) → (k : ℕ) × (group number ≡ fresh k)) (word : TypeWord) (named : List (Mount ℕ))
+    (named_in : (mount : Mount ℕ) → Among mount named → IsIn world namespace mount) where
   abbrev so_far : StandsApart world names (IsNewBy fresh)
   so_far = standing_apart_with world names apart fresh serves
 
@@ -78,7 +78,7 @@ module _ {world : World ℕ} {names : List TaskName} (apart : IsApart world name
   named_other : (mount : Mount ℕ) → Among mount named → Among mount (other_mounts nat_eq world names)
   named_other mount m =
       let at = named_in mount m in
-      is_other world names namespace outside mount at.0 at.1
+      is_other world names outside mount at.0 at.1
 
   abbrev set_master : ℕ → Option ℕ
   set_master = with_new_groups nat_eq group world.master named
@@ -171,19 +171,19 @@ module _ {world : World ℕ} {names : List TaskName} (apart : IsApart world name
   module _ (lost : Bool) where
     abbrev change : Mount ℕ → Mount ℕ
     change = all_changed so_far retype retyped_shape own_same nowhere_same retyped_foreign set_master
-        set_above own_set world.tasks world.namespaces (others_rest world names so_far) lost
+        set_above own_set (others_rest world names so_far) lost
 
     abbrev retyped : World ℕ
     retyped = after_all so_far retype retyped_shape own_same nowhere_same retyped_foreign set_master
-        set_above own_set world.tasks world.namespaces (others_rest world names so_far) lost
+        set_above own_set (others_rest world names so_far) lost
 
     retyped_are : retyped.mounts ≡ map change world.mounts
     retyped_are = mounts_are so_far retype retyped_shape own_same nowhere_same retyped_foreign set_master
-        set_above own_set world.tasks world.namespaces (others_rest world names so_far) lost
+        set_above own_set (others_rest world names so_far) lost
 
     own_stay : (own : Mount ℕ) → Among own (own_mounts nat_eq world names) → change own ≡ own
     own_stay = own_stays so_far retype retyped_shape own_same nowhere_same retyped_foreign set_master
-        set_above own_set world.tasks world.namespaces (others_rest world names so_far) lost
+        set_above own_set (others_rest world names so_far) lost
 
     -- the sweep may take masters, but not those of groups of theirs
     retyping_leaves_apart : (master : ℕ → Option ℕ)
@@ -192,7 +192,7 @@ module _ {world : World ℕ} {names : List TaskName} (apart : IsApart world name
         → master number ≡ retyped.master number)
         → LeavesApart world (record world { mounts = map change world.mounts; master = master }) names []
     retyping_leaves_apart = regrouping_leaves_apart so_far retype retyped_shape own_same nowhere_same
-        retyped_foreign set_master set_above own_set world.tasks world.namespaces (others_rest world names so_far) lost
+        retyped_foreign set_master set_above own_set (others_rest world names so_far) lost
 
 -- what a change of types names is in the namespace
 named_are_in : {world : World ℕ} {names : List TaskName} (apart : IsApart world names) (namespace number : ℕ)
@@ -256,12 +256,12 @@ module _ {world : World ℕ} {fresh : Fresh ℕ} {names : List TaskName} {name :
 
   abbrev changes : Mount ℕ → Mount ℕ
   changes =
-      change apart_before fresh outsider.serves task.namespace outside its_group its_new word its_named its_named_in
+      change apart_before outsider.serves outside its_group its_new word its_named its_named_in
       has_lost
 
   done_mounts : done.mounts ≡ map changes world.mounts
   done_mounts =
-      retyped_are apart_before fresh outsider.serves task.namespace outside its_group its_new word its_named
+      retyped_are apart_before outsider.serves outside its_group its_new word its_named
       its_named_in has_lost
 
   swept : settled nat_eq done ≡ record world { mounts = map changes world.mounts; master = last_master }
@@ -286,7 +286,7 @@ module _ {world : World ℕ} {fresh : Fresh ℕ} {names : List TaskName} {name :
       ap (λ b. cond b (done.master n) None)
       (any_from_among (is_member_of nat_eq n) (filter (mount_lives nat_eq done) done.mounts) own.0
       (among-filter (mount_lives nat_eq done) done.mounts own.0 (subst (Among own.0) (sym done_mounts)
-      (subst (λ x. Among x (map changes world.mounts)) (own_stay apart_before fresh outsider.serves task.namespace
+      (subst (λ x. Among x (map changes world.mounts)) (own_stay apart_before outsider.serves
       outside its_group its_new word its_named its_named_in has_lost own.0 own.1)
       (among-map changes world.mounts own.0 at.0))) (or_left (is_some own.0.namespace) _ (lives own.0.namespace at.1)))
       own.2)
@@ -297,5 +297,5 @@ module _ {world : World ℕ} {fresh : Fresh ℕ} {names : List TaskName} {name :
 
   pub type_leaves : LeavesApart world (settled nat_eq done) names []
   type_leaves = subst (λ w. LeavesApart world w names []) (sym swept)
-      (retyping_leaves_apart apart_before fresh outsider.serves task.namespace outside its_group its_new word its_named
+      (retyping_leaves_apart apart_before outsider.serves outside its_group its_new word its_named
       its_named_in has_lost last_master taken_or_not theirs_stay_there)

@@ -22,7 +22,7 @@ namespaces_taken_away world gone = grind (arith, common_steps)
 
 -- Mounts of others go, and others may be elsewhere. Each mount that goes is in a namespace of others.
 module _ {world : World ℕ} {names : List TaskName} {New : ℕ → Type 0} (apart : StandsApart world names New)
-    (tasks : List (Task ℕ)) (namespaces : List (Namespace ℕ)) (moved : OthersMove world names tasks namespaces)
+    {tasks : List (Task ℕ)} {namespaces : List (Namespace ℕ)} (moved : OthersMove world names tasks namespaces)
     (gone : List ℕ) (others_go : (number : ℕ) → is_going nat_eq gone number ≡ true
     → (namespace : ℕ) × ((mount_numbered nat_eq world number).namespace ≡ Some namespace)
     × (is_own_namespace nat_eq world names namespace ≡ false)) where
@@ -104,11 +104,11 @@ module _ {world : World ℕ} {names : List TaskName} {New : ℕ → Type 0} (apa
 
   abbrev regrouped_world : World ℕ
   regrouped_world = after_all apart change shape own_same nowhere_same kinds world.master
-      (foreign_above apart) (λ number h. refl) tasks namespaces moved lost
+      (foreign_above apart) (λ number h. refl) moved lost
 
   abbrev all_change : Mount ℕ → Mount ℕ
   all_change = all_changed apart change shape own_same nowhere_same kinds world.master
-      (foreign_above apart) (λ number h. refl) tasks namespaces moved lost
+      (foreign_above apart) (λ number h. refl) moved lost
 
   abbrev left : World ℕ
   left = record world {
@@ -125,7 +125,7 @@ module _ {world : World ℕ} {names : List TaskName} {New : ℕ → Type 0} (apa
     namespaces = namespaces;
     tasks = tasks;
   }) (mounts_are apart change shape own_same nowhere_same kinds world.master
-      (foreign_above apart) (λ number h. refl) tasks namespaces moved lost)
+      (foreign_above apart) (λ number h. refl) moved lost)
     where
       with_names : World ℕ
       with_names = record halfway { namespaces = namespaces }
@@ -143,7 +143,7 @@ module _ {world : World ℕ} {names : List TaskName} {New : ℕ → Type 0} (apa
   one_each =
       let keeps = reshaping_keeps all_change
       (all_shape apart change shape own_same nowhere_same kinds world.master
-      (foreign_above apart) (λ number h. refl) tasks namespaces moved lost) in
+      (foreign_above apart) (λ number h. refl) moved lost) in
       grind (arith, common_steps, pair-map)
 
   abbrev pub taken : World ℕ
@@ -151,7 +151,7 @@ module _ {world : World ℕ} {names : List TaskName} {New : ℕ → Type 0} (apa
 
   left_leaves_apart : LeavesApart world left names []
   left_leaves_apart = regrouping_leaves_apart apart change shape own_same nowhere_same kinds world.master
-      (foreign_above apart) (λ number h. refl) tasks namespaces moved lost regrouped_world.master (λ number. inl refl)
+      (foreign_above apart) (λ number h. refl) moved lost regrouped_world.master (λ number. inl refl)
       (λ number h. refl)
 
   pub taken_leaves_apart : LeavesApart world taken names []
@@ -171,7 +171,7 @@ module _ {world : World ℕ} {names : List TaskName} {New : ℕ → Type 0} (apa
       (subst (λ (w : World ℕ). Among mount w.mounts) world_left m) in
       let keeps = reshaping_keeps all_change
       (all_shape apart change shape own_same nowhere_same kinds world.master
-      (foreign_above apart) (λ number h. refl) tasks namespaces moved lost) in (
+      (foreign_above apart) (λ number h. refl) moved lost) in (
         from.0,
         from.1,
         sym (keeps.number from.0) ∙ sym (ap (λ (x : Mount ℕ). x.number) from.2),
@@ -190,6 +190,6 @@ pub taking_leaves_apart : (world : World ℕ) (names : List TaskName) → IsApar
     names []
 taking_leaves_apart world names apart sealed_off tasks namespaces moved gone others_go =
     let so_far = standing_apart world names apart in
-    sweeping_leaves_apart world (taken so_far tasks namespaces moved gone others_go) names apart sealed_off
-    (filesystems_taken so_far tasks namespaces moved gone others_go) (one_taken so_far tasks namespaces moved gone
-    others_go) [] (taken_leaves_apart so_far tasks namespaces moved gone others_go)
+    sweeping_leaves_apart world (taken so_far moved gone others_go) names apart sealed_off
+    (filesystems_taken so_far moved gone others_go) (one_taken so_far moved gone
+    others_go) [] (taken_leaves_apart so_far moved gone others_go)

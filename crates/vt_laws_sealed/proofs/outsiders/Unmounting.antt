@@ -56,7 +56,7 @@ module _ {world : World ℕ} {names : List TaskName} {New : ℕ → Type 0} (apa
     parent_placed = sym (below unmounted_one one_there point at) ∙ placed
 
     parent_other : Among parent (other_mounts nat_eq world names)
-    parent_other = is_other world names namespace outside parent (⊎_elim (λ m. m)
+    parent_other = is_other world names outside parent (⊎_elim (λ m. m)
         (λ none. none_is_some namespace (sym (ap (λ (x : Mount ℕ). x.namespace) none) ∙ parent_placed))
         (found_or_none world.mounts point.mount)) parent_placed
 

@@ -85,7 +85,7 @@ module _ {world : World ℕ} {names : List TaskName} (apart : IsApart world name
           → Among old (other_mounts nat_eq world names)
       by None e h there = absurd (true≢false (sym h))
       by (Some n) e h there =
-          is_other world names task.namespace (namespace_outside world names apart task caller) old there
+          is_other world names (namespace_outside world names apart task caller) old there
           (e ∙ ap Some (sym (eqb-true task.namespace n h)))
 
   not_located : (places : List (Location ℕ))
@@ -262,7 +262,7 @@ module _ {world : World ℕ} {names : List TaskName} (apart : IsApart world name
       locations = copied_leaves_apart.others.locations;
       not_stood = λ namespace outside mount there placed.
           ap (λ some. is_at nat_eq (roots_and_directories some) mount) same ∙ ⊎_elim
-          (λ old. not_stood_on apart namespace (sym (own_left namespace) ∙ outside) mount old placed)
+          (λ old. not_stood_on apart (sym (own_left namespace) ∙ outside) mount old placed)
           (λ new. not_located (roots_and_directories theirs) roots_located mount (copies_are mount new))
           (among-append world.mounts copies mount there);
       own_listed = λ n own.

@@ -99,7 +99,7 @@ current_before : (held was now : ℕ) → IsNoMore held was → Rises was now �
 current_before held was now bound rises fresh = grind (arith, common_steps, was, rises, not_stale, true≢false, eq-eqb)
 
 -- A call of another task
-module _ (world : World ℕ) (is : IsWorld nat_eq world) (fresh : Fresh ℕ) (serves : Serves nat_eq world fresh)
+module _ {world : World ℕ} (is : IsWorld nat_eq world) {fresh : Fresh ℕ} (serves : Serves nat_eq world fresh)
     (name : TaskName) (call : Call) (few : names_few_groups call ≡ true) where
   abbrev later : World ℕ
   later = (policy nat_eq fresh world name call).world
@@ -123,7 +123,7 @@ module _ (world : World ℕ) (is : IsWorld nat_eq world) (fresh : Fresh ℕ) (se
       call_is_judged_then_applied fresh world task call
       ∙ ap (λ j. after world j (apply nat_eq fresh world task)) judged in
       subst (λ (o : Outcome ℕ). ShowAlike world (finished_by nat_eq false world name changed o).world) (sym outcome)
-      (swept_show_alike task call permit is serves called judged))
+      (swept_show_alike call is serves called judged))
 
   module _ (other : TaskName) (apart : other ≢ name) (old : Task ℕ) (called : task_called world other ≡ Some old) where
     -- it has the change number and the namespace that it had
@@ -200,7 +200,7 @@ module _ (sched : Sched ℕ) (is : IsWorld nat_eq sched.world) (holds : HoldsWha
       before task progress under = grind (arith, common_steps, same)
 
   -- after the call of a task, whose own call is no longer under way
-  module _ (given : Turn) (fit : IsFitTurn sched given) (name : TaskName) (call : Call) (fresh : Fresh ℕ)
+  module _ {given : Turn} (fit : IsFitTurn sched given) {name : TaskName} {call : Call} {fresh : Fresh ℕ}
       (later : Sched ℕ) (commits : Commits sched given name call fresh later) where
     serves : Serves nat_eq sched.world fresh
     serves = fit.serves fresh commits.handed
@@ -234,7 +234,7 @@ module _ (sched : Sched ℕ) (is : IsWorld nat_eq sched.world) (holds : HoldsWha
     still_there progress c =
         let of = of_others progress c in
         let old = was progress of.0 in
-        ap is_some (task_left sched.world is fresh serves name call few progress.task of.1 old.0 old.1).1
+        ap is_some (task_left is serves name call few progress.task of.1 old.0 old.1).1
 
     -- numbers held before are held now
     still_no_more : (task : Task ℕ) (progress : Progress ℕ) → IsUnderWayOf later task progress
@@ -243,14 +243,14 @@ module _ (sched : Sched ℕ) (is : IsWorld nat_eq sched.world) (holds : HoldsWha
     still_no_more task progress under =
         let of = of_others progress under.under_way in
         let old = was progress of.0 in
-        let so = left_so sched.world is fresh serves name call few progress.task of.1 old.0 old.1 task
+        let so = left_so is serves name call few progress.task of.1 old.0 old.1 task
         (found_now task progress under) in
         let bound = holds.no_more old.0 progress (record { under_way = of.0; called = old.1 }) in (
           subst (IsNoMore progress.task_change) (sym so.change) bound.0,
           subst (λ n. IsNoMore progress.namespace_change (namespace_change_of nat_eq left n)) (sym so.namespace)
               (no_more_later progress.namespace_change (namespace_change_of nat_eq sched.world old.0.namespace)
               (namespace_change_of nat_eq left old.0.namespace) bound.1
-              (rises sched.world is fresh serves name call few progress.task of.1 old.0 old.1)),
+              (rises is serves name call few progress.task of.1 old.0 old.1)),
         )
 
     still_seen : (task : Task ℕ) (progress : Progress ℕ) → IsUnderWayOf later task progress
@@ -260,7 +260,7 @@ module _ (sched : Sched ℕ) (is : IsWorld nat_eq sched.world) (holds : HoldsWha
         let of = of_others progress under.under_way in
         let old = was progress of.0 in
         let found = found_now task progress under in
-        let so = left_so sched.world is fresh serves name call few progress.task of.1 old.0 old.1 task found in
+        let so = left_so is serves name call few progress.task of.1 old.0 old.1 task found in
         let bound = holds.no_more old.0 progress (record { under_way = of.0; called = old.1 }) in
         let now : is_stale progress.namespace_change (namespace_change_of nat_eq left old.0.namespace) ≡ false =
         subst (λ n. is_stale progress.namespace_change (namespace_change_of nat_eq left n) ≡ false) so.namespace
@@ -268,15 +268,15 @@ module _ (sched : Sched ℕ) (is : IsWorld nat_eq sched.world) (holds : HoldsWha
         let before : is_stale progress.namespace_change (namespace_change_of nat_eq sched.world old.0.namespace)
         ≡ false = current_before progress.namespace_change (namespace_change_of nat_eq sched.world old.0.namespace)
         (namespace_change_of nat_eq left old.0.namespace) bound.1
-        (rises sched.world is fresh serves name call few progress.task of.1 old.0 old.1) now in
+        (rises is serves name call few progress.task of.1 old.0 old.1) now in
         let unraised : is_stale (namespace_change_of nat_eq sched.world old.0.namespace)
         (namespace_change_of nat_eq left old.0.namespace) ≡ false =
         subst (λ n. is_stale n (namespace_change_of nat_eq left old.0.namespace) ≡ false)
         (not_stale progress.namespace_change (namespace_change_of nat_eq sched.world old.0.namespace) before).0 now in
         let same : old.0 ≡ task =
-        cc (stays sched.world is fresh serves name call few progress.task of.1 old.0 old.1 unraised, found) in
+        cc (stays is serves name call few progress.task of.1 old.0 old.1 unraised, found) in
         subst (λ t. is_seen_by left t held.0 ≡ true) same
-        (sees_the_same sched.world is fresh serves name call few progress.task of.1 old.0 old.1 unraised held.0
+        (sees_the_same is serves name call few progress.task of.1 old.0 old.1 unraised held.0
         ∙ holds.seen old.0 progress (record { under_way = of.0; called = old.1 }) (record {
           task_change = ap (is_stale progress.task_change) (sym so.change) ∙ current.task_change;
           namespace_change = before;
@@ -293,8 +293,8 @@ module _ (sched : Sched ℕ) (is : IsWorld nat_eq sched.world) (holds : HoldsWha
     }
 
   -- a word is walked
-  module _ (task : Task ℕ) (called : task_called sched.world task.name ≡ Some task) (line : ℕ) (call : Call)
-      (fresh : Fresh ℕ) (before : Progress ℕ) (at : Before sched task before) (turned : Turned ℕ)
+  module _ {task : Task ℕ} (called : task_called sched.world task.name ≡ Some task) {line : ℕ} {call : Call}
+      {fresh : Fresh ℕ} {before : Progress ℕ} (at : Before sched task before) {turned : Turned ℕ}
       (further : GoesFurther sched task line call fresh before turned) where
     abbrev next : Progress ℕ
     next = one_further nat_eq sched.world further.met before
@@ -374,7 +374,7 @@ module _ (sched : Sched ℕ) (is : IsWorld nat_eq sched.world) (holds : HoldsWha
         (subst (λ (t : Turned ℕ). Contains t.sched.under_way p) e c))).0)
     same_world turned same (Further task who line call fresh handed next before at further) =
         subst (λ (t : Turned ℕ). HoldsWhatIsSeen t.sched) (sym further.is)
-        (word_holds task next.called line call fresh before at turned further)
+        (word_holds next.called at further)
 
     pub one_turn : IsWorld nat_eq (turn nat_eq sched given.0 given.1).sched.world
         × HoldsWhatIsSeen (turn nat_eq sched given.0 given.1).sched
@@ -390,9 +390,9 @@ module _ (sched : Sched ℕ) (is : IsWorld nat_eq sched.world) (holds : HoldsWha
         )
         by (After name call fresh commits) = (
           subst (IsWorld nat_eq) (sym commits.world)
-              (later_is sched.world is fresh (fit.serves fresh commits.handed) name call
+              (later_is is (fit.serves fresh commits.handed) name call
               (fit.few_groups commits.line call commits.first)),
-          after_call_holds given fit name call fresh turned.sched commits,
+          after_call_holds fit turned.sched commits,
         )
 
 pub turns_hold_what_is_seen : TurnsHoldWhatIsSeen

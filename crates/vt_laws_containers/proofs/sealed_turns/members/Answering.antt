@@ -20,7 +20,7 @@ record IsAnswered (sched : Sched ℕ) (name : TaskName) (line : ℕ) (call : Cal
   queues : turned.sched.queues ≡ map (shortened (Someone name)) sched.queues
   under_way : turned.sched.under_way ≡ without_progress name sched.under_way
 
-module _ (sched : Sched ℕ) (name : TaskName) (line : ℕ) (call : Call) (fresh : Fresh ℕ)
+module _ (sched : Sched ℕ) (name : TaskName) {line : ℕ} {call : Call} (fresh : Fresh ℕ)
     (first : first_of_list (queue_of sched.queues (Someone name)) ≡ Some (record { line = line; item = Calls call }))
   where
     no_reply : (turned : Turned ℕ) → is_some turned.reply ≡ true → turned.reply ≡ None → ⊥
@@ -71,8 +71,8 @@ pub their_answers_are_of_the_grown_part : TheirAnswersAreOfTheGrownPart
 their_answers_are_of_the_grown_part sched names name call fresh turns ends =
     let part : Sched ℕ = part_of_sched names sched in
     let set : List TaskName = grown names name call (policy nat_eq fresh sched.world name call).answer in
-    let one = answered sched name turns.line call fresh turns.first turns.answers in
-    let two = answered part name turns.line call fresh turns.first
+    let one = answered sched name fresh turns.first turns.answers in
+    let two = answered part name fresh turns.first
     (their_turns_answer_alike sched names name (Some fresh) turns.has turns.theirs ∙ turns.answers) in
     let whole : Sched ℕ = (turn nat_eq sched (Someone name) (Some fresh)).sched in
     let in_part : Sched ℕ = (turn nat_eq part (Someone name) (Some fresh)).sched in record {
@@ -83,7 +83,7 @@ their_answers_are_of_the_grown_part sched names name call fresh turns ends =
           (ap (λ (w : World ℕ). part_of nat_eq w set) two.world ∙ sym ends.part
           ∙ ap (λ (w : World ℕ). part_of nat_eq w set) (sym one.world)) (two.queues ∙ sym one.queues)
           (ap (their_calls set) two.under_way ∙ calls_left_of names set name sched.under_way (λ p m.
-          were_of_the_set sched.world names name call fresh turns.has.is p.task
+          were_of_the_set names name call fresh turns.has.is p.task
           (turns.has.holds.there p (contains_from_among sched.under_way p m)))
           ∙ ap (their_calls set) (sym one.under_way));
     }

@@ -20,7 +20,7 @@ left_less : (names : List TaskName) (name : TaskName) (call : Call) (other : Tas
     → is_among same_name other (left names name call) ≡ true → is_among same_name other names ≡ true
 left_less names name call other h = grind (arith, common_steps, any_among, any_from_among, among-from_filter)
 
-module _ (world : World ℕ) (names : List TaskName) (name : TaskName) (call : Call) (fresh : Fresh ℕ)
+module _ {world : World ℕ} (names : List TaskName) (name : TaskName) (call : Call) (fresh : Fresh ℕ)
     (is : IsWorld nat_eq world) where
   -- the tasks of the world that are of the set which an answer leaves
   abbrev pub WereOfTheSet : Result Answer Deny → Type 0

@@ -30,7 +30,7 @@ module _ (sched : Sched ℕ) (names : List TaskName) (has : HasCallsUnderWay sch
       ⊎ ((turned.reply ≡ None) × (in_part ≡ record { sched = part_of_sched names turned.sched; reply = None }))
 
   -- the call of a task of theirs
-  module _ (task : Task ℕ) (called : task_called world task.name ≡ Some task)
+  module _ {task : Task ℕ} (called : task_called world task.name ≡ Some task)
       (theirs : is_among same_name task.name names ≡ true) (line : ℕ) (call : Call) (fresh : Fresh ℕ) where
     member : Among task (members world names)
     member = among-filter (is_member_task names) world.tasks task (found_among _ world.tasks task called) theirs
@@ -179,7 +179,7 @@ module _ (sched : Sched ℕ) (names : List TaskName) (has : HasCallsUnderWay sch
         (find (λ (p : Progress ℕ). same_name n p.task) sched.under_way))
         (turn_under_way nat_eq part task line call fresh
         (find (λ (p : Progress ℕ). same_name n p.task) sched.under_way))) its
-        (under_way_alike task (ap (task_called world) its ∙ e) (ap (λ n. is_among same_name n names) its ∙ theirs) line
+        (under_way_alike (ap (task_called world) its ∙ e) (ap (λ n. is_among same_name n names) its ∙ theirs) line
         call fresh (find (λ (p : Progress ℕ). same_name task.name p.task) sched.under_way) refl))
 
     by_call : (line : ℕ) (call : Call) (fresh : Option (Fresh ℕ))

@@ -78,7 +78,7 @@ lines_are_repeated (suc count) = ap (λ lines. codes "t mount plain /a" ∷ line
 -- the lines of the script
 script_has_lines : (mounts : ℕ)
     → lines_of (stacking_script mounts) ≡ codes "t mkdir /a" ∷ lines_repeated mounts (codes "t mount plain /a") []
-script_has_lines mounts = ap (λ lines. codes "t mkdir /a" ∷ lines) (lines_are_repeated mounts)
+script_has_lines mounts = cc (lines_are_repeated mounts)
 
 module _ (version : Version) where
   -- what so many mounts lead to, and the rest of the text

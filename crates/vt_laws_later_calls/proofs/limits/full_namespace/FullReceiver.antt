@@ -44,10 +44,8 @@ module _ (version : Version) where
       → reply_line (suc last) (policy nat_eq (numbers_for (suc last)) world name call).answer ≡ text
       → (lines : List (List ℕ)) → text_from (whole version) world (suc last) (line ∷ lines) []
       ≡ text ++ text_from (whole version) (next_world (suc last) world name call) (suc (suc last)) lines []
-  line_text last world line name call asked text replied lines =
-      text_goes_on (whole version) line name call asked world last
-      (policy nat_eq (numbers_for (suc last)) world name call) lines refl ∙ ap (λ reply. reply
-      ++ text_from (whole version) (next_world (suc last) world name call) (suc (suc last)) lines []) replied
+  line_text last world line name call asked text replied lines = cc (text_goes_on (whole version) line name call asked
+      world last (policy nat_eq (numbers_for (suc last)) world name call) lines refl)
 
 -- the answers to the first seven lines, computed
 reply_1 : reply_line 1 (policy nat_eq (numbers_for 1) first_world [] (Mkdir (codes "/s") None)).answer ≡ codes "1 ok\n"
@@ -177,7 +175,7 @@ stacking_lines (suc count) = ap (λ lines. codes "t.1 mount plain /q" ∷ lines)
 -- all lines
 script_lines : (count : ℕ)
     → lines_of (receiver_script count) ≡ lines_from_1 (lines_repeated count (codes "t.1 mount plain /q") last_lines)
-script_lines count = ap lines_from_1 (stacking_lines count)
+script_lines count = cc (stacking_lines count)
 
 -- a line once
 one_line : (line : List ℕ) (lines : List (List ℕ)) → lines_repeated 1 line lines ≡ line ∷ lines
@@ -264,11 +262,11 @@ module _ (version : Version) where
 
     -- the namespace has 4,096 mounts
     full_count : mount_count full 39 ≡ 4096
-    full_count = ap (mount_count full) (sym fuller.own) ∙ fuller.stack.counted
+    full_count = cc (fuller.own, fuller.stack.counted)
 
     -- the mount on the shared one is refused
     line_4102 : policy nat_eq (numbers_for 4102) full [] mounting ≡ denied full (denial M9)
-    line_4102 = full_receiver_refuses full (fuller.stack.is, fuller.stack.plain) fuller.receiver 4096 full_count
+    line_4102 = full_receiver_refuses (fuller.stack.is, fuller.stack.plain) fuller.receiver full_count
         (numbers_for 4102) refl
 
     -- the numbers of the next line are not in use
@@ -285,9 +283,9 @@ module _ (version : Version) where
 
     -- the mount on the shared one is granted
     line_4104 : (policy nat_eq (numbers_for 4104) left [] mounting).answer ≡ Ok Done
-    line_4104 = receiver_with_room_grants left
+    line_4104 = receiver_with_room_grants
         (one_less_is_kept filled serves_4101 room (numbers_for 4103) (next_numbers_serve full 4102 has_4102))
-        (receiver_is_left filled serves_4101 room) 4095
+        (receiver_is_left filled serves_4101 room)
         (ap (mount_count left) (sym filled.own) ∙ filled.stack.counted) (numbers_for 4104) refl
 
     -- the text of these lines

@@ -129,7 +129,7 @@ module _ {count : ℕ} {world : World ℕ} (filled : IsFilled count world) {fres
       handed_serves refl refl)
 
 -- The mount on the shared one
-module _ (world : World ℕ) (kept : Kept world) (receiver : HasReceiver first_tree second_tree world) (count : ℕ)
+module _ {world : World ℕ} (kept : Kept world) (receiver : HasReceiver first_tree second_tree world) {count : ℕ}
     (counted : mount_count world 39 ≡ count) (fresh : Fresh ℕ) where
   -- needs room in the other namespace
   abbrev lacking : Bool

@@ -63,11 +63,11 @@ module _ {first second : Filesystem ℕ} (trees : TwoTrees first second) {world 
 
   -- mounts
   first_mount_is : mount_numbered nat_eq world 0 ≡ root_mount 0 1
-  first_mount_is = ap (λ mounts. mount_in nat_eq mounts 0) has.mounts
+  first_mount_is = cc has.mounts
 
   -- the shared mount
   shared_mount_is : mount_numbered nat_eq world 17 ≡ shared_mount 17 1 0
-  shared_mount_is = ap (λ mounts. mount_in nat_eq mounts 17) has.mounts
+  shared_mount_is = cc has.mounts
 
   -- what was stacked stands in the other namespace
   rest_stands_apart : (mount : Mount ℕ) → Among mount has.rest → (node : ℕ)
@@ -76,8 +76,8 @@ module _ {first second : Filesystem ℕ} (trees : TwoTrees first second) {world 
     where
       elsewhere : (namespace : Option ℕ) → holds_of (nat_eq 39) namespace ≡ true
           → list_all (nat_eq 1) (option_to_list namespace) ≡ false
-      elsewhere None e = absurd (true≢false (sym e))
-      elsewhere (Some number) e = ap (λ n. nat_eq 1 n && true) (sym (eqb-true 39 number e))
+      elsewhere None e = cc
+      elsewhere (Some number) e = cc (eqb-true 39 number e)
 
       by : (b : Bool) → stands_at nat_eq (record { mount = 17; node = node }) mount ≡ b
           → stands_at nat_eq (record { mount = 17; node = node }) mount ≡ false
@@ -141,14 +141,14 @@ module _ {first second : Filesystem ℕ} (trees : TwoTrees first second) {world 
   first_word_leads : WordLeads world task (record { mount = 0; node = 3 }) (codes "s") 6
       (record { mount = 17; node = 22 })
   first_word_leads = record {
-    searched = ap is_directory_node root_is;
+    searched = cc root_is;
     plain = plain_numbered world plain _;
-    searches = ap (node_allows task.credentials execute_right) root_is;
-    entry = ap (λ node. entry_named (codes "s") (entries_in node)) root_is;
+    searches = cc root_is;
+    entry = cc root_is;
     leads = topmost_of_one world.mounts (record { mount = 0; node = 6 }) (shared_mount 17 1 0)
-        (ap (λ mounts. child_at nat_eq mounts (record { mount = 0; node = 6 })) has.mounts) nothing_on_root
-        (length (root_mount 47 39 ∷ shared_mount 66 39 47 ∷ shared_mount 66 39 47 ∷ has.rest)) (ap length has.mounts);
-    directory = ap is_directory_node middle_is;
+        (cc has.mounts) nothing_on_root
+        (length (root_mount 47 39 ∷ shared_mount 66 39 47 ∷ shared_mount 66 39 47 ∷ has.rest)) (cc has.mounts);
+    directory = cc middle_is;
   }
 
   -- `d` leads from there to the place
@@ -168,11 +168,9 @@ module _ {first second : Filesystem ℕ} (trees : TwoTrees first second) {world 
       ≡ Ok (record { location = place; left = most_symlinks; steps = steps }))
   path_leads = (
     _,
-    destination_is_walked world task (codes "/s/d")
-        (end_of_two world task (codes "/s/d") (codes "s") (codes "d") path_has_two_words 6 24
-        (record { mount = 17; node = 22 }) place first_word_leads second_word_leads)
-        (two_words_lead world task (codes "/s/d") (codes "s") (codes "d") path_has_two_words 6 24
-        (record { mount = 17; node = 22 }) place first_word_leads second_word_leads) (record {
+    destination_is_walked {world = world} task (codes "/s/d")
+        (end_of_two world task path_has_two_words first_word_leads second_word_leads)
+        (two_words_lead world task path_has_two_words first_word_leads second_word_leads) (record {
           ends = topmost_of_free world.mounts place nothing_on_place;
           directory = second_word_leads.directory;
           stays = place_stays;
@@ -181,7 +179,7 @@ module _ {first second : Filesystem ℕ} (trees : TwoTrees first second) {world 
 
   -- the shared mount is in the first task's namespace
   pub no_rule_fails : none_fails (new_mount_rules nat_eq (looks_of nat_eq world) task place false) ≡ true
-  no_rule_fails = ap (λ (mount : Mount ℕ). not (not (holds_of (nat_eq 1) mount.namespace)) && true) shared_mount_is
+  no_rule_fails = cc shared_mount_is
 
   -- Parts
   receives_itself : receives nat_eq world 18 (shared_mount 17 1 0) ≡ true
@@ -195,7 +193,7 @@ module _ {first second : Filesystem ℕ} (trees : TwoTrees first second) {world 
       by : (source : Option ℕ) → not (is_some source) ≡ true
           → holds_of (λ one. is_among nat_eq 18 (groups_up world one)) source ≡ false
       by None e = refl
-      by (Some group) e = absurd (true≢false (sym e))
+      by (Some group) e = cc
 
   -- the shared mount and its peer
   abbrev two_shared : List (Mount ℕ)
@@ -227,7 +225,7 @@ module _ {first second : Filesystem ℕ} (trees : TwoTrees first second) {world 
     where
       by : (namespace : Option ℕ) → holds_of (nat_eq 39) namespace ≡ true → holds_of (nat_eq 1) namespace ≡ false
       by None e = refl
-      by (Some number) e = ap (nat_eq 1) (sym (eqb-true 39 number e))
+      by (Some number) e = cc (eqb-true 39 number e)
 
   -- there is room just while the other namespace has room for one more
   pub room_of_other : (count : ℕ) → mount_count world 39 ≡ count

@@ -55,9 +55,8 @@ moves_ask_for_room world fresh task mount place is there =
     new = copies_from nat_eq fresh (parts_of nat_eq world place) (tree_of world mount)
 
     within : (one : Mount ℕ) → Among one (tree_of world mount) → Among one world.mounts
-    within one m =
-        ⊎_elim (λ same. subst (λ other. Among other world.mounts) (sym same) (found_there world.mounts mount there))
-        (λ other. other) (tree_among (length world.mounts) world.mounts (mount_numbered nat_eq world mount) one m)
+    within one m = ⊎_elim (λ same. rw same (found_there world.mounts mount there)) (λ other. other)
+        (tree_among (length world.mounts) world.mounts (mount_numbered nat_eq world mount) one m)
 
     counted : (namespace : ℕ) → mount_count (attached_by nat_eq world new place true (tree_of world mount)) namespace
         ≡ mount_count world namespace + how_many_in namespace (parts_of nat_eq world place) * length

@@ -18,16 +18,16 @@ module _ {A : Type 0} (answer : Result A Deny) (behind : Rules) where
   m9_refuses : (before : Rules) → none_fails (before ++ (false, M9) ∷ behind) ≡ true
       → unless (before ++ (true, M9) ∷ behind) answer ≡ Err (denial M9)
   m9_refuses [] none = refl
-  m9_refuses ((true, rule) ∷ before) none = absurd (true≢false (sym none))
+  m9_refuses ((true, rule) ∷ before) none = cc
   m9_refuses ((false, rule) ∷ before) none = m9_refuses before none
 
   -- and refuses nothing where M9 does not fail
   none_refuses : (rules : Rules) → none_fails rules ≡ true → unless rules answer ≡ answer
   none_refuses [] none = refl
-  none_refuses ((true, rule) ∷ rules) none = absurd (true≢false (sym none))
+  none_refuses ((true, rule) ∷ rules) none = cc
   none_refuses ((false, rule) ∷ rules) none = none_refuses rules none
 
-module _ (world : World ℕ) (fresh : Fresh ℕ) (name : TaskName) (task : Task ℕ) (call : Call)
+module _ {world : World ℕ} (fresh : Fresh ℕ) (name : TaskName) {task : Task ℕ} (call : Call)
     (called : task_called world name ≡ Some task) (changes : only_looks call ≡ false) where
   -- a call that attaches is answered by its table of rules, with M9 among them
   answered_by_table : (permit : Permit ℕ) (before behind : Rules) (lacking : Bool)
@@ -41,7 +41,7 @@ module _ (world : World ℕ) (fresh : Fresh ℕ) (name : TaskName) (task : Task 
 pub new_mount_needs_room : NewMountNeedsRoom
 unfolding mount_plain_permit
 new_mount_needs_room world fresh name task path flags here is called admin walk none =
-    answered_by_table world fresh name task (MountPlain path flags) called refl (ToMountPlain here.location flags)
+    answered_by_table fresh name (MountPlain path flags) called refl (ToMountPlain here.location flags)
     (take 1 (new_mount_rules nat_eq (looks_of nat_eq world) task here.location false)) []
     (lacks_room world here.location 1)
     (ap (λ b. unless ((b, K1) ∷ []) (and_then (walk_end (destination_walk nat_eq world task path)) judged_at)) admin
@@ -58,7 +58,7 @@ new_mount_needs_room world fresh name task path flags here is called admin walk 
 pub bind_needs_room : BindNeedsRoom
 unfolding bind_permit
 bind_needs_room world fresh name task source path recursive from here called admin from_walk walk none =
-    answered_by_table world fresh name task (Bind source path recursive) called refl
+    answered_by_table fresh name (Bind source path recursive) called refl
     (ToBind from.location here.location recursive)
     (take 2 (bind_rules nat_eq (looks_of nat_eq world) task from.location here.location false)) []
     (lacks_room world here.location (length (bind_tree nat_eq world from.location recursive)))
@@ -81,7 +81,7 @@ bind_needs_room world fresh name task source path recursive from here called adm
 pub move_needs_room : MoveNeedsRoom
 unfolding move_permit
 move_needs_room world fresh name task source path from here is called admin from_walk walk none =
-    answered_by_table world fresh name task (MoveMount source path) called refl
+    answered_by_table fresh name (MoveMount source path) called refl
     (ToMove from.location.mount here.location)
     (take 5 (move_rules nat_eq (looks_of nat_eq world) task from.location here.location false))
     (drop 6 (move_rules nat_eq (looks_of nat_eq world) task from.location here.location false))

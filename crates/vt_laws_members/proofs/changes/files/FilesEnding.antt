@@ -2,7 +2,7 @@
 use Rattle.std.proofs.Common.{arith, ◌≡◌, refl, sym, ap, subst, ◌∙◌, ℕ, nat_eq, true, false, true≢false, List, [], ◌∷◌, Option, Some, None, Ok, filter, is_some, map, ◌||◌, IfOk}
 use Rattle.vt_spec.proofs.Common.{Among, Call, Change, Done, FileTree, Filesystem, Fresh, Location, Overlay, Task, TaskName, ToChange, World, changed_at, common_steps, filesystem_at, filesystem_changed, finished_by, granted, is_among, is_member_task, is_overlay, judge_in, mount_at, numbers_of_change, numbers_raised, only_looks, part_of, policy, raised_task, settled, task_called, used_filesystems, with_change}
 use Rattle.vt_spec.specs.Language.Changes
-use Rattle.vt_laws_members.proofs.judging.TheirCalls.{caller_in, sealing_of}
+use Rattle.vt_laws_members.proofs.judging.TheirCalls.{IsLastingCall, caller_in, lasting, sealing_of}
 use Rattle.vt_laws_mounts.specs.LettingGo.InUse.{AllInUse}
 use Rattle.vt_laws_mounts.specs.LettingGo.TreesOverlays.{with_filesystems}
 use Rattle.vt_laws_mounts.proofs.letting_go.Lists.{filter-map}
@@ -16,7 +16,7 @@ use Rattle.vt_laws_members.proofs.changes.files.Edits.{Edits, IsEdit, chmods_edi
 use Rattle.vt_laws_members.proofs.changes.files.FilesInUse.{in_use_changed, tree_changes}
 use Rattle.vt_laws_members.proofs.changes.files.OneFilesystem.{old_used, one_in_part, one_in_world}
 use Rattle.vt_laws_members.proofs.changes.files.FilesRaised.{both, left, left_so, part_left, swap}
-use Rattle.vt_laws_members.proofs.changes.looks.Told.{ran, same_caller}
+use Rattle.vt_laws_members.proofs.changes.looks.Told.{ended_alike, ran, same_caller}
 use Rattle.vt_laws_members.proofs.changes.part.PartAgain.{part_again}
 use Rattle.vt_laws_members.proofs.changes.part.SettledPart.{part_in_use}
 use Rattle.vt_laws_members.proofs.changes.tasks.Denied.{ran_there, run_by}
@@ -26,10 +26,8 @@ pub no_overlay : (o : Option (Overlay ℕ)) → is_some o ≡ false → o ≡ No
 no_overlay None e = refl
 no_overlay (Some overlay) e = absurd (true≢false e)
 
-module _ {world : World ℕ} {names : List TaskName} {name : TaskName} {call : Call}
-    (it : IsCallOfTheirs world names name call) (fresh other : Fresh ℕ) (task : Task ℕ)
-    (found : task_called world name ≡ Some task) (looks : only_looks call ≡ false)
-    (stays : grown names name call (Ok Done) ≡ names) (location : Location ℕ) (change : Change ℕ) (is : IsEdit change)
+module _ {world : World ℕ} {names : List TaskName} {name : TaskName} {call : Call} {task : Task ℕ}
+    (lasts : IsLastingCall world names name call task) (location : Location ℕ) (change : Change ℕ) (is : IsEdit change)
     (plain : is_overlay (filesystem_at nat_eq world location) ≡ false)
     (used : is_among nat_eq (mount_at nat_eq world location).filesystem (used_filesystems nat_eq world names) ≡ true)
     (alike : filesystem_at nat_eq world location ≡ filesystem_at nat_eq (part_of nat_eq world names) location) where
@@ -47,11 +45,11 @@ module _ {world : World ℕ} {names : List TaskName} {name : TaskName} {call : C
 
   -- a run of the change
   changes_so : (w : World ℕ) (supply : Fresh ℕ) → filesystem_at nat_eq w location ≡ old
-      → run_by it w supply task (Ok (ToChange location change))
+      → run_by lasts.it w supply task (Ok (ToChange location change))
       ≡ granted Done (numbers_raised nat_eq w name (old.number ∷ [])
       (settled nat_eq (with_filesystems w (swap old files))))
   changes_so w supply e = ap (λ b. finished_by nat_eq (b || false) w name (changed_at nat_eq w location)
-      (granted Done (with_change nat_eq supply w location change))) looks
+      (granted Done (with_change nat_eq supply w location change))) lasts.looks
       ∙ ap (λ f. granted Done (numbers_raised nat_eq w name (numbers_of_change nat_eq w f f.overlay)
       (settled nat_eq (filesystem_changed nat_eq supply w f f.overlay change)))) e
       ∙ ap (λ o. granted Done (numbers_raised nat_eq w name (numbers_of_change nat_eq w old o)
@@ -61,7 +59,7 @@ module _ {world : World ℕ} {names : List TaskName} {name : TaskName} {call : C
       → ((x : Filesystem ℕ) → Among x w.filesystems → nat_eq old.number x.number ≡ true → x ≡ old)
       → AllInUse (with_filesystems w (swap old files))
   in_use w all one = in_use_changed w all (swap old files)
-      (tree_changes w old files plain (edits_keep old.files change is).0 (edits_keep old.files change is).1
+      (tree_changes w files plain (edits_keep old.files change is).0 (edits_keep old.files change is).1
       (edits_keep old.files change is).2 one)
 
   abbrev raised_members : List (Task ℕ) → List (Task ℕ)
@@ -77,67 +75,61 @@ module _ {world : World ℕ} {names : List TaskName} {name : TaskName} {call : C
   left_there = left old files part name
 
   parts_alike : part_of nat_eq left_here names ≡ part_of nat_eq left_there names
-  parts_alike = part_left old files world name names (old_used world names it.is number used)
-      (one_in_world world names it.is number used)
-      ∙ (λ i. record (with_filesystems (sym (part_again world names it.is) i)
+  parts_alike = part_left old files world name names (old_used world names lasts.is number used)
+      (one_in_world world names lasts.is number used)
+      ∙ (λ i. record (with_filesystems (sym (part_again world names lasts.is) i)
       (both old files)) { tasks = tasks_alike i }) ∙ sym (part_left old files part name names
       (ap (is_among nat_eq old.number) (same_used world names)
-      ∙ (old_used world names it.is number used)) (one_in_part world names it.is number used))
+      ∙ (old_used world names lasts.is number used)) (one_in_part world names lasts.is number used))
 
-  pub edit_ends : ran name call world fresh (Some task)
-      ≡ run_by it world fresh task (Ok (ToChange location change))
+  pub edit_ends : (fresh other : Fresh ℕ) → ran name call world fresh (Some task)
+      ≡ run_by lasts.it world fresh task (Ok (ToChange location change))
       → ran name call part other (Some task)
-      ≡ run_by it part other task (Ok (ToChange location change))
+      ≡ run_by lasts.it part other task (Ok (ToChange location change))
       → EndsAlike world names name call fresh other
-  edit_ends one two =
+  edit_ends fresh other one two =
       let first : policy nat_eq fresh world name call ≡ granted Done left_here =
-      ap (ran name call world fresh) found ∙ one ∙ changes_so world fresh refl
+      ap (ran name call world fresh) lasts.found ∙ one ∙ changes_so world fresh refl
       ∙ ap (granted Done) (left_so old files world name
-      (in_use world (all_in_use world it.is) (one_in_world world names it.is number used))) in
+      (in_use world (all_in_use world lasts.is) (one_in_world world names lasts.is number used))) in
       let second : policy nat_eq other part name call ≡ granted Done left_there =
-      ap (ran name call part other) (same_caller (sealing_of it) name it.theirs ∙ found) ∙ two ∙ changes_so part other
-      (sym alike) ∙ ap (granted Done) (left_so old files part name (in_use part (part_in_use (sealing_of it))
-      (one_in_part world names it.is number used))) in
-      subst (λ p. EndAlike (grown names name call (policy nat_eq fresh world name call).answer)
-      (policy nat_eq fresh world name call) p) (sym second)
-      (subst (λ o. EndAlike (grown names name call o.answer) o (granted Done left_there)) (sym first)
-      (subst (λ s. EndAlike s (granted Done left_here) (granted Done left_there)) (sym stays)
-      (record { answer = refl; part = parts_alike })))
+      ap (ran name call part other) (same_caller (sealing_of lasts.it) name lasts.theirs ∙ lasts.found) ∙ two ∙ changes_so part other
+      (sym alike) ∙ ap (granted Done) (left_so old files part name (in_use part (part_in_use (sealing_of lasts.it))
+      (one_in_part world names lasts.is number used))) in
+      ended_alike names name call first second (rw lasts.stays (record { answer = refl; part = parts_alike }))
 
 -- A call whose walk leads to what it edits
-module _ {world : World ℕ} {names : List TaskName} {name : TaskName} {call : Call}
-    (it : IsCallOfTheirs world names name call) (task : Task ℕ) (found : task_called world name ≡ Some task)
-    (fresh other : Fresh ℕ) (location : Location ℕ) (change : Change ℕ)
-    (granted_so : judge_in nat_eq fresh world task call ≡ Ok (ToChange location change))
-    (plain : is_overlay (filesystem_at nat_eq world location) ≡ false) (looks : only_looks call ≡ false)
-    (stays : grown names name call (Ok Done) ≡ names)
+module _ {world : World ℕ} {names : List TaskName} {name : TaskName} {call : Call} {task : Task ℕ}
+    (lasts : IsLastingCall world names name call task) (fresh other : Fresh ℕ) {location : Location ℕ}
+    {change : Change ℕ} (granted_so : judge_in nat_eq fresh world task call ≡ Ok (ToChange location change))
+    (plain : is_overlay (filesystem_at nat_eq world location) ≡ false)
     (edits : IfOk (judge_in nat_eq fresh world task call) (Edits (is_theirs world names))) where
   edit : (is_theirs world names location.mount ≡ true) × IsEdit change
   edit = subst (λ j. IfOk j (Edits (is_theirs world names))) granted_so edits
 
   pub walked_edit_ends : EndsAlike world names name call fresh other
   walked_edit_ends =
-      let ground = theirs_from world names it.is.mounts location.mount edit.0 in
-      edit_ends it fresh other task found looks stays location change edit.1 plain
-      (theirs_used world names it.is location ground) (filesystem_alike world names it.is location ground)
-      (ap (run_by it world fresh task) granted_so) (ran_there it fresh other task found granted_so)
+      let ground = theirs_from world names lasts.is.mounts location.mount edit.0 in
+      edit_ends lasts location change edit.1 plain
+      (theirs_used world names lasts.is location ground) (filesystem_alike world names lasts.is location ground)
+      fresh other (ap (run_by lasts.it world fresh task) granted_so) (ran_there lasts.it fresh other task lasts.found granted_so)
 
 pub writes_end_alike : WritesEndAlike
 writes_end_alike world names name path bytes it task found fresh other location change granted_so plain =
-    walked_edit_ends it task found fresh other location change granted_so plain refl refl
+    walked_edit_ends (lasting it found refl refl) fresh other granted_so plain
     (writes_edit (caller_in it found) path bytes)
 
 pub chmods_end_alike : ChmodsEndAlike
 chmods_end_alike world names name path mode it task found fresh other location change granted_so plain =
-    walked_edit_ends it task found fresh other location change granted_so plain refl refl
+    walked_edit_ends (lasting it found refl refl) fresh other granted_so plain
     (chmods_edit (caller_in it found) path mode)
 
 pub chowns_end_alike : ChownsEndAlike
 chowns_end_alike world names name path uid gid it task found fresh other location change granted_so plain =
-    walked_edit_ends it task found fresh other location change granted_so plain refl refl
+    walked_edit_ends (lasting it found refl refl) fresh other granted_so plain
     (chowns_edit (caller_in it found) path uid gid)
 
 pub opaques_end_alike : OpaquesEndAlike
 opaques_end_alike world names name path mark it task found fresh other location change granted_so plain =
-    walked_edit_ends it task found fresh other location change granted_so plain refl refl
+    walked_edit_ends (lasting it found refl refl) fresh other granted_so plain
     (opaques_edit (caller_in it found) path mark)

@@ -45,7 +45,7 @@ module _ (world : World ℕ) (in_use : AllInUse world) (change : Filesystem ℕ 
     in_use_changed = grind (arith, common_steps, filesystems_after, all_stay, all_but_none)
 
 -- One plain filesystem has a tree with the same root, numbers and names.
-module _ (world : World ℕ) (old : Filesystem ℕ) (files : FileTree ℕ) (plain : is_overlay old ≡ false)
+module _ (world : World ℕ) {old : Filesystem ℕ} (files : FileTree ℕ) (plain : is_overlay old ≡ false)
     (root : files.tree.root ≡ old.files.tree.root) (numbers : files.numbers ≡ old.files.numbers)
     (named : named_in files ≡ named_in old.files)
     (one : (x : Filesystem ℕ) → Among x world.filesystems → nat_eq old.number x.number ≡ true → x ≡ old) where

@@ -2,7 +2,7 @@
 use Rattle.std.proofs.Common.{◌≡◌, refl, sym, ap, subst, ◌∙◌, ℕ, nat_eq, Bool, true, false, cond, find, List, ◌∷◌, Option, Some, None, Ok, IfOk, ok_or, option_to_list, ◌==◌}
 use Rattle.vt_spec.proofs.Common.{Among, Call, Descriptor, Location, Looks, Permit, Pwrite, SetBytes, Task, TaskName, ToChange, ToWritePart, World, and_then, bytes_in, denial, descriptor_numbered, filesystem_numbered, found_among, judge_in, locations, looks_of, members, mount_at, node_at, overwritten, part_of, pwrite_permit, pwrite_rules, unless, ⊤}
 use Rattle.vt_spec.specs.declared.errors.Rule.TheVariants.{S4}
-use Rattle.vt_laws_members.proofs.judging.TheirCalls.{IsMember, caller_in, sealing_of}
+use Rattle.vt_laws_members.proofs.judging.TheirCalls.{IsMember, caller_in, lasting, sealing_of}
 use Rattle.vt_laws_sealed.proofs.part.part.PartOfPart.{found, located}
 use Rattle.vt_laws_members.proofs.judging.SeenInPart.{located_used}
 use Rattle.vt_laws_members.specs.Changes.Changes.{PartWritesEndAlike}
@@ -44,12 +44,12 @@ module _ {world : World ℕ} {names : List TaskName} {task : Task ℕ} (member :
 
 pub part_writes_end_alike : PartWritesEndAlike
 part_writes_end_alike world names name descriptor offset byte bytes it task called fresh other file at written
-    granted_so plain = edit_ends it fresh other task called refl refl file
+    granted_so plain = edit_ends (lasting it called refl refl) file
     (SetBytes file.node (overwritten at (byte ∷ bytes) (bytes_in (node_at nat_eq world file)))) tt plain
     (located_used world names it.is file theirs.0)
     (sym (found world names (mount_at nat_eq world file).filesystem (located_used world names it.is file theirs.0))
     ∙ ap (filesystem_numbered nat_eq part) (sym (located world names file theirs.0)))
-    (ap (run_by it world fresh task) judged) (ran_there it fresh other task called judged
+    fresh other (ap (run_by it world fresh task) judged) (ran_there it fresh other task called judged
     ∙ ap (λ node. run_by it part other task (Ok (ToChange file
     (SetBytes file.node (overwritten at (byte ∷ bytes) (bytes_in node))))))
     (sym (open_file (sealing_of it) file theirs.0)))

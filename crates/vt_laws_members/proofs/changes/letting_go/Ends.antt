@@ -8,7 +8,7 @@ use Rattle.vt_laws_mounts.proofs.letting_go.sweeps.OfWorlds.{all_in_use}
 use Rattle.vt_laws_sealed.proofs.part.part.PartOfPart.{keep, kept_how}
 use Rattle.vt_laws_members.proofs.changes.tasks.Rights.{raised_is, sees_alike}
 use Rattle.vt_laws_members.specs.Changes.Changes.{EndAlike, EndsAlike, IsCallOfTheirs, grown}
-use Rattle.vt_laws_members.proofs.changes.looks.Told.{ran, same_caller}
+use Rattle.vt_laws_members.proofs.changes.looks.Told.{ended_alike, ran, same_caller}
 use Rattle.vt_laws_members.proofs.changes.part.SettledPart.{part_in_use}
 use Rattle.vt_laws_members.proofs.changes.tasks.Ending.{with_tasks}
 use Rattle.vt_laws_members.proofs.changes.tasks.Retasked.{SeeAlike, retasked}
@@ -47,7 +47,7 @@ raised_sees u set name change =
     (λ t m. raised_is name (λ (x : Task ℕ). x.root ∷ x.directory ∷ []) (λ x. refl) t) change
     (λ t m. raised_is name locations_of (λ x. refl) t)
 
-module _ (before : World ℕ) (in_use : AllInUse before) (private_ones : DetachedArePrivate before) (name : TaskName)
+module _ {before : World ℕ} (in_use : AllInUse before) (private_ones : DetachedArePrivate before) (name : TaskName)
     (set : List TaskName) (tasks : List (Task ℕ)) (answer : Answer) where
   abbrev later : World ℕ
   later = record before { tasks = tasks }
@@ -73,11 +73,7 @@ pub let_go_alike : (world : World ℕ) (names set : List TaskName) (name : TaskN
     → filter (is_member_task set) tasks_too ≡ filter (is_member_task set) tasks
     → ((t : Task ℕ) → Among t tasks_too → is_member_task set t ≡ true) → EndsAlike world names name call fresh other
 let_go_alike world names set name call it task called fresh other answer stays tasks tasks_too one two lets same all =
-    subst (λ p. EndAlike (grown names name call (policy nat_eq fresh world name call).answer)
-    (policy nat_eq fresh world name call) p) (sym second)
-    (subst (λ o. EndAlike (grown names name call o.answer) o (granted answer left_too)) (sym first)
-    (subst (λ s. EndAlike s (granted answer left) (granted answer left_too)) (sym stays)
-    (record { answer = refl; part = parts })))
+    ended_alike names name call first second (rw stays (record { answer = refl; part = parts }))
   where
     part : World ℕ
     part = part_of nat_eq world names
@@ -89,18 +85,18 @@ let_go_alike world names set name call it task called fresh other answer stays t
     in_part = part_in_use (sealing_of it)
 
     left : World ℕ
-    left = ended world in_world (private_in_world world it.is) name set tasks answer
+    left = ended in_world (private_in_world world it.is) name set tasks answer
 
     left_too : World ℕ
-    left_too = ended part in_part (private_in_part world names it.is) name set tasks_too answer
+    left_too = ended in_part (private_in_part world names it.is) name set tasks_too answer
 
     first : policy nat_eq fresh world name call ≡ granted answer left
     first = ap (ran name call world fresh) called ∙ one
-        ∙ ends_so world in_world (private_in_world world it.is) name set tasks answer
+        ∙ ends_so in_world (private_in_world world it.is) name set tasks answer
 
     second : policy nat_eq other part name call ≡ granted answer left_too
     second = ap (ran name call part other) (same_caller (sealing_of it) name it.theirs ∙ called) ∙ two
-        ∙ ends_so part in_part (private_in_part world names it.is) name set tasks_too answer
+        ∙ ends_so in_part (private_in_part world names it.is) name set tasks_too answer
 
     retasks : Retasks world names set
     retasks = record {
@@ -113,8 +109,8 @@ let_go_alike world names set name call it task called fresh other answer stays t
     }
 
     parts : part_of nat_eq left set ≡ part_of nat_eq left_too set
-    parts = part_of_ended world in_world (private_in_world world it.is) name set tasks answer
+    parts = part_of_ended in_world (private_in_world world it.is) name set tasks answer
         ∙ (λ i. record (swept_alike retasks i) {
           tasks = (raised_members set name tasks ∙ ap (map (raised_task name)) (sym same)
               ∙ sym (raised_members set name tasks_too)) i;
-        }) ∙ sym (part_of_ended part in_part (private_in_part world names it.is) name set tasks_too answer)
+        }) ∙ sym (part_of_ended in_part (private_in_part world names it.is) name set tasks_too answer)

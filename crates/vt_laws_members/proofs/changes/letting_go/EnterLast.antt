@@ -7,7 +7,7 @@ use Rattle.vt_laws_worlds.proofs.kept.MountsAlike.{same_mounts}
 use Rattle.vt_laws_sealed.proofs.part.part.PartOfPart.{is_own}
 use Rattle.vt_laws_members.specs.Changes.Changes.{EndAlike, EndsAlike, IsCallOfTheirs, grown}
 use Rattle.vt_laws_members.specs.Changes.LettingGo.{SetnsEndsAlike}
-use Rattle.vt_laws_members.proofs.changes.looks.Told.{ran, same_caller}
+use Rattle.vt_laws_members.proofs.changes.looks.Told.{ended_alike, ran, same_caller}
 use Rattle.vt_laws_members.proofs.changes.tasks.Denied.{denial_ends_alike, ran_there, run_by, unnamed_ends_alike}
 use Rattle.vt_laws_members.proofs.changes.letting_go.Callers.{all_in_set, of_set, others_left, places_left, replaced_apart, roots_left, same_set}
 use Rattle.vt_laws_members.proofs.changes.letting_go.CutNamespace.{in_same, in_space, numbers_in}
@@ -23,11 +23,10 @@ use Rattle.vt_laws_worlds.proofs.worlds.CallsKept.{name_found}
 use Rattle.vt_laws_members.proofs.changes.letting_go.Taken.{group_lost}
 
 module _ {world : World ℕ} {names : List TaskName} {name called_so : TaskName}
-    (it : IsCallOfTheirs world names name (Setns called_so)) (task : Task ℕ)
+    (it : IsCallOfTheirs world names name (Setns called_so)) {task : Task ℕ}
     (called : task_called world name ≡ Some task) (target : Task ℕ) (target_in : Among target (members world names))
-    (away : nat_eq task.namespace target.namespace ≡ false)
-    (empty : list_any (λ (t : Task ℕ). nat_eq task.namespace t.namespace)
-    (filter (λ (t : Task ℕ). not (same_name name t.name)) world.tasks) ≡ false) where
+    (away : nat_eq task.namespace target.namespace ≡ false) (empty : list_any (λ (t : Task ℕ). nat_eq task.namespace
+    t.namespace) (filter (λ (t : Task ℕ). not (same_name name t.name)) world.tasks) ≡ false) where
   abbrev part : World ℕ
   part = part_of nat_eq world names
 
@@ -206,11 +205,7 @@ module _ {world : World ℕ} {names : List TaskName} {name called_so : TaskName}
         tasks = map (replaced_if_called (entered_at task target.namespace (unwrap_or o task.root))) part.tasks;
       }))))) (root_alike it task called target target_in)
       ∙ ap (λ w. granted Done (numbers_raised nat_eq part name [] (settled nat_eq w))) part_ends in
-      subst (λ p. EndAlike (grown names name (Setns called_so)
-      (policy nat_eq fresh world name (Setns called_so)).answer)
-      (policy nat_eq fresh world name (Setns called_so)) p) (sym second)
-      (subst (λ o. EndAlike (grown names name (Setns called_so) o.answer) o (granted Done left_too)) (sym first)
-      (record { answer = refl; part = parts }))
+      ended_alike names name (Setns called_so) first second (record { answer = refl; part = parts })
 
 -- by whether it stays, or another task does
 module _ {world : World ℕ} {names : List TaskName} {name called_so : TaskName}
@@ -235,7 +230,7 @@ module _ {world : World ℕ} {names : List TaskName} {name called_so : TaskName}
       (entered it task called target target_in other.0 from.0 (sym (eqb-true task.namespace other.0.namespace other.2))
       (not-true (same_name name other.0.name) from.1)) fresh supply judged
   granted_alike target target_in judged false false e f =
-      last_setns_alike it task called target target_in e f fresh supply judged
+      last_setns_alike it called target target_in e f fresh supply judged
 
   judged_by : (member : Among task (members world names)) (j : Judgement ℕ)
       → judge_in nat_eq fresh world task (Setns called_so) ≡ j

@@ -180,7 +180,7 @@ module _ {world : World ℕ} {names : List TaskName} {name called_so : TaskName}
     other_same = cc (its_name exit_it task called, differ)
 
     other_in : Among other_task theirs
-    other_in = in_old exit_it task called other_task there together differ
+    other_in = in_old exit_it called other_task there together differ
 
     pub entered : (n : ℕ) (list : List (Task ℕ)) → ((t : Task ℕ) → Among t list → Among t world.tasks)
         → ((t : Task ℕ) → Among t theirs → Among t list) → list_any (λ (t : Task ℕ). nat_eq n t.namespace) list ≡ true

@@ -8,7 +8,7 @@ use Rattle.vt_laws_mounts.proofs.ends.Ending.{ended_namespaces_keep_mounts}
 use Rattle.vt_laws_worlds.proofs.kept.MountsAlike.{same_mounts}
 use Rattle.vt_laws_sealed.proofs.part.part.PartOfPart.{is_own}
 use Rattle.vt_laws_members.specs.Changes.Changes.{EndAlike, EndsAlike, IsCallOfTheirs, grown, left}
-use Rattle.vt_laws_members.proofs.changes.looks.Told.{ran, same_caller}
+use Rattle.vt_laws_members.proofs.changes.looks.Told.{ended_alike, ran, same_caller}
 use Rattle.vt_laws_members.proofs.changes.letting_go.CutNamespace.{in_same, in_space, numbers_in}
 use Rattle.vt_laws_members.proofs.changes.letting_go.Detached.{detached_parts}
 use Rattle.vt_laws_members.proofs.changes.letting_go.Heard.{own_in, space_in_part}
@@ -199,7 +199,4 @@ module _ {world : World ℕ} {names : List TaskName} {name : TaskName} (it : IsC
 
   pub last_exit_alike : (fresh other : Fresh ℕ) → EndsAlike world names name Exit fresh other
   last_exit_alike fresh other =
-      subst (λ p. EndAlike (grown names name Exit (policy nat_eq fresh world name Exit).answer)
-      (policy nat_eq fresh world name Exit) p) (sym (second other))
-      (subst (λ o. EndAlike (grown names name Exit o.answer) o (granted Done left_too)) (sym (first fresh))
-      (record { answer = refl; part = parts }))
+      ended_alike names name Exit (first fresh) (second other) (record { answer = refl; part = parts })

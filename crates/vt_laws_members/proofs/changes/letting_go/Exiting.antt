@@ -86,7 +86,7 @@ module _ {world : World ℕ} {names : List TaskName} {name : TaskName} (it : IsC
           ∙ above g heard lives (list_any (is_member_of nat_eq g) (own_mounts nat_eq world names)) (world.master g) refl
 
 module _ {world : World ℕ} {names : List TaskName} {name : TaskName} (it : IsCallOfTheirs world names name Exit)
-    (task : Task ℕ) (called : task_called world name ≡ Some task) (other : Task ℕ) (there : Among other world.tasks)
+    {task : Task ℕ} (called : task_called world name ≡ Some task) (other : Task ℕ) (there : Among other world.tasks)
     (together : other.namespace ≡ task.namespace) (differ : same_name name other.name ≡ false) where
   abbrev part : World ℕ
   part = part_of nat_eq world names
@@ -192,7 +192,7 @@ exits_end_alike world names name it fresh supply = by (task_called world name) r
         let other = any_among (λ (t : Task ℕ). nat_eq task.namespace t.namespace)
         (filter (λ (t : Task ℕ). not (same_name name t.name)) world.tasks) h in
         let from = among-from_filter (λ (t : Task ℕ). not (same_name name t.name)) world.tasks other.0 other.1 in
-        exit_alike it task e other.0 from.0 (sym (eqb-true task.namespace other.0.namespace other.2))
+        exit_alike it e other.0 from.0 (sym (eqb-true task.namespace other.0.namespace other.2))
         (not-true (same_name name other.0.name) from.1) fresh supply
     last_or_not task e false h = last_exit_alike it task e h fresh supply
 

@@ -12,7 +12,7 @@ use Rattle.vt_laws_members.proofs.judging.Grounds.{IsTheirs, same_mount, theirs_
 use Rattle.vt_laws_members.specs.Changes.Changes.{EndAlike, EndsAlike, IsCallOfTheirs, grown}
 use Rattle.vt_laws_members.specs.Changes.LettingGo.{UmountsEndAlike}
 use Rattle.vt_laws_members.proofs.changes.looks.Granted.{of_rules, of_walk}
-use Rattle.vt_laws_members.proofs.changes.looks.Told.{ran, same_caller}
+use Rattle.vt_laws_members.proofs.changes.looks.Told.{ended_alike, ran, same_caller}
 use Rattle.vt_laws_members.proofs.changes.tasks.Denied.{denial_ends_alike, ran_there, run_by, unnamed_ends_alike}
 use Rattle.vt_laws_members.proofs.changes.letting_go.Moving.{StandsHere, at_directory, one}
 use Rattle.vt_laws_members.proofs.changes.letting_go.PartMounts.{part_mounts}
@@ -72,7 +72,7 @@ module _ {world : World ℕ} {names : List TaskName} (sealing : IsSealed world n
 
 -- A call that detaches a mount of theirs without children
 module _ {world : World ℕ} {names : List TaskName} {name : TaskName} {call : Call}
-    (it : IsCallOfTheirs world names name call) (task : Task ℕ) (called : task_called world name ≡ Some task)
+    (it : IsCallOfTheirs world names name call) {task : Task ℕ} (called : task_called world name ≡ Some task)
     (number : ℕ) (on : is_theirs world names number ≡ true)
     (has_point : is_some (mount_numbered nat_eq world number).mount_point ≡ true)
     (alone : has_child nat_eq world number ≡ false) where
@@ -140,16 +140,11 @@ module _ {world : World ℕ} {names : List TaskName} {name : TaskName} {call : C
       (settled nat_eq (taken_away nat_eq there (going nat_eq world mount_of)))) =
       ap (ran name call there other) (same_caller (sealing_of it) name it.theirs ∙ called) ∙ two ∙ ap (λ l. granted Done
       (numbers_raised nat_eq there name [] (settled nat_eq (taken_away nat_eq there l)))) same_going in
-      subst (λ p. EndAlike (grown names name call (policy nat_eq fresh world name call).answer)
-      (policy nat_eq fresh world name call) p) (sym second)
-      (subst (λ o. EndAlike (grown names name call o.answer) o (granted Done (numbers_raised nat_eq there name []
-      (settled nat_eq (taken_away nat_eq there (going nat_eq world mount_of)))))) (sym first)
-      (subst (λ s. EndAlike s (detaches world) (granted Done (numbers_raised nat_eq there name []
-      (settled nat_eq (taken_away nat_eq there (going nat_eq world mount_of)))))) (sym stays) (record {
+      ended_alike names name call first second (rw stays (record {
         answer = refl;
         part = taken_parts (theirs_go (sealing_of it) mount_of mount_there mount_own) kept_world
             kept_part name;
-      })))
+      }))
 
 pub umounts_end_alike : UmountsEndAlike
 umounts_end_alike world names name path it fresh other = by (task_called world name) refl
@@ -159,7 +154,7 @@ umounts_end_alike world names name path it fresh other = by (task_called world n
         → IfOk j (Unmounts member)
         → EndsAlike world names name (Umount path) fresh other
     judged_by task member e (Ok permit) judged its =
-        detached_alike it task e its.0.mount its.2 its.3 its.4 fresh other refl
+        detached_alike it e its.0.mount its.2 its.3 its.4 fresh other refl
         (ap (run_by it world fresh task) (judged ∙ ap Ok its.1))
         (ran_there it fresh other task e (judged ∙ ap Ok its.1))
     judged_by task member e (Err deny) judged its = denial_ends_alike it fresh other

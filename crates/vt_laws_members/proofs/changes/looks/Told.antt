@@ -74,6 +74,14 @@ ran name call world fresh found = after world (ok_or found (denial S2)) (λ task
     finished nat_eq world name call (filesystems_changed_by nat_eq world (judge_in nat_eq fresh world task call))
     (call_outcome nat_eq fresh world task call))
 
+-- two runs end alike, if the outcomes that they come to do
+pub ended_alike : (names : List TaskName) (name : TaskName) (call : Call) {one first other second : Outcome ℕ}
+    → one ≡ first → other ≡ second → EndAlike (grown names name call first.answer) first second
+    → EndAlike (grown names name call one.answer) one other
+ended_alike names name call {one = one} {second = second} is is_too alike =
+    subst (λ p. EndAlike (grown names name call one.answer) one p) (sym is_too)
+    (subst (λ o. EndAlike (grown names name call o.answer) o second) (sym is) alike)
+
 pub looks_end_alike : LooksEndAlike
 looks_end_alike world names name call it looks fresh other = by (task_called world name) refl
   where
@@ -84,10 +92,8 @@ looks_end_alike world names name call it looks fresh other = by (task_called wor
         → EndAlike (grown names name call (ran name call world fresh found).answer) (ran name call world fresh found)
         (ran name call part other found) → EndAlike (grown names name call (policy nat_eq fresh world name call).answer)
         (policy nat_eq fresh world name call) (policy nat_eq other part name call)
-    also found e alike = subst (λ p. EndAlike (grown names name call (policy nat_eq fresh world name call).answer)
-        (policy nat_eq fresh world name call) p) (sym (ap (ran name call part other)
-        (same_caller (sealing_of it) name it.theirs ∙ e))) (subst (λ o. EndAlike (grown names name call o.answer) o
-        (ran name call part other found)) (sym (ap (ran name call world fresh) e)) alike)
+    also found e alike = ended_alike names name call (ap (ran name call world fresh) e)
+        (ap (ran name call part other) (same_caller (sealing_of it) name it.theirs ∙ e)) alike
 
     looking : (w : World ℕ) (fr : Fresh ℕ) (task : Task ℕ)
         → ran name call w fr (Some task) ≡ call_outcome nat_eq fr w task call
@@ -110,10 +116,7 @@ looks_end_alike world names name call it looks fresh other = by (task_called wor
           member = contains_from_among (members world names) task member.among;
           among_them = it.among_them;
         }) fresh other in
-        also (Some task) e (subst (λ p. EndAlike (grown names name call (ran name call world fresh (Some task)).answer)
-        (ran name call world fresh (Some task)) p)
-        (sym (looking part other task ∙ ap (λ j. after part j (apply nat_eq other part task)) (sym judged)))
-        (subst (λ o. EndAlike (grown names name call o.answer) o
-        (after part (judge_in nat_eq fresh world task call) (apply nat_eq other part task)))
-        (sym (looking world fresh task)) (looks_by (sealing_of it) task member.among fresh other name call granted.1
-        (judge_in nat_eq fresh world task call) granted.0)))
+        also (Some task) e (ended_alike names name call (looking world fresh task)
+        (looking part other task ∙ ap (λ j. after part j (apply nat_eq other part task)) (sym judged))
+        (looks_by (sealing_of it) task member.among fresh other name call granted.1
+        (judge_in nat_eq fresh world task call) granted.0))

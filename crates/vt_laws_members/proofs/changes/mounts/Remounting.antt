@@ -11,7 +11,7 @@ use Rattle.vt_laws_members.proofs.judging.MountPoints.{in_own}
 use Rattle.vt_laws_members.specs.Changes.Changes.{EndAlike, EndsAlike, IsCallOfTheirs, grown}
 use Rattle.vt_laws_members.specs.Changes.MountChanges.{RemountsEndAlike}
 use Rattle.vt_laws_members.proofs.changes.looks.Granted.{of_rules, of_walk}
-use Rattle.vt_laws_members.proofs.changes.looks.Told.{ran, same_caller}
+use Rattle.vt_laws_members.proofs.changes.looks.Told.{ended_alike, ran, same_caller}
 use Rattle.vt_laws_members.proofs.changes.tasks.Denied.{denial_ends_alike, ran_there, run_by, unnamed_ends_alike}
 use Rattle.vt_laws_members.proofs.changes.letting_go.Moving.{StandsHere, at_directory, one}
 use Rattle.vt_laws_members.proofs.changes.letting_go.PartMounts.{part_mounts}
@@ -51,7 +51,7 @@ module _ {world : World ℕ} {names : List TaskName} {task : Task ℕ} (member :
 
 -- A granted remount
 module _ {world : World ℕ} {names : List TaskName} {name : TaskName} {path : List ℕ} {flags : MountFlags}
-    (it : IsCallOfTheirs world names name (Remount path flags)) (task : Task ℕ)
+    (it : IsCallOfTheirs world names name (Remount path flags)) {task : Task ℕ}
     (called : task_called world name ≡ Some task) (fresh other : Fresh ℕ) (here : Location ℕ)
     (on : is_theirs world names here.mount ≡ true)
     (own : is_own world names (members world names) (mount_at nat_eq world here) ≡ true)
@@ -89,14 +89,10 @@ module _ {world : World ℕ} {names : List TaskName} {name : TaskName} {path : L
       (same_mount world names it.is.mounts here.mount theirs))
 
   remount_alike : EndsAlike world names name (Remount path flags) fresh other
-  remount_alike = subst (λ p. EndAlike
-      (grown names name (Remount path flags) (policy nat_eq fresh world name (Remount path flags)).answer)
-      (policy nat_eq fresh world name (Remount path flags)) p) (sym second)
-      (subst (λ o. EndAlike (grown names name (Remount path flags) o.answer) o
-      (granted Done (numbers_raised nat_eq there name [] now_there))) (sym first) (record {
-        answer = refl;
-        part = flags_left (sealing_of it) mount_of mount_there own flags name;
-      }))
+  remount_alike = ended_alike names name (Remount path flags) first second (record {
+    answer = refl;
+    part = flags_left (sealing_of it) mount_of mount_there own flags name;
+  })
 
 pub remounts_end_alike : RemountsEndAlike
 remounts_end_alike world names name path flags it fresh other = by (task_called world name) refl
@@ -106,7 +102,7 @@ remounts_end_alike world names name path flags it fresh other = by (task_called 
         → IfOk j (SetsFlags member flags)
         → EndsAlike world names name (Remount path flags) fresh other
     judged_by task member e (Ok permit) judged its =
-        remount_alike it task e fresh other its.0 its.2 its.3 (judged ∙ ap Ok its.1)
+        remount_alike it e fresh other its.0 its.2 its.3 (judged ∙ ap Ok its.1)
     judged_by task member e (Err deny) judged its =
         denial_ends_alike it fresh other (ap (λ o. is_ok (ran name (Remount path flags) world fresh o).answer) e
         ∙ ap (λ j. is_ok (run_by it world fresh task j).answer) judged)

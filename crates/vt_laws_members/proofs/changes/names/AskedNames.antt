@@ -24,7 +24,7 @@ use Rattle.vt_laws_sealed.proofs.outsiders.FilesChanged.{IsCopy, written_not_spa
 use Rattle.vt_laws_members.proofs.changes.names.GrantedNames.{Names, NamingCall}
 
 -- A plain tree that changes, and the names that it loses
-module _ (world : World ℕ) (old : Filesystem ℕ) (files : FileTree ℕ) (plain : is_overlay old ≡ false) (unnamed : List ℕ)
+module _ (world : World ℕ) (old : Filesystem ℕ) {files : FileTree ℕ} (plain : is_overlay old ≡ false) {unnamed : List ℕ}
     (changes : ChangesTree old.files files unnamed) where
   abbrev pub lost : List Inode
   lost = map (λ inode. (old.number, inode)) unnamed

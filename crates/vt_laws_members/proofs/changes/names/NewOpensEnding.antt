@@ -38,7 +38,7 @@ new_run w name path access how supply location change old task file wanted e pla
 
 pub new_opens_end_alike : NewOpensEndAlike
 new_opens_end_alike world names name path access how it task found fresh serves directory entry node wanted judged
-    plain = opened_ends it fresh task found file ground wanted (swap old files)
+    plain = opened_ends it fresh found file ground wanted (swap old files)
     (old.number ∷ []) (moves world (all_in_use world it.is) (one_in_world world names it.is number used)
     (old_used world names it.is number used)) (moves part (part_in_use (sealing_of it))
     (one_in_part world names it.is number used) (ap (is_among nat_eq old.number) (same_used world names) ∙ old_used
@@ -85,11 +85,11 @@ new_opens_end_alike world names name path access how it task found fresh serves 
     moves : (w : World ℕ) → AllInUse w
         → ((x : Filesystem ℕ) → Among x w.filesystems → nat_eq old.number x.number ≡ true → x ≡ old)
         → is_among nat_eq old.number (used_filesystems nat_eq w names) ≡ true
-        → MovesIn it fresh task found file ground wanted (swap old files)
+        → MovesIn it fresh found file ground wanted (swap old files)
         (old.number ∷ []) w
     moves w in_use one used_there = record {
       in_use = in_use_changed w in_use (swap old files)
-          (swap_changes w old files [] (tree_changes world old files plain [] none_lost) one);
+          (swap_changes w old files [] (tree_changes world old plain none_lost) one);
       part_moved = part_with_files w names (both old files) (both_numbered old files)
           (λ x m. both_overlaid old files x (one x m)) (λ x unused. kept x unused (nat_eq old.number x.number) refl);
     }

@@ -37,10 +37,10 @@ plain_run w name call supply location change old looks e plain =
     (settled nat_eq (filesystem_changed nat_eq supply w old o change)))) (no_overlay old.overlay plain)
 
 module _ {world : World ℕ} {names : List TaskName} {name : TaskName} {call : Call}
-    (it : IsCallOfTheirs world names name call) (fresh other : Fresh ℕ) (task : Task ℕ)
+    (it : IsCallOfTheirs world names name call) (fresh other : Fresh ℕ) {task : Task ℕ}
     (found : task_called world name ≡ Some task) (stays : grown names name call (Ok Done) ≡ names)
-    (location : Location ℕ) (used : is_among nat_eq (mount_at nat_eq world location).filesystem
-    (used_filesystems nat_eq world names) ≡ true)
+    (location : Location ℕ)
+    (used : is_among nat_eq (mount_at nat_eq world location).filesystem (used_filesystems nat_eq world names) ≡ true)
     (alone_before : used_alone nat_eq world names (mount_at nat_eq world location).filesystem ≡ true)
     (files : FileTree ℕ) where
   abbrev part : World ℕ

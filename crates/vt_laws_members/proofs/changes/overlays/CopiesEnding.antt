@@ -1,7 +1,7 @@
 -- A call of theirs that edits a file through an overlay with an upper layer ends in the part as in the world.
 use Rattle.std.proofs.Common.{arith, ◌≡◌, refl, sym, ap, subst, ◌∙◌, ℕ, nat_eq, false, List, [], ◌∷◌, Some, Ok, filter, map}
 use Rattle.vt_spec.proofs.Common.{Among, Call, Done, Filesystem, Task, TaskName, World, changed_at, common_steps, finished, granted, is_among, is_member_task, locations_of, map_twice, numbers_raised, only_looks, part_of, policy, raised, raised_if_changed, raised_task, same_name, task_called, used_filesystems, with_change}
-use Rattle.vt_laws_members.proofs.judging.TheirCalls.{sealing_of}
+use Rattle.vt_laws_members.proofs.judging.TheirCalls.{IsLastingCall, sealing_of}
 use Rattle.vt_laws_mounts.specs.LettingGo.InUse.{AllInUse}
 use Rattle.vt_laws_mounts.specs.LettingGo.TreesOverlays.{ChangesFilesystem, with_filesystems}
 use Rattle.vt_laws_mounts.proofs.letting_go.Lists.{filter-map}
@@ -10,7 +10,7 @@ use Rattle.vt_laws_mounts.proofs.letting_go.sweeps.OfWorlds.{all_in_use}
 use Rattle.vt_laws_sealed.proofs.part.part.PartOfPart.{same_members, same_used}
 use Rattle.vt_laws_members.specs.Changes.Changes.{EndAlike, EndsAlike, IsCallOfTheirs, grown}
 use Rattle.vt_laws_members.proofs.changes.files.StepsInUse.{in_use_stepped}
-use Rattle.vt_laws_members.proofs.changes.looks.Told.{ran, same_caller}
+use Rattle.vt_laws_members.proofs.changes.looks.Told.{ended_alike, ran, same_caller}
 use Rattle.vt_laws_members.proofs.changes.overlays.Copying.{AreOnes, Copies, OverlayChange, both_numbers, changes_in_part, changes_in_world, kept_on, moved_on, numbers_in_part, numbers_in_world, ones_in_part, ones_in_world, part_moved, step, stepped_in_part, stepped_in_world}
 use Rattle.vt_laws_members.proofs.changes.part.PartAgain.{part_again}
 use Rattle.vt_laws_members.proofs.changes.part.SettledPart.{part_in_use}
@@ -18,10 +18,9 @@ use Rattle.vt_laws_members.proofs.changes.tasks.RaisedTasks.{tasks_raised}
 use Rattle.vt_laws_members.proofs.changes.tasks.Retasked.{retasked}
 use Rattle.vt_laws_members.proofs.changes.tasks.Rights.{raised_is, sees_alike}
 
-module _ {world : World ℕ} {names : List TaskName} {name : TaskName} {call : Call}
-    (it : IsCallOfTheirs world names name call) (task : Task ℕ) (found : task_called world name ≡ Some task)
-    (looks : only_looks call ≡ false) (stays : grown names name call (Ok Done) ≡ names)
-    (through : OverlayChange world names) (copies : Copies through.change) where
+module _ {world : World ℕ} {names : List TaskName} {name : TaskName} {call : Call} {task : Task ℕ}
+    (lasts : IsLastingCall world names name call task) (through : OverlayChange world names)
+    (copies : Copies through.change) where
   abbrev part : World ℕ
   part = part_of nat_eq world names
 
@@ -89,7 +88,7 @@ module _ {world : World ℕ} {names : List TaskName} {name : TaskName} {call : C
   parts_alike : part_of nat_eq (left world) names ≡ part_of nat_eq (left part) names
   parts_alike =
       part_of_left world (ones_in_world through) (kept_on through)
-      ∙ (λ i. record (with_filesystems (sym (part_again world names it.is) i) both) { tasks = tasks_alike i })
+      ∙ (λ i. record (with_filesystems (sym (part_again world names lasts.is) i) both) { tasks = tasks_alike i })
       ∙ sym (part_of_left part (ones_in_part through)
       (λ x e. kept_on through x (sym (ap (is_among nat_eq x.number) (same_used world names)) ∙ e)))
 
@@ -101,15 +100,11 @@ module _ {world : World ℕ} {names : List TaskName} {name : TaskName} {call : C
       name call through.supply through.supply
   copy_ends runs runs_there =
       let first : policy nat_eq through.supply world name call ≡ granted Done (left world) =
-      ap (ran name call world through.supply) found
-      ∙ runs ∙ ends_so world (all_in_use world it.is) (changes_in_world through copies) (stepped_in_world through)
+      ap (ran name call world through.supply) lasts.found
+      ∙ runs ∙ ends_so world (all_in_use world lasts.is) (changes_in_world through copies) (stepped_in_world through)
       (numbers_in_world through) in
       let second : policy nat_eq through.supply part name call ≡ granted Done (left part) =
-      ap (ran name call part through.supply) (same_caller (sealing_of it) name it.theirs ∙ found) ∙ runs_there ∙ ends_so
-      part (part_in_use (sealing_of it)) (changes_in_part through copies)
+      ap (ran name call part through.supply) (same_caller (sealing_of lasts.it) name lasts.theirs ∙ lasts.found) ∙ runs_there ∙ ends_so
+      part (part_in_use (sealing_of lasts.it)) (changes_in_part through copies)
       (stepped_in_part through copies) (numbers_in_part through) in
-      subst (λ p. EndAlike (grown names name call (policy nat_eq through.supply world name call).answer)
-      (policy nat_eq through.supply world name call) p) (sym second)
-      (subst (λ o. EndAlike (grown names name call o.answer) o (granted Done (left part))) (sym first)
-      (subst (λ s. EndAlike s (granted Done (left world)) (granted Done (left part))) (sym stays)
-      (record { answer = refl; part = parts_alike })))
+      ended_alike names name call first second (rw lasts.stays (record { answer = refl; part = parts_alike }))

@@ -1,7 +1,7 @@
 -- Calls of theirs that edit a file through an overlay: write(2), chmod(2), chown(2), pwrite(2).
 use Rattle.std.proofs.Common.{arith, ◌≡◌, refl, sym, ap, subst, ◌∙◌, ℕ, nat_eq, true, false, true≢false, List, ◌∷◌, Option, Some, None, Ok, is_some, IfOk}
 use Rattle.vt_spec.proofs.Common.{AddName, Among, Call, Change, CopyUp, Done, Filesystem, Fresh, Layer, Location, Make, Move, Overlay, Pwrite, Remove, Serves, SetAttr, SetBytes, SetMark, Task, TaskName, ToChange, ToWritePart, World, among-append_right, among-map, bytes_in, changed_at, common_steps, filesystem_at, filesystem_numbered, finished, granted, is_overlay, judge_in, locations, members, mount_at, node_at, only_looks, overwritten, part_of, task_called, used_directly, with_change}
-use Rattle.vt_laws_members.proofs.judging.TheirCalls.{caller_in, sealing_of}
+use Rattle.vt_laws_members.proofs.judging.TheirCalls.{IsLastingCall, caller_in, lasting, sealing_of}
 use Rattle.vt_laws_worlds.proofs.worlds.CallsKept.{name_found}
 use Rattle.vt_laws_worlds.specs.OverlayPermits.Asked.{AsksWell}
 use Rattle.vt_laws_worlds.proofs.overlay_permits.asked.Asked.{permits_ask_well}
@@ -31,15 +31,14 @@ pub unwritten_run : (w : World ℕ) (name : TaskName) (call : Call) (supply : Fr
 unwritten_run w name call supply location change merged overlay looks same overlaid none = grind (arith, common_steps)
 
 -- With one the file is copied up.
-module _ {world : World ℕ} {names : List TaskName} {name : TaskName} {call : Call}
-    (it : IsCallOfTheirs world names name call) (fresh : Fresh ℕ) (task : Task ℕ)
-    (found_task : task_called world name ≡ Some task) (looks : only_looks call ≡ false)
-    (stays : grown names name call (Ok Done) ≡ names) (location : Location ℕ) (change : Change ℕ)
-    (copies : Copies change) (direct : Among (mount_at nat_eq world location).filesystem
-    (used_directly nat_eq world names)) (alike : filesystem_at nat_eq world location ≡ filesystem_at nat_eq
-    (part_of nat_eq world names) location) (is : is_overlay (filesystem_at nat_eq world location) ≡ true)
-    (can : (overlay : Overlay ℕ) (upper : Layer ℕ) → (filesystem_at nat_eq world location).overlay ≡ Some overlay
-    → overlay.upper ≡ Some upper → CanChange fresh world location change overlay upper) where
+module _ {world : World ℕ} {names : List TaskName} {name : TaskName} {call : Call} {task : Task ℕ}
+    (lasts : IsLastingCall world names name call task) (fresh : Fresh ℕ) {location : Location ℕ} {change : Change ℕ}
+    (copies : Copies change)
+    (direct : Among (mount_at nat_eq world location).filesystem (used_directly nat_eq world names))
+    (alike : filesystem_at nat_eq world location ≡ filesystem_at nat_eq (part_of nat_eq world names) location)
+    (is : is_overlay (filesystem_at nat_eq world location) ≡ true) (can : (overlay : Overlay ℕ) (upper : Layer ℕ)
+    → (filesystem_at nat_eq world location).overlay ≡ Some overlay → overlay.upper ≡ Some upper
+    → CanChange fresh world location change overlay upper) where
   abbrev part : World ℕ
   part = part_of nat_eq world names
 
@@ -56,12 +55,12 @@ module _ {world : World ℕ} {names : List TaskName} {name : TaskName} {call : C
       layered : (overlay : Overlay ℕ) → merged.overlay ≡ Some overlay → (o : Option (Layer ℕ)) → overlay.upper ≡ o
           → EndsAlike world names name call fresh fresh
       layered overlay overlaid None none =
-          idle_end_alike world names name call it task found_task fresh fresh Done stays
-          (one ∙ unwritten_run world name call fresh location change merged overlay looks refl overlaid none)
-          (two ∙ unwritten_run part name call fresh location change merged overlay looks (sym alike) overlaid none)
+          idle_end_alike world names name call lasts.it task lasts.found fresh fresh Done lasts.stays
+          (one ∙ unwritten_run world name call fresh location change merged overlay lasts.looks refl overlaid none)
+          (two ∙ unwritten_run part name call fresh location change merged overlay lasts.looks (sym alike) overlaid none)
       layered overlay overlaid (Some upper) has =
-          copy_ends it task found_task looks stays (record {
-            is = it.is;
+          copy_ends lasts (record {
+            is = lasts.is;
             supply = fresh;
             location = location;
             change = change;
@@ -89,50 +88,48 @@ edits_copy world location (Remove directory name object) none is asked = absurd 
 edits_copy world location (Move from old to new object) none is asked = absurd none
 
 -- A call whose walk leads to what it edits
-module _ {world : World ℕ} {names : List TaskName} {name : TaskName} {call : Call}
-    (it : IsCallOfTheirs world names name call) (task : Task ℕ) (found_task : task_called world name ≡ Some task)
-    (fresh : Fresh ℕ) (serves : Serves nat_eq world fresh) (location : Location ℕ) (change : Change ℕ)
+module _ {world : World ℕ} {names : List TaskName} {name : TaskName} {call : Call} {task : Task ℕ}
+    (lasts : IsLastingCall world names name call task) {fresh : Fresh ℕ} (serves : Serves nat_eq world fresh)
+    {location : Location ℕ} {change : Change ℕ}
     (judged : judge_in nat_eq fresh world task call ≡ Ok (ToChange location change))
-    (is : is_overlay (filesystem_at nat_eq world location) ≡ true) (looks : only_looks call ≡ false)
-    (stays : grown names name call (Ok Done) ≡ names)
+    (is : is_overlay (filesystem_at nat_eq world location) ≡ true)
     (edits : IfOk (judge_in nat_eq fresh world task call) (Edits (is_theirs world names))) where
   edit : (is_theirs world names location.mount ≡ true) × IsEdit change
   edit = subst (λ j. IfOk j (Edits (is_theirs world names))) judged edits
 
-  ground : IsTheirs world names it.is.mounts location.mount
-  ground = theirs_from world names it.is.mounts location.mount edit.0
+  ground : IsTheirs world names lasts.is.mounts location.mount
+  ground = theirs_from world names lasts.is.mounts location.mount edit.0
 
   itself : task_called world task.name ≡ Some task
-  itself = ap (task_called world) (sym (name_found world name task found_task)) ∙ found_task
+  itself = ap (task_called world) (sym (name_found world name task lasts.found)) ∙ lasts.found
 
   pub walked_copy_ends : EndsAlike world names name call fresh fresh
-  walked_copy_ends = through_ends it fresh task found_task looks stays location change
+  walked_copy_ends = through_ends lasts fresh
       (edits_copy world location change edit.1 is (permits_ask_well world fresh task call (ToChange location change)
-      it.is serves itself judged).0) (theirs_directly world names it.is location ground)
-      (filesystem_alike world names it.is location ground) is
+      lasts.is serves itself judged).0) (theirs_directly world names lasts.is location ground)
+      (filesystem_alike world names lasts.is location ground) is
       (λ overlay upper overlaid has. permits_can_change world fresh task call (ToChange location change) location change
-      overlay upper it.is serves itself judged refl overlaid has) (ap (run_by it world fresh task) judged)
-      (ran_there it fresh fresh task found_task judged)
+      overlay upper lasts.is serves itself judged refl overlaid has) (ap (run_by lasts.it world fresh task) judged)
+      (ran_there lasts.it fresh fresh task lasts.found judged)
 
 pub overlay_writes_end_alike : OverlayWritesEndAlike
 overlay_writes_end_alike world names name path bytes it task called fresh serves location change judged is =
-    walked_copy_ends it task called fresh serves location change judged is refl refl
+    walked_copy_ends (lasting it called refl refl) serves judged is
     (writes_edit (caller_in it called) path bytes)
 
 pub overlay_chmods_end_alike : OverlayChmodsEndAlike
 overlay_chmods_end_alike world names name path mode it task called fresh serves location change judged is =
-    walked_copy_ends it task called fresh serves location change judged is refl refl
+    walked_copy_ends (lasting it called refl refl) serves judged is
     (chmods_edit (caller_in it called) path mode)
 
 pub overlay_chowns_end_alike : OverlayChownsEndAlike
 overlay_chowns_end_alike world names name path uid gid it task called fresh serves location change judged is =
-    walked_copy_ends it task called fresh serves location change judged is refl refl
+    walked_copy_ends (lasting it called refl refl) serves judged is
     (chowns_edit (caller_in it called) path uid gid)
 
 pub overlay_part_writes_end_alike : OverlayPartWritesEndAlike
 overlay_part_writes_end_alike world names name descriptor offset byte bytes it task called fresh serves file at written
-    granted_so is = through_ends it fresh task called refl refl file
-    (SetBytes file.node (overwritten at (byte ∷ bytes) (bytes_in (node_at nat_eq world file)))) tt direct alike is
+    granted_so is = through_ends (lasting it called refl refl) fresh tt direct alike is
     (λ overlay upper overlaid has. permits_can_change world fresh task call (ToWritePart file at (byte ∷ bytes)) file
     (SetBytes file.node (overwritten at (byte ∷ bytes) (bytes_in (node_at nat_eq world file)))) overlay upper it.is
     serves itself judged refl overlaid has) (ap (run_by it world fresh task) judged)

@@ -40,11 +40,10 @@ writes_above world fresh task asked permit
     (λ i. opens_for_writing (sym kind i) && has_no_upper (looks_of nat_eq world) (sym same i)) ∙ passed.1.1.1.0
 writes_above world fresh task asked permit other_way file wanted e = absurd cc
 
-module _ {world : World ℕ} {names : List TaskName} {name : TaskName} {path : List ℕ} {access : Access}
-    {how : Creation} (it : IsCallOfTheirs world names name (OpenFile path access how)) {task : Task ℕ}
-    (called : task_called world name ≡ Some task) {fresh : Fresh ℕ} {file : Location ℕ} (wanted : Access)
-    (ground : IsTheirs world names it.is.mounts file.mount)
-    (copied : is_copied_up nat_eq world file wanted ≡ true)
+module _ {world : World ℕ} {names : List TaskName} {name : TaskName} {path : List ℕ} {access : Access} {how : Creation}
+    (it : IsCallOfTheirs world names name (OpenFile path access how)) {task : Task ℕ}
+    (called : task_called world name ≡ Some task) {fresh : Fresh ℕ} {file : Location ℕ} {wanted : Access}
+    (ground : IsTheirs world names it.is.mounts file.mount) (copied : is_copied_up nat_eq world file wanted ≡ true)
     (given : judge_in nat_eq fresh world task (OpenFile path access how) ≡ Ok (ToOpen file wanted))
     {overlay : Overlay ℕ} {upper : Layer ℕ} (can : CanChange fresh world file (CopyUp file.node) overlay upper) where
   abbrev part : World ℕ
@@ -99,7 +98,7 @@ module _ {world : World ℕ} {names : List TaskName} {name : TaskName} {path : L
       && overlay_or false (λ overlay. lies_only_in_lowers overlay file.node) f.overlay) alike) ∙ copied
 
   pub open_through_ends : EndsAlike world names name call fresh fresh
-  open_through_ends = opened_ends it fresh task called file ground wanted moved numbers
+  open_through_ends = opened_ends it fresh called file ground wanted moved numbers
       (record {
         in_use = in_use_stepped world (all_in_use world it.is) moved
             (changes_in_world through tt);
@@ -149,7 +148,7 @@ overlay_opens_end_alike world names name path access how it task called fresh se
         (sym ((λ i. parts.0 i && overlay_or false (λ (v : Overlay ℕ). not (is_some v.upper)) (overlaid i))
         ∙ ap (λ o. not (is_some o)) none) ∙ above))
     layered overlay overlaid (Some upper) has =
-        open_through_ends it called wanted ground copied given
+        open_through_ends it called ground copied given
         (permits_can_change world fresh task call (ToOpen file wanted) file (CopyUp file.node) overlay upper it.is
         serves itself given asks overlaid has)
 

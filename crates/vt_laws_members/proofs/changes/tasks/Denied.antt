@@ -5,7 +5,7 @@ use Rattle.vt_spec.specs.declared.errors.Deny.{Deny}
 use Rattle.vt_laws_members.proofs.judging.ByPart.{members_are_judged_by_their_part}
 use Rattle.vt_laws_members.proofs.judging.TheirCalls.{caller_in, sealing_of}
 use Rattle.vt_laws_members.specs.Changes.Changes.{DenialsEndAlike, EndAlike, EndsAlike, IsCallOfTheirs, grown}
-use Rattle.vt_laws_members.proofs.changes.looks.Told.{ran, same_caller}
+use Rattle.vt_laws_members.proofs.changes.looks.Told.{ended_alike, ran, same_caller}
 use Rattle.vt_laws_members.proofs.changes.part.PartAgain.{part_again}
 
 -- what is permitted is answered
@@ -29,10 +29,8 @@ module _ {world : World ℕ} {names : List TaskName} {name : TaskName} {call : C
   pub by_runs : (found : Option (Task ℕ)) → task_called world name ≡ found
       → EndAlike (grown names name call (ran name call world fresh found).answer) (ran name call world fresh found)
       (ran name call part other found) → EndsAlike world names name call fresh other
-  by_runs found e alike = subst (λ p. EndAlike (grown names name call (policy nat_eq fresh world name call).answer)
-      (policy nat_eq fresh world name call) p) (sym (ap (ran name call part other)
-      (same_caller (sealing_of it) name it.theirs ∙ e))) (subst (λ o. EndAlike (grown names name call o.answer) o
-      (ran name call part other found)) (sym (ap (ran name call world fresh) e)) alike)
+  by_runs found e alike = ended_alike names name call (ap (ran name call world fresh) e)
+      (ap (ran name call part other) (same_caller (sealing_of it) name it.theirs ∙ e)) alike
 
   pub unnamed_ends_alike : task_called world name ≡ None → EndsAlike world names name call fresh other
   unnamed_ends_alike e = by_runs None e (record { answer = refl; part = sym (part_again world names it.is) })
@@ -77,12 +75,9 @@ module _ {world : World ℕ} {names : List TaskName} {name : TaskName} {call : C
           ∙ sym (ap (λ j. is_ok (run_by it world fresh task j).answer) same)
           ∙ sym (ap (λ o. is_ok (ran name call world fresh o).answer) e) ∙ refused))
       judged task e (Err deny) same = by_runs (Some task) e
-          (subst (λ p. EndAlike (grown names name call (ran name call world fresh (Some task)).answer)
-          (ran name call world fresh (Some task)) p) (sym (ap (run_by it part other task)
-          (sym (same_judgement task e) ∙ same) ∙ refused_by part other task deny))
-          (subst (λ o. EndAlike (grown names name call o.answer) o (denied part deny))
-          (sym (ap (run_by it world fresh task) same ∙ refused_by world fresh task deny))
-          (record { answer = refl; part = sym (part_again world names it.is) })))
+          (ended_alike names name call (ap (run_by it world fresh task) same ∙ refused_by world fresh task deny)
+          (ap (run_by it part other task) (sym (same_judgement task e) ∙ same) ∙ refused_by part other task deny)
+          (record { answer = refl; part = sym (part_again world names it.is) }))
 
       by : (o : Option (Task ℕ)) → task_called world name ≡ o → EndsAlike world names name call fresh other
       by None e = unnamed_ends_alike e

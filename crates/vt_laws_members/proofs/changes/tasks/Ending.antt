@@ -6,7 +6,7 @@ use Rattle.vt_laws_mounts.specs.LettingGo.InUse.{AllInUse}
 use Rattle.vt_laws_mounts.proofs.letting_go.sweeps.InUse.{nothing_goes}
 use Rattle.vt_laws_mounts.proofs.letting_go.sweeps.OfWorlds.{all_in_use}
 use Rattle.vt_laws_members.specs.Changes.Changes.{EndAlike, EndsAlike, IsCallOfTheirs, grown}
-use Rattle.vt_laws_members.proofs.changes.looks.Told.{ran, same_caller}
+use Rattle.vt_laws_members.proofs.changes.looks.Told.{ended_alike, ran, same_caller}
 use Rattle.vt_laws_members.proofs.changes.part.PartAgain.{part_again}
 use Rattle.vt_laws_members.proofs.changes.part.SettledPart.{part_in_use}
 use Rattle.vt_laws_members.proofs.changes.tasks.MoreLocations.{in_use_later}
@@ -63,8 +63,4 @@ tasks_end_alike world names set name call it task found fresh other answer stays
     let parts : part_of nat_eq left set ≡ part_of nat_eq left_too set =
     part_of_ended answer in_world leaves ∙ (λ i. record (sym (part_again world names it.is) i) { tasks = same i })
     ∙ sym (part_of_ended answer in_part leaves_too) in
-    subst (λ p. EndAlike (grown names name call (policy nat_eq fresh world name call).answer)
-    (policy nat_eq fresh world name call) p) (sym second)
-    (subst (λ o. EndAlike (grown names name call o.answer) o (granted answer left_too)) (sym first)
-    (subst (λ s. EndAlike s (granted answer left) (granted answer left_too)) (sym stays)
-    (record { answer = refl; part = parts })))
+    ended_alike names name call first second (rw stays (record { answer = refl; part = parts }))

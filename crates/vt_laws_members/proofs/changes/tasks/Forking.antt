@@ -13,7 +13,7 @@ or_none : (b : Bool) → (b || (false || false)) ≡ b
 or_none true = refl
 or_none false = refl
 
-module _ (world : World ℕ) (names : List TaskName) (name : TaskName) (is : IsWorld nat_eq world) (task : Task ℕ)
+module _ {world : World ℕ} (names : List TaskName) (name : TaskName) (is : IsWorld nat_eq world) {task : Task ℕ}
     (found : task_called world name ≡ Some task) (credentials : Credentials) where
   abbrev parent : Task ℕ
   parent = record task { forks = task.forks + 1 }
@@ -184,11 +184,11 @@ pub forks_end_alike : ForksEndAlike
 forks_end_alike world names name words it task called fresh other credentials granted_so =
     tasks_end_alike world names (child_name task ∷ names) name (Fork words) it task called fresh other
     (Child (child_name task)) refl (made world.tasks) (made part.tasks) (ap (run_by it world fresh task) granted_so)
-    (ran_there it fresh other task called granted_so) (leaves world names name it.is task called credentials world
-    (λ t m. m) member.among) (leaves world names name it.is task called credentials part in_world
+    (ran_there it fresh other task called granted_so) (leaves names name it.is called credentials world
+    (λ t m. m) member.among) (leaves names name it.is called credentials part in_world
     (subst (Among task) (sym (same_members world names)) member.among)) (alike world.tasks (λ t m. m) ∙ sym
-    (alike part.tasks in_world ∙ ap (λ l. map (both world names name it.is task called credentials) l ++ kid world names
-    name it.is task called credentials ∷ []) (same_members world names)))
+    (alike part.tasks in_world ∙ ap (λ l. map (both names name it.is called credentials) l ++ kid names
+    name it.is called credentials ∷ []) (same_members world names)))
   where
     part : World ℕ
     part = part_of nat_eq world names
@@ -205,9 +205,9 @@ forks_end_alike world names name words it task called fresh other credentials gr
 
     alike : (tasks : List (Task ℕ)) → ((t : Task ℕ) → Among t tasks → Among t world.tasks)
         → filter (is_member_task (child_name task ∷ names)) (map (raised_task name) (made tasks))
-        ≡ map (both world names name it.is task called credentials) (filter (is_member_task names) tasks)
-        ++ kid world names name it.is task called credentials ∷ []
+        ≡ map (both names name it.is called credentials) (filter (is_member_task names) tasks)
+        ++ kid names name it.is called credentials ∷ []
     alike tasks all = cc (
-      raised_all world names name it.is task called credentials tasks,
-      sift world names name it.is task called credentials tasks all,
+      raised_all names name it.is called credentials tasks,
+      sift names name it.is called credentials tasks all,
     )

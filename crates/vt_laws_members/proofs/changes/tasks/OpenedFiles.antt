@@ -10,7 +10,7 @@ use Rattle.vt_laws_sealed.proofs.part.part.PartOfPart.{is_own, same_members}
 use Rattle.vt_laws_members.proofs.judging.Grounds.{IsTheirs}
 use Rattle.vt_laws_members.proofs.judging.SeenInPart.{theirs_directly}
 use Rattle.vt_laws_members.specs.Changes.Changes.{EndAlike, EndsAlike, IsCallOfTheirs, grown}
-use Rattle.vt_laws_members.proofs.changes.looks.Told.{ran, same_caller}
+use Rattle.vt_laws_members.proofs.changes.looks.Told.{ended_alike, ran, same_caller}
 use Rattle.vt_laws_members.proofs.changes.part.PartAgain.{part_again}
 use Rattle.vt_laws_members.proofs.changes.tasks.Ending.{LeavesTasks}
 use Rattle.vt_laws_members.proofs.changes.tasks.MoreLocations.{in_use_later}
@@ -27,10 +27,10 @@ opened_with w name moved numbers task file access =
     (settled nat_eq (with_task (with_filesystems w moved) (with_descriptor task file access))))
 
 module _ {world : World ℕ} {names : List TaskName} {name : TaskName} {path : List ℕ} {access : Access} {how : Creation}
-    (it : IsCallOfTheirs world names name (OpenFile path access how)) (fresh : Fresh ℕ) (task : Task ℕ)
+    (it : IsCallOfTheirs world names name (OpenFile path access how)) (fresh : Fresh ℕ) {task : Task ℕ}
     (found : task_called world name ≡ Some task) (file : Location ℕ)
-    (ground : IsTheirs world names it.is.mounts file.mount)
-    (wanted : Access) (moved : Filesystem ℕ → Filesystem ℕ) (numbers : List ℕ) where
+    (ground : IsTheirs world names it.is.mounts file.mount) (wanted : Access) (moved : Filesystem ℕ → Filesystem ℕ)
+    (numbers : List ℕ) where
   abbrev part : World ℕ
   part = part_of nat_eq world names
 
@@ -61,7 +61,7 @@ module _ {world : World ℕ} {names : List TaskName} {name : TaskName} {path : L
       → (is_own w names (members w names) m || is_at nat_eq (roots_and_directories (members w names)) m) ≡ true)
       (direct : Among (mount_at nat_eq w file).filesystem (used_directly nat_eq w names)) where
     leaves_tasks : LeavesTasks (with_filesystems w moved_on) names names name (map replaced w.tasks)
-    leaves_tasks = leaves names name it.is task found file wanted (with_filesystems w moved_on) within whole direct
+    leaves_tasks = leaves names name it.is found file wanted (with_filesystems w moved_on) within whole direct
 
     numbers_so : numbers_raised nat_eq w name numbers
         (record (with_filesystems w moved) { tasks = map replaced w.tasks }) ≡ later w
@@ -105,7 +105,7 @@ module _ {world : World ℕ} {names : List TaskName} {name : TaskName} {path : L
         of_map tasks = cc (
           map_twice (raised_task name) replaced tasks,
           filter-map (is_member_task names) each tasks (λ t. ap (λ n. is_among same_name n names) (both_named
-              names name it.is task found file wanted t)),
+              names name it.is found file wanted t)),
         )
 
     parts_alike : part_of nat_eq (later world) names ≡ part_of nat_eq (later part) names
@@ -127,7 +127,4 @@ module _ {world : World ℕ} {names : List TaskName} {name : TaskName} {path : L
         ap (ran name call part fresh) (same_caller (sealing_of it) name it.theirs ∙ found) ∙ two ∙ ends_so part in_part
         its (whole_in_part world names it.is file ground)
         (used_in_part world names it.is file ground) in
-        subst (λ p. EndAlike (grown names name call (policy nat_eq fresh world name call).answer)
-        (policy nat_eq fresh world name call) p) (sym second)
-        (subst (λ o. EndAlike (grown names name call o.answer) o (granted (Opened (free_number task)) (later part)))
-        (sym first) (record { answer = refl; part = parts_alike }))
+        ended_alike names name call first second (record { answer = refl; part = parts_alike })

@@ -104,7 +104,7 @@ module _ (new : Descriptor ℕ) where
   stays_there (first ∷ rest) location m = grind (arith, common_steps, stays_there rest location)
 
 -- A task opens a file on a mount of theirs.
-module _ {world : World ℕ} (names : List TaskName) (name : TaskName) (is : IsWorld nat_eq world) (task : Task ℕ)
+module _ {world : World ℕ} (names : List TaskName) (name : TaskName) (is : IsWorld nat_eq world) {task : Task ℕ}
     (found : task_called world name ≡ Some task) (file : Location ℕ) (access : Access) where
   abbrev new : Task ℕ
   new = with_descriptor task file access
@@ -304,12 +304,12 @@ opens_end_alike world names name path access how it task called fresh other file
     (Opened (free_number task)) refl (map changed world.tasks) (map changed part.tasks)
     (ap (run_by it world fresh task) granted_so ∙ ap (opened_by world fresh) not_copied)
     (ran_there it fresh other task called granted_so ∙ ap (opened_by part other) copied_alike)
-    (leaves names name it.is task called file wanted world (λ t m. m)
+    (leaves names name it.is called file wanted world (λ t m. m)
     (whole_in_world world names it.is file ground) used_in_world)
-    (leaves names name it.is task called file wanted part in_world (whole_in_part world names it.is file ground)
+    (leaves names name it.is called file wanted part in_world (whole_in_part world names it.is file ground)
     (used_in_part world names it.is file ground))
     (replaced_members world.tasks ∙ sym (replaced_members part.tasks
-    ∙ ap (map (both names name it.is task called file wanted)) (same_members world names)))
+    ∙ ap (map (both names name it.is called file wanted)) (same_members world names)))
   where
     part : World ℕ
     part = part_of nat_eq world names
@@ -339,9 +339,9 @@ opens_end_alike world names name path access how it task called fresh other file
 
     replaced_members : (tasks : List (Task ℕ))
         → filter (is_member_task names) (map (raised_task name) (map changed tasks))
-        ≡ map (both names name it.is task called file wanted) (filter (is_member_task names) tasks)
+        ≡ map (both names name it.is called file wanted) (filter (is_member_task names) tasks)
     replaced_members tasks = cc (
       map_twice (raised_task name) changed tasks,
-      filter-map (is_member_task names) (both names name it.is task called file wanted) tasks (λ t. ap (λ n.
-          is_among same_name n names) (both_named names name it.is task called file wanted t)),
+      filter-map (is_member_task names) (both names name it.is called file wanted) tasks (λ t. ap (λ n.
+          is_among same_name n names) (both_named names name it.is called file wanted t)),
     )

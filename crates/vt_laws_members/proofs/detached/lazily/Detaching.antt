@@ -16,7 +16,7 @@ use Rattle.vt_laws_members.proofs.judging.MountPoints.{in_own}
 use Rattle.vt_laws_members.specs.Changes.Changes.{EndAlike, EndsAlike, IsCallOfTheirs, grown}
 use Rattle.vt_laws_members.proofs.changes.letting_go.PartMounts.{part_mounts}
 use Rattle.vt_laws_members.proofs.changes.letting_go.Taken.{taken_parts}
-use Rattle.vt_laws_members.proofs.changes.looks.Told.{ran, same_caller}
+use Rattle.vt_laws_members.proofs.changes.looks.Told.{ended_alike, ran, same_caller}
 use Rattle.vt_laws_members.proofs.changes.names.NamesEnding.{unused_numbers, unused_serve}
 use Rattle.vt_laws_members.proofs.changes.tasks.Denied.{denial_ends_alike, ran_there, run_by, unnamed_ends_alike}
 use Rattle.vt_laws_members.specs.Detached.Lazily.{LazyUmountsDetachAlike}
@@ -84,8 +84,8 @@ detaches world fresh task path asked permit (unmounts_lazily own_path here admin
 detaches world fresh task path asked permit other_way e = absurd cc
 
 module _ {world : World ℕ} {names : List TaskName} {name : TaskName} {path : List ℕ}
-    (it : IsCallOfTheirs world names name (Lazy path)) (fresh other : Fresh ℕ) (task : Task ℕ)
-    (found : task_called world name ≡ Some task) (number : ℕ)
+    (it : IsCallOfTheirs world names name (Lazy path)) (fresh other : Fresh ℕ) {task : Task ℕ}
+    (found : task_called world name ≡ Some task) {number : ℕ}
     (judged : judge_in nat_eq fresh world task (Lazy path) ≡ Ok (ToUnmountLazily number)) where
   abbrev its_part : World ℕ
   its_part = part_of nat_eq world names
@@ -116,12 +116,10 @@ module _ {world : World ℕ} {names : List TaskName} {name : TaskName} {path : L
       let second : policy nat_eq other its_part name (Lazy path) ≡ outcome its_part =
       ap (ran name (Lazy path) its_part other) (same_caller (sealing_of it) name it.theirs ∙ found)
       ∙ ran_there it fresh other task found judged in
-      subst (λ p. EndAlike (grown names name (Lazy path) (policy nat_eq fresh world name (Lazy path)).answer)
-      (policy nat_eq fresh world name (Lazy path)) p) (sym second)
-      (subst (λ o. EndAlike (grown names name (Lazy path) o.answer) o (outcome its_part)) (sym first) (record {
+      ended_alike names name (Lazy path) first second (record {
         answer = refl;
         part = lazy_parts (sealing_of it) name number is_there is_theirs;
-      }))
+      })
 
 pub lazy_umounts_detach_alike : LazyUmountsDetachAlike
 lazy_umounts_detach_alike world names name path it fresh other = by (task_called world name) refl
@@ -132,7 +130,7 @@ lazy_umounts_detach_alike world names name path it fresh other = by (task_called
         let its = detaches world fresh task path (Lazy path) permit
         (calls_are_granted nat_eq (looks_of nat_eq world) (overfills nat_eq fresh world task) task (Lazy path) permit
         judged) refl in
-        granted_ends it fresh other task e its.0 (judged ∙ ap Ok its.1)
+        granted_ends it fresh other e (judged ∙ ap Ok its.1)
     judged_by task e (Err deny) judged = denial_ends_alike it fresh other
         (ap (λ o. is_ok (ran name (Lazy path) world fresh o).answer) e
         ∙ ap (λ j. is_ok (run_by it world fresh task j).answer) judged)

@@ -64,7 +64,7 @@ module _ {world : World ℕ} {names : List TaskName} (sealing : IsSealed world n
   part = part_of nat_eq world names
 
   -- One event, after these mounts went
-  module _ (now now_part : World ℕ) (gone : List ℕ) (go : TheirsGo world names gone) (it : TookAway world now gone)
+  module _ {now now_part : World ℕ} {gone : List ℕ} (go : TheirsGo world names gone) (it : TookAway world now gone)
       (it_there : TookAway part now_part gone) (mount : Mount ℕ) (at : Among mount world.mounts)
       (own : is_own world names theirs mount ≡ true) where
     abbrev b : Bool
@@ -214,6 +214,6 @@ module _ {world : World ℕ} {names : List TaskName} (sealing : IsSealed world n
       let next_way = next world sealing.is.mounts number now mount rest way in
       let next_too = next part (part_mounts sealing) number now_part mount rest way_too in
       let its = owned mount (inl refl) in
-      let both = event_alike now now_part gone go it it_there mount its.0 its.1 next_way.kept next_too.kept in
+      let both = event_alike go it it_there mount its.0 its.1 next_way.kept next_too.kept in
       events_alike number rest (unmounted_if_there nat_eq now mount) (unmounted_if_there nat_eq now_part mount) both.0
       next_way next_too both.1 both.2 both.3 (λ m n. owned m (inr n))

@@ -15,7 +15,7 @@ use Rattle.vt_laws_members.proofs.changes.files.FilesRaised.{swap}
 use Rattle.vt_laws_members.proofs.changes.files.OneFilesystem.{found_numbered}
 use Rattle.vt_laws_members.proofs.changes.letting_go.PartMounts.{part_mounts}
 use Rattle.vt_laws_members.proofs.changes.letting_go.Taken.{part_after, part_taken, world_after, world_taken}
-use Rattle.vt_laws_members.proofs.changes.looks.Told.{ran, same_caller}
+use Rattle.vt_laws_members.proofs.changes.looks.Told.{ended_alike, ran, same_caller}
 use Rattle.vt_laws_members.proofs.changes.names.Elsewhere.{own_here, plain_points}
 use Rattle.vt_laws_members.proofs.changes.names.NamesEnding.{alike, naming_alone, unused_numbers, unused_serve}
 use Rattle.vt_laws_members.proofs.changes.names.RemovalsEnding.{RemovingCall, removing_directory, renames_end_alike, replacing}
@@ -136,16 +136,12 @@ module _ {world : World ℕ} {names : List TaskName} {name : TaskName} {call : C
       let second : policy nat_eq other part name call ≡ left_with part there name old files =
       ap (ran name call part other) (same_caller (sealing_of it.it) name it.theirs ∙ it.found)
       ∙ ran_there it.it fresh other it.task it.found judged ∙ run_there in
-      subst (λ p. EndAlike (grown names name call (policy nat_eq fresh world name call).answer)
-      (policy nat_eq fresh world name call) p) (sym second)
-      (subst (λ o. EndAlike (grown names name call o.answer) o (left_with part there name old files)) (sym first)
-      (subst (λ s. EndAlike s (left_with world here name old files) (left_with part there name old files))
-      (sym it.stays) (record {
+      ended_alike names name call first second (rw it.stays (record {
         answer = refl;
         part = changed_parts go (points_keep_mounts world it.gone it.is.mounts) kept_part it.location
             (theirs_used world names it.is it.location on) alone
             (still_used go it.location on directory_stays) files name;
-      })))
+      }))
 
 pub removals_end_alike : RemovalsEndAlike
 removals_end_alike world names name path it task found fresh other parent entry directory judged plain =

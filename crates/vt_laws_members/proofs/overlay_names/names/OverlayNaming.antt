@@ -57,7 +57,7 @@ module _ {world : World ℕ} {names : List TaskName} (sealing : IsSealed world n
       → used_alone nat_eq world names upper.filesystem ≡ true
   upper_alone upper has = free upper.filesystem (upper_in_use world names number overlay upper overlaid has direct)
       (not_whole sealing (filesystem_numbered nat_eq world number) (overlay_there world names sealing.is number overlay
-      overlaid) overlay overlaid upper (among-append_left (option_to_list overlay.upper) (option_to_list overlay.work)
+      overlaid) overlaid upper (among-append_left (option_to_list overlay.upper) (option_to_list overlay.work)
       upper (subst (λ o. Among upper (option_to_list o)) (sym has) (inl refl))))
 
 -- An overlay with an upper layer, in whose tree a name comes or goes
@@ -100,7 +100,7 @@ module _ {world : World ℕ} {names : List TaskName} {name : TaskName} {call : C
       through.can.upper_there
 
   -- The change is one of filesystems that they use alone.
-  module _ (w : World ℕ) (used : List ℕ) (one_used : is_among nat_eq one.number used ≡ true)
+  module _ {w : World ℕ} (used : List ℕ) (one_used : is_among nat_eq one.number used ≡ true)
       (two_used : is_among nat_eq two.number used ≡ true)
       (ones : (x : Filesystem ℕ) → Among x w.filesystems → nat_eq one.number x.number ≡ true → x ≡ one)
       (twos : (x : Filesystem ℕ) → Among x w.filesystems → nat_eq two.number x.number ≡ true → x ≡ two)
@@ -212,13 +212,13 @@ module _ {world : World ℕ} {names : List TaskName} {name : TaskName} {call : C
         (settled nat_eq (with_filesystems (record part { tasks = left.tasks_too }) moved)))
         → EndsAlike world names name call fresh fresh
     changed_ends task called fresh answer same_set =
-        stepped_ends it left moved (theirs (living it left moved) (used_filesystems nat_eq later names) one_used_now
+        stepped_ends it left moved (theirs (used_filesystems nat_eq later names) one_used_now
         two_used_now (one_in_world world names it.is number (used_directly_used world names number through.direct))
         (one_in_world world names it.is through.upper.filesystem
         (upper_in_use world names number through.overlay through.upper through.can.overlay_there through.can.upper_there
         through.direct)) (alone left.sealing names left.tasks world.change left.lets one.number one_alone)
         (alone left.sealing names left.tasks world.change left.lets two.number two_alone))
-        (theirs (living_part it left moved) (used_filesystems nat_eq later names) one_used_now two_used_now
+        (theirs (used_filesystems nat_eq later names) one_used_now two_used_now
         (one_in_part world names it.is number (used_directly_used world names number through.direct))
         (one_in_part world names it.is through.upper.filesystem (upper_in_use world names number through.overlay
         through.upper through.can.overlay_there through.can.upper_there through.direct)) (alone_there one.number)

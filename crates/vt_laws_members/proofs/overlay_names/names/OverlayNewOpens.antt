@@ -26,9 +26,8 @@ new_inserted new (first ∷ rest) = grind (arith, common_steps, new_inserted new
 
 -- The caller opens a file where members get.
 module _ {world : World ℕ} {names : List TaskName} {name : TaskName} {call : Call}
-    (it : IsCallOfTheirs world names name call) (task : Task ℕ) (found : task_called world name ≡ Some task)
-    (file : Location ℕ) (wanted : Access)
-    (ground : IsTheirs world names it.is.mounts file.mount) where
+    (it : IsCallOfTheirs world names name call) {task : Task ℕ} (found : task_called world name ≡ Some task)
+    (file : Location ℕ) (wanted : Access) (ground : IsTheirs world names it.is.mounts file.mount) where
   abbrev pub mine : Task ℕ
   mine = with_descriptor task file wanted
 
@@ -157,11 +156,11 @@ overlay_new_opens_end_alike world names name path access how it task found fresh
           sealing = sealing_of it;
           tasks = map (replaced_if_called (with_descriptor task file wanted)) world.tasks;
           tasks_too = map (replaced_if_called (with_descriptor task file wanted)) part.tasks;
-          lets = lets it task found file wanted ground;
-          same = same_set it task found (with_descriptor task file wanted) (stands it task found file wanted ground);
-          all = all_in_set it task found (with_descriptor task file wanted) (stands it task found file wanted ground);
+          lets = lets it found file wanted ground;
+          same = same_set it task found (with_descriptor task file wanted) (stands it found file wanted ground);
+          all = all_in_set it task found (with_descriptor task file wanted) (stands it found file wanted ground);
         } in
-        changed_ends it copied retasks (file_used it task found file wanted ground) task found fresh
+        changed_ends it copied retasks (file_used it found file wanted ground) task found fresh
         (Opened (free_number task)) refl (ap (run_by it world fresh task) judged
         ∙ opened_run world name path access how (odds fresh) directory change task file wanted _ _
         (changed_in_world it copied) (listed_in_world it copied))

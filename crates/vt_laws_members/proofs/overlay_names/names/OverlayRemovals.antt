@@ -17,7 +17,7 @@ use Rattle.vt_laws_members.specs.Changes.Changes.{EndAlike, EndsAlike, grown}
 use Rattle.vt_laws_members.proofs.changes.files.OneFilesystem.{found_numbered, one_in_part, one_in_world}
 use Rattle.vt_laws_members.proofs.changes.letting_go.PartMounts.{part_mounts}
 use Rattle.vt_laws_members.proofs.changes.letting_go.Taken.{part_after, part_taken, taken_parts, world_after, world_taken}
-use Rattle.vt_laws_members.proofs.changes.looks.Told.{ran}
+use Rattle.vt_laws_members.proofs.changes.looks.Told.{ended_alike, ran}
 use Rattle.vt_laws_members.proofs.changes.names.Elsewhere.{own_here}
 use Rattle.vt_laws_members.proofs.changes.names.RemovalsEnding.{RemovingCall, removing_directory, replacing}
 use Rattle.vt_laws_members.proofs.changes.overlays.Copying.{OverlayChange, layer_found, numbers_if_seen, stepped_if_made, upper_in_use}
@@ -174,13 +174,9 @@ module _ {world : World ℕ} {names : List TaskName} {name : TaskName} {call : C
         → run_by it.it part it.fresh it.task (Ok it.permit) ≡ granted Done other
         → part_of nat_eq one names ≡ part_of nat_eq other names → EndsAlike world names name call it.fresh it.fresh
     ends one other runs_so runs_too same = by_runs it.it it.fresh it.fresh (Some it.task) it.found
-        (subst (λ p. EndAlike (grown names name call (ran name call world it.fresh (Some it.task)).answer)
-        (ran name call world it.fresh (Some it.task)) p)
-        (sym (ran_there it.it it.fresh it.fresh it.task it.found it.judged ∙ runs_too))
-        (subst (λ o. EndAlike (grown names name call o.answer) o (granted Done other))
-        (sym (ap (run_by it.it world it.fresh it.task) it.judged ∙ runs_so))
-        (subst (λ s. EndAlike s (granted Done one) (granted Done other)) (sym it.stays)
-        (record { answer = refl; part = same }))))
+        (ended_alike names name call (ap (run_by it.it world it.fresh it.task) it.judged ∙ runs_so)
+        (ran_there it.it it.fresh it.fresh it.task it.found it.judged ∙ runs_too)
+        (rw it.stays (record { answer = refl; part = same })))
 
     layered : (o : Option (Layer ℕ)) → overlay.upper ≡ o → EndsAlike world names name call it.fresh it.fresh
     layered None none = ends (numbers_raised nat_eq world name [] (settled nat_eq here))
@@ -200,13 +196,13 @@ module _ {world : World ℕ} {names : List TaskName} {name : TaskName} {call : C
         (stepped_if_made through there seen_too (layer_found through) (made_in_part it.it through))
         (numbers_if_seen through there seen_too (layer_found through)))
         (detached_and_changed go kept_world kept_part step
-        (theirs it.it through (living go kept_world kept_part) used_then one_used two_used
+        (theirs it.it through used_then one_used two_used
         (one_in_world world names it.is number (used_directly_used world names number direct))
         (one_in_world world names it.is upper.filesystem
         (upper_in_use world names number overlay upper overlaid has direct))
         (alone_here go kept_world kept_part merged.number (one_alone it.it through))
         (alone_here go kept_world kept_part two.number (two_alone it.it through)))
-        (theirs it.it through (living_part go kept_world kept_part) used_then one_used two_used
+        (theirs it.it through used_then one_used two_used
         (one_in_part world names it.is number (used_directly_used world names number direct))
         (one_in_part world names it.is upper.filesystem
         (upper_in_use world names number overlay upper overlaid has direct))

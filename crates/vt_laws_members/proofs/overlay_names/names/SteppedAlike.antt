@@ -21,12 +21,12 @@ use Rattle.vt_laws_members.proofs.overlay_names.names.Raising.{raised_part}
 use Rattle.vt_laws_members.proofs.overlay_names.names.SteppedReady.{ChangesTheirs, stepped_ready}
 
 -- A world after the last step, in which mounts stay
-module _ {before : World ℕ} (in_use : AllInUse before) (private_ones : DetachedArePrivate before)
-    {set : List TaskName} (tasks : List (Task ℕ)) (step : Filesystem ℕ → Filesystem ℕ) (name : TaskName)
-    (numbers : List ℕ) {used : List ℕ} {lowers : List (Layer ℕ)}
-    (ready : Ready (without_dead_mounts nat_eq (with_filesystems (record before { tasks = tasks }) step)) set used
-    lowers)
-    (theirs : (n : ℕ) → Among n numbers → is_among nat_eq n used ≡ true) where
+module _ {before : World ℕ} (in_use : AllInUse before) (private_ones : DetachedArePrivate before) {set : List TaskName}
+    {tasks : List (Task ℕ)} (step : Filesystem ℕ → Filesystem ℕ) (name : TaskName) (numbers : List ℕ) {used : List ℕ}
+    {lowers : List (Layer ℕ)} (ready : Ready (without_dead_mounts nat_eq (with_filesystems (record before {
+      tasks =
+          tasks;
+    }) step)) set used lowers) (theirs : (n : ℕ) → Among n numbers → is_among nat_eq n used ≡ true) where
   abbrev changed : World ℕ
   changed = with_filesystems (record before { tasks = tasks }) step
 
@@ -107,13 +107,13 @@ module _ {world : World ℕ} {names set : List TaskName} {name : TaskName} {call
 
           parts_left : part_of nat_eq ends_here set ≡ part_of nat_eq ends_there set
           parts_left =
-              part_of_raised (all_in_use world left.is) (private_in_world world left.is) left.tasks step name
+              part_of_raised (all_in_use world left.is) (private_in_world world left.is) step name
               numbers ready used
               ∙ (λ i. record (with_filesystems (swept_parts i) (raised_if_changed nat_eq numbers)) {
                 tasks = (raised_members set name left.tasks ∙ ap (map (raised_task name)) (sym left.same)
                     ∙ sym (raised_members set name left.tasks_too)) i;
               }) ∙ sym (part_of_raised (part_in_use left.sealing)
-              (private_in_part world names left.is) left.tasks_too step name numbers ready_there
+              (private_in_part world names left.is) step name numbers ready_there
               used)
 
           pub stepped_ends : (task : Task ℕ) → task_called world name ≡ Some task → (fresh other : Fresh ℕ)

@@ -143,9 +143,8 @@ nowhere_is : (world : World ℕ) → MountInvariants nat_eq world → (mount : M
     → mount.namespace ≡ None → (mount.mount_point ≡ None) × (mount.propagation ≡ Private)
 nowhere_is world is mount m none = grind (arith, common_steps, and_parts, among_from_list_all, true≢false)
 
-module _ {world : World ℕ} {fresh : Fresh ℕ} (task : Task ℕ) (call : Call) (permit : Permit ℕ)
-    (is : IsWorld nat_eq world) (serves : Serves nat_eq world fresh)
-    (called : task_called world task.name ≡ Some task)
+module _ {world : World ℕ} {fresh : Fresh ℕ} {task : Task ℕ} (call : Call) {permit : Permit ℕ}
+    (is : IsWorld nat_eq world) (serves : Serves nat_eq world fresh) (called : task_called world task.name ≡ Some task)
     (granted : judge_in nat_eq fresh world task call ≡ Ok permit) where
   abbrev applied : World ℕ
   applied = (apply nat_eq fresh world task permit).world
@@ -206,7 +205,7 @@ module _ {world : World ℕ} {fresh : Fresh ℕ} (task : Task ℕ) (call : Call)
       ap (mount_numbered nat_eq applied) (sym numbered) ∙ found_itself applied.mounts its.mounts.one_number now m in
       let view : KeepsView (mount_numbered nat_eq world number) now =
       subst (KeepsView (mount_numbered nat_eq world number)) same
-      ((permit_shown task call permit is serves called granted).1.views number there) in
+      ((permit_shown call is serves called granted).1.views number there) in
       let nowhere : now.namespace ≡ None = none_later (mount_numbered nat_eq world number) now view none in
       let was = nowhere_is world is.mounts (mount_numbered nat_eq world number)
       (found_there world.mounts number there) none in
@@ -223,4 +222,4 @@ detached_mounts_stay world fresh name call number given there none = policy_lead
     subst (λ (o : Outcome ℕ). is_mount (finished_by nat_eq false world name changed o).world number ≡ true
     → mount_numbered nat_eq (finished_by nat_eq false world name changed o).world number
     ≡ mount_numbered nat_eq world number) (sym outcome)
-    (detached_stays task call permit given.is given.serves called granted number there none))
+    (detached_stays call given.is given.serves called granted number there none))

@@ -16,7 +16,7 @@ use Rattle.vt_laws_turns.proofs.frames.Found.{found_map}
 abbrev pub change_in : Option (Filesystem ℕ) → ℕ
 change_in found = unwrap_or (option_map (λ (f : Filesystem ℕ). f.change) found) last_number
 
-module _ (world : World ℕ) (fresh : Fresh ℕ) (given : IsCallIn world fresh) (number : ℕ) (name : TaskName)
+module _ {world : World ℕ} {fresh : Fresh ℕ} (given : IsCallIn world fresh) (number : ℕ) (name : TaskName)
     (task : Task ℕ) (permit : Permit ℕ) where
   abbrev found_in : List (Filesystem ℕ) → Option (Filesystem ℕ)
   found_in list = find (λ (f : Filesystem ℕ). nat_eq number f.number) list
@@ -123,4 +123,4 @@ unraised_filesystems_stay world fresh name call number given = named_leaves
     (λ later. IsFilesystemUnraised world later number
     → KeepsFilesystem (filesystem_numbered nat_eq world number) (filesystem_numbered nat_eq later number))
     world fresh name call (λ same. same_kept (filesystem_numbered nat_eq world number))
-    (λ task found permit granted. granted_stays world fresh given number name task permit)
+    (λ task found permit granted. granted_stays given number name task permit)

@@ -27,8 +27,8 @@ nothing_stands (first ∷ rest) place mount m stands none =
     by false e h later = ⊎_elim (λ same. true≢false (sym (ap (stands_at nat_eq place) (sym same) ∙ stands) ∙ e))
         (λ n. later n h) m
 
-module _ (world : World ℕ) (fresh : Fresh ℕ) (given : IsCallIn world fresh) (name : TaskName) (caller : Task ℕ)
-    (new old : List ℕ) (mount : ℕ) (put : Location ℕ) (found : task_called world name ≡ Some caller)
+module _ {world : World ℕ} {fresh : Fresh ℕ} (given : IsCallIn world fresh) (name : TaskName) {caller : Task ℕ}
+    (new old : List ℕ) {mount : ℕ} {put : Location ℕ} (found : task_called world name ≡ Some caller)
     (judged : judge_in nat_eq fresh world caller (PivotRoot new old) ≡ Ok (ToPivot mount put)) where
   abbrev call : Call
   call = PivotRoot new old

@@ -34,9 +34,8 @@ show_alike world middle later one_before one_after seen left one other c d e =
       sym (ap (λ (m : Mount ℕ). m.root) before) ∙ sym view.root ∙ ap (λ (m : Mount ℕ). m.root) after,
     )
 
-module _ {world : World ℕ} {fresh : Fresh ℕ} (task : Task ℕ) (call : Call) (permit : Permit ℕ)
-    (is : IsWorld nat_eq world) (serves : Serves nat_eq world fresh)
-    (called : task_called world task.name ≡ Some task)
+module _ {world : World ℕ} {fresh : Fresh ℕ} {task : Task ℕ} (call : Call) {permit : Permit ℕ}
+    (is : IsWorld nat_eq world) (serves : Serves nat_eq world fresh) (called : task_called world task.name ≡ Some task)
     (granted : judge_in nat_eq fresh world task call ≡ Ok permit) where
   abbrev applied : World ℕ
   applied = (apply nat_eq fresh world task permit).world

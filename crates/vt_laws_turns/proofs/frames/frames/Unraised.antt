@@ -22,96 +22,96 @@ module _ (world : World ℕ) (fresh : Fresh ℕ) (given : IsCallIn world fresh) 
   abbrev found_in : List (Namespace ℕ) → Option (Namespace ℕ)
   found_in list = find (λ (n : Namespace ℕ). nat_eq number n.number) list
 
-  module _ (name : TaskName) (task : Task ℕ) (call : Call) (permit : Permit ℕ) (changed : List ℕ)
-      (called : task_called world task.name ≡ Some task)
-      (granted : judge_in nat_eq fresh world task call ≡ Ok permit) where
-    abbrev applied : World ℕ
-    applied = (apply nat_eq fresh world task permit).world
+  module _ (name : TaskName) {task : Task ℕ} (call : Call) {permit : Permit ℕ} (changed : List ℕ)
+      (called : task_called world task.name ≡ Some task) (granted : judge_in nat_eq fresh world task call ≡ Ok permit)
+    where
+      abbrev applied : World ℕ
+      applied = (apply nat_eq fresh world task permit).world
 
-    abbrev later : World ℕ
-    later = numbers_raised nat_eq world name changed (settled nat_eq applied)
+      abbrev later : World ℕ
+      later = numbers_raised nat_eq world name changed (settled nat_eq applied)
 
-    abbrev raise : Namespace ℕ → Namespace ℕ
-    raise = raised_namespace nat_eq world (settled nat_eq applied)
+      abbrev raise : Namespace ℕ → Namespace ℕ
+      raise = raised_namespace nat_eq world (settled nat_eq applied)
 
-    raise_number : (n : Namespace ℕ) → (raise n).number ≡ n.number
-    raise_number n = grind (arith, common_steps)
+      raise_number : (n : Namespace ℕ) → (raise n).number ≡ n.number
+      raise_number n = grind (arith, common_steps)
 
-    -- a namespace that is there later was there before, with that number
-    was_there : (n : Namespace ℕ) → found_in applied.namespaces ≡ Some n
-        → (change_in (found_in world.namespaces) ≡ n.change) ⊎ (change_in (found_in world.namespaces) ≡ last_number)
-    was_there n e =
-        let at : nat_eq number n.number ≡ true =
-        found_passes (λ (m : Namespace ℕ). nat_eq number m.number) applied.namespaces n e in
-        ⊎_elim (λ old. inl (ap change_in
-        (namespace_found world.namespaces given.is.namespaces.one_namespace n old number at)))
-        (λ new. inr (ap change_in (none_found new at (found_in world.namespaces) refl)))
-        (namespaces_go_on world fresh task permit n
-        (found_among (λ (m : Namespace ℕ). nat_eq number m.number) applied.namespaces n e))
-      where
-        none_found : n.number ≡ fresh (2 * 0) → nat_eq number n.number ≡ true → (o : Option (Namespace ℕ))
-            → found_in world.namespaces ≡ o → found_in world.namespaces ≡ None
-        none_found new at None f = f
-        none_found new at (Some m) f =
-            let among : Among m world.namespaces =
-            found_among (λ (x : Namespace ℕ). nat_eq number x.number) world.namespaces m f in
-            let same : fresh (2 * 0) ≡ m.number = sym new ∙ sym (eqb-true number n.number at) ∙ eqb-true number m.number
-            (found_passes (λ (x : Namespace ℕ). nat_eq number x.number) world.namespaces m f) in
-            absurd (true≢false (sym (eq-eqb (fresh (2 * 0)) m.number same)
-            ∙ unused_number world fresh given.serves (2 * 0) m.number
-            (among-append_right _ (map (λ (x : Namespace ℕ). x.number) world.namespaces) m.number
-            (among-map (λ (x : Namespace ℕ). x.number) world.namespaces m among))))
+      -- a namespace that is there later was there before, with that number
+      was_there : (n : Namespace ℕ) → found_in applied.namespaces ≡ Some n
+          → (change_in (found_in world.namespaces) ≡ n.change) ⊎ (change_in (found_in world.namespaces) ≡ last_number)
+      was_there n e =
+          let at : nat_eq number n.number ≡ true =
+          found_passes (λ (m : Namespace ℕ). nat_eq number m.number) applied.namespaces n e in
+          ⊎_elim (λ old. inl (ap change_in
+          (namespace_found world.namespaces given.is.namespaces.one_namespace n old number at)))
+          (λ new. inr (ap change_in (none_found new at (found_in world.namespaces) refl)))
+          (namespaces_go_on world fresh task permit n
+          (found_among (λ (m : Namespace ℕ). nat_eq number m.number) applied.namespaces n e))
+        where
+          none_found : n.number ≡ fresh (2 * 0) → nat_eq number n.number ≡ true → (o : Option (Namespace ℕ))
+              → found_in world.namespaces ≡ o → found_in world.namespaces ≡ None
+          none_found new at None f = f
+          none_found new at (Some m) f =
+              let among : Among m world.namespaces =
+              found_among (λ (x : Namespace ℕ). nat_eq number x.number) world.namespaces m f in
+              let same : fresh (2 * 0) ≡ m.number = sym new ∙ sym (eqb-true number n.number at) ∙ eqb-true number m.number
+              (found_passes (λ (x : Namespace ℕ). nat_eq number x.number) world.namespaces m f) in
+              absurd (true≢false (sym (eq-eqb (fresh (2 * 0)) m.number same)
+              ∙ unused_number world fresh given.serves (2 * 0) m.number
+              (among-append_right _ (map (λ (x : Namespace ℕ). x.number) world.namespaces) m.number
+              (among-map (λ (x : Namespace ℕ). x.number) world.namespaces m among))))
 
-    pub granted_keeps : IsNamespaceUnraised world later number
-        → mounts_of nat_eq later number ≡ mounts_of nat_eq world number
-    granted_keeps unraised = by (found_in applied.namespaces) refl
-      where
-        held : ℕ
-        held = namespace_change_of nat_eq world number
+      pub granted_keeps : IsNamespaceUnraised world later number
+          → mounts_of nat_eq later number ≡ mounts_of nat_eq world number
+      granted_keeps unraised = by (found_in applied.namespaces) refl
+        where
+          held : ℕ
+          held = namespace_change_of nat_eq world number
 
-        same_now : (held ≡ namespace_change_of nat_eq later number)
-            × (namespace_change_of nat_eq later number ≢ last_number)
-        same_now = not_stale held (namespace_change_of nat_eq later number) unraised
+          same_now : (held ≡ namespace_change_of nat_eq later number)
+              × (namespace_change_of nat_eq later number ≢ last_number)
+          same_now = not_stale held (namespace_change_of nat_eq later number) unraised
 
-        now_is : namespace_change_of nat_eq later number ≡ change_in (option_map raise (found_in applied.namespaces))
-        now_is = ap change_in (found_map (λ (n : Namespace ℕ). n.number) raise number applied.namespaces raise_number)
+          now_is : namespace_change_of nat_eq later number ≡ change_in (option_map raise (found_in applied.namespaces))
+          now_is = ap change_in (found_map (λ (n : Namespace ℕ). n.number) raise number applied.namespaces raise_number)
 
-        kept : (n : Namespace ℕ) → nat_eq number n.number ≡ true → (change_in (found_in world.namespaces) ≡ n.change)
-            → (b : Bool) → same_mounts_in nat_eq world (settled nat_eq applied) n.number ≡ b
-            → namespace_change_of nat_eq later number ≡ (cond b n (record n { change = raised n.change })).change
-            → mounts_of nat_eq later number ≡ mounts_of nat_eq world number
-        kept n at old false e now = absurd (rises n.change (λ most. same_now.1 (sym same_now.0 ∙ old ∙ most))
-            (sym now ∙ sym same_now.0 ∙ old))
-        kept n at old true e now =
-            let same : n.number ≡ number = sym (eqb-true number n.number at) in
-            lists_same world (settled nat_eq applied)
-            (swept_show_alike task call permit given.is given.serves called granted) number
-            (mounts_of nat_eq world number) (mounts_of nat_eq (settled nat_eq applied) number)
-            (λ x m. among-from_filter (λ (mount : Mount ℕ). holds_of (nat_eq number) mount.namespace) world.mounts x m)
-            (λ y m. among-from_filter (λ (mount : Mount ℕ). holds_of (nat_eq number) mount.namespace)
-            (settled nat_eq applied).mounts y m)
-            (ap (same_mounts_in nat_eq world (settled nat_eq applied)) (sym same) ∙ e)
+          kept : (n : Namespace ℕ) → nat_eq number n.number ≡ true → (change_in (found_in world.namespaces) ≡ n.change)
+              → (b : Bool) → same_mounts_in nat_eq world (settled nat_eq applied) n.number ≡ b
+              → namespace_change_of nat_eq later number ≡ (cond b n (record n { change = raised n.change })).change
+              → mounts_of nat_eq later number ≡ mounts_of nat_eq world number
+          kept n at old false e now = absurd (rises n.change (λ most. same_now.1 (sym same_now.0 ∙ old ∙ most))
+              (sym now ∙ sym same_now.0 ∙ old))
+          kept n at old true e now =
+              let same : n.number ≡ number = sym (eqb-true number n.number at) in
+              lists_same world (settled nat_eq applied)
+              (swept_show_alike call given.is given.serves called granted) number
+              (mounts_of nat_eq world number) (mounts_of nat_eq (settled nat_eq applied) number)
+              (λ x m. among-from_filter (λ (mount : Mount ℕ). holds_of (nat_eq number) mount.namespace) world.mounts x m)
+              (λ y m. among-from_filter (λ (mount : Mount ℕ). holds_of (nat_eq number) mount.namespace)
+              (settled nat_eq applied).mounts y m)
+              (ap (same_mounts_in nat_eq world (settled nat_eq applied)) (sym same) ∙ e)
 
-        by : (o : Option (Namespace ℕ)) → found_in applied.namespaces ≡ o
-            → mounts_of nat_eq later number ≡ mounts_of nat_eq world number
-        by o e = grind (arith, common_steps, same_now, now_is, kept, found_passes, was_there)
+          by : (o : Option (Namespace ℕ)) → found_in applied.namespaces ≡ o
+              → mounts_of nat_eq later number ≡ mounts_of nat_eq world number
+          by o e = grind (arith, common_steps, same_now, now_is, kept, found_passes, was_there)
 
-    -- so it is where the call is judged
-    pub call_keeps : IsNamespaceUnraised world
-        (finished_by nat_eq false world name changed (call_outcome nat_eq fresh world task call)).world number
-        → mounts_of nat_eq
-        (finished_by nat_eq false world name changed (call_outcome nat_eq fresh world task call)).world number
-        ≡ mounts_of nat_eq world number
-    call_keeps =
-        let outcome : call_outcome nat_eq fresh world task call ≡ apply nat_eq fresh world task permit =
-        call_is_judged_then_applied fresh world task call
-        ∙ ap (λ j. after world j (apply nat_eq fresh world task)) granted in
-        subst (λ (o : Outcome ℕ). IsNamespaceUnraised world (finished_by nat_eq false world name changed o).world number
-        → mounts_of nat_eq (finished_by nat_eq false world name changed o).world number ≡ mounts_of nat_eq world number)
-        (sym outcome) granted_keeps
+      -- so it is where the call is judged
+      pub call_keeps : IsNamespaceUnraised world
+          (finished_by nat_eq false world name changed (call_outcome nat_eq fresh world task call)).world number
+          → mounts_of nat_eq
+          (finished_by nat_eq false world name changed (call_outcome nat_eq fresh world task call)).world number
+          ≡ mounts_of nat_eq world number
+      call_keeps =
+          let outcome : call_outcome nat_eq fresh world task call ≡ apply nat_eq fresh world task permit =
+          call_is_judged_then_applied fresh world task call
+          ∙ ap (λ j. after world j (apply nat_eq fresh world task)) granted in
+          subst (λ (o : Outcome ℕ). IsNamespaceUnraised world (finished_by nat_eq false world name changed o).world number
+          → mounts_of nat_eq (finished_by nat_eq false world name changed o).world number ≡ mounts_of nat_eq world number)
+          (sym outcome) granted_keeps
 
 pub unraised_namespaces_keep_mounts : UnraisedNamespacesKeepMounts
 unraised_namespaces_keep_mounts world fresh name call number given = policy_leads
     (λ later. IsNamespaceUnraised world later number → mounts_of nat_eq later number ≡ mounts_of nat_eq world number)
     world fresh name call (λ same. refl) (λ task permit changed called granted.
-    call_keeps world fresh given number name task call permit changed called granted)
+    call_keeps world fresh given number name call changed called granted)

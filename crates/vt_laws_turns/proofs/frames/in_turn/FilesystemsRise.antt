@@ -12,7 +12,7 @@ use Rattle.vt_laws_turns.proofs.frames.frames.SweptFilesystems.{kept_on, same_ke
 use Rattle.vt_laws_turns.proofs.frames.in_turn.NumbersRise.{Rises, first_unraised, given_in, next_is}
 
 -- One call
-module _ (world : World ℕ) (fresh : Fresh ℕ) (given : IsCallIn world fresh) (number : ℕ)
+module _ {world : World ℕ} {fresh : Fresh ℕ} (given : IsCallIn world fresh) {number : ℕ}
     (other : fresh (2 * 0) ≢ number) (name : TaskName) (task : Task ℕ) (permit : Permit ℕ) where
   abbrev found_in : List (Filesystem ℕ) → Option (Filesystem ℕ)
   found_in list = find (λ (f : Filesystem ℕ). nat_eq number f.number) list
@@ -76,7 +76,7 @@ filesystem_step : (number : ℕ) (world : World ℕ) (one : CallBetween) → IsW
     → Rises (filesystem_change number world) (filesystem_change number (after_call world one))
 filesystem_step number world one is beside = named_leaves
     (λ later. Rises (filesystem_change number world) (filesystem_change number later)) world one.fresh one.name one.call
-    (inl refl) (λ task found permit granted. granted_rises world one.fresh (given_in number world one is beside) number
+    (inl refl) (λ task found permit granted. granted_rises (given_in number world one is beside)
     (beside.not_held (2 * 0)) one.name task permit)
 
 filesystem_stays : (calls : List CallBetween) (world : World ℕ) (number : ℕ) → IsWorld nat_eq world

@@ -30,7 +30,7 @@ mount_stays world later namespace are same l e = grind (
 )
 
 -- a location on a mount that the task may stand on
-module _ (world : World ℕ) (one : CallBetween) (task : Task ℕ) (is : IsWorld nat_eq world)
+module _ {world : World ℕ} (one : CallBetween) (task : Task ℕ) (is : IsWorld nat_eq world)
     (beside : IsBeside task.namespace world one)
     (unraised : IsNamespaceUnraised world (after_call world one) task.namespace) where
   abbrev later : World ℕ
@@ -74,7 +74,7 @@ stands (one ∷ rest) world other task is beside others called unraised =
     let next : task_called (after_call world one) other ≡ Some task =
     other_tasks_of_unraised_namespaces_stay world one.fresh one.name one.call other task
     (given_in task.namespace world one is beside.0) others.0 called parts.0 in
-    let now = stands_after_one world one task is beside.0 parts.0 other called next in
+    let now = stands_after_one one task is beside.0 parts.0 other called next in
     let then = stands rest (after_call world one) other task (next_is task.namespace world one is beside.0) beside.1
     others.1 next parts.1 in
     record { root = then.root ∙ now.root; directory = then.directory ∙ now.directory }

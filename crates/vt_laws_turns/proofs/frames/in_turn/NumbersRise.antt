@@ -58,7 +58,7 @@ between was next now (inr (inl more)) (inr on) fresh = by (was == last_number) r
         absurd (omega (arith, above, same))
 
 -- One call
-module _ (world : World ℕ) (fresh : Fresh ℕ) (given : IsCallIn world fresh) (number : ℕ)
+module _ {world : World ℕ} {fresh : Fresh ℕ} (given : IsCallIn world fresh) {number : ℕ}
     (other : fresh (2 * 0) ≢ number) (name : TaskName) (task : Task ℕ) (permit : Permit ℕ) where
   abbrev found_in : List (Namespace ℕ) → Option (Namespace ℕ)
   found_in list = find (λ (n : Namespace ℕ). nat_eq number n.number) list
@@ -101,7 +101,7 @@ pub namespace_rises : (world : World ℕ) (fresh : Fresh ℕ) (name : TaskName) 
 namespace_rises world fresh name call number given other = named_leaves
     (λ later. Rises (namespace_change_of nat_eq world number) (namespace_change_of nat_eq later number))
     world fresh name call (inl refl)
-    (λ task found permit granted. granted_rises world fresh given number other name task permit)
+    (λ task found permit granted. granted_rises given other name task permit)
 
 -- Several calls
 pub given_in : (number : ℕ) (world : World ℕ) (one : CallBetween) → IsWorld nat_eq world → IsBeside number world one

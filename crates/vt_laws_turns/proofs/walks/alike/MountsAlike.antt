@@ -37,7 +37,7 @@ module _ (world : World ℕ) (is : MountInvariants nat_eq world) where
   child_namespace mount child here m number there at =
       grind (arith, common_steps, itself, namespace_below, stands_itself, stands_there)
 
-module _ (world later : World ℕ) (is : MountInvariants nat_eq world) (are : MountInvariants nat_eq later)
+module _ {world later : World ℕ} (is : MountInvariants nat_eq world) (are : MountInvariants nat_eq later)
     (namespace : ℕ) (same : mounts_of nat_eq later namespace ≡ mounts_of nat_eq world namespace) where
   abbrev within : Mount ℕ → Bool
   within mount = holds_of (nat_eq namespace) mount.namespace

@@ -35,7 +35,7 @@ module _ (files : FileTree ℕ) (is : IsTree files.tree) (other : ℕ → Option
 abbrev parent_by : ℕ → ℕ → Option (Node ℕ) → Option (Node ℕ) → Option ℕ
 parent_by d root node above = cond (nat_eq d root) None (when (is_among nat_eq d (targets_in above)) (parent_in d node))
 
-module _ (world later : World ℕ) (trees : TreeInvariants nat_eq world) (later_trees : TreeInvariants nat_eq later)
+module _ {world later : World ℕ} (trees : TreeInvariants nat_eq world) (later_trees : TreeInvariants nat_eq later)
     (number : ℕ)
     (kept : KeepsFilesystem (filesystem_numbered nat_eq world number) (filesystem_numbered nat_eq later number)) where
   abbrev before : FileTree ℕ

@@ -46,7 +46,7 @@ ok_is : (P : Location ℕ → Type 0) (found : Result (Location ℕ) Deny) → I
 ok_is P (Ok a) is l e = let same : a ≡ l = cc in subst P same is
 ok_is P (Err deny) is l e = cc
 
-module _ (world later : World ℕ) (isw : IsWorld nat_eq world) (isl : IsWorld nat_eq later) (task : Task ℕ)
+module _ {world later : World ℕ} (isw : IsWorld nat_eq world) (isl : IsWorld nat_eq later) (task : Task ℕ)
     (same : mounts_of nat_eq later task.namespace ≡ mounts_of nat_eq world task.namespace) where
   abbrev pub one : Looks ℕ
   one = looks_of nat_eq world
@@ -55,7 +55,7 @@ module _ (world later : World ℕ) (isw : IsWorld nat_eq world) (isl : IsWorld n
   other = looks_of nat_eq later
 
   abbrev pub Own : ℕ → Type 0
-  Own = IsOwn world later isw.mounts isl.mounts task.namespace same
+  Own = IsOwn isw.mounts isl.mounts task.namespace same
 
   abbrev pub shown_at : Location ℕ → ℕ
   shown_at l = (mount_at one l).filesystem
@@ -74,11 +74,11 @@ module _ (world later : World ℕ) (isw : IsWorld nat_eq world) (isl : IsWorld n
     pub after : IsFound later isl task l
 
   pub mount_same : (number : ℕ) → Own number → mount_numbered nat_eq later number ≡ mount_numbered nat_eq world number
-  mount_same = same_mount world later isw.mounts isl.mounts task.namespace same
+  mount_same = same_mount isw.mounts isl.mounts task.namespace same
 
   pub node_is : (l : Location ℕ) → IsThere l → Kept (shown_at l) → other.node l ≡ one.node l
   node_is l is kept = first
-      ∙ node_same world later isw.files isl.files (shown_at l) kept l.node (sym (ap is_some first) ∙ is.after.1)
+      ∙ node_same isw.files isl.files (shown_at l) kept l.node (sym (ap is_some first) ∙ is.after.1)
     where
       first : other.node l ≡ (filesystem_numbered nat_eq later (shown_at l)).files.tree.node l.node
       first = ap (λ (m : Mount ℕ). (filesystem_numbered nat_eq later m.filesystem).files.tree.node l.node)
@@ -113,7 +113,7 @@ module _ (world later : World ℕ) (isw : IsWorld nat_eq world) (isl : IsWorld n
 
       removed : is_removed nat_eq (filesystem_numbered nat_eq later (shown_at l)).files.tree l.node
           ≡ is_removed nat_eq (filesystem_numbered nat_eq world (shown_at l)).files.tree l.node
-      removed = removed_same world later isw.files isl.files (shown_at l) kept l.node there
+      removed = removed_same isw.files isl.files (shown_at l) kept l.node there
 
       by : (b : Bool) → is_removed nat_eq (filesystem_numbered nat_eq later (shown_at l)).files.tree l.node ≡ b
           → lost_by later (mount_at one l) l.node ≡ lost_by world (mount_at one l) l.node
@@ -122,15 +122,15 @@ module _ (world later : World ℕ) (isw : IsWorld nat_eq world) (isl : IsWorld n
   -- Where `..` goes on from
 
   hop_there : (a b : Location ℕ) → IsThere a
-      → hop_in world later isw.mounts isl.mounts task.namespace same task world a ≡ Some b
+      → hop_in isw.mounts isl.mounts task.namespace same task world a ≡ Some b
       → IsThere b × (is_directory_at one b ≡ true)
   hop_there a b is e =
-      let point = hop_point world later isw.mounts isl.mounts task.namespace same task a b e in
+      let point = hop_point isw.mounts isl.mounts task.namespace same task a b e in
       let before = place_found world isw task a.mount b is.before.0 point in
       let after = place_found later isl task a.mount b is.after.0
       (ap (λ (m : Mount ℕ). m.mount_point) (mount_same a.mount is.own) ∙ point) in (
         record {
-          own = (parent_own world later isw.mounts isl.mounts task.namespace same a.mount b is.own point).0;
+          own = (parent_own isw.mounts isl.mounts task.namespace same a.mount b is.own point).0;
           before = directory_found world isw task b before;
           after = directory_found later isl task b after;
         },
@@ -144,27 +144,27 @@ module _ (world later : World ℕ) (isw : IsWorld nat_eq world) (isl : IsWorld n
   top_of here = last_or here (way here)
 
   way_there : (here : Location ℕ) → IsThere here → (l : Location ℕ) → Among l (way here) → IsThere l
-  way_there here is = chain_each IsThere (hop_in world later isw.mounts isl.mounts task.namespace same task world)
+  way_there here is = chain_each IsThere (hop_in isw.mounts isl.mounts task.namespace same task world)
       (λ a b p e. (hop_there a b p e).0) (length world.mounts) here is
 
   way_directories : (here : Location ℕ) → IsThere here → is_directory_at one here ≡ true → (l : Location ℕ)
       → Among l (way here) → IsThere l × (is_directory_at one l ≡ true)
   way_directories here is directory = chain_each (λ l. IsThere l × (is_directory_at one l ≡ true))
-      (hop_in world later isw.mounts isl.mounts task.namespace same task world)
+      (hop_in isw.mounts isl.mounts task.namespace same task world)
       (λ a b p e. hop_there a b p.0 e) (length world.mounts) here (is, directory)
 
   top_among : (here : Location ℕ) → Among (top_of here) (way here)
   top_among here = last_among (way here) here
-      (chain_start (hop_in world later isw.mounts isl.mounts task.namespace same task world) (length world.mounts) here)
+      (chain_start (hop_in isw.mounts isl.mounts task.namespace same task world) (length world.mounts) here)
 
   way_same : (here : Location ℕ) → IsThere here → hops nat_eq other task here ≡ way here
-  way_same here is = same_hops world later isw.mounts isl.mounts task.namespace same task here is.own
+  way_same here is = same_hops isw.mounts isl.mounts task.namespace same task here is.own
 
   pub over_same : (here : Location ℕ) → Own here.mount → other.mounts_over here ≡ one.mounts_over here
-  over_same = same_over world later isw.mounts isl.mounts task.namespace same
+  over_same = same_over isw.mounts isl.mounts task.namespace same
 
   pub over_each : (here : Location ℕ) → Own here.mount → (l : Location ℕ) → Among l (one.mounts_over here) → Own l.mount
-  over_each = over_own world later isw.mounts isl.mounts task.namespace same
+  over_each = over_own isw.mounts isl.mounts task.namespace same
 
   pub topmost_same : (here : Location ℕ) → Own here.mount → topmost other here ≡ topmost one here
   topmost_same here own = ap (last_or here) (over_same here own)

@@ -31,28 +31,28 @@ then_if P (Err stop) f g p same = refl
 module _ {world later : World ℕ} (isw : IsWorld nat_eq world) (isl : IsWorld nat_eq later) {task : Task ℕ}
     (stands : StandsAsItStood world later task) where
   abbrev before : Looks ℕ
-  before = one world later isw isl task stands.mounts
+  before = one isw isl task stands.mounts
 
   abbrev after : Looks ℕ
-  after = other world later isw isl task stands.mounts
+  after = other isw isl task stands.mounts
 
   abbrev There : Location ℕ → Type 0
-  There = IsThere world later isw isl task stands.mounts
+  There = IsThere isw isl task stands.mounts
 
   abbrev Owned : ℕ → Type 0
-  Owned = Own world later isw isl task stands.mounts
+  Owned = Own isw isl task stands.mounts
 
   abbrev KeptOne : ℕ → Type 0
-  KeptOne = Kept world later isw isl task stands.mounts
+  KeptOne = Kept isw isl task stands.mounts
 
   abbrev KeptAll : List ℕ → Type 0
-  KeptAll = EachKept world later isw isl task stands.mounts
+  KeptAll = EachKept isw isl task stands.mounts
 
   abbrev shown : Location ℕ → ℕ
-  shown = shown_at world later isw isl task stands.mounts
+  shown = shown_at isw isl task stands.mounts
 
   mount_is : (number : ℕ) → Owned number → mount_numbered nat_eq later number ≡ mount_numbered nat_eq world number
-  mount_is = mount_same world later isw isl task stands.mounts
+  mount_is = mount_same isw isl task stands.mounts
 
   -- The task's root and working directory
 
@@ -114,7 +114,7 @@ module _ {world later : World ℕ} (isw : IsWorld nat_eq world) (isl : IsWorld n
       by false = is
 
   kept_standing : (l : Location ℕ) → There l → KeptOne (shown l) → Standing l
-  kept_standing l there kept = (there, directory_is world later isw isl task stands.mounts l there kept)
+  kept_standing l there kept = (there, directory_is isw isl task stands.mounts l there kept)
 
   -- where a walk stands that goes on
   abbrev Fine : Result (Walk ℕ) (Stop ℕ) → Type 0
@@ -154,7 +154,7 @@ module _ {world later : World ℕ} (isw : IsWorld nat_eq world) (isl : IsWorld n
     object = Some l;
     slash = false;
     steps = all_met [] here.steps;
-  }))) (topmost_same world later isw isl task stands.mounts here.location there.own)
+  }))) (topmost_same isw isl task stands.mounts here.location there.own)
   end_is here last there true e = absurd (true≢false (sym e))
 
   end_fine : (here : Here ℕ) (last : Last) → There here.location → (b : Bool)
@@ -217,9 +217,9 @@ module _ {world later : World ℕ} (isw : IsWorld nat_eq world) (isl : IsWorld n
       ≡ text_word nat_eq before task here (word ∷ list) slash others last)
       × Fine (text_word nat_eq before task here (word ∷ list) slash others last)
   text_word_is here there word list slash others last kept =
-      let step = word_is world later isw isl task stands.mounts here (last_word word) there kept in
+      let step = word_is isw isl task stands.mounts here (last_word word) there kept in
       let directory = kept_standing here.location there
-      (kept_here world later isw isl task stands.mounts here.location (last_word word) kept) in (
+      (kept_here isw isl task stands.mounts here.location (last_word word) kept) in (
         ap (λ r. then_walk r (λ next. arrived nat_eq after task here.location next
             (record { words = list; slash = slash } ∷ others) last (symlink_text (after.node next.location)))) step.0
             ∙ then_if (λ (next : Here ℕ). There next.location × KeptOne (shown next.location))
@@ -229,7 +229,7 @@ module _ {world later : World ℕ} (isw : IsWorld nat_eq world) (isl : IsWorld n
             (record { words = list; slash = slash } ∷ others) last (symlink_text (before.node next.location))) step.1
             (λ next fine.
             ap (λ n. arrived nat_eq after task here.location next (record { words = list; slash = slash } ∷ others) last
-            (symlink_text n)) (node_is world later isw isl task stands.mounts next.location fine.0 fine.1)
+            (symlink_text n)) (node_is isw isl task stands.mounts next.location fine.0 fine.1)
             ∙ (arrived_is here.location directory next (kept_standing next.location fine.0 fine.1)
             (record { words = list; slash = slash } ∷ others) last (symlink_text (before.node next.location))).0),
         fine_if (λ (next : Here ℕ). There next.location × KeptOne (shown next.location))
@@ -266,8 +266,8 @@ module _ {world later : World ℕ} (isw : IsWorld nat_eq world) (isl : IsWorld n
               own = subst (λ (x : Location ℕ). Owned x.mount) same there.own;
               before = entry_found world isw task here name l (there.before.0, directory) e;
               after = entry_found later isl task here name l
-                  (there.after.0, directory_is world later isw isl task stands.mounts here there kept ∙ directory)
-                  (entry_is world later isw isl task stands.mounts here name there kept ∙ e);
+                  (there.after.0, directory_is isw isl task stands.mounts here there kept ∙ directory)
+                  (entry_is isw isl task stands.mounts here name there kept ∙ e);
             },
             subst (λ (x : Location ℕ). KeptOne (shown x)) same kept,
           )
@@ -279,14 +279,14 @@ module _ {world later : World ℕ} (isw : IsWorld nat_eq world) (isl : IsWorld n
   object_is here NoWord there directory kept = (refl, some_fine here (there, kept (shown here) (inl refl)))
   object_is here Dot there directory kept = (refl, some_fine here (there, kept (shown here) (inl refl)))
   object_is here (Named name) there directory kept = (
-    ap Ok (entry_is world later isw isl task stands.mounts here name there (kept (shown here) (inl refl))),
+    ap Ok (entry_is isw isl task stands.mounts here name there (kept (shown here) (inl refl))),
     entry_fine here there (kept (shown here) (inl refl)) directory name,
   )
   object_is here DotDot there directory kept = (
     ap (λ r. and_then r (λ parent. Ok (Some parent)))
-        (stepped_is world later isw isl task stands.mounts here DotDot there directory kept).0,
+        (stepped_is isw isl task stands.mounts here DotDot there directory kept).0,
     by (stepped nat_eq before task here DotDot)
-        (reached_there world later isw isl task stands.mounts here DotDot there directory kept),
+        (reached_there isw isl task stands.mounts here DotDot there directory kept),
   )
     where
       by : (r : Result (Location ℕ) Deny) → ((l : Location ℕ) → r ≡ Ok l → There l × KeptOne (shown l))
@@ -327,7 +327,7 @@ module _ {world later : World ℕ} (isw : IsWorld nat_eq world) (isl : IsWorld n
     ap (λ m. placed_to here word slash (m ∷ here.steps) (search_rules nat_eq after task here.location)
         (object_named nat_eq after task here.location word)) same
         ∙ ap (λ r. placed_to here word slash steps r (object_named nat_eq after task here.location word))
-        (search_is world later isw isl task stands.mounts here.location there kept)
+        (search_is isw isl task stands.mounts here.location there kept)
         ∙ found_same (is_directory_at before here.location) refl,
     found_fine (is_directory_at before here.location) refl,
   )
@@ -336,7 +336,7 @@ module _ {world later : World ℕ} (isw : IsWorld nat_eq world) (isl : IsWorld n
       steps = steps_at nat_eq before task here word
 
       rules_of : Bool → Rules
-      rules_of = rules_by world later isw isl task stands.mounts here.location
+      rules_of = rules_by isw isl task stands.mounts here.location
 
       found_same : (b : Bool) → is_directory_at before here.location ≡ b
           → placed_to here word slash steps (search_rules nat_eq before task here.location)
@@ -361,13 +361,13 @@ module _ {world later : World ℕ} (isw : IsWorld nat_eq world) (isl : IsWorld n
       × IfOk (placed nat_eq before task here word slash) PlaceFine
   placed_is here NoWord slash there some kept = absurd (true≢false some)
   placed_is here Dot slash there some kept = named_is here Dot slash there (kept (shown here.location) (inl refl)) kept
-      (met_is world later isw isl task stands.mounts here.location Dot there kept)
+      (met_is isw isl task stands.mounts here.location Dot there kept)
   placed_is here DotDot slash there some kept =
-      named_is here DotDot slash there (kept_here world later isw isl task stands.mounts here.location DotDot kept) kept
-      (met_is world later isw isl task stands.mounts here.location DotDot there kept)
+      named_is here DotDot slash there (kept_here isw isl task stands.mounts here.location DotDot kept) kept
+      (met_is isw isl task stands.mounts here.location DotDot there kept)
   placed_is here (Named name) slash there some kept =
       named_is here (Named name) slash there (kept (shown here.location) (inl refl)) kept
-      (shown_same world later isw isl task stands.mounts (here.location ∷ [])
+      (shown_same isw isl task stands.mounts (here.location ∷ [])
       (λ l m. ⊎_elim (λ e. subst (λ (x : Location ℕ). Owned x.mount) (sym e) there.own) (λ none. absurd none) m))
 
   entered_is : (place : Place ℕ) → ObjectFine place.object → entered nat_eq after place ≡ entered nat_eq before place
@@ -385,18 +385,18 @@ module _ {world later : World ℕ} (isw : IsWorld nat_eq world) (isl : IsWorld n
       by true None fine = refl
       by false None fine = refl
       by true (Some l) fine = ap (λ x. record place { object = Some x; steps = all_met [] place.steps })
-          (topmost_same world later isw isl task stands.mounts l (fine l refl).0.own)
+          (topmost_same isw isl task stands.mounts l (fine l refl).0.own)
       by false (Some l) fine =
           let own = (fine l refl).0.own in
           ap (λ x. record place {
             object = Some x;
             steps = all_met (filesystems_of nat_eq after (after.mounts_over l ++ [])) place.steps;
-          }) (topmost_same world later isw isl task stands.mounts l own)
+          }) (topmost_same isw isl task stands.mounts l own)
           ∙ ap (λ met. record place { object = Some (topmost before l); steps = all_met met place.steps })
           (ap (λ list. filesystems_of nat_eq after (list ++ []))
-          (over_same world later isw isl task stands.mounts l own)
-          ∙ shown_same world later isw isl task stands.mounts (before.mounts_over l ++ [])
-          (λ x m. ⊎_elim (λ n. over_each world later isw isl task stands.mounts l own x n) (λ none. absurd none)
+          (over_same isw isl task stands.mounts l own)
+          ∙ shown_same isw isl task stands.mounts (before.mounts_over l ++ [])
+          (λ x m. ⊎_elim (λ n. over_each isw isl task stands.mounts l own x n) (λ none. absurd none)
           (among-append (before.mounts_over l) [] x m)))
 
   opened_is : (here : Here ℕ) → Standing here.location → (place : Place ℕ) → PlaceFine place → (slash : Bool)
@@ -420,7 +420,7 @@ module _ {world later : World ℕ} (isw : IsWorld nat_eq world) (isl : IsWorld n
           → then_some object (λ l. symlink_text (after.node l)) ≡ then_some object (λ l. symlink_text (before.node l))
       by None f = refl
       by (Some l) f =
-          let its = f l refl in ap symlink_text (node_is world later isw isl task stands.mounts l its.0 its.1)
+          let its = f l refl in ap symlink_text (node_is isw isl task stands.mounts l its.0 its.1)
 
   file_is : (here : Here ℕ) (word : LastWord) (slash : Bool) → There here.location → is_no_word word ≡ false
       → KeptAll (met_at nat_eq before task here.location word) → KeptOne (shown here.location)
@@ -447,7 +447,7 @@ module _ {world later : World ℕ} (isw : IsWorld nat_eq world) (isl : IsWorld n
       ≡ then_walk (word_walked nat_eq before task here word) (λ next. Ok (Reaches next)))
       × Fine (then_walk (word_walked nat_eq before task here word) (λ next. Ok (Reaches next)))
   reached_is here word there kept =
-      let step = word_is world later isw isl task stands.mounts here word there kept in (
+      let step = word_is isw isl task stands.mounts here word there kept in (
         ap (λ r. then_walk r (λ next. Ok (Reaches next))) step.0,
         fine_if (λ (next : Here ℕ). There next.location × KeptOne (shown next.location))
             (word_walked nat_eq before task here word) (λ next. Ok (Reaches next)) step.1 (λ next fine. tt),
@@ -476,7 +476,7 @@ module _ {world later : World ℕ} (isw : IsWorld nat_eq world) (isl : IsWorld n
   last_is here (AsFile Dot slash) there has kept =
       file_is here Dot slash there refl kept (kept (shown here.location) (inl refl))
   last_is here (AsFile DotDot slash) there has kept = file_is here DotDot slash there refl kept
-      (kept_here world later isw isl task stands.mounts here.location DotDot kept)
+      (kept_here isw isl task stands.mounts here.location DotDot kept)
   last_is here (AsFile (Named name) slash) there has kept =
       file_is here (Named name) slash there refl kept (kept (shown here.location) (inl refl))
 

@@ -24,14 +24,11 @@ still_located task number location known = grind (arith, common_steps, among-fro
 -- a task of the world that closes a descriptor comes to no new location
 closing_comes_nowhere : (world : World ℕ) (task : Task ℕ) (number : ℕ) → Among task world.tasks
     → comes_nowhere world (with_task world (without_descriptor task number)).tasks ≡ true
-closing_comes_nowhere world task number there =
-    list_all_from_among (is_location_among (all_locations world)) (flat_map locations_of (map change world.tasks))
-    (λ location m.
-    let from = among-from_flat_map locations_of (map change world.tasks) location m in
-    let old = among-from_map change world.tasks from.0 from.1 in
-    let was = by location old.0 old.1 (same_name task.name old.0.name)
-    (subst (λ t. Among location (locations_of t)) old.2 from.2) in
-    location_among (all_locations world) location (among-flat_map locations_of world.tasks was.0 location was.1 was.2))
+closing_comes_nowhere world task number there = list_all_from_among (is_location_among (all_locations world))
+    (flat_map locations_of (map change world.tasks)) (λ location m. let from = among-from_flat_map locations_of
+    (map change world.tasks) location m in let old = among-from_map change world.tasks from.0 from.1 in let was = by
+    location old.0 old.1 (same_name task.name old.0.name) (rw (← old.2) from.2) in location_among (all_locations world)
+    location (among-flat_map locations_of world.tasks was.0 location was.1 was.2))
   where
     change : Task ℕ → Task ℕ
     change = replaced_if_called (without_descriptor task number)
@@ -96,8 +93,7 @@ module _ (fresh : Fresh ℕ) (task : Task ℕ) where
 
 pub exit_leaves_one_by_one : ExitLeavesOneByOne
 exit_leaves_one_by_one fresh world task numbers is =
-    ap (λ now. ended fresh task (one_by_one fresh task now numbers)) (sym is.nothing_unused)
-    ∙ closed_in_turn fresh task numbers world settles.trees settles.uppers settles.reals is.mounts
+    cc (is.nothing_unused, closed_in_turn fresh task numbers world settles.trees settles.uppers settles.reals is.mounts)
   where
     settles : IsSettled world
     settles = worlds_are_settled world is

@@ -82,9 +82,7 @@ module _ {world : World ℕ} {fresh : Fresh ℕ} {name : TaskName} {old new : Li
   to_fs = to_shown it permit_is parts.uncovered
 
   after_fs : (mount_at nat_eq later place_after).filesystem ≡ own_fs
-  after_fs = ap (λ mounts. (mount_in nat_eq mounts to.parent.mount).filesystem)
-      (mounts_same it permit_is parts.uncovered is_dir outside)
-      ∙ to_fs
+  after_fs = cc (mounts_same it permit_is parts.uncovered is_dir outside, to_fs)
 
   kept : IsKept was (node_at nat_eq later place_after)
   kept = subst (λ n. IsKept was (node_in later n object)) (sym after_fs)
@@ -117,7 +115,7 @@ module _ {world : World ℕ} {fresh : Fresh ℕ} {name : TaskName} {old new : Li
 
     now_there : (here : Location ℕ) → KnownSo here
         → is_some (node_in later (mount_at nat_eq world here).filesystem here.node) ≡ true
-    now_there here known = ap is_some (sym (here_is here known)) ∙ known.0.1.1
+    now_there here known = cc (here_is here known, known.0.1.1)
 
     searched : (here : Location ℕ) → KnownSo here → is_directory_at nat_eq world here ≡ true
         → may_do (looks_of nat_eq world) it.did.task here execute_right ≡ true
@@ -127,9 +125,11 @@ module _ {world : World ℕ} {fresh : Fresh ℕ} {name : TaskName} {old new : Li
       where
         by : MayLook it.did.task reading → may_do (looks_of nat_eq later) reading here execute_right ≡ true
         by (inr all) = search_all reading.credentials all (node_at nat_eq later here)
-            (ap is_directory_node (here_is here known)
-            ∙ objects_are.directory (mount_at nat_eq world here).filesystem here.node known.0.0.1 (now_there here known)
-            ∙ directory)
+            (cc (
+              here_is here known,
+              objects_are.directory (mount_at nat_eq world here).filesystem here.node known.0.0.1
+                  (now_there here known),
+            ))
         by (inl same) = ap (λ who. node_allows who execute_right (node_at nat_eq later here)) same
             ∙ ap (node_allows it.did.task.credentials execute_right) (here_is here known)
             ∙ rights_are (mount_at nat_eq world here).filesystem here.node
@@ -142,33 +142,37 @@ module _ {world : World ℕ} {fresh : Fresh ℕ} {name : TaskName} {old new : Li
 
     new_stepped : KnownSo to.parent → stepped nat_eq (looks_of nat_eq later) reading to.parent to.last ≡ Ok place_after
     new_stepped known = stepped_by later reading to.parent to.last parts.to_named (Some object)
-        (ap (λ o. entry_named (name_of to.last) (entries_in o))
-        (here_is to.parent known ∙ ap (λ n. node_in later n to.parent.node) to_fs)
-        ∙ new_left it permit_is parts.uncovered
-        (ap (λ n. is_some (node_in later n to.parent.node)) (sym to_fs) ∙ now_there to.parent known))
-        ∙ ap Ok (free_left it permit_is parts.uncovered place_after known.0.1.0.0 after_fs refl)
+        (cc (
+          here_is to.parent known,
+          to_fs,
+          new_left it permit_is parts.uncovered
+              (ap (λ n. is_some (node_in later n to.parent.node)) (sym to_fs) ∙ now_there to.parent known),
+        )) ∙ ap Ok
+        (free_left it permit_is parts.uncovered place_after known.0.1.0.0 after_fs refl)
 
     new_told : (later_fresh : Fresh ℕ)
         → ((policy nat_eq later_fresh later reader (Lstat new)).answer ≡ Ok (Told (stat_line was)))
         ⊎ ((policy nat_eq later_fresh later reader (Lstat new)).answer ≡ Err (denial W6))
-    new_told later_fresh = ⊎_elim (λ ends. inl (lstat_of later later_fresh reader reading called new _ ends.1
-        ∙ ap (λ line. Ok (Told line)) (told_alike was (node_at nat_eq later place_after) kept)))
-        (λ stop. inr (lstat_refused later later_fresh reader reading called new stop.0 stop.2 ∙ ap Err stop.1))
-        (symlink_named_too leads new to parts.to_named
+    new_told later_fresh = ⊎_elim (λ ends. inl (cc (
+      lstat_of later later_fresh reader called new _ ends.1,
+      told_alike
+          was (node_at nat_eq later place_after) kept,
+    ))) (λ stop. inr (lstat_refused later later_fresh reader called new
+        stop.0 stop.2 ∙ ap Err stop.1)) (symlink_named_too leads new to parts.to_named
         (named_place (looks_of nat_eq world) it.did.task new to to_walked parts.to_named) place_after new_stepped
         (λ slash. (directory_no_link (node_at nat_eq later place_after) directory_after, directory_after)))
 
     old_missing : (later_fresh : Fresh ℕ)
         → (policy nat_eq later_fresh later reader (Lstat old)).answer ≡ Err (denial W6)
     old_missing later_fresh =
-        let stop = symlink_missing
-        leads old from parts.from_named
-        (named_place (looks_of nat_eq world) it.did.task old from parts.from_walked parts.from_named) (denial W6) refl
-        (λ known.
-        stepped_by later reading from.parent from.last parts.from_named None
-        (ap (λ o. entry_named (name_of from.last) (entries_in o)) (here_is from.parent known)
-        ∙ old_left it permit_is parts.uncovered seen.moves.replaced_other (now_there from.parent known))) in
-        lstat_refused later later_fresh reader reading called old stop.0 stop.2 ∙ ap Err stop.1
+        let stop = symlink_missing leads old from parts.from_named (named_place (looks_of nat_eq world) it.did.task old
+        from parts.from_walked parts.from_named) (denial W6) refl (λ known. stepped_by later reading from.parent
+        from.last parts.from_named None (cc (
+          here_is from.parent known,
+          old_left it permit_is parts.uncovered
+              seen.moves.replaced_other (now_there from.parent known),
+        ))) in
+        lstat_refused later later_fresh reader called old stop.0 stop.2 ∙ ap Err stop.1
 
     -- its names
     list_walk : EndsThere Missing (directory_walk nat_eq (looks_of nat_eq later) reading new) place_after
@@ -190,15 +194,15 @@ module _ {world : World ℕ} {fresh : Fresh ℕ} {name : TaskName} {old new : Li
         read : (b : Bool) → (policy nat_eq later_fresh later reader (Ls new)).answer
             ≡ cond b (Ok (Names (names_in (node_at nat_eq later place_after)))) (Err (denial C1))
             → Listed later_fresh ⊎ (RefusedBy later_fresh C1 ⊎ RefusedBy later_fresh W6)
-        read true e = inl (e ∙ ap (λ entries. Ok (Names (map (λ (entry : List ℕ × ℕ). entry.0) entries))) kept.names)
+        read true e = inl (cc kept.names)
         read false e = inr (inl e)
 
         by : EndsThere Missing (directory_walk nat_eq (looks_of nat_eq later) reading new) place_after
             (named_place (looks_of nat_eq world) it.did.task new to to_walked parts.to_named).here.left
             → Listed later_fresh ⊎ (RefusedBy later_fresh C1 ⊎ RefusedBy later_fresh W6)
         by (inl ends) = read (node_allows reading.credentials read_right (node_at nat_eq later place_after))
-            (list_of later later_fresh reader reading called new is_left.1 _ ends.1)
-        by (inr stop) = inr (inr (list_refused later later_fresh reader reading called new stop.0 stop.2
+            (list_of later later_fresh reader called new is_left.1 _ ends.1)
+        by (inr stop) = inr (inr (list_refused later later_fresh reader called new stop.0 stop.2
             ∙ ap Err stop.1))
 
     all_listed : reads_all reading.credentials ≡ true → (later_fresh : Fresh ℕ)
@@ -207,20 +211,20 @@ module _ {world : World ℕ} {fresh : Fresh ℕ} {name : TaskName} {old new : Li
       where
         may_read : (o : Option (Node ℕ)) → is_directory_node o ≡ true
             → node_allows reading.credentials read_right o ≡ true
-        may_read None directory = absurd (true≢false (sym directory))
+        may_read None directory = cc
         may_read (Some node) directory = read_all reading.credentials all node.attr node.content
 
         by : EndsThere Missing (directory_walk nat_eq (looks_of nat_eq later) reading new) place_after
             (named_place (looks_of nat_eq world) it.did.task new to to_walked parts.to_named).here.left
             → Listed later_fresh ⊎ RefusedBy later_fresh W6
-        by (inl ends) = inl (list_of later later_fresh reader reading called new is_left.1 _ ends.1
+        by (inl ends) = inl (list_of later later_fresh reader called new is_left.1 _ ends.1
             ∙ ap (λ b. cond b (Ok (Names (names_in (node_at nat_eq later place_after)))) (Err (denial C1)))
             (may_read (node_at nat_eq later place_after) directory_after)
             ∙ ap (λ entries. Ok (Names (map (λ (entry : List ℕ × ℕ). entry.0) entries))) kept.names)
-        by (inr stop) = inr (list_refused later later_fresh reader reading called new stop.0 stop.2 ∙ ap Err stop.1)
+        by (inr stop) = inr (list_refused later later_fresh reader called new stop.0 stop.2 ∙ ap Err stop.1)
 
 -- what a granted rename of a directory to a free name was permitted, by the task that stands outside
-module _ (old new : List ℕ) (world : World ℕ) (fresh : Fresh ℕ) (name : TaskName) (task : Task ℕ) (from to : Place ℕ)
+module _ (old new : List ℕ) {world : World ℕ} {fresh : Fresh ℕ} (name : TaskName) {task : Task ℕ} {from to : Place ℕ}
     (is : IsWorld nat_eq world) (plain : IsPlain world) (serves : Serves nat_eq world fresh)
     (called : task_called world name ≡ Some task)
     (from_is : old_leaf_walk nat_eq (looks_of nat_eq world) task old ≡ Ok from)
@@ -255,31 +259,30 @@ module _ (old new : List ℕ) (world : World ℕ) (fresh : Fresh ℕ) (name : Ta
   }
 
   task_is : it.did.task ≡ task
-  task_is = same_Some it.did.task task (sym it.did.called ∙ called)
+  task_is = same_Some it.did.task task (cc it.did.called)
 
   to_here : new_walk nat_eq (looks_of nat_eq world) it.did.task new ≡ Ok to
-  to_here = ap (λ t. new_walk nat_eq (looks_of nat_eq world) t new) task_is ∙ to_is
+  to_here = cc task_is
 
   two : is_one_object nat_eq (looks_of nat_eq world) (object_there from) to.object ≡ false
-  two = ap (is_one_object nat_eq (looks_of nat_eq world) (object_there from)) free
+  two = cc
 
   parts : NamesParts (looks_of nat_eq world) it.did.task old new from to it.did.permit
-  parts = names_parts (looks_of nat_eq world) it.did.task old new from to it.did.permit
-      (ap (λ t. old_leaf_walk nat_eq (looks_of nat_eq world) t old) task_is ∙ from_is) to_here two it.did.judged
+  parts = names_parts (looks_of nat_eq world) it.did.task old new from to it.did.permit (cc task_is) to_here two
+      it.did.judged
 
   to_walked : place_walk nat_eq (looks_of nat_eq world) it.did.task new ≡ Ok to
   to_walked = new_parts (looks_of nat_eq world) it.did.task new to to_here
 
   permit_is : it.did.permit ≡ ToRename from.parent (name_of from.last) to.parent (name_of to.last) (object_there from)
       None
-  permit_is = parts.permit_is ∙ ap
-      (ToRename from.parent (name_of from.last) to.parent (name_of to.last) (object_there from)) free
+  permit_is = cc parts.permit_is
 
   is_dir : is_directory_node ((files_at nat_eq world from.parent).tree.node (object_there from).node) ≡ true
   is_dir = is_directory_before it parts directory
 
   outside : StandsOutside world it.did.task (object_there from)
-  outside = subst (λ t. StandsOutside world t (object_there from)) (sym task_is) stands
+  outside = rw task_is stands
 
   caller_here : task_called (policy nat_eq fresh world name (Rename old new)).world name
       ≡ Some (raised_task name it.did.task)
@@ -288,8 +291,7 @@ module _ (old new : List ℕ) (world : World ℕ) (fresh : Fresh ℕ) (name : Ta
   same_stand : (reader : TaskName) (reading : Task ℕ)
       → LooksFrom (policy nat_eq fresh world name (Rename old new)).world task reader reading
       → StandsAs it.did.task reading
-  same_stand reader reading looks =
-      subst (λ t. StandsAs t reading) (sym task_is) (all_stands _ task reader reading looks)
+  same_stand reader reading looks = rw task_is (all_stands _ task reader reading looks)
 
   moved_told : RenamedTold
   moved_told = (
@@ -323,10 +325,10 @@ module _ (old new : List ℕ) (world : World ℕ) (fresh : Fresh ℕ) (name : Ta
 pub rename_directory_then_lstat : RenameDirectoryThenLstat
 rename_directory_then_lstat old new world fresh name task from to is plain serves called from_is to_is directory free
     stands granted =
-    moved_told old new world fresh name task from to is plain serves called from_is to_is directory free stands granted
+    moved_told old new name is plain serves called from_is to_is directory free stands granted
 
 pub rename_directory_then_list : RenameDirectoryThenList
 rename_directory_then_list old new world fresh name task from to is plain serves called from_is to_is directory free
     stands granted =
-    moved_listed old new world fresh name task from to is plain serves called from_is to_is directory free stands
+    moved_listed old new name is plain serves called from_is to_is directory free stands
     granted

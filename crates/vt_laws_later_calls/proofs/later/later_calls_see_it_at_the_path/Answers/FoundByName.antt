@@ -35,8 +35,8 @@ pub record NamesParts (looks : Looks ℕ) (task : Task ℕ) (old new : List ℕ)
 
 asked : (slash some : Bool) → (slash && not some) ≡ false → slash ≡ true → some ≡ true
 asked true true e f = refl
-asked true false e f = absurd (true≢false e)
-asked false some e f = absurd (true≢false (sym f))
+asked true false e f = cc
+asked false some e f = cc
 
 pub names_parts : (looks : Looks ℕ) (task : Task ℕ) (old new : List ℕ) (from to : Place ℕ) (permit : Permit ℕ)
     → old_leaf_walk nat_eq looks task old ≡ Ok from → new_walk nat_eq looks task new ≡ Ok to
@@ -85,13 +85,13 @@ told_alike was now kept = λ i.
 
 pub directory_kept : (was now : Option (Node ℕ)) → IsKept was now → is_directory_node now ≡ is_directory_node was
 directory_kept None None kept = refl
-directory_kept None (Some now) kept = absurd (true≢false kept.there)
-directory_kept (Some was) None kept = absurd (true≢false (sym kept.there))
-directory_kept (Some was) (Some now) kept = ap is_directory kept.kind
+directory_kept None (Some now) kept = cc kept.there
+directory_kept (Some was) None kept = cc kept.there
+directory_kept (Some was) (Some now) kept = cc kept.kind
 
 there_is : (test : Location ℕ → Bool) (o : Option (Location ℕ)) (default : Location ℕ) → holds_of test o ≡ true
     → test (unwrap_or o default) ≡ true
-there_is test None default e = absurd (true≢false (sym e))
+there_is test None default e = cc
 there_is test (Some a) default e = e
 
 module _ {world : World ℕ} {fresh : Fresh ℕ} {name : TaskName} {old new : List ℕ} {from to : Place ℕ}
@@ -120,8 +120,7 @@ module _ {world : World ℕ} {fresh : Fresh ℕ} {name : TaskName} {old new : Li
 
   pub is_directory_before : is_directory_there nat_eq (looks_of nat_eq world) from ≡ true
       → is_directory_node before ≡ true
-  is_directory_before e = ap (λ n. is_directory_node (node_in world n object)) (sym object_fs)
-      ∙ there_is (is_directory_at nat_eq world) from.object from.parent e
+  is_directory_before e = cc (object_fs, there_is (is_directory_at nat_eq world) from.object from.parent e)
 
   -- Before the call
   at_old : NamedPlace (looks_of nat_eq world) it.did.task old from
@@ -137,13 +136,10 @@ module _ {world : World ℕ} {fresh : Fresh ℕ} {name : TaskName} {old new : Li
   pub old_told : (other_fresh : Fresh ℕ)
       → (policy nat_eq other_fresh world name (Lstat old)).answer ≡ Ok (Told (stat_line before))
   old_told other_fresh =
-      let walk = surely _ _ _
-      (symlink_named_too
-      (itself_leads Never world it.is it.plain it.did.task own) old from parts.from_named at_old place_before
-      (λ known. old_stepped) (λ slash.
-      let directory = is_directory_before (parts.from_slash (sym at_old.slash_is ∙ slash)) in
-      (directory_no_link before directory, directory))) in
-      lstat_of world other_fresh name it.did.task it.did.called old _ walk.1
+      let walk = surely _ _ _ (symlink_named_too (itself_leads Never world it.is it.plain it.did.task own) old from
+      parts.from_named at_old place_before (λ known. old_stepped) (λ slash. let directory = is_directory_before
+      (parts.from_slash (cc at_old.slash_is)) in (directory_no_link before directory, directory))) in
+      lstat_of world other_fresh name it.did.called old _ walk.1
 
   pub old_listed : is_directory_there nat_eq (looks_of nat_eq world) from ≡ true → (other_fresh : Fresh ℕ)
       → ((policy nat_eq other_fresh world name (Ls old)).answer ≡ Ok (Names (names_in before)))
@@ -154,7 +150,7 @@ module _ {world : World ℕ} {fresh : Fresh ℕ} {name : TaskName} {old new : Li
       (itself_leads Never world it.is it.plain it.did.task own) old from parts.from_named at_old place_before
       (λ known. old_stepped) (directory_no_link before directory) directory) in
       by (node_allows it.did.task.credentials read_right before)
-      (list_of world other_fresh name it.did.task it.did.called old it.plain _ walk.1)
+      (list_of world other_fresh name it.did.called old it.plain _ walk.1)
     where
       by : (b : Bool) → (policy nat_eq other_fresh world name (Ls old)).answer
           ≡ cond b (Ok (Names (names_in before))) (Err (denial C1))
@@ -173,7 +169,7 @@ module _ {world : World ℕ} {fresh : Fresh ℕ} {name : TaskName} {old new : Li
         (directory_fs : (mount_at nat_eq world directory).filesystem ≡ fs)
         (lead : LeadsToName world later reading path directory last) where
       named_so : is_special lead.place.last ≡ false
-      named_so = ap is_special lead.last_is ∙ special
+      named_so = cc lead.last_is
 
       at_name : NamedPlace (looks_of nat_eq later) reading path lead.place
       at_name = named_place (looks_of nat_eq later) reading path lead.place lead.walked named_so
@@ -187,7 +183,7 @@ module _ {world : World ℕ} {fresh : Fresh ℕ} {name : TaskName} {old new : Li
           (own_name later reader reading called)) path lead.place named_so at_name)
 
       parent_fs : (mount_at nat_eq later lead.place.parent).filesystem ≡ fs
-      parent_fs = lead.filesystem ∙ directory_fs
+      parent_fs = cc lead.filesystem
 
       there : is_some (node_in later fs directory.node) ≡ true
       there = (λ i. is_some (node_in later (sym parent_fs i) (sym lead.node i))) ∙ parent_found.1
@@ -241,14 +237,19 @@ module _ {world : World ℕ} {fresh : Fresh ℕ} {name : TaskName} {old new : Li
           → (later_fresh : Fresh ℕ)
           → (policy nat_eq later_fresh later reader (Lstat path)).answer ≡ Ok (Told (stat_line before))
       new_told slashed later_fresh =
-          let walk = surely _ _ _ (symlink_named_too
-          (itself_leads Never later left_is.0 left_is.1 reading (own_name later reader reading called)) path lead.place
-          (named_so to.parent to.last parts.to_named to_fs lead)
+          let walk = surely _ _ _ (symlink_named_too (itself_leads Never later left_is.0 left_is.1 reading
+          (own_name later reader reading called)) path lead.place (named_so to.parent to.last parts.to_named to_fs lead)
           (at_name to.parent to.last parts.to_named to_fs lead) place_after (λ known. new_stepped)
-          (λ slash. let now = directory_after (slashed slash) in
-          (directory_no_link (node_at nat_eq later place_after) now, now))) in
-          lstat_of later later_fresh reader reading called path _ walk.1
-          ∙ ap (λ line. Ok (Told line)) (told_alike before (node_at nat_eq later place_after) kept)
+          (λ slash. let now = directory_after (slashed slash) in (
+            directory_no_link (node_at nat_eq later place_after)
+                now,
+            now,
+          ))) in
+          cc (
+            lstat_of later later_fresh reader called path _ walk.1,
+            told_alike before
+                (node_at nat_eq later place_after) kept,
+          )
 
       new_listed : is_directory_there nat_eq (looks_of nat_eq world) from ≡ true → (later_fresh : Fresh ℕ)
           → ((policy nat_eq later_fresh later reader (Ls path)).answer ≡ Ok (Names (names_in before)))
@@ -261,13 +262,13 @@ module _ {world : World ℕ} {fresh : Fresh ℕ} {name : TaskName} {old new : Li
           (at_name to.parent to.last parts.to_named to_fs lead) place_after
           (λ known. new_stepped) (directory_no_link (node_at nat_eq later place_after) now) now) in
           by (node_allows reading.credentials read_right (node_at nat_eq later place_after))
-          (list_of later later_fresh reader reading called path left_is.1 _ walk.1)
+          (list_of later later_fresh reader called path left_is.1 _ walk.1)
         where
           by : (b : Bool) → (policy nat_eq later_fresh later reader (Ls path)).answer
               ≡ cond b (Ok (Names (names_in (node_at nat_eq later place_after)))) (Err (denial C1))
               → ((policy nat_eq later_fresh later reader (Ls path)).answer ≡ Ok (Names (names_in before)))
               ⊎ ((policy nat_eq later_fresh later reader (Ls path)).answer ≡ Err (denial C1))
-          by true e = inl (e ∙ ap (λ entries. Ok (Names (map (λ (entry : List ℕ × ℕ). entry.0) entries))) kept.names)
+          by true e = inl (cc kept.names)
           by false e = inr e
 
     -- by the old one
@@ -283,10 +284,10 @@ module _ {world : World ℕ} {fresh : Fresh ℕ} {name : TaskName} {old new : Li
         (leads_to from.parent from.last parts.from_named refl lead None
         (old_left it parts.permit_is parts.uncovered seen.moves.replaced_other
         (there from.parent from.last parts.from_named refl lead)))) in
-        lstat_refused later later_fresh reader reading called path stop.0 stop.2 ∙ ap Err stop.1
+        lstat_refused later later_fresh reader called path stop.0 stop.2 ∙ ap Err stop.1
 
 -- what a granted rename did
-module _ (old new : List ℕ) (world : World ℕ) (fresh : Fresh ℕ) (name : TaskName) (task : Task ℕ) (from to : Place ℕ)
+module _ {old new : List ℕ} (world : World ℕ) (fresh : Fresh ℕ) (name : TaskName) {task : Task ℕ} {from to : Place ℕ}
     (called : task_called world name ≡ Some task)
     (from_is : old_leaf_walk nat_eq (looks_of nat_eq world) task old ≡ Ok from)
     (to_is : new_walk nat_eq (looks_of nat_eq world) task new ≡ Ok to)
@@ -297,10 +298,8 @@ module _ (old new : List ℕ) (world : World ℕ) (fresh : Fresh ℕ) (name : Ta
 
   parts_of : NamesParts (looks_of nat_eq world) renamed.task old new from to renamed.permit
   parts_of =
-      let task_is : renamed.task ≡ task = same_Some renamed.task task (sym renamed.called ∙ called) in
-      names_parts (looks_of nat_eq world) renamed.task old new from to renamed.permit
-      (ap (λ t. old_leaf_walk nat_eq (looks_of nat_eq world) t old) task_is ∙ from_is)
-      (ap (λ t. new_walk nat_eq (looks_of nat_eq world) t new) task_is ∙ to_is) two renamed.judged
+      let task_is : renamed.task ≡ task = same_Some renamed.task task (cc renamed.called) in
+      names_parts (looks_of nat_eq world) renamed.task old new from to renamed.permit (cc) (cc) two renamed.judged
 
 pub rename_then_found : RenameThenFound
 rename_then_found old new world fresh name task from to is plain serves called from_is to_is two granted =
@@ -310,9 +309,9 @@ rename_then_found old new world fresh name task from to is plain serves called f
       serves = serves;
       other = refl;
       few = refl;
-      did = renamed old new world fresh name task from to called from_is to_is two granted;
+      did = renamed world fresh name called from_is to_is two granted;
     } in
-    let parts = parts_of old new world fresh name task from to called from_is to_is two granted in (
+    let parts = parts_of world fresh name called from_is to_is two granted in (
       stat_line (before it parts),
       old_told it parts,
       λ reader reading path called_too. (
@@ -329,9 +328,9 @@ rename_then_listed old new world fresh name task from to is plain serves called 
       serves = serves;
       other = refl;
       few = refl;
-      did = renamed old new world fresh name task from to called from_is to_is two granted;
+      did = renamed world fresh name called from_is to_is two granted;
     } in
-    let parts = parts_of old new world fresh name task from to called from_is to_is two granted in (
+    let parts = parts_of world fresh name called from_is to_is two granted in (
       names_in (before it parts),
       old_listed it parts directory,
       λ reader reading path called_too lead.

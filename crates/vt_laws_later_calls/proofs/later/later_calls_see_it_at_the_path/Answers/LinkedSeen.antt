@@ -79,11 +79,11 @@ module _ {world : World ℕ} {fresh : Fresh ℕ} {name : TaskName} {old new : Li
   tree = tree_here world it.is place.parent in_directory
 
   asks : change_of fresh world it.did.permit ≡ Some (place.parent, change)
-  asks = ap (change_of fresh world) parts.permit_is
+  asks = cc parts.permit_is
 
   does : spent it
       ≡ with_change nat_eq fresh world place.parent change
-  does = ap (λ p. (apply nat_eq fresh world it.did.task p).world) parts.permit_is
+  does = cc parts.permit_is
 
   abbrev changes : ChangesTree it place.parent change fresh
   changes = record { asks = asks; does = does; something = something; may = tt; tree = tree }
@@ -103,9 +103,7 @@ module _ {world : World ℕ} {fresh : Fresh ℕ} {name : TaskName} {old new : Li
   same_object = λ i. record { mount = eqb-true object.mount place.parent.mount parts.one_mount i; node = object.node }
 
   object_other : object.node ≢ place.parent.node
-  object_other same =
-      true≢false (sym in_directory ∙ ap (λ n. is_directory_node ((files_at nat_eq world place.parent).tree.node n))
-      (sym same) ∙ sym (ap (is_directory_at nat_eq world) same_object) ∙ parts.no_directory)
+  object_other same = true≢false (cc (in_directory, same_object, parts.no_directory))
 
   there : (reader : TaskName) (reading : Task ℕ) → task_called later reader ≡ Some reading
       → StandsAs it.did.task reading → MayLook it.did.task reading
@@ -126,7 +124,7 @@ module _ {world : World ℕ} {fresh : Fresh ℕ} {name : TaskName} {old new : Li
       ∙ uncovered world it.is (record { mount = place.parent.mount; node = object.node })
       (sym (ap (is_directory_at nat_eq world) same_object) ∙ parts.no_directory)))
       (λ slash. absurd (true≢false (sym slash ∙ at_name.slash_is ∙ parts.no_slash)))) in
-      lstat_of later later_fresh reader reading called new _ walk.1 ∙ ap (λ o. Ok (Told (stat_line o)))
+      lstat_of later later_fresh reader called new _ walk.1 ∙ ap (λ o. Ok (Told (stat_line o)))
       (seen_at changes stay reading own stands object.node ∙ all_stays it changes
       (ap option_to_list seen_to.1.name_is_free.free) object.node
       ∙ named_other (files_at nat_eq world place.parent) Never place.parent.node
@@ -139,7 +137,7 @@ module _ {world : World ℕ} {fresh : Fresh ℕ} {name : TaskName} {old new : Li
 pub link_then_lstat : LinkThenLstat
 link_then_lstat old new world fresh name task is plain serves called granted = (
   stat_line (node_at nat_eq world parts.from.location),
-  λ other_fresh. lstat_of world other_fresh name it.did.task it.did.called old parts.from parts.found,
+  λ other_fresh. lstat_of world other_fresh name it.did.called old parts.from parts.found,
   there it parts name (raised_task name it.did.task) (caller_there it parts) (raised_stands name it.did.task)
       (inl (raised_credentials name it.did.task)),
   λ reader reading looks. there it parts reader reading looks.called

@@ -34,11 +34,11 @@ rmdir_parts : (looks : Looks ℕ) {too_many : Permit ℕ → Bool} (task : Task 
     (permit : Permit ℕ) → old_walk nat_eq looks task path ≡ Ok place
     → IsGranted nat_eq looks too_many task (Rmdir path) permit → RmdirParts looks task path place permit
 rmdir_parts looks task path place permit walk (removes_directory _ other end word passed) =
-    let same : other ≡ place = same_end other place (sym end ∙ walk) in
+    let same : other ≡ place = same_end other place (cc) in
     record {
       walked = (old_parts looks task path place walk).0;
-      named = ap (λ (p : Place ℕ). is_special p.last) (sym same) ∙ special_word other.last word.0 word.1.0 word.1.1.0;
-      permit_is = ap (λ (p : Place ℕ). ToRemoveDirectory p.parent (name_of p.last) (object_there p)) same;
+      named = cc (special_word other.last word.0 word.1.0 word.1.1.0);
+      permit_is = cc;
     }
 
 module _ {world : World ℕ} {fresh : Fresh ℕ} {name : TaskName} {path : List ℕ} {place : Place ℕ}
@@ -50,7 +50,7 @@ module _ {world : World ℕ} {fresh : Fresh ℕ} {name : TaskName} {path : List 
   abbrev word : List ℕ
   word = name_of place.last
 
-  module _ (reader : TaskName) (reading : Task ℕ) (called : task_called later reader ≡ Some reading)
+  module _ (reader : TaskName) {reading : Task ℕ} (called : task_called later reader ≡ Some reading)
       (stands : StandsAs it.did.task reading) (looks : MayLook it.did.task reading) (Refused : Deny → Type 0)
       (missing : Refused (denial W6)) where
     abbrev Fit : Location ℕ → Type 0
@@ -79,7 +79,7 @@ module _ {world : World ℕ} {fresh : Fresh ℕ} {name : TaskName} {path : List 
 
     now_there : (here : Location ℕ) → KnownSo here
         → is_some (node_in later (mount_at nat_eq world here).filesystem here.node) ≡ true
-    now_there here known = ap is_some (sym (here_is here known)) ∙ known.0.1.1
+    now_there here known = cc (here_is here known, known.0.1.1)
 
     searched : (here : Location ℕ) → KnownSo here → is_directory_at nat_eq world here ≡ true
         → may (looks_of nat_eq world) it.did.task here execute_right ≡ true
@@ -89,10 +89,11 @@ module _ {world : World ℕ} {fresh : Fresh ℕ} {name : TaskName} {path : List 
       where
         by : MayLook it.did.task reading → may (looks_of nat_eq later) reading here execute_right ≡ true
         by (inr all) = search_all reading.credentials all (node_at nat_eq later here)
-            (ap is_directory_node (here_is here known)
-            ∙ (objects_stay it parts.permit_is Refused missing).directory (mount_at nat_eq world here).filesystem
-            here.node known.0.0.1
-            (now_there here known) ∙ directory)
+            (cc (
+              here_is here known,
+              (objects_stay it parts.permit_is Refused missing).directory
+                  (mount_at nat_eq world here).filesystem here.node known.0.0.1 (now_there here known),
+            ))
         by (inl same) = ap (λ who. node_allows who execute_right (node_at nat_eq later here)) same
             ∙ ap (node_allows it.did.task.credentials execute_right) (here_is here known)
             ∙ rights_left it parts.permit_is (mount_at nat_eq world here).filesystem here.node
@@ -106,31 +107,28 @@ module _ {world : World ℕ} {fresh : Fresh ℕ} {name : TaskName} {path : List 
       gone : (later_fresh : Fresh ℕ)
           → (deny : Deny) × Refused deny × ((policy nat_eq later_fresh later reader (Lstat path)).answer ≡ Err deny)
       gone later_fresh =
-          let stop = symlink_missing
-          leads path place parts.named
-          (named_place (looks_of nat_eq world) it.did.task path place parts.walked parts.named) (denial W6) missing
-          (λ known.
-          stepped_by later reading place.parent place.last parts.named None
-          (ap (λ o. entry_named word (entries_in o)) (here_is place.parent known)
-          ∙ name_left it parts.permit_is (now_there place.parent known))) in
-          (stop.0.deny, stop.1, lstat_refused later later_fresh reader reading called path stop.0 stop.2)
+          let stop = symlink_missing leads path place parts.named (named_place (looks_of nat_eq world) it.did.task path
+          place parts.walked parts.named) (denial W6) missing (λ known. stepped_by later reading place.parent place.last
+          parts.named None (cc (
+            here_is place.parent known,
+            name_left it parts.permit_is
+                (now_there place.parent known),
+          ))) in
+          (stop.0.deny, stop.1, lstat_refused later later_fresh reader called path stop.0 stop.2)
 
   abbrev OutsideOf : Task ℕ → Location ℕ → Type 0
   OutsideOf reading here = (roots : reading.root ≡ it.did.task.root)
       → IsOutside it parts.permit_is reading roots here
 
   root_outside : (reading : Task ℕ) → OutsideOf reading it.did.task.root
-  root_outside reading roots removed =
-      ap (λ b. b || nat_eq it.did.task.root.node (mount_at nat_eq world it.did.task.root).root)
-      (same_location_itself it.did.task.root)
+  root_outside reading roots removed = cc (same_location_itself it.did.task.root)
 
   same_mount : (object_there place).mount ≡ place.parent.mount
   same_mount = (seen_to it parts.permit_is).0
 
   directory_outside : (IsOneInode world it.did.task.directory (object_there place) → ⊥) → (reading : Task ℕ)
       → OutsideOf reading it.did.task.directory
-  directory_outside other reading roots removed =
-      absurd (other (removed.0 ∙ ap (λ m. (mount_numbered nat_eq world m).filesystem) (sym same_mount), removed.1))
+  directory_outside other reading roots removed = absurd (other (cc (removed.0, same_mount), removed.1))
 
   module _ (reader : TaskName) (reading : Task ℕ) (called : task_called later reader ≡ Some reading)
       (stands : StandsAs it.did.task reading) (looks : MayLook it.did.task reading) where
@@ -138,7 +136,7 @@ module _ {world : World ℕ} {fresh : Fresh ℕ} {name : TaskName} {path : List 
         → ((policy nat_eq later_fresh later reader (Lstat path)).answer ≡ Err (denial W6))
         ⊎ ((policy nat_eq later_fresh later reader (Lstat path)).answer ≡ Err (denial W8))
     gone_or_lost later_fresh =
-        let refused = gone reader reading called stands looks MissingOrLost (inl refl) (inl (inr refl))
+        let refused = gone reader called stands looks MissingOrLost (inl refl) (inl (inr refl))
         (inl (inr refl)) later_fresh in
         by refused.0 refused.1 refused.2
       where
@@ -146,13 +144,13 @@ module _ {world : World ℕ} {fresh : Fresh ℕ} {name : TaskName} {path : List 
             → (policy nat_eq later_fresh later reader (Lstat path)).answer ≡ Err deny
             → ((policy nat_eq later_fresh later reader (Lstat path)).answer ≡ Err (denial W6))
             ⊎ ((policy nat_eq later_fresh later reader (Lstat path)).answer ≡ Err (denial W8))
-        by deny (inl same) e = inl (e ∙ ap Err same)
-        by deny (inr same) e = inr (e ∙ ap Err same)
+        by deny (inl same) e = inl (cc)
+        by deny (inr same) e = inr (cc)
 
     gone_outside : (IsOneInode world it.did.task.directory (object_there place) → ⊥) → (later_fresh : Fresh ℕ)
         → (policy nat_eq later_fresh later reader (Lstat path)).answer ≡ Err (denial W6)
     gone_outside other later_fresh =
-        let refused = gone reader reading called stands looks Missing refl (inr (root_outside reading stands.root))
+        let refused = gone reader called stands looks Missing refl (inr (root_outside reading stands.root))
         (inr (directory_outside other reading stands.root)) later_fresh in
         refused.2 ∙ ap Err refused.1
 

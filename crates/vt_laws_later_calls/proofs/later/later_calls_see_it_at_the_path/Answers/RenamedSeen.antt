@@ -39,8 +39,7 @@ itself_leads Refused world is plain task called = record {
   working_known = directory_found world is task task.directory (own_directory_found world is task called);
   directory = λ here known e. e;
   search = λ here known directory e. inl e;
-  mounter = λ here. ap (λ o. mounter_allows o execute_right (node_at nat_eq world here))
-      (plain_numbered world plain (mount_at nat_eq world here).filesystem);
+  mounter = λ here. cc (plain_numbered world plain (mount_at nat_eq world here).filesystem);
   step = λ here word next known directory e. inl (e, step_found world is task here word next (known.0, directory) e);
   nosymfollow = λ here known. refl;
   link = λ here known. refl;
@@ -104,7 +103,7 @@ rename_parts looks task old new from to permit from_is to_is file free e =
 
 there_no : (test : Location ℕ → Bool) (o : Option (Location ℕ)) (default : Location ℕ) → not (is_some o) ≡ false
     → holds_of test o ≡ false → test (unwrap_or o default) ≡ false
-there_no test None default there e = absurd (true≢false there)
+there_no test None default there e = cc
 there_no test (Some a) default there e = e
 
 module _ {world : World ℕ} {fresh : Fresh ℕ} {name : TaskName} {old new : List ℕ} {from to : Place ℕ}
@@ -162,7 +161,7 @@ module _ {world : World ℕ} {fresh : Fresh ℕ} {name : TaskName} {old new : Li
   in_directory = may.moves.in_directory
 
   asks : change_of fresh world it.did.permit ≡ Some (from.parent, change)
-  asks = ap (change_of fresh world) parts.permit_is
+  asks = cc parts.permit_is
 
   does : spent it
       ≡ with_change nat_eq fresh world from.parent change
@@ -177,18 +176,16 @@ module _ {world : World ℕ} {fresh : Fresh ℕ} {name : TaskName} {old new : Li
   stay : TreeStays (files_at nat_eq world from.parent).tree
       (changed nat_eq (files_at nat_eq world from.parent) change).tree Missing
   stay = ways_moved (files_at nat_eq world from.parent) Missing from.parent.node (name_of from.last) to.parent.node
-      (name_of to.last) object may.moves.named no_directory in_directory free refl
+      (name_of to.last) may.moves.named no_directory in_directory free refl
 
   rights : RightsStay (files_at nat_eq world from.parent).tree
       (changed nat_eq (files_at nat_eq world from.parent) change).tree
   rights = rights_moved (files_at nat_eq world from.parent) Missing from.parent.node (name_of from.last) to.parent.node
-      (name_of to.last) object may.moves.named no_directory in_directory free
+      (name_of to.last) may.moves.named no_directory in_directory free
 
   object_apart : (directory : ℕ) → is_directory_node ((files_at nat_eq world from.parent).tree.node directory) ≡ true
       → object ≢ directory
-  object_apart directory is_one same =
-      true≢false (sym is_one ∙ ap (λ n. is_directory_node ((files_at nat_eq world from.parent).tree.node n)) (sym same)
-      ∙ no_directory)
+  object_apart directory is_one same = true≢false (cc no_directory)
 
   abbrev line : StatLine
   line = stat_line (node_at nat_eq world (record { mount = from.parent.mount; node = object }))
@@ -198,13 +195,12 @@ module _ {world : World ℕ} {fresh : Fresh ℕ} {name : TaskName} {old new : Li
   old_told other_fresh =
       let at_name = named_place (looks_of nat_eq world) it.did.task old from parts.from_walked parts.from_named in
       let own = called_own it in
-      let walk = surely _ _ _
-      (symlink_named_too (itself_leads Never world it.is it.plain it.did.task own) old from parts.from_named at_name
-      (record { mount = from.parent.mount; node = object })
-      (λ known. stepped_by world it.did.task from.parent from.last parts.from_named (Some object) may.moves.named
-      ∙ ap Ok (uncovered world it.is (record { mount = from.parent.mount; node = object }) no_directory))
-      (λ slash. absurd (true≢false (sym slash ∙ at_name.slash_is ∙ parts.from_slash)))) in
-      lstat_of world other_fresh name it.did.task it.did.called old _ walk.1
+      let walk = surely _ _ _ (symlink_named_too (itself_leads Never world it.is it.plain it.did.task own) old from
+      parts.from_named at_name (record { mount = from.parent.mount; node = object })
+      (λ known. stepped_by world it.did.task from.parent from.last parts.from_named (Some object) may.moves.named ∙
+      ap Ok (uncovered world it.is (record { mount = from.parent.mount; node = object }) no_directory))
+      (λ slash. cc (at_name.slash_is, parts.from_slash))) in
+      lstat_of world other_fresh name it.did.called old _ walk.1
 
   module _ (reader : TaskName) (reading : Task ℕ) (called : task_called later reader ≡ Some reading)
       (stands : StandsAs it.did.task reading) (looks : MayLook it.did.task reading) where
@@ -224,7 +220,7 @@ module _ {world : World ℕ} {fresh : Fresh ℕ} {name : TaskName} {old new : Li
         to.parent.node (ap (λ l. is_some (node_in later (mount_at nat_eq world l).filesystem to.parent.node))
         (sym to_place) ∙ known_there changes stay reading own_reader stands to.parent known))
         ∙ moved_entry (files_at nat_eq world from.parent) Missing from.parent.node (name_of from.last) to.parent.node
-        (name_of to.last) object may.moves.named no_directory in_directory free
+        (name_of to.last) may.moves.named no_directory in_directory free
 
     new_stepped : KnownToo changes stay reading own_reader stands to.parent
         → stepped nat_eq (looks_of nat_eq later) reading to.parent to.last
@@ -237,37 +233,32 @@ module _ {world : World ℕ} {fresh : Fresh ℕ} {name : TaskName} {old new : Li
 
     object_seen : node_at nat_eq later (record { mount = from.parent.mount; node = object })
         ≡ node_at nat_eq world (record { mount = from.parent.mount; node = object })
-    object_seen = seen_at changes stay reading own_reader stands object ∙ all_stays it changes
-        (ap option_to_list free) object
-        ∙ moved_object (files_at nat_eq world from.parent) Missing from.parent.node (name_of from.last) to.parent.node
-        (name_of to.last) object
-        may.moves.named no_directory in_directory free (object_apart from.parent.node from_directory)
+    object_seen = seen_at changes stay reading own_reader stands object ∙ all_stays it changes (cc free) object ∙
+        moved_object (files_at nat_eq world from.parent) Missing from.parent.node (name_of from.last) to.parent.node
+        (name_of to.last) may.moves.named no_directory in_directory free (object_apart from.parent.node from_directory)
         (object_apart to.parent.node in_directory)
 
     new_told : (later_fresh : Fresh ℕ) → ((policy nat_eq later_fresh later reader (Lstat new)).answer ≡ Ok (Told line))
         ⊎ ((policy nat_eq later_fresh later reader (Lstat new)).answer ≡ Err (denial W6))
     new_told later_fresh =
         let at_name = named_place (looks_of nat_eq world) it.did.task new to parts.to_walked parts.to_named in
-        ⊎_elim (λ ends. inl (lstat_of later later_fresh reader reading called new _ ends.1
-        ∙ ap (λ o. Ok (Told (stat_line o))) object_seen))
-        (λ stop. inr (lstat_refused later later_fresh reader reading called new stop.0 stop.2 ∙ ap Err stop.1))
-        (symlink_named_too leads_so new to parts.to_named at_name
-        (record { mount = from.parent.mount; node = object }) new_stepped
-        (λ slash. absurd (true≢false (sym slash ∙ at_name.slash_is ∙ parts.to_slash))))
+        ⊎_elim (λ ends. inl (cc (lstat_of later later_fresh reader called new _ ends.1, object_seen)))
+        (λ stop. inr (lstat_refused later later_fresh reader called new stop.0 stop.2 ∙ ap Err stop.1))
+        (symlink_named_too leads_so new to parts.to_named at_name (record { mount = from.parent.mount; node = object })
+        new_stepped (λ slash. cc (at_name.slash_is, parts.to_slash)))
 
     old_missing : (later_fresh : Fresh ℕ)
         → (policy nat_eq later_fresh later reader (Lstat old)).answer ≡ Err (denial W6)
     old_missing later_fresh =
-        let stop = symlink_missing
-        leads_so old from parts.from_named
-        (named_place (looks_of nat_eq world) it.did.task old from parts.from_walked parts.from_named) (denial W6) refl
-        (λ known.
-        stepped_by later reading from.parent from.last parts.from_named None
-        (ap (λ o. entry_named (name_of from.last) (entries_in o))
-        (seen_there changes stay reading own_reader stands known)
-        ∙ moved_missing (files_at nat_eq world from.parent) Missing from.parent.node (name_of from.last) to.parent.node
-        (name_of to.last) object may.moves.named no_directory in_directory free)) in
-        lstat_refused later later_fresh reader reading called old stop.0 stop.2 ∙ ap Err stop.1
+        let stop = symlink_missing leads_so old from parts.from_named (named_place (looks_of nat_eq world) it.did.task
+        old from parts.from_walked parts.from_named) (denial W6) refl (λ known. stepped_by later reading from.parent
+        from.last parts.from_named None (cc (
+          seen_there changes stay reading own_reader stands known,
+          moved_missing
+              (files_at nat_eq world from.parent) Missing from.parent.node (name_of from.last) to.parent.node
+              (name_of to.last) may.moves.named no_directory in_directory free,
+        ))) in
+        lstat_refused later later_fresh reader called old stop.0 stop.2 ∙ ap Err stop.1
 
   caller_there : task_called later name ≡ Some (raised_task name it.did.task)
   caller_there = caller changes stay

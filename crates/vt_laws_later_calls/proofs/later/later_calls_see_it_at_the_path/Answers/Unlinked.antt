@@ -32,7 +32,7 @@ pub old_parts : (looks : Looks ℕ) (task : Task ℕ) (path : List ℕ) (place :
 old_parts looks task path place e =
     let walks = both_walked (place_walk nat_eq looks task path) _ place e in
     let parts = walk_passing walks.0.steps ((not (is_some walks.0.object), W6) ∷ []) walks.0 place walks.2 in
-    (walks.1 ∙ ap Ok parts.1, ap (λ (p : Place ℕ). not (is_some p.object)) (sym parts.1) ∙ parts.0.0)
+    (walks.1 ∙ ap Ok parts.1, cc (parts.1, parts.0.0))
 
 -- what a granted unlink was permitted
 record UnlinkParts (looks : Looks ℕ) (task : Task ℕ) (path : List ℕ) (permit : Permit ℕ) : Type 0 where
@@ -95,18 +95,18 @@ module _ {world : World ℕ} {fresh : Fresh ℕ} {name : TaskName} {path : List 
       → StandsAs it.did.task reading → MayLook it.did.task reading → (later_fresh : Fresh ℕ)
       → (policy nat_eq later_fresh later reader (Lstat path)).answer ≡ Err (denial W6)
   gone reader reading called stands looks later_fresh =
-      let stop = symlink_missing
-      (leads changes stay reading (own_name later reader reading called) stands
+      let stop = symlink_missing (leads changes stay reading (own_name later reader reading called) stands
       (rights_removed (files_at nat_eq world place.parent) Missing place.parent.node (name_of place.last)
-      (object_there place).node seen_to.1.named seen_to.2) looks)
-      path place parts.named (named_place (looks_of nat_eq world) it.did.task path place parts.walked parts.named)
-      (denial W6) refl (λ known.
-      stepped_by later reading place.parent place.last parts.named None
-      (ap (λ o. entry_named (name_of place.last) (entries_in o))
-      (seen_there changes stay reading (own_name later reader reading called) stands known)
-      ∙ name_missing (files_at nat_eq world place.parent) Missing place.parent.node (name_of place.last)
-      (object_there place).node seen_to.1.named seen_to.2)) in
-      lstat_refused later later_fresh reader reading called path stop.0 stop.2 ∙ ap Err stop.1
+      (object_there place).node seen_to.1.named seen_to.2) looks) path place parts.named
+      (named_place (looks_of nat_eq world) it.did.task path place parts.walked parts.named) (denial W6) refl
+      (λ known. stepped_by later reading place.parent place.last parts.named None
+      (cc (
+        seen_there changes stay reading (own_name later reader reading called) stands known,
+        name_missing
+            (files_at nat_eq world place.parent) Missing place.parent.node (name_of place.last) (object_there place).node
+            seen_to.1.named seen_to.2,
+      ))) in
+      lstat_refused later later_fresh reader called path stop.0 stop.2 ∙ ap Err stop.1
 
   caller_there : task_called later name ≡ Some (raised_task name it.did.task)
   caller_there = caller changes stay

@@ -37,11 +37,11 @@ placed_parts : (looks : Looks ℕ) (task : Task ℕ) (here : Here ℕ) (last : L
     × (object_named nat_eq looks task here.location last ≡ Ok place.object)
 placed_parts looks task here last slash place e =
     let both = and_then-Ok (unless (search_rules nat_eq looks task here.location)
-    (object_named nat_eq looks task here.location last)) _ place
-    (not_stopped (steps_at nat_eq looks task here last) _ place e) in
+    (object_named nat_eq looks task here.location last)) _ place (not_stopped (steps_at nat_eq looks task here last) _
+    place e) in
     let parts = passing (search_rules nat_eq looks task here.location)
     (object_named nat_eq looks task here.location last) both.0 both.1 in
-    (parts.0, parts.1 ∙ ap (λ (p : Place ℕ). Ok p.object) (same_ok _ place both.2))
+    (parts.0, cc (parts.1, same_ok _ place both.2))
 
 -- no word is none
 some_word : (word : List ℕ) → last_word word ≡ NoWord → ⊥
@@ -65,9 +65,9 @@ pub record IsFilePlace (looks : Looks ℕ) (task : Task ℕ) (end : Place ℕ) :
 entry_of : (looks : Looks ℕ) (task : Task ℕ) (here : Location ℕ) (last : LastWord) (o : Option (Location ℕ))
     → is_special last ≡ false
     → object_named nat_eq looks task here last ≡ Ok o → entry_location nat_eq looks here (name_of last) ≡ o
-entry_of looks task here NoWord o special e = absurd (true≢false special)
-entry_of looks task here Dot o special e = absurd (true≢false special)
-entry_of looks task here DotDot o special e = absurd (true≢false special)
+entry_of looks task here NoWord o special e = cc
+entry_of looks task here Dot o special e = cc
+entry_of looks task here DotDot o special e = cc
 entry_of looks task here (Named name) o special e = same_ok _ o e
 
 pub file_place : (looks : Looks ℕ) (task : Task ℕ) (depth : ℕ) (start : Here ℕ) (text : List ℕ) (slash : Bool)
@@ -138,19 +138,12 @@ module _ {looks later : Looks ℕ} {task reader : Task ℕ} {Refused : Deny → 
           (followed_to depth later reader here.location there))) next here.left
       by steps_there (inl e) = inl (
         e.0,
-        ap (λ r. then_walk r (λ there.
-            if_symlink there (symlink_text (later.node there.location))
-            (followed_to depth later reader here.location there))) e.1
-            ∙ ap (λ o. if_symlink (record { location = next; left = here.left; steps = e.0 }) o
-            (followed_to depth later reader here.location
-            (record { location = next; left = here.left; steps = e.0 }))) no_link,
+        cc e.1,
       )
       by steps_there (inr stop) = inr (
         stop.0,
         stop.1,
-        ap (λ r. then_walk r (λ there.
-            if_symlink there (symlink_text (later.node there.location))
-            (followed_to depth later reader here.location there))) stop.2,
+        cc stop.2,
       )
 
   -- words, of which the last leads to a link whose text leads there
@@ -201,14 +194,13 @@ module _ {looks later : Looks ℕ} {task reader : Task ℕ} {Refused : Deny → 
           (symlink_start nat_eq later reader here.location (at link steps_link) inner).steps)
           (reverse (words inner))) next left
           → EndsThere Refused (followed_to (suc depth) later reader here.location (at link steps_link) inner) next left
-      by steps_link pass ends_so = subst (λ r. EndsThere Refused (then_walk r (λ start.
-          then_walk (words_walked nat_eq later reader (followed_to depth later reader) start (reverse (words inner)))
-          (λ reached. walk_unless reached.steps (slash_rules nat_eq later inner reached.location) reached))) next left)
-          (sym (pass ∙ (λ i. Ok (record {
-            location = start_same leads here.location here.location inner refl i;
-            left = link.left - 1;
-            steps = (symlink_start nat_eq later reader here.location (at link steps_link) inner).steps;
-          })))) (finish _ ends_so)
+      by steps_link pass ends_so = rw (pass ∙ (λ i. Ok (record {
+        location = start_same leads here.location here.location
+            inner refl i;
+        left = link.left - 1;
+        steps = (symlink_start nat_eq later reader here.location
+            (at link steps_link) inner).steps;
+      }))) (finish _ ends_so)
 
   -- what a walk to a file is to find
   abbrev FindsFile : ℕ → Location ℕ → Here ℕ → List ℕ → Bool → Type 0
@@ -223,7 +215,7 @@ module _ {looks later : Looks ℕ} {task reader : Task ℕ} {Refused : Deny → 
 
   front_left : (start here : Here ℕ) (list : List (List ℕ)) → suc start.left ≤ 41
       → prefix_walked nat_eq looks task (followed nat_eq looks task) start list ≡ Ok here → here.left ≤ start.left
-  front_left start here [] few e = subst (λ (h : Here ℕ). h.left ≤ start.left) (same_end start here e) (omega arith)
+  front_left start here [] few e = rw (← same_end start here e) (omega arith)
   front_left start here (word ∷ front) few e = (words_lead leads 41 41 start front here few few e).0
 
   -- A file is found by the links that led to its place, also where it was not there.

@@ -43,7 +43,7 @@ file_parts looks task path place e =
     (walk_start task texts.0) texts.0 false) _ place texts.2 in
     let parts = walk_passing walks.0.steps (new_name_rules nat_eq looks walks.0) walks.0 place walks.2 in
     record {
-      parsed = texts.1 ∙ ap Ok (sym same);
+      parsed = cc texts.1;
       walked = (λ i. file_walked nat_eq 41 looks task (walk_start task (same i)) (same i) false) ∙ walks.1
           ∙ ap Ok parts.1;
     }
@@ -74,12 +74,11 @@ object_by_words later reader path next left parsed no_slash ends =
     grind (arith, common_steps, ends, followed_to, walk_passed)
 
 -- A call that found the place of a file, or made it
-module _ (world later : World ℕ) (is : IsWorld nat_eq world) (task : Task ℕ)
-    (called : task_called world task.name ≡ Some task)
-    (path : List ℕ) (place : Place ℕ) (walk : file_walk nat_eq (looks_of nat_eq world) task path ≡ Ok place)
-    (named : is_special place.last ≡ false) (no_slash : place.slash ≡ false) (file : Location ℕ) (reader : Task ℕ)
-    (Known : Location ℕ → Type 0) (leads_so : LeadsToo (looks_of nat_eq world)
-    (looks_of nat_eq later) task reader Never Known) where
+module _ {world : World ℕ} (later : World ℕ) (is : IsWorld nat_eq world) {task : Task ℕ}
+    (called : task_called world task.name ≡ Some task) (path : List ℕ) {place : Place ℕ}
+    (walk : file_walk nat_eq (looks_of nat_eq world) task path ≡ Ok place) (named : is_special place.last ≡ false)
+    (no_slash : place.slash ≡ false) (file : Location ℕ) {reader : Task ℕ} {Known : Location ℕ → Type 0}
+    (leads_so : LeadsToo (looks_of nat_eq world) (looks_of nat_eq later) task reader Never Known) where
   parts : FileParts (looks_of nat_eq world) task path place
   parts = file_parts (looks_of nat_eq world) task path place walk
 
@@ -145,12 +144,12 @@ module _ {world : World ℕ} {fresh : Fresh ℕ} {name : TaskName} {path bytes :
     new_read reader reading called stands looks later_fresh =
         let self = own_name left reader reading called in
         let seen = node_seen it permit reading self stands looks in
-        let finds = file_found world left it.is it.did.task own path place walk named no_slash
-        (record { mount = place.parent.mount; node = fresh 0 }) reading _
+        let finds = file_found left it.is own path walk named no_slash
+        (record { mount = place.parent.mount; node = fresh 0 })
         (made_leads it permit reading self stands looks)
         (new_stepped it permit reading self stands looks place.last named refl)
         (ap symlink_text seen) in
-        read_of left later_fresh reader reading called path left_plain _ finds.1.1
+        read_of left later_fresh reader called path left_plain _ finds.1.1
         (new_attr it.did.task file_mode) bytes seen
 
     new_maker : task_called left name ≡ Some (raised_task name it.did.task)
@@ -179,11 +178,11 @@ module _ {world : World ℕ} {fresh : Fresh ℕ} {name : TaskName} {path bytes :
     tree = tree_there world it.is it.plain file something
 
     asks : change_of fresh world it.did.permit ≡ Some (file, change)
-    asks = ap (change_of fresh world) permit
+    asks = cc
 
     does : spent it
         ≡ with_change nat_eq fresh world file change
-    does = ap (λ p. (apply nat_eq fresh world it.did.task p).world) permit
+    does = cc
 
     abbrev changes : ChangesTree it file change fresh
     changes = record { asks = asks; does = does; something = something; may = tt; tree = tree }
@@ -199,7 +198,7 @@ module _ {world : World ℕ} {fresh : Fresh ℕ} {name : TaskName} {path bytes :
         let self = own_name left reader reading called in
         let leads_so = leads changes stay
         reading self stands (rights_with_bytes (files_at nat_eq world file) Never file.node bytes) looks in
-        let at_file = found_at world left it.is it.did.task own path place walk named no_slash file reading _ leads_so
+        let at_file = found_at left it.is own path walk named no_slash file leads_so
         in
         let seen : node_at nat_eq left file ≡ Some (record { attr = old.0; content = Regular bytes }) =
         seen_at changes stay
@@ -209,10 +208,10 @@ module _ {world : World ℕ} {fresh : Fresh ℕ} {name : TaskName} {path bytes :
         let before : stepped nat_eq (looks_of nat_eq world) it.did.task place.parent place.last ≡ Ok file =
         ap (stepped nat_eq (looks_of nat_eq world) it.did.task place.parent) (named_last place.last named)
         ∙ ap (λ o. ok_or o (denial W6)) (at_file.object_is ∙ object) in
-        let finds = file_found world left it.is it.did.task own path place walk named no_slash file reading _ leads_so
+        let finds = file_found left it.is own path walk named no_slash file leads_so
         (λ known. kept _ _ _ (leads_so.step place.parent place.last file known at_file.directory before))
         (ap symlink_text seen) in
-        read_of left later_fresh reader reading called path left_plain _ finds.1.1 old.0 bytes seen
+        read_of left later_fresh reader called path left_plain _ finds.1.1 old.0 bytes seen
 
 -- what a granted write was permitted
 write_parts : (looks : Looks ℕ) (task : Task ℕ) (path bytes : List ℕ) (permit : Permit ℕ)
@@ -241,7 +240,7 @@ write_then_read path bytes world fresh name task is plain serves called granted 
     }
 
     task_is : it.did.task ≡ task
-    task_is = same_Some it.did.task task (sym it.did.called ∙ called)
+    task_is = same_Some it.did.task task (cc it.did.called)
 
     parts : (place : Place ℕ) × (file_walk nat_eq (looks_of nat_eq world) it.did.task path ≡ Ok place)
         × ((is_special place.last || place.slash) ≡ false)

@@ -54,11 +54,11 @@ unmount_undoes_new_mount_beneath world fresh place filesystem flags serves mount
     let places = new_mounts_keep_places world fresh place filesystem flags serves mounts.one_number mounts.nowhere
     mounts.standing there free mounts.one_child in
     record {
-      back = has_its_record_back larger fresh place mount can there on_old ends places takes
+      back = has_its_record_back can there on_old ends places takes
           (quiet larger fresh place flags filesystem);
-      gone = copy_is_gone larger fresh place mount can there on_old ends places takes
+      gone = copy_is_gone can there on_old ends places takes
           (quiet larger fresh place flags filesystem);
-      masters = masters_back larger fresh place mount can there on_old ends places takes
+      masters = masters_back can there on_old ends places takes
           (quiet larger fresh place flags filesystem);
     }
 
@@ -76,11 +76,11 @@ unmount_undoes_bind_beneath world fresh source place serves mounts there free co
     let places = binds_keep_places world fresh source place false serves mounts.one_number mounts.nowhere
     mounts.standing there free mounts.one_child in
     record {
-      back = has_its_record_back world fresh place mount can there on_old ends places takes
+      back = has_its_record_back can there on_old ends places takes
           (apart_so world fresh source place apart);
-      gone = copy_is_gone world fresh place mount can there on_old ends places takes
+      gone = copy_is_gone can there on_old ends places takes
           (apart_so world fresh source place apart);
-      masters = masters_back world fresh place mount can there on_old ends places takes
+      masters = masters_back can there on_old ends places takes
           (apart_so world fresh source place apart);
     }
 
@@ -96,7 +96,7 @@ unmount_takes_what_stood_there world fresh source place group receiver mount ser
     there) in
     let places = binds_keep_places world fresh source place false serves mounts.one_number mounts.nowhere
     mounts.standing there free mounts.one_child in
-    taken_along world fresh place first can there (stands_on_mount world mounts) ends places group receiver mount shared
+    taken_along can there (stands_on_mount world mounts) ends places group receiver mount shared
     (among-filter (takes_part nat_eq world place) (receivers_of nat_eq world (mount_at nat_eq world place)) receiver
     (subst (λ k. Among receiver (unwrap_or (option_map (receivers nat_eq world) (group_of k)) [])) (sym shared)
     (among-filter (receives nat_eq world group) world.mounts receiver (among_from_contains world.mounts receiver r)
@@ -115,7 +115,7 @@ unmount_takes_what_stood_beside = (
       mounts.standing there) in
       let places = new_mounts_keep_places world fresh place filesystem flags serves mounts.one_number mounts.nowhere
       mounts.standing there free mounts.one_child in
-      taken_beside larger fresh place first can there (stands_on_mount world mounts) ends places free group receiver
+      taken_beside can there (stands_on_mount world mounts) ends places free group receiver
       mount shared (among_from_contains world.mounts receiver r) hears (among_from_contains world.mounts mount n) stood
       apart may,
   λ world fresh source place serves mounts there free group receiver mount shared r hears n stood apart may.
@@ -128,7 +128,7 @@ unmount_takes_what_stood_beside = (
       there) in
       let places = binds_keep_places world fresh source place false serves mounts.one_number mounts.nowhere
       mounts.standing there free mounts.one_child in
-      taken_beside world fresh place first can there (stands_on_mount world mounts) ends places free group receiver
+      taken_beside can there (stands_on_mount world mounts) ends places free group receiver
       mount shared (among_from_contains world.mounts receiver r) hears (among_from_contains world.mounts mount n) stood
       apart may,
 )
