@@ -31,7 +31,7 @@ pub(crate) fn types_of(
 /// Reserves room for these types and masters. None changes.
 pub(crate) fn reserve_all(
     types: &mut Types,
-    above: &mut ByNumber<GroupId>,
+    above: &mut ByNumber<GroupId, GroupId>,
     mounts: &[(MountId, Propagation)],
     new: &[NewGroup],
 ) -> Result<(), AllocError>
@@ -62,10 +62,13 @@ fn reserve_type(types: &mut Types, mount: MountId, kind: Propagation) -> Result<
     if source(kind).is_none() {
         return Ok(());
     }
-    types.reserve(mount.count, kind)
+    types.reserve(mount, kind)
 }
 
-fn reserve_masters(above: &mut ByNumber<GroupId>, new: &[NewGroup]) -> Result<(), AllocError>
+fn reserve_masters(
+    above: &mut ByNumber<GroupId, GroupId>,
+    new: &[NewGroup],
+) -> Result<(), AllocError>
     ensures entries { above.new.entries ≡ above.old.entries }
     ensures room { OnOk result (All (FitsMaster above.new) new.now) }
 {
@@ -75,7 +78,7 @@ fn reserve_masters(above: &mut ByNumber<GroupId>, new: &[NewGroup]) -> Result<()
     Ok(())
 }
 
-fn reserve_master(above: &mut ByNumber<GroupId>, new: NewGroup) -> Result<(), AllocError>
+fn reserve_master(above: &mut ByNumber<GroupId, GroupId>, new: NewGroup) -> Result<(), AllocError>
     ensures entries { above.new.entries ≡ above.old.entries }
     ensures room { OnOk result (FitsMaster above.new new) }
     ensures kept { (other : ℕ) → has_room above.old other ≡ true → has_room above.new other ≡ true }
@@ -83,13 +86,13 @@ fn reserve_master(above: &mut ByNumber<GroupId>, new: NewGroup) -> Result<(), Al
     if new.master.is_none() {
         return Ok(());
     }
-    above.reserve(new.group.count)
+    above.reserve(new.group)
 }
 
 /// Gives up the room that is left without a type or a master. None changes, and it does not allocate.
 pub(crate) fn release_all(
     types: &mut Types,
-    above: &mut ByNumber<GroupId>,
+    above: &mut ByNumber<GroupId, GroupId>,
     mounts: &[(MountId, Propagation)],
     new: &[NewGroup],
 )
@@ -97,16 +100,16 @@ pub(crate) fn release_all(
     ensures masters { above.new.entries ≡ above.old.entries }
 {
     for pair in mounts {
-        types.release(pair.0.count, pair.1);
+        types.release(pair.0, pair.1);
     }
     release_masters(above, new);
 }
 
-fn release_masters(above: &mut ByNumber<GroupId>, new: &[NewGroup])
+fn release_masters(above: &mut ByNumber<GroupId, GroupId>, new: &[NewGroup])
     ensures { above.new.entries ≡ above.old.entries }
 {
     for group in new {
-        above.release(group.group.count);
+        above.release(group.group);
     }
 }
 
@@ -114,7 +117,7 @@ fn release_masters(above: &mut ByNumber<GroupId>, new: &[NewGroup])
 /// allocate.
 pub(crate) fn set_all(
     types: &mut Types,
-    above: &mut ByNumber<GroupId>,
+    above: &mut ByNumber<GroupId, GroupId>,
     mounts: &[(MountId, Propagation)],
     new: &[NewGroup],
 )
@@ -152,11 +155,11 @@ fn set_type(types: &mut Types, mount: MountId, kind: Propagation)
     ensures ordered { IsAscending types.old.kinds → IsAscending types.new.kinds }
 {
     if source(kind).is_some() {
-        types.set(mount.count, kind);
+        types.set(mount, kind);
     }
 }
 
-fn set_masters(above: &mut ByNumber<GroupId>, new: &[NewGroup])
+fn set_masters(above: &mut ByNumber<GroupId, GroupId>, new: &[NewGroup])
     requires { All (FitsMaster above.old) new.now }
     ensures entries { map numbered_master above.new.entries
         ≡ folded with_master_of (map numbered_master above.old.entries) (map new_group new.now) }
@@ -168,7 +171,7 @@ fn set_masters(above: &mut ByNumber<GroupId>, new: &[NewGroup])
 }
 
 // A group that loses its master keeps the room for one, since it may come again with another.
-fn set_master(above: &mut ByNumber<GroupId>, new: NewGroup)
+fn set_master(above: &mut ByNumber<GroupId, GroupId>, new: NewGroup)
     requires { FitsMaster above.old new }
     ensures entries { map numbered_master above.new.entries
         ≡ with_master_of (map numbered_master above.old.entries) (new_group new) }
@@ -177,8 +180,8 @@ fn set_master(above: &mut ByNumber<GroupId>, new: NewGroup)
 {
     match new.master {
         Some(master) => {
-            above.set(new.group.count, master);
+            above.set(new.group, master);
         }
-        None => above.clear(new.group.count),
+        None => above.clear(new.group),
     }
 }

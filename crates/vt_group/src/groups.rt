@@ -45,10 +45,9 @@ pub struct NewGroup {
 /// The peer groups: their members and slaves, and their masters.
 #[derive(Debug, Drop)]
 pub struct Groups {
-    // By the counts of the mounts, so that they stand in order of attachment.
     mounts: Types,
-    // By the counts of the groups.
-    above: ByNumber<GroupId>,
+    // The masters of the groups that have one.
+    above: ByNumber<GroupId, GroupId>,
     index: Index,
 }
 
@@ -83,7 +82,7 @@ impl Groups {
     pub fn propagation_of(&self, mount: MountId) -> Option<Propagation>
         ensures { type_or_private result ≡ propagation_in self.now (mount_number mount) }
     {
-        self.mounts.get(mount.count)
+        self.mounts.get(mount)
     }
 
     /// The master of a group.
@@ -91,7 +90,7 @@ impl Groups {
     pub fn master_of(&self, group: GroupId) -> Option<GroupId>
         ensures { option_map group_number result ≡ master_in self.now (group_number group) }
     {
-        self.above.get(group.count)
+        self.above.get(group)
     }
 
     /// The group that a mount is the only member of: it ends once the mount leaves it. It does not allocate.
@@ -99,7 +98,7 @@ impl Groups {
         ensures { option_map group_number result ≡ lone_group self.now (mount_number mount) }
     {
         let group = own_group(self.propagation_of(mount)?)?;
-        if self.mounts.has_others(group, mount.count) {
+        if self.mounts.has_others(group, mount) {
             return None;
         }
         Some(group)
@@ -287,7 +286,7 @@ impl Groups {
         ensures types { (other : ℕ) → propagation_in self.new other
             ≡ type_once_left self.old (mount_number mount) other }
     {
-        let old = self.mounts.remove(mount.count);
+        let old = self.mounts.remove(mount);
         self.index.leave(mount, old, None);
         self.end_if_lost(old);
     }
@@ -319,7 +318,7 @@ impl Groups {
     {
         let member = Propagation::Shared(group);
         let slave = Propagation::Slave(group);
-        self.mounts.set(mount.count, slave);
+        self.mounts.set(mount, slave);
         self.index.leave(mount, Some(member), Some(slave));
         self.end_if_lost(Some(member));
     }
@@ -481,16 +480,16 @@ impl Groups {
         }
         self.index.list(mount, Propagation::Shared(group))?;
         self.index.join(group, master)?;
-        self.above.reserve(group.count)?;
+        self.above.reserve(group)?;
         let kind = Propagation::Shared(group);
-        if self.mounts.reserve(mount.count, kind).is_err() {
-            self.above.release(group.count);
+        if self.mounts.reserve(mount, kind).is_err() {
+            self.above.release(group);
             return Err(AllocError);
         }
-        let old = self.mounts.get(mount.count);
+        let old = self.mounts.get(mount);
         // From here on nothing can fail.
-        self.above.set(group.count, master);
-        self.mounts.set(mount.count, Propagation::Shared(group));
+        self.above.set(group, master);
+        self.mounts.set(mount, Propagation::Shared(group));
         self.index
             .leave(mount, old, Some(Propagation::Shared(group)));
         self.end_if_lost(old);
@@ -505,9 +504,9 @@ impl Groups {
         ensures err { OnErr result (self.new ≡ self.old) }
     {
         self.index.list(mount, kind)?;
-        self.mounts.reserve(mount.count, kind)?;
-        let old = self.mounts.get(mount.count);
-        self.mounts.set(mount.count, kind);
+        self.mounts.reserve(mount, kind)?;
+        let old = self.mounts.get(mount);
+        self.mounts.set(mount, kind);
         self.index.leave(mount, old, Some(kind));
         self.end_if_lost(old);
         Ok(())
@@ -549,10 +548,10 @@ impl Groups {
             ≡ master_after_end (group_number group) (master_in self.old (group_number group)) self.old other }
     {
         self.mounts.forget(group);
-        let heir = self.above.get(group.count);
+        let heir = self.above.get(group);
         hand_mounts(&mut self.mounts, self.index.relatives(group), group, heir);
         hand_groups(&mut self.above, self.index.lowers(group), group, heir);
-        self.above.remove(group.count);
+        self.above.remove(group);
         self.index
             .end(group, heir, self.mounts.kinds(), &self.above);
     }

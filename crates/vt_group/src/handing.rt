@@ -34,22 +34,22 @@ fn hand_mount(types: &mut Types, mount: MountId, lost: GroupId, heir: Option<Gro
         ≡ (if nat_eq other mount.count
         then then_some (value_at types.old.kinds mount.count) (kind_handed lost heir) else value_at types.old.kinds other) }
 {
-    let Some(Propagation::Slave(master)) = types.get(mount.count) else {
+    let Some(Propagation::Slave(master)) = types.get(mount) else {
         return;
     };
     match handed_master(master, lost, heir) {
         Some(master) => {
-            types.set(mount.count, Propagation::Slave(master));
+            types.set(mount, Propagation::Slave(master));
         }
         None => {
-            types.remove(mount.count);
+            types.remove(mount);
         }
     }
 }
 
 /// Those of these groups that have a lost one as their master get its heir, or no master if there is none.
 pub(crate) fn hand_groups(
-    above: &mut ByNumber<GroupId>,
+    above: &mut ByNumber<GroupId, GroupId>,
     groups: Listed<'_, GroupId>,
     lost: GroupId,
     heir: Option<GroupId>,
@@ -64,21 +64,26 @@ pub(crate) fn hand_groups(
     }
 }
 
-fn hand_group(above: &mut ByNumber<GroupId>, group: GroupId, lost: GroupId, heir: Option<GroupId>)
+fn hand_group(
+    above: &mut ByNumber<GroupId, GroupId>,
+    group: GroupId,
+    lost: GroupId,
+    heir: Option<GroupId>,
+)
     ensures ordered { IsAscending above.old → IsAscending above.new }
     ensures each { (other : ℕ) → value_at above.new other
         ≡ (if nat_eq other group.count
         then then_some (value_at above.old group.count) (group_handed lost heir) else value_at above.old other) }
 {
-    let Some(master) = above.get(group.count) else {
+    let Some(master) = above.get(group) else {
         return;
     };
     match handed_master(master, lost, heir) {
         Some(master) => {
-            above.set(group.count, master);
+            above.set(group, master);
         }
         None => {
-            above.remove(group.count);
+            above.remove(group);
         }
     }
 }

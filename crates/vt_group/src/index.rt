@@ -147,7 +147,7 @@ impl Index {
     pub(crate) fn share(
         &mut self,
         named: &[(MountId, GroupId)],
-        types: &ByNumber<Propagation>,
+        types: &ByNumber<MountId, Propagation>,
     ) -> Result<(), AllocError>
         ensures ok { OnOk result (EachShared self.new types.now named.now) }
         ensures kept { (mount : MountNumber) (kind : TypeKept) → is_listed self.old mount kind ≡ true
@@ -163,14 +163,14 @@ impl Index {
     fn share_pair(
         &mut self,
         pair: &(MountId, GroupId),
-        types: &ByNumber<Propagation>,
+        types: &ByNumber<MountId, Propagation>,
     ) -> Result<(), AllocError>
         ensures ok { OnOk result (IsShared self.new (value_at types.now pair.now.0.count) pair.now.0 pair.now.1) }
         ensures kept { (mount : MountNumber) (kind : TypeKept) → is_listed self.old mount kind ≡ true
             → is_listed self.new mount kind ≡ true }
         ensures lower { (low up : GroupNumber) → is_lower self.old low up ≡ true → is_lower self.new low up ≡ true }
     {
-        let was = types.get(pair.0.count);
+        let was = types.get(pair.0);
         self.share_one(was, pair.0, pair.1)
     }
 
@@ -242,19 +242,19 @@ impl Index {
     pub(crate) fn unlist_all(
         &mut self,
         mounts: &[(MountId, Propagation)],
-        types: &ByNumber<Propagation>,
+        types: &ByNumber<MountId, Propagation>,
     )
         ensures kept { (mount : MountNumber) (kind : TypeKept) → value_at types.now mount.count ≡ Some kind
             → is_listed self.old mount kind ≡ true → is_listed self.new mount kind ≡ true }
         ensures lower { (low up : GroupNumber) → is_lower self.old low up ≡ true → is_lower self.new low up ≡ true }
     {
         for pair in mounts {
-            self.leave(pair.0, Some(pair.1), types.get(pair.0.count));
+            self.leave(pair.0, Some(pair.1), types.get(pair.0));
         }
     }
 
     /// Takes groups out of where they are listed for these masters, unless they have them. It does not allocate.
-    pub(crate) fn part_all(&mut self, groups: &[NewGroup], above: &ByNumber<GroupId>)
+    pub(crate) fn part_all(&mut self, groups: &[NewGroup], above: &ByNumber<GroupId, GroupId>)
         ensures kept { (mount : MountNumber) (kind : TypeKept) → is_listed self.old mount kind ≡ true
             → is_listed self.new mount kind ≡ true }
         ensures lower { (low up : GroupNumber) → value_at above.now low.count ≡ Some up
@@ -265,14 +265,14 @@ impl Index {
         }
     }
 
-    fn part_new(&mut self, new: NewGroup, above: &ByNumber<GroupId>)
+    fn part_new(&mut self, new: NewGroup, above: &ByNumber<GroupId, GroupId>)
         ensures kept { (mount : MountNumber) (kind : TypeKept) → is_listed self.old mount kind ≡ true
             → is_listed self.new mount kind ≡ true }
         ensures lower { (low up : GroupNumber) → value_at above.now low.count ≡ Some up
             → is_lower self.old low up ≡ true → is_lower self.new low up ≡ true }
     {
         if let Some(master) = new.master {
-            self.part(new.group, master, above.get(new.group.count));
+            self.part(new.group, master, above.get(new.group));
         }
     }
 
@@ -282,8 +282,8 @@ impl Index {
         &mut self,
         lost: GroupId,
         heir: Option<GroupId>,
-        types: &ByNumber<Propagation>,
-        above: &ByNumber<GroupId>,
+        types: &ByNumber<MountId, Propagation>,
+        above: &ByNumber<GroupId, GroupId>,
     )
         ensures kept { Hands self.old self.new lost heir types.now above.now }
     {
@@ -311,7 +311,12 @@ impl Index {
     }
 
     // A group has ended that has no heir: what was below it and has no type or no master is taken out.
-    fn dissolve(&mut self, lost: GroupId, types: &ByNumber<Propagation>, above: &ByNumber<GroupId>)
+    fn dissolve(
+        &mut self,
+        lost: GroupId,
+        types: &ByNumber<MountId, Propagation>,
+        above: &ByNumber<GroupId, GroupId>,
+    )
         ensures kept { (mount : MountNumber) (kind : TypeKept) → IsSome (value_at types.now mount.count)
             → has_source lost kind ≡ false
             → is_listed self.old mount kind ≡ true → is_listed self.new mount kind ≡ true }
@@ -385,8 +390,8 @@ fn keep_under(
     names: &LinkedList<GroupId>,
     mounts: &mut Sets<MountId>,
     lowers: &mut Sets<GroupId>,
-    types: &ByNumber<Propagation>,
-    above: &ByNumber<GroupId>,
+    types: &ByNumber<MountId, Propagation>,
+    above: &ByNumber<GroupId, GroupId>,
 )
     ensures mounts { (at : GroupNumber) (mount : MountNumber) → IsSome (value_at types.now mount.count)
         → has same_id at mount mounts.old ≡ true → has same_id at mount mounts.new ≡ true }

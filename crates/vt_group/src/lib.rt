@@ -6,6 +6,7 @@ mod by_number;
 mod counts;
 mod groups;
 mod handing;
+mod id;
 mod index;
 pub mod laws;
 mod listed;

@@ -7,6 +7,7 @@ ghost use Rattle.vt_group.specs.ByNumber.{value_at};
 ghost use Rattle.vt_group.specs.Sets.{elements, same_group, same_id};
 
 use crate::by_number::ByNumber;
+use crate::id::Id;
 use std::alloc::{AllocError, Global};
 use std::hash::Hash;
 use std::slice;
@@ -16,32 +17,21 @@ use vt_location::{GroupId, MountId, Propagation};
 const FEW: usize = 4;
 
 /// What a set may have.
-pub trait Element: Eq + Hash + Copy + Clone + Drop {
+pub trait Element: Id + Eq + Hash + Copy + Clone + Drop {
     /// A list of this one alone.
     fn alone(&self) -> &[Self]
         ensures { result.now ≡ self.now ∷ [] };
-
-    /// By what a list of such is in order.
-    fn count(&self) -> u64;
 }
 
 impl Element for MountId {
     fn alone(&self) -> &[MountId] {
         slice::from_ref(self)
     }
-
-    fn count(&self) -> u64 {
-        self.count
-    }
 }
 
 impl Element for GroupId {
     fn alone(&self) -> &[GroupId] {
         slice::from_ref(self)
-    }
-
-    fn count(&self) -> u64 {
-        self.count
     }
 }
 
@@ -155,10 +145,10 @@ fn take_out<T: Element>(list: &mut Vec<T>, one: &T) -> bool
 fn place_of<T: Element>(list: &[T], one: &T) -> usize
     ensures { result ≤ length list.now }
 {
-    let count = one.count();
+    let number = one.number();
     match list.last() {
-        Some(last) if last.count() < count => list.len(),
-        _ => list.partition_point(|other| other.count() < count),
+        Some(last) if last.number() < number => list.len(),
+        _ => list.partition_point(|other| other.number() < number),
     }
 }
 
@@ -175,26 +165,26 @@ fn is_at<T: Element>(list: &[T], place: usize, one: &T) -> bool
 }
 
 /// Takes out the mounts that have no type. It does not allocate.
-pub(crate) fn keep_typed(set: &mut Set<MountId>, types: &ByNumber<Propagation>)
+pub(crate) fn keep_typed(set: &mut Set<MountId>, types: &ByNumber<MountId, Propagation>)
     ensures { (mount : MountNumber) → IsSome (value_at types.now mount.count)
         → list_any (same_id mount) (elements set.old) ≡ true → list_any (same_id mount) (elements set.new) ≡ true }
 {
     match set {
-        Set::One(Some(only)) if types.has(only.count) => {}
+        Set::One(Some(only)) if types.has(*only) => {}
         Set::One(_) => *set = Set::One(None),
-        Set::Many(many) => many.retain(|mount| types.has(mount.count)),
+        Set::Many(many) => many.retain(|mount| types.has(*mount)),
     }
 }
 
 /// Takes out the groups that have no master. It does not allocate.
-pub(crate) fn keep_lower(set: &mut Set<GroupId>, above: &ByNumber<GroupId>)
+pub(crate) fn keep_lower(set: &mut Set<GroupId>, above: &ByNumber<GroupId, GroupId>)
     ensures { (lower : GroupNumber) → IsSome (value_at above.now lower.count)
         → list_any (same_group lower) (elements set.old) ≡ true
         → list_any (same_group lower) (elements set.new) ≡ true }
 {
     match set {
-        Set::One(Some(only)) if above.has(only.count) => {}
+        Set::One(Some(only)) if above.has(*only) => {}
         Set::One(_) => *set = Set::One(None),
-        Set::Many(many) => many.retain(|lower| above.has(lower.count)),
+        Set::Many(many) => many.retain(|lower| above.has(*lower)),
     }
 }

@@ -80,7 +80,11 @@ impl<T: Element> Sets<T> {
 }
 
 /// Takes out the mounts under a group that have no type. It does not allocate.
-pub(crate) fn keep_typed(sets: &mut Sets<MountId>, group: GroupId, types: &ByNumber<Propagation>)
+pub(crate) fn keep_typed(
+    sets: &mut Sets<MountId>,
+    group: GroupId,
+    types: &ByNumber<MountId, Propagation>,
+)
     ensures { (at : GroupNumber) (mount : MountNumber) → IsSome (value_at types.now mount.count)
         → has same_id at mount sets.old ≡ true → has same_id at mount sets.new ≡ true }
 {
@@ -94,7 +98,11 @@ pub(crate) fn keep_typed(sets: &mut Sets<MountId>, group: GroupId, types: &ByNum
 }
 
 /// Takes out the groups under a group that have no master. It does not allocate.
-pub(crate) fn keep_lower(sets: &mut Sets<GroupId>, group: GroupId, above: &ByNumber<GroupId>)
+pub(crate) fn keep_lower(
+    sets: &mut Sets<GroupId>,
+    group: GroupId,
+    above: &ByNumber<GroupId, GroupId>,
+)
     ensures { (at lower : GroupNumber) → IsSome (value_at above.now lower.count)
         → has same_group at lower sets.old ≡ true → has same_group at lower sets.new ≡ true }
 {

@@ -15,12 +15,12 @@ use crate::counts::Counts;
 use crate::propagation::own_group;
 use std::alloc::{AllocError, Global};
 use std::marker::Model;
-use vt_location::{GroupId, Propagation};
+use vt_location::{GroupId, MountId, Propagation};
 
-/// The types of mounts, by the counts of the mounts, and how many members each group has.
+/// The types of mounts, and how many members each group has.
 #[derive(Debug, Drop)]
 pub(crate) struct Types {
-    kinds: ByNumber<Propagation>,
+    kinds: ByNumber<MountId, Propagation>,
     members: Counts,
 }
 
@@ -47,8 +47,8 @@ impl Types {
         }
     }
 
-    /// The types by the counts of the mounts.
-    pub(crate) fn kinds(&self) -> &ByNumber<Propagation>
+    /// The types.
+    pub(crate) fn kinds(&self) -> &ByNumber<MountId, Propagation>
         ensures { result.now ≡ self.now.kinds }
     {
         &self.kinds
@@ -56,8 +56,8 @@ impl Types {
 
     /// The type of a mount.
     #[inline]
-    pub(crate) fn get(&self, mount: u64) -> Option<Propagation>
-        ensures { result ≡ value_at self.now.kinds mount }
+    pub(crate) fn get(&self, mount: MountId) -> Option<Propagation>
+        ensures { result ≡ value_at self.now.kinds mount.count }
     {
         self.kinds.get(mount)
     }
@@ -72,17 +72,17 @@ impl Types {
 
     /// Whether a group has members beside this one.
     #[inline]
-    pub(crate) fn has_others(&self, group: GroupId, member: u64) -> bool
-        requires { then_some (value_at self.now.kinds member) group_of_kind ≡ Some group }
+    pub(crate) fn has_others(&self, group: GroupId, member: MountId) -> bool
+        requires { then_some (value_at self.now.kinds member.count) group_of_kind ≡ Some group }
         ensures { result ≡ list_any (is_in_group group)
-            (remove_entry (is_at (nat_cmp member)) self.now.kinds.entries) }
+            (remove_entry (is_at (nat_cmp member.count)) self.now.kinds.entries) }
     {
         self.members.of(group) > 1
     }
 
     /// Reserves room for the type of a mount. No type changes.
-    pub(crate) fn reserve(&mut self, mount: u64, kind: Propagation) -> Result<(), AllocError>
-        ensures room { OnOk result (Fits self.new mount kind) }
+    pub(crate) fn reserve(&mut self, mount: MountId, kind: Propagation) -> Result<(), AllocError>
+        ensures room { OnOk result (Fits self.new mount.count kind) }
         ensures kept { KeepsRoom self.old self.new }
         ensures entries { self.new.kinds.entries ≡ self.old.kinds.entries }
     {
@@ -91,11 +91,11 @@ impl Types {
     }
 
     /// Gives a mount a type, for which there is room. It does not allocate.
-    pub(crate) fn set(&mut self, mount: u64, kind: Propagation)
-        requires { Fits self.old mount kind }
-        ensures entries { self.new.kinds.entries ≡ insert_entry nat_cmp self.old.kinds.entries mount kind }
+    pub(crate) fn set(&mut self, mount: MountId, kind: Propagation)
+        requires { Fits self.old mount.count kind }
+        ensures entries { self.new.kinds.entries ≡ insert_entry nat_cmp self.old.kinds.entries mount.count kind }
         ensures updates { (other : ℕ) → value_at self.new.kinds other
-            ≡ (if is_at (nat_cmp mount) other then Some kind else value_at self.old.kinds other) }
+            ≡ (if is_at (nat_cmp mount.count) other then Some kind else value_at self.old.kinds other) }
         ensures kept { KeepsRoom self.old self.new }
         ensures ordered { IsAscending self.new.kinds }
     {
@@ -105,7 +105,7 @@ impl Types {
     }
 
     /// Gives up the room for the type of a mount that has none. No type changes, and it does not allocate.
-    pub(crate) fn release(&mut self, mount: u64, kind: Propagation)
+    pub(crate) fn release(&mut self, mount: MountId, kind: Propagation)
         ensures { self.new.kinds.entries ≡ self.old.kinds.entries }
     {
         self.kinds.release(mount);
@@ -115,11 +115,11 @@ impl Types {
     }
 
     /// Takes the type of a mount, if any, and its room. It does not allocate.
-    pub(crate) fn remove(&mut self, mount: u64) -> Option<Propagation>
-        ensures value { result ≡ value_at self.old.kinds mount }
-        ensures entries { self.new.kinds.entries ≡ remove_entry (is_at (nat_cmp mount)) self.old.kinds.entries }
+    pub(crate) fn remove(&mut self, mount: MountId) -> Option<Propagation>
+        ensures value { result ≡ value_at self.old.kinds mount.count }
+        ensures entries { self.new.kinds.entries ≡ remove_entry (is_at (nat_cmp mount.count)) self.old.kinds.entries }
         ensures updates { (other : ℕ) → value_at self.new.kinds other
-            ≡ (if is_at (nat_cmp mount) other then None else value_at self.old.kinds other) }
+            ≡ (if is_at (nat_cmp mount.count) other then None else value_at self.old.kinds other) }
         ensures ordered { IsAscending self.new.kinds }
     {
         let was = self.kinds.remove(mount);

@@ -6,7 +6,8 @@ use Rattle.vt_group.proofs.by_number.ByNumber.release.Goals as goal
 
 pub returns-then-not-has : goal.returns-then-not-has
 returns-then-not-has g c =
-    let none = none_from_not_some (value_at c.args.self.now c.args.number) (sym c.has.ensures ∙ c.if-not-has.true) in
-    values_kept c.args.number c.self.inside.places.entries c.swap_remove.new.self.entries None
-    c.swap_remove.ensures.updates.0 (sym (sym (value_found c.args.number c.self.inside.places.entries)
-    ∙ ap (λ map. value_at map c.args.number) c.self.view_is ∙ none)) ∙ ap (λ map. map.entries) c.self.view_is
+    let none = rw (← c.number.ensures) at
+    (none_from_not_some _ (sym c.has.ensures ∙ c.if-not-has.true)) in
+    values_kept c.number.result c.self.inside.places.entries c.swap_remove.new.self.entries None
+    c.swap_remove.ensures.updates.0 (sym (sym (value_found c.number.result c.self.inside.places.entries)
+    ∙ ap (λ map. value_at map c.number.result) c.self.view_is ∙ none)) ∙ ap (λ map. map.entries) c.self.view_is

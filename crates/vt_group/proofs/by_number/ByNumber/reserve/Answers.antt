@@ -6,16 +6,17 @@ use Rattle.vt_group.proofs.by_number.ByNumber.reserve.Goals as goal
 
 pub returns-in_default-clause-room : goal.returns-in_default-clause-room
 returns-in_default-clause-room g c =
-    room_found c.args.number c.insert.new.self.entries ∙ ap is_some c.in_ok-was.ensures.updates.1
+    rw (← c.number-number.ensures) (
+    room_found c.number-number.result c.insert.new.self.entries ∙ ap is_some c.in_ok-was.ensures.updates.1)
 
 pub returns-in_default-clause-kept : goal.returns-in_default-clause-kept
 returns-in_default-clause-kept g c other room =
-    room_stays c.args.number c.self.inside.places.entries c.insert.new.self.entries (Some None)
+    room_stays c.number-number.result c.self.inside.places.entries c.insert.new.self.entries (Some None)
     c.in_ok-was.ensures.updates.0 refl other (ap (λ map. has_room map other) c.self.view_is ∙ room)
 
 pub returns-in_default-clause-entries : goal.returns-in_default-clause-entries
 returns-in_default-clause-entries g c =
-    values_kept c.args.number c.self.inside.places.entries c.insert.new.self.entries (Some None)
+    values_kept c.number-number.result c.self.inside.places.entries c.insert.new.self.entries (Some None)
     c.in_ok-was.ensures.updates.0 (sym c.in_default.is ∙ c.flatten.ensures ∙ ap option_flatten c.in_ok-was.ensures.old)
     ∙ ap (λ map. map.entries) c.self.view_is
 
@@ -27,21 +28,22 @@ written_again false last first rest = refl
 
 pub returns-clause-room : goal.returns-clause-room
 returns-clause-room g c =
-    room_found c.args.number c.insert-2.new.self.entries ∙ ap is_some c.in_ok-insert.ensures.updates.1
+    rw (← c.number-number.ensures) (
+    room_found c.number-number.result c.insert-2.new.self.entries ∙ ap is_some c.in_ok-insert.ensures.updates.1)
 
 pub returns-clause-kept : goal.returns-clause-kept
 returns-clause-kept g c other room =
-    room_stays c.args.number c.self.inside.places.entries c.insert-2.new.self.entries (Some (Some c.in-Some.value))
+    room_stays c.number-number.result c.self.inside.places.entries c.insert-2.new.self.entries (Some (Some c.in-Some.value))
     (λ q. c.in_ok-insert.ensures.updates.0 q
-    ∙ ap (cond (nat_eq c.args.number q) (Some (Some c.in-Some.value))) (c.in_ok-was.ensures.updates.0 q)
-    ∙ written_again (nat_eq c.args.number q) _ _ _) refl other (ap (λ map. has_room map other) c.self.view_is ∙ room)
+    ∙ ap (cond (nat_eq c.number-number.result q) (Some (Some c.in-Some.value))) (c.in_ok-was.ensures.updates.0 q)
+    ∙ written_again (nat_eq c.number-number.result q) _ _ _) refl other (ap (λ map. has_room map other) c.self.view_is ∙ room)
 
 pub returns-clause-entries : goal.returns-clause-entries
 returns-clause-entries g c =
-    values_kept c.args.number c.self.inside.places.entries c.insert-2.new.self.entries (Some (Some c.in-Some.value))
+    values_kept c.number-number.result c.self.inside.places.entries c.insert-2.new.self.entries (Some (Some c.in-Some.value))
     (λ q. c.in_ok-insert.ensures.updates.0 q
-    ∙ ap (cond (nat_eq c.args.number q) (Some (Some c.in-Some.value))) (c.in_ok-was.ensures.updates.0 q)
-    ∙ written_again (nat_eq c.args.number q) _ _ _)
+    ∙ ap (cond (nat_eq c.number-number.result q) (Some (Some c.in-Some.value))) (c.in_ok-was.ensures.updates.0 q)
+    ∙ written_again (nat_eq c.number-number.result q) _ _ _)
     (sym c.in-Some.is ∙ c.flatten.ensures ∙ ap option_flatten c.in_ok-was.ensures.old)
     ∙ ap (λ map. map.entries) c.self.view_is
 

@@ -10,10 +10,10 @@ use Rattle.vt_group.proofs.types.Types.has_others.Goals as goal
 pub returns : goal.returns
 returns c =
     let es = c.self.inside.kinds.entries in
-    let own = one_own c.args.group (lookup (is_at (nat_cmp c.args.member)) es)
-    (ap (λ kept. then_some (value_at kept.kinds c.args.member) group_of_kind) c.self.view_is ∙ c.requires) in
-    let all : c.of.result ≡ count_members c.args.group (remove_entry (is_at (nat_cmp c.args.member)) es) + 1 =
-    omega (arith, c.of.ensures, c.self.invariant.0 c.args.group, counted_removed c.args.group c.args.member es, own) in
-    counted_others c.args.group c.of.result (remove_entry (is_at (nat_cmp c.args.member)) es) all
-    ∙ ap (λ kept. list_any (is_in_group c.args.group) (remove_entry (is_at (nat_cmp c.args.member)) kept.kinds.entries))
+    let own = one_own c.args.group (lookup (is_at (nat_cmp c.args.member.count)) es)
+    (ap (λ kept. then_some (value_at kept.kinds c.args.member.count) group_of_kind) c.self.view_is ∙ c.requires) in
+    let all : c.of.result ≡ count_members c.args.group (remove_entry (is_at (nat_cmp c.args.member.count)) es) + 1 =
+    omega (arith, c.of.ensures, c.self.invariant.0 c.args.group, counted_removed c.args.group c.args.member.count es, own) in
+    counted_others c.args.group c.of.result (remove_entry (is_at (nat_cmp c.args.member.count)) es) all
+    ∙ ap (λ kept. list_any (is_in_group c.args.group) (remove_entry (is_at (nat_cmp c.args.member.count)) kept.kinds.entries))
     c.self.view_is

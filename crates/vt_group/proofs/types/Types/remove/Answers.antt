@@ -5,7 +5,7 @@ use Rattle.vt_group.proofs.types.Types.remove.Goals as goal
 
 pub take_from-requires : goal.take_from-requires
 take_from-requires c =
-    member_counted c.self.inside.members c.self.inside.kinds.entries c.self.invariant.0 c.args.mount c.remove-was.result
+    member_counted c.self.inside.members c.self.inside.kinds.entries c.self.invariant.0 c.args.mount.count c.remove-was.result
     c.remove-was.ensures.value
 
 pub invariant_of-self : goal.invariant_of-self
@@ -14,7 +14,7 @@ invariant_of-self c = (
     arith,
     c.take_from.ensures.counts group,
     c.self.invariant.0 group,
-    counted_removed group c.args.mount c.self.inside.kinds.entries,
+    counted_removed group c.args.mount.count c.self.inside.kinds.entries,
     ap (one_in group) c.remove-was.ensures.value,
     ap (count_members group) c.remove-was.ensures.entries,
   ),
