@@ -1,6 +1,6 @@
 -- Attributes that were set are told.
-use Rattle.std.proofs.Common.{◌≡◌, refl, sym, ap, subst, ◌∙◌, inl, inr, ◌⊎◌, ⊎_elim, true≢false, ℕ, nat_eq, true, false, List, Option, Some, None, is_some, Ok, Err, Bool}
-use Rattle.vt_spec.proofs.Common.{Call, Change, Chmod, Chown, Done, Filesystem, Fresh, Here, IsWorld, Location, Looks, Node, Permit, SetAttr, Stat, StatLine, Task, TaskName, ToChange, Told, World, apply, attr_in, attr_with_mode, attr_with_owner, changed, denial, files_at, looks_of, mount_at, node_at, node_with_attr, object_walk, policy, raised_task, same_Some, stat_line, task_called, with_change}
+use Rattle.std.proofs.Common.{◌≡◌, refl, sym, ap, subst, ◌∙◌, inl, inr, ◌⊎◌, ⊎_elim, true≢false, ℕ, nat_eq, true, List, Option, Some, None, is_some, Ok, Err, Bool}
+use Rattle.vt_spec.proofs.Common.{Call, Change, Chmod, Chown, Done, Filesystem, Fresh, Here, IsWorld, Location, Looks, Node, Permit, SetAttr, Stat, StatLine, Task, TaskName, ToChange, Told, World, attr_in, attr_with_mode, attr_with_owner, changed, denial, files_at, looks_of, mount_at, node_at, node_with_attr, object_walk, policy, raised_task, same_Some, stat_line, task_called, with_change}
 use Rattle.vt_spec.specs.declared.attributes.Attr.{Attr}
 use Rattle.vt_spec.specs.declared.errors.Deny.{Deny}
 use Rattle.vt_spec.specs.declared.errors.Rule.TheVariants.{W4}
@@ -16,7 +16,7 @@ use Rattle.vt_laws_worlds.proofs.settling.SettledTasks.{file_trees}
 use Rattle.vt_laws_later_calls.specs.LaterPaths.{ChmodThenStat, ChownThenStat, IsAnsweredUnless, IsSeenByAll, reads_all}
 use Rattle.vt_laws_later_calls.specs.Later.{IsAnswered}
 use Rattle.vt_laws_later_calls.proofs.AfterChange.{ChangesTree, spent}
-use Rattle.vt_laws_later_calls.proofs.Granted.{HasSucceeded, permitted}
+use Rattle.vt_laws_later_calls.proofs.Granted.{HasSucceeded, has_succeeded}
 use Rattle.vt_laws_later_calls.proofs.Looked.{stat_of, stat_refused}
 use Rattle.vt_laws_later_calls.proofs.MadeSeen.{Never}
 use Rattle.vt_laws_later_calls.proofs.Readers.{KnownToo, all_stands, caller, leads_all, leads_or_hides, own_name, raised_stands, seen_there}
@@ -170,26 +170,14 @@ tells path set {world = world} task called it here walked permit = (
 
 pub chmod_then_stat : ChmodThenStat
 chmod_then_stat path mode world fresh name task is plain serves called granted =
-    let it : HasSucceeded world fresh name (Chmod path mode) Done = record {
-      is = is;
-      plain = plain;
-      serves = serves;
-      other = refl;
-      few = refl;
-      did = permitted world fresh name (Chmod path mode) Done refl granted;
-    } in
+    let it : HasSucceeded world fresh name (Chmod path mode) Done = has_succeeded is plain serves refl refl refl granted
+    in
     let parts = chmod_parts (looks_of nat_eq world) it.did.task path mode it.did.permit it.did.granted in
     tells path (λ attr. attr_with_mode attr mode) task called it parts.0 parts.1 parts.2
 
 pub chown_then_stat : ChownThenStat
 chown_then_stat path uid gid world fresh name task is plain serves called granted =
-    let it : HasSucceeded world fresh name (Chown path uid gid) Done = record {
-      is = is;
-      plain = plain;
-      serves = serves;
-      other = refl;
-      few = refl;
-      did = permitted world fresh name (Chown path uid gid) Done refl granted;
-    } in
+    let it : HasSucceeded world fresh name (Chown path uid gid) Done = has_succeeded is plain serves refl refl refl
+    granted in
     let parts = chown_parts (looks_of nat_eq world) it.did.task path uid gid it.did.permit it.did.granted in
     tells path (λ attr. attr_with_owner attr uid gid) task called it parts.0 parts.1 parts.2

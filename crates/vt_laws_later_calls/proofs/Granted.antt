@@ -1,6 +1,6 @@
 -- What a granted call of the machine leaves.
 use Rattle.std.proofs.Common.{arith, ◌≡◌, refl, sym, ap, ◌∙◌, ℕ, nat_eq, Bool, true, false, cond, not, List, [], ◌∷◌, ◌||◌, Option, Some, None, Result, Ok, Err, find, is_ok, map, ok_or, option_map}
-use Rattle.vt_spec.proofs.Common.{Answer, Call, Fresh, IsWorld, Judgement, Outcome, Permit, Serves, Task, TaskName, World, after, answer-finished_by, apply, common_steps, denial, filesystems_changed, filesystems_changed_by, finished, finished_by, judge_in, looks_of, numbers_raised, only_looks, overfills, policy, raised_task, same_name, settled, task_called}
+use Rattle.vt_spec.proofs.Common.{Answer, Call, Fresh, IsWorld, Judgement, Outcome, Permit, Serves, Task, TaskName, World, after, answer-finished_by, apply, common_steps, denial, filesystems_changed, filesystems_changed_by, finished, judge_in, looks_of, numbers_raised, only_looks, overfills, policy, raised_task, same_name, settled, task_called}
 use Rattle.vt_spec.specs.declared.errors.Deny.{Deny}
 use Rattle.vt_spec.specs.declared.errors.Rule.TheVariants.{S2}
 use Rattle.vt_laws_rules.proofs.judged.CallsJudged.{policy_judges_then_applies}
@@ -76,6 +76,19 @@ module _ (world : World ℕ) (fresh : Fresh ℕ) (name : TaskName) (call : Call)
   pub permitted : (policy nat_eq fresh world name call).answer ≡ Ok answer → IsPermitted world fresh name call answer
   permitted granted = of_task (task_called world name) refl
       (sym (ap (λ (o : Outcome ℕ). o.answer) (policy_judges_then_applies fresh world name call)) ∙ granted)
+
+abbrev pub has_succeeded : {world : World ℕ} {fresh : Fresh ℕ} {name : TaskName} {call : Call} {answer : Answer}
+    → IsWorld nat_eq world → IsPlain world → Serves nat_eq world fresh → only_looks call ≡ false
+    → mounts_overlay call ≡ false → names_few_groups call ≡ true
+    → (policy nat_eq fresh world name call).answer ≡ Ok answer → HasSucceeded world fresh name call answer
+has_succeeded {world} {fresh} {name} {call} {answer} is plain serves changes other few granted = record {
+  is = is;
+  plain = plain;
+  serves = serves;
+  other = other;
+  few = few;
+  did = permitted world fresh name call answer changes granted;
+}
 
 -- a task is there by its name, its change number raised or not
 pub called_raised : (name reader : TaskName) (task : Task ℕ) (tasks : List (Task ℕ))

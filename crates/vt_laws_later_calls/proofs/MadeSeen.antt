@@ -1,5 +1,5 @@
 -- A new object is found at its path.
-use Rattle.std.proofs.Common.{◌≡◌, refl, sym, ap, subst, ◌∙◌, inl, inr, ◌⊎◌, true≢false, ℕ, nat_eq, Bool, true, false, cond, not, ◌&&◌, List, [], ◌∷◌, Option, Some, None, is_some, Ok, Err, Result, option_to_list, unwrap_or}
+use Rattle.std.proofs.Common.{◌≡◌, refl, sym, ap, subst, ◌∙◌, inl, inr, ◌⊎◌, true≢false, ℕ, nat_eq, Bool, true, false, cond, not, ◌&&◌, List, [], ◌∷◌, Option, Some, None, is_some, Ok, Err, Result, unwrap_or}
 use Rattle.vt_spec.proofs.Common.{Answer, Bytes, Call, Change, Done, Fresh, Here, LastWord, Location, Looks, Ls, Make, Mkdir, Names, Node, Permit, Place, Readlink, Stop, SymlinkAt, Task, TaskName, ToMake, World, apply, bytes_in, changed, denial, directory_mode, directory_used, entries_in, entry_named, files_at, is_directory_node, is_kind_in, is_special, looks_of, make_permit, mount_at, name_of, names_in, new_attr, new_directory, new_leaf_walk, new_walk, node_allows, node_at, odds, place_walk, policy, raised_task, read_right, same_Some, stepped, symlink_text, task_called, topmost, with_change}
 use Rattle.vt_spec.specs.declared.attributes.Kind.TheVariants.{Symlink}
 use Rattle.vt_spec.specs.declared.errors.Deny.{Deny}
@@ -15,7 +15,7 @@ use Rattle.vt_laws_worlds.proofs.worlds.SeenTrees.{unused_inode}
 use Rattle.vt_laws_later_calls.specs.LaterPaths.{MkdirThenList, SymlinkThenReadlink}
 use Rattle.vt_laws_later_calls.specs.Later.{IsAnswered}
 use Rattle.vt_laws_later_calls.proofs.AfterChange.{ChangesTree, all_stays, later_is, later_mounts, spent}
-use Rattle.vt_laws_later_calls.proofs.Granted.{HasSucceeded, permitted}
+use Rattle.vt_laws_later_calls.proofs.Granted.{HasSucceeded, has_succeeded}
 use Rattle.vt_laws_later_calls.proofs.Looked.{list_of, read_all, readlink_of}
 use Rattle.vt_laws_later_calls.proofs.OpenedNew.{given_of, made_node}
 use Rattle.vt_laws_later_calls.proofs.Readers.{KnownToo, MayLook, all_stands, caller, leads, own_name, raised_credentials, raised_stands, seen_at, seen_there, stepped_by, uncovered}
@@ -164,14 +164,7 @@ mkdir_then_list path mode world fresh name task is plain serves called granted =
 )
   where
     it : HasSucceeded world fresh name (Mkdir path mode) Done
-    it = record {
-      is = is;
-      plain = plain;
-      serves = serves;
-      other = refl;
-      few = refl;
-      did = permitted world fresh name (Mkdir path mode) Done refl granted;
-    }
+    it = has_succeeded is plain serves refl refl refl granted
 
     task_is : it.did.task ≡ task
     task_is = same_Some it.did.task task (cc it.did.called)
@@ -232,14 +225,7 @@ symlink_then_readlink text path world fresh name task is plain serves called gra
 )
   where
     it : HasSucceeded world fresh name (SymlinkAt text path) Done
-    it = record {
-      is = is;
-      plain = plain;
-      serves = serves;
-      other = refl;
-      few = refl;
-      did = permitted world fresh name (SymlinkAt text path) Done refl granted;
-    }
+    it = has_succeeded is plain serves refl refl refl granted
 
     task_is : it.did.task ≡ task
     task_is = same_Some it.did.task task (sym it.did.called ∙ called)

@@ -1,6 +1,6 @@
 -- The descriptor of an open is on the file that is there, or with creat on a new one, which is empty.
 use Rattle.std.proofs.Common.{arith, ◌≡◌, refl, sym, ap, subst, ◌∙◌, true≢false, ℕ, nat_eq, eq-eqb, true, false, cond, List, [], take, drop, Some, None, Ok, find, Bool}
-use Rattle.vt_spec.proofs.Common.{Access, Answer, Bytes, Call, Creation, Descriptor, Exclusive, FileTree, Fresh, Here, IsWorld, Location, Looks, Make, NoCreation, Node, OpenFile, Opened, OrCreate, Outcome, Permit, Place, Serves, Task, TaskName, ToOpen, World, apply, bytes_in, changed, common_steps, descriptor_numbered, directory_used, evens, file_walk, files_at, filesystem_numbered, free_number, is_directory_node, is_special, is_within_limits, looks_of, mount_at, mount_in, name_of, new_file, new_walk, node_at, node_with_entry, none_is_not, object_walk, odds, open_new_permit, opened, opens_for_reading, opens_for_writing, policy, raised_task, same_Some, same_name, task_called, tasks-with_change, with_descriptor, with_inode, with_new_inode, with_task}
+use Rattle.vt_spec.proofs.Common.{Access, Answer, Bytes, Call, Creation, Descriptor, Exclusive, FileTree, Fresh, Here, IsWorld, Location, Looks, Make, NoCreation, Node, OpenFile, Opened, OrCreate, Permit, Place, Serves, Task, TaskName, ToOpen, World, apply, bytes_in, changed, common_steps, descriptor_numbered, directory_used, evens, file_walk, files_at, filesystem_numbered, free_number, is_directory_node, is_special, is_within_limits, looks_of, mount_at, mount_in, name_of, new_file, new_walk, node_at, node_with_entry, none_is_not, object_walk, odds, open_new_permit, opened, opens_for_reading, opens_for_writing, policy, raised_task, same_Some, same_name, task_called, tasks-with_change, with_descriptor, with_inode, with_new_inode, with_task}
 use Rattle.vt_laws_mounts.proofs.letting_go.Lists.{among_from_list_all}
 use Rattle.vt_laws_trees.specs.Trees.Calls.{mounts_overlay}
 use Rattle.vt_laws_trees.specs.Trees.Limits.{names_few_groups}
@@ -13,7 +13,7 @@ use Rattle.vt_laws_worlds.specs.Permits.Sees.{MayBeMade, SeesTo}
 use Rattle.vt_laws_worlds.proofs.permits.sees.SeesTasks.{given_permits_are_seen_to}
 use Rattle.vt_laws_later_calls.specs.Later.{CreateThenPread, ExclusiveThenPread, OpenOrCreateThenPread, OpenThenPread, OpensFile, OpensNewFile, ReadsBy}
 use Rattle.vt_laws_later_calls.proofs.Changed.{files_changed}
-use Rattle.vt_laws_later_calls.proofs.Granted.{HasSucceeded, IsPermitted, permitted}
+use Rattle.vt_laws_later_calls.proofs.Granted.{HasSucceeded, IsPermitted, has_succeeded}
 use Rattle.vt_laws_later_calls.proofs.Opened.{called_replaced, descriptors_in_order, inserted_found, open_parts, open_spent, opened_number}
 use Rattle.vt_laws_later_calls.proofs.Stays.{still_called, still_seen}
 use Rattle.vt_laws_later_calls.proofs.Through.{descriptor_located, pread_of, raised_descriptors}
@@ -208,14 +208,7 @@ open_then_pread world fresh name task path access number is plain serves called 
 )
   where
     it : HasSucceeded world fresh name (OpenFile path access NoCreation) (Opened number)
-    it = record {
-      is = is;
-      plain = plain;
-      serves = serves;
-      other = refl;
-      few = refl;
-      did = permitted world fresh name (OpenFile path access NoCreation) (Opened number) refl granted;
-    }
+    it = has_succeeded is plain serves refl refl refl granted
 
     task_is : it.did.task ≡ task
     task_is = same_Some it.did.task task (cc it.did.called)
@@ -235,14 +228,7 @@ open_or_create_then_pread world fresh name task path access mode number place fi
     granted = (opens_file it called file outcome refl, reads_by it called file outcome refl)
   where
     it : HasSucceeded world fresh name (OpenFile path access (OrCreate mode)) (Opened number)
-    it = record {
-      is = is;
-      plain = plain;
-      serves = serves;
-      other = refl;
-      few = refl;
-      did = permitted world fresh name (OpenFile path access (OrCreate mode)) (Opened number) refl granted;
-    }
+    it = has_succeeded is plain serves refl refl refl granted
 
     task_is : it.did.task ≡ task
     task_is = same_Some it.did.task task (cc it.did.called)
@@ -257,19 +243,13 @@ pub create_then_pread : CreateThenPread
 create_then_pread world fresh name task path access mode number place is plain serves called walk object granted =
     opens_new_file it called mode place (cc (
       missing_parts (looks_of nat_eq world) it.did.task path access mode place
-          it.did.permit (ap (λ t. file_walk nat_eq (looks_of nat_eq world) t path) task_is ∙ walk) object it.did.granted,
+          it.did.permit (ap (λ t. file_walk nat_eq (looks_of nat_eq world) t path) task_is ∙ walk) object
+          it.did.granted,
       task_is,
     ))
   where
     it : HasSucceeded world fresh name (OpenFile path access (OrCreate mode)) (Opened number)
-    it = record {
-      is = is;
-      plain = plain;
-      serves = serves;
-      other = refl;
-      few = refl;
-      did = permitted world fresh name (OpenFile path access (OrCreate mode)) (Opened number) refl granted;
-    }
+    it = has_succeeded is plain serves refl refl refl granted
 
     task_is : it.did.task ≡ task
     task_is = same_Some it.did.task task (cc it.did.called)
@@ -282,14 +262,7 @@ exclusive_then_pread world fresh name task path access mode number is plain serv
 )
   where
     it : HasSucceeded world fresh name (OpenFile path access (Exclusive mode)) (Opened number)
-    it = record {
-      is = is;
-      plain = plain;
-      serves = serves;
-      other = refl;
-      few = refl;
-      did = permitted world fresh name (OpenFile path access (Exclusive mode)) (Opened number) refl granted;
-    }
+    it = has_succeeded is plain serves refl refl refl granted
 
     task_is : it.did.task ≡ task
     task_is = same_Some it.did.task task (cc it.did.called)

@@ -1,7 +1,7 @@
 -- Who looks after a call that changed a tree, and where walks lead for him: for the caller himself, and for each task
 -- that stands where he does and may search everything.
-use Rattle.std.proofs.Common.{arith, ◌≡◌, refl, sym, ap, ◌∙◌, inl, inr, ◌⊎◌, true≢false, ℕ, nat_eq, Bool, true, false, ◌∷◌, length, Option, Some, None, is_some, option_map, ok_or, find, zero, suc, []}
-use Rattle.vt_spec.proofs.Common.{Answer, Call, Change, Dot, DotDot, Fresh, IsWorld, LastWord, Location, Mount, Named, NoWord, Task, TaskName, World, among_from_all, chain, changed, child_at, common_steps, denial, entries_in, entry_named, execute_right, files_at, is_directory_at, is_directory_node, is_special, last_or, looks_of, may, mount_at, name_of, node_allows, node_at, policy, raised_task, root_of, same_name, stands_at, task_called, tasks-with_change, topmost}
+use Rattle.std.proofs.Common.{arith, ◌≡◌, refl, ap, ◌∙◌, inl, inr, ◌⊎◌, ℕ, nat_eq, Bool, true, false, ◌∷◌, length, Option, Some, None, is_some, option_map, ok_or, zero, suc, []}
+use Rattle.vt_spec.proofs.Common.{Answer, Call, Change, Dot, DotDot, Fresh, IsWorld, LastWord, Location, Mount, Named, NoWord, Task, TaskName, World, among_from_all, chain, changed, child_at, common_steps, denial, entries_in, entry_named, execute_right, files_at, is_directory_at, is_special, last_or, looks_of, may, mount_at, name_of, node_at, policy, raised_task, root_of, stands_at, task_called, tasks-with_change, topmost}
 use Rattle.vt_spec.specs.declared.errors.Deny.{Deny}
 use Rattle.vt_spec.specs.declared.errors.Rule.TheVariants.{W4, W6}
 use Rattle.vt_spec.proofs.Walk.{stepped}

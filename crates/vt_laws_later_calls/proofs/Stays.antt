@@ -1,5 +1,5 @@
 -- What tasks are on stays where what nothing uses goes.
-use Rattle.std.proofs.Common.{◌≡◌, sym, ap, subst, ◌∙◌, ℕ, nat_eq, List, Some}
+use Rattle.std.proofs.Common.{◌≡◌, ap, subst, ◌∙◌, ℕ, nat_eq, List, Some}
 use Rattle.vt_spec.proofs.Common.{Answer, Call, Fresh, Location, Outcome, Task, TaskName, World, apply, filesystems_changed, locations_of, mount_at, node_at, numbers_raised, policy, raised, raised_task, settled, task_called}
 use Rattle.vt_laws_mounts.proofs.letting_go.Lists.{Among}
 use Rattle.vt_laws_worlds.specs.Worlds.Kept.{IsWorldButForUse}

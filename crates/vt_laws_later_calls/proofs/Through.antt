@@ -1,6 +1,6 @@
 -- Bytes that were written by a descriptor are read by one.
-use Rattle.std.proofs.Common.{◌≡◌, refl, sym, ap, ◌∙◌, ⊎_elim, ℕ, nat_eq, eq-eqb, Bool, true, cond, List, [], ◌∷◌, length, take, drop, Option, Some, None, Ok, ok_or, option_to_list, find, true≢false, inr, ◌+◌, ◌-◌, ◌++◌, arith, replicate, append_assoc, length-append, length-take-le}
-use Rattle.vt_spec.proofs.Common.{Bytes, Call, Descriptor, Done, Filesystem, Fresh, IsWorld, Location, Looks, Node, Permit, Pread, Pwrite, SetBytes, Task, TaskName, ToWritePart, World, apply, bytes_in, common_steps, denial, descriptor_numbered, drop-append_seam, found_among, granted, has_regular_files_open, is_kind_in, locations_of, looks_of, mount_at, node_at, node_with_bytes, overwritten, padded, policy, pread_permit, pwritten, raised_task, same_Some, same_name, take-append_seam, task_called, with_change, with_filesystem}
+use Rattle.std.proofs.Common.{◌≡◌, refl, sym, ap, ◌∙◌, ⊎_elim, ℕ, nat_eq, eq-eqb, Bool, true, cond, List, [], ◌∷◌, length, take, drop, Option, Some, Ok, ok_or, option_to_list, find, true≢false, inr, ◌+◌, ◌-◌, ◌++◌, arith, replicate, append_assoc, length-append, length-take-le}
+use Rattle.vt_spec.proofs.Common.{Bytes, Call, Descriptor, Done, Filesystem, Fresh, IsWorld, Location, Looks, Node, Permit, Pread, Pwrite, SetBytes, Task, TaskName, ToWritePart, World, apply, bytes_in, common_steps, denial, descriptor_numbered, drop-append_seam, found_among, granted, has_regular_files_open, is_kind_in, locations_of, looks_of, mount_at, node_at, node_with_bytes, overwritten, padded, policy, pread_permit, pwritten, raised_task, same_Some, take-append_seam, task_called, with_change, with_filesystem}
 use Rattle.std.proofs.lemmas.List.{length-replicate}
 use Rattle.vt_spec.specs.declared.attributes.Kind.TheVariants.{File}
 use Rattle.vt_spec.specs.declared.errors.Rule.TheVariants.{S4}
@@ -9,7 +9,7 @@ use Rattle.vt_laws_worlds.specs.Worlds.Kept.{IsPlain}
 use Rattle.vt_laws_worlds.proofs.worlds.SeenTrees.{change_of_plain, changed_one, found_new, old_number}
 use Rattle.vt_laws_trees.proofs.trees.TreesOfWorlds.{numbered}
 use Rattle.vt_laws_later_calls.specs.Later.{IsOneInode, PwriteThenPread}
-use Rattle.vt_laws_later_calls.proofs.Granted.{HasSucceeded, permitted}
+use Rattle.vt_laws_later_calls.proofs.Granted.{HasSucceeded, has_succeeded}
 use Rattle.vt_laws_later_calls.proofs.Stays.{still_called, still_seen}
 use Rattle.vt_laws_trees.proofs.trees.TreesTasks.{called_there, tasks-pwritten}
 use Rattle.vt_laws_rules.specs.Granted.{IsGranted}
@@ -136,14 +136,7 @@ pwrite_then_pread world fresh name reader task reading written read offset bytes
     later = (policy nat_eq fresh world name (Pwrite written.number offset bytes)).world
 
     it : HasSucceeded world fresh name (Pwrite written.number offset bytes) Done
-    it = record {
-      is = is;
-      plain = plain;
-      serves = serves;
-      other = refl;
-      few = refl;
-      did = permitted world fresh name (Pwrite written.number offset bytes) Done refl granted;
-    }
+    it = has_succeeded is plain serves refl refl refl granted
 
     task_is : task ≡ it.did.task
     task_is = same_Some task it.did.task (cc it.did.called)

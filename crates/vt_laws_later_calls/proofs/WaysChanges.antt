@@ -1,6 +1,6 @@
 -- What changes of a tree leave of the ways through it.
-use Rattle.std.proofs.Common.{arith, ◌≡◌, ◌≢◌, refl, sym, ap, ◌∙◌, inl, inr, ◌⊎◌, ⊎_elim, true≢false, ℕ, nat_eq, eqb-true, ne_eqb, Bool, true, false, cond, not, List, Option, Some, None, is_some, is_eq, bytes_eq}
-use Rattle.vt_spec.proofs.Common.{Content, Credentials, Directory, FileTree, IsDirectory, Make, Move, Node, Regular, Remove, Symlink, Tree, Whiteout, allows, bytes_decides, changed, changed_node, common_steps, denial, directory_from_entry, entries-node_with_bytes, entries-node_with_entry, entries-node_without_entry, entries_in, entries_of, entry_at, entry_named, entry_named-with_entry, entry_named-without_entry, eq_by_cmp, eqb_tells, is_directory-node_with_entry, is_directory-node_without_entry, is_directory_node, kind_of, name_cmp, nat_list_cmp_total, node_allows, node_with_attr, node_with_bytes, node_with_entry, node_with_parent, node_without_entry, none_is_not, parent-node_with_entry, parent-node_without_entry, parent_in, same_Some, symlink_text, tied_itself, with_bytes, with_entries, with_entry, with_name, without_entry, without_name, without_parent}
+use Rattle.std.proofs.Common.{arith, ◌≡◌, ◌≢◌, refl, sym, ap, ◌∙◌, inl, inr, ◌⊎◌, ⊎_elim, true≢false, ℕ, nat_eq, eqb-true, ne_eqb, Bool, true, false, cond, not, List, Option, Some, None, is_some, bytes_eq}
+use Rattle.vt_spec.proofs.Common.{Content, Credentials, Directory, FileTree, IsDirectory, Make, Move, Node, Regular, Remove, Symlink, Tree, Whiteout, allows, bytes_decides, changed, changed_node, common_steps, denial, directory_from_entry, entries-node_with_bytes, entries-node_with_entry, entries-node_without_entry, entries_in, entries_of, entry_at, entry_named, entry_named-with_entry, entry_named-without_entry, eq_by_cmp, eqb_tells, is_directory-node_with_entry, is_directory-node_without_entry, is_directory_node, kind_of, name_cmp, nat_list_cmp_total, node_allows, node_with_attr, node_with_bytes, node_with_entry, node_without_entry, none_is_not, parent-node_with_entry, parent-node_without_entry, parent_in, same_Some, symlink_text, tied_itself, with_bytes, with_entries, with_entry, with_name, without_entry, without_name}
 use Rattle.vt_spec.specs.declared.attributes.Attr.{Attr}
 use Rattle.vt_spec.specs.declared.errors.Deny.{Deny}
 use Rattle.vt_spec.specs.declared.errors.Rule.TheVariants.{W6}
@@ -118,7 +118,8 @@ module _ (files : FileTree ℕ) (Refused : Deny → Type 0) where
 
     entry_now : (other : List ℕ) → entry_at named.tree directory other
         ≡ cond (eq_by_cmp name_cmp other name) (Some object) (entry_at files.tree directory other)
-    entry_now other = ap (λ o. entry_named other (entries_in o)) (changed_node_there files directory (node_with_entry name object))
+    entry_now other = ap (λ o. entry_named other (entries_in o))
+        (changed_node_there files directory (node_with_entry name object))
         ∙ ap (entry_named other) (entries-node_with_entry name object (files.tree.node directory) in_directory)
         ∙ entry_named-with_entry other name object (entries_in (files.tree.node directory))
 

@@ -1,5 +1,5 @@
 -- In a world that a call left, in which mounts stay and names stay or are missing, walks lead where they led.
-use Rattle.std.proofs.Common.{arith, ◌≡◌, refl, sym, ap, subst, ◌∙◌, inl, inr, ◌⊎◌, true≢false, ℕ, nat_eq, Bool, true, false, cond, not, ◌||◌, List, [], ◌∷◌, length, Option, Some, None, is_some, option_map, ok_or, Result, Ok, Err}
+use Rattle.std.proofs.Common.{arith, ◌≡◌, refl, ap, subst, ◌∙◌, inl, inr, ◌⊎◌, true≢false, ℕ, nat_eq, Bool, true, false, cond, not, ◌||◌, List, [], ◌∷◌, length, Option, Some, None, is_some, option_map, ok_or, Result, Ok, Err}
 use Rattle.vt_spec.proofs.Common.{Dot, DotDot, FileTree, IsWorld, LastWord, Location, Mount, Named, NoWord, Node, Task, Tree, World, among_from_list_all, and_parts, chain, common_steps, denial, directory_used, entries_in, entry_at, entry_named, execute_right, filesystem_numbered, has_its_root, hop, is_among, is_directory_at, is_directory_node, is_directory_under, is_lost, is_removed, last_or, looks_of, may, mount_at, mount_in, mount_numbered, mounter_allows, node_at, none_is_not, not-false, or_parts, parent_in, same_location, symlink_text, task_called, topmost, unless, ⊤}
 use Rattle.vt_spec.specs.declared.errors.Deny.{Deny}
 use Rattle.vt_spec.specs.declared.errors.Rule.TheVariants.{W4, W6, W8}
@@ -13,7 +13,7 @@ use Rattle.vt_laws_worlds.specs.Worlds.Kept.{IsPlain}
 use Rattle.vt_laws_worlds.proofs.worlds.Reached.{IsFound, IsFoundDirectory, directory_found, place_found, step_found}
 use Rattle.vt_laws_worlds.proofs.worlds.ReachedWalks.{own_directory_found, root_found}
 use Rattle.vt_laws_later_calls.proofs.Ways.{LeadsToo}
-use Rattle.vt_laws_later_calls.proofs.WaysTrees.{DirectoryNamesStay, present_later, under_later}
+use Rattle.vt_laws_later_calls.proofs.WaysTrees.{DirectoryNamesStay, KeepsNames, present_later, under_later}
 use Rattle.vt_laws_trees.proofs.runs.answered.PlainStays.{plain_numbered}
 
 -- the root of a mount is a directory
@@ -243,17 +243,20 @@ module _ {world later : World ℕ} {task reader : Task ℕ} {Refused : Deny → 
           (directory_used (tree_in later (mount_at nat_eq later here).filesystem) (mount_at nat_eq later here).root
           (mount_root later it.is_later here.mount known.1.0.0))
 
+      stays : KeepsNames (λ n. ⊤) files_here files_later
+      stays = record {
+        before = (tree_here world it.is here known.0.1).tree;
+        after = tree_later;
+        root = it.stay.root (mount_at nat_eq world here).filesystem;
+        above = λ directory name number entry keeps. tt;
+        stay = names;
+      }
+
       present : is_removed nat_eq files_later.tree here.node ≡ false
-      present = present_later files_here (tree_here world it.is here known.0.1).tree tree_later
-          (it.stay.root (mount_at nat_eq world here).filesystem) (λ directory name number entry keeps. tt) names
-          (mount_at nat_eq world here).root known.0.1 is_directory_later tt root_there parts.0
-          (not-false _ parts.1)
+      present = present_later stays known.0.1 is_directory_later tt parts.0
 
       under : is_directory_under nat_eq files_later point.root here.node ≡ true
-      under = under_later files_here (tree_here world it.is here known.0.1).tree tree_later
-          (it.stay.root (mount_at nat_eq world here).filesystem) (λ directory name number entry keeps. tt) names
-          (mount_at nat_eq world here).root known.0.1 is_directory_later tt root_there parts.0
-          (not-false _ parts.1)
+      under = under_later stays known.0.1 is_directory_later tt parts.0 point.root root_there (not-false _ parts.1)
 
   up_too : (here next : Location ℕ) → KnownDirectory here → stepped nat_eq world task here DotDot ≡ Ok next
       → stepped nat_eq later reader here DotDot ≡ Ok next

@@ -1,6 +1,6 @@
 -- Directories of a tree that are not lost are not lost where the names that lead to them stay.
-use Rattle.std.proofs.Common.{◌≡◌, refl, sym, ap, subst, ◌∙◌, ⊎_elim, true≢false, ℕ, zero, suc, nat_eq, eqb-true, eq-eqb, Bool, true, false, cond, not, ◌||◌, List, [], ◌∷◌, ◌++◌, length, Option, Some, None, is_some, option_and_then}
-use Rattle.vt_spec.proofs.Common.{FileTree, IsDirectory, IsReached, IsTree, Tree, chain, directory_from_entry, directory_used, entry_at, found, has_entry_to, is_among, is_directory_under, is_removed, led, led-append, named_parent, none_is_not, parent_in, reached_named, same_Some, when}
+use Rattle.std.proofs.Common.{◌≡◌, refl, sym, ap, subst, ◌∙◌, ⊎_elim, ℕ, zero, suc, nat_eq, eqb-true, eq-eqb, Bool, true, false, not, ◌||◌, List, [], ◌∷◌, ◌++◌, length, Option, Some, None, is_some}
+use Rattle.vt_spec.proofs.Common.{FileTree, IsDirectory, IsReached, IsTree, Tree, chain, directory_from_entry, directory_used, entry_at, found, is_among, is_directory_under, is_removed, led, led-append, named_parent, none_is_not, reached_named, same_Some}
 use Rattle.vt_spec.proofs.Trees.{parent_reached}
 use Rattle.vt_laws_trees.specs.Trees.{IsFileTree}
 use Rattle.vt_laws_trees.proofs.trees.TreesAbove.{parent_named, under_seen, led_directory}
@@ -96,29 +96,36 @@ module _ {Keeps : ℕ → Type 0} {tree later : Tree ℕ} (before : IsTree tree)
       (keeps_through step.0 names to step.2 keeps) there in
       cc (led_stays step.0 names to step.2 is keeps (after.alive from name step.0 entry))
 
+-- Of a tree later, the root is the same, and what is kept has the names that it had.
+pub record KeepsNames (Keeps : ℕ → Type 0) (files later : FileTree ℕ) : Type 0 where
+  pub before : IsTree files.tree
+  pub after : IsFileTree later
+  pub root : later.tree.root ≡ files.tree.root
+  pub above : KeepsAbove Keeps files.tree
+  pub stay : DirectoryNamesStay Keeps files.tree later.tree
+
 -- so a directory that is not lost, under another that is there, is not lost later
-module _ {Keeps : ℕ → Type 0} (files : FileTree ℕ) {later : FileTree ℕ} (before : IsTree files.tree)
-    (after : IsFileTree later) (root : later.tree.root ≡ files.tree.root) (above : KeepsAbove Keeps files.tree)
-    (stay : DirectoryNamesStay Keeps files.tree later.tree) (top : ℕ) {d : ℕ} (is : IsDirectory files.tree d)
-    (is_later : IsDirectory later.tree d) (keeps : Keeps d) (top_there : is_some (later.tree.node top) ≡ true)
-    (present : is_removed nat_eq files.tree d ≡ false) (under : is_directory_under nat_eq files top d ≡ true) where
+module _ {Keeps : ℕ → Type 0} {files later : FileTree ℕ} (it : KeepsNames Keeps files later) {d : ℕ}
+    (is : IsDirectory files.tree d) (is_later : IsDirectory later.tree d) (keeps : Keeps d)
+    (present : is_removed nat_eq files.tree d ≡ false) where
   reached : IsReached files.tree d
-  reached = not_removed_reached files.tree before d is present
+  reached = not_removed_reached files.tree it.before d is present
 
   reached_later : IsReached later.tree d
   reached_later = (
     reached.0,
-    ap (λ n. led later.tree n reached.0) root
-        ∙ led_stays before after.tree above stay files.tree.root reached.0 d reached.1 is
-        keeps (subst (λ n. is_some (later.tree.node n) ≡ true) root
-        (directory_used later.tree later.tree.root after.tree.root_directory)),
+    ap (λ n. led later.tree n reached.0) it.root
+        ∙ led_stays it.before it.after.tree it.above it.stay files.tree.root reached.0 d reached.1 is
+        keeps (subst (λ n. is_some (later.tree.node n) ≡ true) it.root
+        (directory_used later.tree later.tree.root it.after.tree.root_directory)),
   )
 
   pub present_later : is_removed nat_eq later.tree d ≡ false
-  present_later = reached_not_removed later.tree after.tree d is_later reached_later
+  present_later = reached_not_removed later.tree it.after.tree d is_later reached_later
 
-  pub under_later : is_directory_under nat_eq later top d ≡ true
-  under_later =
-      let names = under_led files.tree before (length files.numbers) top d is reached under in
-      under_seen later after d is_later reached_later top names.0
-      (led_stays before after.tree above stay top names.0 d names.1 is keeps top_there)
+  pub under_later : (top : ℕ) → is_some (later.tree.node top) ≡ true → is_directory_under nat_eq files top d ≡ true
+      → is_directory_under nat_eq later top d ≡ true
+  under_later top top_there under =
+      let names = under_led files.tree it.before (length files.numbers) top d is reached under in
+      under_seen later it.after d is_later reached_later top names.0
+      (led_stays it.before it.after.tree it.above it.stay top names.0 d names.1 is keeps top_there)

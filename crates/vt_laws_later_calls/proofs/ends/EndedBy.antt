@@ -1,12 +1,11 @@
 -- An inode that is there is there after a call that takes no use away, unless it is a whiteout of an upper layer.
 use Rattle.std.proofs.Common.{arith, ◌≡◌, refl, sym, ap, subst, ◌∙◌, ◌⊎◌, inl, inr, ⊎_elim, true≢false, ℕ, nat_eq, eq-eqb, Bool, true, false, cond, List, [], ◌∷◌, ◌++◌, find, Option, Some, None, Ok, is_some, unwrap_or}
-use Rattle.vt_spec.proofs.Common.{Call, Change, CopyUp, FileTree, Filesystem, Fresh, IsWorld, Layer, Location, Overlay, Permit, Serves, SetType, Task, ToChange, TypeWord, World, all_from_among, apply, call_outcome, common_steps, filesystem_at, filesystem_numbered, holds_of, is_kind_in, judge_in, list_any, looks_of, no_filesystem, none_from_not_some, none_is_some, overlay_or, settled, task_called, when, with_change, ⊤}
+use Rattle.vt_spec.proofs.Common.{Call, Change, CopyUp, Filesystem, Fresh, IsWorld, Location, Permit, Serves, SetType, Task, ToChange, TypeWord, World, all_from_among, apply, call_outcome, common_steps, filesystem_at, filesystem_numbered, is_kind_in, judge_in, list_any, looks_of, no_filesystem, none_from_not_some, none_is_some, settled, task_called, when, with_change, ⊤}
 use Rattle.vt_spec.specs.declared.attributes.Kind.TheVariants.{White}
 use Rattle.vt_laws_trees.specs.Layers.Layers.Untouched.{changes_no_mount}
 use Rattle.vt_laws_rules.specs.Given.{IsFor}
 use Rattle.vt_laws_rules.proofs.given.GivenPermits.{permits_are_for_their_calls}
 use Rattle.vt_laws_mounts.specs.LettingGo.InUse.{has_upper_in}
-use Rattle.vt_laws_mounts.specs.LettingGo.Overlays.{let_go_plain}
 use Rattle.vt_laws_mounts.proofs.letting_go.Lists.{none_among}
 use Rattle.vt_laws_worlds.specs.OverlaysLetGo.NamesGiven.{takes_a_name}
 use Rattle.vt_laws_worlds.specs.OverlayPermits.Asked.{change_asked}
@@ -157,7 +156,8 @@ only_these_end_other_inodes world fresh name call filesystem number is serves on
       raised_files world name changed
           (settled nat_eq (call_outcome nat_eq fresh world task call).world) filesystem,
       swept_remains call is serves only
-          filesystem number there task called spared (call_remains call is serves only filesystem number there task called
+          filesystem number there task called spared
+          (call_remains call is serves only filesystem number there task called
           permit judged),
     ))
 

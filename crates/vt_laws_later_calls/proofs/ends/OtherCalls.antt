@@ -1,7 +1,7 @@
 -- After a call that takes no use away the sweep is to look at what a new name replaced; after one that sets types it
 -- takes at the most masters of groups.
 use Rattle.std.proofs.Common.{arith, ◌≡◌, refl, sym, ap, subst, ◌∙◌, inl, inr, ◌⊎◌, ⊎_elim, true≢false, ℕ, nat_eq, Bool, true, false, not, ◌&&◌, List, [], ◌∷◌, Option, Some, None, is_some, map, Ok, Err, Contains}
-use Rattle.vt_spec.proofs.Common.{Access, AddName, Call, Change, Chdir, Chroot, Close, CopyUp, Exit, FileTree, Filesystem, Fresh, IsWorld, Judgement, Layer, Lazy, Location, Make, MountFlags, MountOverlay, Move, MoveMount, Node, Outcome, Overlay, OverlayWords, Permit, PivotRoot, Remove, Rename, Rmdir, Serves, SetAttr, SetBytes, SetMark, SetType, Setns, Task, ToBind, ToChange, ToClose, ToEnterNamespace, ToExit, ToFork, ToMake, ToMountOverlay, ToMountPlain, ToMove, ToOpen, ToOpenNew, ToPivot, ToRemoveDirectory, ToRename, ToSetCredentials, ToSetDirectory, ToSetFlags, ToSetRoot, ToSetType, ToSetUmask, ToUnmount, ToUnmountLazily, ToUnshare, ToWritePart, Umount, Unlink, Unshare, World, after, among_from_contains, and-false, and_parts, apply, bytes_in, call_outcome, changed, common_steps, contains_from_among, evens, file_is_there, files_at, filesystem_at, filesystem_changed, is_among, is_copied_up, is_overlay, is_there, judge_in, lies_only_in_lowers, looks_of, mount_at, node_at, opened, opens_for_writing, overlay_changed, overlay_or, overwritten, settled, task_called, when, with_change, with_copy, with_descriptor, with_task}
+use Rattle.vt_spec.proofs.Common.{Access, AddName, Call, Change, Chdir, Chroot, Close, CopyUp, Exit, FileTree, Filesystem, Fresh, IsWorld, Judgement, Layer, Lazy, Location, Make, MountFlags, MountOverlay, Move, MoveMount, Node, Outcome, Overlay, OverlayWords, Permit, PivotRoot, Remove, Rename, Rmdir, Serves, SetAttr, SetBytes, SetMark, SetType, Setns, Task, ToBind, ToChange, ToClose, ToEnterNamespace, ToExit, ToFork, ToMake, ToMountOverlay, ToMountPlain, ToMove, ToOpen, ToOpenNew, ToPivot, ToRemoveDirectory, ToRename, ToSetCredentials, ToSetDirectory, ToSetFlags, ToSetRoot, ToSetType, ToSetUmask, ToUnmount, ToUnmountLazily, ToUnshare, ToWritePart, Umount, Unlink, Unshare, World, after, among_from_contains, and-false, and_parts, apply, call_outcome, changed, common_steps, contains_from_among, evens, file_is_there, files_at, filesystem_at, filesystem_changed, is_among, is_copied_up, is_overlay, is_there, judge_in, lies_only_in_lowers, looks_of, mount_at, node_at, opened, opens_for_writing, overlay_changed, overlay_or, settled, task_called, when, with_change, with_copy, with_descriptor, with_task}
 use Rattle.vt_laws_rules.proofs.given.GivenPermits.{permits_are_for_their_calls}
 use Rattle.vt_laws_rules.proofs.judged.CallsJudged.{call_is_judged_then_applied}
 use Rattle.vt_laws_rules.specs.Given.{IsFor}

@@ -1,5 +1,5 @@
 -- A change that takes no name away takes no inode away, in an overlay and in its upper layer too.
-use Rattle.std.proofs.Common.{arith, ◌≡◌, refl, sym, ap, ◌∙◌, ⊎_elim, true≢false, ℕ, ◌+◌, nat_eq, Bool, true, false, List, [], ◌∷◌, Option, Some, None, is_some}
+use Rattle.std.proofs.Common.{arith, ◌≡◌, refl, ◌∙◌, ⊎_elim, ℕ, ◌+◌, nat_eq, Bool, true, false, List, [], ◌∷◌, Option, Some, None, is_some}
 use Rattle.vt_spec.proofs.Common.{AddName, Change, CopyUp, FileTree, Filesystem, Fresh, IsWorld, Layer, Location, Make, Merge, Move, Node, Overlay, Remove, SetAttr, SetBytes, SetMark, Stack, World, changed, changed_both, common_steps, content_with_parent, copied_each, copied_up, copy_named, copy_of, eqb_tells, evens, filesystem_at, filesystem_changed, filesystem_numbered, hides_directory, line_to, merge_changed, mount_at, node_with_attr, node_with_bytes, node_with_mark, odds, overlay_changed, stack_of, upper_of, with_change, with_files, with_filesystem, with_inode, with_mark, with_name}
 use Rattle.vt_laws_trees.proofs.calls.inodes.InodesRemain.{RemainsIn, at_node, changed_remains, made_remains, named_remains}
 use Rattle.vt_laws_trees.proofs.layers.layers.LowersWorld.{filesystem_elsewhere, filesystem_there, number_of_filesystem}
@@ -152,7 +152,8 @@ module _ (other : ℕ) where
               (merge_at world location overlay upper) change
 
           both : BothRemain (merge_at world location overlay upper) later
-          both = merge_remains fresh (stack_of nat_eq world overlay upper) (merge_at world location overlay upper) change
+          both = merge_remains fresh (stack_of nat_eq world overlay upper) (merge_at world location overlay upper)
+              change
               none
 
           new_merged : Filesystem ℕ

@@ -1,6 +1,6 @@
 -- Without overlays no whiteout is replaced, so nothing goes.
-use Rattle.std.proofs.Common.{arith, ◌≡◌, ap, inr, ℕ, nat_eq, false, []}
-use Rattle.vt_spec.proofs.Common.{Call, Filesystem, Fresh, Layer, Overlay, Task, World, common_steps, holds_of, is_overlay, list_any, none_from_not_some, overlay_or}
+use Rattle.std.proofs.Common.{arith, ◌≡◌, inr, ℕ, false, []}
+use Rattle.vt_spec.proofs.Common.{Call, Filesystem, Fresh, Task, World, common_steps, is_overlay, list_any, none_from_not_some}
 use Rattle.vt_laws_mounts.specs.LettingGo.InUse.{has_upper_in}
 use Rattle.vt_laws_mounts.proofs.letting_go.Lists.{among_from_all, none_from_among}
 use Rattle.vt_laws_worlds.specs.Worlds.Kept.{IsPlain}

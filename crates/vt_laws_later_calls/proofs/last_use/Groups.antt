@@ -1,8 +1,8 @@
 -- A group ends with its last member.
-use Rattle.std.proofs.Common.{arith, ◌≡◌, refl, sym, ap, subst, ◌∙◌, ◌⊎◌, inl, inr, ⊎_elim, ℕ, nat_eq, eqb-true, eq-eqb, Bool, true, false, true≢false, cond, not, ◌||◌, ◌&&◌, List, [], ◌∷◌, ◌++◌, Option, Some, None, is_some, option_to_list, nat_lt}
-use Rattle.vt_spec.proofs.Common.{HasLivingGroups, Lives, Mount, MountInvariants, Private, Propagation, Shared, Slave, Unbindable, World, common_steps, group_of, has_master, has_members, has_no_master, holds_of, is_lost_group, is_member_of, list_all, list_any, lost_a_group, or_false_left, regrouped, regrouped_by, source_of, then_some, with_mounts, without_dead_groups}
+use Rattle.std.proofs.Common.{arith, ◌≡◌, refl, sym, ap, ◌∙◌, ◌⊎◌, inl, inr, ⊎_elim, ℕ, nat_eq, eqb-true, eq-eqb, Bool, true, false, cond, not, ◌||◌, ◌&&◌, List, [], ◌∷◌, ◌++◌, Option, Some, None, option_to_list, nat_lt}
+use Rattle.vt_spec.proofs.Common.{HasLivingGroups, Lives, Mount, MountInvariants, Private, Propagation, Shared, Slave, Unbindable, World, common_steps, group_of, has_master, has_members, has_no_master, holds_of, is_lost_group, is_member_of, list_all, list_any, lost_a_group, or_false_left, regrouped, source_of, then_some, with_mounts, without_dead_groups}
 use Rattle.vt_laws_mounts.proofs.GroupsKept.{member_shared}
-use Rattle.vt_laws_mounts.proofs.GroupsUp.{Up, live_members}
+use Rattle.vt_laws_mounts.proofs.GroupsUp.{live_members}
 use Rattle.vt_laws_mounts.proofs.GroupsUp.Up.{here}
 use Rattle.vt_laws_mounts.proofs.propagation.PropagationUp.{no_loop}
 use Rattle.vt_laws_mounts.specs.LettingGo.Counts.{member_count, times}

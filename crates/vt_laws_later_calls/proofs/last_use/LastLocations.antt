@@ -1,6 +1,6 @@
 -- The whole sweep, where the last location on a mount is left, and its filesystem goes.
-use Rattle.std.proofs.Common.{◌≡◌, refl, sym, ap, subst, ◌∙◌, inl, inr, ⊎_elim, ℕ, nat_eq, eqb-true, eq-eqb, Bool, true, false, true≢false, cond, not, ◌||◌, ◌&&◌, ◌+◌, List, [], ◌∷◌, ◌++◌, filter, find, map, Some, is_some, unwrap_or, arith, nat_lt}
-use Rattle.vt_spec.proofs.Common.{Filesystem, IsWorld, Location, Mount, Task, World, all_locations, common_steps, filesystem_numbered, filter_alike, is_among, is_member_of, is_nowhere_or_attached, is_overlay, list_all, mount_at, mount_in, nat_eq-swapped, no_filesystem, or_parts, settled, without_dead_filesystems, without_dead_groups, without_dead_in, without_dead_inodes, without_dead_mounts}
+use Rattle.std.proofs.Common.{◌≡◌, refl, sym, ap, subst, ◌∙◌, inl, inr, ⊎_elim, ℕ, nat_eq, eqb-true, eq-eqb, Bool, true, false, true≢false, cond, not, ◌||◌, ◌&&◌, ◌+◌, List, [], ◌∷◌, ◌++◌, filter, find, map, Some, is_some, arith, nat_lt}
+use Rattle.vt_spec.proofs.Common.{Filesystem, IsWorld, Location, Mount, Task, World, all_locations, common_steps, filesystem_numbered, filter_alike, is_among, is_member_of, is_nowhere_or_attached, is_overlay, list_all, mount_at, nat_eq-swapped, no_filesystem, or_parts, settled, without_dead_filesystems, without_dead_groups, without_dead_in, without_dead_inodes, without_dead_mounts}
 use Rattle.vt_laws_mounts.specs.LettingGo.Counts.{inode_uses, mount_uses, mounts_showing}
 use Rattle.vt_laws_mounts.specs.LettingGo.InUse.{AllInUse, GroupsInUse, InodesInUse, is_inode_used}
 use Rattle.vt_laws_mounts.specs.LettingGo.Keeping.{LocationsStand}

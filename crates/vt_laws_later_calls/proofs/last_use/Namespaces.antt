@@ -1,7 +1,6 @@
 -- A namespace ends with its last task.
 use Rattle.std.proofs.Common.{arith, ◌≡◌, refl, sym, ap, ◌∙◌, ℕ, nat_eq, eqb-true, eq-eqb, Bool, true, false, cond, ◌||◌, List, ◌∷◌, ◌++◌, nat_lt}
 use Rattle.vt_spec.proofs.Common.{MountInvariants, Namespace, NamespaceInvariants, Task, World, common_steps, has_tasks, list_any, namespaces_ended, nat_eq-swapped, regrouped_by}
-use Rattle.vt_laws_mounts.specs.LettingGo.Counts.{times}
 use Rattle.vt_laws_mounts.specs.LettingGo.Ends.{without_namespace}
 use Rattle.vt_laws_mounts.specs.LettingGo.Leaving.{with_tasks}
 use Rattle.vt_laws_mounts.proofs.letting_go.Lists.{Among, among_from_list_all, list_all_from_among}

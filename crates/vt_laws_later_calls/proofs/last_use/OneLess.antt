@@ -1,5 +1,5 @@
 -- One less in a list: whether some of it pass a test, and how many did.
-use Rattle.std.proofs.Common.{◌≡◌, sym, ap, ◌∙◌, ⊎_elim, ℕ, Bool, true, false, cond, not, ◌+◌, ◌++◌, ◌||◌, List, [], ◌∷◌, filter, map, arith, nat_lt}
+use Rattle.std.proofs.Common.{◌≡◌, sym, ap, ◌∙◌, ⊎_elim, ℕ, Bool, true, false, not, ◌+◌, ◌++◌, List, [], ◌∷◌, filter, map, arith, nat_lt}
 use Rattle.vt_spec.proofs.Common.{any_pair, common_steps, list_any, list_any-append, nat_tests, or_parts, same_truth}
 use Rattle.vt_laws_mounts.specs.LettingGo.Counts.{times}
 use Rattle.vt_laws_mounts.proofs.letting_go.Lists.{times_around, Among, none_among, filter_all, filter_here, filter_skip, map_same, any_counted}

@@ -1,6 +1,6 @@
 -- A filesystem goes with its last mount, in a world with overlays.
 use Rattle.std.proofs.Common.{arith, ◌≡◌, refl, sym, ap, ◌∙◌, ◌⊎◌, inl, inr, ⊎_elim, ℕ, nat_eq, eqb-true, Bool, true, false, true≢false, cond, ◌||◌, ◌&&◌, List, [], ◌∷◌, ◌++◌, map, Some, nat_lt}
-use Rattle.vt_spec.proofs.Common.{Filesystem, Mount, Overlay, World, and_parts, any_pair, common_steps, filesystem_lives, filesystem_numbered, has_layer_on, is_among, is_mounted, is_overlay, layers_of, list_all, list_any, no_filesystem, or_cases, overlay_or, without_dead_filesystems}
+use Rattle.vt_spec.proofs.Common.{Filesystem, Mount, Overlay, World, and_parts, any_pair, common_steps, filesystem_lives, filesystem_numbered, has_layer_on, is_among, is_mounted, is_overlay, layers_of, list_any, no_filesystem, or_cases, without_dead_filesystems}
 use Rattle.vt_laws_mounts.specs.LettingGo.Counts.{mounts_showing}
 use Rattle.vt_laws_mounts.specs.LettingGo.InUse.{FilesystemsInUse}
 use Rattle.vt_laws_mounts.specs.LettingGo.OneByOne.{FilesystemsInUseBut, let_go_filesystems, without_filesystem}

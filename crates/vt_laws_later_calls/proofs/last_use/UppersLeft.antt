@@ -1,6 +1,6 @@
 -- The upper inode of an inode of an overlay goes with it, where that was its last use.
 use Rattle.std.proofs.Common.{◌≡◌, refl, sym, ap, ◌∙◌, ⊎_elim, ℕ, nat_eq, eqb-true, eq-eqb, Bool, true, false, true≢false, cond, not, ◌&&◌, ◌+◌, List, [], ◌∷◌, ◌++◌, find, flat_map, map, Option, Some, None, is_some, option_map, option_to_list, unwrap_or, arith, All, nat_lt, append-nil}
-use Rattle.vt_spec.proofs.Common.{Filesystem, Layer, Overlay, Upper, World, and-false, and-true, any_pair, common_steps, filesystem_numbered, holds_of, is_overlay, list_any, map_alike, nat_eq-swapped, no_filesystem, or_parts, overlay_or, upper_object}
+use Rattle.vt_spec.proofs.Common.{Filesystem, Layer, Overlay, Upper, World, and-false, and-true, any_pair, common_steps, filesystem_numbered, is_overlay, list_any, map_alike, nat_eq-swapped, no_filesystem, or_parts, upper_object}
 use Rattle.vt_laws_mounts.specs.LettingGo.Counts.{inode_uses, times}
 use Rattle.vt_laws_mounts.specs.LettingGo.InUse.{AllInUse, UppersArePlain, has_upper_in, is_inode_used}
 use Rattle.vt_laws_mounts.specs.LettingGo.OneByOne.{Inode, without_inode, without_inode_at, without_inode_in}
@@ -28,7 +28,8 @@ given_by_one : {B : Type 0} (give : Filesystem ℕ → List B) (filesystems : Li
 given_by_one give [] one it m none = absurd m
 given_by_one give (first ∷ rest) one it m none = ⊎_elim (λ same. cc (
   flat_map_none give rest
-      (λ f n. none f (nat_eq-swapped it.number f.number false (ap (λ (x : Filesystem ℕ). nat_eq x.number f.number) same ∙
+      (λ f n. none f (nat_eq-swapped it.number f.number false
+      (ap (λ (x : Filesystem ℕ). nat_eq x.number f.number) same ∙
       none_among (λ (b : Filesystem ℕ). nat_eq first.number b.number) rest parts.0 f n))),
   append-nil (give first),
 ))

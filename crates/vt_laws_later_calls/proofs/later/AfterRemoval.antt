@@ -1,7 +1,7 @@
 -- The world that a granted rmdir leaves: the task's own mounts are seen as they were, the directory has lost its name,
 -- and walks that do not go up from it lead where they led.
-use Rattle.std.proofs.Common.{arith, ◌≡◌, ◌≢◌, refl, sym, ap, subst, ◌∙◌, inl, inr, ◌⊎◌, ⊎_elim, ℕ, nat_eq, eqb-true, Bool, true, false, ◌||◌, List, filter, Some, None, Ok, is_some, find, unwrap_or}
-use Rattle.vt_spec.proofs.Common.{Answer, Call, Change, Credentials, FileTree, Filesystem, Fresh, IsWorld, Location, Mount, Remove, Task, TaskName, ToRemoveDirectory, Tree, World, and_parts, apply, changed, common_steps, denial, directory_used, entries_in, entry_at, entry_named, files_at, filesystem_numbered, filesystems-taken_away, is_directory_node, is_going, is_located, is_mount_point_in, looks_of, mount_at, mount_lives, mount_numbered, mounts_on, no_filesystem, node_allows, node_at, parent_in, policy, raised_task, same_name, symlink_text, task_called, tasks-taken_away, tasks-with_change, with_change, without_mounts_on}
+use Rattle.std.proofs.Common.{arith, ◌≡◌, ◌≢◌, refl, sym, ap, subst, ◌∙◌, inl, inr, ◌⊎◌, ⊎_elim, ℕ, nat_eq, eqb-true, Bool, true, false, ◌||◌, List, filter, Some, None, is_some}
+use Rattle.vt_spec.proofs.Common.{Answer, Call, Change, Credentials, FileTree, Filesystem, Fresh, IsWorld, Location, Mount, Remove, Task, TaskName, ToRemoveDirectory, Tree, World, and_parts, apply, changed, common_steps, denial, directory_used, entries_in, entry_at, entry_named, files_at, filesystem_numbered, filesystems-taken_away, is_directory_node, is_going, is_located, is_mount_point_in, looks_of, mount_at, mount_lives, mount_numbered, mounts_on, node_allows, node_at, parent_in, policy, raised_task, symlink_text, task_called, tasks-taken_away, tasks-with_change, with_change, without_mounts_on}
 use Rattle.vt_spec.specs.declared.errors.Deny.{Deny}
 use Rattle.vt_spec.specs.declared.errors.Rule.TheVariants.{W6}
 use Rattle.vt_laws_mounts.specs.LettingGo.Unmounting.{numbers_of_trees}

@@ -1,5 +1,5 @@
 -- The world that a granted rename leaves: the object has its new name and what it had, and no mount stands on it.
-use Rattle.std.proofs.Common.{arith, ◌≡◌, ◌≢◌, refl, sym, ap, subst, ◌∙◌, true≢false, ℕ, nat_eq, eq-eqb, ne_eqb, Bool, true, false, cond, ◌&&◌, ◌||◌, List, [], length, filter, find, Option, Some, None, is_some, option_map, unwrap_or, bytes_eq}
+use Rattle.std.proofs.Common.{arith, ◌≡◌, ◌≢◌, refl, sym, ap, subst, ◌∙◌, true≢false, ℕ, nat_eq, eq-eqb, ne_eqb, Bool, true, false, cond, List, [], length, filter, find, Option, Some, None, is_some, option_map, unwrap_or}
 use Rattle.vt_spec.proofs.Common.{Among, Answer, Call, Change, FileTree, Filesystem, Fresh, IsWorld, Location, Mount, Move, TaskName, ToRename, World, among-filter, among-from_filter, among_from_list_all, and_from, any_from_among, apply, bytes_decides, changed, child_at, common_steps, directory_from_entry, directory_used, entries_in, entry_at, entry_named, files_at, filesystem_at, filesystem_numbered, filesystems-without_replaced, is_among, is_directory_node, is_mount_point_anywhere, is_nowhere_or_attached, is_point, list_any, looks_of, mount_at, mount_lives, mount_numbered, mounts_on, no_filesystem, number-mount_in, points_of, policy, root_of, shown-without_replaced, stands_at, topmost, with_change, without_replaced}
 use Rattle.vt_laws_mounts.proofs.letting_go.leaving.PlacesLeft.{nowhere_parts}
 use Rattle.vt_laws_trees.specs.Layers.Layers.Untouched.{IsKept}

@@ -1,6 +1,6 @@
 -- A name that open made exists.
 use Rattle.std.proofs.Common.{arith, ◌≡◌, refl, sym, ap, subst, ◌∙◌, inl, inr, ◌⊎◌, ℕ, nat_eq, nat_le, length, eqb-true, true, false, List, [], ◌∷◌, Option, Some, None, is_some, option_map, Result, Ok, Err, find, reverse}
-use Rattle.vt_spec.proofs.Common.{Access, Answer, Call, Change, Credentials, Exclusive, FileTree, Fresh, IsWorld, Judgement, Location, Looks, Make, Named, Node, NoneFails, OpenFile, Opened, Place, Rules, Stop, Task, TaskName, World, after, and_then, answer-finished_by, apply, changed, common_steps, contains_from_among, denial, directory_used, ends_in_slash, entries_in, entry_location, entry_named, execute_right, files_at, filesystem_numbered, final_word, found_among, is_directory_at, is_directory_node, is_special, last_word, looks_of, most_descriptors, mount_at, name_of, new_file, new_walk, node_allows, node_at, odds, open_new_permit, open_permit, passed, place_walk, placed, policy, raised_task, same_Some, same_name, search_rules, settled, steps_at, stopped_by, task_called, tasks-with_change, then_walk, unless, walk_start, walk_unless, with_descriptor, with_new_inode, with_task, words, words_walked}
+use Rattle.vt_spec.proofs.Common.{Access, Answer, Call, Change, Credentials, Exclusive, FileTree, Fresh, IsWorld, Judgement, Location, Looks, Make, Named, Node, NoneFails, OpenFile, Opened, Place, Rules, Stop, Task, TaskName, World, after, and_then, answer-finished_by, apply, changed, common_steps, contains_from_among, denial, directory_used, ends_in_slash, entries_in, entry_location, entry_named, execute_right, files_at, filesystem_numbered, final_word, found_among, is_directory_at, is_special, last_word, looks_of, most_descriptors, mount_at, name_of, new_file, new_walk, node_allows, node_at, odds, open_new_permit, open_permit, passed, place_walk, placed, policy, raised_task, same_Some, same_name, search_rules, settled, steps_at, stopped_by, task_called, tasks-with_change, then_walk, unless, walk_start, walk_unless, with_descriptor, with_new_inode, with_task, words, words_walked}
 use Rattle.vt_spec.specs.declared.errors.Deny.{Deny}
 use Rattle.vt_spec.specs.declared.errors.Rule.TheVariants.{E1, W4}
 use Rattle.vt_spec.specs.Machine.Looks as Look
@@ -21,7 +21,7 @@ use Rattle.vt_laws_worlds.proofs.worlds.SeenTrees.{unused_inode}
 use Rattle.vt_laws_later_calls.specs.LaterPaths.{ExclusiveTwice}
 use Rattle.vt_laws_later_calls.proofs.AfterChange.{later_files, later_is, listed, spent}
 use Rattle.vt_laws_later_calls.proofs.Changed.{files_changed, files_other}
-use Rattle.vt_laws_later_calls.proofs.Granted.{HasSucceeded, permitted}
+use Rattle.vt_laws_later_calls.proofs.Granted.{HasSucceeded, has_succeeded}
 use Rattle.vt_laws_later_calls.proofs.Looked.{search_all}
 use Rattle.vt_laws_later_calls.proofs.MadeSeen.{Never, new_parts}
 use Rattle.vt_laws_later_calls.proofs.Opened.{called_replaced}
@@ -373,14 +373,7 @@ exclusive_twice path world fresh name task access again mode other number is pla
 )
   where
     it : HasSucceeded world fresh name (OpenFile path access (Exclusive mode)) (Opened number)
-    it = record {
-      is = is;
-      plain = plain;
-      serves = serves;
-      other = refl;
-      few = refl;
-      did = permitted world fresh name (OpenFile path access (Exclusive mode)) (Opened number) refl granted;
-    }
+    it = has_succeeded is plain serves refl refl refl granted
 
     task_is : it.did.task ≡ task
     task_is = same_Some it.did.task task (cc it.did.called)

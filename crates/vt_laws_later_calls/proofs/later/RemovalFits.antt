@@ -1,6 +1,6 @@
 -- After a granted rmdir ways up stay, but from the directory that was removed: there is W8, or no walk comes there.
-use Rattle.std.proofs.Common.{arith, ◌≡◌, ◌≢◌, refl, sym, ap, subst, ◌∙◌, inl, inr, ◌⊎◌, ⊎_elim, true≢false, ℕ, nat_eq, eqb-true, eq-eqb, Bool, true, false, not, ◌&&◌, ◌||◌, List, [], length, Some, None, is_some, option_map}
-use Rattle.vt_spec.proofs.Common.{Among, Answer, Call, FileTree, Fresh, IsWorld, Location, Mount, Task, TaskName, ToRemoveDirectory, Tree, World, among-filter, among_from_list_all, and_from, and_parts, any_from_among, child_at, common_steps, denial, directory_from_entry, directory_used, entries_in, entry_at, entry_named, files_at, filesystem_at, filesystem_numbered, holds_of, hop, is_directory_node, is_directory_under, is_lost, is_point, is_removed, list_any, mount_at, mount_numbered, mounts_on, node_at, none_is_not, not-false, of_overlay, or_false_left, or_parts, or_right, parent_in, parent_location, points_of, reached_named, root_of, same_Some, same_location, topmost, upper_points}
+use Rattle.std.proofs.Common.{arith, ◌≡◌, ◌≢◌, refl, sym, ap, ◌∙◌, inl, inr, ◌⊎◌, ⊎_elim, true≢false, ℕ, nat_eq, eqb-true, eq-eqb, Bool, true, false, not, ◌&&◌, ◌||◌, List, [], length, Some, None, is_some, option_map}
+use Rattle.vt_spec.proofs.Common.{Among, Answer, Call, FileTree, Fresh, IsWorld, Location, Mount, Task, TaskName, ToRemoveDirectory, Tree, World, among-filter, among_from_list_all, and_from, and_parts, any_from_among, child_at, common_steps, denial, directory_from_entry, directory_used, entries_in, entry_at, entry_named, files_at, filesystem_at, filesystem_numbered, holds_of, hop, is_directory_node, is_directory_under, is_lost, is_point, is_removed, list_any, mount_at, mounts_on, node_at, none_is_not, not-false, of_overlay, or_false_left, or_parts, or_right, parent_location, points_of, reached_named, root_of, same_Some, same_location, topmost, upper_points}
 use Rattle.vt_spec.specs.declared.errors.Deny.{Deny}
 use Rattle.vt_spec.specs.declared.errors.Rule.TheVariants.{W8}
 use Rattle.vt_laws_mounts.proofs.letting_go.leaving.PlacesLeft.{nowhere_parts}
@@ -19,7 +19,7 @@ use Rattle.vt_laws_later_calls.proofs.later.WaysLeft.{BothAre, FitsWays, GoesUp,
 use Rattle.vt_laws_later_calls.proofs.later.WaysMounts.{SeenAlike, hop_known, hop_place}
 use Rattle.vt_laws_later_calls.proofs.later.WaysRemoved.{nothing_in_it, removed_alone, removed_name}
 use Rattle.vt_laws_later_calls.proofs.WaysStay.{mount_root, node_in, tree_in}
-use Rattle.vt_laws_later_calls.proofs.WaysTrees.{DirectoryNamesStay, KeepsAbove, present_later, under_later}
+use Rattle.vt_laws_later_calls.proofs.WaysTrees.{DirectoryNamesStay, KeepsAbove, KeepsNames, present_later, under_later}
 
 module _ {world : World ℕ} {fresh : Fresh ℕ} {name : TaskName} {call : Call} {answer : Answer}
     (it : HasSucceeded world fresh name call answer) {parent : Location ℕ} {word : List ℕ}
@@ -152,15 +152,16 @@ module _ {world : World ℕ} {fresh : Fresh ℕ} {name : TaskName} {call : Call}
             ∙ directory_used (files_at nat_eq later here).tree (mount_at nat_eq later here).root
             (mount_root later is_later.0 here.mount known.1.0.0)
 
+        stays : KeepsNames Keeps (filesystem_numbered nat_eq world number).files
+            (filesystem_numbered nat_eq later number).files
+        stays = record { before = tree_before.tree; after = tree_later; root = root_same; above = above; stay = names }
+
         present : is_removed nat_eq (tree_in later number) here.node ≡ false
-        present = present_later (filesystem_numbered nat_eq world number).files tree_before.tree tree_later root_same above names
-            (mount_at nat_eq world here).root known.0.1 now_directory keeps root_there parts.0
-            (not-false _ parts.1)
+        present = present_later stays known.0.1 now_directory keeps parts.0
 
         under : is_directory_under nat_eq (filesystem_numbered nat_eq later number).files
             (mount_at nat_eq world here).root here.node ≡ true
-        under = under_later (filesystem_numbered nat_eq world number).files tree_before.tree tree_later root_same above names
-            (mount_at nat_eq world here).root known.0.1 now_directory keeps root_there parts.0
+        under = under_later stays known.0.1 now_directory keeps parts.0 (mount_at nat_eq world here).root root_there
             (not-false _ parts.1)
 
     -- and never to it

@@ -1,6 +1,6 @@
 -- After a granted rename of a directory to a free name walks that begin outside of it lead where they led.
-use Rattle.std.proofs.Common.{arith, ◌≡◌, ◌≢◌, refl, sym, ap, ◌∙◌, inl, inr, ◌⊎◌, true≢false, ℕ, nat_eq, eqb-true, eq-eqb, Bool, true, false, cond, List, [], ◌∷◌, ◌++◌, length, find, Option, Some, None, is_some, option_map, option_to_list}
-use Rattle.vt_spec.proofs.Common.{Among, Answer, Call, Change, Credentials, FileTree, Fresh, IsReached, IsWorld, Location, Move, Node, Task, TaskName, ToRename, Tree, World, allows, among_from_list_all, and_from, and_parts, apply, attr_in, bytes_in, changed, changed_node, child_at, common_steps, contains_from_among, denial, directory_from_entry, directory_used, entries_in, entry_at, entry_named, files_at, filesystem_numbered, found, hop, is_directory_node, is_directory_under, is_kind, is_mount_point_anywhere, is_nowhere_or_attached, led, led-append, list_all, looks_of, mount_at, node_allows, node_at, node_with_entry, node_with_parent, node_without_entry, none_is_not, parent-node_with_entry, parent-node_without_entry, parent_in, raised_task, root_of, same_Some, same_name, symlink_text, task_called, tasks-with_change, topmost, when, with_change, with_name, without_name, without_parent}
+use Rattle.std.proofs.Common.{arith, ◌≡◌, ◌≢◌, refl, sym, ap, ◌∙◌, inl, inr, ◌⊎◌, true≢false, ℕ, nat_eq, eqb-true, eq-eqb, Bool, true, false, cond, List, [], ◌∷◌, ◌++◌, length, Option, Some, None, is_some, option_map, option_to_list}
+use Rattle.vt_spec.proofs.Common.{Among, Answer, Call, Change, Credentials, FileTree, Fresh, IsReached, IsWorld, Location, Move, Node, TaskName, ToRename, Tree, World, allows, among_from_list_all, and_from, and_parts, apply, attr_in, bytes_in, changed, changed_node, child_at, common_steps, contains_from_among, denial, directory_from_entry, directory_used, entry_at, files_at, filesystem_numbered, found, hop, is_directory_node, is_directory_under, is_kind, is_mount_point_anywhere, is_nowhere_or_attached, led, led-append, list_all, looks_of, mount_at, node_allows, node_at, node_with_entry, node_with_parent, node_without_entry, none_is_not, parent-node_with_entry, parent-node_without_entry, parent_in, raised_task, root_of, same_Some, symlink_text, task_called, tasks-with_change, topmost, when, with_change, with_name, without_name, without_parent}
 use Rattle.vt_spec.specs.declared.attributes.Kind.TheVariants.{Symlink}
 use Rattle.vt_spec.specs.declared.errors.Deny.{Deny}
 use Rattle.vt_spec.specs.declared.errors.Rule.TheVariants.{W6}
@@ -195,7 +195,8 @@ module _ {world : World ℕ} {fresh : Fresh ℕ} {name : TaskName} {call : Call}
       cc (
         all_stays it changes (ap option_to_list free) object.node,
         directory_used (changed nat_eq files change).tree
-            object.node ((moved_in files from.node old to.node new seen.moves.named seen.moves.in_directory free (fs ≡ fs)
+            object.node ((moved_in files from.node old to.node new seen.moves.named seen.moves.in_directory free
+            (fs ≡ fs)
             refl).directory object.node ∙ is_directory),
       )
 

@@ -20,7 +20,7 @@ use Rattle.vt_laws_later_calls.proofs.later.RenameFits.{Fits, InIt, IsMovedIn, e
 use Rattle.vt_laws_later_calls.proofs.later.WaysLeft.{BothAre, FitsWays, GoesUp, MountsSeen, top}
 use Rattle.vt_laws_later_calls.proofs.later.WaysMounts.{SeenAlike, hop_known}
 use Rattle.vt_laws_later_calls.proofs.WaysStay.{mount_root, node_in, tree_in}
-use Rattle.vt_laws_later_calls.proofs.WaysTrees.{DirectoryNamesStay, KeepsAbove, present_later, reached_not_removed, under_later, under_led}
+use Rattle.vt_laws_later_calls.proofs.WaysTrees.{DirectoryNamesStay, KeepsAbove, KeepsNames, present_later, reached_not_removed, under_later, under_led}
 
 -- the mount of a task's steps upwards
 abbrev hop_by : List (Mount ℕ) → Location ℕ → Location ℕ → Option (Location ℕ)
@@ -232,13 +232,16 @@ module _ {world : World ℕ} {fresh : Fresh ℕ} {name : TaskName} {call : Call}
       names directory any next e is_one keeps now =
           entry_later directory any next e (λ same it. keeps same ([], cc)) now
 
+      stays : KeepsNames Keeps (filesystem_numbered nat_eq world number).files
+          (filesystem_numbered nat_eq left_world number).files
+      stays = record { before = tree_before.tree; after = tree_later; root = root_same; above = above; stay = names }
+
       outside_goes : Keeps here.node → Up here
       outside_goes keeps =
           goes (cc (as_spent, (each_in number).parents here.node (λ same it. keeps same ([], ap Some (sym it)))))
-          (present_later (filesystem_numbered nat_eq world number).files tree_before.tree tree_later root_same above
-          names (mount_at nat_eq world here).root known.0.1 now_directory keeps root_there present_before under_before)
-          (under_later (filesystem_numbered nat_eq world number).files tree_before.tree tree_later root_same above names
-          (mount_at nat_eq world here).root known.0.1 now_directory keeps root_there present_before under_before)
+          (present_later stays known.0.1 now_directory keeps present_before)
+          (under_later stays known.0.1 now_directory keeps present_before (mount_at nat_eq world here).root root_there
+          under_before)
 
       outside_fits : Keeps here.node → FitsIn (parent_location nat_eq world here)
       outside_fits keeps same directory way =

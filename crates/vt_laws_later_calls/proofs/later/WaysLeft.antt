@@ -1,6 +1,6 @@
 -- In a world that a call left, in which a task's own mounts are seen as they were, one object may have lost its name,
 -- and the ways up that it takes stay or are lost, walks lead where they led.
-use Rattle.std.proofs.Common.{◌≡◌, refl, sym, ap, subst, ◌∙◌, inl, inr, ◌⊎◌, ℕ, nat_eq, Bool, true, false, cond, ◌||◌, List, [], ◌∷◌, length, Option, Some, None, is_some, option_map, ok_or, Result, Ok, Err}
+use Rattle.std.proofs.Common.{◌≡◌, refl, ap, subst, ◌∙◌, inl, inr, ◌⊎◌, ℕ, nat_eq, Bool, true, false, cond, ◌||◌, List, [], ◌∷◌, length, Option, Some, None, is_some, option_map, ok_or, Result, Ok, Err}
 use Rattle.vt_spec.proofs.Common.{Dot, DotDot, IsWorld, LastWord, Location, Mount, Named, NoWord, Task, World, chain, denial, entries_in, entry_at, entry_named, execute_right, hop, is_among, is_directory_at, is_directory_node, is_lost, last_or, looks_of, may, mount_at, mount_numbered, mounter_allows, node_at, parent_in, parent_location, same_location, same_ok, symlink_text, task_called, topmost, unless}
 use Rattle.vt_spec.specs.declared.errors.Deny.{Deny}
 use Rattle.vt_spec.specs.declared.errors.Rule.TheVariants.{W4, W6, W8}

@@ -1,7 +1,7 @@
 -- Where mounts of other namespaces go, with all that stands on them, steps through a task's own find the mounts that
 -- they found.
-use Rattle.std.proofs.Common.{◌≡◌, refl, sym, ap, subst, ◌∙◌, true≢false, ℕ, zero, suc, ◌≤◌, nat_eq, Bool, true, false, cond, List, filter, length, Option, Some, None, is_some, arith, option_map, option_to_list}
-use Rattle.vt_spec.proofs.Common.{Among, IsWorld, Location, Mount, Stands, Task, World, among-filter, among-from_filter, among_from_all, among_from_list_all, chain, chain_ends, chain_goes_on, child_at, common_steps, hop, is_among, is_going, last_of_chain, last_or, list_all, mount_at, mount_numbered, none_is_not, number-mount_in, root_of, same_Some, same_location, stands_at, taken_away, topmost}
+use Rattle.std.proofs.Common.{◌≡◌, refl, sym, ap, subst, ◌∙◌, true≢false, ℕ, zero, suc, ◌≤◌, nat_eq, Bool, true, false, cond, List, filter, length, Option, Some, None, is_some, arith, option_map}
+use Rattle.vt_spec.proofs.Common.{Among, IsWorld, Location, Mount, Stands, Task, World, among-filter, among-from_filter, among_from_all, among_from_list_all, chain, chain_ends, chain_goes_on, child_at, common_steps, hop, is_among, is_going, last_of_chain, last_or, mount_at, mount_numbered, none_is_not, number-mount_in, root_of, same_Some, same_location, stands_at, taken_away, topmost}
 use Rattle.vt_laws_mounts.specs.Mounts.Attaching.{numbers_of}
 use Rattle.vt_laws_mounts.specs.Mounts.Invariants.{OneNumberEach}
 use Rattle.vt_laws_mounts.specs.Mounts.Unmounting.{KeepsAllButMountPointAndType}

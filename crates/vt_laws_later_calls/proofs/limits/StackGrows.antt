@@ -1,5 +1,5 @@
 -- A stack of mounts with one mount more.
-use Rattle.std.proofs.Common.{◌≡◌, refl, sym, ap, subst, ◌∙◌, inl, true≢false, ℕ, suc, nat_eq, nat_lt, eq-eqb, Bool, true, false, cond, ◌&&◌, ◌<◌, ◌≤◌, List, [], ◌∷◌, ◌++◌, Option, None, Some, Ok, is_some, map, arith}
+use Rattle.std.proofs.Common.{◌≡◌, refl, sym, ap, subst, ◌∙◌, inl, true≢false, ℕ, suc, nat_eq, nat_lt, eq-eqb, Bool, true, false, cond, ◌&&◌, ◌<◌, ◌≤◌, List, [], ◌∷◌, ◌++◌, Option, None, Some, Ok, map, arith}
 use Rattle.vt_spec.proofs.Common.{Among, Done, Filesystem, Fresh, IsWorld, Mount, MountFlags, MountPlain, Namespace, Serves, Task, TaskName, ToMountPlain, World, among-append_right, child_at, common_steps, denial, denied, entries_in, entry_named, execute_right, filesystem_numbered, find-append, granted, is_directory_at, is_directory_node, is_removed_at, most_mounts, mount_at, mount_numbered, nat_eq_false_turned, nat_tests, new_directory, node_allows, node_at, numbers_raised, policy, raised, raised_if_changed, raised_namespace, raised_task, root_attr, root_of, same_mounts_in, same_name, settled, stands_at, topmost, unless}
 use Rattle.vt_spec.specs.declared.errors.Rule.TheVariants.{M9}
 use Rattle.vt_laws_mounts.proofs.mounts.MountsFound.{found_in}

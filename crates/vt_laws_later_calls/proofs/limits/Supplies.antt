@@ -1,5 +1,5 @@
 -- The numbers that a script hands to its next line are not in use.
-use Rattle.std.proofs.Common.{◌≡◌, sym, ap, subst, ◌∙◌, ℕ, suc, nat_eq, nat_le, ◌≤◌, Bool, true, List, Some, arith}
+use Rattle.std.proofs.Common.{◌≡◌, sym, subst, ◌∙◌, ℕ, suc, nat_eq, nat_le, ◌≤◌, Bool, true, List, Some, arith}
 use Rattle.vt_spec.proofs.Common.{Grammar, Serves, World, first_world, line_step, nat_tests, numbers_for, step_world}
 use Rattle.vt_laws_rules.specs.Numbers.{KeepsTo}
 use Rattle.vt_laws_rules.proofs.numbers.Rows.{row, row-spread, row_first, spread_for}

@@ -1,5 +1,5 @@
 -- The topmost mount over a place once one more mount is stacked there.
-use Rattle.std.proofs.Common.{◌≡◌, refl, ap, ◌∙◌, ℕ, zero, suc, nat_eq, Bool, true, false, cond, List, [], ◌∷◌, ◌++◌, Option, None, Some, length, option_map, arith, length-append}
+use Rattle.std.proofs.Common.{◌≡◌, refl, ap, ℕ, zero, suc, nat_eq, Bool, true, false, cond, List, [], ◌∷◌, ◌++◌, Option, None, Some, length, option_map, arith, length-append}
 use Rattle.vt_spec.proofs.Common.{Location, Mount, chain, chain_ends, chain_goes_on, child_at, common_steps, find-append, last_or, none_is_some, root_of, stands_at, topmost}
 
 -- a chain that ended goes on by one step

@@ -1,9 +1,8 @@
 -- What the list of mounts tells after an unshare.
-use Rattle.std.proofs.Common.{arith, ◌≡◌, refl, sym, ap, subst, ◌∙◌, inr, ⊎_elim, ℕ, nat_eq, eq-eqb, eqb-true, Bool, true, false, cond, List, [], ◌∷◌, ◌++◌, Option, Some, None, Ok, Err, Result, filter, find, flat_map, is_some, map, option_and_then, option_map, option_to_list, true≢false, unwrap_or}
-use Rattle.vt_spec.proofs.Common.{Answer, Done, Filesystem, Fresh, IsWorld, ListMounts, Location, Looks, Mount, MountInvariants, MountList, Namespace, Permit, Private, Propagation, Serves, Shared, Slave, Spot, Task, TaskName, ToUnshare, Unbindable, Unshare, World, apply, bytes_decides, cases_Bool, common_steps, denial, each_once, evens, false_from_ne_true, filesystems_changed, filesystems_seen, groups_in_type, groups_seen, groups_shown, is_among_numbers, is_going, is_listed, is_member_of, is_overlay, map_alike, map_same, mount_line, mount_lines, mount_lives, mount_numbered, mount_point_left, mount_point_spot, mounts_of, no_filesystem, number_among, numbers_in_use, numbers_raised, path_down, policy, raised, raised_if_changed, raised_task, replaced_if_called, same_Some, same_name, same_task_name, settled, spot_of, task_called, type_line, used_by_filesystem, used_by_mount, without_dead_groups}
+use Rattle.std.proofs.Common.{arith, ◌≡◌, refl, sym, ap, subst, ◌∙◌, inr, ⊎_elim, ℕ, nat_eq, eq-eqb, eqb-true, Bool, true, false, cond, List, [], ◌∷◌, ◌++◌, Option, Some, None, Ok, Err, Result, filter, find, flat_map, map, option_and_then, option_map, true≢false, unwrap_or}
+use Rattle.vt_spec.proofs.Common.{Answer, Done, Filesystem, Fresh, IsWorld, ListMounts, Location, Looks, Mount, MountInvariants, MountList, Namespace, Permit, Private, Propagation, Serves, Shared, Slave, Spot, Task, TaskName, ToUnshare, Unbindable, Unshare, World, bytes_decides, cases_Bool, common_steps, denial, evens, false_from_ne_true, filesystems_seen, groups_in_type, groups_seen, groups_shown, is_among_numbers, is_going, is_listed, is_member_of, is_overlay, map_alike, map_same, mount_line, mount_lines, mount_lives, mount_numbered, mount_point_left, mount_point_spot, mounts_of, no_filesystem, number_among, numbers_in_use, numbers_raised, path_down, policy, raised, raised_if_changed, raised_task, replaced_if_called, same_Some, same_name, same_task_name, spot_of, task_called, type_line, used_by_filesystem, used_by_mount, without_dead_groups}
 use Rattle.vt_spec.specs.declared.errors.Deny.{Deny}
 use Rattle.vt_spec.specs.declared.errors.Rule.TheVariants.{S2}
-use Rattle.vt_spec.specs.Language.Answers.TypeLine.{SharedLine}
 use Rattle.vt_laws_mounts.proofs.letting_go.Lists.{Among, among-append_left, among-append_right, among-from_filter, among-map, any_from_among, filter_here, filter_skip, flat_map_alike}
 use Rattle.vt_laws_mounts.proofs.letting_go.mounting.MountingTaken
 use Rattle.vt_laws_mounts.specs.Mounts.Propagation.{UnshareListsOthersTheSame, UnshareListsTheSame}
@@ -90,8 +89,11 @@ module _ (before later : World ℕ) (namespace : ℕ) (filesystems : later.files
       (λ (mount : Mount ℕ). path_down nat_eq (listed those mount.filesystem).files mount.root node) parent)
 
   abbrev cell : World ℕ → Location ℕ → ℕ × Spot
-  cell world place =
-      (number_among nat_eq (map (λ (other : Mount ℕ). other.number) list) place.mount, mount_point_spot nat_eq world place)
+  cell world place = (
+    number_among nat_eq (map (λ (other : Mount ℕ). other.number) list) place.mount,
+    mount_point_spot nat_eq world
+        place,
+  )
 
   place_alike : (mount : Mount ℕ) → Among mount list
       → option_map (cell later) mount.mount_point ≡ option_map (cell before) mount.mount_point

@@ -1,6 +1,6 @@
 -- An unmount of a mount that was attached, where mounts stood at receivers: the others are as they were before.
 use Rattle.std.proofs.Common.{cond, eq-eqb, zero, ◌&&◌, ◌≡◌, refl, sym, ap, subst, ◌∙◌, true, false, nat_eq, ℕ, List, None, Option, Some, [], filter, flat_map, inl, inr, is_some, map, option_map, true≢false, unwrap_or, ⊎_elim, ◌++◌, ◌∷◌, ◌⊎◌, eqb-true, Contains}
-use Rattle.vt_spec.proofs.Common.{Among, Fresh, Location, Mount, Private, Propagation, Shared, Slave, Unbindable, World, among-append, among-filter, among-from_filter, among-from_flat_map, among-from_map, among_from_contains, any_among, any_from_among, any_pair, chain_ends, child_at, contains_from_among, copies_from, detached, false_from_ne_true, going, graft_of, group_of, groups_up, has_members, holds_of, is_among, is_member_of, is_shared, last_or, list_any, lost_a_group, may_go, mount_at, mount_numbered, none_among, number-mount_in, only_cover, or_parts, pair-filter, parts_of, pushed_onto, receiver_stood_on, receivers, receivers_of, receives, rest_of, root_of, same_Some, same_location, share_a_mount_point, source_of, stands_at, stands_on, takes_part, topmost, unmounted}
+use Rattle.vt_spec.proofs.Common.{Among, Fresh, Location, Mount, Private, Propagation, Shared, Slave, Unbindable, World, among-append, among-filter, among-from_filter, among-from_flat_map, among-from_map, among_from_contains, any_among, any_from_among, any_pair, chain_ends, child_at, contains_from_among, copies_from, detached, false_from_ne_true, going, graft_of, group_of, groups_up, has_members, holds_of, is_among, is_member_of, is_shared, list_any, lost_a_group, may_go, mount_at, mount_numbered, none_among, number-mount_in, only_cover, or_parts, pair-filter, parts_of, pushed_onto, receiver_stood_on, receivers, receivers_of, receives, rest_of, root_of, same_Some, same_location, share_a_mount_point, source_of, stands_at, stands_on, takes_part, topmost, unmounted}
 use Rattle.vt_laws_mounts.specs.Mounts.Attaching.{KeepsAllButMountPoint, OneNumberAMount, is_mount}
 use Rattle.vt_laws_mounts.specs.Mounts.MountPoints.{OneMountAMountPoint}
 use Rattle.vt_laws_mounts.specs.Mounts.Propagation.{Attachment, CanAttach, IsPart, copy_of, number_at, world_after}
@@ -17,7 +17,7 @@ use Rattle.vt_laws_mounts.proofs.mounts.MountsFound.{found_in, found_there, unfo
 use Rattle.vt_laws_mounts.proofs.mounts.MountsNumbered.{attach_keeps_numbers, is_one_of}
 use Rattle.vt_laws_mounts.proofs.mounts.MountsPlaces.{found_at_its_place, one_place_of_two, stands_at_its_place, stands_there}
 use Rattle.vt_laws_mounts.proofs.mounts.MountsReplaced.{found_itself}
-use Rattle.vt_laws_mounts.proofs.propagation.PropagationAttaching.{copies_are_new, each_is_copied, first_stands_on_its_part, is_copy, serve_images, supply}
+use Rattle.vt_laws_mounts.proofs.propagation.PropagationAttaching.{copies_are_new, each_is_copied, first_stands_on_its_part, is_copy, serve_images}
 use Rattle.vt_laws_mounts.proofs.propagation.PropagationCopies.{copies, push}
 use Rattle.vt_laws_mounts.proofs.propagation.PropagationHeard.{copies_hear_as_their_origins, groups_after, only_part}
 use Rattle.vt_laws_mounts.proofs.propagation.PropagationHearing.{old_up, old_up_after}

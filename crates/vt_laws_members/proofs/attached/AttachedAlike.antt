@@ -44,9 +44,7 @@ module _ {world : World ℕ} {names : List TaskName} (sealing : IsSealed world n
   of_world = part_grown grows
 
   of_part : part_of nat_eq u_part names ≡ grown_by part (part_of_master nat_eq u_part names)
-  of_part = part_grown
-      (part_grows sealing.is master_too grows) ∙ ap
-      (λ (w : World ℕ). grown_by w (part_of_master nat_eq u_part names)) (part_again world names sealing.is)
+  of_part = cc (part_grown (part_grows sealing.is master_too grows), part_again world names sealing.is)
 
   pub own_alike : own_mounts nat_eq u_part names ≡ own_mounts nat_eq u names
   own_alike = sym (same_own u_part names)
@@ -69,7 +67,7 @@ module _ {world : World ℕ} {names : List TaskName} (sealing : IsSealed world n
       by group false e = refl
 
   pub one_part : part_of nat_eq u_part names ≡ part_of nat_eq u names
-  one_part = of_part ∙ ap (grown_by part) masters_alike ∙ sym of_world
+  one_part = cc (of_part, masters_alike, of_world)
 
   above_alike : (m : Mount ℕ) → Among m u.mounts → is_own world names theirs m ≡ true
       → master_above u_part m ≡ master_above u m
@@ -105,12 +103,12 @@ module _ {world : World ℕ} {names : List TaskName} (attaching : AttachesTheirs
   known y m mine g e = masters_agree (made attaching new false origins) (part_of nat_eq world names).master world.master
       g (⊎_elim (λ old. master_same attaching.sealing g (heard_by_own attaching.sealing old.0
       (among-filter (is_own_mount nat_eq world names) world.mounts old.0 old.1 old.2) g
-      (sym (ap (λ (x : Mount ℕ). source_of x.propagation) old.3 ∙ push_keeps attaching new false origins
-      (λ (x : Mount ℕ). source_of x.propagation) (λ x at. refl) old.0) ∙ e)))
-      (λ more. let of = of_copies attaching new false origins y more in
-      copy_known attaching new false origins new_groups sources of.0 of.2 of.3 g
-      (ap (λ (x : Mount ℕ). source_of x.propagation) (sym of.4) ∙ e))
-      (own_how grows y m mine))
+      (cc (
+        old.3,
+        push_keeps attaching new false origins (λ (x : Mount ℕ). source_of x.propagation) (λ x at. refl)
+            old.0,
+      )))) (λ more. let of = of_copies attaching new false origins y more in copy_known attaching new false origins
+      new_groups sources of.0 of.2 of.3 g (cc of.4)) (own_how grows y m mine))
 
   -- the worlds that are left
   as_grown : (w : World ℕ) → attached_as attaching new false origins w

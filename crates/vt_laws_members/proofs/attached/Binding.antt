@@ -18,6 +18,7 @@ use Rattle.vt_laws_members.proofs.changes.letting_go.Umounting.{of_passed}
 use Rattle.vt_laws_members.proofs.changes.looks.Granted.{of_rules, of_walk}
 use Rattle.vt_laws_members.proofs.changes.looks.Told.{ran, same_caller}
 use Rattle.vt_laws_members.proofs.changes.part.SettledPart.{part_in_use}
+use Rattle.vt_laws_members.proofs.changes.tasks.ByPermit.{by_known}
 use Rattle.vt_laws_members.proofs.changes.tasks.Denied.{denial_ends_alike, ran_there, run_by, unnamed_ends_alike}
 use Rattle.vt_laws_members.specs.Attached.Attaching.{BindsEndAlike}
 use Rattle.vt_laws_members.proofs.attached.AttachedAlike.{copies_alike}
@@ -74,11 +75,10 @@ module _ (world : World ℕ) (names : List TaskName) (is : IsWorld nat_eq world)
 
   tree_mine : (depth : ℕ) (m : Mount ℕ) → mine m → (o : Mount ℕ) → Among o (bindable_tree nat_eq depth world.mounts m)
       → mine o
-  tree_mine zero m its o n = ⊎_elim (λ same. subst mine (sym same) its) (λ none. absurd none) n
-  tree_mine (suc depth) m its o n = ⊎_elim (λ same. subst mine (sym same) its) (λ below.
-      let child = among-from_flat_map (bindable_tree nat_eq depth world.mounts)
-      (bindable_children nat_eq world.mounts m.number) o below in
-      tree_mine depth child.0 (child_mine m child.0 its child.1) o child.2) n
+  tree_mine zero m its o n = ⊎_elim (λ same. rw same its) (λ none. absurd none) n
+  tree_mine (suc depth) m its o n = ⊎_elim (λ same. rw same its) (λ below. let child = among-from_flat_map
+      (bindable_tree nat_eq depth world.mounts) (bindable_children nat_eq world.mounts m.number) o below in tree_mine
+      depth child.0 (child_mine m child.0 its child.1) o child.2) n
 
   -- each is one of theirs, or shows what the source's mount shows
   abbrev IsCopied : Mount ℕ → Type 0
@@ -157,8 +157,7 @@ module _ {world : World ℕ} {names : List TaskName} {name : TaskName} {source p
   shown : (o : Mount ℕ) → Among o origins → Among o.filesystem (used_directly nat_eq world names)
   shown o m =
       let x = all_copied world names it.is from recursive from_mine o m in
-      subst (λ n. Among n (used_directly nat_eq world names))
-      (ap (λ (k : Mount ℕ). k.filesystem) (numbered world names it.is.mounts x.0 x.1.0) ∙ sym x.2)
+      subst (λ n. Among n (used_directly nat_eq world names)) (cc (numbered world names it.is.mounts x.0 x.1.0, x.2))
       (theirs_directly world names it.is (record { mount = x.0.number; node = x.0.root })
       (own_theirs world names it.is x.0 x.1.0 x.1.1))
 
@@ -169,8 +168,8 @@ module _ {world : World ℕ} {names : List TaskName} {name : TaskName} {source p
       → part.master g ≡ world.master g
   sources o m g e =
       let x = all_copied world names it.is from recursive from_mine o m in
-      master_same (sealing_of it) g (heard_by_own (sealing_of it) x.0 (among-filter (is_own_mount nat_eq world names)
-      world.mounts x.0 x.1.0 x.1.1) g (ap source_of (sym x.3) ∙ e))
+      master_same (sealing_of it) g (heard_by_own (sealing_of it) x.0
+      (among-filter (is_own_mount nat_eq world names) world.mounts x.0 x.1.0 x.1.1) g (cc x.3))
 
   new_groups : (a b : ℕ) → world.master (new.image a b) ≡ None
   new_groups a b = group_new world names it.is fresh serves _
@@ -200,14 +199,11 @@ module _ {world : World ℕ} {names : List TaskName} {name : TaskName} {source p
   attached_to mounts w = attach nat_eq w fresh here false mounts
 
   now_so : now ≡ attached_by nat_eq (base attaching) new here false origins
-  now_so = ap (attached_to origins) (no_new_ones world)
+  now_so = cc (no_new_ones world)
 
   there_so : now_there ≡ attached_by nat_eq
       (base_part attaching) new here false origins
-  there_so = ap (λ l. attached_to l part) (bind_alike world names it.is from recursive from_theirs)
-      ∙ ap (attached_to origins) (no_new_ones part)
-      ∙ ap (λ l. attached_by nat_eq (base_part attaching) (copies_from nat_eq fresh l origins) here false origins)
-      (parts_alike attaching)
+  there_so = cc (bind_alike world names it.is from recursive from_theirs, no_new_ones part, parts_alike attaching)
 
   parts_same : part_of nat_eq (numbers_raised nat_eq world name [] now) names
       ≡ part_of nat_eq (numbers_raised nat_eq part name [] now_there) names
@@ -219,22 +215,6 @@ module _ {world : World ℕ} {names : List TaskName} {name : TaskName} {source p
   bind_ends = grind (arith, common_steps, second, first, parts_same)
 
 pub binds_end_alike : BindsEndAlike
-binds_end_alike world names name source path recursive it fresh serves = by (task_called world name) refl
-  where
-    judged_by : (task : Task ℕ) (member : IsMember world names task) → task_called world name ≡ Some task
-        → (j : Judgement ℕ) → judge_in nat_eq fresh world task (Bind source path recursive) ≡ j
-        → IfOk j (Binds member recursive)
-        → EndsAlike world names name (Bind source path recursive) fresh fresh
-    judged_by task member e (Ok permit) judged its =
-        bind_ends it e serves its.3 its.4 its.5 its.6 (judged ∙ ap Ok its.2)
-    judged_by task member e (Err deny) judged its =
-        denial_ends_alike it fresh fresh (ap (λ o. is_ok (ran name (Bind source path recursive) world fresh o).answer) e
-        ∙ ap (λ j. is_ok (run_by it world fresh task j).answer) judged)
-
-    by : (o : Option (Task ℕ)) → task_called world name ≡ o
-        → EndsAlike world names name (Bind source path recursive) fresh fresh
-    by None e = unnamed_ends_alike it fresh fresh e
-    by (Some task) e =
-        let member = caller_in it e in
-        judged_by task member e (judge_in nat_eq fresh world task (Bind source path recursive)) refl
-        (binds_there member recursive fresh source path)
+binds_end_alike world names name source path recursive it fresh serves = by_known it fresh fresh refl
+    (λ task e. Binds (caller_in it e) recursive) (λ task e. binds_there (caller_in it e) recursive fresh source path)
+    (λ task e permit judged its. bind_ends it e serves its.3 its.4 its.5 its.6 (judged ∙ ap Ok its.2))

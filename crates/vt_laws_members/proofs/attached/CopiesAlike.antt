@@ -24,8 +24,7 @@ no_new_ones w = sym (ap (λ l. record w { filesystems = l }) (append-nil w.files
 pub masters_agree : (made : List (ℕ × Option ℕ)) (m n : ℕ → Option ℕ) (g : ℕ) → m g ≡ n g
     → folded (masters_with nat_eq) m made g ≡ folded (masters_with nat_eq) n made g
 masters_agree [] m n g e = e
-masters_agree (one ∷ made) m n g e = masters_agree made (masters_with nat_eq m one) (masters_with nat_eq n one) g
-    (ap (cond (nat_eq g one.0) one.1) e)
+masters_agree (one ∷ made) m n g e = masters_agree made (masters_with nat_eq m one) (masters_with nat_eq n one) g (cc)
 
 -- a mount of theirs where copies come, and new filesystems, whose numbers they do not use
 pub record AttachesTheirs (world : World ℕ) (names : List TaskName) : Type 0 where
@@ -62,8 +61,8 @@ module _ {world : World ℕ} {names : List TaskName} (attaching : AttachesTheirs
   Heard g = IsHeard attaching.sealing g
 
   on : IsTheirs world names attaching.is.mounts attaching.place.mount
-  on = subst (IsTheirs world names attaching.is.mounts) (number-mount_in world.mounts attaching.place.mount)
-      (own_theirs world names attaching.is destination attaching.there attaching.own)
+  on = rw (← number-mount_in world.mounts attaching.place.mount) (own_theirs world names attaching.is destination
+      attaching.there attaching.own)
 
   same_destination : mount_at nat_eq part attaching.place ≡ destination
   same_destination = same_mount world names attaching.is.mounts attaching.place.mount on
@@ -72,11 +71,11 @@ module _ {world : World ℕ} {names : List TaskName} (attaching : AttachesTheirs
   files_alike : (m : Mount ℕ) → Among m world.mounts → owns m ≡ true
       → filesystem_numbered nat_eq base_part m.filesystem ≡ filesystem_numbered nat_eq base m.filesystem
   files_alike m n its =
-      let used : is_among nat_eq m.filesystem (used_filesystems nat_eq world names) ≡ true =
-      ap (λ (x : Mount ℕ). is_among nat_eq x.filesystem (used_filesystems nat_eq world names))
-      (sym (numbered world names attaching.is.mounts m n))
-      ∙ theirs_used world names attaching.is (record { mount = m.number; node = m.root })
-      (own_theirs world names attaching.is m n its) in
+      let used : is_among nat_eq m.filesystem (used_filesystems nat_eq world names) ≡ true = cc (
+        numbered world names attaching.is.mounts m n,
+        theirs_used world names attaching.is
+            (record { mount = m.number; node = m.root }) (own_theirs world names attaching.is m n its),
+      ) in
       found_before part attaching.new_ones m.filesystem (attaching.unused m.filesystem used) ∙ found world names
       m.filesystem used ∙ sym (found_before world attaching.new_ones m.filesystem (attaching.unused m.filesystem used))
 
@@ -133,8 +132,7 @@ module _ {world : World ℕ} {names : List TaskName} (attaching : AttachesTheirs
         → nearest_image nat_eq base_part new parts destination twig (Some g)
         ≡ nearest_image nat_eq base new parts destination twig (Some g)
     nearest_alike twig g heard =
-        ap (λ l. option_map (image nat_eq new destination twig) (find (has_members nat_eq parts) l))
-        (same_up world names attaching.is.mounts (apart attaching.sealing).events g heard.0 heard.1)
+        cc (same_up world names attaching.is.mounts (apart attaching.sealing).events g heard.0 heard.1)
 
     type_alike : (p : Mount ℕ) → Among p parts → (twig : Twig ℕ)
         → copy_type nat_eq base_part new parts destination twig p.propagation
@@ -144,7 +142,7 @@ module _ {world : World ℕ} {names : List TaskName} (attaching : AttachesTheirs
         by : (kind : Propagation ℕ) → p.propagation ≡ kind → copy_type nat_eq base_part new parts destination twig kind
             ≡ copy_type nat_eq base new parts destination twig kind
         by (Shared g) e = refl
-        by (Slave g) e = ap slave_of_heir (nearest_alike twig g (heard_part p n g (ap source_of e)))
+        by (Slave g) e = cc (nearest_alike twig g (heard_part p n g (ap source_of e)))
         by Private e = refl
         by Unbindable e = refl
 
@@ -158,9 +156,7 @@ module _ {world : World ℕ} {names : List TaskName} (attaching : AttachesTheirs
 
     copy_alike : (p : Mount ℕ) → Among p parts → (twig : Twig ℕ)
         → copy_at nat_eq base_part new tree parts p twig ≡ copy_at nat_eq base new tree parts p twig
-    copy_alike p n twig =
-        ap (λ d. copy_with p twig (copy_type nat_eq base_part new parts d twig p.propagation)) same_destination
-        ∙ ap (copy_with p twig) (type_alike p n twig)
+    copy_alike p n twig = cc (same_destination, type_alike p n twig)
 
     pub copies_alike : (p : Mount ℕ) → Among p parts → copies_at nat_eq base_part new tree parts p ≡ copies p
     copies_alike p n =

@@ -41,11 +41,9 @@ module _ (world : World ℕ) (names : List TaskName) (is : IsWorld nat_eq world)
       let x = among-from_map (λ (x : Mount ℕ). x.number) world.mounts l.mount number in
       let y = shown_at world names x.0 (any_from_among (λ (k : Location ℕ). nat_eq k.mount x.0.number)
       (locations (members world names)) l m (eq-eqb l.mount x.0.number x.2)) in
-      let same : y.0.number ≡ l.mount = ⊎_elim (λ same. ap (λ (z : Mount ℕ). z.number) (sym same) ∙ sym x.2)
-      (λ stub. ap (λ (z : Mount ℕ). z.number) (sym stub.0) ∙ sym x.2)
+      let same : y.0.number ≡ l.mount = ⊎_elim (λ same. cc x.2) (λ stub. cc (stub.0, x.2))
       (kept_how world names (members world names) x.0 y.0 y.1) in
-      is_among_numbers (numbers part) l.mount (subst (λ n. Among n (numbers part)) same
-      (among-map (λ (z : Mount ℕ). z.number) part.mounts y.0
+      is_among_numbers (numbers part) l.mount (rw (← same) (among-map (λ (z : Mount ℕ). z.number) part.mounts y.0
       (among-filter_map (keep world names (members world names)) world.mounts x.0 y.0 x.1 y.1)))
 
   pub locations_stand_there : LocationsStand part
@@ -60,14 +58,13 @@ module _ (world : World ℕ) (names : List TaskName) (is : IsWorld nat_eq world)
     module _ (here : Location ℕ) (theirs : IsTheirs world names is.mounts here.mount)
         (own : is_own world names (members world names) (mount_at nat_eq world here) ≡ true) where
       pub there : Among (mount_at nat_eq world here) world.mounts
-      there = subst (λ m. Among m world.mounts) (sym (its_mount world names is.mounts here.mount theirs)) theirs.1
+      there = rw (its_mount world names is.mounts here.mount theirs) theirs.1
 
       pub placed : is_attached world here.mount ≡ true
       placed = grind (arith, common_steps)
 
       pub placed_there : is_attached part here.mount ≡ true
-      placed_there =
-          ap (λ (m : Mount ℕ). is_some m.namespace) (same_mount world names is.mounts here.mount theirs) ∙ placed
+      placed_there = cc (same_mount world names is.mounts here.mount theirs, placed)
 
 -- where a task of theirs gets for the source and the destination of a mount
 module _ {world : World ℕ} {names : List TaskName} {task : Task ℕ} (member : IsMember world names task) where

@@ -16,8 +16,7 @@ filter_map_changed {A} k f (x ∷ xs) same = grind (arith, common_steps, filter_
 filter_map_all : {A : Type 0} (k : A → Option A) (xs : List A) → ((x : A) → Among x xs → k x ≡ Some x)
     → filter_map k xs ≡ xs
 filter_map_all k [] same = refl
-filter_map_all k (x ∷ xs) same = ap (λ o. cons_option o (filter_map k xs)) (same x (inl refl))
-    ∙ ap (λ l. x ∷ l) (filter_map_all k xs (λ y m. same y (inr m)))
+filter_map_all k (x ∷ xs) same = cc (same x (inl refl), filter_map_all k xs (λ y m. same y (inr m)))
 
 or_none : {A : Type 0} (o p : Option A) → p ≡ None → option_or o p ≡ o
 or_none None p e = e
@@ -26,7 +25,7 @@ or_none (Some a) p e = refl
 -- what passes is found
 first_found : {A : Type 0} (test : A → Bool) (xs : List A) → list_any test xs ≡ true
     → (x : A) × Among x xs × (find test xs ≡ Some x)
-first_found test [] h = absurd (true≢false (sym h))
+first_found test [] h = cc
 first_found {A} test (x ∷ xs) h = by (test x) h (first_found test xs)
   where
     by : (b : Bool) → (b || list_any test xs) ≡ true
@@ -147,7 +146,7 @@ module _ {v : World ℕ} {names : List TaskName} {change : Mount ℕ → Mount �
     where
       by : (x : Mount ℕ) → Among x v.mounts → y ≡ change x → (b : Bool) → owns x ≡ b → owns x ≡ true
       by x n e true f = f
-      by x n e false f = absurd (true≢false (sym own ∙ ap owns (e ∙ (it.others x n f).0) ∙ f))
+      by x n e false f = cc ((it.others x n f).0)
 
   -- a mount of before is found, and shows what it showed
   pub shows_still : (number : ℕ) → is_among nat_eq number (map (λ (m : Mount ℕ). m.number) v.mounts) ≡ true
@@ -157,11 +156,9 @@ module _ {v : World ℕ} {names : List TaskName} {change : Mount ℕ → Mount �
       search : (list : List (Mount ℕ)) → ((x : Mount ℕ) → Among x list → Among x v.mounts)
           → is_among nat_eq number (map (λ (m : Mount ℕ). m.number) list) ≡ true
           → (mount_in nat_eq (map change list ++ added) number).filesystem ≡ (mount_in nat_eq list number).filesystem
-      search [] sub h = absurd (true≢false (sym h))
-      search (x ∷ rest) sub h = ap (λ n. (unwrap_or (cond (nat_eq number n) (Some (change x))
-          (find (λ (m : Mount ℕ). nat_eq number m.number) (map change rest ++ added)))
-          (no_mount number)).filesystem) (as_before x (sub x (inl refl))).0
-          ∙ by (nat_eq number x.number) h (search rest (λ y m. sub y (inr m)))
+      search [] sub h = cc
+      search (x ∷ rest) sub h =
+          cc ((as_before x (sub x (inl refl))).0, by (nat_eq number x.number) h (search rest (λ y m. sub y (inr m))))
         where
           by : (b : Bool) → (b || is_among nat_eq number (map (λ (m : Mount ℕ). m.number) rest)) ≡ true
               → (is_among nat_eq number (map (λ (m : Mount ℕ). m.number) rest) ≡ true
@@ -193,17 +190,14 @@ module _ {v : World ℕ} {names : List TaskName} {change : Mount ℕ → Mount �
       by_mount shown =
           let y = among-from_map (λ (m : Mount ℕ). m.filesystem) (own_mounts nat_eq u names) n shown in
           let own = among-from_filter (is_own_mount nat_eq u names) u.mounts y.0 y.1 in
-          ⊎_elim (λ old. inl (among-append_left (mounted_in v) (located_in v) n (subst (λ k. Among k (mounted_in v))
-          (sym (y.2 ∙ ap (λ (z : Mount ℕ). z.filesystem) old.3 ∙ (as_before old.0 old.1).1))
-          (direct_of_own v refl old.0 old.1 old.2))))
-          (λ more. subst (λ k. Among k (used_directly nat_eq v names) ⊎ (fresh_one k ≡ true)) (sym y.2)
-          (it.shown y.0 more)) (own_how y.0 own.0 own.1)
+          ⊎_elim (λ old. inl (among-append_left (mounted_in v) (located_in v) n
+          (rw (y.2 ∙ ap (λ (z : Mount ℕ). z.filesystem) old.3 ∙ (as_before old.0 old.1).1)
+          (direct_of_own v refl old.0 old.1 old.2)))) (λ more. rw y.2 (it.shown y.0 more)) (own_how y.0 own.0 own.1)
 
       by_location : Among n (located_in u) → Among n (used_directly nat_eq v names) ⊎ (fresh_one n ≡ true)
       by_location at =
           let l = among-from_map (λ (l : Location ℕ). (mount_at nat_eq u l).filesystem) (locations theirs) n at in
-          inl (among-append_right (mounted_in v) (located_in v) n
-          (subst (λ k. Among k (located_in v)) (sym (l.2 ∙ shows_still l.0.mount (it.located l.0 l.1)))
+          inl (among-append_right (mounted_in v) (located_in v) n (rw (l.2 ∙ shows_still l.0.mount (it.located l.0 l.1))
           (among-map (λ (k : Location ℕ). (mount_at nat_eq v k).filesystem) (locations theirs) l.0 l.1)))
 
   direct_to : (n : ℕ) → Among n (used_directly nat_eq v names) → Among n (used_directly nat_eq u names)
@@ -213,25 +207,22 @@ module _ {v : World ℕ} {names : List TaskName} {change : Mount ℕ → Mount �
       by_mount shown =
           let x = among-from_map (λ (m : Mount ℕ). m.filesystem) (own_mounts nat_eq v names) n shown in
           let own = among-from_filter (is_own_mount nat_eq v names) v.mounts x.0 x.1 in
-          among-append_left (mounted_in u) (located_in u) n
-          (subst (λ k. Among k (mounted_in u)) (sym (x.2 ∙ sym (as_before x.0 own.0).1))
-          (direct_of_own u refl (change x.0)
-          (among-append_left (map change v.mounts) added (change x.0) (among-map change v.mounts x.0 own.0))
-          (it.kept x.0 own.0 own.1).0))
+          among-append_left (mounted_in u) (located_in u) n (rw (x.2 ∙ sym (as_before x.0 own.0).1)
+          (direct_of_own u refl (change x.0) (among-append_left (map change v.mounts) added (change x.0)
+          (among-map change v.mounts x.0 own.0)) (it.kept x.0 own.0 own.1).0))
 
       by_location : Among n (located_in v) → Among n (used_directly nat_eq u names)
       by_location at =
           let l = among-from_map (λ (l : Location ℕ). (mount_at nat_eq v l).filesystem) (locations theirs) n at in
-          among-append_right (mounted_in u) (located_in u) n
-          (subst (λ k. Among k (located_in u)) (sym (l.2 ∙ sym (shows_still l.0.mount (it.located l.0 l.1))))
-          (among-map (λ (k : Location ℕ). (mount_at nat_eq u k).filesystem) (locations theirs) l.0 l.1))
+          among-append_right (mounted_in u) (located_in u) n (rw (l.2 ∙
+          sym (shows_still l.0.mount (it.located l.0 l.1))) (among-map (λ (k : Location ℕ).
+          (mount_at nat_eq u k).filesystem) (locations theirs) l.0 l.1))
 
   -- a new filesystem is used
   new_used : (f : Filesystem ℕ) → Among f new → is_among nat_eq f.number (used_filesystems nat_eq u names) ≡ true
   new_used f m =
       let x = it.mounted f m in
-      used_directly_used u names f.number (subst (λ k. Among k (used_directly nat_eq u names)) x.2
-      (among-append_left (mounted_in u) (located_in u) x.0.filesystem
+      used_directly_used u names f.number (rw (← x.2) (among-append_left (mounted_in u) (located_in u) x.0.filesystem
       (direct_of_own u refl x.0 (among-append_right (map change v.mounts) added x.0 x.1) (it.ours x.0 x.1))))
 
   -- Filesystems by number
@@ -250,7 +241,7 @@ module _ {v : World ℕ} {names : List TaskName} {change : Mount ℕ → Mount �
       )
     where
       not_old : (f : Filesystem ℕ) → Among f v.filesystems → (b : Bool) → nat_eq n f.number ≡ b → b ≡ false
-      not_old f m true e = absurd (true≢false (sym is ∙ ap fresh_one (eqb-true n f.number e) ∙ it.unlisted f m))
+      not_old f m true e = cc (eqb-true n f.number e, it.unlisted f m)
       not_old f m false e = refl
 
   -- what is used is not new
@@ -266,7 +257,7 @@ module _ {v : World ℕ} {names : List TaskName} {change : Mount ℕ → Mount �
     its w d = of_overlay [] of (filesystem_numbered nat_eq w d)
 
     of_same : (d : ℕ) → Among d (used_directly nat_eq v names) → its u d ≡ its v d
-    of_same d m = ap (of_overlay [] of) (old_found d (direct_is_old d m))
+    of_same d m = cc (old_found d (direct_is_old d m))
 
   abbrev changes : Overlay ℕ → List ℕ
   changes overlay =
@@ -302,19 +293,16 @@ module _ {v : World ℕ} {names : List TaskName} {change : Mount ℕ → Mount �
   -- Lower layers are the same where no filesystem is new.
   pub lowers_stay : ((f : Filesystem ℕ) → ¬ Among f new) → (test : Layer ℕ → Bool)
       → list_any test (own_lowers nat_eq u names) ≡ list_any test (own_lowers nat_eq v names)
-  lowers_stay none test =
-      same_truth (list_any test (own_lowers nat_eq u names)) (list_any test (own_lowers nat_eq v names))
-      (λ h. let at = any_among test (own_lowers nat_eq u names) h in
-      let from = among-from_flat_map (lowers_at u) (used_directly nat_eq u names) at.0 at.1 in
-      ⊎_elim (λ old. any_from_among test (own_lowers nat_eq v names) at.0
-      (among-flat_map (lowers_at v) (used_directly nat_eq v names) from.0 at.0 old
-      (subst (Among at.0) (of_same (λ (overlay : Overlay ℕ). overlay.lowers) from.0 old) from.2)) at.2)
-      (λ is. let new_one = new_found from.0 is in absurd (none new_one.0 new_one.1)) (direct_from from.0 from.1))
-      (λ h. let at = any_among test (own_lowers nat_eq v names) h in
-      let from = among-from_flat_map (lowers_at v) (used_directly nat_eq v names) at.0 at.1 in
-      any_from_among test (own_lowers nat_eq u names) at.0
-      (among-flat_map (lowers_at u) (used_directly nat_eq u names) from.0 at.0 (direct_to from.0 from.1)
-      (subst (Among at.0) (sym (of_same (λ (overlay : Overlay ℕ). overlay.lowers) from.0 from.1)) from.2)) at.2)
+  lowers_stay none test = same_truth (list_any test (own_lowers nat_eq u names))
+      (list_any test (own_lowers nat_eq v names)) (λ h. let at = any_among test (own_lowers nat_eq u names) h in let
+      from = among-from_flat_map (lowers_at u) (used_directly nat_eq u names) at.0 at.1 in ⊎_elim
+      (λ old. any_from_among test (own_lowers nat_eq v names) at.0 (among-flat_map (lowers_at v)
+      (used_directly nat_eq v names) from.0 at.0 old (rw (← of_same (λ (overlay : Overlay ℕ). overlay.lowers) from.0
+      old) from.2)) at.2) (λ is. let new_one = new_found from.0 is in absurd (none new_one.0 new_one.1))
+      (direct_from from.0 from.1)) (λ h. let at = any_among test (own_lowers nat_eq v names) h in let from =
+      among-from_flat_map (lowers_at v) (used_directly nat_eq v names) at.0 at.1 in any_from_among test
+      (own_lowers nat_eq u names) at.0 (among-flat_map (lowers_at u) (used_directly nat_eq u names) from.0 at.0
+      (direct_to from.0 from.1) (rw (of_same (λ (overlay : Overlay ℕ). overlay.lowers) from.0 from.1) from.2)) at.2)
 
   -- What the part has of filesystems
   module _ (f : Filesystem ℕ) (m : Among f v.filesystems)
@@ -324,29 +312,27 @@ module _ {v : World ℕ} {names : List TaskName} {change : Mount ℕ → Mount �
         → list_any test (own_lowers nat_eq u names) ≡ list_any test (own_lowers nat_eq v names)
     lowers_same test on =
         same_truth (list_any test (own_lowers nat_eq u names)) (list_any test (own_lowers nat_eq v names))
-        (λ h. let at = any_among test (own_lowers nat_eq u names) h in
-        let from = among-from_flat_map (lowers_at u) (used_directly nat_eq u names) at.0 at.1 in
-        ⊎_elim (λ old. any_from_among test (own_lowers nat_eq v names) at.0
+        (λ h. let at = any_among test (own_lowers nat_eq u names) h in let from = among-from_flat_map (lowers_at u)
+        (used_directly nat_eq u names) at.0 at.1 in ⊎_elim (λ old. any_from_among test (own_lowers nat_eq v names) at.0
         (among-flat_map (lowers_at v) (used_directly nat_eq v names) from.0 at.0 old
-        (subst (Among at.0) (of_same (λ (overlay : Overlay ℕ). overlay.lowers) from.0 old) from.2)) at.2)
-        (λ is. let new_one = new_found from.0 is in
-        absurd (true≢false (sym (new_lowers new_one.0 new_one.1 at.0
-        (subst (Among at.0) (ap (of_overlay [] (λ (overlay : Overlay ℕ). overlay.lowers)) new_one.2) from.2))
-        ∙ ap (λ n. is_among nat_eq n (used_filesystems nat_eq v names)) (sym (on at.0 at.2)) ∙ outside)))
-        (direct_from from.0 from.1)) (λ h. let at = any_among test (own_lowers nat_eq v names) h in
-        let from = among-from_flat_map (lowers_at v) (used_directly nat_eq v names) at.0 at.1 in
-        any_from_among test (own_lowers nat_eq u names) at.0
-        (among-flat_map (lowers_at u) (used_directly nat_eq u names) from.0 at.0 (direct_to from.0 from.1)
-        (subst (Among at.0) (sym (of_same (λ (overlay : Overlay ℕ). overlay.lowers) from.0 from.1)) from.2)) at.2)
+        (rw (← of_same (λ (overlay : Overlay ℕ). overlay.lowers) from.0 old) from.2)) at.2)
+        (λ is. let new_one = new_found from.0 is in cc (
+          new_lowers new_one.0 new_one.1 at.0
+              (subst (Among at.0) (ap (of_overlay [] (λ (overlay : Overlay ℕ). overlay.lowers)) new_one.2) from.2),
+          on at.0
+              at.2,
+        )) (direct_from from.0 from.1)) (λ h. let at = any_among test (own_lowers nat_eq v names) h in let from =
+        among-from_flat_map (lowers_at v) (used_directly nat_eq v names) at.0 at.1 in any_from_among test
+        (own_lowers nat_eq u names) at.0 (among-flat_map (lowers_at u) (used_directly nat_eq u names) from.0 at.0
+        (direct_to from.0 from.1) (rw (of_same (λ (overlay : Overlay ℕ). overlay.lowers) from.0 from.1) from.2)) at.2)
 
     lower_part_same : part_of_lower nat_eq u names f ≡ part_of_lower nat_eq v names f
-    lower_part_same = ap (λ l. record f { files = only_among nat_eq l f.files; change = 0 })
-        (filter_alike (lies_in_own_lower nat_eq u names f.number) (lies_in_own_lower nat_eq v names f.number)
-        f.files.numbers (λ object n.
-        ap (λ (g : Filesystem ℕ). list_any (λ (layer : Layer ℕ). nat_eq f.number layer.filesystem
-        && is_under nat_eq g.files layer.directory object) (own_lowers nat_eq u names))
-        (old_found f.number (it.unlisted f m)) ∙ lowers_same (lies_in_layer nat_eq v f.number object)
-        (λ layer h. eqb-true f.number layer.filesystem (and_parts (nat_eq f.number layer.filesystem) _ h).0)))
+    lower_part_same = cc (filter_alike (lies_in_own_lower nat_eq u names f.number)
+        (lies_in_own_lower nat_eq v names f.number) f.files.numbers (λ object n.
+        ap (λ (g : Filesystem ℕ). list_any (λ (layer : Layer ℕ). nat_eq f.number layer.filesystem && is_under nat_eq
+        g.files layer.directory object) (own_lowers nat_eq u names)) (old_found f.number (it.unlisted f m)) ∙
+        lowers_same (lies_in_layer nat_eq v f.number object) (λ layer h. eqb-true f.number layer.filesystem
+        (and_parts (nat_eq f.number layer.filesystem) _ h).0)))
 
     outside_same : part_of_filesystem nat_eq u names f ≡ part_of_filesystem nat_eq v names f
     outside_same = grind (arith, common_steps, used_same, lowers_same, eqb-true, lower_part_same)
@@ -357,13 +343,13 @@ module _ {v : World ℕ} {names : List TaskName} {change : Mount ℕ → Mount �
 
   filesystems_grown : filter_map (part_of_filesystem nat_eq u names) u.filesystems
       ≡ filter_map (part_of_filesystem nat_eq v names) v.filesystems ++ new
-  filesystems_grown = filter_map-append (part_of_filesystem nat_eq u names) v.filesystems new
-      ∙ ap (λ l. l ++ filter_map (part_of_filesystem nat_eq u names) new)
-      (filter_map_same (part_of_filesystem nat_eq u names) (part_of_filesystem nat_eq v names) v.filesystems
-      filesystem_same) ∙ ap (λ l. filter_map (part_of_filesystem nat_eq v names) v.filesystems ++ l)
-      (filter_map_all (part_of_filesystem nat_eq u names) new
-      (λ f m. ap (λ b. cond b (Some f) (when (has_lower (own_lowers nat_eq u names) f.number)
-      (part_of_lower nat_eq u names f))) (new_used f m)))
+  filesystems_grown = cc (
+    filter_map-append (part_of_filesystem nat_eq u names) v.filesystems new,
+    filter_map_same (part_of_filesystem nat_eq u names) (part_of_filesystem nat_eq v names) v.filesystems
+        filesystem_same,
+    filter_map_all (part_of_filesystem nat_eq u names) new (λ f m. ap (λ b. cond b (Some f)
+        (when (has_lower (own_lowers nat_eq u names) f.number) (part_of_lower nat_eq u names f))) (new_used f m)),
+  )
 
   pub part_grown : part_of nat_eq u names ≡ record (part_of nat_eq v names) {
     mounts = map change (part_of nat_eq v names).mounts ++ added;

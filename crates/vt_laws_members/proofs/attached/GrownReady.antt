@@ -30,12 +30,10 @@ module _ {v : World ℕ} {names : List TaskName} {change : Mount ℕ → Mount �
   without_new = sym (no_new_ones grown)
 
   used_now : (n : ℕ) → is_among nat_eq n (used_filesystems nat_eq grown names) ≡ is_among nat_eq n used
-  used_now n = sym (ap (λ w. is_among nat_eq n (used_filesystems nat_eq w names)) without_new)
-      ∙ used_same grows n refl ∙ ap (is_among nat_eq n) ready.used_are
+  used_now n = cc (without_new, used_same grows n refl, ready.used_are)
 
   lowers_now : (test : Layer ℕ → Bool) → list_any test (own_lowers nat_eq grown names) ≡ list_any test lowers
-  lowers_now test = sym (ap (λ w. list_any test (own_lowers nat_eq w names)) without_new)
-      ∙ lowers_stay grows (λ f m. m) test ∙ ap (list_any test) ready.lowers_are
+  lowers_now test = cc (without_new, lowers_stay grows (λ f m. m) test, ready.lowers_are)
 
   -- a mount afterwards is theirs, or as it was
   grown_how : (y : Mount ℕ) → Among y grown.mounts → (owns y ≡ true) ⊎ (Among y v.mounts × (owns y ≡ false))
@@ -132,7 +130,7 @@ module _ {v : World ℕ} {names : List TaskName} {change : Mount ℕ → Mount �
         plain = ready.plain;
         free = λ x m is. ⊎_elim (λ alone. inl (alone_now x.number alone)) inr
             (ready.free x m (sym (used_now x.number) ∙ is));
-        cut = λ x m unused low. cut_now x (ready.cut x m (sym (used_now x.number) ∙ unused)
+        cut = λ x m unused low. cut_now x (ready.cut x m (cc (used_now x.number))
             (sym (lowers_now (λ (layer : Layer ℕ). nat_eq x.number layer.filesystem)) ∙ low));
       }
 
@@ -142,5 +140,4 @@ module _ {v : World ℕ} {names : List TaskName} {change : Mount ℕ → Mount �
 
       pub grown_settled : part_of nat_eq (settled nat_eq grown) names ≡ swept_of names (part_of nat_eq grown names)
       grown_settled = part_of_settled grown names (used_filesystems nat_eq grown names) (own_lowers nat_eq grown names)
-          (subst (λ l. Ready (with_mounts grown l) names (used_filesystems nat_eq grown names)
-          (own_lowers nat_eq grown names)) (sym all_live) grown_ready)
+          (rw all_live grown_ready)

@@ -31,10 +31,8 @@ module _ {world : World ℕ} {names : List TaskName} (sealing : IsSealed world n
       (world_ready sealing names world.tasks world.change (tasks_stay sealing).lets)
 
   pub ready_there : Ready part names (used_filesystems nat_eq world names) (own_lowers nat_eq world names)
-  ready_there = subst (λ l. Ready (with_mounts part l) names (used_filesystems nat_eq world names)
-      (own_lowers nat_eq world names)) (filter_all (mount_lives nat_eq part) part.mounts
-      (among_from_list_all (mount_lives nat_eq part) part.mounts (part_in_use sealing).mounts))
-      (part_ready (tasks_stay sealing) world.change part.change)
+  ready_there = rw (← filter_all (mount_lives nat_eq part) part.mounts (among_from_list_all (mount_lives nat_eq part)
+      part.mounts (part_in_use sealing).mounts)) (part_ready (tasks_stay sealing) world.change part.change)
 
 -- Where such a change leaves mounts that stand, and groups that live
 pub record Stays (w : World ℕ) : Type 0 where
@@ -78,7 +76,7 @@ module _ {world : World ℕ} {names : List TaskName} (sealing : IsSealed world n
         master_too grows known ∙ ap (λ w. part_of nat_eq w names) (without_new (ready_here sealing) grows)
 
     swept_alike : part_of nat_eq (settled nat_eq left_there) names ≡ part_of nat_eq (settled nat_eq left_here) names
-    swept_alike = settled_there ∙ ap (swept_of names) same_part ∙ sym settled_here
+    swept_alike = cc (settled_there, same_part, settled_here)
 
     -- all mounts stay
     mounts_here : filter (mount_lives nat_eq left_here) left_here.mounts ≡ left_here.mounts
@@ -103,15 +101,14 @@ module _ {world : World ℕ} {names : List TaskName} (sealing : IsSealed world n
 
         there : Among m left_there.mounts
         there = (among-from_filter (is_own_mount nat_eq left_there names) left_there.mounts m
-            (subst (Among m) (sym (own_alike sealing master_too grows known))
-            (among-filter (is_own_mount nat_eq left_here names) left_here.mounts m here own))).0
+            (rw (own_alike sealing master_too grows known) (among-filter (is_own_mount nat_eq left_here names)
+            left_here.mounts m here own))).0
 
         members_in : (w : World ℕ) → Stays w → filter (mount_lives nat_eq w) w.mounts ≡ w.mounts → Among m w.mounts
             → (g : ℕ) → source_of m.propagation ≡ Some g
             → has_members nat_eq (filter (mount_lives nat_eq w) w.mounts) g ≡ true
-        members_in w it all at g e = ap (λ l. has_members nat_eq l g) all
-            ∙ live_members w.master (has_members nat_eq w.mounts) g
-            (among_from_all (HasLivingGroups nat_eq w) w.mounts it.groups m at g e)
+        members_in w it all at g e = cc (live_members w.master (has_members nat_eq w.mounts) g
+            (among_from_all (HasLivingGroups nat_eq w) w.mounts it.groups m at g e))
 
         by : (o : Option ℕ) → source_of m.propagation ≡ o
             → then_some o (settled nat_eq left_there).master ≡ then_some o (settled nat_eq left_here).master

@@ -94,12 +94,11 @@ module _ {world : World ℕ} {names : List TaskName} (moving : MovesTheirs world
 
   tree_mine : (depth : ℕ) (m : Mount ℕ) → Mine m → (o : Mount ℕ) → Among o (tree_from nat_eq depth world.mounts m)
       → Mine o
-  tree_mine zero m its o n = ⊎_elim (λ same. subst Mine (sym same) its) (λ none. absurd none) n
-  tree_mine (suc depth) m its o n = ⊎_elim (λ same. subst Mine (sym same) its) (λ below.
-      let child = among-from_flat_map (tree_from nat_eq depth world.mounts) (children nat_eq world.mounts m.number) o
-      below in
-      tree_mine depth child.0 (children_own world names moving.is m.number child.0
-      (own_theirs world names moving.is m its.0 its.1) child.1) o child.2) n
+  tree_mine zero m its o n = ⊎_elim (λ same. rw same its) (λ none. absurd none) n
+  tree_mine (suc depth) m its o n = ⊎_elim (λ same. rw same its) (λ below. let child = among-from_flat_map
+      (tree_from nat_eq depth world.mounts) (children nat_eq world.mounts m.number) o below in tree_mine depth child.0
+      (children_own world names moving.is m.number child.0 (own_theirs world names moving.is m its.0 its.1) child.1) o
+      child.2) n
 
   pub origin_mine : (o : Mount ℕ) → Among o origins → Mine o
   origin_mine o m = tree_mine (length world.mounts) (mount_numbered nat_eq world moving.number)
@@ -112,8 +111,7 @@ module _ {world : World ℕ} {names : List TaskName} (moving : MovesTheirs world
 
   one_of_its_number : (a b : Mount ℕ) → Among a world.mounts → Among b world.mounts → a.number ≡ b.number → a ≡ b
   one_of_its_number a b m n e =
-      sym (numbered world names moving.is.mounts a m) ∙ ap (mount_numbered nat_eq world) e
-      ∙ numbered world names moving.is.mounts b n
+      cc (numbered world names moving.is.mounts a m, numbered world names moving.is.mounts b n)
 
   -- a mount of the world is as it was, or moved; so is what a descriptor shows of it
   pub went_how : (x y : Mount ℕ) → Among x world.mounts → y.number ≡ x.number
@@ -140,10 +138,8 @@ module _ {world : World ℕ} {names : List TaskName} (moving : MovesTheirs world
       (p.0, inr p.1, of.0, of.1, of.2)
 
   mine_shown : (o : Mount ℕ) → Mine o → Among o.filesystem (used_directly nat_eq world names)
-  mine_shown o its = subst (λ (k : Mount ℕ). Among k.filesystem (used_directly nat_eq world names))
-      (numbered world names moving.is.mounts o its.0)
-      (theirs_directly world names moving.is (record { mount = o.number; node = o.root })
-      (own_theirs world names moving.is o its.0 its.1))
+  mine_shown o its = rw (← numbered world names moving.is.mounts o its.0) (theirs_directly world names moving.is
+      (record { mount = o.number; node = o.root }) (own_theirs world names moving.is o its.0 its.1))
 
   pub moved_grows : (master : ℕ → Option ℕ) → Grows world names moved at_receivers [] master
   moved_grows master = record {
@@ -152,10 +148,9 @@ module _ {world : World ℕ} {names : List TaskName} (moving : MovesTheirs world
     ours = λ y m. let of = at_receiver y m in
         ap owns of.4 ∙ (parts_own attaching of.0 of.1).1;
     shown = λ y m. let of = at_receiver y m in inl
-        (subst (λ n. Among n (used_directly nat_eq world names)) (ap (λ (z : Mount ℕ). z.filesystem) (sym of.4))
-        (mine_shown of.2 (origin_mine of.2 of.3)));
+        (rw (← ap (λ (z : Mount ℕ). z.filesystem) (sym of.4)) (mine_shown of.2 (origin_mine of.2 of.3)));
     located = λ l m. located_well world names moving.is l m;
-    unused = λ n e. absurd (true≢false (sym e));
+    unused = λ n e. cc;
     unlisted = λ f m. refl;
     layers = λ f m. absurd m;
     mounted = λ f m. absurd m;
@@ -178,10 +173,10 @@ module _ {world : World ℕ} {names : List TaskName} (moving : MovesTheirs world
           → (moved x ≡ x) × (moved (seen_by_descriptor x) ≡ seen_by_descriptor x)
       others x m other = (
         ⊎_elim (λ same. ap up same ∙ other_stays attaching moving.new true origins x m other)
-            (λ moves. absurd (true≢false (sym (origin_mine x moves.0).1 ∙ other))) (went_how x x m refl),
+            (λ moves. cc ((origin_mine x moves.0).1)) (went_how x x m refl),
         ⊎_elim (λ same. ap up same
             ∙ stub_stays attaching moving.new true origins x)
-            (λ moves. absurd (true≢false (sym (origin_mine x moves.0).1 ∙ other)))
+            (λ moves. cc ((origin_mine x moves.0).1))
             (went_how x (seen_by_descriptor x) m refl),
       )
 
@@ -204,20 +199,18 @@ module _ {world : World ℕ} {names : List TaskName} (moving : MovesTheirs world
         → moved_master (part_of nat_eq world names).master g ≡ moved_master world.master g
     moved_known y m mine g e =
         masters_agree (made attaching moving.new true origins) (part_of nat_eq world names).master world.master g
-        (⊎_elim (λ old. by old.0 old.1 old.2 (sym (ap (λ (x : Mount ℕ). source_of x.propagation) old.3
-        ∙ keeps (λ (x : Mount ℕ). source_of x.propagation) (λ x at. refl) (went old.0)) ∙ e))
-        (λ more. let of = at_receiver y more in
-        known_copy of.0 of.2 of.3 g (ap (λ (x : Mount ℕ). source_of x.propagation) (sym of.4) ∙ e))
-        (own_how
-        (moved_grows (moved_master world.master)) y m mine))
+        (⊎_elim (λ old. by old.0 old.1 old.2 (cc (
+          old.3,
+          keeps (λ (x : Mount ℕ). source_of x.propagation) (λ x at. refl)
+              (went old.0),
+        ))) (λ more. let of = at_receiver y more in known_copy of.0 of.2 of.3 g (cc of.4))
+        (own_how (moved_grows (moved_master world.master)) y m mine))
       where
         by : (x : Mount ℕ) → Among x world.mounts → owns x ≡ true → source_of (went x).propagation ≡ Some g
             → (part_of nat_eq world names).master g ≡ world.master g
-        by x n own_one s = ⊎_elim (λ same. master_same moving.sealing g
-            (heard_by_own moving.sealing x (among-filter (is_own_mount nat_eq world names) world.mounts x n own_one) g
-            (ap (λ (z : Mount ℕ). source_of z.propagation) (sym same) ∙ s)))
-            (λ moves. known_copy destination x moves.0 g (ap (λ (z : Mount ℕ). source_of z.propagation) (sym moves.1)
-            ∙ s)) (went_how x x n refl)
+        by x n own_one s = ⊎_elim (λ same. master_same moving.sealing g (heard_by_own moving.sealing x
+            (among-filter (is_own_mount nat_eq world names) world.mounts x n own_one) g (cc)))
+            (λ moves. known_copy destination x moves.0 g (cc moves.1)) (went_how x x n refl)
 
   -- the world that is left
   pub moved_as : (w : World ℕ)

@@ -22,6 +22,7 @@ use Rattle.vt_laws_members.proofs.changes.letting_go.PartMounts.{part_mounts}
 use Rattle.vt_laws_members.proofs.changes.letting_go.Umounting.{of_passed}
 use Rattle.vt_laws_members.proofs.changes.looks.Granted.{of_rules, of_walk}
 use Rattle.vt_laws_members.proofs.changes.looks.Told.{ended_alike, ran, same_caller}
+use Rattle.vt_laws_members.proofs.changes.tasks.ByPermit.{by_known}
 use Rattle.vt_laws_members.proofs.changes.tasks.Denied.{denial_ends_alike, ran_there, run_by, unnamed_ends_alike}
 use Rattle.vt_laws_members.specs.Attached.Attaching.{MovesEndAlike}
 use Rattle.vt_laws_members.proofs.attached.CopiesAlike.{AttachesTheirs, attached_there, base_part, no_new_ones, parts, parts_alike}
@@ -48,8 +49,8 @@ module _ {world : World ℕ} {names : List TaskName} {task : Task ℕ} (member :
       (from : Location ℕ) × (here : Location ℕ) × (permit ≡ ToMove from.mount here) × MovesTo world names from here
 
   in_it : (n : ℕ) (o : Option ℕ) → not (holds_of (nat_eq n) o) ≡ false → o ≡ Some n
-  in_it n None e = absurd (true≢false e)
-  in_it n (Some k) e = ap Some (sym (eqb-true n k (not-false (nat_eq n k) e)))
+  in_it n None e = cc
+  in_it n (Some k) e = cc (eqb-true n k (not-false (nat_eq n k) e))
 
   pub moves_there : (fresh : Fresh ℕ) (source path : List ℕ) → IfOk
       (move_permit nat_eq (one member) (overfills nat_eq fresh world task) task source path) Moves
@@ -236,21 +237,6 @@ module _ {world : World ℕ} {names : List TaskName} {name : TaskName} {source p
   move_ends = ended_alike names name (MoveMount source path) first second (record { answer = refl; part = parts_same })
 
 pub moves_end_alike : MovesEndAlike
-moves_end_alike world names name source path it fresh serves = by (task_called world name) refl
-  where
-    judged_by : (task : Task ℕ) (member : IsMember world names task) → task_called world name ≡ Some task
-        → (j : Judgement ℕ) → judge_in nat_eq fresh world task (MoveMount source path) ≡ j
-        → IfOk j (Moves member)
-        → EndsAlike world names name (MoveMount source path) fresh fresh
-    judged_by task member e (Ok permit) judged its = move_ends it e serves its.3 (judged ∙ ap Ok its.2)
-    judged_by task member e (Err deny) judged its =
-        denial_ends_alike it fresh fresh (ap (λ o. is_ok (ran name (MoveMount source path) world fresh o).answer) e
-        ∙ ap (λ j. is_ok (run_by it world fresh task j).answer) judged)
-
-    by : (o : Option (Task ℕ)) → task_called world name ≡ o
-        → EndsAlike world names name (MoveMount source path) fresh fresh
-    by None e = unnamed_ends_alike it fresh fresh e
-    by (Some task) e =
-        let member = caller_in it e in
-        judged_by task member e (judge_in nat_eq fresh world task (MoveMount source path)) refl
-        (moves_there member fresh source path)
+moves_end_alike world names name source path it fresh serves = by_known it fresh fresh refl
+    (λ task e. Moves (caller_in it e)) (λ task e. moves_there (caller_in it e) fresh source path)
+    (λ task e permit judged its. move_ends it e serves its.3 (judged ∙ ap Ok its.2))

@@ -18,7 +18,7 @@ module _ {world : World ℕ} {names : List TaskName} (is : IsWorld nat_eq world)
   kept = keep world names theirs
 
   owned_same : (x : Mount ℕ) → is_own part names (members part names) x ≡ is_own world names theirs x
-  owned_same x = ap (λ ts. is_own world names ts x) (same_members world names)
+  owned_same x = cc (same_members world names)
 
   -- what is kept of a mount, as it was or as a descriptor shows it
   whole : (x y : Mount ℕ) → Among x world.mounts → kept x ≡ Some y
@@ -36,18 +36,19 @@ module _ {world : World ℕ} {names : List TaskName} (is : IsWorld nat_eq world)
       → (change y ≡ y) × (change (seen_by_descriptor y) ≡ seen_by_descriptor y)
   others_there y n other =
       let from = among-from_filter_map kept world.mounts y n in
-      ⊎_elim (λ same. it.others y (subst (λ z. Among z world.mounts) same from.1) other)
-      (λ stub. let still = (it.others from.0 from.1 stub.1).1 in
-      subst (λ z. (change z ≡ z) × (change (seen_by_descriptor z) ≡ seen_by_descriptor z)) stub.0 (still, still))
-      (whole from.0 y from.1 from.2)
+      ⊎_elim (λ same. it.others y (rw (← same) from.1) other) (λ stub. let still = (it.others from.0 from.1 stub.1).1 in
+      rw (← stub.0) (still, still)) (whole from.0 y from.1 from.2)
 
   unlisted_there : (f : Filesystem ℕ) → Among f part.filesystems
       → is_new world names change added new master f.number ≡ false
   unlisted_there f n =
       let from = among-from_filter_map (part_of_filesystem nat_eq world names) world.filesystems f n in
-      ap (is_new world names change added new master) (⊎_elim (λ same. ap (λ (g : Filesystem ℕ). g.number) (sym same.0))
-      (λ low. ap (λ (g : Filesystem ℕ). g.number) (sym low.0)) (shown_how world names from.0 f from.2))
-      ∙ it.unlisted from.0 from.1
+      cc (
+        ⊎_elim (λ same. ap (λ (g : Filesystem ℕ). g.number) (sym same.0))
+            (λ low. ap (λ (g : Filesystem ℕ). g.number) (sym low.0)) (shown_how world names from.0 f from.2),
+        it.unlisted
+            from.0 from.1,
+      )
 
   pub part_grows : Grows part names change added new master_too
   part_grows = record {
@@ -55,11 +56,11 @@ module _ {world : World ℕ} {names : List TaskName} (is : IsWorld nat_eq world)
         (owned_same (change y) ∙ its.0, its.1, its.2);
     others = λ y n other. others_there y n (sym (owned_same y) ∙ other);
     ours = λ x m. owned_same x ∙ it.ours x m;
-    shown = λ x m. ⊎_elim (λ old. inl (subst (Among x.filesystem) (sym (same_directly world names)) old)) inr
+    shown = λ x m. ⊎_elim (λ old. inl (rw (same_directly world names) old)) inr
         (it.shown x m);
-    located = λ l m. located_there world names is l (subst (λ ts. Among l (locations ts)) (same_members world names) m);
-    unused = λ n is. ap (is_among nat_eq n) (same_used world names) ∙ it.unused n is;
+    located = λ l m. located_there world names is l (rw (← same_members world names) m);
+    unused = λ n is. cc (same_used world names, it.unused n is);
     unlisted = unlisted_there;
-    layers = λ f m layer n. subst (Among layer.filesystem) (sym (same_directly world names)) (it.layers f m layer n);
+    layers = λ f m layer n. rw (same_directly world names) (it.layers f m layer n);
     mounted = it.mounted;
   }

@@ -35,21 +35,18 @@ module _ (world : World ℕ) (names : List TaskName) where
           (filter (lies_in_own_lower nat_eq world names x.number) x.files.numbers)) x.files.numbers n rest).0) h
 
   used_too : (n : ℕ) → Among n (numbers_in_use part) → Among n (numbers_in_use world)
-  used_too n m = ⊎_elim
-      (λ front. among-append_left (flat_map used_by_mount world.mounts ++ flat_map used_by_filesystem world.filesystems)
-      (map (λ (k : Namespace ℕ). k.number) world.namespaces) n (⊎_elim
-      (λ of. let y = among-from_flat_map used_by_mount part.mounts n of in
-      among-append_left (flat_map used_by_mount world.mounts) (flat_map used_by_filesystem world.filesystems) n
-      (of_mount n y.0 y.1 y.2)) (λ of. let y = among-from_flat_map used_by_filesystem part.filesystems n of in
-      among-append_right (flat_map used_by_mount world.mounts) (flat_map used_by_filesystem world.filesystems) n
-      (of_filesystem n y.0 y.1 y.2))
-      (among-append (flat_map used_by_mount part.mounts) (flat_map used_by_filesystem part.filesystems) n front)))
-      (λ back. let k = among-from_map (λ (k : Namespace ℕ). k.number) part.namespaces n back in
-      let listed = among-from_filter (λ (k : Namespace ℕ). is_own_namespace nat_eq world names k.number)
-      world.namespaces k.0 k.1 in
-      among-append_right (flat_map used_by_mount world.mounts ++ flat_map used_by_filesystem world.filesystems)
-      (map (λ (k : Namespace ℕ). k.number) world.namespaces) n
-      (subst (λ i. Among i (map (λ (k : Namespace ℕ). k.number) world.namespaces)) (sym k.2)
+  used_too n m = ⊎_elim (λ front. among-append_left (flat_map used_by_mount world.mounts ++ flat_map used_by_filesystem
+      world.filesystems) (map (λ (k : Namespace ℕ). k.number) world.namespaces) n
+      (⊎_elim (λ of. let y = among-from_flat_map used_by_mount part.mounts n of in among-append_left
+      (flat_map used_by_mount world.mounts) (flat_map used_by_filesystem world.filesystems) n (of_mount n y.0 y.1 y.2))
+      (λ of. let y = among-from_flat_map used_by_filesystem part.filesystems n of in among-append_right
+      (flat_map used_by_mount world.mounts) (flat_map used_by_filesystem world.filesystems) n
+      (of_filesystem n y.0 y.1 y.2)) (among-append (flat_map used_by_mount part.mounts)
+      (flat_map used_by_filesystem part.filesystems) n front))) (λ back. let k = among-from_map
+      (λ (k : Namespace ℕ). k.number) part.namespaces n back in let listed = among-from_filter
+      (λ (k : Namespace ℕ). is_own_namespace nat_eq world names k.number) world.namespaces k.0 k.1 in among-append_right
+      (flat_map used_by_mount world.mounts ++ flat_map used_by_filesystem world.filesystems)
+      (map (λ (k : Namespace ℕ). k.number) world.namespaces) n (rw k.2
       (among-map (λ (k : Namespace ℕ). k.number) world.namespaces k.0 listed.0)))
       (among-append (flat_map used_by_mount part.mounts ++ flat_map used_by_filesystem part.filesystems)
       (map (λ (k : Namespace ℕ). k.number) part.namespaces) n m)

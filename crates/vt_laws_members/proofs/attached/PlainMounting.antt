@@ -14,6 +14,7 @@ use Rattle.vt_laws_members.proofs.changes.letting_go.Umounting.{of_passed}
 use Rattle.vt_laws_members.proofs.changes.looks.Granted.{of_rules, of_walk}
 use Rattle.vt_laws_members.proofs.changes.looks.Told.{ended_alike, ran, same_caller}
 use Rattle.vt_laws_members.proofs.changes.part.SettledPart.{part_in_use}
+use Rattle.vt_laws_members.proofs.changes.tasks.ByPermit.{by_known}
 use Rattle.vt_laws_members.proofs.changes.tasks.Denied.{denial_ends_alike, ran_there, run_by, unnamed_ends_alike}
 use Rattle.vt_laws_members.specs.Attached.Attaching.{PlainMountsEndAlike}
 use Rattle.vt_laws_members.proofs.attached.AttachedAlike.{copies_alike}
@@ -139,21 +140,6 @@ module _ {world : World ℕ} {names : List TaskName} {name : TaskName} {path : L
       (record { answer = refl; part = parts_same })
 
 pub plain_mounts_end_alike : PlainMountsEndAlike
-plain_mounts_end_alike world names name path flags it fresh serves = by (task_called world name) refl
-  where
-    judged_by : (task : Task ℕ) (member : IsMember world names task) → task_called world name ≡ Some task
-        → (j : Judgement ℕ) → judge_in nat_eq fresh world task (MountPlain path flags) ≡ j
-        → IfOk j (Mounts member flags)
-        → EndsAlike world names name (MountPlain path flags) fresh fresh
-    judged_by task member e (Ok permit) judged its = mount_alike it e serves its.2 its.3 (judged ∙ ap Ok its.1)
-    judged_by task member e (Err deny) judged its =
-        denial_ends_alike it fresh fresh (ap (λ o. is_ok (ran name (MountPlain path flags) world fresh o).answer) e
-        ∙ ap (λ j. is_ok (run_by it world fresh task j).answer) judged)
-
-    by : (o : Option (Task ℕ)) → task_called world name ≡ o
-        → EndsAlike world names name (MountPlain path flags) fresh fresh
-    by None e = unnamed_ends_alike it fresh fresh e
-    by (Some task) e =
-        let member = caller_in it e in
-        judged_by task member e (judge_in nat_eq fresh world task (MountPlain path flags)) refl
-        (mounts_there member flags fresh path)
+plain_mounts_end_alike world names name path flags it fresh serves = by_known it fresh fresh refl
+    (λ task e. Mounts (caller_in it e) flags) (λ task e. mounts_there (caller_in it e) flags fresh path)
+    (λ task e permit judged its. mount_alike it e serves its.2 its.3 (judged ∙ ap Ok its.1))

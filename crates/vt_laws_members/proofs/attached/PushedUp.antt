@@ -57,9 +57,9 @@ module _ {world : World ℕ} {names : List TaskName} (attaching : AttachesTheirs
           → stands_at nat_eq (record { mount = p.number; node = attaching.place.node }) x ≡ b → b ≡ false
       by p n true e =
           let its = parts_own attaching p (inr n) in
-          absurd (true≢false (sym (child_theirs world names attaching.is.mounts
-          (record { mount = p.number; node = attaching.place.node }) x (own_theirs world names attaching.is p its.0
-          its.1) m (stands_there (record { mount = p.number; node = attaching.place.node }) x e)) ∙ other))
+          cc (child_theirs world names attaching.is.mounts (record { mount = p.number; node = attaching.place.node }) x
+          (own_theirs world names attaching.is p its.0 its.1) m (stands_there
+          (record { mount = p.number; node = attaching.place.node }) x e))
       by p n false e = refl
 
   pub stub_stays : (x : Mount ℕ) → up (seen_by_descriptor x) ≡ seen_by_descriptor x
@@ -73,8 +73,7 @@ module _ {world : World ℕ} {names : List TaskName} (attaching : AttachesTheirs
       let o = among-from_map twig origins t.0 t.1 in (
         o.0,
         o.1,
-        t.2 ∙ ap (copy_at nat_eq (base attaching) new
-            (tree attaching new moves origins) at_parts p) o.2,
+        cc (t.2, o.2),
       )
 
   pub copy_there : (p o : Mount ℕ) → Among o origins → Among (copy p o) (made_at p)
@@ -120,8 +119,7 @@ module _ {world : World ℕ} {names : List TaskName} (attaching : AttachesTheirs
     others = λ x m other. (other_stays x m other, stub_stays x);
     ours = λ x m. let its = of_copies x m in ap owns its.4 ∙ copy_own its.0 its.1 its.2;
     shown = λ x m. let its = of_copies x m in
-        subst (λ n. Among n (used_directly nat_eq world names) ⊎ (is_fresh n ≡ true))
-        (ap (λ (y : Mount ℕ). y.filesystem) (sym its.4)) (it.shown its.2 its.3);
+        rw (← ap (λ (y : Mount ℕ). y.filesystem) (sym its.4)) (it.shown its.2 its.3);
     located = λ l m. located_well world names attaching.is l m;
     unused = fresh_unused;
     unlisted = it.unlisted;

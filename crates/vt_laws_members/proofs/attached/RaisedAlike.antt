@@ -114,8 +114,7 @@ module _ {world : World ℕ} {names : List TaskName} (sealing : IsSealed world n
           compared : (x y : Mount ℕ) → master_above part x ≡ master_above world x
               → master_above later_part y ≡ master_above later y
               → same_mount nat_eq part later_part x y ≡ same_mount nat_eq world later x y
-          compared x y e f = ap (λ o. same_ones x y && same_option nat_eq o (master_above later_part y)) e
-              ∙ ap (λ o. same_ones x y && same_option nat_eq (master_above world x) o) f
+          compared x y e f = cc
 
     raised_alike : filter (spaces theirs) (map (raised_namespace nat_eq part later_part) part.namespaces)
         ≡ filter (spaces theirs) (map (raised_namespace nat_eq world later) world.namespaces)
@@ -159,4 +158,4 @@ module _ {world : World ℕ} {names : List TaskName} (sealing : IsSealed world n
                 (map (raised_namespace nat_eq part later_part) part.namespaces);
             tasks = filter (is_member_task names) (map (raised_task name) part.tasks);
           }) ∙ sym (part_respaced later_part names name (map (raised_namespace nat_eq part later_part) part.namespaces))
-          ∙ sym (ap (λ w. part_of nat_eq w names) (left_so part later_part))
+          ∙ sym (cc (left_so part later_part))

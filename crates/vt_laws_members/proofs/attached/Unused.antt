@@ -29,17 +29,14 @@ module _ (world : World ℕ) (names : List TaskName) (is : IsWorld nat_eq world)
   listed_location l m =
       let at = among-from_map (λ (x : Mount ℕ). x.number) world.mounts l.mount
       (among_numbers (map (λ (x : Mount ℕ). x.number) world.mounts) l.mount (located_well world names is l m)) in
-      subst (λ (x : Mount ℕ). IsListed x.filesystem)
-      (sym (ap (mount_numbered nat_eq world) at.2 ∙ numbered world names is.mounts at.0 at.1)) (listed_mount at.0 at.1)
+      rw (ap (mount_numbered nat_eq world) at.2 ∙ numbered world names is.mounts at.0 at.1) (listed_mount at.0 at.1)
 
   listed_directly : (n : ℕ) → Among n (used_directly nat_eq world names) → IsListed n
-  listed_directly n m = ⊎_elim
-      (λ shown. let x = among-from_map (λ (x : Mount ℕ). x.filesystem) (own_mounts nat_eq world names) n shown in
-      subst IsListed (sym x.2)
-      (listed_mount x.0 (among-from_filter (is_own_mount nat_eq world names) world.mounts x.0 x.1).0))
+  listed_directly n m =
+      ⊎_elim (λ shown. let x = among-from_map (λ (x : Mount ℕ). x.filesystem) (own_mounts nat_eq world names) n shown in
+      rw x.2 (listed_mount x.0 (among-from_filter (is_own_mount nat_eq world names) world.mounts x.0 x.1).0))
       (λ at. let l = among-from_map (λ (l : Location ℕ). (mount_at nat_eq world l).filesystem)
-      (locations (members world names)) n at in
-      subst IsListed (sym l.2) (listed_location l.0 l.1))
+      (locations (members world names)) n at in rw l.2 (listed_location l.0 l.1))
       (among-append (map (λ (x : Mount ℕ). x.filesystem) (own_mounts nat_eq world names)) _ n m)
 
   listed_layer : (d n : ℕ) → Among n (change_layers (filesystem_numbered nat_eq world d)) → IsListed n
@@ -55,9 +52,8 @@ module _ (world : World ℕ) (names : List TaskName) (is : IsWorld nat_eq world)
       by (Some overlay) e h =
           let layer = among-from_map (λ (layer : Layer ℕ). layer.filesystem)
           (option_to_list overlay.upper ++ option_to_list overlay.work) n h in
-          subst IsListed (sym layer.2) (listed_by layer.0.filesystem layer.0.directory
-          (layer_directory world names is (filesystem_numbered nat_eq world d)
-          (overlay_there world names is d overlay e) layer.0
+          rw layer.2 (listed_by layer.0.filesystem layer.0.directory (layer_directory world names is
+          (filesystem_numbered nat_eq world d) (overlay_there world names is d overlay e) layer.0
           (subst (λ o. Among layer.0 (overlay_or [] layers_of o)) (sym e)
           (among-append_left (option_to_list overlay.upper ++ option_to_list overlay.work) overlay.lowers layer.0
           layer.1))))
@@ -84,9 +80,7 @@ module _ (world : World ℕ) (names : List TaskName) (is : IsWorld nat_eq world)
 
     pub used_unlike : (n : ℕ) → is_among nat_eq n (used_filesystems nat_eq world names) ≡ true → (k : ℕ)
         → nat_eq n (fresh k) ≡ false
-    used_unlike n used k =
-        let f = used_listed n used in
-        ap (λ m. nat_eq m (fresh k)) (sym f.2) ∙ filesystem_unlike f.0 f.1 k
+    used_unlike n used k = let f = used_listed n used in cc (f.2, filesystem_unlike f.0 f.1 k)
 
     pub group_new : (k : ℕ) → world.master (fresh k) ≡ None
     group_new k = (all_in_use world is).groups (fresh k)
@@ -94,7 +88,7 @@ module _ (world : World ℕ) (names : List TaskName) (is : IsWorld nat_eq world)
         (fresh k) m) refl))
       where
         sourced : (m : Mount ℕ) → source_of m.propagation ≡ Some (fresh k) → Among (fresh k) (used_by_mount m)
-        sourced m e = inr (subst (λ o. Among (fresh k) (option_to_list o)) (sym e) (inl refl))
+        sourced m e = inr (rw e (inl refl))
 
         by : (m : Mount ℕ) → Among m world.mounts → (b : Bool) → is_member_of nat_eq (fresh k) m ≡ b → b ≡ false
         by m n true e = absurd (true≢false (sym (is_among_numbers (numbers_in_use world) (fresh k)

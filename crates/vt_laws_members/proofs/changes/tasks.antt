@@ -1,4 +1,5 @@
 -- What the proofs of src/tasks.rt use.
+pub mod ByPermit
 pub mod Denied
 pub mod Ending
 pub mod Forking

@@ -15,7 +15,7 @@ use Rattle.vt_laws_members.proofs.changes.tasks.Forking.{forks_end_alike}
 use Rattle.vt_laws_members.proofs.changes.tasks.Rights.{drops_end_alike, renames_of_one_end_alike, umasks_end_alike}
 use Rattle.vt_laws_members.specs.OverlayNames.EachCalls.{AlwaysEndsAlike}
 use Rattle.vt_laws_members.proofs.overlay_names.each_call.Permitted.{each_chmod_ends_alike, each_chown_ends_alike, each_link_ends_alike, each_mkdir_ends_alike, each_open_ends_alike, each_part_write_ends_alike, each_symlink_ends_alike, each_unlink_ends_alike, each_write_ends_alike, either}
-use Rattle.vt_laws_members.proofs.overlay_names.names.ByPermit.{by_permit}
+use Rattle.vt_laws_members.proofs.changes.tasks.ByPermit.{by_permit}
 use Rattle.vt_laws_members.proofs.overlay_names.names.HidingEnding.{all_opaques_end_alike, all_whiteouts_end_alike}
 use Rattle.vt_laws_members.proofs.overlay_names.names.OverlayRemovals.{overlay_renames_end_alike, overlay_rmdirs_end_alike}
 use Rattle.vt_laws_members.proofs.attached.Binding.{binds_end_alike}

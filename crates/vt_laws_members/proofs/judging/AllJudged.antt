@@ -39,10 +39,8 @@ called_alike names name theirs (task ∷ rest) =
         ≡ find (λ (t : Task ℕ). same_name name t.name) rest → find (λ (t : Task ℕ). same_name name t.name)
         (cond b (task ∷ filter (is_member_task names) rest) (filter (is_member_task names) rest))
         ≡ cond a (Some task) (find (λ (t : Task ℕ). same_name name t.name) rest)
-    by true true e f later = ap (λ b. cond b (Some task)
-        (find (λ (t : Task ℕ). same_name name t.name) (filter (is_member_task names) rest))) e
-    by true false e f later =
-        absurd (true≢false (sym theirs ∙ ap (λ n. is_among same_name n names) (same_task_name name task.name e) ∙ f))
+    by true true e f later = cc
+    by true false e f later = cc (same_task_name name task.name e)
     by false true e f later = cc (e, later)
     by false false e f later = later
 
@@ -76,16 +74,13 @@ module _ {world : World ℕ} {names : List TaskName} {task : Task ℕ} (member :
     mount = λ number e. sym (same_mount world names member.is.mounts number
         (theirs_from world names member.is.mounts number e));
     over = λ here e. sym (over_alike world names member.is.mounts here (on here e));
-    node = λ here e. ap (λ (f : Filesystem ℕ). f.files.tree.node here.node)
-        (filesystem_alike world names member.is here (on here e));
-    removed = λ here e. ap (λ (f : Filesystem ℕ). is_removed nat_eq f.files.tree here.node)
-        (filesystem_alike world names member.is here (on here e));
+    node = λ here e. cc (filesystem_alike world names member.is here (on here e));
+    removed = λ here e. cc (filesystem_alike world names member.is here (on here e));
     under = λ filesystem top directory used. under_alike world names member.is filesystem used top directory;
-    overlay = λ here e. ap (λ (f : Filesystem ℕ). f.overlay) (filesystem_alike world names member.is here (on here e));
-    mounter = λ here change e. ap (λ (f : Filesystem ℕ). of_overlay [] (overlay_rules nat_eq f change) f)
-        (filesystem_alike world names member.is here (on here e));
+    overlay = λ here e. cc (filesystem_alike world names member.is here (on here e));
+    mounter = λ here change e. cc (filesystem_alike world names member.is here (on here e));
     locked = λ here e. locked_here here (theirs_used world names member.is here (on here e))
-        (ap (λ (m : Mount ℕ). m.filesystem) (mount_alike world names member.is here (on here e)));
+        (cc (mount_alike world names member.is here (on here e)));
   }
 
   pub walks : Alike one other task (λ number. own number ≡ true)
@@ -170,7 +165,7 @@ module _ {world : World ℕ} {names : List TaskName} {task : Task ℕ} (member :
     where
       by : (b : Bool) → not b ≡ false → b ≡ true
       by true h = refl
-      by false h = absurd (true≢false h)
+      by false h = cc
 
   trees : TreesAlike one other task own
   trees = record {

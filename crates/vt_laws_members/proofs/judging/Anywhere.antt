@@ -31,9 +31,8 @@ module _ {world : World ℕ} {names : List TaskName} (sealing : IsSealed world n
         (λ (x : Mount ℕ). x.namespace) (numbered world names sealing.is.mounts mount there) ∙ placed
 
     below_there : Among (mount_at nat_eq world point) world.mounts
-    below_there = ⊎_elim (λ found. found)
-        (λ none. none_is_some n (sym (ap (λ (x : Mount ℕ). x.namespace) none) ∙ below_placed))
-        (found_or_none world.mounts point.mount)
+    below_there =
+        ⊎_elim (λ found. found) (λ none. none_is_some n (cc below_placed)) (found_or_none world.mounts point.mount)
 
     -- what it stands on is not theirs alone
     not_alone : used_alone nat_eq world names shows ≡ true → ⊥
@@ -44,11 +43,9 @@ module _ {world : World ℕ} {names : List TaskName} (sealing : IsSealed world n
         (not (list_any (λ (l : Location ℕ). nat_eq shows (mount_at nat_eq world l).filesystem)
         (locations (outsiders world names)))) free.0).0 in
         true≢false (sym (any_from_among (λ (m : Mount ℕ). nat_eq shows m.filesystem) (other_mounts nat_eq world names)
-        (mount_at nat_eq world point)
-        (among-filter (λ (m : Mount ℕ). holds_of (λ k. not (is_own_namespace nat_eq world names k)) m.namespace)
-        world.mounts (mount_at nat_eq world point) below_there
-        (ap (holds_of (λ k. not (is_own_namespace nat_eq world names k))) below_placed ∙ ap not outside))
-        (eq-eqb shows shows refl)) ∙ none)
+        (mount_at nat_eq world point) (among-filter (λ (m : Mount ℕ). holds_of
+        (λ k. not (is_own_namespace nat_eq world names k)) m.namespace) world.mounts (mount_at nat_eq world point)
+        below_there (cc below_placed)) (eq-eqb shows shows refl)) ∙ none)
 
     whole : uses shows ≡ true → wholly_locked nat_eq world names shows ≡ true
     whole used = ⊎_elim (λ alone. absurd (not_alone alone)) (λ locked. locked)
@@ -67,16 +64,14 @@ module _ {world : World ℕ} {names : List TaskName} (sealing : IsSealed world n
   module _ (merged : Filesystem ℕ) (there : Among merged world.filesystems) {overlay : Overlay ℕ}
       (e : merged.overlay ≡ Some overlay) (upper : Layer ℕ) (its : Among upper (upper_and_work overlay)) where
     upper_apart : overlaps_one_of nat_eq world (live_lowers nat_eq world) upper ≡ false
-    upper_apart = none_among (overlaps_one_of nat_eq world (live_lowers nat_eq world))
-        (live_upper_and_work world) sealing.is.overlays.lowers_apart upper
-        (among-flat_map (of_overlay [] upper_and_work) (overlays world) merged upper
-        (among-filter is_overlay world.filesystems merged there (ap is_some e))
-        (subst (λ o. Among upper (overlay_or [] upper_and_work o)) (sym e) its))
+    upper_apart = none_among (overlaps_one_of nat_eq world (live_lowers nat_eq world)) (live_upper_and_work world)
+        sealing.is.overlays.lowers_apart upper (among-flat_map (of_overlay [] upper_and_work) (overlays world) merged
+        upper (among-filter is_overlay world.filesystems merged there (cc)) (rw e its))
 
     upper_directory : is_directory_node
         ((filesystem_numbered nat_eq world upper.filesystem).files.tree.node upper.directory) ≡ true
-    upper_directory = layer_directory world names sealing.is merged there upper
-        (subst (λ o. Among upper (overlay_or [] layers_of o)) (sym e)
+    upper_directory =
+        layer_directory world names sealing.is merged there upper (rw e
         (among-append_left (option_to_list overlay.upper ++ option_to_list overlay.work) overlay.lowers upper its))
 
     pub not_whole : wholly_locked nat_eq world names upper.filesystem ≡ true → ⊥
@@ -85,27 +80,24 @@ module _ {world : World ℕ} {names : List TaskName} (sealing : IsSealed world n
         let tree = tree_there sealing upper.filesystem upper.directory upper_directory in
         let object = directory_used (filesystem_numbered nat_eq world upper.filesystem).files.tree upper.directory
         upper_directory in
-        true≢false (sym (any_from_among (λ object. lies_or_counts_under nat_eq world upper.filesystem object upper
-        && list_any (lies_or_counts_under nat_eq world upper.filesystem object) (live_lowers nat_eq world))
+        true≢false (sym (any_from_among (λ object. lies_or_counts_under nat_eq world upper.filesystem object upper &&
+        list_any (lies_or_counts_under nat_eq world upper.filesystem object) (live_lowers nat_eq world))
         (filesystem_numbered nat_eq world upper.filesystem).files.numbers upper.directory
         (among_numbers (filesystem_numbered nat_eq world upper.filesystem).files.numbers upper.directory
-        (tree.1 upper.directory ∙ object))
-        (and_from (lies_or_counts_under nat_eq world upper.filesystem upper.directory upper)
-        (list_any (lies_or_counts_under nat_eq world upper.filesystem upper.directory) (live_lowers nat_eq world))
-        (or_left (lies_in_layer nat_eq world upper.filesystem upper.directory upper) _
-        (and_from (nat_eq upper.filesystem upper.filesystem)
-        (is_under nat_eq (filesystem_numbered nat_eq world upper.filesystem).files upper.directory upper.directory)
-        (eq-eqb upper.filesystem upper.filesystem refl)
-        (under_itself (filesystem_numbered nat_eq world upper.filesystem).files upper.directory upper_directory)))
-        (any_from_among (lies_or_counts_under nat_eq world upper.filesystem upper.directory)
-        (live_lowers nat_eq world) how.layer
+        (tree.1 upper.directory ∙ object)) (and_from (lies_or_counts_under nat_eq world upper.filesystem upper.directory
+        upper) (list_any (lies_or_counts_under nat_eq world upper.filesystem upper.directory)
+        (live_lowers nat_eq world)) (or_left (lies_in_layer nat_eq world upper.filesystem upper.directory upper) _
+        (and_from (nat_eq upper.filesystem upper.filesystem) (is_under nat_eq
+        (filesystem_numbered nat_eq world upper.filesystem).files upper.directory upper.directory)
+        (eq-eqb upper.filesystem upper.filesystem refl) (under_itself (filesystem_numbered nat_eq world
+        upper.filesystem).files upper.directory upper_directory))) (any_from_among
+        (lies_or_counts_under nat_eq world upper.filesystem upper.directory) (live_lowers nat_eq world) how.layer
         (among-flat_map (of_overlay [] (λ (o : Overlay ℕ). o.lowers)) (overlays world) how.merged how.layer how.overlaid
         how.lower) (or_left (lies_in_layer nat_eq world upper.filesystem upper.directory how.layer) _
-        (and_from (nat_eq upper.filesystem how.layer.filesystem)
-        (is_under nat_eq (filesystem_numbered nat_eq world upper.filesystem).files how.layer.directory upper.directory)
-        (eq-eqb upper.filesystem how.layer.filesystem how.inside)
-        (subst (λ d. is_under nat_eq (filesystem_numbered nat_eq world upper.filesystem).files d upper.directory ≡ true)
-        how.at_root (how.under upper.directory object))))))) ∙ upper_apart)
+        (and_from (nat_eq upper.filesystem how.layer.filesystem) (is_under nat_eq
+        (filesystem_numbered nat_eq world upper.filesystem).files how.layer.directory upper.directory)
+        (eq-eqb upper.filesystem how.layer.filesystem how.inside) (rw (← how.at_root)
+        (how.under upper.directory object))))))) ∙ upper_apart)
 
   module _ (here : Location ℕ) (own : OnTheirs world names sealing.is here)
       (free : is_locked_at nat_eq world here ≡ false) where
@@ -125,9 +117,11 @@ module _ {world : World ℕ} {names : List TaskName} (sealing : IsSealed world n
       not_here filesystem node f k h =
           let at = at_point filesystem node h in
           let same : (mount_at nat_eq world at.0).filesystem ≡ number = at.3 ∙ f in
-          true≢false (sym (ap (λ a. is_locked nat_eq world number a) (sym (at.2 ∙ k))
-          ∙ ap (λ g. is_locked nat_eq world g at.0.node) (sym same) ∙ locked mount there placed outside at.1
-          (ap uses same ∙ theirs_used world names sealing.is here own)) ∙ free)
+          true≢false (cc (
+            at.2,
+            locked mount there placed outside at.1 (ap uses same ∙ theirs_used world names
+                sealing.is here own),
+          ))
 
       not_above : (overlay : Overlay ℕ) → (filesystem_at nat_eq world here).overlay ≡ Some overlay
           → (p : ℕ × ℕ) → Among p (upper_points world (filesystem_at nat_eq world here) overlay here.node)
@@ -140,13 +134,12 @@ module _ {world : World ℕ} {names : List TaskName} (sealing : IsSealed world n
           of_upper upper u (Some object) m =
               let same : p ≡ (upper.filesystem, object) = ⊎_elim (λ s. s) (λ none. absurd none) m in
               let at = at_point p.0 p.1 h in
-              let shows : (mount_at nat_eq world at.0).filesystem ≡ upper.filesystem = at.3
-              ∙ ap (λ (q : ℕ × ℕ). q.0) same in
-              not_whole (filesystem_at nat_eq world here) (overlay_there world names sealing.is number overlay e) e upper (among-append_left (option_to_list overlay.upper) (option_to_list overlay.work) upper
-              (subst (λ o. Among upper (option_to_list o)) (sym u) (inl refl)))
-              (subst (λ g. wholly_locked nat_eq world names g ≡ true) shows
-              (whole mount there placed outside at.1 (ap uses shows ∙ upper_used world names sealing.is here own
-              overlay e upper (subst (λ o. Among upper (option_to_list o)) (sym u) (inl refl)))))
+              let shows : (mount_at nat_eq world at.0).filesystem ≡ upper.filesystem = cc at.3 in
+              not_whole (filesystem_at nat_eq world here) (overlay_there world names sealing.is number overlay e) e
+              upper (among-append_left (option_to_list overlay.upper) (option_to_list overlay.work) upper
+              (rw u (inl refl))) (rw (← shows) (whole mount there placed outside at.1
+              (ap uses shows ∙ upper_used world names sealing.is here own overlay e upper
+              (subst (λ o. Among upper (option_to_list o)) (sym u) (inl refl)))))
 
           by : (o : Option (Layer ℕ)) → overlay.upper ≡ o
               → Among p (option_to_list (then_some o (λ layer. option_map (λ object. (layer.filesystem, object))
@@ -157,8 +150,7 @@ module _ {world : World ℕ} {names : List TaskName} (sealing : IsSealed world n
       none_stands : stands_on_one world names sealing.is world (points_of nat_eq world here) mount ≡ true → ⊥
       none_stands h =
           let at = any_among (λ (p : ℕ × ℕ). is_point nat_eq world p.0 p.1 mount) (points_of nat_eq world here) h in
-          ⊎_elim (λ first. not_here at.0.0 at.0.1
-          (ap (λ (p : ℕ × ℕ). p.0) first ∙ number_of_filesystem world number) (ap (λ (p : ℕ × ℕ). p.1) first) at.2)
+          ⊎_elim (λ first. not_here at.0.0 at.0.1 (cc (number_of_filesystem world number)) (cc) at.2)
           (λ rest. by (filesystem_at nat_eq world here).overlay refl at.0 rest at.2) at.1
         where
           by : (o : Option (Overlay ℕ)) → (filesystem_at nat_eq world here).overlay ≡ o → (p : ℕ × ℕ)
@@ -170,16 +162,16 @@ module _ {world : World ℕ} {names : List TaskName} (sealing : IsSealed world n
     pub anywhere_alike : list_any (λ (mount : Mount ℕ). is_some mount.namespace) (mounts_on nat_eq world here)
         ≡ list_any (λ (mount : Mount ℕ). is_some mount.namespace) (mounts_on nat_eq (part_of nat_eq world names) here)
     anywhere_alike = found_alike world names sealing.is (λ (mount : Mount ℕ). is_some mount.namespace)
-        (λ mount none. ap is_some none) here own (λ mount m on attached. by mount m on mount.namespace refl attached)
+        (λ mount none. cc) here own (λ mount m on attached. by mount m on mount.namespace refl attached)
       where
         by : (mount : Mount ℕ) → Among mount world.mounts
             → stands_on_one world names sealing.is world (points_of nat_eq world here) mount ≡ true → (o : Option ℕ)
             → mount.namespace ≡ o → is_some mount.namespace ≡ true
             → is_own world names (members world names) mount ≡ true
-        by mount m on None e attached = absurd (true≢false (sym attached ∙ ap is_some e))
+        by mount m on None e attached = cc
         by mount m on (Some n) e attached = which (is_own_namespace nat_eq world names n) refl
           where
             which : (b : Bool) → is_own_namespace nat_eq world names n ≡ b
                 → is_own world names (members world names) mount ≡ true
-            which true its = ap (holds_of (is_own_namespace nat_eq world names)) e ∙ its
+            which true its = cc
             which false its = absurd (none_stands mount m n e its on)

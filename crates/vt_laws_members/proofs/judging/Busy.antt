@@ -55,33 +55,34 @@ module _ {world : World ℕ} {names : List TaskName} (sealing : IsSealed world n
           (among-filter (is_member_task names) world.tasks task there member) at) on
       by location task there at on false member =
           let its = own location.mount (among_numbers gone location.mount on) in
-          absurd (true≢false (sym its.2 ∙ ap owns (sym (numbered world names sealing.is.mounts its.0 its.1)) ∙ ap
-          (λ n. owns (mount_numbered nat_eq world n)) its.3 ∙ none_located location
-          (among-flat_map locations_of (outsiders world names) task location
-          (among-filter (λ t. not (is_member_task names t)) world.tasks task there (ap not member)) at)))
+          cc (
+            its.2,
+            numbered world names sealing.is.mounts its.0 its.1,
+            its.3,
+            none_located location
+                (among-flat_map locations_of (outsiders world names) task location
+                (among-filter (λ t. not (is_member_task names t)) world.tasks task there (ap not member)) at),
+          )
 
   child_alike : (number : ℕ) → On number → has_child nat_eq world number ≡ has_child nat_eq part number
-  child_alike number own = same_truth (has_child nat_eq world number) (has_child nat_eq part number) (λ h.
-      let at = any_among (stands_on nat_eq number) world.mounts h in
-      any_from_among (stands_on nat_eq number) part.mounts at.0
-      (among-filter_map (keep world names theirs) world.mounts at.0 at.0 at.1
-      (own_whole world names sealing.is at.0 (child_own world names sealing.is number at.0 own at.1 at.2))) at.2) (λ h.
-      let at = any_among (stands_on nat_eq number) part.mounts h in
-      let from = among-from_filter_map (keep world names theirs) world.mounts at.0 at.1 in
-      any_from_among (stands_on nat_eq number) world.mounts from.0 from.1
-      (⊎_elim (λ same. ap (stands_on nat_eq number) same ∙ at.2)
-      (λ stub. absurd (true≢false (sym at.2 ∙ ap (stands_on nat_eq number) (sym stub.0))))
-      (kept_how world names theirs from.0 at.0 from.2)))
+  child_alike number own = same_truth (has_child nat_eq world number) (has_child nat_eq part number)
+      (λ h. let at = any_among (stands_on nat_eq number) world.mounts h in any_from_among (stands_on nat_eq number)
+      part.mounts at.0 (among-filter_map (keep world names theirs) world.mounts at.0 at.0 at.1
+      (own_whole world names sealing.is at.0 (child_own world names sealing.is number at.0 own at.1 at.2))) at.2)
+      (λ h. let at = any_among (stands_on nat_eq number) part.mounts h in let from = among-from_filter_map
+      (keep world names theirs) world.mounts at.0 at.1 in any_from_among (stands_on nat_eq number) world.mounts from.0
+      from.1 (⊎_elim (λ same. cc at.2) (λ stub. cc (at.2, stub.0)) (kept_how world names theirs from.0 at.0 from.2)))
 
   pub busy_alike : (mount : Mount ℕ) → Among mount world.mounts → owns mount ≡ true
       → is_busy nat_eq world mount.number ≡ is_busy nat_eq part mount.number
   busy_alike mount m own =
       let it = own_theirs world names sealing.is mount m own in
       let itself = numbered world names sealing.is.mounts mount m in
-      ap (λ b. b || is_used nat_eq world (going nat_eq world (mount_numbered nat_eq world mount.number)))
-      (child_alike mount.number it) ∙ ap (λ b. has_child nat_eq part mount.number || b)
-      (ap (λ x. is_used nat_eq world (going nat_eq world x)) itself ∙ used_alike (going nat_eq world mount)
-      (λ number at. going_own world names sealing.is.mounts no_events mount number m own at) ∙ ap (is_used nat_eq part)
-      (sym (going_alike world names sealing.is.mounts no_events mount m own)) ∙ ap
-      (λ x. is_used nat_eq part (going nat_eq part x)) (sym (same_mount world names sealing.is.mounts mount.number it
-      ∙ itself)))
+      cc (
+        child_alike mount.number it,
+        used_alike (going nat_eq world mount)
+            (λ number at. going_own world names sealing.is.mounts no_events mount number m own at),
+        going_alike world names
+            sealing.is.mounts no_events mount m own,
+        same_mount world names sealing.is.mounts mount.number it,
+      )

@@ -18,7 +18,7 @@ use Rattle.vt_laws_members.proofs.judging.WalksLead.{HereAt, destination_agrees,
 asked_later : (first : Bool) (a b : Bool) (rest : Bool → Rules) (r : Judgement ℕ) → (first ≡ false → a ≡ b)
     → unless ((first, M2) ∷ rest a) r ≡ unless ((first, M2) ∷ rest b) r
 asked_later true a b rest r same = refl
-asked_later false a b rest r same = ap (λ c. unless (rest c) r) (same refl)
+asked_later false a b rest r same = cc (same refl)
 
 module _ {world : World ℕ} {names : List TaskName} {task : Task ℕ} (member : IsMember world names task)
     (fresh other : Fresh ℕ) where
@@ -61,9 +61,7 @@ module _ {world : World ℕ} {names : List TaskName} {task : Task ℕ} (member :
   theirs here on = theirs_from world names member.is.mounts here.mount on
 
   there : (here : Location ℕ) → On here.mount → Among (mount_numbered nat_eq world here.mount) world.mounts
-  there here on =
-      let at = theirs here on in
-      subst (λ m. Among m world.mounts) (sym (its_mount world names member.is.mounts here.mount at)) at.1
+  there here on = let at = theirs here on in rw (its_mount world names member.is.mounts here.mount at) at.1
 
   its : (here : Location ℕ) → is_elsewhere nat_eq one task here ≡ false
       → is_own world names (members world names) (mount_numbered nat_eq world here.mount) ≡ true

@@ -15,7 +15,7 @@ use Rattle.vt_laws_members.specs.Judging.{is_theirs}
 -- each step of a chain is so
 pub chain_each : {A : Type 0} (Q : A → Type 0) (next : A → Option A) → ((a b : A) → Q a → next a ≡ Some b → Q b)
     → (n : ℕ) (a : A) → Q a → Each Q (chain n next a)
-chain_each Q next on zero a q c m = ⊎_elim (λ e. subst Q (sym e) q) (λ none. absurd none) m
+chain_each Q next on zero a q c m = ⊎_elim (λ e. rw e q) (λ none. absurd none) m
 chain_each {A} Q next on (suc n) a q c m = by (next a) refl (λ b r d l. chain_each Q next on n b r d l)
   where
     by : (o : Option A) → next a ≡ o → ((b : A) → Q b → Each Q (chain n next b)) → Q c
@@ -67,11 +67,14 @@ module _ (world : World ℕ) (names : List TaskName) (is : MountInvariants nat_e
       where
         it : nat_eq number x.number ≡ true → kept x ≡ Some x
         it e =
-            let same : own.0 ≡ x =
-            sym (numbered world names is own.0 own.1) ∙ ap (mount_numbered nat_eq world)
-            (own.2 ∙ eqb-true number x.number e)
-            ∙ numbered world names is x (all x (inl refl)) in
-            subst (λ (m : Mount ℕ). kept m ≡ Some m) same (ground_whole own.0 own.3)
+            let same : own.0 ≡ x = cc (
+              numbered world names is own.0 own.1,
+              own.2,
+              eqb-true number x.number e,
+              numbered
+                  world names is x (all x (inl refl)),
+            ) in
+            cc (ground_whole own.0 own.3)
 
         skip : (o : Option (Mount ℕ)) → kept x ≡ o → nat_eq number x.number ≡ false
             → find (λ (m : Mount ℕ). nat_eq number m.number) (cons_option o (filter_map kept rest))
@@ -92,10 +95,10 @@ module _ (world : World ℕ) (names : List TaskName) (is : MountInvariants nat_e
     same_found = search world.mounts (λ x m. m)
 
     pub same_mount : mount_numbered nat_eq part number ≡ mount_numbered nat_eq world number
-    same_mount = ap (λ o. unwrap_or o (no_mount number)) same_found
+    same_mount = cc same_found
 
     pub its_mount : mount_numbered nat_eq world number ≡ own.0
-    its_mount = ap (mount_numbered nat_eq world) (sym own.2) ∙ numbered world names is own.0 own.1
+    its_mount = cc (own.2, numbered world names is own.0 own.1)
 
   pub stands_itself : (mount : Mount ℕ) → Among mount world.mounts → Stands nat_eq world mount.number
   stands_itself mount m =
@@ -109,14 +112,15 @@ module _ (world : World ℕ) (names : List TaskName) (is : MountInvariants nat_e
   pub child_theirs : (a : Location ℕ) (child : Mount ℕ) → IsTheirs a.mount → Among child world.mounts
       → child.mount_point ≡ Some a → is_own world names theirs child ≡ true
   child_theirs a child (mount, m, number, ground) there at =
-      let same : child.namespace ≡ mount.namespace =
-      sym (ap (λ (x : Mount ℕ). x.namespace) (numbered world names is child there))
-      ∙ namespace_below world child.number a (stands_itself child there)
-      (ap (λ (x : Mount ℕ). x.mount_point) (numbered world names is child there) ∙ at)
-      ∙ ap (λ n. (mount_numbered nat_eq world n).namespace) (sym number)
-      ∙ ap (λ (x : Mount ℕ). x.namespace) (numbered world names is mount m) in
-      ⊎_elim (λ own. own_by child mount same own)
-      (λ stood. absurd (nowhere_stands world names is child a there (same ∙ stood.0) at)) ground
+      let same : child.namespace ≡ mount.namespace = cc (
+        numbered world names is child there,
+        namespace_below world
+            child.number a (stands_itself child there) (ap (λ (x : Mount ℕ). x.mount_point)
+            (numbered world names is child there) ∙ at),
+        numbered world names is mount m,
+      ) in
+      ⊎_elim (λ own. own_by child mount same own) (λ stood. absurd (nowhere_stands world names is child a there
+      (same ∙ stood.0) at)) ground
 
   pub entered_theirs : (a b : Location ℕ) → IsTheirs a.mount
       → option_map root_of (child_at nat_eq world.mounts a) ≡ Some b → IsTheirs b.mount
@@ -130,7 +134,7 @@ module _ (world : World ℕ) (names : List TaskName) (is : MountInvariants nat_e
           let at = stands_there a child (found_passes (stands_at nat_eq a) world.mounts child f) in (
             child,
             m,
-            ap (λ (l : Location ℕ). l.mount) (same_Some (root_of child) b h),
+            cc (same_Some (root_of child) b h),
             inl (child_theirs a child own m at),
           )
 
@@ -138,20 +142,15 @@ module _ (world : World ℕ) (names : List TaskName) (is : MountInvariants nat_e
   pub parent_theirs : (number : ℕ) (point : Location ℕ) → IsTheirs number
       → (mount_numbered nat_eq world number).mount_point ≡ Some point → IsTheirs point.mount
   parent_theirs number point (mount, m, same, ground) e =
-      let it : mount_numbered nat_eq world number ≡ mount =
-      ap (mount_numbered nat_eq world) (sym same) ∙ numbered world names is mount m in
-      let below : mount.namespace ≡ (mount_numbered nat_eq world point.mount).namespace =
-      ap (λ (x : Mount ℕ). x.namespace) (sym it)
-      ∙ namespace_below world number point (subst (Stands nat_eq world) same (stands_itself mount m)) e in
-      ⊎_elim (λ own.
-      let there : is_own world names theirs (mount_numbered nat_eq world point.mount) ≡ true =
-      own_by (mount_numbered nat_eq world point.mount) mount (sym below) own in
-      ⊎_elim
+      let it : mount_numbered nat_eq world number ≡ mount = cc (numbered world names is mount m) in
+      let below : mount.namespace ≡ (mount_numbered nat_eq world point.mount).namespace = cc
+      (it, namespace_below world number point (subst (Stands nat_eq world) same (stands_itself mount m)) e) in
+      ⊎_elim (λ own. let there : is_own world names theirs (mount_numbered nat_eq world point.mount) ≡ true = own_by
+      (mount_numbered nat_eq world point.mount) mount (sym below) own in ⊎_elim
       (λ found. (mount_numbered nat_eq world point.mount, found, number-mount_in world.mounts point.mount, inl there))
       (λ none. absurd (true≢false (sym there ∙ ap (is_own world names theirs) none)))
-      (found_or_none world.mounts point.mount))
-      (λ stood. absurd (nowhere_stands world names is mount point m stood.0
-      (ap (λ (x : Mount ℕ). x.mount_point) (sym it) ∙ e))) ground
+      (found_or_none world.mounts point.mount)) (λ stood. absurd (nowhere_stands world names is mount point m stood.0
+      (cc it))) ground
 
   pub over_alike : (here : Location ℕ) → IsTheirs here.mount
       → mounts_over nat_eq part.mounts here ≡ mounts_over nat_eq world.mounts here
@@ -202,8 +201,7 @@ module _ (world : World ℕ) (names : List TaskName) (is : MountInvariants nat_e
         by None e rest = ends a e (alike a own ∙ e)
         by (Some b) e rest =
             let child = rank_child world is.one_number is.standing a.mount b (goes a b e) in
-            goes_on a b e (alike a own ∙ e)
-            (subst (λ x. Among x there) (ap suc own.2 ∙ sym (ap (λ o. key_by o a.mount) e))
+            goes_on a b e (alike a own ∙ e) (subst (λ x. Among x there) (cc own.2)
             (among-map (λ (mount : Mount ℕ). suc mount.number) part.mounts own.0
             (among-filter_map kept world.mounts own.0 own.0 own.1 (ground_whole own.0 own.3))))
             (rest b (up_theirs a b own e) (omega (arith, child, less)))

@@ -195,18 +195,15 @@ module _ {one other : Looks ℕ} {task : Task ℕ} {own uses : ℕ → Bool} (al
       (λ here on. open_file_same here.location access on)
   open_by path access (OrCreate mode) =
       judged_alike IsPlaced (file_walk nat_eq one task path) (file_walk nat_eq other task path)
-      (λ place. unless (file_word_rules place)
-      (opened_or_created_permit nat_eq one task place access mode place.object))
-      (λ place. unless (file_word_rules place)
-      (opened_or_created_permit nat_eq other task place access mode place.object))
-      (file_agrees alike.walks alike.directory alike.rules.removed path)
-      (λ place at. ap (unless (file_word_rules place)) (opened_by place at.0 access mode place.object at.1))
-  open_by path access (Exclusive mode) =
-      judged_alike IsPlaced (new_walk nat_eq one task path) (new_walk nat_eq other task path)
-      (λ place. unless (exclusive_word_rules place) (create_file_permit nat_eq one task place access mode))
-      (λ place. unless (exclusive_word_rules place) (create_file_permit nat_eq other task place access mode))
-      (new_agrees alike.walks alike.directory alike.rules.removed path)
-      (λ place at. ap (unless (exclusive_word_rules place)) (create_same place access mode at.0))
+      (λ place. unless (file_word_rules place) (opened_or_created_permit nat_eq one task place access mode
+      place.object)) (λ place. unless (file_word_rules place) (opened_or_created_permit nat_eq other task place access
+      mode place.object)) (file_agrees alike.walks alike.directory alike.rules.removed path)
+      (λ place at. cc (opened_by place at.0 access mode place.object at.1))
+  open_by path access (Exclusive mode) = judged_alike IsPlaced (new_walk nat_eq one task path)
+      (new_walk nat_eq other task path) (λ place. unless (exclusive_word_rules place)
+      (create_file_permit nat_eq one task place access mode)) (λ place. unless (exclusive_word_rules place)
+      (create_file_permit nat_eq other task place access mode)) (new_agrees alike.walks alike.directory
+      alike.rules.removed path) (λ place at. cc (create_same place access mode at.0))
 
   pub open_alike : (path : List ℕ) (access : Access) (creation : Creation)
       → open_permit nat_eq one task path access creation ≡ open_permit nat_eq other task path access creation

@@ -31,7 +31,7 @@ module _ {one other : Looks ℕ} {task : Task ℕ} {own : ℕ → Bool} (uses : 
   busy_by : (here : Location ℕ) → On here.mount → (b : Bool) → is_elsewhere nat_eq one task here ≡ b
       → unmount_by here (one.is_busy here.mount) one ≡ unmount_by here (other.is_busy here.mount) one
   busy_by here on true e = cc (e)
-  busy_by here on false e = ap (λ b. unmount_by here b one) (trees.busy here on e)
+  busy_by here on false e = cc (trees.busy here on e)
 
   pub umount_alike : (path : List ℕ) → umount_permit nat_eq one task path ≡ umount_permit nat_eq other task path
   unfolding umount_permit

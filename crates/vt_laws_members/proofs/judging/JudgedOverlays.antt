@@ -25,12 +25,12 @@ pair_same p q (x ∷ xs) same = cc (
 
 and_agree : {A B : Type 0} (Q : A → Type 0) (R : B → Type 0) (a b : Result A Deny) (f g : A → Result B Deny)
     → Agree Q a b → ((x : A) → Q x → Agree R (f x) (g x)) → Agree R (and_then a f) (and_then b g)
-and_agree Q R (Ok x) b f g (e, q) next = let n = next x q in (n.0 ∙ ap (λ r. and_then r g) e, n.1)
-and_agree Q R (Err deny) b f g (e, q) next = (ap (λ r. and_then r g) e, tt)
+and_agree Q R (Ok x) b f g (e, q) next = let n = next x q in (cc n.0, n.1)
+and_agree Q R (Err deny) b f g (e, q) next = (cc, tt)
 
 end_agrees : {A : Type 0} (Q : A → Type 0) (a b : Result A (Stop ℕ)) → Agree Q a b → Agree Q (walk_end a) (walk_end b)
-end_agrees Q (Ok x) b (e, q) = (ap walk_end e, q)
-end_agrees Q (Err stop) b (e, q) = (ap walk_end e, tt)
+end_agrees Q (Ok x) b (e, q) = (cc, q)
+end_agrees Q (Err stop) b (e, q) = (cc, tt)
 
 -- what a mount of an overlay asks of layers in these filesystems
 pub record LayersAlike (one other : Looks ℕ) (uses : ℕ → Bool) : Type 0 where
@@ -64,16 +64,13 @@ module _ {one other : Looks ℕ} (task : Task ℕ) (own : ℕ → Bool) {uses : 
   each_agrees : (paths : List (List ℕ))
       → Agree (λ list. Each At list) (each_walked nat_eq one task paths) (each_walked nat_eq other task paths)
   each_agrees [] = (refl, λ l m. absurd m)
-  each_agrees (path ∷ paths) =
-      and_agree StandsThere (λ list. Each At list) (walk_end (source_walk nat_eq one task path))
-      (walk_end (source_walk nat_eq other task path))
+  each_agrees (path ∷ paths) = and_agree StandsThere (λ list. Each At list) (walk_end
+      (source_walk nat_eq one task path)) (walk_end (source_walk nat_eq other task path))
       (λ here. and_then (each_walked nat_eq one task paths) (λ rest. Ok (here.location ∷ rest)))
-      (λ here. and_then (each_walked nat_eq other task paths) (λ rest. Ok (here.location ∷ rest)))
-      (walked_one path) (λ here on.
-      and_agree (λ list. Each At list) (λ list. Each At list) (each_walked nat_eq one task paths)
+      (λ here. and_then (each_walked nat_eq other task paths) (λ rest. Ok (here.location ∷ rest))) (walked_one path)
+      (λ here on. and_agree (λ list. Each At list) (λ list. Each At list) (each_walked nat_eq one task paths)
       (each_walked nat_eq other task paths) (λ rest. Ok (here.location ∷ rest)) (λ rest. Ok (here.location ∷ rest))
-      (each_agrees paths)
-      (λ rest all. (refl, λ l m. ⊎_elim (λ first. subst At (sym first) on) (λ later. all l later) m)))
+      (each_agrees paths) (λ rest all. (refl, λ l m. ⊎_elim (λ first. rw first on) (λ later. all l later) m)))
 
   given_agrees : (path : Option (List ℕ))
       → Agree (λ o. Each At (option_to_list o)) (walked_if_given nat_eq one task path)
@@ -111,8 +108,7 @@ module _ {one other : Looks ℕ} (task : Task ℕ) (own : ℕ → Bool) {uses : 
   -- Rules of the layers
 
   same_layer : (here : Location ℕ) → At here → layer_at one here ≡ layer_at other here
-  same_layer here on = ap (λ (m : Mount ℕ). record { filesystem = m.filesystem; directory = here.node })
-      (alike.rules.mount here.mount on)
+  same_layer here on = cc (alike.rules.mount here.mount on)
 
   same_given : (o : Option (Location ℕ)) → Each At (option_to_list o)
       → option_map (layer_at one) o ≡ option_map (layer_at other) o
@@ -155,13 +151,12 @@ module _ {one other : Looks ℕ} (task : Task ℕ) (own : ℕ → Bool) {uses : 
     given_used : (o : Option (Location ℕ)) → Each At (option_to_list o)
         → Each IsUsed (option_to_list (option_map (layer_at one) o))
     given_used None at layer m = absurd m
-    given_used (Some l) at layer m =
-        ⊎_elim (λ same. subst IsUsed (sym same) (used_at l (at l (inl refl)))) (λ none. absurd none) m
+    given_used (Some l) at layer m = ⊎_elim (λ same. rw same (used_at l (at l (inl refl)))) (λ none. absurd none) m
 
     lower_used : Each IsUsed wanted.lowers
     lower_used layer m =
         let from = among-from_map (layer_at one) layers.lowers layer m in
-        subst IsUsed (sym from.2) (used_at from.0 (at_lower from.0 from.1))
+        rw from.2 (used_at from.0 (at_lower from.0 from.1))
 
     written_used : Each IsUsed (upper_and_work wanted)
     written_used layer m = ⊎_elim (given_used layers.upper at_upper layer) (given_used layers.work at_work layer)

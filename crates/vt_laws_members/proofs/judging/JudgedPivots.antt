@@ -34,7 +34,7 @@ module _ {one other : Looks ℕ} {task : Task ℕ} {own : ℕ → Bool} (uses : 
       → is_elsewhere nat_eq one task here ≡ b → flags_by flags here (one.is_written_through here.mount) one
       ≡ flags_by flags here (other.is_written_through here.mount) one
   by_namespace flags here on true e = cc (e)
-  by_namespace flags here on false e = ap (λ b. flags_by flags here b one) (parents.written here on e)
+  by_namespace flags here on false e = cc (parents.written here on e)
 
   pub remount_alike : (path : List ℕ) (flags : MountFlags)
       → remount_permit nat_eq one task path flags ≡ remount_permit nat_eq other task path flags
@@ -67,17 +67,15 @@ module _ {one other : Looks ℕ} {task : Task ℕ} {own : ℕ → Bool} (uses : 
       → pivot_of one new put one ≡ pivot_of other new put other
   pivot_same new put on_new on_put =
       let on_root : own task.root.mount ≡ true = alike.walks.root in
-      by_mask own uses one other alike.rules (pivot_of one new put)
-      (λ looks. rw (is_elsewhere, is_no_root, mount_at, on_root, on_new, on_put) refl)
-      ∙ ap (λ b. pivot_by new put b (lies_under_location nat_eq one new put) (has_shared_parent one new)
-      (has_shared_parent one task.root) other) (parents.descends task.root.mount new on_new)
-      ∙ ap (λ b. pivot_by new put (is_on_descendant nat_eq other task.root.mount new) b (has_shared_parent one new)
-      (has_shared_parent one task.root) other) (parents.below new put on_new on_put)
-      ∙ ap (λ b. pivot_by new put (is_on_descendant nat_eq other task.root.mount new)
-      (lies_under_location nat_eq other new put) b (has_shared_parent one task.root) other) (parents.parent new on_new)
-      ∙ ap (λ b. pivot_by new put (is_on_descendant nat_eq other task.root.mount new)
-      (lies_under_location nat_eq other new put) (has_shared_parent other new) b other)
-      (parents.parent task.root on_root)
+      cc (
+        by_mask own uses one other alike.rules (pivot_of one new put)
+            (λ looks. rw (is_elsewhere, is_no_root, mount_at, on_root, on_new, on_put) refl),
+        parents.descends task.root.mount
+            new on_new,
+        parents.below new put on_new on_put,
+        parents.parent new on_new,
+        parents.parent task.root on_root,
+      )
 
   pub pivot_alike : (new put : List ℕ) → pivot_permit nat_eq one task new put ≡ pivot_permit nat_eq other task new put
   unfolding pivot_permit

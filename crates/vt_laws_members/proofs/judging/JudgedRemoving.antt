@@ -121,18 +121,12 @@ module _ {one other : Looks ℕ} {task : Task ℕ} {own uses : ℕ → Bool} (al
         → rename_by from to old o (point_by one old o) stuck other
         ≡ rename_by from to old o (point_by other old o) stuck other
     by_lock o found stuck true e =
-        let lock : list_any other.is_locked (from.parent ∷ to.parent ∷ old ∷ option_to_list o) ≡ true =
-        any_from_among other.is_locked (from.parent ∷ to.parent ∷ old ∷ option_to_list o) old (inr (inr (inl refl)))
+        let lock : list_any other.is_locked (from.parent ∷ to.parent ∷ old ∷ option_to_list o) ≡ true = any_from_among
+        other.is_locked (from.parent ∷ to.parent ∷ old ∷ option_to_list o) old (inr (inr (inl refl)))
         (sym (alike.rules.locked old on_old) ∙ e) in
-        ap (λ l. unless (rename_front from to old o other ++ (l, L1) ∷ rename_rest from to old o
-        (point_by one old o) stuck other)
-        (Ok (ToRename from.parent (name_of from.last) to.parent (name_of to.last) old o))) lock
-        ∙ stops (rename_front from to old o other) (rename_rest from to old o (point_by one old o) stuck other)
+        cc (stops (rename_front from to old o other) (rename_rest from to old o (point_by one old o) stuck other)
         (rename_rest from to old o (point_by other old o) stuck other) L1
-        (Ok (ToRename from.parent (name_of from.last) to.parent (name_of to.last) old o))
-        ∙ ap (λ l. unless (rename_front from to old o other ++ (l, L1) ∷ rename_rest from to old o
-        (point_by other old o) stuck other)
-        (Ok (ToRename from.parent (name_of from.last) to.parent (name_of to.last) old o))) (sym lock)
+        (Ok (ToRename from.parent (name_of from.last) to.parent (name_of to.last) old o)))
     by_lock o found stuck false e = cc (renames.anywhere old on_old e, points o found)
 
     stuck_same : is_stuck one from old ≡ is_stuck other from old

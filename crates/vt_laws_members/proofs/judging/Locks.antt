@@ -76,10 +76,8 @@ module _ {world : World ℕ} {names : List TaskName} (sealing : IsSealed world n
       → is_among nat_eq merged.number (used_filesystems nat_eq world names) ≡ true → Among merged (overlays part)
   used_in_part merged m used =
       let from = among-from_filter is_overlay world.filesystems merged m in
-      among-filter is_overlay part.filesystems merged
-      (among-filter_map (part_of_filesystem nat_eq world names) world.filesystems merged merged from.0
-      (ap (λ b. cond b (Some merged) (when (list_any (λ layer. nat_eq merged.number layer.filesystem)
-      (own_lowers nat_eq world names)) (part_of_lower nat_eq world names merged))) used)) from.1
+      among-filter is_overlay part.filesystems merged (among-filter_map (part_of_filesystem nat_eq world names)
+      world.filesystems merged merged from.0 (cc)) from.1
 
   -- overlays with a layer in what they use alone are theirs
   pub alone_in_part : (number : ℕ) → used_alone nat_eq world names number ≡ true → (merged : Filesystem ℕ)
@@ -110,7 +108,7 @@ module _ {world : World ℕ} {names : List TaskName} (sealing : IsSealed world n
           → is_directory_node ((unwrap_or o (no_filesystem number)).files.tree.node directory) ≡ true
           → IsTree (unwrap_or o (no_filesystem number)).files.tree
           × ListsNumbers nat_eq (unwrap_or o (no_filesystem number)).files
-      by None e h = absurd (true≢false (sym h))
+      by None e h = cc
       by (Some x) e h =
           let m = found_among (λ (f : Filesystem ℕ). nat_eq number f.number) world.filesystems x e in (
             among_from_all (λ (f : Filesystem ℕ). IsTree f.files.tree) world.filesystems sealing.is.files.trees x m,
@@ -122,13 +120,13 @@ module _ {world : World ℕ} {names : List TaskName} (sealing : IsSealed world n
       → Among layer (of_overlay [] layers_of merged) → lies_in_layer nat_eq world number object layer ≡ true
       → is_some ((files_of number).tree.node object) ≡ true
   lies_there number object layer merged m at lies =
-      let both = and_parts (nat_eq number layer.filesystem)
-      (is_under nat_eq (files_of number) layer.directory object) lies in
-      let directory : is_directory_node ((files_of number).tree.node layer.directory) ≡ true =
-      subst (λ n. is_directory_node ((files_of n).tree.node layer.directory) ≡ true)
-      (sym (eqb-true number layer.filesystem both.0)) (layer_directory world names sealing.is merged
-      (among-from_filter is_overlay world.filesystems merged m).0 layer
-      at) in
+      let both = and_parts (nat_eq number layer.filesystem) (is_under nat_eq (files_of number) layer.directory object)
+      lies in
+      let directory : is_directory_node ((files_of number).tree.node layer.directory) ≡ true = cc (
+        eqb-true number layer.filesystem both.0,
+        layer_directory world names sealing.is merged
+            (among-from_filter is_overlay world.filesystems merged m).0 layer at,
+      ) in
       let tree = tree_there number layer.directory directory in
       let way = under_led (files_of number) tree.0 layer.directory object both.1 in
       led_is_there (record { tree = (files_of number).tree; directory = layer.directory }) tree.0 directory way.0 object

@@ -47,25 +47,26 @@ module _ (world : World ℕ) (names : List TaskName) (is : IsWorld nat_eq world)
 
         in_chosen : (object : ℕ) (way : List (List ℕ)) → led x.files.tree layer.directory way ≡ Some object
             → is_among nat_eq object (filter (lies_in_own_lower nat_eq world names x.number) x.files.numbers) ≡ true
-        in_chosen object way e =
-            is_among_numbers (filter (lies_in_own_lower nat_eq world names x.number) x.files.numbers) object
-            (among-filter (lies_in_own_lower nat_eq world names x.number) x.files.numbers object
-            (among_numbers x.files.numbers object (listed object
-            ∙ led_is_there (record { tree = x.files.tree; directory = layer.directory }) tree top way object e))
+        in_chosen object way e = is_among_numbers (filter (lies_in_own_lower nat_eq world names x.number)
+            x.files.numbers) object (among-filter (lies_in_own_lower nat_eq world names x.number) x.files.numbers object
+            (among_numbers x.files.numbers object (listed object ∙ led_is_there
+            (record { tree = x.files.tree; directory = layer.directory }) tree top way object e))
             (any_from_among (lies_in_layer nat_eq world x.number object) lowers layer low
-            (and_from (nat_eq x.number layer.filesystem)
-            (is_under nat_eq (filesystem_numbered nat_eq world x.number).files layer.directory object)
-            (eq-eqb x.number layer.filesystem (sym its))
-            (ap (λ (f : Filesystem ℕ). is_under nat_eq f.files layer.directory object) itself
-            ∙ led_under x.files tree layer.directory listed top object (way, e)))))
+            (and_from (nat_eq x.number layer.filesystem) (is_under nat_eq
+            (filesystem_numbered nat_eq world x.number).files layer.directory object)
+            (eq-eqb x.number layer.filesystem (sym its)) (cc (
+              itself,
+              led_under x.files tree layer.directory listed top
+                  object (way, e),
+            )))))
 
         same_node : (object : ℕ) (way : List (List ℕ)) → led x.files.tree layer.directory way ≡ Some object
             → cut.tree.node object ≡ x.files.tree.node object
-        same_node object way e = ap (λ b. cond b (x.files.tree.node object) None) (in_chosen object way e)
+        same_node object way e = cc (in_chosen object way e)
 
         leads : (path : List (List ℕ)) → led cut.tree layer.directory path ≡ led x.files.tree layer.directory path
-        leads path = led_where x.files.tree cut.tree path layer.directory (λ way inode e word.
-            ap (λ (n : Option (Node ℕ)). entry_named word (entries_in n)) (same_node inode way e))
+        leads path =
+            led_where x.files.tree cut.tree path layer.directory (λ way inode e word. cc (same_node inode way e))
 
         cut_view : (path : List (List ℕ))
             → view_at layer path (part_of_lower nat_eq world names x) ≡ view_at layer path x
@@ -75,8 +76,7 @@ module _ (world : World ℕ) (names : List TaskName) (is : IsWorld nat_eq world)
       shown = part_of_filesystem nat_eq world names
 
       shown_number : (x y : Filesystem ℕ) → shown x ≡ Some y → y.number ≡ x.number
-      shown_number x y e = ⊎_elim (λ same. ap (λ (f : Filesystem ℕ). f.number) (sym same.0))
-          (λ low. ap (λ (f : Filesystem ℕ). f.number) (sym low.0)) (shown_how world names x y e)
+      shown_number x y e = ⊎_elim (λ same. cc same.0) (λ low. cc low.0) (shown_how world names x y e)
 
       kept : (x : Filesystem ℕ) → Among x world.filesystems → layer.filesystem ≡ x.number → (path : List (List ℕ))
           → (y : Filesystem ℕ) × (shown x ≡ Some y) × (view_at layer path y ≡ view_at layer path x)
@@ -178,32 +178,26 @@ module _ (world : World ℕ) (names : List TaskName) (is : IsWorld nat_eq world)
       lower_low : (layer : Layer ℕ) → Among layer overlay.lowers → Among layer lowers
       lower_low layer m =
           among-flat_map (λ n. of_overlay [] (λ (o : Overlay ℕ). o.lowers) (filesystem_numbered nat_eq world n))
-          (used_directly nat_eq world names) number layer (theirs_directly world names is here own)
-          (subst (λ o. Among layer (overlay_or [] (λ (o : Overlay ℕ). o.lowers) o)) (sym e) m)
+          (used_directly nat_eq world names) number layer (theirs_directly world names is here own) (rw e m)
 
       lower_alike : (layer : Layer ℕ) → Among layer overlay.lowers → ViewsAlike layer
-      lower_alike layer m path = lower_view layer (lower_low layer m)
-          (layer_directory world names is merged (overlay_there number overlay e) layer
-          (subst (λ o. Among layer (overlay_or [] layers_of o)) (sym e)
-          (among-append_right (option_to_list overlay.upper ++ option_to_list overlay.work) overlay.lowers layer m)))
-          path
+      lower_alike layer m path = lower_view layer (lower_low layer m) (layer_directory world names is merged
+          (overlay_there number overlay e) layer (rw e (among-append_right
+          (option_to_list overlay.upper ++ option_to_list overlay.work) overlay.lowers layer m))) path
 
       pub upper_used : (layer : Layer ℕ) → Among layer (option_to_list overlay.upper)
           → is_among nat_eq layer.filesystem used ≡ true
-      upper_used layer m = is_among_numbers used layer.filesystem (among-each_once (used_directly nat_eq world names
-          ++ flat_map (λ n. change_layers (filesystem_numbered nat_eq world n)) (used_directly nat_eq world names))
-          layer.filesystem (among-append_right (used_directly nat_eq world names)
+      upper_used layer m = is_among_numbers used layer.filesystem (among-each_once
+          (used_directly nat_eq world names ++ flat_map (λ n. change_layers (filesystem_numbered nat_eq world n))
+          (used_directly nat_eq world names)) layer.filesystem (among-append_right (used_directly nat_eq world names)
           (flat_map (λ n. change_layers (filesystem_numbered nat_eq world n)) (used_directly nat_eq world names))
-          layer.filesystem
-          (among-flat_map (λ n. change_layers (filesystem_numbered nat_eq world n)) (used_directly nat_eq world names)
-          number layer.filesystem (theirs_directly world names is here own)
-          (subst (λ o. Among layer.filesystem (overlay_or [] (λ (v : Overlay ℕ). map (λ (l : Layer ℕ). l.filesystem)
-          (option_to_list v.upper ++ option_to_list v.work)) o)) (sym e)
-          (among-map (λ (l : Layer ℕ). l.filesystem) (option_to_list overlay.upper ++ option_to_list overlay.work) layer
-          (among-append_left (option_to_list overlay.upper) (option_to_list overlay.work) layer m))))))
+          layer.filesystem (among-flat_map (λ n. change_layers (filesystem_numbered nat_eq world n))
+          (used_directly nat_eq world names) number layer.filesystem (theirs_directly world names is here own)
+          (rw e (among-map (λ (l : Layer ℕ). l.filesystem) (option_to_list overlay.upper ++ option_to_list overlay.work)
+          layer (among-append_left (option_to_list overlay.upper) (option_to_list overlay.work) layer m))))))
 
       upper_alike : (layer : Layer ℕ) → Among layer (option_to_list overlay.upper) → ViewsAlike layer
-      upper_alike layer m path = ap (view_at layer path) (found world names layer.filesystem (upper_used layer m))
+      upper_alike layer m path = cc (found world names layer.filesystem (upper_used layer m))
 
       all_alike : (path : List (List ℕ))
           → has_lower_directory (map (open_layer nat_eq world) (option_to_list overlay.upper))

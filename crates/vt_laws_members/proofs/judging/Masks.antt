@@ -50,8 +50,8 @@ module _ (own uses : ℕ → Bool) where
     -- what is asked of these alone is the same in both
     pub by_mask : {R : Type 0} (asked : Looks ℕ → R) → ((looks : Looks ℕ) → asked (masked looks) ≡ asked looks)
         → asked one ≡ asked other
-    by_mask asked covered = sym (covered one) ∙ ap asked same_masked ∙ covered other
+    by_mask asked covered = cc (covered one, same_masked, covered other)
 
     pub by_both : {R : Type 0} (asked : Looks ℕ → R) → asked (masked one) ≡ asked one
         → asked (masked other) ≡ asked other → asked one ≡ asked other
-    by_both asked here there = sym here ∙ ap asked same_masked ∙ there
+    by_both asked here there = cc same_masked

@@ -27,13 +27,11 @@ module _ (world : World ℕ) (names : List TaskName) (is : IsWorld nat_eq world)
 
       by : (o : Option (Location ℕ)) → mount.mount_point ≡ o
           → holds_of (test part) mount.mount_point ≡ holds_of (test world) mount.mount_point
-      by None e = ap (holds_of (test part)) e ∙ sym (ap (holds_of (test world)) e)
+      by None e = cc
       by (Some point) e =
-          let below : IsTheirs world names is.mounts point.mount =
-          parent_theirs world names is.mounts mount.number point (mount, m, refl, inl own)
-          (ap (λ (x : Mount ℕ). x.mount_point) (numbered world names is.mounts mount m) ∙ e) in
-          ap (holds_of (test part)) e ∙ ap (λ (x : Mount ℕ). nat_eq point.node node && nat_eq x.filesystem filesystem)
-          (same_mount world names is.mounts point.mount below) ∙ sym (ap (holds_of (test world)) e)
+          let below : IsTheirs world names is.mounts point.mount = parent_theirs world names is.mounts mount.number
+          point (mount, m, refl, inl own) (cc (numbered world names is.mounts mount m)) in
+          cc (same_mount world names is.mounts point.mount below)
 
   abbrev pub stands_on_one : World ℕ → List (ℕ × ℕ) → Mount ℕ → Bool
   stands_on_one w points mount = list_any (λ (point : ℕ × ℕ). is_point nat_eq w point.0 point.1 mount) points
@@ -45,17 +43,15 @@ module _ (world : World ℕ) (names : List TaskName) (is : IsWorld nat_eq world)
 
   points_same : (here : Location ℕ) → OnTheirs world names is here
       → points_of nat_eq part here ≡ points_of nat_eq world here
-  points_same here own = ap (λ (f : Filesystem ℕ). (f.number, here.node)
-      ∷ of_overlay [] (λ (overlay : Overlay ℕ). upper_points world f overlay here.node) f)
-      (sym (filesystem_alike world names is here own))
+  points_same here own = cc (filesystem_alike world names is here own)
 
   -- where a root or working directory of theirs is, they get
   stood_theirs : (l : Location ℕ) → Among l (roots_and_directories theirs) → OnTheirs world names is l
   stood_theirs l m =
       let of = among-from_flat_map (λ (t : Task ℕ). t.root ∷ t.directory ∷ []) theirs l m in
-      ⊎_elim (λ root. subst (OnTheirs world names is) (sym root) (root_theirs world names is of.0 of.1))
-      (λ rest. ⊎_elim (λ directory. subst (OnTheirs world names is) (sym directory)
-      (directory_theirs world names is of.0 of.1)) (λ none. absurd none) rest) of.2
+      ⊎_elim (λ root. rw root (root_theirs world names is of.0 of.1))
+      (λ rest. ⊎_elim (λ directory. rw directory (directory_theirs world names is of.0 of.1)) (λ none. absurd none)
+      rest) of.2
 
   -- a mount of the part is theirs, or detached
   pub part_mount : (x y : Mount ℕ) → Among x world.mounts → keep world names theirs x ≡ Some y
@@ -66,26 +62,25 @@ module _ (world : World ℕ) (names : List TaskName) (is : IsWorld nat_eq world)
       whole h = same_Some x y (sym (kept_whole world names theirs x h) ∙ e)
 
       stub : (c : Bool) → when c (seen_by_descriptor x) ≡ Some y → y.namespace ≡ None
-      stub true h = ap (λ (z : Mount ℕ). z.namespace) (sym (same_Some (seen_by_descriptor x) y h))
+      stub true h = cc (same_Some (seen_by_descriptor x) y h)
       stub false h = none_is_some y h
 
       by : (a b : Bool) → owns x ≡ a → is_at nat_eq (roots_and_directories theirs) x ≡ b
           → (owns y ≡ true) ⊎ (y.namespace ≡ None)
-      by true b f g =
-          inl (ap owns (sym (whole (or_left (owns x) (is_at nat_eq (roots_and_directories theirs) x) f))) ∙ f)
+      by true b f g = inl (cc (whole (or_left (owns x) (is_at nat_eq (roots_and_directories theirs) x) f)))
       by false true f g =
           let same : x ≡ y = whole (or_right (owns x) (is_at nat_eq (roots_and_directories theirs) x) g) in
           let at = any_among (λ (l : Location ℕ). nat_eq l.mount x.number) (roots_and_directories theirs) g in
           let ground = stood_theirs at.0 at.1 in
-          let it : ground.0 ≡ x = sym (numbered world names is.mounts ground.0 ground.1)
-          ∙ ap (mount_numbered nat_eq world) (ground.2 ∙ eqb-true at.0.mount x.number at.2)
-          ∙ numbered world names is.mounts x m in
-          ⊎_elim (λ own. inl (ap owns (sym (it ∙ same)) ∙ own))
-          (λ stood. inr (ap (λ (z : Mount ℕ). z.namespace) (sym (it ∙ same)) ∙ stood.0)) ground.3
-      by false false f g = inr (stub (is_at nat_eq (locations theirs) x)
-          (sym (ap (λ a. cond (a || is_at nat_eq (roots_and_directories theirs) x) (Some x)
-          (when (is_at nat_eq (locations theirs) x) (seen_by_descriptor x))) f
-          ∙ ap (λ b. cond b (Some x) (when (is_at nat_eq (locations theirs) x) (seen_by_descriptor x))) g) ∙ e))
+          let it : ground.0 ≡ x = cc (
+            numbered world names is.mounts ground.0 ground.1,
+            ground.2,
+            eqb-true at.0.mount
+                x.number at.2,
+            numbered world names is.mounts x m,
+          ) in
+          ⊎_elim (λ own. inl (cc)) (λ stood. inr (cc stood.0)) ground.3
+      by false false f g = inr (stub (is_at nat_eq (locations theirs) x) (cc))
 
   -- Mounts that pass a test which no detached one passes, where those of the world are theirs
   pub found_alike : (test : Mount ℕ → Bool) → ((mount : Mount ℕ) → mount.namespace ≡ None → test mount ≡ false)
@@ -93,37 +88,32 @@ module _ (world : World ℕ) (names : List TaskName) (is : IsWorld nat_eq world)
       → ((mount : Mount ℕ) → Among mount world.mounts → stands_on_one world (points_of nat_eq world here) mount ≡ true
       → test mount ≡ true → owns mount ≡ true)
       → list_any test (mounts_on nat_eq world here) ≡ list_any test (mounts_on nat_eq part here)
-  found_alike test none here own theirs_all =
-      same_truth (list_any test (mounts_on nat_eq world here)) (list_any test (mounts_on nat_eq part here)) (λ h.
-      let at = any_among test (mounts_on nat_eq world here) h in
-      let from = among-from_filter (stands_on_one world (points_of nat_eq world here)) world.mounts at.0 at.1 in
-      let its : owns at.0 ≡ true = theirs_all at.0 from.0 from.1 at.2 in
-      any_from_among test (mounts_on nat_eq part here) at.0
+  found_alike test none here own theirs_all = same_truth (list_any test (mounts_on nat_eq world here))
+      (list_any test (mounts_on nat_eq part here)) (λ h. let at = any_among test (mounts_on nat_eq world here) h in let
+      from = among-from_filter (stands_on_one world (points_of nat_eq world here)) world.mounts at.0 at.1 in let its :
+      owns at.0 ≡ true = theirs_all at.0 from.0 from.1 at.2 in any_from_among test (mounts_on nat_eq part here) at.0
       (among-filter (stands_on_one part (points_of nat_eq part here)) part.mounts at.0
-      (among-filter_map (keep world names theirs) world.mounts at.0 at.0 from.0 (kept_whole world names theirs at.0
-      (or_left (owns at.0) (is_at nat_eq (roots_and_directories theirs) at.0) its)))
-      (ap (λ points. stands_on_one part points at.0) (points_same here own)
-      ∙ all_same at.0 from.0 its (points_of nat_eq world here) ∙ from.1)) at.2) (λ h.
-      let at = any_among test (mounts_on nat_eq part here) h in
-      let from = among-from_filter (stands_on_one part (points_of nat_eq part here)) part.mounts at.0 at.1 in
-      let kept = among-from_filter_map (keep world names theirs) world.mounts at.0 from.0 in
-      ⊎_elim (λ own. ⊎_elim (λ same. by at.0 at.2 from.1 (subst (λ x. Among x world.mounts) same kept.1) own)
-      (λ stub. absurd (true≢false (sym at.2 ∙ none at.0 (ap (λ (x : Mount ℕ). x.namespace) (sym stub.0)))))
-      (kept_how world names theirs kept.0 at.0 kept.2))
-      (λ detached. absurd (true≢false (sym at.2 ∙ none at.0 detached))) (part_mount kept.0 at.0 kept.1 kept.2))
+      (among-filter_map (keep world names theirs) world.mounts at.0 at.0 from.0
+      (kept_whole world names theirs at.0 (or_left (owns at.0) (is_at nat_eq (roots_and_directories theirs) at.0) its)))
+      (ap (λ points. stands_on_one part points at.0) (points_same here own) ∙ all_same at.0 from.0 its
+      (points_of nat_eq world here) ∙ from.1)) at.2) (λ h. let at = any_among test (mounts_on nat_eq part here) h in let
+      from = among-from_filter (stands_on_one part (points_of nat_eq part here)) part.mounts at.0 at.1 in let kept =
+      among-from_filter_map (keep world names theirs) world.mounts at.0 from.0 in ⊎_elim
+      (λ own. ⊎_elim (λ same. by at.0 at.2 from.1 (rw (← same) kept.1) own)
+      (λ stub. cc (at.2, none at.0 (ap (λ (x : Mount ℕ). x.namespace) (sym stub.0))))
+      (kept_how world names theirs kept.0 at.0 kept.2)) (λ detached. cc (at.2, none at.0 detached))
+      (part_mount kept.0 at.0 kept.1 kept.2))
     where
       by : (mount : Mount ℕ) → test mount ≡ true → stands_on_one part (points_of nat_eq part here) mount ≡ true
           → Among mount world.mounts → owns mount ≡ true → list_any test (mounts_on nat_eq world here) ≡ true
       by mount passes on m its = any_from_among test (mounts_on nat_eq world here) mount
           (among-filter (stands_on_one world (points_of nat_eq world here)) world.mounts mount m
-          (sym (all_same mount m its (points_of nat_eq world here))
-          ∙ sym (ap (λ points. stands_on_one part points mount) (points_same here own)) ∙ on)) passes
+          (cc (all_same mount m its (points_of nat_eq world here), points_same here own))) passes
 
   module _ (task : Task ℕ) (member : Among task theirs) where
     pub in_own : (mount : Mount ℕ) → holds_of (nat_eq task.namespace) mount.namespace ≡ true → owns mount ≡ true
     in_own mount h = grind (arith, common_steps, any_from_among)
 
     pub points_alike : PointsAlike (looks_of nat_eq world) (looks_of nat_eq part) task (is_theirs world names)
-    points_alike here e = found_alike (λ mount. holds_of (nat_eq task.namespace) mount.namespace)
-        (λ mount none. ap (holds_of (nat_eq task.namespace)) none) here
-        (theirs_from world names is.mounts here.mount e) (λ mount m on passes. in_own mount passes)
+    points_alike here e = found_alike (λ mount. holds_of (nat_eq task.namespace) mount.namespace) (λ mount none. cc)
+        here (theirs_from world names is.mounts here.mount e) (λ mount m on passes. in_own mount passes)

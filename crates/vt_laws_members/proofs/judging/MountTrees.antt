@@ -52,8 +52,7 @@ module _ (world : World ℕ) (names : List TaskName) (is : IsWorld nat_eq world)
   pub child_own : (number : ℕ) (child : Mount ℕ) → IsTheirs world names is.mounts number → Among child world.mounts
       → stands_on nat_eq number child ≡ true → owns child ≡ true
   child_own number child own m h =
-      let at = stands_where number child h in
-      child_theirs world names is.mounts at.0 child (subst (IsTheirs world names is.mounts) at.2 own) m at.1
+      let at = stands_where number child h in child_theirs world names is.mounts at.0 child (rw (← at.2) own) m at.1
 
   pub children_alike : (number : ℕ) → IsTheirs world names is.mounts number
       → children nat_eq part.mounts number ≡ children nat_eq world.mounts number
@@ -68,9 +67,7 @@ module _ (world : World ℕ) (names : List TaskName) (is : IsWorld nat_eq world)
   -- The part's mounts have numbers of their own, and stand
 
   kept_number : (x y : Mount ℕ) → kept x ≡ Some y → y.number ≡ x.number
-  kept_number x y e =
-      ⊎_elim (λ same. ap (λ (m : Mount ℕ). m.number) (sym same)) (λ stub. ap (λ (m : Mount ℕ). m.number) (sym stub.0))
-      (kept_how world names theirs x y e)
+  kept_number x y e = ⊎_elim (λ same. cc) (λ stub. cc stub.0) (kept_how world names theirs x y e)
 
   apart : (list : List (Mount ℕ)) → any_pair (λ (a b : Mount ℕ). nat_eq a.number b.number) list ≡ false
       → any_pair (λ (a b : Mount ℕ). nat_eq a.number b.number) (filter_map kept list) ≡ false
@@ -86,32 +83,33 @@ module _ (world : World ℕ) (names : List TaskName) (is : IsWorld nat_eq world)
       by None f none later = later
       by (Some y) f none later = or_from (list_any (λ (b : Mount ℕ). nat_eq y.number b.number) (filter_map kept rest))
           (any_pair (λ (a b : Mount ℕ). nat_eq a.number b.number) (filter_map kept rest))
-          (none_from_among (λ (b : Mount ℕ). nat_eq y.number b.number) (filter_map kept rest) (λ z m.
-          let from = among-from_filter_map kept rest z m in
-          ap (λ n. nat_eq n z.number) (kept_number x y f) ∙ ap (nat_eq x.number) (kept_number from.0 z from.2)
-          ∙ none_among (λ (b : Mount ℕ). nat_eq x.number b.number) rest none from.0 from.1)) later
+          (none_from_among (λ (b : Mount ℕ). nat_eq y.number b.number) (filter_map kept rest)
+          (λ z m. let from = among-from_filter_map kept rest z m in cc (
+            kept_number x y f,
+            kept_number from.0 z from.2,
+            none_among (λ (b : Mount ℕ). nat_eq x.number b.number) rest none from.0 from.1,
+          ))) later
 
   pub part_one_number : OneNumberEach part
   part_one_number = apart world.mounts is.mounts.one_number
 
   stands_too : (number : ℕ) → IsTheirs world names is.mounts number → Stands nat_eq world number
       → Stands nat_eq part number
-  stands_too number own (at_root it e) =
-      at_root it (ap (λ (m : Mount ℕ). m.mount_point) (same_mount world names is.mounts it own) ∙ e)
+  stands_too number own (at_root it e) = at_root it (cc (same_mount world names is.mounts it own))
   stands_too number own (on_parent it point e f below) =
       let under = parent_theirs world names is.mounts it point own e in
-      on_parent it point (ap (λ (m : Mount ℕ). m.mount_point) (same_mount world names is.mounts it own) ∙ e)
-      (ap (λ (m : Mount ℕ). m.namespace) (same_mount world names is.mounts it own) ∙ f
-      ∙ ap (λ (m : Mount ℕ). m.namespace) (sym (same_mount world names is.mounts point.mount under)))
+      on_parent it point (cc (same_mount world names is.mounts it own))
+      (cc (same_mount world names is.mounts it own, same_mount world names is.mounts point.mount under))
       (stands_too point.mount under below)
 
   pub part_stands : AllStand part
-  part_stands = all_from_among (λ (mount : Mount ℕ). Stands nat_eq part mount.number) part.mounts (λ y m.
-      let from = among-from_filter_map kept world.mounts y m in
-      ⊎_elim (λ own. by from.0 y from.1 from.2 own)
-      (λ none. at_root y.number (ap (λ (x : Mount ℕ). x.mount_point) (found_itself part.mounts part_one_number y m)
-      ∙ nowhere y from.0 y.mount_point refl from.1 none (kept_how world names theirs from.0 y from.2)))
-      (part_mount world names is from.0 y from.1 from.2))
+  part_stands = all_from_among (λ (mount : Mount ℕ). Stands nat_eq part mount.number) part.mounts
+      (λ y m. let from = among-from_filter_map kept world.mounts y m in ⊎_elim (λ own. by from.0 y from.1 from.2 own)
+      (λ none. at_root y.number (cc (
+        found_itself part.mounts part_one_number y m,
+        nowhere y from.0 y.mount_point refl
+            from.1 none (kept_how world names theirs from.0 y from.2),
+      ))) (part_mount world names is from.0 y from.1 from.2))
     where
       nowhere : (y x : Mount ℕ) (o : Option (Location ℕ)) → y.mount_point ≡ o → Among x world.mounts
           → y.namespace ≡ None → (x ≡ y) ⊎ ((seen_by_descriptor x ≡ y) × (owns x ≡ false)
@@ -119,8 +117,7 @@ module _ (world : World ℕ) (names : List TaskName) (is : IsWorld nat_eq world)
           → y.mount_point ≡ None
       nowhere y x None e m none how = e
       nowhere y x (Some point) e m none how = ⊎_elim (λ same. absurd (nowhere_stands world names is.mounts y point
-          (subst (λ z. Among z world.mounts) same m) none e))
-          (λ stub. absurd (none_is_some point (ap (λ (z : Mount ℕ). z.mount_point) stub.0 ∙ e))) how
+          (rw (← same) m) none e)) (λ stub. absurd (none_is_some point (cc stub.0))) how
 
       by : (x y : Mount ℕ) → Among x world.mounts → kept x ≡ Some y → owns y ≡ true → Stands nat_eq part y.number
       by x y m e own = ⊎_elim (λ same.
@@ -146,8 +143,7 @@ module _ (world : World ℕ) (names : List TaskName) (is : IsWorld nat_eq world)
           → children nat_eq world.mounts mount.number ≡ []
       by [] e = e
       by (child ∷ rest) e =
-          let below = child_deeper world is.mounts.one_number is.mounts.standing mount child
-          (subst (Among child) (sym e) (inl refl)) in
+          let below = child_deeper world is.mounts.one_number is.mounts.standing mount child (rw e (inl refl)) in
           let bound = rank_bounded world is.mounts.one_number is.mounts.standing child.number in
           absurd (omega (arith, below, bound, less))
 
@@ -159,8 +155,7 @@ module _ (world : World ℕ) (names : List TaskName) (is : IsWorld nat_eq world)
           → children nat_eq part.mounts mount.number ≡ []
       by [] e = e
       by (child ∷ rest) e =
-          let below = child_deeper part part_one_number part_stands mount child
-          (subst (Among child) (sym e) (inl refl)) in
+          let below = child_deeper part part_one_number part_stands mount child (rw e (inl refl)) in
           let bound = rank_bounded part part_one_number part_stands child.number in
           absurd (omega (arith, below, bound, less))
 
@@ -171,15 +166,15 @@ module _ (world : World ℕ) (names : List TaskName) (is : IsWorld nat_eq world)
   trees_alike zero (suc k) mount own l m = cc (children_alike mount.number own, none_below mount (omega (arith, l)))
   trees_alike (suc n) zero mount own l m =
       cc (none_below_in_part mount (omega (arith, m)), children_alike mount.number own)
-  trees_alike (suc n) (suc k) mount own l m =
-      ap (λ list. mount ∷ flat_map (tree_from nat_eq k part.mounts) list) (children_alike mount.number own)
-      ∙ ap (λ list. mount ∷ list) (flat_map_alike (tree_from nat_eq k part.mounts) (tree_from nat_eq n world.mounts)
-      (children nat_eq world.mounts mount.number) (λ child at.
-      let it = children_own mount.number child own at in
-      let below = child_deeper world is.mounts.one_number is.mounts.standing mount child at in
-      let below_in_part = child_deeper part part_one_number part_stands mount child
-      (subst (Among child) (sym (children_alike mount.number own)) at) in
-      trees_alike n k child (own_theirs child it.0 it.1) (omega (arith, l, below)) (omega (arith, m, below_in_part))))
+  trees_alike (suc n) (suc k) mount own l m = cc (
+    children_alike mount.number own,
+    flat_map_alike (tree_from nat_eq k part.mounts) (tree_from nat_eq n world.mounts)
+        (children nat_eq world.mounts mount.number) (λ child at. let it = children_own mount.number child own at in let
+        below = child_deeper world is.mounts.one_number is.mounts.standing mount child at in let below_in_part =
+        child_deeper part part_one_number part_stands mount child (subst (Among child)
+        (sym (children_alike mount.number own)) at) in trees_alike n k child (own_theirs child it.0 it.1)
+        (omega (arith, l, below)) (omega (arith, m, below_in_part))),
+  )
 
   pub tree_alike : (mount : Mount ℕ) → IsTheirs world names is.mounts mount.number
       → mount_tree nat_eq part.mounts mount ≡ mount_tree nat_eq world.mounts mount
@@ -188,8 +183,7 @@ module _ (world : World ℕ) (names : List TaskName) (is : IsWorld nat_eq world)
   -- what a bind copies below a mount
   bindable_alike : (number : ℕ) → IsTheirs world names is.mounts number
       → bindable_children nat_eq part.mounts number ≡ bindable_children nat_eq world.mounts number
-  bindable_alike number own =
-      ap (filter (λ (mount : Mount ℕ). not (is_unbindable mount.propagation))) (children_alike number own)
+  bindable_alike number own = cc (children_alike number own)
 
   bindables_alike : (n k : ℕ) (mount : Mount ℕ) → IsTheirs world names is.mounts mount.number
       → length world.mounts ≤ n + deep mount.number → length part.mounts ≤ k + deep_in_part mount.number
@@ -225,20 +219,16 @@ module _ (world : World ℕ) (names : List TaskName) (is : IsWorld nat_eq world)
 
   pub bind_alike : (source : Location ℕ) (recursive : Bool) → IsTheirs world names is.mounts source.mount
       → bind_tree nat_eq part source recursive ≡ bind_tree nat_eq world source recursive
-  bind_alike source false own = ap (λ (mount : Mount ℕ). record mount { root = source.node } ∷ [])
-      (same_mount world names is.mounts source.mount own)
-  bind_alike source true own = ap (λ (mount : Mount ℕ). record mount { root = source.node }
-      ∷ flat_map (bindable_tree nat_eq (length part.mounts) part.mounts)
-      (filter (stands_under nat_eq part source) (bindable_children nat_eq part.mounts source.mount)))
-      (same_mount world names is.mounts source.mount own)
-      ∙ ap (λ list. bound nat_eq world source ∷ flat_map (bindable_tree nat_eq (length part.mounts) part.mounts) list)
-      (under_alike source own) ∙ ap (λ list. bound nat_eq world source ∷ list)
-      (flat_map_alike (bindable_tree nat_eq (length part.mounts) part.mounts)
-      (bindable_tree nat_eq (length world.mounts) world.mounts)
-      (filter (stands_under nat_eq world source) (bindable_children nat_eq world.mounts source.mount)) (λ child chosen.
-      let at = (among-from_filter (λ (x : Mount ℕ). not (is_unbindable x.propagation))
-      (children nat_eq world.mounts source.mount) child (among-from_filter (stands_under nat_eq world source)
-      (bindable_children nat_eq world.mounts source.mount) child chosen).0).0 in
-      let it = children_own source.mount child own at in
-      bindables_alike (length world.mounts) (length part.mounts) child (own_theirs child it.0 it.1)
-      (omega arith) (omega arith)))
+  bind_alike source false own = cc (same_mount world names is.mounts source.mount own)
+  bind_alike source true own = cc (
+    same_mount world names is.mounts source.mount own,
+    under_alike source own,
+    flat_map_alike (bindable_tree nat_eq (length part.mounts) part.mounts)
+        (bindable_tree nat_eq (length world.mounts) world.mounts) (filter (stands_under nat_eq world source)
+        (bindable_children nat_eq world.mounts source.mount)) (λ child chosen. let at =
+        (among-from_filter (λ (x : Mount ℕ). not (is_unbindable x.propagation))
+        (children nat_eq world.mounts source.mount) child (among-from_filter (stands_under nat_eq world source)
+        (bindable_children nat_eq world.mounts source.mount) child chosen).0).0 in let it = children_own source.mount
+        child own at in bindables_alike (length world.mounts) (length part.mounts) child (own_theirs child it.0 it.1)
+        (omega arith) (omega arith)),
+  )

@@ -89,10 +89,11 @@ module _ {world : World ℕ} {names : List TaskName} (sealing : IsSealed world n
 
     reached_alike : (mount : Mount ℕ) → Among mount world.mounts → owns mount ≡ true
         → filesystem_numbered nat_eq part mount.filesystem ≡ filesystem_numbered nat_eq world mount.filesystem
-    reached_alike mount m its = found world names mount.filesystem
-        (ap (λ (x : Mount ℕ). is_among nat_eq x.filesystem (used_filesystems nat_eq world names))
-        (sym (numbered world names sealing.is.mounts mount m)) ∙ theirs_used world names sealing.is
-        (record { mount = mount.number; node = mount.root }) (own_theirs world names sealing.is mount m its))
+    reached_alike mount m its = found world names mount.filesystem (cc (
+      numbered world names sealing.is.mounts mount m,
+      theirs_used world names sealing.is (record { mount = mount.number; node = mount.root })
+          (own_theirs world names sealing.is mount m its),
+    ))
 
     abbrev takes : World ℕ → Location ℕ → Mount ℕ → Mount ℕ → Bool
     takes w at to mount =
@@ -113,9 +114,9 @@ module _ {world : World ℕ} {names : List TaskName} (sealing : IsSealed world n
 
     parts_own : (mount : Mount ℕ) → Among mount (parts_of nat_eq world place)
         → Among mount world.mounts × (owns mount ≡ true)
-    parts_own mount m = ⊎_elim (λ same. (subst (λ x. Among x world.mounts) (sym same) there, ap owns same ∙ own))
-        (λ receiver. receivers_own world names sealing.is.mounts (no_events sealing) destination mount there own
-        (among-from_filter (takes_part nat_eq world place) (receivers_of nat_eq world destination) mount receiver).0) m
+    parts_own mount m = ⊎_elim (λ same. (rw same there, cc)) (λ receiver. receivers_own world names sealing.is.mounts
+        (no_events sealing) destination mount there own (among-from_filter (takes_part nat_eq world place)
+        (receivers_of nat_eq world destination) mount receiver).0) m
 
     none_outside : (namespace : ℕ) → own_one namespace ≡ false → count_in (parts_of nat_eq world place) namespace ≡ 0
     none_outside namespace other = none_counted (parts_of nat_eq world place) namespace (λ mount m.
@@ -152,27 +153,21 @@ module _ {world : World ℕ} {names : List TaskName} (sealing : IsSealed world n
         → has_too_many nat_eq (attach nat_eq base supply place false mounts)
         ≡ has_too_many nat_eq (attach nat_eq other supply_too place false mounts_too)
     copies_alike base other same listed same_too listed_too parts parts_too supply supply_too mounts mounts_too long =
-        too_many_alike (attach nat_eq base supply place false mounts)
-        (attach nat_eq other supply_too place false mounts_too) listed listed_too (λ namespace its.
-        added_counted base place (copies_from nat_eq supply (parts_of nat_eq base place) mounts) mounts namespace
-        ∙ ap (λ list. count_in list namespace + count_in (parts_of nat_eq base place) namespace * length mounts) same
-        ∙ ap (λ list. count_in world.mounts namespace + count_in list namespace * length mounts)
-        (parts ∙ sym parts_alike ∙ sym parts_too)
-        ∙ ap (λ n. n + count_in (parts_of nat_eq other place) namespace * length mounts)
-        (sym (count_alike namespace its))
-        ∙ ap (λ n. count_in part.mounts namespace + count_in (parts_of nat_eq other place) namespace * n) long
-        ∙ ap (λ list. count_in list namespace + count_in (parts_of nat_eq other place) namespace * length mounts_too)
-        (sym same_too)
-        ∙ sym (added_counted other place (copies_from nat_eq supply_too (parts_of nat_eq other place) mounts_too)
-        mounts_too namespace)) (λ namespace outside.
-        let all = added_counted base place (copies_from nat_eq supply (parts_of nat_eq base place) mounts) mounts
-        namespace in
-        let none : count_in (parts_of nat_eq base place) namespace * length mounts ≡ 0 =
-        ap (λ list. count_in list namespace * length mounts) parts
-        ∙ ap (λ n. n * length mounts) (none_outside namespace outside) ∙ no_rows (length mounts) in
-        let before : count_in base.mounts namespace ≡ count_in world.mounts namespace =
-        ap (λ list. count_in list namespace) same in
-        omega (arith, all, none, before))
+        too_many_alike (attach nat_eq base supply place false mounts) (attach nat_eq other supply_too place false
+        mounts_too) listed listed_too (λ namespace its. cc (
+          added_counted base place
+              (copies_from nat_eq supply (parts_of nat_eq base place) mounts) mounts namespace,
+          parts_alike,
+          count_alike
+              namespace its,
+          added_counted other place (copies_from nat_eq supply_too (parts_of nat_eq other place)
+              mounts_too) mounts_too namespace,
+        )) (λ namespace outside. let all = added_counted base place
+        (copies_from nat_eq supply (parts_of nat_eq base place) mounts) mounts namespace in let none : count_in
+        (parts_of nat_eq base place) namespace * length mounts ≡ 0 = ap (λ list. count_in list namespace * length
+        mounts) parts ∙ ap (λ n. n * length mounts) (none_outside namespace outside) ∙ no_rows (length mounts) in let
+        before : count_in base.mounts namespace ≡ count_in world.mounts namespace = ap (λ list. count_in list namespace)
+        same in omega (arith, all, none, before))
 
     pub plain_overfills : (fresh other : Fresh ℕ) (task : Task ℕ) (flags : MountFlags)
         → overfills nat_eq fresh world task (ToMountPlain place flags)
@@ -207,8 +202,7 @@ module _ {world : World ℕ} {names : List TaskName} (sealing : IsSealed world n
         ≡ overfills nat_eq other part task (ToBind source place recursive)
     bind_overfills fresh other task source recursive from =
         copies_alike world part refl refl refl refl refl refl fresh other (bind_tree nat_eq world source recursive)
-        (bind_tree nat_eq part source recursive) (ap length (sym (bind_alike world names sealing.is source recursive
-        from)))
+        (bind_tree nat_eq part source recursive) (cc (bind_alike world names sealing.is source recursive from))
 
     -- a tree of theirs that moves
     module _ (number : ℕ) (source : Among (mount_numbered nat_eq world number) world.mounts)
@@ -232,15 +226,14 @@ module _ {world : World ℕ} {names : List TaskName} (sealing : IsSealed world n
           (own_theirs world names sealing.is (mount_numbered nat_eq world number) source its)
 
       source_in_part : Among (mount_numbered nat_eq part number) part.mounts
-      source_in_part = subst (λ x. Among x part.mounts) (sym same_source)
-          (among-filter_map (keep world names theirs) world.mounts (mount_numbered nat_eq world number)
-          (mount_numbered nat_eq world number) source (own_whole world names sealing.is
-          (mount_numbered nat_eq world number) its))
+      source_in_part = rw same_source (among-filter_map (keep world names theirs) world.mounts
+          (mount_numbered nat_eq world number) (mount_numbered nat_eq world number) source
+          (own_whole world names sealing.is (mount_numbered nat_eq world number) its))
 
       within : (w : World ℕ) → Among (mount_numbered nat_eq w number) w.mounts → (one : Mount ℕ)
           → Among one (mount_tree nat_eq w.mounts (mount_numbered nat_eq w number)) → Among one w.mounts
-      within w there one m = ⊎_elim (λ same. subst (λ x. Among x w.mounts) (sym same) there) (λ other. other)
-          (tree_among (length w.mounts) w.mounts (mount_numbered nat_eq w number) one m)
+      within w there one m = ⊎_elim (λ same. rw same there) (λ other. other) (tree_among (length w.mounts) w.mounts
+          (mount_numbered nat_eq w number) one m)
 
       moved_count : (new : Copies ℕ) (namespace : ℕ)
           → count_in (attached_by nat_eq world new place true tree).mounts namespace + count_in tree namespace

@@ -36,24 +36,19 @@ module _ {world : World ℕ} {names : List TaskName} (sealing : IsSealed world n
   none_written : Whole → (merged : Filesystem ℕ) → Among merged (overlays world) → (overlay : Overlay ℕ)
       → merged.overlay ≡ Some overlay → (layer : Layer ℕ) → Among layer (upper_and_work overlay)
       → number ≡ layer.filesystem → ⊥
-  none_written whole merged m overlay e layer its inside = not_whole sealing merged
-      (among-from_filter is_overlay world.filesystems merged m).0 e layer
-      its (subst (λ n. wholly_locked nat_eq world names n ≡ true) inside whole)
+  none_written whole merged m overlay e layer its inside = not_whole sealing merged (among-from_filter is_overlay
+      world.filesystems merged m).0 e layer its (rw (← inside) whole)
 
   pub under_alike : (object : ℕ) (layer : Layer ℕ)
       → lies_or_counts_under nat_eq world number object layer ≡ lies_or_counts_under nat_eq part number object layer
   under_alike object layer = same_truth (lies_or_counts_under nat_eq world number object layer)
-      (lies_or_counts_under nat_eq part number object layer) (λ h. how (λ alone.
-      (under_at world part number same (alone_in_part sealing number alone) object layer h).0)
-      (λ whole. ⊎_elim (λ lies. or_left (lies_in_layer nat_eq part number object layer) _
-      (ap (λ (f : Filesystem ℕ). nat_eq number layer.filesystem && is_under nat_eq f.files layer.directory object) same
-      ∙ lies)) (λ counts.
-      let at = any_among (counts_in_layer nat_eq world number object layer) (overlays world) counts in
-      let c = counts_how world number object layer at.0 at.2 in
-      absurd (none_written whole at.0 at.1 c.overlay c.is c.upper
-      (among-append_left (option_to_list c.overlay.upper) (option_to_list c.overlay.work) c.upper
-      (subst (λ o. Among c.upper (option_to_list o)) (sym c.has) (inl refl))) c.inside))
-      (or_cases (lies_in_layer nat_eq world number object layer)
+      (lies_or_counts_under nat_eq part number object layer) (λ h. how
+      (λ alone. (under_at world part number same (alone_in_part sealing number alone) object layer h).0)
+      (λ whole. ⊎_elim (λ lies. or_left (lies_in_layer nat_eq part number object layer) _ (cc same))
+      (λ counts. let at = any_among (counts_in_layer nat_eq world number object layer) (overlays world) counts in let c
+      = counts_how world number object layer at.0 at.2 in absurd (none_written whole at.0 at.1 c.overlay c.is c.upper
+      (among-append_left (option_to_list c.overlay.upper) (option_to_list c.overlay.work) c.upper (rw c.has (inl refl)))
+      c.inside)) (or_cases (lies_in_layer nat_eq world number object layer)
       (list_any (counts_in_layer nat_eq world number object layer) (overlays world)) h)))
       (λ h. (under_at part world number (sym same) (λ merged m has. part_in_world sealing merged m) object layer h).0)
 

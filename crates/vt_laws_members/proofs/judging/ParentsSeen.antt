@@ -28,21 +28,17 @@ module _ {world : World ℕ} {names : List TaskName} {task : Task ℕ} (member :
   -- the mount below
   parent_alike : (here : Location ℕ) → OnTheirs world names member.is here
       → has_shared_parent one here ≡ has_shared_parent other here
-  parent_alike here own = by (mount_at nat_eq world here).mount_point refl
-      ∙ ap (λ (m : Mount ℕ). holds_of (λ point. is_shared (mount_at nat_eq part point).propagation) m.mount_point)
-      (mount_alike world names member.is here own)
+  parent_alike here own =
+      cc (by (mount_at nat_eq world here).mount_point refl, mount_alike world names member.is here own)
     where
       by : (o : Option (Location ℕ)) → (mount_at nat_eq world here).mount_point ≡ o
           → holds_of (λ point. is_shared (mount_at nat_eq world point).propagation)
           (mount_at nat_eq world here).mount_point
           ≡ holds_of (λ point. is_shared (mount_at nat_eq part point).propagation)
           (mount_at nat_eq world here).mount_point
-      by None e = ap (holds_of (λ point. is_shared (mount_at nat_eq world point).propagation)) e
-          ∙ sym (ap (holds_of (λ point. is_shared (mount_at nat_eq part point).propagation)) e)
-      by (Some point) e = ap (holds_of (λ point. is_shared (mount_at nat_eq world point).propagation)) e
-          ∙ ap (λ (m : Mount ℕ). is_shared m.propagation) (mount_alike world names member.is point
-          (parent_theirs world names member.is.mounts here.mount point own e)) ∙ sym
-          (ap (holds_of (λ point. is_shared (mount_at nat_eq part point).propagation)) e)
+      by None e = cc
+      by (Some point) e = cc (mount_alike world names member.is point (parent_theirs world names member.is.mounts
+          here.mount point own e))
 
   -- all mounts below
   abbrev down : World ℕ → Location ℕ → List (Location ℕ)
@@ -92,13 +88,12 @@ module _ {world : World ℕ} {names : List TaskName} {task : Task ℕ} (member :
     where
       by : (b : Bool) → not b ≡ false → b ≡ true
       by true h = refl
-      by false h = absurd (true≢false h)
+      by false h = cc
 
   pub parents_alike : ParentsAlike one other task (is_theirs world names)
   parents_alike = record {
     written = λ here own e. written_alike here e;
     parent = λ here own. parent_alike here (on here own);
     below = λ top here own there. below_alike top here (on top own) (on here there);
-    descends = λ mount here own. ap (λ l. list_any (λ (location : Location ℕ). nat_eq mount location.mount) (rest_of l))
-        (down_alike here (on here own));
+    descends = λ mount here own. cc (down_alike here (on here own));
   }

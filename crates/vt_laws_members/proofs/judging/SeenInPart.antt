@@ -53,8 +53,7 @@ module _ (world : World ℕ) (names : List TaskName) (is : IsWorld nat_eq world)
 
   pub theirs_directly : (here : Location ℕ) → OnTheirs here
       → Among (mount_at nat_eq world here).filesystem (used_directly nat_eq world names)
-  theirs_directly here own = subst (λ (x : Mount ℕ). Among x.filesystem (used_directly nat_eq world names))
-      (sym (its_mount world names is.mounts here.mount own)) (ground_directly own.0 own.1 own.3)
+  theirs_directly here own = rw (its_mount world names is.mounts here.mount own) (ground_directly own.0 own.1 own.3)
 
   pub theirs_used : (here : Location ℕ) → OnTheirs here → uses (mount_at nat_eq world here).filesystem ≡ true
   theirs_used here own =
@@ -71,8 +70,7 @@ module _ (world : World ℕ) (names : List TaskName) (is : IsWorld nat_eq world)
   pub under_alike : (number : ℕ) → uses number ≡ true → (top directory : ℕ)
       → is_directory_under nat_eq (filesystem_numbered nat_eq world number).files top directory
       ≡ is_directory_under nat_eq (filesystem_numbered nat_eq part number).files top directory
-  under_alike number used top directory =
-      ap (λ (f : Filesystem ℕ). is_directory_under nat_eq f.files top directory) (sym (found world names number used))
+  under_alike number used top directory = cc (found world names number used)
 
   lost_alike : (here : Location ℕ) → OnTheirs here
       → Rattle.vt_spec.specs.Machine.Walking.is_lost nat_eq (looks_of nat_eq world) here
@@ -156,11 +154,9 @@ members_see_alike world names task is member =
     let among = among_from_contains (members world names) task member in
     record {
       root = theirs_test world names is.mounts task.root.mount (root_theirs world names is task among);
-      node = λ here e. ap (λ (f : Filesystem ℕ). f.files.tree.node here.node)
-          (filesystem_alike world names is here (on_from world names is here e));
+      node = λ here e. cc (filesystem_alike world names is here (on_from world names is here e));
       mount = λ here e. mount_alike world names is here (on_from world names is here e);
-      overlay = λ here e. ap (λ (f : Filesystem ℕ). f.overlay)
-          (filesystem_alike world names is here (on_from world names is here e));
+      overlay = λ here e. cc (filesystem_alike world names is here (on_from world names is here e));
       over = λ here e. sym (over_alike world names is.mounts here (on_from world names is here e));
       entered = λ here e. are_on world names is _
           (over_theirs world names is.mounts here (on_from world names is here e));

@@ -14,13 +14,13 @@ ok_any (Err e) = tt
 -- refused by the same rules, or not
 pub unless_same : {A : Type 0} (Q : A → Type 0) (steps : List (List ℕ)) (rules others : Rules) (a : A) → rules ≡ others
     → Q a → Agree Q (walk_unless steps rules a) (walk_unless steps others a)
-unless_same Q steps rules others a same q = (ap (λ r. walk_unless steps r a) same, unless_agree Q steps rules a q)
+unless_same Q steps rules others a same q = (cc, unless_agree Q steps rules a q)
 
 -- what comes after walks that agree
 pub judged_alike : {A B : Type 0} (Q : A → Type 0) (w v : Result A (Stop ℕ)) (f g : A → Result B Deny) → Agree Q w v
     → ((a : A) → Q a → f a ≡ g a) → and_then (walk_end w) f ≡ and_then (walk_end v) g
-judged_alike Q (Ok a) v f g (e, q) same = same a q ∙ ap (λ r. and_then (walk_end r) g) e
-judged_alike Q (Err stop) v f g (e, q) same = ap (λ r. and_then (walk_end r) g) e
+judged_alike Q (Ok a) v f g (e, q) same = cc (same a q)
+judged_alike Q (Err stop) v f g (e, q) same = cc
 
 -- a place with what is found there
 abbrev placed_by : {A : Type 0} → List (List ℕ) → Rules → Result A Deny → (A → Place ℕ) → Result (Place ℕ) (Stop ℕ)
@@ -79,8 +79,7 @@ module _ {one other : Looks ℕ} {task : Task ℕ} {Own : ℕ → Type 0} (alike
 
   same_slash : (text : List ℕ) (here : Location ℕ) → Own here.mount
       → slash_rules nat_eq one text here ≡ slash_rules nat_eq other text here
-  same_slash text here own =
-      ap (λ n. (cond (ends_in_slash text) (not (is_directory_node n)) false, W3) ∷ []) (alike.node here own)
+  same_slash text here own = cc (alike.node here own)
 
   pub object_agrees : (path : List ℕ)
       → Agree HereAt (object_walk nat_eq one task path) (object_walk nat_eq other task path)
@@ -143,7 +142,7 @@ module _ {one other : Looks ℕ} {task : Task ℕ} {Own : ℕ → Type 0} (alike
   named_agrees here own Dot = (refl, found_some here own)
   named_agrees here own DotDot =
       let up = stepped_agrees one other task Own alike here own DotDot in
-      (ap (λ r. and_then r (λ parent. Ok (Some parent))) up.0, by (stepped nat_eq one task here DotDot) up.1)
+      (cc up.0, by (stepped nat_eq one task here DotDot) up.1)
     where
       by : (r : Result (Location ℕ) Deny) → IfOk r At → IfOk (and_then r (λ parent. Ok (Some parent))) FoundAt
       by (Ok parent) on = found_some parent on
@@ -171,14 +170,7 @@ module _ {one other : Looks ℕ} {task : Task ℕ} {Own : ℕ → Type 0} (alike
       (at_place here word slash (steps_at nat_eq other task here word)))
   place_by here own word slash =
       let named = named_agrees here.location own word in (
-        ap (λ s. placed_by (s ∷ here.steps) (search_rules nat_eq one task here.location)
-            (object_named nat_eq one task here.location word) (at_place here word slash (s ∷ here.steps)))
-            (same_met_at here.location own word) ∙ ap (λ r. placed_by (steps_at nat_eq other task here word) r
-            (object_named nat_eq one task here.location word)
-            (at_place here word slash (steps_at nat_eq other task here word)))
-            (same_search one other task Own alike here.location own)
-            ∙ ap (λ f. placed_by (steps_at nat_eq other task here word) (search_rules nat_eq other task here.location) f
-            (at_place here word slash (steps_at nat_eq other task here word))) named.0,
+        cc (same_met_at here.location own word, same_search one other task Own alike here.location own, named.0),
         placed_own FoundAt PlaceAt (steps_at nat_eq one task here word) (search_rules nat_eq one task here.location)
             (object_named nat_eq one task here.location word)
             (at_place here word slash (steps_at nat_eq one task here word)) named.1 (λ object at. (own, at)),
@@ -209,7 +201,7 @@ module _ {one other : Looks ℕ} {task : Task ℕ} {Own : ℕ → Type 0} (alike
 
   same_new_name : (place : Place ℕ) → PlaceAt place
       → new_name_rules nat_eq one place ≡ new_name_rules nat_eq other place
-  same_new_name place at = ap (λ b. (not (is_some place.object) && b, W8) ∷ []) (removed place.parent at.0)
+  same_new_name place at = cc (removed place.parent at.0)
 
   pub new_agrees : (path : List ℕ) → Agree PlaceAt (new_walk nat_eq one task path) (new_walk nat_eq other task path)
   new_agrees path = then_agree PlaceAt PlaceAt (place_walk nat_eq one task path) (place_walk nat_eq other task path)
@@ -317,11 +309,7 @@ module _ {one other : Looks ℕ} {task : Task ℕ} {Own : ℕ → Type 0} (alike
       → (entered nat_eq one place ≡ entered nat_eq other place) × PlaceAt (entered nat_eq one place)
   entered_agrees place at =
       let by = entered_by (is_special place.last) place.object at.1 in (
-        ap (λ o. record place {
-          object = o;
-          steps = all_met (filesystems_of nat_eq one (entered_mounts nat_eq one place)) place.steps;
-        }) by.0 ∙ ap (λ f. record place
-            { object = option_map (topmost other) place.object; steps = all_met f place.steps }) by.1,
+        cc (by.0, by.1),
         (at.0, by.2),
       )
 
@@ -339,14 +327,7 @@ module _ {one other : Looks ℕ} {task : Task ℕ} {Own : ℕ → Type 0} (alike
       (walk_unless link.steps (follow_rules nat_eq one link text) (symlink_start nat_eq one task from link text))
       (walk_unless link.steps (follow_rules nat_eq other link text) (symlink_start nat_eq other task from link text))
   start_agrees from own link at text = (
-    ap (λ (m : Mount ℕ). walk_unless link.steps ((m.flags.nosymfollow, W9) ∷ (link.left == 0, W7)
-        ∷ (list_any (λ word. nat_lt longest_name (length word)) (words text), W2) ∷ [])
-        (symlink_start nat_eq one task from link text)) (alike.mount link.location at)
-        ∙ ap (λ (m : Mount ℕ). walk_unless link.steps (follow_rules nat_eq other link text) (record {
-          location = start_of task from text;
-          left = link.left - 1;
-          steps = cond (is_absolute text) (also_met m.filesystem link.steps) link.steps;
-        })) (alike.mount task.root alike.root),
+    cc (alike.mount link.location at, alike.mount task.root alike.root),
     unless_agree HereAt link.steps (follow_rules nat_eq one link text) (symlink_start nat_eq one task from link text)
         (inner_at from own text),
   )
@@ -367,8 +348,7 @@ module _ {one other : Looks ℕ} {task : Task ℕ} {Own : ℕ → Type 0} (alike
       let by = by_symlink here at place stands
       (λ next inner on. file_agrees_at depth next on inner (slash || ends_in_slash text))
       (symlink_there nat_eq one place) in (
-        by.0 ∙ ap (λ o. file_or_symlink nat_eq other place o (next_text other here place))
-            (same_symlink_there place stands),
+        cc (by.0, same_symlink_there place stands),
         by.1,
       )))
     where

@@ -1,6 +1,6 @@
 -- Each pivot_root(2) ends in the part as in the world.
 use Rattle.std.proofs.Common.{arith, ◌≡◌, refl, sym, ap, subst, ◌∙◌, ◌⊎◌, inl, inr, ⊎_elim, ℕ, nat_eq, Bool, true, false, cond, true≢false, List, [], ◌∷◌, Option, Some, None, Ok, Err, filter, map, not, eq-eqb, eqb-true, IfOk, is_ok, append-nil}
-use Rattle.vt_spec.proofs.Common.{Among, Descriptor, Done, Fresh, Judgement, Location, Mount, MountInvariants, Namespace, PivotRoot, Private, Task, TaskName, ToPivot, World, among-flat_map, among-from_filter, among-from_flat_map, among-from_map, any_from_among, common_steps, false_from_ne_true, filter_all, granted, holds_of, is_among, is_member_task, is_own_namespace, judge_in, locations, locations_of, members, mount_at, mount_numbered, number-mount_in, numbers_raised, outsiders, part_of, pivoted, pivoted_location, pivoted_mount, pivoted_task, policy, root_of, roots_and_directories, same_name, seen_by_descriptor, settled, task_called}
+use Rattle.vt_spec.proofs.Common.{Among, Descriptor, Done, Fresh, Judgement, Location, Mount, MountInvariants, Namespace, Permit, PivotRoot, Private, Task, TaskName, ToPivot, World, among-flat_map, among-from_filter, among-from_flat_map, among-from_map, any_from_among, common_steps, false_from_ne_true, filter_all, granted, holds_of, is_among, is_member_task, is_own_namespace, judge_in, locations, locations_of, members, mount_at, mount_numbered, number-mount_in, numbers_raised, outsiders, part_of, pivoted, pivoted_location, pivoted_mount, pivoted_task, policy, root_of, roots_and_directories, same_name, seen_by_descriptor, settled, task_called}
 use Rattle.vt_laws_members.proofs.judging.TheirCalls.{IsMember, caller_in, sealing_of}
 use Rattle.vt_laws_mounts.proofs.letting_go.Lists.{any-map, filter-map}
 use Rattle.vt_laws_mounts.specs.Mounts.Namespaces.{CanPivot}
@@ -12,6 +12,7 @@ use Rattle.vt_laws_members.proofs.judging.SeenInPart.{directory_theirs, root_the
 use Rattle.vt_laws_sealed.proofs.outsiders.OtherMounts.{namespace_outside}
 use Rattle.vt_laws_members.specs.Changes.Changes.{EndAlike, EndsAlike, IsCallOfTheirs, grown}
 use Rattle.vt_laws_members.proofs.changes.looks.Told.{ended_alike, ran, same_caller}
+use Rattle.vt_laws_members.proofs.changes.tasks.ByPermit.{by_known}
 use Rattle.vt_laws_members.proofs.changes.tasks.Denied.{denial_ends_alike, run_by, same_judgement, unnamed_ends_alike}
 use Rattle.vt_laws_members.proofs.changes.letting_go.Heard.{apart}
 use Rattle.vt_laws_members.proofs.changes.letting_go.NamespaceLess.{KeepsShape}
@@ -106,8 +107,7 @@ module _ {world : World ℕ} {names : List TaskName} {name : TaskName} {new_path
 
   -- both worlds allow it
   judged_there : judge_in nat_eq supply part task (PivotRoot new_path put_path) ≡ Ok (ToPivot number put)
-  judged_there =
-      sym (same_judgement it fresh supply task called) ∙ judged
+  judged_there = cc (same_judgement it fresh supply task called)
 
   may : CanPivot world space root new put
   may = subst (λ j. IfOk j (PivotsThere world it.is.mounts task)) judged
@@ -119,8 +119,8 @@ module _ {world : World ℕ} {names : List TaskName} {name : TaskName} {new_path
 
   -- both mounts are theirs
   owned : (m : Mount ℕ) → m.namespace ≡ Some space → is_own world names old m ≡ true
-  owned m e = ap (holds_of (is_own_namespace nat_eq world names)) e
-      ∙ any_from_among (λ (t : Task ℕ). nat_eq space t.namespace) old task member.among (eq-eqb space space refl)
+  owned m e =
+      cc (any_from_among (λ (t : Task ℕ). nat_eq space t.namespace) old task member.among (eq-eqb space space refl))
 
   new_in : Among new world.mounts
   new_in = new_among may it.is.mounts
@@ -132,8 +132,7 @@ module _ {world : World ℕ} {names : List TaskName} {name : TaskName} {new_path
   root_same = same_mount world names it.is.mounts task.root.mount (root_theirs world names it.is task member.among)
 
   new_same : mount_numbered nat_eq part number ≡ new
-  new_same = same_mount world names it.is.mounts number
-      (subst (IsTheirs world names it.is.mounts) (number-mount_in world.mounts number) new_theirs)
+  new_same = same_mount world names it.is.mounts number (rw (← number-mount_in world.mounts number) new_theirs)
 
   -- The change
   abbrev plan : Plan
@@ -159,14 +158,12 @@ module _ {world : World ℕ} {names : List TaskName} {name : TaskName} {new_path
 
   pivots_part : pivoted nat_eq part space (mount_at nat_eq part task.root) (mount_numbered nat_eq part number) put
       ≡ remade plan part (map move part.tasks)
-  pivots_part = ap (λ m. pivoted nat_eq part space m (mount_numbered nat_eq part number) put) root_same
-      ∙ ap (λ m. pivoted nat_eq part space root m put) new_same ∙ as_remade part
+  pivots_part = cc (root_same, new_same, as_remade part)
 
   -- Tasks of the set are moved
   set_is : (tasks : List (Task ℕ))
       → filter (is_member_task names) (map move tasks) ≡ map move (filter (is_member_task names) tasks)
-  set_is tasks = filter-map (is_member_task names) move tasks
-      (λ t. ap (λ n. is_among same_name n names) (moved_name root new put space t))
+  set_is tasks = filter-map (is_member_task names) move tasks (λ t. cc (moved_name root new put space t))
 
   spaces_same : (n : ℕ) → in_spaces (filter (is_member_task names) (map move world.tasks)) n ≡ in_spaces old n
   spaces_same n = ap (λ ts. in_spaces ts n) (set_is world.tasks)
@@ -181,14 +178,12 @@ module _ {world : World ℕ} {names : List TaskName} {name : TaskName} {new_path
   )
     where
       not_new : nat_eq m.number new.number ≡ false
-      not_new = false_from_ne_true (nat_eq m.number new.number) (λ e.
-          true≢false (sym (owned m (ap (λ (x : Mount ℕ). x.namespace)
-          (is_new may it.is.mounts m n e) ∙ may.new_inside)) ∙ other))
+      not_new = false_from_ne_true (nat_eq m.number new.number) (λ e. true≢false
+          (sym (owned m (cc (is_new may it.is.mounts m n e, may.new_inside))) ∙ other))
 
       not_root : nat_eq m.number root.number ≡ false
-      not_root = false_from_ne_true (nat_eq m.number root.number) (λ e.
-          true≢false (sym (owned m (ap (λ (x : Mount ℕ). x.namespace)
-          (is_root may it.is.mounts m n e) ∙ may.root_inside)) ∙ other))
+      not_root = false_from_ne_true (nat_eq m.number root.number) (λ e. true≢false
+          (sym (owned m (cc (is_root may it.is.mounts m n e, may.root_inside))) ∙ other))
 
   changes : ChangesTheirs remaking
   changes = record {
@@ -213,30 +208,27 @@ module _ {world : World ℕ} {names : List TaskName} {name : TaskName} {new_path
   OnTheirs l = IsTheirs world names it.is.mounts l.mount
 
   at_new : (l : Location ℕ) → l ≡ root_of new → OnTheirs l
-  at_new l e = subst OnTheirs (sym e) new_theirs
+  at_new l e = rw e new_theirs
 
   roots_moved : (l : Location ℕ)
       → Among l (roots_and_directories (filter (is_member_task names) (map move world.tasks))) → OnTheirs l
   roots_moved l m =
       let at = among-from_flat_map (λ (t : Task ℕ). t.root ∷ t.directory ∷ []) (map move old) l
-      (subst (λ ts. Among l (roots_and_directories ts)) (set_is world.tasks) m) in
+      (rw (← set_is world.tasks) m) in
       let t = among-from_map move old at.0 at.1 in
-      ⊎_elim (stood t.0 t.1) (at_new l)
-      (stood_how root new put space t.0 l (subst (λ (x : Task ℕ). Among l (x.root ∷ x.directory ∷ [])) t.2 at.2))
+      ⊎_elim (stood t.0 t.1) (at_new l) (stood_how root new put space t.0 l (rw (← t.2) at.2))
     where
       stood : (t : Task ℕ) → Among t old → Among l (t.root ∷ t.directory ∷ []) → OnTheirs l
-      stood t n k = ⊎_elim (λ e. subst OnTheirs (sym e) (root_theirs world names it.is t n))
-          (λ rest. ⊎_elim (λ e. subst OnTheirs (sym e) (directory_theirs world names it.is t n))
-          (λ none. absurd none) rest) k
+      stood t n k = ⊎_elim (λ e. rw e (root_theirs world names it.is t n)) (λ rest. ⊎_elim
+          (λ e. rw e (directory_theirs world names it.is t n)) (λ none. absurd none) rest) k
 
   places_moved : (l : Location ℕ) → Among l (locations (filter (is_member_task names) (map move world.tasks)))
       → Among l (locations old) ⊎ (OnTheirs l ⊎ OnAdded plan l)
   places_moved l m =
-      let at = among-from_flat_map locations_of (map move old) l
-      (subst (λ ts. Among l (locations ts)) (set_is world.tasks) m) in
+      let at = among-from_flat_map locations_of (map move old) l (rw (← set_is world.tasks) m) in
       let t = among-from_map move old at.0 at.1 in
       ⊎_elim (λ before. inl (among-flat_map locations_of old t.0 l t.1 before)) (λ top. inr (inl (at_new l top)))
-      (located_how root new put space t.0 l (subst (λ (x : Task ℕ). Among l (locations_of x)) t.2 at.2))
+      (located_how root new put space t.0 l (rw (← t.2) at.2))
 
   -- other tasks are in other namespaces
   others_stay : (t : Task ℕ) → Among t (outsiders world names) → move t ≡ t
@@ -250,18 +242,17 @@ module _ {world : World ℕ} {names : List TaskName} {name : TaskName} {new_path
           (apart (sealing_of it)) t m))
 
   others_are : filter (λ t. not (is_member_task names t)) (map move world.tasks) ≡ map move (outsiders world names)
-  others_are = filter-map (λ t. not (is_member_task names t)) move world.tasks
-      (λ t. ap (λ n. not (is_among same_name n names)) (moved_name root new put space t))
+  others_are =
+      filter-map (λ t. not (is_member_task names t)) move world.tasks (λ t. cc (moved_name root new put space t))
 
   outside_moved : (l : Location ℕ)
       → Among l (locations (filter (λ t. not (is_member_task names t)) (map move world.tasks)))
       → Among l (locations (outsiders world names))
   outside_moved l m =
-      let at = among-from_flat_map locations_of (map move (outsiders world names)) l
-      (subst (λ ts. Among l (locations ts)) others_are m) in
+      let at = among-from_flat_map locations_of (map move (outsiders world names)) l (rw (← others_are) m) in
       let t = among-from_map move (outsiders world names) at.0 at.1 in
-      among-flat_map locations_of (outsiders world names) t.0 l t.1
-      (subst (λ (x : Task ℕ). Among l (locations_of x)) (t.2 ∙ others_stay t.0 t.1) at.2)
+      among-flat_map locations_of (outsiders world names) t.0 l t.1 (subst (λ (x : Task ℕ). Among l (locations_of x))
+      (t.2 ∙ others_stay t.0 t.1) at.2)
 
   moves : MovesTheirs remaking
   moves = record {
@@ -296,19 +287,11 @@ module _ {world : World ℕ} {names : List TaskName} {name : TaskName} {new_path
       (record { answer = refl; part = remade_parts remaking changes moves name })
 
 pub pivots_end_alike : PivotsEndAlike
-pivots_end_alike world names name new put it fresh supply = by (task_called world name) refl
+pivots_end_alike world names name new put it fresh supply = by_known it fresh supply refl
+    (λ task e. PivotsThere world it.is.mounts task) (λ task e. pivots_there world it.is.mounts task new put) granted_so
   where
-    judged_by : (task : Task ℕ) → task_called world name ≡ Some task
-        → (j : Judgement ℕ) → judge_in nat_eq fresh world task (PivotRoot new put) ≡ j
-        → IfOk j (PivotsThere world it.is.mounts task) → EndsAlike world names name (PivotRoot new put) fresh supply
-    judged_by task e (Ok (ToPivot number at)) judged its = pivot_alike it e fresh supply judged
-    judged_by task e (Ok permit) judged its = absurd its
-    judged_by task e (Err deny) judged its = denial_ends_alike it fresh supply
-        (ap (λ o. is_ok (ran name (PivotRoot new put) world fresh o).answer) e
-        ∙ ap (λ j. is_ok (run_by it world fresh task j).answer) judged)
-
-    by : (o : Option (Task ℕ)) → task_called world name ≡ o
+    granted_so : (task : Task ℕ) → task_called world name ≡ Some task → (permit : Permit ℕ)
+        → judge_in nat_eq fresh world task (PivotRoot new put) ≡ Ok permit → PivotsThere world it.is.mounts task permit
         → EndsAlike world names name (PivotRoot new put) fresh supply
-    by None e = unnamed_ends_alike it fresh supply e
-    by (Some task) e = judged_by task e (judge_in nat_eq fresh world task (PivotRoot new put)) refl
-        (pivots_there world it.is.mounts task new put)
+    granted_so task e (ToPivot number at) judged its = pivot_alike it e fresh supply judged
+    granted_so task e permit judged its = absurd its

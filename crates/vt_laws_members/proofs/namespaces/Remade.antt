@@ -96,13 +96,13 @@ filter_within {A} p q r (x ∷ xs) less = by (r x) refl (filter_within p q r xs 
     skip : (c b : Bool) → p x ≡ b → r x ≡ false
         → filter p (filter q xs) ≡ filter p (cond c (x ∷ filter q xs) (filter q xs))
     skip false b e f = refl
-    skip true true e f = absurd (true≢false (sym (less x (inl refl) e) ∙ f))
-    skip true false e f = sym (ap (λ b. cond b (x ∷ filter p (filter q xs)) (filter p (filter q xs))) e)
+    skip true true e f = cc (less x (inl refl) e)
+    skip true false e f = cc
 
     both : (c : Bool) → filter p (filter q (filter r xs)) ≡ filter p (filter q xs)
         → filter p (cond c (x ∷ filter q (filter r xs)) (filter q (filter r xs)))
         ≡ filter p (cond c (x ∷ filter q xs) (filter q xs))
-    both true later = ap (λ l. cond (p x) (x ∷ l) l) later
+    both true later = cc
     both false later = later
 
     by : (b : Bool) → r x ≡ b → filter p (filter q (filter r xs)) ≡ filter p (filter q xs)
@@ -113,7 +113,7 @@ filter_within {A} p q r (x ∷ xs) less = by (r x) refl (filter_within p q r xs 
 
 -- a mount in no group
 no_group : (kind : Propagation ℕ) → kind ≡ Private → (g : ℕ) → source_of kind ≡ Some g → ⊥
-no_group kind e g f = none_is_some g (sym (ap source_of e) ∙ f)
+no_group kind e g f = none_is_some g (cc)
 
 module _ (it : Remaking) (does : ChangesTheirs it) (moves : MovesTheirs it) where
   abbrev world : World ℕ
@@ -165,7 +165,7 @@ module _ (it : Remaking) (does : ChangesTheirs it) (moves : MovesTheirs it) wher
     where
       by : (b : Bool) → owns old m ≡ b → owns old m ≡ true
       by true e = e
-      by false e = own_was m n (ap (owns new) (sym (does.others m n e).0) ∙ h)
+      by false e = own_was m n (cc ((does.others m n e).0))
 
   whole_at : (m : Mount ℕ) → Among m world.mounts → (l : Location ℕ) → nat_eq l.mount m.number ≡ true
       → IsTheirs world names it.is.mounts l.mount ⊎ OnAdded it.plan l → (owns old m || stands old m) ≡ true
@@ -202,8 +202,7 @@ module _ (it : Remaking) (does : ChangesTheirs it) (moves : MovesTheirs it) wher
       kept_as p q = cond p (Some m) (when q (stub m))
 
       after : (owns old m || stands old m) ≡ false → keep world names new (turn m) ≡ when (at new m) (stub m)
-      after e = ap (keep world names new) (does.others m n (or_parts (owns old m) (stands old m) e).0).0
-          ∙ ap (λ c. kept_as c (at new m)) (less_whole m n e)
+      after e = cc ((does.others m n (or_parts (owns old m) (stands old m) e).0).0, less_whole m n e)
 
       by : (p : Bool) → (owns old m || stands old m) ≡ p → (q : Bool) → at old m ≡ q → (r : Bool) → at new m ≡ r
           → then_some (kept_as (owns old m || stands old m) (at old m)) (λ y. keep world names new (turn y))
@@ -248,8 +247,8 @@ module _ (it : Remaking) (does : ChangesTheirs it) (moves : MovesTheirs it) wher
       → source_of y.propagation ≡ Some g → IsHeard it.sealing g
   source_heard y n own g e =
       let of = origin y n own in
-      ⊎_elim (λ same. heard_by_own it.sealing of.0 of.1 g (ap source_of (sym same) ∙ e))
-      (λ none. absurd (no_group y.propagation none g e)) of.3
+      ⊎_elim (λ same. heard_by_own it.sealing of.0 of.1 g (cc same)) (λ none. absurd (no_group y.propagation none g e))
+      of.3
 
   masters_less : (group : ℕ) → list_any (is_member_of nat_eq group) (own_mounts nat_eq v names) ≡ true
       → part.master group ≡ world.master group
@@ -261,7 +260,7 @@ module _ (it : Remaking) (does : ChangesTheirs it) (moves : MovesTheirs it) wher
 
   -- mounts by their numbers
   pub shown_after : (y : Mount ℕ) → Among y v.mounts → (l : Location ℕ) → l.mount ≡ y.number → mount_at nat_eq v l ≡ y
-  shown_after y n l e = ap (mount_numbered nat_eq v) e ∙ found_itself v.mounts does.kept.one_number y n
+  shown_after y n l e = cc (found_itself v.mounts does.kept.one_number y n)
 
   pub turned_in : (m : Mount ℕ) → Among m world.mounts → Among (turn m) v.mounts
   turned_in m n = among-append_left (map turn world.mounts) it.plan.added (turn m) (among-map turn world.mounts m n)
@@ -308,25 +307,18 @@ module _ (it : Remaking) (does : ChangesTheirs it) (moves : MovesTheirs it) wher
 
   located_was : (l : Location ℕ) → Among l (locations new)
       → Among (mount_at nat_eq v l).filesystem (used_directly nat_eq world names)
-  located_was l m = ⊎_elim (λ before. let on = placed_old l before in
-      subst (λ i. Among i (used_directly nat_eq world names)) (sym (filesystem_after on.0 on.1 l on.2))
+  located_was l m = ⊎_elim (λ before. let on = placed_old l before in rw (filesystem_after on.0 on.1 l on.2)
       (among-append_right mounted (map shows (locations old)) (shows l) (among-map shows (locations old) l before)))
-      (λ rest. ⊎_elim
-      (λ on. subst (λ i. Among i (used_directly nat_eq world names)) (sym (filesystem_after on.0 on.1 l (sym on.2)))
-      (theirs_directly world names it.is l on)) (λ fresh. let y = fresh.0 in
-      let there = among-append_right (map turn world.mounts) it.plan.added y fresh.1 in
-      shown_was y there (does.owned y fresh.1) (mount_at nat_eq v l).filesystem
-      (ap (λ (x : Mount ℕ). x.filesystem) (shown_after y there l fresh.2))) rest) (moves.places l m)
+      (λ rest. ⊎_elim (λ on. rw (filesystem_after on.0 on.1 l (sym on.2)) (theirs_directly world names it.is l on))
+      (λ fresh. let y = fresh.0 in let there = among-append_right (map turn world.mounts) it.plan.added y fresh.1 in
+      shown_was y there (does.owned y fresh.1) (mount_at nat_eq v l).filesystem (cc (shown_after y there l fresh.2)))
+      rest) (moves.places l m)
 
   direct_was : (n : ℕ) → Among n (used_directly nat_eq v names) → Among n (used_directly nat_eq world names)
-  direct_was n m = ⊎_elim
-      (λ shown. let y = among-from_map (λ (m : Mount ℕ). m.filesystem) (own_mounts nat_eq v names) n shown in
-      let own = among-from_filter (owns new) v.mounts y.0 y.1 in
-      shown_was y.0 own.0 own.1 n y.2)
-      (λ placed. let l = among-from_map (λ (l : Location ℕ). (mount_at nat_eq v l).filesystem) (locations new) n
-      placed in
-      subst (λ i. Among i (used_directly nat_eq world names)) (sym l.2) (located_was l.0 l.1))
-      (among-append (map (λ (m : Mount ℕ). m.filesystem) (own_mounts nat_eq v names))
+  direct_was n m = ⊎_elim (λ shown. let y = among-from_map (λ (m : Mount ℕ). m.filesystem) (own_mounts nat_eq v names) n
+      shown in let own = among-from_filter (owns new) v.mounts y.0 y.1 in shown_was y.0 own.0 own.1 n y.2)
+      (λ placed. let l = among-from_map (λ (l : Location ℕ). (mount_at nat_eq v l).filesystem) (locations new) n placed
+      in rw l.2 (located_was l.0 l.1)) (among-append (map (λ (m : Mount ℕ). m.filesystem) (own_mounts nat_eq v names))
       (map (λ (l : Location ℕ). (mount_at nat_eq v l).filesystem) (locations new)) n m)
 
   -- namespaces
@@ -334,8 +326,8 @@ module _ (it : Remaking) (does : ChangesTheirs it) (moves : MovesTheirs it) wher
   spaces ts n = in_spaces ts n.number
 
   pub space_was : (n : Namespace ℕ) → Among n world.namespaces → spaces new n ≡ true → spaces old n ≡ true
-  space_was n m h = ⊎_elim (λ before. before)
-      (λ fresh. absurd (true≢false (sym (eq-eqb n.number n.number refl) ∙ fresh.1 n m))) (moves.entered n.number h)
+  space_was n m h =
+      ⊎_elim (λ before. before) (λ fresh. cc (eq-eqb n.number n.number refl, fresh.1 n m)) (moves.entered n.number h)
 
   pub namespaces_less : filter (spaces new) v_part.namespaces ≡ filter (spaces new) v.namespaces
   namespaces_less = filter-append (spaces new) (filter it.plan.lasts part.namespaces) it.plan.come

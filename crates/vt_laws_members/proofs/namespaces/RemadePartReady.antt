@@ -52,9 +52,7 @@ module _ (it : Remaking) (does : ChangesTheirs it) (moves : MovesTheirs it) wher
   was y n = (among-from_filter (mount_lives nat_eq after) after.mounts y n).0
 
   number_kept : (m y : Mount ℕ) → kept m ≡ Some y → y.number ≡ m.number
-  number_kept m y e =
-      ⊎_elim (λ its. ap (λ (q : Mount ℕ). q.number) (sym its)) (λ stub. ap (λ (q : Mount ℕ). q.number) (sym stub.0))
-      (kept_how world names old m y e)
+  number_kept m y e = ⊎_elim (λ its. cc) (λ stub. cc stub.0) (kept_how world names old m y e)
 
   located_so : (l : Location ℕ) → Among l (locations new) → (y : Mount ℕ) × Among y living.mounts × (l.mount ≡ y.number)
   located_so l m = ⊎_elim (λ on. let there = among-filter_map kept world.mounts on.0 on.3 on.1 on.4 in
@@ -70,7 +68,7 @@ module _ (it : Remaking) (does : ChangesTheirs it) (moves : MovesTheirs it) wher
         located_lives after fresh.0 l
             (among-append_right (map turn part.mounts) it.plan.added fresh.0 fresh.1) all fresh.2,
         fresh.2,
-      )) (place_shown it does moves l (subst (λ ts. Among l (locations ts)) moves.same m))
+      )) (place_shown it does moves l (rw (← moves.same) m))
     where
       all : Among l (locations it.tasks_too)
       all = of_all names it.tasks_too l m
@@ -78,7 +76,7 @@ module _ (it : Remaking) (does : ChangesTheirs it) (moves : MovesTheirs it) wher
   -- all is theirs
   in_new : (y : Mount ℕ) → (is_own world names (filter (is_member_task names) it.tasks) y ≡ true) ⊎ (y.namespace ≡ None)
       → Fits y
-  in_new y (inl own) = inl (ap (λ ts. is_own world names ts y) moves.same ∙ own)
+  in_new y (inl own) = inl (cc moves.same)
   in_new y (inr none) = inr none
 
   in_or_out : (z : Mount ℕ) → Among z part.mounts → Fits (turn z)
@@ -92,9 +90,9 @@ module _ (it : Remaking) (does : ChangesTheirs it) (moves : MovesTheirs it) wher
       (kept_how world names old from.0 z from.2))
 
   fits : (y : Mount ℕ) → Among y living.mounts → Fits y
-  fits y n = ⊎_elim (λ turned. let from = among-from_map turn part.mounts y turned in
-      subst Fits (sym from.2) (in_or_out from.0 from.1)) (λ fresh. in_new y (inl (does.owned y fresh)))
-      (among-append (map turn part.mounts) it.plan.added y (was y n))
+  fits y n =
+      ⊎_elim (λ turned. let from = among-from_map turn part.mounts y turned in rw from.2 (in_or_out from.0 from.1))
+      (λ fresh. in_new y (inl (does.owned y fresh))) (among-append (map turn part.mounts) it.plan.added y (was y n))
 
   alone : (number : ℕ) → NoOthers living names number
   alone number = record {

@@ -31,11 +31,9 @@ module _ (b : World ℕ) (kept : MountInvariants nat_eq b) where
     where
       by : (o : Option ℕ) → z.namespace ≡ o → is_some o ≡ true
       by (Some j) e = refl
-      by None e = none_is_some g
-          (sym (private_source z.propagation (and_parts (not (is_some z.mount_point)) (is_private z.propagation)
-          (sym (ap (λ o. is_some o || (not (is_some z.mount_point) && is_private z.propagation)) e)
-          ∙ among_from_list_all is_nowhere_or_attached b.mounts kept.nowhere z n)).1)
-          ∙ source_from_group z.propagation g (member_group g z h))
+      by None e = none_is_some g (sym (private_source z.propagation (and_parts (not (is_some z.mount_point))
+          (is_private z.propagation) (cc (among_from_list_all is_nowhere_or_attached b.mounts kept.nowhere z n))).1) ∙
+          source_from_group z.propagation g (member_group g z h))
 
   settled_members : (y : Mount ℕ) → Among y b.mounts → (g : ℕ) → source_of y.propagation ≡ Some g
       → has_members nat_eq (settled nat_eq b).mounts g ≡ true
@@ -86,14 +84,13 @@ module _ (it : Remaking) (does : ChangesTheirs it) (moves : MovesTheirs it) wher
     owned m = by m.namespace
       where
         by : (o : Option ℕ) → holds_of (nat_eq n) o ≡ true → holds_of (in_spaces new) o ≡ true
-        by None h = absurd (true≢false (sym h))
-        by (Some j) h = ap (in_spaces new) (sym (eqb-true n j h)) ∙ entered
+        by None h = cc
+        by (Some j) h = cc (eqb-true n j h)
 
     before : mounts_of nat_eq part n ≡ mounts_of nat_eq world n
-    before = filter_both kept (its_in n) (its_in n) world.mounts
-        (λ m at h. (own_kept it.sealing m (own_was it does moves m at (owned m h)), h))
-        (λ m y at h e. ⊎_elim (λ same. ap (its_in n) (sym same) ∙ h) (λ stub. ap (its_in n) (sym stub.0))
-        (kept_how world names old m y e))
+    before = filter_both kept (its_in n) (its_in n) world.mounts (λ m at h.
+        (own_kept it.sealing m (own_was it does moves m at (owned m h)), h))
+        (λ m y at h e. ⊎_elim (λ same. cc) (λ stub. cc stub.0) (kept_how world names old m y e))
 
     turned : filter (λ m. its_in n (turn m)) part.mounts ≡ filter (λ m. its_in n (turn m)) world.mounts
     turned = filter_both kept (λ m. its_in n (turn m)) (λ m. its_in n (turn m)) world.mounts (λ m at h. (
@@ -105,12 +102,11 @@ module _ (it : Remaking) (does : ChangesTheirs it) (moves : MovesTheirs it) wher
 
     split : (w : World ℕ) → filter (its_in n) (map turn w.mounts ++ it.plan.added)
         ≡ map turn (filter (λ m. its_in n (turn m)) w.mounts) ++ filter (its_in n) it.plan.added
-    split w = filter-append (its_in n) (map turn w.mounts) it.plan.added
-        ∙ ap (λ l. l ++ filter (its_in n) it.plan.added) (filter-map (its_in n) turn w.mounts (λ m. refl))
+    split w =
+        cc (filter-append (its_in n) (map turn w.mounts) it.plan.added, filter-map (its_in n) turn w.mounts (λ m. refl))
 
     later : mounts_of nat_eq u_part n ≡ mounts_of nat_eq u n
-    later = settled_mounts after_part n ∙ split part ∙ ap (λ l. map turn l ++ filter (its_in n) it.plan.added) turned
-        ∙ sym (split world) ∙ sym (settled_mounts after n)
+    later = cc (settled_mounts after_part n, split part, turned, split world, settled_mounts after n)
 
     -- masters above
     above_before : (m : Mount ℕ) → Among m (mounts_of nat_eq world n) → master_above part m ≡ master_above world m
@@ -129,7 +125,7 @@ module _ (it : Remaking) (does : ChangesTheirs it) (moves : MovesTheirs it) wher
     above_after y at = by (source_of y.propagation) refl
       where
         from : Among y after.mounts × (its_in n y ≡ true)
-        from = among-from_filter (its_in n) after.mounts y (subst (Among y) (settled_mounts after n) at)
+        from = among-from_filter (its_in n) after.mounts y (rw (← settled_mounts after n) at)
 
         there : Among y after_part.mounts
         there = (among-from_filter (its_in n) after_part.mounts y
@@ -155,8 +151,7 @@ module _ (it : Remaking) (does : ChangesTheirs it) (moves : MovesTheirs it) wher
         compared : (x y : Mount ℕ) → master_above part x ≡ master_above world x
             → master_above u_part y ≡ master_above u y
             → same_mount nat_eq part u_part x y ≡ same_mount nat_eq world u x y
-        compared x y e f = ap (λ o. same_ones x y && same_option nat_eq o (master_above u_part y)) e
-            ∙ ap (λ o. same_ones x y && same_option nat_eq (master_above world x) o) f
+        compared x y e f = cc
 
   abbrev spaces : List (Task ℕ) → Namespace ℕ → Bool
   spaces ts n = in_spaces ts n.number

@@ -81,13 +81,11 @@ module _ (it : Remaking) (does : ChangesTheirs it) (moves : MovesTheirs it) wher
 
   -- a mount of theirs is theirs after, or in no namespace; one of none stays so
   pub own_after : (m : Mount ℕ) → Among m world.mounts → is_own world names old m ≡ true → Fits (turn m)
-  own_after m n own = ⊎_elim inr
-      (λ stays. inl (ap (holds_of (λ i. list_any (λ (t : Task ℕ). nat_eq i t.namespace) new)) stays.0 ∙ stays.1))
-      (does.placed m n own)
+  own_after m n own = ⊎_elim inr (λ stays. inl (cc (stays.0, stays.1))) (does.placed m n own)
 
   pub none_after : (m : Mount ℕ) → Among m world.mounts → m.namespace ≡ None → Fits (turn m)
-  none_after m n none = inr (ap (λ (x : Mount ℕ). x.namespace)
-      (does.others m n (ap (holds_of (λ i. list_any (λ (t : Task ℕ). nat_eq i t.namespace) old)) none)).0 ∙ none)
+  none_after m n none =
+      inr (cc ((does.others m n (ap (holds_of (λ i. list_any (λ (t : Task ℕ). nat_eq i t.namespace) old)) none)).0))
 
   -- where others have no foothold
   module _ (number : ℕ) (none : no_outsider_on nat_eq world names number ≡ true) where
@@ -107,10 +105,9 @@ module _ (it : Remaking) (does : ChangesTheirs it) (moves : MovesTheirs it) wher
         grind (arith, common_steps, none_after, own_after, true≢false, eq-eqb, none_among, among-filter)
 
     mounts_own : (y : Mount ℕ) → Among y living.mounts → y.filesystem ≡ number → Fits y
-    mounts_own y n e = ⊎_elim (λ turned. let from = among-from_map turn world.mounts y turned in
-        subst Fits (sym from.2) (by_mount from.0 from.1
-        (sym (does.shape from.0).filesystem ∙ ap (λ (q : Mount ℕ). q.filesystem) (sym from.2) ∙ e)
-        from.0.namespace refl)) (λ fresh. inl (does.owned y fresh))
+    mounts_own y n e = ⊎_elim (λ turned. let from = among-from_map turn world.mounts y turned in rw from.2
+        (by_mount from.0 from.1 (sym (does.shape from.0).filesystem ∙ ap (λ (q : Mount ℕ). q.filesystem) (sym from.2) ∙
+        e) from.0.namespace refl)) (λ fresh. inl (does.owned y fresh))
         (among-append (map turn world.mounts) it.plan.added y (was y n))
 
     -- a location of others shows what it showed
@@ -122,10 +119,12 @@ module _ (it : Remaking) (does : ChangesTheirs it) (moves : MovesTheirs it) wher
         (among-from_filter (λ y. not (is_member_task names y)) world.tasks from.0 from.1).0 from.2) in
         let number : l.mount ≡ (turn under.0).number = under.2 ∙ sym (does.shape under.0).number in
         let there = turned_in it does moves under.0 under.1 in
-        ap (λ i. (mount_numbered nat_eq living i).filesystem) number ∙ ap (λ (q : Mount ℕ). q.filesystem)
-        (found_itself living.mounts one_living (turn under.0) (located_lives after (turn under.0) l there m number))
-        ∙ ap (λ (q : Mount ℕ). q.filesystem) (sym (shown_after it does moves (turn under.0) there l number))
-        ∙ filesystem_after it does moves under.0 under.1 l under.2
+        cc (
+          found_itself living.mounts one_living (turn under.0) (located_lives after (turn under.0) l there m number),
+          shown_after it does moves (turn under.0) there l number,
+          filesystem_after it does moves under.0 under.1 l
+              under.2,
+        )
 
     locations_own : (l : Location ℕ) → Among l (all_locations living) → (mount_at nat_eq living l).filesystem ≡ number
         → Among l (locations new)
@@ -139,11 +138,13 @@ module _ (it : Remaking) (does : ChangesTheirs it) (moves : MovesTheirs it) wher
             among-flat_map locations_of new t l (among-filter (is_member_task names) it.tasks t n member) at
         by t n at false other =
             let out = moves.outside l (among-flat_map locations_of (filter (λ y. not (is_member_task names y)) it.tasks)
-            t l (among-filter (λ y. not (is_member_task names y)) it.tasks t n (ap not other)) at) in
-            absurd (true≢false
-            (sym (eq-eqb number (mount_at nat_eq world l).filesystem (sym (sym (other_shows l m out) ∙ e)))
-            ∙ none_among (λ q. nat_eq number (mount_at nat_eq world q).filesystem) (locations (outsiders world names))
-            nobody.1 l out))
+            t l (among-filter (λ y. not (is_member_task names y)) it.tasks t n (cc)) at) in
+            cc (
+              eq-eqb number (mount_at nat_eq world l).filesystem (sym (sym (other_shows l m out) ∙ e)),
+              none_among
+                  (λ q. nat_eq number (mount_at nat_eq world q).filesystem) (locations (outsiders world names)) nobody.1 l
+                  out,
+            )
 
     pub no_others : NoOthers living names number
     no_others = record { mounts = mounts_own; locations = locations_own }
@@ -162,12 +163,11 @@ module _ (it : Remaking) (does : ChangesTheirs it) (moves : MovesTheirs it) wher
           || no_outsider_on nat_eq world names merged.number)
           (overlays world) ≡ true → (merged : Filesystem ℕ) → Among merged world.filesystems
           → has_layer_on nat_eq number merged ≡ true → no_outsider_on nat_eq world names merged.number ≡ true
-      by all merged m has =
-          ⊎_elim (λ none. absurd (true≢false (sym has ∙ not-true (has_layer_on nat_eq number merged) none))) (λ h. h)
+      by all merged m has = ⊎_elim (λ none. cc (not-true (has_layer_on nat_eq number merged) none)) (λ h. h)
           (or_cases (not (has_layer_on nat_eq number merged)) (no_outsider_on nat_eq world names merged.number)
           (among_from_list_all (λ y. not (has_layer_on nat_eq number y) || no_outsider_on nat_eq world names y.number)
-          (overlays world) all merged
-          (among-filter is_overlay world.filesystems merged m (layered_overlay number merged has))))
+          (overlays world) all merged (among-filter is_overlay world.filesystems merged m
+          (layered_overlay number merged has))))
 
   located_so : (l : Location ℕ) → Among l (locations new) → (y : Mount ℕ) × Among y living.mounts × (l.mount ≡ y.number)
   located_so l m = ⊎_elim (λ before. let on = placed_old it does moves l before in of_before on.0 on.1 on.2)
@@ -200,9 +200,9 @@ module _ (it : Remaking) (does : ChangesTheirs it) (moves : MovesTheirs it) wher
       turned m =
           let from = among-from_map turn world.mounts y m in
           let l = any_among (λ (p : Location ℕ). nat_eq p.mount y.number) (roots_and_directories new) h in
-          let on : l.0.mount ≡ from.0.number =
-          eqb-true l.0.mount y.number l.2 ∙ ap (λ (q : Mount ℕ). q.number) from.2 ∙ (does.shape from.0).number in
-          point_too (subst Fits (sym from.2) (by from.0 from.1 l.0 on (moves.roots l.0 l.1)))
+          let on : l.0.mount ≡ from.0.number = cc (eqb-true l.0.mount y.number l.2, from.2, (does.shape from.0).number)
+          in
+          point_too (rw from.2 (by from.0 from.1 l.0 on (moves.roots l.0 l.1)))
         where
           by : (m : Mount ℕ) → Among m world.mounts → (l : Location ℕ) → l.mount ≡ m.number
               → IsTheirs world names it.is.mounts l.mount ⊎ OnAdded it.plan l → Fits (turn m)

@@ -38,17 +38,17 @@ unshare_plan ends k fresh copied = record {
 last_itself : (next : Location ℕ → Option (Location ℕ)) (n : ℕ) (l : Location ℕ) → next l ≡ None
     → last_or l (chain n next l) ≡ l
 last_itself next zero l e = refl
-last_itself next (suc n) l e = ap (last_or l) (chain_ends next n l e)
+last_itself next (suc n) l e = cc (chain_ends next n l e)
 
 -- the number of the new namespace is new
 pub new_among_spaces : (w : World ℕ) (fresh : Fresh ℕ) → Serves nat_eq w fresh → (n : Namespace ℕ)
     → Among n w.namespaces → nat_eq (new_space fresh) n.number ≡ false
-new_among_spaces w fresh serves n m = false_from_ne_true (nat_eq (new_space fresh) n.number) (λ same.
-    true≢false (sym (is_among_numbers (numbers_in_use w) (new_space fresh)
-    (subst (λ i. Among i (numbers_in_use w)) (sym (eqb-true (new_space fresh) n.number same))
+new_among_spaces w fresh serves n m =
+    false_from_ne_true (nat_eq (new_space fresh) n.number) (λ same. true≢false
+    (sym (is_among_numbers (numbers_in_use w) (new_space fresh) (rw (eqb-true (new_space fresh) n.number same)
     (among-append_right (flat_map used_by_mount w.mounts ++ flat_map used_by_filesystem w.filesystems)
-    (map (λ (x : Namespace ℕ). x.number) w.namespaces) n.number
-    (among-map (λ (x : Namespace ℕ). x.number) w.namespaces n m)))) ∙ serves.unused 0))
+    (map (λ (x : Namespace ℕ). x.number) w.namespaces) n.number (among-map (λ (x : Namespace ℕ). x.number) w.namespaces
+    n m)))) ∙ serves.unused 0))
 
 -- a namespace that is listed
 pub listed_in : (w : World ℕ) (n : ℕ) → is_listed nat_eq w n ≡ true
@@ -107,10 +107,10 @@ module _ (w : World ℕ) (fresh : Fresh ℕ) (task : Task ℕ) (can : CanUnshare
 
   -- a task is replaced, or stays
   its : replaced task ≡ moved
-  its = ap (λ b. cond b moved task) can.named
+  its = cc can.named
 
   stays : (t : Task ℕ) → same_name task.name t.name ≡ false → replaced t ≡ t
-  stays t e = ap (λ b. cond b moved t) e
+  stays t e = cc
 
   moved_in : Among moved base.tasks
   moved_in = subst (λ t. Among t base.tasks) its (among-map replaced w.tasks task can.there)
@@ -119,15 +119,15 @@ module _ (w : World ℕ) (fresh : Fresh ℕ) (task : Task ℕ) (can : CanUnshare
   none_in_new m n = grind (arith, common_steps, among_from_list_all, listed_in, and_parts, new_among_spaces)
 
   base_listed : MountsAreListed base
-  base_listed =
-      list_all_from_among (λ (x : Mount ℕ). list_all (is_listed nat_eq base) (option_to_list x.namespace)) base.mounts
-      (λ m n. ⊎_elim (λ before. old m.namespace
-      (among_from_list_all (λ (x : Mount ℕ). list_all (is_listed nat_eq w) (option_to_list x.namespace))
-      w.mounts can.listed m before))
-      (λ fresh_one. ap (λ (x : Mount ℕ). list_all (is_listed nat_eq base) (option_to_list x.namespace))
-      (among-from_map copy copied m fresh_one).2
-      ∙ ap (λ b. b && true) (is_among_numbers (map (λ (x : Namespace ℕ). x.number) base.namespaces) s
-      (among-map (λ (x : Namespace ℕ). x.number) base.namespaces new new_in))) (among-append w.mounts copies m n))
+  base_listed = list_all_from_among (λ (x : Mount ℕ). list_all (is_listed nat_eq base) (option_to_list x.namespace))
+      base.mounts (λ m n. ⊎_elim (λ before. old m.namespace (among_from_list_all
+      (λ (x : Mount ℕ). list_all (is_listed nat_eq w) (option_to_list x.namespace)) w.mounts can.listed m before))
+      (λ fresh_one. cc (
+        (among-from_map copy copied m fresh_one).2,
+        is_among_numbers
+            (map (λ (x : Namespace ℕ). x.number) base.namespaces) s (among-map (λ (x : Namespace ℕ). x.number) base.namespaces
+            new new_in),
+      )) (among-append w.mounts copies m n))
     where
       new_in : Among new base.namespaces
       new_in = among-append_right w.namespaces (new ∷ []) new (inl refl)
@@ -140,7 +140,7 @@ module _ (w : World ℕ) (fresh : Fresh ℕ) (task : Task ℕ) (can : CanUnshare
   task_in : (n : ℕ) (t : Task ℕ) → Among t w.tasks → same_name task.name t.name ≡ false → n ≡ t.namespace
       → list_any (λ (x : Task ℕ). nat_eq n x.namespace) base.tasks ≡ true
   task_in n t m e f = any_from_among (λ (x : Task ℕ). nat_eq n x.namespace) base.tasks t
-      (subst (λ x. Among x base.tasks) (stays t e) (among-map replaced w.tasks t m)) (eq-eqb n t.namespace f)
+      (rw (← stays t e) (among-map replaced w.tasks t m)) (eq-eqb n t.namespace f)
 
   new_has : has_tasks nat_eq base new ≡ true
   new_has = any_from_among (λ (x : Task ℕ). nat_eq s x.namespace) base.tasks moved moved_in (eq-eqb s s refl)
@@ -148,16 +148,14 @@ module _ (w : World ℕ) (fresh : Fresh ℕ) (task : Task ℕ) (can : CanUnshare
   others_have : (p : Namespace ℕ → Bool) → (new_passes : p new ≡ true)
       → ((n : Namespace ℕ) → Among n w.namespaces → p n ≡ true) → list_all p base.namespaces ≡ true
   others_have p new_passes old_pass = list_all_from_among p base.namespaces (λ n m. ⊎_elim (old_pass n)
-      (λ last. ⊎_elim (λ e. ap p e ∙ new_passes) (λ none. absurd none) last) (among-append w.namespaces (new ∷ []) n m))
+      (λ last. ⊎_elim (λ e. cc) (λ none. absurd none) last) (among-append w.namespaces (new ∷ []) n m))
 
   -- Another task stays in the namespace
   stays_on : Ends false w task → namespaces_ended nat_eq base ≡ base
-  stays_on (other, m, together, differ) =
-      none_ends base base_listed (others_have (has_tasks nat_eq base) new_has (λ n at.
-      let t = any_among (λ (x : Task ℕ). nat_eq n.number x.namespace) w.tasks
-      (among_from_list_all (has_tasks nat_eq w) w.namespaces can.live n at) in
-      ⊎_elim (λ same. task_in n.number other m differ (eqb-true n.number t.0.namespace t.2
-      ∙ ap (λ (x : Task ℕ). x.namespace) (sym same) ∙ sym together))
+  stays_on (other, m, together, differ) = none_ends base base_listed (others_have (has_tasks nat_eq base) new_has
+      (λ n at. let t = any_among (λ (x : Task ℕ). nat_eq n.number x.namespace) w.tasks
+      (among_from_list_all (has_tasks nat_eq w) w.namespaces can.live n at) in ⊎_elim
+      (λ same. task_in n.number other m differ (cc (eqb-true n.number t.0.namespace t.2)))
       (λ apart. task_in n.number t.0 t.1 apart (eqb-true n.number t.0.namespace t.2)) (can.only t.0 t.1)))
       (none_lost base base_kept)
 
@@ -191,7 +189,7 @@ module _ (w : World ℕ) (fresh : Fresh ℕ) (task : Task ℕ) (can : CanUnshare
       by false e = ap (λ o. record m { mount_point = o }) (point_stays e m.mount_point refl)
 
   copy_stays : (m : Mount ℕ) → Among m copies → in_space k m ≡ false
-  copy_stays m n = ap (in_space k) (among-from_map copy copied m n).2 ∙ can.left
+  copy_stays m n = cc ((among-from_map copy copied m n).2, can.left)
 
   abbrev left_by : World ℕ
   left_by = record base { mounts = map (after_going nat_eq base gone) base.mounts }
@@ -212,7 +210,7 @@ module _ (w : World ℕ) (fresh : Fresh ℕ) (task : Task ℕ) (can : CanUnshare
       by z n h false e = member_left z n e g h
       by z n h true e = ⊎_elim (λ old. let c = among-map copy copied z (among-filter (in_space k) w.mounts z old e) in
           member_left (copy z) (among-append_right w.mounts copies (copy z) c) (copy_stays (copy z) c) g h)
-          (λ late. absurd (true≢false (sym e ∙ copy_stays z late))) (among-append w.mounts copies z n)
+          (λ late. cc (copy_stays z late)) (among-append w.mounts copies z n)
 
   source_left : (g : ℕ) → Lives (has_members nat_eq base.mounts) base.master g
       → is_lost_group nat_eq left_by (Some g) ≡ false
@@ -221,20 +219,20 @@ module _ (w : World ℕ) (fresh : Fresh ℕ) (task : Task ℕ) (can : CanUnshare
 
   master_left : (g : ℕ) → Lives (has_members nat_eq base.mounts) base.master g
       → is_lost_group nat_eq left_by (base.master g) ≡ false
-  master_left g (has_no_master it has e) = ap (is_lost_group nat_eq left_by) e
-  master_left g (has_master it above has e later) = ap (is_lost_group nat_eq left_by) e ∙ source_left above later
+  master_left g (has_no_master it has e) = cc
+  master_left g (has_master it above has e later) = cc (source_left above later)
 
   none_lost_there : list_any (lost_a_group nat_eq left_by) left_by.mounts ≡ false
-  none_lost_there = none_from_among (lost_a_group nat_eq left_by) left_by.mounts (λ y n.
-      let from = among-from_map (after_going nat_eq base gone) base.mounts y n in
-      ap (lost_a_group nat_eq left_by) (from.2 ∙ cut_so from.0 from.1) ∙ by from.0 from.1 (in_space k from.0))
+  none_lost_there = none_from_among (lost_a_group nat_eq left_by) left_by.mounts
+      (λ y n. let from = among-from_map (after_going nat_eq base gone) base.mounts y n in cc
+      (from.2, cut_so from.0 from.1, by from.0 from.1 (in_space k from.0)))
     where
       source : (m : Mount ℕ) → Among m base.mounts → (o : Option ℕ) → source_of m.propagation ≡ o
           → (is_lost_group nat_eq left_by o || is_lost_group nat_eq left_by (then_some o left_by.master)) ≡ false
       source m n None e = refl
       source m n (Some g) e =
           let lives = among_from_all (HasLivingGroups nat_eq base) base.mounts base_kept.groups m n g e in
-          ap (λ b. b || is_lost_group nat_eq left_by (left_by.master g)) (source_left g lives) ∙ master_left g lives
+          cc (source_left g lives, master_left g lives)
 
       by : (m : Mount ℕ) → Among m base.mounts → (b : Bool)
           → lost_a_group nat_eq left_by (cond b (detached m) m) ≡ false
@@ -251,11 +249,10 @@ module _ (w : World ℕ) (fresh : Fresh ℕ) (task : Task ℕ) (can : CanUnshare
   other_spaces : Ends true w task
       → list_all (λ (n : Namespace ℕ). nat_eq k n.number || has_tasks nat_eq base n) base.namespaces ≡ true
   other_spaces alone = others_have (λ (n : Namespace ℕ). nat_eq k n.number || has_tasks nat_eq base n)
-      (or_right (nat_eq k s) (has_tasks nat_eq base new) new_has) (λ n at.
-      let t = any_among (λ (x : Task ℕ). nat_eq n.number x.namespace) w.tasks
-      (among_from_list_all (has_tasks nat_eq w) w.namespaces can.live n at) in
-      ⊎_elim (λ same. or_left (nat_eq k n.number) (has_tasks nat_eq base n)
-      (eq-eqb k n.number (ap (λ (x : Task ℕ). x.namespace) same ∙ sym (eqb-true n.number t.0.namespace t.2))))
+      (or_right (nat_eq k s) (has_tasks nat_eq base new) new_has) (λ n at. let t = any_among
+      (λ (x : Task ℕ). nat_eq n.number x.namespace) w.tasks (among_from_list_all (has_tasks nat_eq w) w.namespaces
+      can.live n at) in ⊎_elim (λ same. or_left (nat_eq k n.number) (has_tasks nat_eq base n)
+      (eq-eqb k n.number (cc (eqb-true n.number t.0.namespace t.2))))
       (λ apart. or_right (nat_eq k n.number) (has_tasks nat_eq base n)
       (task_in n.number t.0 t.1 apart (eqb-true n.number t.0.namespace t.2))) (can.only t.0 t.1))
 

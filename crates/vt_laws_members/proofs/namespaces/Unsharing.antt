@@ -14,6 +14,7 @@ use Rattle.vt_laws_members.specs.Changes.Changes.{EndAlike, IsCallOfTheirs, grow
 use Rattle.vt_laws_members.specs.Changes.NameChanges.{EndsAlikeByOne}
 use Rattle.vt_laws_members.proofs.changes.looks.Granted.{of_rules}
 use Rattle.vt_laws_members.proofs.changes.looks.Told.{ended_alike, ran, same_caller}
+use Rattle.vt_laws_members.proofs.changes.tasks.ByPermit.{by_known}
 use Rattle.vt_laws_members.proofs.changes.tasks.Denied.{denial_ends_alike, ran_there, run_by, unnamed_ends_alike}
 use Rattle.vt_laws_members.proofs.changes.tasks.Rights.{only_task}
 use Rattle.vt_laws_members.proofs.changes.letting_go.CutNamespace.{in_space}
@@ -63,7 +64,7 @@ module _ {world : World ℕ} {names : List TaskName} {name : TaskName} (it : IsC
     is = it.is;
     sealed_off = it.sealed_off;
     theirs = it.theirs;
-    among_them = λ member e. absurd (true≢false (ap is_exit e));
+    among_them = λ member e. cc;
   }
 
   in_world : (t : Task ℕ) → Among t old → Among t world.tasks
@@ -105,27 +106,25 @@ module _ {world : World ℕ} {names : List TaskName} {name : TaskName} (it : IsC
   -- Tasks of the set
   set_is : (tasks : List (Task ℕ))
       → filter (is_member_task names) (map replaced tasks) ≡ map replaced (filter (is_member_task names) tasks)
-  set_is tasks = filter-map (is_member_task names) replaced tasks
-      (λ t. ap (λ n. is_among same_name n names) (name-replaced_if_called moved t))
+  set_is tasks = filter-map (is_member_task names) replaced tasks (λ t. cc (name-replaced_if_called moved t))
 
   abbrev new : List (Task ℕ)
   new = filter (is_member_task names) (map replaced world.tasks)
 
   its : replaced task ≡ moved
-  its = ap (λ b. cond b moved task) (same_name_itself task.name)
+  its = cc (same_name_itself task.name)
 
   stays : (t : Task ℕ) → same_name task.name t.name ≡ false → replaced t ≡ t
-  stays t e = ap (λ b. cond b moved t) e
+  stays t e = cc
 
   replaced_how : (t : Task ℕ) → Among t world.tasks → ((task ≡ t) × (replaced t ≡ moved)) ⊎ (replaced t ≡ t)
-  replaced_how t m =
-      ⊎_elim (λ same. inl (same, ap replaced (sym same) ∙ its)) (λ apart_so. inr (stays t apart_so)) (only t m)
+  replaced_how t m = ⊎_elim (λ same. inl (same, cc its)) (λ apart_so. inr (stays t apart_so)) (only t m)
 
   set_from : (t : Task ℕ) → Among t new → (u : Task ℕ) × Among u old × (t ≡ replaced u)
-  set_from t m = among-from_map replaced old t (subst (Among t) (set_is world.tasks) m)
+  set_from t m = among-from_map replaced old t (rw (← set_is world.tasks) m)
 
   in_set : (u : Task ℕ) → Among u old → Among (replaced u) new
-  in_set u m = subst (Among (replaced u)) (sym (set_is world.tasks)) (among-map replaced old u m)
+  in_set u m = rw (set_is world.tasks) (among-map replaced old u m)
 
   entered : (n : ℕ) → in_spaces new n ≡ true → (in_spaces old n ≡ true) ⊎ IsNewSpace world n
   entered n h =
@@ -178,9 +177,8 @@ module _ {world : World ℕ} {names : List TaskName} {name : TaskName} (it : IsC
           (λ none. absurd none) rest) n
 
       its_own : (u : Task ℕ) → Among u old → Among l (u.root ∷ u.directory ∷ []) → OnTheirs l
-      its_own u k n = ⊎_elim (λ e. subst OnTheirs (sym e) (root_theirs world names it.is u k))
-          (λ rest. ⊎_elim (λ e. subst OnTheirs (sym e) (directory_theirs world names it.is u k))
-          (λ none. absurd none) rest) n
+      its_own u k n = ⊎_elim (λ e. rw e (root_theirs world names it.is u k))
+          (λ rest. ⊎_elim (λ e. rw e (directory_theirs world names it.is u k)) (λ none. absurd none) rest) n
 
   pub places_moved : (l : Location ℕ) → Among l (locations new) → Among l (locations old) ⊎ (OnTheirs l ⊎ OnCopy l)
   places_moved l m =
@@ -197,8 +195,8 @@ module _ {world : World ℕ} {names : List TaskName} {name : TaskName} (it : IsC
 
   others_are : filter (λ t. not (is_member_task names t)) (map replaced world.tasks)
       ≡ map replaced (outsiders world names)
-  others_are = filter-map (λ t. not (is_member_task names t)) replaced world.tasks
-      (λ t. ap (λ n. not (is_among same_name n names)) (name-replaced_if_called moved t))
+  others_are =
+      filter-map (λ t. not (is_member_task names t)) replaced world.tasks (λ t. cc (name-replaced_if_called moved t))
 
   outside_stays : (l : Location ℕ)
       → Among l (locations (filter (λ t. not (is_member_task names t)) (map replaced world.tasks)))
@@ -235,8 +233,7 @@ module _ {world : World ℕ} {names : List TaskName} {name : TaskName} (it : IsC
     world_so = unshared_so world fresh task can_world ends here
 
     part_so : namespaces_ended nat_eq (unshared nat_eq part fresh task) ≡ remade plan part (map replaced part.tasks)
-    part_so = unshared_so part fresh task can_part ends here_too ∙ ap (λ c. remade (unshare_plan ends k fresh c) part
-        (map (replaced_if_called (moved_to_copies fresh c task)) part.tasks)) (space_in_part (sealing_of it) k k_own)
+    part_so = cc (unshared_so part fresh task can_part ends here_too, space_in_part (sealing_of it) k k_own)
 
     turned_shape : (m : Mount ℕ) → KeepsShape m (turn m)
     turned_shape m = by (ends && in_space k m)
@@ -260,16 +257,14 @@ module _ {world : World ℕ} {names : List TaskName} {name : TaskName} (it : IsC
     still_in : (n : ℕ) → (ends && nat_eq k n) ≡ false → in_spaces old n ≡ true → in_spaces new n ≡ true
     still_in n out h =
         let t = any_among (λ (x : Task ℕ). nat_eq n x.namespace) old h in
-        ⊎_elim (λ same. by ends here_too out (ap (λ (x : Task ℕ). x.namespace) same
-        ∙ sym (eqb-true n t.0.namespace t.2)))
+        ⊎_elim (λ same. by ends here_too out (cc (eqb-true n t.0.namespace t.2)))
         (λ apart_so. any_from_among (λ (x : Task ℕ). nat_eq n x.namespace) new t.0
-        (subst (λ x. Among x new) (stays t.0 apart_so) (in_set t.0 t.1)) t.2) (only t.0 (in_world t.0 t.1))
+        (rw (← stays t.0 apart_so) (in_set t.0 t.1)) t.2) (only t.0 (in_world t.0 t.1))
       where
         by : (e : Bool) → Ends e part task → (e && nat_eq k n) ≡ false → k ≡ n → in_spaces new n ≡ true
-        by true alone f same = absurd (true≢false (sym (eq-eqb k n same) ∙ f))
+        by true alone f same = cc (eq-eqb k n same)
         by false (other, m, together, differ) f same = any_from_among (λ (x : Task ℕ). nat_eq n x.namespace) new other
-            (subst (λ x. Among x new) (stays other differ) (in_set other m))
-            (eq-eqb n other.namespace (sym same ∙ sym together))
+            (rw (← stays other differ) (in_set other m)) (eq-eqb n other.namespace (cc))
 
     placed : (m : Mount ℕ) → Among m world.mounts → is_own world names old m ≡ true
         → ((turn m).namespace ≡ None) ⊎ (((turn m).namespace ≡ m.namespace) × (is_own world names new m ≡ true))
@@ -344,7 +339,7 @@ module _ {world : World ℕ} {names : List TaskName} {name : TaskName} (it : IsC
     where
       alone : (t : Task ℕ) → Among t world.tasks → same_name task.name t.name ≡ false → nat_eq k t.namespace ≡ false
       alone t m differ = none_among (λ (x : Task ℕ). nat_eq k x.namespace) rest e t
-          (among-filter (λ (x : Task ℕ). not (same_name task.name x.name)) world.tasks t m (ap not differ))
+          (among-filter (λ (x : Task ℕ). not (same_name task.name x.name)) world.tasks t m (cc))
   granted_alike judged true e =
       let at = any_among (λ (t : Task ℕ). nat_eq k t.namespace) rest e in
       let from = among-from_filter (λ (t : Task ℕ). not (same_name task.name t.name)) world.tasks at.0 at.1 in
@@ -364,19 +359,7 @@ unfolding unshare_permit
 unshares task = of_rules Unshares (admin_rules task) (Ok ToUnshare) refl
 
 pub unshares_end_alike : UnsharesEndAlike
-unshares_end_alike world names name it fresh serves = by (task_called world name) refl
-  where
-    judged_by : (task : Task ℕ) → task_called world name ≡ Some task
-        → (j : Judgement ℕ) → judge_in nat_eq fresh world task Unshare ≡ j → IfOk j Unshares
-        → EndsAlikeByOne world names name Unshare fresh
-    judged_by task e (Ok permit) judged known =
-        granted_alike it task e fresh serves (judged ∙ ap Ok known)
-        (list_any (λ (t : Task ℕ). nat_eq task.namespace t.namespace)
-        (filter (λ (t : Task ℕ). not (same_name task.name t.name)) world.tasks)) refl
-    judged_by task e (Err deny) judged known = denial_ends_alike it fresh fresh
-        (ap (λ o. is_ok (ran name Unshare world fresh o).answer) e
-        ∙ ap (λ j. is_ok (run_by it world fresh task j).answer) judged)
-
-    by : (o : Option (Task ℕ)) → task_called world name ≡ o → EndsAlikeByOne world names name Unshare fresh
-    by None e = unnamed_ends_alike it fresh fresh e
-    by (Some task) e = judged_by task e (judge_in nat_eq fresh world task Unshare) refl (unshares task)
+unshares_end_alike world names name it fresh serves = by_known it fresh fresh refl (λ task e. Unshares)
+    (λ task e. unshares task) (λ task e permit judged known. granted_alike it task e fresh serves (judged ∙ ap Ok known)
+    (list_any (λ (t : Task ℕ). nat_eq task.namespace t.namespace)
+    (filter (λ (t : Task ℕ). not (same_name task.name t.name)) world.tasks)) refl)

@@ -39,11 +39,10 @@ module _ {world : World ℕ} {names : List TaskName} {task : Task ℕ} (member :
   -- Walks of the layers
   each_at : (paths : List (List ℕ)) → IfOk (each_walked nat_eq (looks_of nat_eq world) task paths) (Each At)
   each_at [] = λ l m. absurd m
-  each_at (path ∷ paths) =
-      then_ok StandsThere (Each At) (walk_end (source_walk nat_eq (looks_of nat_eq world) task path)) _
-      (end_ok StandsThere (source_walk nat_eq (looks_of nat_eq world) task path) (at_source member path))
+  each_at (path ∷ paths) = then_ok StandsThere (Each At) (walk_end (source_walk nat_eq (looks_of nat_eq world) task
+      path)) _ (end_ok StandsThere (source_walk nat_eq (looks_of nat_eq world) task path) (at_source member path))
       (λ here on. then_ok (Each At) (Each At) (each_walked nat_eq (looks_of nat_eq world) task paths) _ (each_at paths)
-      (λ rest all l m. ⊎_elim (λ same. subst At (sym same) on) (λ later. all l later) m))
+      (λ rest all l m. ⊎_elim (λ same. rw same on) (λ later. all l later) m))
 
   given_at : (path : Option (List ℕ))
       → IfOk (walked_if_given nat_eq (looks_of nat_eq world) task path) (λ place. Each At (option_to_list place))
@@ -51,7 +50,7 @@ module _ {world : World ℕ} {names : List TaskName} {task : Task ℕ} (member :
   given_at (Some path) = then_ok StandsThere (λ place. Each At (option_to_list place))
       (walk_end (source_walk nat_eq (looks_of nat_eq world) task path)) _
       (end_ok StandsThere (source_walk nat_eq (looks_of nat_eq world) task path) (at_source member path))
-      (λ here on l m. ⊎_elim (λ same. subst At (sym same) on) (λ none. absurd none) m)
+      (λ here on l m. ⊎_elim (λ same. rw same on) (λ none. absurd none) m)
 
   layers_at : (words : OverlayWords) → IfOk (layers_walked nat_eq (looks_of nat_eq world) task words) AreAt
   layers_at words =
@@ -82,15 +81,14 @@ module _ {world : World ℕ} {names : List TaskName} {task : Task ℕ} (member :
     given_used : (o : Option (Location ℕ)) → Each At (option_to_list o)
         → Each IsUsed (option_to_list (option_map layer_there o))
     given_used None at layer m = absurd m
-    given_used (Some l) at layer m =
-        ⊎_elim (λ same. subst IsUsed (sym same) (used_at l (at l (inl refl)))) (λ none. absurd none) m
+    given_used (Some l) at layer m = ⊎_elim (λ same. rw same (used_at l (at l (inl refl)))) (λ none. absurd none) m
 
     lowers_used : Each IsUsed overlay.lowers
     lowers_used layer m =
         let from = among-from_map layer_there places.lowers layer m in
-        subst IsUsed (sym from.2) (used_at from.0 (all from.0
-        (among-append_left (places.lowers ++ option_to_list places.upper) (option_to_list places.work) from.0
-        (among-append_left places.lowers (option_to_list places.upper) from.0 from.1))))
+        rw from.2 (used_at from.0 (all from.0 (among-append_left (places.lowers ++ option_to_list places.upper)
+        (option_to_list places.work) from.0 (among-append_left places.lowers (option_to_list places.upper) from.0
+        from.1))))
 
     upper_used : Each IsUsed (option_to_list overlay.upper)
     upper_used = given_used places.upper (λ l m. all l

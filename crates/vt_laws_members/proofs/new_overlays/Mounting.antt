@@ -7,6 +7,7 @@ use Rattle.vt_laws_mounts.specs.LettingGo.Keeping.{has_only_named}
 use Rattle.vt_laws_worlds.proofs.overlays_let_go.mounting.NewOverlays.{new_overlays_are_named}
 use Rattle.vt_laws_members.specs.Changes.Changes.{EndAlike, EndsAlike, IsCallOfTheirs, grown}
 use Rattle.vt_laws_members.proofs.changes.looks.Told.{ended_alike, ran, same_caller}
+use Rattle.vt_laws_members.proofs.changes.tasks.ByPermit.{by_permit}
 use Rattle.vt_laws_members.proofs.changes.tasks.Denied.{denial_ends_alike, ran_there, run_by, unnamed_ends_alike}
 use Rattle.vt_laws_members.specs.NewOverlays.OverlayMounts.{OverlayMountsEndAlike}
 use Rattle.vt_laws_members.proofs.new_overlays.LayersTheirs.{MountsOverlay, all_used, mounts_overlay, shown_used}
@@ -49,7 +50,7 @@ module _ {world : World ℕ} {names : List TaskName} {name : TaskName} {path : L
       now_there (sealing_of it) serves its.here its.on its.own new_one refl new_layers new_named flags
 
   granted_so : judge_in nat_eq fresh world task call ≡ Ok (ToMountOverlay its.here overlay flags)
-  granted_so = judged ∙ ap Ok its.is_so
+  granted_so = cc its.is_so
 
   first : policy nat_eq fresh world name call ≡ granted Done (numbers_raised nat_eq world name [] later)
   first = ap (ran name call world fresh) called ∙ ap (run_by it world fresh task) granted_so
@@ -73,21 +74,7 @@ module _ {world : World ℕ} {names : List TaskName} {name : TaskName} {path : L
   })
 
 pub overlay_mounts_end_alike : OverlayMountsEndAlike
-overlay_mounts_end_alike world names name path options flags it fresh serves = by (task_called world name) refl
-  where
-    judged_by : (task : Task ℕ) → Among task (members world names) → task_called world name ≡ Some task
-        → (j : Judgement ℕ) → judge_in nat_eq fresh world task (MountOverlay path options flags) ≡ j
-        → EndsAlike world names name (MountOverlay path options flags) fresh fresh
-    judged_by task member e (Ok permit) judged =
-        mount_alike it e serves (mounts_overlay (a_member (sealing_of it) member) fresh path
-        options flags permit (calls_are_granted nat_eq (looks_of nat_eq world) (overfills nat_eq fresh world task) task
-        (MountOverlay path options flags) permit judged)) judged
-    judged_by task member e (Err deny) judged =
-        denial_ends_alike it fresh fresh (ap (λ o. is_ok (ran name (MountOverlay path options flags) world fresh
-        o).answer) e ∙ ap (λ j. is_ok (run_by it world fresh task j).answer) judged)
-
-    by : (o : Option (Task ℕ)) → task_called world name ≡ o
-        → EndsAlike world names name (MountOverlay path options flags) fresh fresh
-    by None e = unnamed_ends_alike it fresh fresh e
-    by (Some task) e = judged_by task (caller_in it e).among e
-        (judge_in nat_eq fresh world task (MountOverlay path options flags)) refl
+overlay_mounts_end_alike world names name path options flags it fresh serves = by_permit it fresh fresh refl
+    (λ task e permit judged. mount_alike it e serves (mounts_overlay (caller_in it e) fresh path options flags permit
+    (calls_are_granted nat_eq (looks_of nat_eq world) (overfills nat_eq fresh world task) task
+    (MountOverlay path options flags) permit judged)) judged)

@@ -38,7 +38,7 @@ module _ {world : World ℕ} {names : List TaskName} (sealing : IsSealed world n
 
   unlike : (n : ℕ) → nat_eq n (fresh 0) ≡ false → list_any (λ (f : Filesystem ℕ). nat_eq n f.number) (new_one ∷ [])
       ≡ false
-  unlike n other = ap (λ k. nat_eq n k || false) number ∙ ap (λ b. b || false) other
+  unlike n other = cc
 
   pub unused : (n : ℕ) → is_among nat_eq n (used_filesystems nat_eq world names) ≡ true
       → list_any (λ (f : Filesystem ℕ). nat_eq n f.number) (new_one ∷ []) ≡ false
@@ -73,8 +73,7 @@ module _ {world : World ℕ} {names : List TaskName} (sealing : IsSealed world n
 
   sources : (o : Mount ℕ) → Among o origins → (g : ℕ) → source_of o.propagation ≡ Some g
       → part.master g ≡ world.master g
-  sources o m g e = ⊎_elim (λ same. none_is_some g (sym (ap (λ (x : Mount ℕ). source_of x.propagation) same) ∙ e))
-      (λ none. absurd none) m
+  sources o m g e = ⊎_elim (λ same. none_is_some g (cc)) (λ none. absurd none) m
 
   new_groups : (a b : ℕ) → world.master (new.image a b) ≡ None
   new_groups a b = group_new world names sealing.is fresh serves _

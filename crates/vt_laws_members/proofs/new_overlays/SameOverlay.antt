@@ -50,23 +50,17 @@ module _ (layers : List (OpenLayer ℕ)) where
   paths_alike : (most other : ℕ) → Bounded most → Bounded other → (n k : ℕ) (base : List (List ℕ))
       → most ≤ n + length base → other ≤ k + length base → paths_from n layers base ≡ paths_from k layers base
   paths_alike most other within among zero zero base l m = refl
-  paths_alike most other within among zero (suc k) base l m =
-      ap (λ names. base ∷ flat_map (λ name. paths_from k layers (base ++ name ∷ [])) names)
-      (sym (no_names most within base (omega (arith, l))))
-  paths_alike most other within among (suc n) zero base l m =
-      ap (λ names. base ∷ flat_map (λ name. paths_from n layers (base ++ name ∷ [])) names)
-      (no_names other among base (omega (arith, m)))
-  paths_alike most other within among (suc n) (suc k) base l m = ap (λ list. base ∷ list)
-      (flat_map_alike (λ name. paths_from n layers (base ++ name ∷ []))
-      (λ name. paths_from k layers (base ++ name ∷ [])) (names_shown layers base)
-      (λ name at. let longer = length_longer base name in
-      paths_alike most other within among n k (base ++ name ∷ []) (omega (arith, l, longer))
-      (omega (arith, m, longer))))
+  paths_alike most other within among zero (suc k) base l m = cc (no_names most within base (omega (arith, l)))
+  paths_alike most other within among (suc n) zero base l m = cc (no_names other among base (omega (arith, m)))
+  paths_alike most other within among (suc n) (suc k) base l m = cc (flat_map_alike (λ name. paths_from n layers
+      (base ++ name ∷ [])) (λ name. paths_from k layers (base ++ name ∷ [])) (names_shown layers base)
+      (λ name at. let longer = length_longer base name in paths_alike most other within among n k (base ++ name ∷ [])
+      (omega (arith, l, longer)) (omega (arith, m, longer))))
 
   pub objects_alike : (most other : ℕ) → Bounded most → Bounded other
       → merged_objects layers most ≡ merged_objects layers other
   objects_alike most other within among =
-      ap (filter_map (merged_at layers)) (paths_alike most other within among most other [] (omega arith) (omega arith))
+      cc (paths_alike most other within among most other [] (omega arith) (omega arith))
 
 module _ {world : World ℕ} (names : List TaskName) (is : IsWorld nat_eq world) (overlay : Overlay ℕ)
     (are_layers : AreLayers world overlay) (used : (layer : Layer ℕ) → Among layer (shown_layers overlay)
@@ -79,8 +73,7 @@ module _ {world : World ℕ} (names : List TaskName) (is : IsWorld nat_eq world)
 
   opened_alike : opened part ≡ opened world
   opened_alike = map_alike (open_layer nat_eq part) (open_layer nat_eq world) (shown_layers overlay)
-      (λ layer m. ap (λ (f : Filesystem ℕ). record { tree = f.files.tree; directory = layer.directory })
-      (found world names layer.filesystem (used layer m)))
+      (λ layer m. cc (found world names layer.filesystem (used layer m)))
 
   -- a path in a layer is no longer than the part has inodes
   in_layer : (layer : Layer ℕ) → Among layer (shown_layers overlay) → (path : List (List ℕ)) (object : ℕ)
@@ -92,20 +85,16 @@ module _ {world : World ℕ} (names : List TaskName) (is : IsWorld nat_eq world)
       (is_directory_node ((filesystem_numbered nat_eq world n).files.tree.node layer.directory))
       (among_from_list_all (is_plain_layer nat_eq world) (shown_layers overlay) are_layers.1 layer m)).1 in
       let here = found_there world n layer.directory directory in
-      let there = found_there part n layer.directory
-      (ap (λ (f : Filesystem ℕ). is_directory_node (f.files.tree.node layer.directory))
-      (found world names n (used layer m)) ∙ directory) in
-      let few : length path ≤ length (filesystem_numbered nat_eq world n).files.numbers =
-      length-led (filesystem_numbered nat_eq world n).files
-      (all_found (λ f. IsTree f.files.tree) (λ (f : Filesystem ℕ). nat_eq n f.number) world.filesystems is.files.trees
-      (filesystem_numbered nat_eq world n) here)
-      (all_found (λ f. ListsNumbers nat_eq f.files) (λ (f : Filesystem ℕ). nat_eq n f.number) world.filesystems
+      let there = found_there part n layer.directory (cc (found world names n (used layer m))) in
+      let few : length path ≤ length (filesystem_numbered nat_eq world n).files.numbers = length-led
+      (filesystem_numbered nat_eq world n).files (all_found (λ f. IsTree f.files.tree)
+      (λ (f : Filesystem ℕ). nat_eq n f.number) world.filesystems is.files.trees (filesystem_numbered nat_eq world n)
+      here) (all_found (λ f. ListsNumbers nat_eq f.files) (λ (f : Filesystem ℕ). nat_eq n f.number) world.filesystems
       is.files.numbers (filesystem_numbered nat_eq world n) here) layer.directory path object e in
-      let some : length (filesystem_numbered nat_eq part n).files.numbers ≤ inode_count part =
-      in_sum (λ (f : Filesystem ℕ). nat_eq n f.number) part.filesystems (filesystem_numbered nat_eq part n) there in
-      let same : length (filesystem_numbered nat_eq part n).files.numbers
-      ≡ length (filesystem_numbered nat_eq world n).files.numbers =
-      ap (λ (f : Filesystem ℕ). length f.files.numbers) (found world names n (used layer m)) in
+      let some : length (filesystem_numbered nat_eq part n).files.numbers ≤ inode_count part = in_sum
+      (λ (f : Filesystem ℕ). nat_eq n f.number) part.filesystems (filesystem_numbered nat_eq part n) there in
+      let same : length (filesystem_numbered nat_eq part n).files.numbers ≡ length
+      (filesystem_numbered nat_eq world n).files.numbers = cc (found world names n (used layer m)) in
       omega (arith, few, some, same)
 
   bounded_there : Bounded (opened world) (inode_count part)
@@ -118,16 +107,13 @@ module _ {world : World ℕ} (names : List TaskName) (is : IsWorld nat_eq world)
           → option_map (open_layer nat_eq world) o ≡ Some layer
           → led layer.tree layer.directory path ≡ Some seen.object → length path ≤ inode_count part
       by None f {layer} e l = none_is_some layer e
-      by (Some plain) f {layer} e l =
-          in_layer plain (nth_among (shown_layers overlay) seen.layer plain f) path seen.object
-          (ap (λ (x : OpenLayer ℕ). led x.tree x.directory path) (same_Some (open_layer nat_eq world plain) layer e)
-          ∙ l)
+      by (Some plain) f {layer} e l = in_layer plain (nth_among (shown_layers overlay) seen.layer plain f) path
+          seen.object (cc (same_Some (open_layer nat_eq world plain) layer e))
 
   pub same_overlay : (fresh : Fresh ℕ)
       → overlay_filesystem nat_eq fresh part overlay ≡ overlay_filesystem nat_eq fresh world overlay
-  same_overlay fresh = ap (λ layers. overlay_of_inodes nat_eq (evens fresh 0) (odds fresh 0) overlay
-      (merged_inodes nat_eq (odds fresh) (is_some overlay.upper) layers (merged_objects layers (inode_count part))))
-      opened_alike ∙ ap (λ objects. overlay_of_inodes nat_eq (evens fresh 0) (odds fresh 0) overlay
-      (merged_inodes nat_eq (odds fresh) (is_some overlay.upper) (opened world) objects))
-      (objects_alike (opened world) (inode_count part) (inode_count world) bounded_there
-      (bounded world is overlay are_layers))
+  same_overlay fresh = cc (
+    opened_alike,
+    objects_alike (opened world) (inode_count part) (inode_count world) bounded_there
+        (bounded world is overlay are_layers),
+  )

@@ -1,5 +1,4 @@
 -- What the proofs of src/names.rt use.
-pub mod ByPermit
 pub mod Detaching
 pub mod HidingEnding
 pub mod LayersAlike

@@ -42,8 +42,7 @@ module _ (w : World ℕ) (kind : Mount ℕ → Propagation ℕ) (masters : ℕ �
       ∙ map_twice (inheriting nat_eq between) (λ (m : Mount ℕ). record m { propagation = kind m }) w.mounts
 
   regrouped_so : regrouped nat_eq between ≡ with_changed w after (regrouped nat_eq between).master
-  regrouped_so = regrouped_keeps (list_any (lost_a_group nat_eq between) between.mounts)
-      ∙ ap (λ l. record between { mounts = l; master = (regrouped nat_eq between).master }) mounts_left
+  regrouped_so = cc (regrouped_keeps (list_any (lost_a_group nat_eq between) between.mounts), mounts_left)
 
   -- nothing but groups goes
   pub settled_so : AllInUse w → settled nat_eq (regrouped nat_eq between) ≡ with_changed w after master_left

@@ -76,8 +76,7 @@ module _ (fresh : Fresh ℕ) (word : TypeWord) (named : List (Mount ℕ)) where
       → with_new_groups nat_eq number_for a list g ≡ with_new_groups nat_eq number_for b list g
   new_alike a b g e [] = e
   new_alike a b g e (m ∷ rest) = new_alike (with_master nat_eq a (number_for m.number) (master_after m.propagation))
-      (with_master nat_eq b (number_for m.number) (master_after m.propagation)) g
-      (ap (cond (nat_eq g (number_for m.number)) (master_after m.propagation)) e) rest
+      (with_master nat_eq b (number_for m.number) (master_after m.propagation)) g (cc) rest
 
   -- those of other groups stay
   old_kept : (a : ℕ → Option ℕ) (g : ℕ) → ((k : ℕ) → nat_eq g (fresh k) ≡ false) → (list : List (Mount ℕ))
@@ -90,10 +89,13 @@ module _ (fresh : Fresh ℕ) (word : TypeWord) (named : List (Mount ℕ)) where
 -- a number that a mount's group or master has is none of those handed in
 unlike : (w : World ℕ) (supply : Fresh ℕ) → Serves nat_eq w supply → (m : Mount ℕ) → Among m w.mounts → (g : ℕ)
     → source_of m.propagation ≡ Some g → (k : ℕ) → nat_eq g (supply k) ≡ false
-unlike w supply serves m n g e k = false_from_ne_true (nat_eq g (supply k)) (λ same.
-    true≢false (sym (ap (λ i. list_any (nat_eq i) (numbers_in_use w)) (sym (eqb-true g (supply k) same))
-    ∙ is_among_numbers (numbers_in_use w) g
-    (mount_uses w m n g (inr (subst (λ o. Among g (option_to_list o)) (sym e) (inl refl))))) ∙ serves.unused k))
+unlike w supply serves m n g e k = false_from_ne_true (nat_eq g (supply k)) (λ same. true≢false
+    (cc (
+      eqb-true g (supply k) same,
+      is_among_numbers (numbers_in_use w) g
+          (mount_uses w m n g (inr (subst (λ o. Among g (option_to_list o)) (sym e) (inl refl)))),
+      serves.unused k,
+    )))
 
 -- the group of this number is new
 abbrev pub IsNewGroup : Fresh ℕ → TypeWord → ℕ → Type 0
@@ -151,23 +153,28 @@ module _ {world : World ℕ} {names : List TaskName} (sealing : IsSealed world n
   own_named m n h =
       let other = any_among (λ (o : Mount ℕ). nat_eq m.number o.number) named h in
       let own = named_own other.0 other.1 in
-      let same : other.0 ≡ m = sym (numbered world names sealing.is.mounts other.0 (in_world other.0 own))
-      ∙ ap (mount_numbered nat_eq world) (sym (eqb-true m.number other.0.number other.2))
-      ∙ numbered world names sealing.is.mounts m n in
-      subst (λ k. Among k owns) same own
+      let same : other.0 ≡ m = cc (
+        numbered world names sealing.is.mounts other.0 (in_world other.0 own),
+        eqb-true
+            m.number other.0.number other.2,
+        numbered world names sealing.is.mounts m n,
+      ) in
+      rw (← same) own
 
   part_named : (m : Mount ℕ) → Among m part.mounts → is_named fresh word named m ≡ true → Among m owns
   part_named m n h =
       let from = among-from_filter_map (keep world names theirs) world.mounts m n in
-      ⊎_elim (λ same. own_named m (subst (λ k. Among k world.mounts) same from.1) h)
-      (λ stub. absurd (true≢false (sym (among-from_filter (is_own_mount nat_eq world names) world.mounts from.0
-      (own_named from.0 from.1 (ap (is_named fresh word named) stub.0 ∙ h))).1 ∙ stub.1)))
+      ⊎_elim (λ same. own_named m (rw (← same) from.1) h) (λ stub. cc (
+        (among-from_filter (is_own_mount nat_eq world names) world.mounts from.0
+            (own_named from.0 from.1 (ap (is_named fresh word named) stub.0 ∙ h))).1,
+        stub.1,
+      ))
       (kept_how world names theirs from.0 m from.2)
 
   -- Members before inheritance
   member_was : (m : Mount ℕ) (g : ℕ) → is_named fresh word named m ≡ false → is_member_of nat_eq g (changed m) ≡ true
       → is_member_of nat_eq g m ≡ true
-  member_was m g e h = sym (ap (λ c. holds_of (nat_eq g) (group_of (kind_by fresh word named c m))) e) ∙ h
+  member_was m g e h = cc
 
   member_own : (m : Mount ℕ) → Among m world.mounts → (g : ℕ) → Heard g → is_member_of nat_eq g (changed m) ≡ true
       → Among m owns
@@ -220,7 +227,7 @@ module _ {world : World ℕ} {names : List TaskName} (sealing : IsSealed world n
 
   base_heard : (g above : ℕ) → IsGroup g → world.master g ≡ Some above → Heard above
   base_heard g above group e = ⊎_elim (above_heard sealing above g e) (λ new. none_is_some above
-      (sym (ap world.master (sym new.2) ∙ new_none world sealing.is fresh serves new.1) ∙ e)) group
+      (cc (new.2, new_none world sealing.is fresh serves new.1))) group
 
   masters_agree : (g : ℕ) → IsGroup g → masters_there g ≡ t.master g
   masters_agree g group = ⊎_elim (λ heard. kept_there g heard ∙ master_same sealing g heard
@@ -271,7 +278,7 @@ module _ {world : World ℕ} {names : List TaskName} (sealing : IsSealed world n
     where
       by : (k : Propagation ℕ) → kind m ≡ k → inherited nat_eq t_part k ≡ inherited nat_eq t k
       by (Shared g) e = refl
-      by (Slave g) e = ap slave_of_heir (heir_alike (Some g) (λ h f. slave_heard m own h (ap master_after e ∙ f)))
+      by (Slave g) e = cc (heir_alike (Some g) (λ h f. slave_heard m own h (ap master_after e ∙ f)))
       by Private e = refl
       by Unbindable e = refl
 
@@ -300,10 +307,10 @@ module _ {world : World ℕ} {names : List TaskName} (sealing : IsSealed world n
           → source_of (slave_of_heir o) ≡ Some g → HasGroup g
       of_heir s heard None f e = none_is_some g e
       of_heir s heard (Some above) f e =
-          let its : Heard above = up_heard sealing s above heard
-          (subst (Among above) (up_world s heard) (found_among (has t) (groups_up t s) above f)) in
+          let its : Heard above = up_heard sealing s above heard (rw (← up_world s heard)
+          (found_among (has t) (groups_up t s) above f)) in
           let in_it = found_passes (has t) (groups_up t s) above f in
-          subst HasGroup (same_Some above g e) (inl its, in_it, has_alike above its ∙ in_it)
+          rw (← same_Some above g e) (inl its, in_it, has_alike above its ∙ in_it)
 
       by : (k : Propagation ℕ) → kind m ≡ k → source_of (inherited nat_eq t k) ≡ Some g → HasGroup g
       by (Shared h) f e =
@@ -373,7 +380,5 @@ module _ {world : World ℕ} {names : List TaskName} (sealing : IsSealed world n
         (kind_left there taken (new_masters other word named there))
         (master_left world taken (new_masters fresh word named world))
         (master_left there taken (new_masters other word named there))
-    alike_by_any =
-        retyped_alike sealing serves word named named_own (new_masters other word named there)
-        (old_there other (λ m own. unlike there other serves_there m (own_in_part sealing m own)))
-        (λ g new. absurd (true≢false (sym new.0 ∙ no_groups)))
+    alike_by_any = retyped_alike sealing serves word named named_own (new_masters other word named there)
+        (old_there other (λ m own. unlike there other serves_there m (own_in_part sealing m own))) (λ g new. cc new.0)

@@ -13,6 +13,7 @@ use Rattle.vt_laws_members.proofs.judging.MountTrees.{children_own, own_theirs, 
 use Rattle.vt_laws_members.specs.Changes.Changes.{EndAlike, EndsAlike, IsCallOfTheirs, grown}
 use Rattle.vt_laws_members.proofs.changes.looks.Granted.{of_rules, of_walk}
 use Rattle.vt_laws_members.proofs.changes.looks.Told.{ended_alike, ran, same_caller}
+use Rattle.vt_laws_members.proofs.changes.tasks.ByPermit.{by_known}
 use Rattle.vt_laws_members.proofs.changes.tasks.Denied.{denial_ends_alike, ran_there, run_by, unnamed_ends_alike}
 use Rattle.vt_laws_members.proofs.changes.letting_go.Moving.{StandsHere, at_directory, one}
 use Rattle.vt_laws_members.proofs.changes.letting_go.Umounting.{of_passed}
@@ -73,26 +74,25 @@ module _ (world : World ℕ) (names : List TaskName) (is : IsWorld nat_eq world)
 
   tree_own : (n : ℕ) (mount x : Mount ℕ) → Among mount owns → Among x (tree_from nat_eq n world.mounts mount)
       → Among x owns
-  tree_own zero mount x own m = ⊎_elim (λ e. subst (λ k. Among k owns) (sym e) own) (λ none. absurd none) m
-  tree_own (suc n) mount x own m = ⊎_elim (λ e. subst (λ k. Among k owns) (sym e) own) (λ below.
-      let at = among-from_filter (is_own_mount nat_eq world names) world.mounts mount own in
-      let from = among-from_flat_map (tree_from nat_eq n world.mounts)
-      (children nat_eq world.mounts mount.number) x below in
-      let child = children_own world names is mount.number from.0 (own_theirs world names is mount at.0 at.1) from.1 in
-      tree_own n from.0 x (among-filter (is_own_mount nat_eq world names) world.mounts from.0 child.0 child.1) from.2) m
+  tree_own zero mount x own m = ⊎_elim (λ e. rw e own) (λ none. absurd none) m
+  tree_own (suc n) mount x own m = ⊎_elim (λ e. rw e own) (λ below. let at = among-from_filter
+      (is_own_mount nat_eq world names) world.mounts mount own in let from = among-from_flat_map
+      (tree_from nat_eq n world.mounts) (children nat_eq world.mounts mount.number) x below in let child = children_own
+      world names is mount.number from.0 (own_theirs world names is mount at.0 at.1) from.1 in tree_own n from.0 x
+      (among-filter (is_own_mount nat_eq world names) world.mounts from.0 child.0 child.1) from.2) m
 
   module _ (number : ℕ) (theirs : IsTheirs world names is.mounts number)
       (own : Among (mount_numbered nat_eq world number) owns) where
     named_own : (recursive : Bool) (x : Mount ℕ) → Among x (named_mounts nat_eq world number recursive) → Among x owns
     named_own true x m = tree_own _ (mount_numbered nat_eq world number) x own m
-    named_own false x m = ⊎_elim (λ e. subst (λ k. Among k owns) (sym e) own) (λ none. absurd none) m
+    named_own false x m = ⊎_elim (λ e. rw e own) (λ none. absurd none) m
 
     named_alike : (recursive : Bool)
         → named_mounts nat_eq part number recursive ≡ named_mounts nat_eq world number recursive
     named_alike true = ap (mount_tree nat_eq part.mounts) (same_mount world names is.mounts number theirs)
         ∙ tree_alike world names is (mount_numbered nat_eq world number)
         (subst (IsTheirs world names is.mounts) (sym (number-mount_in world.mounts number)) theirs)
-    named_alike false = ap (λ m. m ∷ []) (same_mount world names is.mounts number theirs)
+    named_alike false = cc (same_mount world names is.mounts number theirs)
 
 -- A granted call
 module _ {world : World ℕ} {names : List TaskName} {name : TaskName} {path : List ℕ} {word : TypeWord}
@@ -113,7 +113,7 @@ module _ {world : World ℕ} {names : List TaskName} {name : TaskName} {path : L
 
     its_own : Among mount_of (own_mounts nat_eq world names)
     its_own = among-filter (is_own_mount nat_eq world names) world.mounts mount_of
-        (subst (λ m. Among m world.mounts) (sym (its_mount world names it.is.mounts here.mount theirs)) theirs.1) own
+        (rw (its_mount world names it.is.mounts here.mount theirs) theirs.1) own
 
     abbrev pub named : List (Mount ℕ)
     named = named_mounts nat_eq world here.mount recursive
@@ -143,11 +143,11 @@ module _ {world : World ℕ} {names : List TaskName} {name : TaskName} {path : L
 
       second : policy nat_eq other there name (SetType path word recursive)
           ≡ granted Done (numbers_raised nat_eq there name [] now_there)
-      second = ap (ran name (SetType path word recursive) there other)
-          (same_caller (sealing_of it) name it.theirs ∙ called) ∙ ran_there it fresh other task called judged ∙ ap
-          (λ l. granted Done (numbers_raised nat_eq there name [] (settled nat_eq
-          (retyped nat_eq there (numbers_by nat_eq other l) word l)))) (named_alike world names it.is here.mount theirs
-          its_own recursive) ∙ ap (λ w. granted Done (numbers_raised nat_eq there name [] w)) settled_there
+      second = cc (
+        same_caller (sealing_of it) name it.theirs,
+        ran_there it fresh other task called judged,
+        named_alike world names it.is here.mount theirs its_own recursive,
+      )
 
       pub type_alike : EndsAlike world names name (SetType path word recursive) fresh other
       type_alike = ended_alike names name (SetType path word recursive) first second (record {
@@ -187,29 +187,16 @@ module _ {world : World ℕ} {names : List TaskName} {name : TaskName} {path : L
     → is_own world names (members world names) (mount_at nat_eq world here) ≡ true
     → judge_in nat_eq fresh world task (SetType path word recursive) ≡ Ok (ToSetType here.mount word recursive)
     → EndsAlike world names name (SetType path word recursive) fresh other) where
-  judged_by : (task : Task ℕ) (member : IsMember world names task) → task_called world name ≡ Some task
-      → (j : Judgement ℕ) → judge_in nat_eq fresh world task (SetType path word recursive) ≡ j
-      → IfOk j (SetsType member word recursive)
-      → EndsAlike world names name (SetType path word recursive) fresh other
-  judged_by task member e (Ok permit) judged its = ends task e its.0 its.2 its.3 (judged ∙ ap Ok its.1)
-  judged_by task member e (Err deny) judged its =
-      denial_ends_alike it fresh other (ap (λ o. is_ok (ran name (SetType path word recursive) world fresh o).answer) e
-      ∙ ap (λ j. is_ok (run_by it world fresh task j).answer) judged)
-
-  all_end : (o : Option (Task ℕ)) → task_called world name ≡ o
-      → EndsAlike world names name (SetType path word recursive) fresh other
-  all_end None e = unnamed_ends_alike it fresh other e
-  all_end (Some task) e =
-      let member = caller_in it e in
-      judged_by task member e (judge_in nat_eq fresh world task (SetType path word recursive)) refl
-      (sets_type member word recursive path)
+  all_end : EndsAlike world names name (SetType path word recursive) fresh other
+  all_end = by_known it fresh other refl (λ task e. SetsType (caller_in it e) word recursive)
+      (λ task e. sets_type (caller_in it e) word recursive path)
+      (λ task e permit judged its. ends task e its.0 its.2 its.3 (judged ∙ ap Ok its.1))
 
 pub types_end_alike : TypesEndAlike
 types_end_alike world names name path word recursive it fresh serves =
     all_end it fresh fresh (λ task e here on own judged. by_one it e fresh fresh here on own judged serves refl)
-    (task_called world name) refl
 
 pub other_types_end_alike : OtherTypesEndAlike
 other_types_end_alike world names name path word recursive it no_groups fresh other serves serves_there =
     all_end it fresh other (λ task e here on own judged. by_any it e fresh other here on own judged serves
-    serves_there no_groups) (task_called world name) refl
+    serves_there no_groups)

@@ -97,13 +97,12 @@ module _ {world : World ℕ} {names : List TaskName} (sealing : IsSealed world n
     shown_by mounts l = (mount_in nat_eq mounts l.mount).filesystem
 
     directly_same : used_directly nat_eq later names ≡ used_directly nat_eq world names
-    directly_same = ap (λ l. map shows l ++ map (shown_by (map after world.mounts)) (locations theirs))
-        (filter-map (is_own_mount nat_eq world names) {q = is_own_mount nat_eq world names} after world.mounts
-        (λ m. refl))
-        ∙ ap (λ l. l ++ map (shown_by (map after world.mounts)) (locations theirs)) (map_twice shows after owns)
-        ∙ ap (λ l. map shows owns ++ l)
-        (map_alike (shown_by (map after world.mounts)) (shown_by world.mounts) (locations theirs)
-        (λ l m. same_shown l.mount world.mounts))
+    directly_same = cc (
+      filter-map (is_own_mount nat_eq world names) {q = is_own_mount nat_eq world names} after world.mounts (λ m. refl),
+      map_twice shows after owns,
+      map_alike (shown_by (map after world.mounts)) (shown_by world.mounts) (locations theirs)
+          (λ l m. same_shown l.mount world.mounts),
+    )
 
     masters_alike : (group : ℕ) → list_any (is_member_of nat_eq group) (own_mounts nat_eq later names) ≡ true
         → master_there group ≡ master group
@@ -128,8 +127,7 @@ module _ {world : World ℕ} {names : List TaskName} (sealing : IsSealed world n
         → master_above later_part y ≡ master_above later y
     masters_later y m its =
         let from = among-from_map after world.mounts y m in
-        subst (λ x. master_above later_part x ≡ master_above later x) (sym from.2)
-        (by from.0 (mine from.0 from.1 (ap owned (sym from.2) ∙ its)) (source_of (kind from.0)) refl)
+        rw from.2 (by from.0 (mine from.0 from.1 (ap owned (sym from.2) ∙ its)) (source_of (kind from.0)) refl)
       where
         by : (k : Mount ℕ) → Among k owns → (o : Option ℕ) → source_of (kind k) ≡ o
             → then_some o master_there ≡ then_some o master

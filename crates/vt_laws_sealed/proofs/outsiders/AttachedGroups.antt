@@ -23,47 +23,56 @@ OriginOf world fresh names origin =
     × (origin.filesystem ≡ other.filesystem))
     ⊎ ((origin.propagation ≡ Private) × (k : ℕ) × (origin.filesystem ≡ fresh k))
 
-module _ {world : World ℕ} {names : List TaskName} (apart : IsApart world names) {fresh : Fresh ℕ}
-    (serves : Serves nat_eq world fresh) (filesystems : List (Filesystem ℕ)) (supply : Fresh ℕ)
-    (supplied : (k : ℕ) → (j : ℕ) × (supply k ≡ fresh j)) (place : Location ℕ) (mounts : List (Mount ℕ))
-    (origins : (origin : Mount ℕ) → Among origin mounts → OriginOf world fresh names origin) (moves : Bool) where
+-- what is attached at a place: mounts like those of others or of new filesystems, by numbers that are handed in
+pub record IsAttaching (world : World ℕ) (names : List TaskName) (fresh : Fresh ℕ) : Type 0 where
+  pub apart : IsApart world names
+  pub serves : Serves nat_eq world fresh
+  pub filesystems : List (Filesystem ℕ)
+  pub supply : Fresh ℕ
+  pub supplied : (k : ℕ) → (j : ℕ) × (supply k ≡ fresh j)
+  pub place : Location ℕ
+  pub mounts : List (Mount ℕ)
+  pub origins : (origin : Mount ℕ) → Among origin mounts → OriginOf world fresh names origin
+  pub moves : Bool
+
+module _ {world : World ℕ} {names : List TaskName} {fresh : Fresh ℕ} (it : IsAttaching world names fresh) where
   abbrev so_far : StandsApart world names (IsNewBy fresh)
-  so_far = standing_apart_with world names apart fresh serves
+  so_far = standing_apart_with world names it.apart fresh it.serves
 
   -- the world, perhaps with a new filesystem
   abbrev base : World ℕ
-  base = record world { filesystems = filesystems }
+  base = record world { filesystems = it.filesystems }
 
   abbrev destination : Mount ℕ
-  destination = mount_at nat_eq world place
+  destination = mount_at nat_eq world it.place
 
   abbrev parts : List (Mount ℕ)
-  parts = parts_of nat_eq base place
+  parts = parts_of nat_eq base it.place
 
   abbrev new : Copies ℕ
-  new = copies_from nat_eq supply parts mounts
+  new = copies_from nat_eq it.supply parts it.mounts
 
   abbrev tree : Graft ℕ
-  tree = graft_of nat_eq base new place moves mounts
+  tree = graft_of nat_eq base new it.place it.moves it.mounts
 
   abbrev pub left : World ℕ
-  left = attach nat_eq base supply place moves mounts
+  left = attach nat_eq base it.supply it.place it.moves it.mounts
 
   abbrev pub IsForeign : ℕ → Type 0
   IsForeign = Foreign so_far
 
   -- numbers of new groups are new
   new_image : (group origin : ℕ) → (k : ℕ) × (new.image group origin ≡ fresh k)
-  new_image group origin = supplied (2 * index_in_rows (length mounts) (index_of_group nat_eq parts group)
-      (index_of nat_eq mounts origin) + 1)
+  new_image group origin = it.supplied (2 * index_in_rows (length it.mounts) (index_of_group nat_eq parts group)
+      (index_of nat_eq it.mounts origin) + 1)
 
   -- an origin hears groups of others alone
-  origin_hears : (origin : Mount ℕ) → Among origin mounts → (kind : Propagation ℕ) → origin.propagation ≡ kind
+  origin_hears : (origin : Mount ℕ) → Among origin it.mounts → (kind : Propagation ℕ) → origin.propagation ≡ kind
       → (group : ℕ) → HearsGroup so_far world kind group → IsForeign group
   origin_hears origin m kind e group how = ⊎_elim (λ other. other_hears_foreign so_far other.0 other.1 group
       (subst (λ k. HearsGroup so_far world k group) (sym e ∙ other.2) how))
       (λ private. ⊎_elim (λ f. none_is_some group f) (λ f. none_is_some group f)
-      (subst (λ k. HearsGroup so_far world k group) (sym e ∙ private.0) how)) (origins origin m)
+      (subst (λ k. HearsGroup so_far world k group) (sym e ∙ private.0) how)) (it.origins origin m)
 
   -- A copy is of a mount that is attached, at a part.
   abbrev pub copied_to : Mount ℕ → Mount ℕ → Mount ℕ
@@ -72,10 +81,10 @@ module _ {world : World ℕ} {names : List TaskName} (apart : IsApart world name
 
   abbrev pub IsCopyOf : Mount ℕ → Type 0
   IsCopyOf mount =
-      (part : Mount ℕ) × Among part parts × (origin : Mount ℕ) × Among origin mounts × (mount ≡ copied_to part origin)
+      (part : Mount ℕ) × Among part parts × (origin : Mount ℕ) × Among origin it.mounts × (mount ≡ copied_to part origin)
 
   -- Groups that are made are new, and their masters are groups of others.
-  image_foreign : (twig_group : ℕ) (origin : Mount ℕ) → Among origin mounts
+  image_foreign : (twig_group : ℕ) (origin : Mount ℕ) → Among origin it.mounts
       → IsForeign (image nat_eq new destination (twig_of new (group_of destination.propagation) origin) twig_group)
   image_foreign group origin m = by (is_member_of nat_eq group destination)
     where
@@ -96,29 +105,35 @@ module _ {world : World ℕ} {names : List TaskName} (apart : IsApart world name
       by true = typed (group_of destination.propagation) origin.propagation refl
       by false = inr (new_image group origin.number)
 
-  nearest_foreign : (origin : Mount ℕ) → Among origin mounts → (above : Option ℕ) (group : ℕ)
+  nearest_foreign : (origin : Mount ℕ) → Among origin it.mounts → (above : Option ℕ) (group : ℕ)
       → nearest_image nat_eq base new parts destination (twig_of new (group_of destination.propagation) origin) above
       ≡ Some group → IsForeign group
   nearest_foreign origin m above group e = search (arith, common_steps, none_is_some, same_Some, image_foreign)
 
   -- a master of an origin
-  after_foreign : (origin : Mount ℕ) → Among origin mounts → (group : ℕ)
+  after_foreign : (origin : Mount ℕ) → Among origin it.mounts → (group : ℕ)
       → master_after origin.propagation ≡ Some group → IsForeign group
-  after_foreign origin m group e = search (arith, common_steps, none_is_some, origin_hears)
+  after_foreign origin m group e = by origin.propagation refl e
+    where
+      by : (kind : Propagation ℕ) → origin.propagation ≡ kind → master_after kind ≡ Some group → IsForeign group
+      by (Shared g) f h = none_is_some group h
+      by (Slave g) f h = origin_hears origin m (Slave g) f group (inr h)
+      by Private f h = none_is_some group h
+      by Unbindable f h = none_is_some group h
 
   abbrev IsMade : ℕ × Option ℕ → Type 0
   IsMade entry = ((k : ℕ) × (entry.0 ≡ fresh k)) × ((group : ℕ) → entry.1 ≡ Some group → IsForeign group)
 
-  made_there : (origin : Mount ℕ) → Among origin mounts → (entry : ℕ × Option ℕ)
+  made_there : (origin : Mount ℕ) → Among origin it.mounts → (entry : ℕ × Option ℕ)
       → twig_master (twig_of new (group_of destination.propagation) origin) ≡ Some entry → IsMade entry
   made_there origin m entry e = by origin.propagation refl (group_of destination.propagation) e
     where
       made : (group : ℕ) → (k : ℕ) × (group ≡ fresh k)
           → Some (group, master_after origin.propagation) ≡ Some entry → IsMade entry
       made group number f =
-          let it = same_Some (group, master_after origin.propagation) entry f in (
-            (number.0, sym (ap (λ (x : ℕ × Option ℕ). x.0) it) ∙ number.1),
-            λ above h. after_foreign origin m above (ap (λ (x : ℕ × Option ℕ). x.1) it ∙ h),
+          let entry_is = same_Some (group, master_after origin.propagation) entry f in (
+            (number.0, sym (ap (λ (x : ℕ × Option ℕ). x.0) entry_is) ∙ number.1),
+            λ above h. after_foreign origin m above (ap (λ (x : ℕ × Option ℕ). x.1) entry_is ∙ h),
           )
 
       at : (kind : Propagation ℕ) → origin.propagation ≡ kind → (o : Option ℕ)
@@ -132,7 +147,7 @@ module _ {world : World ℕ} {names : List TaskName} (apart : IsApart world name
           (subst (λ x. cond (is_shared x) None (option_map (λ group. (group, master_after origin.propagation))
           (group_of (type_at new o (record origin { propagation = x })))) ≡ Some entry) f h)
 
-  made_elsewhere : (origin : Mount ℕ) → Among origin mounts → (group : ℕ) (entry : ℕ × Option ℕ)
+  made_elsewhere : (origin : Mount ℕ) → Among origin it.mounts → (group : ℕ) (entry : ℕ × Option ℕ)
       → when (not (is_member_of nat_eq group destination)) (
         image nat_eq new destination (twig_of new (group_of destination.propagation) origin) group,
         nearest_image nat_eq base new parts destination (twig_of new (group_of destination.propagation) origin)
@@ -152,14 +167,14 @@ module _ {world : World ℕ} {names : List TaskName} (apart : IsApart world name
       ) ≡ Some entry → IsMade entry
       by true f h = none_is_some entry h
       by false f h =
-          let it = same_Some (
+          let entry_is = same_Some (
             new.image group origin.number,
             nearest_image nat_eq base new parts destination (twig_of new (group_of destination.propagation) origin)
                 (world.master group),
           ) entry h in
           let number = new_image group origin.number in (
-            (number.0, sym (ap (λ (x : ℕ × Option ℕ). x.0) it) ∙ number.1),
-            λ g k. nearest_foreign origin m (world.master group) g (ap (λ (x : ℕ × Option ℕ). x.1) it ∙ k),
+            (number.0, sym (ap (λ (x : ℕ × Option ℕ). x.0) entry_is) ∙ number.1),
+            λ g k. nearest_foreign origin m (world.master group) g (ap (λ (x : ℕ × Option ℕ). x.1) entry_is ∙ k),
           )
 
   made_foreign : (entry : ℕ × Option ℕ) → Among entry (all_groups_made nat_eq base new tree parts) → IsMade entry
@@ -167,11 +182,11 @@ module _ {world : World ℕ} {names : List TaskName} (apart : IsApart world name
       let part = among-from_flat_map (λ p. filter_map (group_made nat_eq base new tree parts p) tree.twigs) parts entry
       m in
       let twig = among-from_filter_map (group_made nat_eq base new tree parts part.0) tree.twigs entry part.2 in
-      let origin = among-from_map (twig_of new (group_of destination.propagation)) mounts twig.0 twig.1 in
+      let origin = among-from_map (twig_of new (group_of destination.propagation)) it.mounts twig.0 twig.1 in
       by part.0 origin.0 origin.1 (is_destination nat_eq tree part.0.number)
       (ap (group_made nat_eq base new tree parts part.0) (sym origin.2) ∙ twig.2)
     where
-      elsewhere : (part origin : Mount ℕ) → Among origin mounts → (o : Option ℕ)
+      elsewhere : (part origin : Mount ℕ) → Among origin it.mounts → (o : Option ℕ)
           → then_some o (λ group. when (not (is_member_of nat_eq group destination)) (
             image nat_eq new destination (twig_of new (group_of destination.propagation) origin) group,
             nearest_image nat_eq base new parts destination (twig_of new (group_of destination.propagation) origin)
@@ -180,7 +195,7 @@ module _ {world : World ℕ} {names : List TaskName} (apart : IsApart world name
       elsewhere part origin n None h = none_is_some entry h
       elsewhere part origin n (Some group) h = made_elsewhere origin n group entry h
 
-      by : (part origin : Mount ℕ) → Among origin mounts → (b : Bool)
+      by : (part origin : Mount ℕ) → Among origin it.mounts → (b : Bool)
           → cond b (twig_master (twig_of new (group_of destination.propagation) origin))
           (then_some (group_of part.propagation) (λ group. when (not (is_member_of nat_eq group destination)) (
             image nat_eq new destination (twig_of new (group_of destination.propagation) origin) group,
@@ -198,7 +213,7 @@ module _ {world : World ℕ} {names : List TaskName} (apart : IsApart world name
       masters_stay (all_groups_made nat_eq base new tree parts) world.master group (λ entry m.
       false_from_ne_true (nat_eq group entry.0) (λ e.
       let made = made_foreign entry m in
-      member_not_new world fresh serves member.0 group made.0.0
+      member_not_new world fresh it.serves member.0 group made.0.0
       (among-from_filter (is_own_mount nat_eq world names) world.mounts member.0 member.1).0
       (member_group group member.0 member.2) (eqb-true group entry.0 e ∙ made.0.1)))
 
@@ -227,7 +242,7 @@ module _ {world : World ℕ} {names : List TaskName} (apart : IsApart world name
       (inr (ap (master_of world) e)))
 
   -- the type of a copy
-  twig_foreign : (origin : Mount ℕ) → Among origin mounts → (group : ℕ) → HearsGroup so_far left
+  twig_foreign : (origin : Mount ℕ) → Among origin it.mounts → (group : ℕ) → HearsGroup so_far left
       (type_at new (group_of destination.propagation) origin) group → IsForeign group
   twig_foreign origin m = by (group_of destination.propagation) origin.propagation refl
     where

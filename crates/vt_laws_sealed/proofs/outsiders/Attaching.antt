@@ -11,7 +11,7 @@ use Rattle.vt_laws_sealed.proofs.part.Kept.{filter_map_map, filter_map_same}
 use Rattle.vt_laws_sealed.proofs.part.groups.EventsApart.{no_event_of_others_reaches_them}
 use Rattle.vt_laws_sealed.proofs.part.part.Observed.{own_mounts_same}
 use Rattle.vt_laws_sealed.proofs.part.part.PartOfPart.{keep}
-use Rattle.vt_laws_sealed.proofs.outsiders.AttachedGroups.{IsCopyOf, OriginOf, copied_to, copy_foreign, old_foreign, own_master_stays}
+use Rattle.vt_laws_sealed.proofs.outsiders.AttachedGroups.{IsAttaching, IsCopyOf, OriginOf, copied_to, copy_foreign, old_foreign, own_master_stays}
 use Rattle.vt_laws_sealed.proofs.outsiders.Filesystems.{not_of_the_world}
 use Rattle.vt_laws_sealed.proofs.outsiders.OtherMounts.{Foreign, HearsGroup, events_stay_apart, is_other, located_there, number_not_new, standing_apart_with}
 use Rattle.vt_laws_sealed.proofs.outsiders.Reshaping.{IsReshaped, reshaped_kept, reshaped_twice}
@@ -41,39 +41,43 @@ found_first number (x ∷ xs) ys mount m e =
     by false f next = ⊎_elim
         (λ here. absurd (true≢false (sym e ∙ ap (λ (y : Mount ℕ). nat_eq number y.number) here ∙ f))) next m
 
-module _ {world : World ℕ} {names : List TaskName} (apart : IsApart world names) {fresh : Fresh ℕ}
-    (serves : Serves nat_eq world fresh) {filesystems : List (Filesystem ℕ)}
-    (sees_base : SeesTheSame world (record world { filesystems = filesystems }) names) (more : List (Filesystem ℕ))
-    (grown : overlays (record world { filesystems = filesystems }) ≡ overlays world ++ more) (none_there : (merged :
-    Filesystem ℕ) → Among merged more → (number : ℕ) → no_outsider_on nat_eq world names number ≡ true
-    → has_layer_on nat_eq number merged ≡ false) (supply : Fresh ℕ)
-    (supplied : (k : ℕ) → (j : ℕ) × (supply k ≡ fresh j)) (place : Location ℕ) {namespace : ℕ}
-    (outside : is_own_namespace nat_eq world names namespace ≡ false)
-    (placed : (mount_at nat_eq world place).namespace ≡ Some namespace) (mounts : List (Mount ℕ))
-    (origins : (origin : Mount ℕ) → Among origin mounts → OriginOf world fresh names origin) (moves : Bool)
-    (in_place : moves ≡ true → (origin : Mount ℕ) → Among origin mounts
-    → Among origin world.mounts × (origin.namespace ≡ Some namespace)) where
+-- What is attached stands in a namespace of others, and no new filesystem has a layer that others do not use.
+pub record AttachesApart (world : World ℕ) (names : List TaskName) (fresh : Fresh ℕ) : Type 0 where
+  pub attaching : IsAttaching world names fresh
+  pub open attaching use *
+  pub sees_base : SeesTheSame world (record world { filesystems = attaching.filesystems }) names
+  pub more : List (Filesystem ℕ)
+  pub grown : overlays (record world { filesystems = attaching.filesystems }) ≡ overlays world ++ more
+  pub none_there : (merged : Filesystem ℕ) → Among merged more → (number : ℕ)
+      → no_outsider_on nat_eq world names number ≡ true → has_layer_on nat_eq number merged ≡ false
+  pub namespace : ℕ
+  pub outside : is_own_namespace nat_eq world names namespace ≡ false
+  pub placed : (mount_at nat_eq world attaching.place).namespace ≡ Some namespace
+  pub in_place : attaching.moves ≡ true → (origin : Mount ℕ) → Among origin attaching.mounts
+      → Among origin world.mounts × (origin.namespace ≡ Some namespace)
+
+module _ {world : World ℕ} {names : List TaskName} {fresh : Fresh ℕ} (it : AttachesApart world names fresh) where
   abbrev so_far : StandsApart world names (IsNewBy fresh)
-  so_far = standing_apart_with world names apart fresh serves
+  so_far = standing_apart_with world names it.apart fresh it.serves
 
   -- the world, perhaps with a new filesystem
   abbrev base : World ℕ
-  base = record world { filesystems = filesystems }
+  base = record world { filesystems = it.filesystems }
 
   abbrev destination : Mount ℕ
-  destination = mount_at nat_eq world place
+  destination = mount_at nat_eq world it.place
 
   abbrev parts : List (Mount ℕ)
-  parts = parts_of nat_eq base place
+  parts = parts_of nat_eq base it.place
 
   abbrev new : Copies ℕ
-  new = copies_from nat_eq supply parts mounts
+  new = copies_from nat_eq it.supply parts it.mounts
 
   abbrev tree : Graft ℕ
-  tree = graft_of nat_eq base new place moves mounts
+  tree = graft_of nat_eq base new it.place it.moves it.mounts
 
   abbrev pub left : World ℕ
-  left = attach nat_eq base supply place moves mounts
+  left = attach nat_eq base it.supply it.place it.moves it.mounts
 
   abbrev theirs : List (Task ℕ)
   theirs = members world names
@@ -87,27 +91,27 @@ module _ {world : World ℕ} {names : List TaskName} (apart : IsApart world name
   -- numbers of copies and of groups are new
   new_copy : (part origin : ℕ) → (k : ℕ) × (new.copy part origin ≡ fresh k)
   new_copy part origin =
-      supplied (2 * index_in_rows (length mounts) (index_of nat_eq parts part) (index_of nat_eq mounts origin))
+      it.supplied (2 * index_in_rows (length it.mounts) (index_of nat_eq parts part) (index_of nat_eq it.mounts origin))
 
   -- Each part is a mount of others.
   destination_there : Among destination world.mounts
   destination_there = ⊎_elim (λ m. m)
-      (λ none. none_is_some namespace (sym (ap (λ (m : Mount ℕ). m.namespace) none) ∙ placed))
-      (found_or_none world.mounts place.mount)
+      (λ none. none_is_some it.namespace (sym (ap (λ (m : Mount ℕ). m.namespace) none) ∙ it.placed))
+      (found_or_none world.mounts it.place.mount)
 
   destination_other : Among destination (other_mounts nat_eq world names)
-  destination_other = is_other world names outside destination destination_there placed
+  destination_other = is_other world names it.outside destination destination_there it.placed
 
   receiver_other : (part : Mount ℕ)
-      → Among part (filter (takes_part nat_eq base place) (receivers_of nat_eq base destination))
+      → Among part (filter (takes_part nat_eq base it.place) (receivers_of nat_eq base destination))
       → Among part (other_mounts nat_eq world names)
   receiver_other part m =
-      let out = among-from_filter (takes_part nat_eq base place) (receivers_of nat_eq base destination) part m in
+      let out = among-from_filter (takes_part nat_eq base it.place) (receivers_of nat_eq base destination) part m in
       of_group (group_of destination.propagation) refl out.0
-      (and_parts (not (nat_eq place.mount part.number)) (is_some part.namespace)
-      (and_parts (not (nat_eq place.mount part.number) && is_some part.namespace)
+      (and_parts (not (nat_eq it.place.mount part.number)) (is_some part.namespace)
+      (and_parts (not (nat_eq it.place.mount part.number) && is_some part.namespace)
       (nat_eq destination.filesystem part.filesystem)
-      (and_parts (not (nat_eq place.mount part.number) && is_some part.namespace
+      (and_parts (not (nat_eq it.place.mount part.number) && is_some part.namespace
       && nat_eq destination.filesystem part.filesystem) _ out.1).0).0).1
     where
       of_group : (o : Option ℕ) → group_of destination.propagation ≡ o
@@ -127,7 +131,7 @@ module _ {world : World ℕ} {names : List TaskName} (apart : IsApart world name
                   → Among part (other_mounts nat_eq world names)
               which true own = absurd (true≢false (sym hears
                   ∙ no_event_of_others_reaches_them world names part destination group
-                  (record { mounts = apart.is.mounts; apart = apart.events })
+                  (record { mounts = it.apart.is.mounts; apart = it.apart.events })
                   (contains_from_among (own_mounts nat_eq world names) part
                   (among-filter (is_own_mount nat_eq world names) world.mounts part there
                   (ap (holds_of (is_own_namespace nat_eq world names)) f ∙ own)))
@@ -157,21 +161,21 @@ module _ {world : World ℕ} {names : List TaskName} (apart : IsApart world name
 
   -- A copy is of a mount that is attached, at a part.
   abbrev copied : Mount ℕ → Mount ℕ → Mount ℕ
-  copied = copied_to apart serves filesystems supply supplied place mounts origins moves
+  copied = copied_to it.attaching
 
   abbrev IsCopy : Mount ℕ → Type 0
-  IsCopy = IsCopyOf apart serves filesystems supply supplied place mounts origins moves
+  IsCopy = IsCopyOf it.attaching
 
   at_part : (part mount : Mount ℕ) → Among mount (copies_at nat_eq base new tree parts part)
-      → (origin : Mount ℕ) × Among origin mounts × (mount ≡ copied part origin)
+      → (origin : Mount ℕ) × Among origin it.mounts × (mount ≡ copied part origin)
   at_part part mount m =
       let twig = among-from_map (copy_at nat_eq base new tree parts part) tree.twigs mount m in
-      let origin = among-from_map (twig_of new (group_of destination.propagation)) mounts twig.0 twig.1 in
+      let origin = among-from_map (twig_of new (group_of destination.propagation)) it.mounts twig.0 twig.1 in
       (origin.0, origin.1, twig.2 ∙ ap (copy_at nat_eq base new tree parts part) origin.2)
 
   -- What is added: copies with new numbers, in namespaces of others, so the part has nothing of them.
   abbrev all_copies : List (Mount ℕ)
-  all_copies = added_mounts moves (copies_at nat_eq base new tree parts destination)
+  all_copies = added_mounts it.moves (copies_at nat_eq base new tree parts destination)
       ++ flat_map (copies_at nat_eq base new tree parts) (rest_of parts)
 
   abbrev IsAdded : Mount ℕ → Type 0
@@ -179,7 +183,7 @@ module _ {world : World ℕ} {names : List TaskName} (apart : IsApart world name
 
   added_at : (part : Mount ℕ) → Among part parts → (mount : Mount ℕ)
       → Among mount (copies_at nat_eq base new tree parts part)
-      → (moves && is_destination nat_eq tree part.number) ≡ false → IsAdded mount
+      → (it.moves && is_destination nat_eq tree part.number) ≡ false → IsAdded mount
   added_at part p mount m elsewhere =
       let of = at_part part mount m in
       let number = new_copy part.number of.0.number in (
@@ -192,11 +196,11 @@ module _ {world : World ℕ} {names : List TaskName} (apart : IsApart world name
       )
 
   copies_are : (mount : Mount ℕ) → Among mount all_copies → IsAdded mount
-  copies_are mount m = ⊎_elim (there moves refl)
+  copies_are mount m = ⊎_elim (there it.moves refl)
       (λ later. let from = among-from_flat_map (copies_at nat_eq base new tree parts) (rest_of parts) mount later in
       added_at from.0 (inr from.1) mount from.2
-      (and_no moves (is_destination nat_eq tree from.0.number) (not_destination from.0 from.1)))
-      (among-append (added_mounts moves (copies_at nat_eq base new tree parts destination)) _ mount m)
+      (and_no it.moves (is_destination nat_eq tree from.0.number) (not_destination from.0 from.1)))
+      (among-append (added_mounts it.moves (copies_at nat_eq base new tree parts destination)) _ mount m)
     where
       and_no : (a b : Bool) → b ≡ false → (a && b) ≡ false
       and_no true b e = e
@@ -206,7 +210,7 @@ module _ {world : World ℕ} {names : List TaskName} (apart : IsApart world name
       not_destination part m =
           search (arith, common_steps, false_from_ne_true, true≢false, and_parts, among-from_filter, eq-eqb, eqb-true)
 
-      there : (b : Bool) → moves ≡ b
+      there : (b : Bool) → it.moves ≡ b
           → Among mount (added_mounts b (copies_at nat_eq base new tree parts destination)) → IsAdded mount
       there true e m = absurd m
       there false e m = added_at destination (inl refl) mount m
@@ -234,9 +238,9 @@ module _ {world : World ℕ} {names : List TaskName} (apart : IsApart world name
   new_not_located places all mount added =
       none_from_among (λ (l : Location ℕ). nat_eq l.mount mount.number) places (λ l m.
       false_from_ne_true (nat_eq l.mount mount.number) (λ e.
-      let there = located_there apart l (all l m) in
+      let there = located_there it.apart l (all l m) in
       let number = added.1 in
-      number_not_new world fresh serves there.0 number.0 there.1
+      number_not_new world fresh it.serves there.0 number.0 there.1
       (sym (eqb-true l.mount there.0.number there.2) ∙ eqb-true l.mount mount.number e ∙ number.1)))
 
   copy_not_kept : (mount : Mount ℕ) → IsAdded mount → kept mount ≡ None
@@ -259,20 +263,20 @@ module _ {world : World ℕ} {names : List TaskName} (apart : IsApart world name
       → (n : ℕ) × (mount.namespace ≡ Some n) × (is_own_namespace nat_eq world names n ≡ false)
   stood_in_other mount part m e =
       let test : Mount ℕ → Bool =
-      λ (p : Mount ℕ). stands_at nat_eq (record { mount = p.number; node = place.node }) mount in
+      λ (p : Mount ℕ). stands_at nat_eq (record { mount = p.number; node = it.place.node }) mount in
       let among = part_other part (inr (found_among test (rest_of parts) part e)) in
       let at = other_placed part among in
-      let point : mount.mount_point ≡ Some (record { mount = part.number; node = place.node }) =
-      stands_there (record { mount = part.number; node = place.node }) mount
+      let point : mount.mount_point ≡ Some (record { mount = part.number; node = it.place.node }) =
+      stands_there (record { mount = part.number; node = it.place.node }) mount
       (found_passes test (rest_of parts) part e) in (
         at.0,
-        sym (ap (λ (x : Mount ℕ). x.namespace) (found_itself world.mounts apart.is.mounts.one_number mount m))
-            ∙ namespace_below world mount.number (record { mount = part.number; node = place.node })
-            (among_from_all (λ (x : Mount ℕ). Stands nat_eq world x.number) world.mounts apart.is.mounts.standing mount
+        sym (ap (λ (x : Mount ℕ). x.namespace) (found_itself world.mounts it.apart.is.mounts.one_number mount m))
+            ∙ namespace_below world mount.number (record { mount = part.number; node = it.place.node })
+            (among_from_all (λ (x : Mount ℕ). Stands nat_eq world x.number) world.mounts it.apart.is.mounts.standing mount
             m)
-            (ap (λ (x : Mount ℕ). x.mount_point) (found_itself world.mounts apart.is.mounts.one_number mount m) ∙ point)
+            (ap (λ (x : Mount ℕ). x.mount_point) (found_itself world.mounts it.apart.is.mounts.one_number mount m) ∙ point)
             ∙ ap (λ (x : Mount ℕ). x.namespace)
-            (found_itself world.mounts apart.is.mounts.one_number part (other_there part among)) ∙ at.1,
+            (found_itself world.mounts it.apart.is.mounts.one_number part (other_there part among)) ∙ at.1,
         at.2,
       )
 
@@ -290,7 +294,7 @@ module _ {world : World ℕ} {names : List TaskName} (apart : IsApart world name
   relocated false mount = mount
 
   abbrev change : Mount ℕ → Mount ℕ
-  change mount = pushed (relocated moves mount)
+  change mount = pushed (relocated it.moves mount)
 
   put_is : (mount : Mount ℕ) (list : List (Mount ℕ)) → (folded put mount list ≡ mount)
       ⊎ ((one : Mount ℕ) × Among one list × (folded put mount list ≡ one) × (one.number ≡ mount.number))
@@ -312,35 +316,35 @@ module _ {world : World ℕ} {names : List TaskName} (apart : IsApart world name
           ⊎_elim (λ stays. inl (stays ∙ now))
           (λ one. inr (one.0, inr one.1, one.2, one.3 ∙ ap (λ (x : Mount ℕ). x.number) now)) so
 
-  -- where a mount moves, it is one of those that are attached
+  -- where a mount it.moves, it is one of those that are attached
   abbrev Moves : Bool → Mount ℕ → Type 0
-  Moves b mount = Among mount mounts × (moves ≡ true) × (relocated b mount ≡ copied destination mount)
+  Moves b mount = Among mount it.mounts × (it.moves ≡ true) × (relocated b mount ≡ copied destination mount)
 
-  moved_number : moves ≡ true → (origin : Mount ℕ) → (copied destination origin).number ≡ origin.number
+  moved_number : it.moves ≡ true → (origin : Mount ℕ) → (copied destination origin).number ≡ origin.number
   moved_number e origin = ap (λ b. cond b origin.number (new.copy destination.number origin.number))
-      (ap (λ b. b && nat_eq destination.number place.mount) e
-      ∙ eq-eqb destination.number place.mount (number-mount_in world.mounts place.mount))
+      (ap (λ b. b && nat_eq destination.number it.place.mount) e
+      ∙ eq-eqb destination.number it.place.mount (number-mount_in world.mounts it.place.mount))
 
-  relocated_is : (mount : Mount ℕ) → Among mount world.mounts → (b : Bool) → moves ≡ b
+  relocated_is : (mount : Mount ℕ) → Among mount world.mounts → (b : Bool) → it.moves ≡ b
       → (relocated b mount ≡ mount) ⊎ Moves b mount
   relocated_is mount there false e = inl refl
   relocated_is mount there true e = ⊎_elim inl (λ one. inr (by one.0 one.2 one.3 (at_part destination one.0 one.1)))
       (put_is mount (copies_at nat_eq base new tree parts destination))
     where
       by : (one : Mount ℕ) → relocated true mount ≡ one → one.number ≡ mount.number
-          → (origin : Mount ℕ) × Among origin mounts × (one ≡ copied destination origin) → Moves true mount
+          → (origin : Mount ℕ) × Among origin it.mounts × (one ≡ copied destination origin) → Moves true mount
       by one now number of =
-          let is = in_place e of.0 of.1 in
+          let is = it.in_place e of.0 of.1 in
           let kept_number : one.number ≡ of.0.number = ap (λ (x : Mount ℕ). x.number) of.2 ∙ moved_number e of.0 in
-          let same : of.0 ≡ mount = sym (found_itself world.mounts apart.is.mounts.one_number of.0 is.0)
+          let same : of.0 ≡ mount = sym (found_itself world.mounts it.apart.is.mounts.one_number of.0 is.0)
           ∙ ap (mount_numbered nat_eq world) (sym kept_number ∙ number)
-          ∙ found_itself world.mounts apart.is.mounts.one_number mount there in
-          (subst (λ (x : Mount ℕ). Among x mounts) same of.1, e, now ∙ of.2 ∙ ap (copied destination) same)
+          ∙ found_itself world.mounts it.apart.is.mounts.one_number mount there in
+          (subst (λ (x : Mount ℕ). Among x it.mounts) same of.1, e, now ∙ of.2 ∙ ap (copied destination) same)
 
   relocated_plain : (mount : Mount ℕ) → Among mount world.mounts → (at : Option (Location ℕ)) × (kind : Propagation ℕ)
-      × (relocated moves mount ≡ record mount { mount_point = at; propagation = kind })
+      × (relocated it.moves mount ≡ record mount { mount_point = at; propagation = kind })
   relocated_plain mount there = ⊎_elim (λ stays. (mount.mount_point, mount.propagation, stays)) (λ goes.
-      let is = in_place goes.1 mount goes.0 in (
+      let is = it.in_place goes.1 mount goes.0 in (
         (copied destination mount).mount_point,
         (copied destination mount).propagation,
         goes.2 ∙ ap (λ n. record mount {
@@ -352,8 +356,8 @@ module _ {world : World ℕ} {names : List TaskName} (apart : IsApart world name
           namespace = o;
           mount_point = (copied destination mount).mount_point;
           propagation = (copied destination mount).propagation;
-        }) (placed ∙ sym is.1),
-      )) (relocated_is mount there moves refl)
+        }) (it.placed ∙ sym is.1),
+      )) (relocated_is mount there it.moves refl)
 
   change_value : {B : Type 0} (value : Mount ℕ → B)
       → ((mount : Mount ℕ) (at : Option (Location ℕ)) (kind : Propagation ℕ)
@@ -366,8 +370,8 @@ module _ {world : World ℕ} {names : List TaskName} (apart : IsApart world name
   change_shape : (mount : Mount ℕ) → Among mount world.mounts → IsReshaped mount (change mount)
   change_shape mount there =
       let plain = relocated_plain mount there in
-      reshaped_twice mount (relocated moves mount) (change mount) (mount.namespace, plain.0, plain.1, plain.2, inl refl)
-      (by (relocated moves mount) (receiver_stood_on nat_eq tree parts (relocated moves mount)))
+      reshaped_twice mount (relocated it.moves mount) (change mount) (mount.namespace, plain.0, plain.1, plain.2, inl refl)
+      (by (relocated it.moves mount) (receiver_stood_on nat_eq tree parts (relocated it.moves mount)))
     where
       by : (x : Mount ℕ) (o : Option (Mount ℕ)) → IsReshaped x (pushed_onto nat_eq base new tree parts x o)
       by x None = (x.namespace, x.mount_point, x.propagation, refl, inl refl)
@@ -376,7 +380,14 @@ module _ {world : World ℕ} {names : List TaskName} (apart : IsApart world name
   -- a mount that is not of others stays as it was
   stays : (mount : Mount ℕ) → Among mount world.mounts
       → ((n : ℕ) → mount.namespace ≡ Some n → is_own_namespace nat_eq world names n ≡ false → ⊥) → change mount ≡ mount
-  stays mount there none = search (arith, common_steps, there, relocated_is, stood_in_other)
+  stays mount there none = ap pushed (⊎_elim (λ same. same)
+      (λ goes. absurd (none it.namespace (it.in_place goes.1 mount goes.0).1 it.outside))
+      (relocated_is mount there it.moves refl)) ∙ by (receiver_stood_on nat_eq tree parts mount) refl
+    where
+      by : (o : Option (Mount ℕ)) → receiver_stood_on nat_eq tree parts mount ≡ o
+          → pushed_onto nat_eq base new tree parts mount o ≡ mount
+      by None e = refl
+      by (Some part) e = let at = stood_in_other mount part there e in absurd (none at.0 at.1 at.2)
 
   change_kept : (mount : Mount ℕ) → Among mount world.mounts → kept (change mount) ≡ kept mount
   change_kept mount there = reshaped_kept world names so_far mount there (change mount) (change_shape mount there)
@@ -386,12 +397,12 @@ module _ {world : World ℕ} {names : List TaskName} (apart : IsApart world name
       (λ nowhere. stays mount there (λ n e other. none_is_some n (sym nowhere ∙ e)))
 
   left_mounts : left.mounts ≡ map change world.mounts ++ all_copies
-  left_mounts = ap (λ ms. map pushed ms ++ added_mounts moves (copies_at nat_eq base new tree parts destination)
-      ++ flat_map (copies_at nat_eq base new tree parts) (rest_of parts)) (by moves)
-      ∙ ap (λ ms. ms ++ added_mounts moves (copies_at nat_eq base new tree parts destination)
+  left_mounts = ap (λ ms. map pushed ms ++ added_mounts it.moves (copies_at nat_eq base new tree parts destination)
+      ++ flat_map (copies_at nat_eq base new tree parts) (rest_of parts)) (by it.moves)
+      ∙ ap (λ ms. ms ++ added_mounts it.moves (copies_at nat_eq base new tree parts destination)
       ++ flat_map (copies_at nat_eq base new tree parts) (rest_of parts))
-      (map_twice pushed (relocated moves) world.mounts)
-      ∙ append_assoc (map change world.mounts) (added_mounts moves (copies_at nat_eq base new tree parts destination))
+      (map_twice pushed (relocated it.moves) world.mounts)
+      ∙ append_assoc (map change world.mounts) (added_mounts it.moves (copies_at nat_eq base new tree parts destination))
       (flat_map (copies_at nat_eq base new tree parts) (rest_of parts))
     where
       put_all : (list given : List (Mount ℕ))
@@ -433,14 +444,14 @@ module _ {world : World ℕ} {names : List TaskName} (apart : IsApart world name
   changed_foreign : (old : Mount ℕ) → Among old (other_mounts nat_eq world names) → (group : ℕ)
       → HearsGroup so_far left (change old).propagation group → IsForeign group
   changed_foreign old m group how =
-      let unpushed : HearsGroup so_far left (relocated moves old).propagation group =
+      let unpushed : HearsGroup so_far left (relocated it.moves old).propagation group =
       subst (λ kind. HearsGroup so_far left kind group)
-      (pushed_value (λ (x : Mount ℕ). x.propagation) (λ x at. refl) (relocated moves old)) how in
-      ⊎_elim (λ same. old_foreign apart serves filesystems supply supplied place mounts origins moves old m group
+      (pushed_value (λ (x : Mount ℕ). x.propagation) (λ x at. refl) (relocated it.moves old)) how in
+      ⊎_elim (λ same. old_foreign it.attaching old m group
       (subst (λ (x : Mount ℕ). HearsGroup so_far left x.propagation group) same unpushed))
-      (λ goes. copy_foreign apart serves filesystems supply supplied place mounts origins moves
-      (relocated moves old) (destination, inl refl, old, goes.0, goes.2) group unpushed)
-      (relocated_is old (other_there old m) moves refl)
+      (λ goes. copy_foreign it.attaching
+      (relocated it.moves old) (destination, inl refl, old, goes.0, goes.2) group unpushed)
+      (relocated_is old (other_there old m) it.moves refl)
 
   sees : SeesTheSame world left names
   sees = search (arith, common_steps, mounts_kept, own_master_stays)
@@ -451,7 +462,7 @@ module _ {world : World ℕ} {names : List TaskName} (apart : IsApart world name
     where
       by : (kind : Propagation ℕ) → own.propagation ≡ kind → master_of left kind ≡ master_of world kind
       by (Shared g) e =
-          own_master_stays apart serves filesystems supply supplied place mounts origins moves g
+          own_master_stays it.attaching g
           (any_from_among (is_member_of nat_eq g) (own_mounts nat_eq world names) own m
           (ap (λ kind. holds_of (nat_eq g) (group_of kind)) e ∙ eq-eqb g g refl))
       by (Slave g) e = refl
@@ -462,7 +473,7 @@ module _ {world : World ℕ} {names : List TaskName} (apart : IsApart world name
   events = events_stay_apart so_far left (own_mounts_same world left names sees) own_masters
       (λ other m group how. ⊎_elim (λ old. changed_foreign old.0 old.1 group
       (subst (λ (x : Mount ℕ). HearsGroup so_far left x.propagation group) old.2 how))
-      (λ copy. copy_foreign apart serves filesystems supply supplied place mounts origins moves other copy.0 group
+      (λ copy. copy_foreign it.attaching other copy.0 group
       how) (others_from other m))
 
   -- What is found at a location is as it was, but for where it stands, and for its type.
@@ -471,7 +482,7 @@ module _ {world : World ℕ} {names : List TaskName} (apart : IsApart world name
       → (location : Location ℕ) → Among location (all_locations world)
       → value (mount_at nat_eq left location) ≡ value (mount_at nat_eq world location)
   found_left value same location m =
-      let there = located_there apart location m in
+      let there = located_there it.apart location m in
       ap (λ ms. value (mount_in nat_eq ms location.mount)) left_mounts
       ∙ ap value (found_first location.mount (map change world.mounts) all_copies (change there.0)
       (among-map change world.mounts there.0 there.1)
@@ -520,9 +531,9 @@ module _ {world : World ℕ} {names : List TaskName} (apart : IsApart world name
       ∙ change_value (λ (x : Mount ℕ). x.filesystem) (λ x at kind. refl) old.0 (other_there old.0 old.1))
       ∙ none_shows old.0 old.1) (λ copy. ⊎_elim
       (λ old. ap (nat_eq number) (ap (λ (x : Mount ℕ). x.filesystem) copy.0.4 ∙ old.3) ∙ none_shows old.0 old.1)
-      (λ new_one. false_from_ne_true (nat_eq number other.filesystem) (λ e. not_of_the_world apart fresh serves number
+      (λ new_one. false_from_ne_true (nat_eq number other.filesystem) (λ e. not_of_the_world it.apart fresh it.serves number
       new_one.1 of (eqb-true number other.filesystem e ∙ ap (λ (x : Mount ℕ). x.filesystem) copy.0.4 ∙ new_one.2)))
-      (origins copy.0.2 copy.0.3)) (others_from other m)))) (ap not (none_from_among
+      (it.origins copy.0.2 copy.0.3)) (others_from other m)))) (ap not (none_from_among
       (λ location. nat_eq number (mount_at nat_eq left location).filesystem) (locations (outsiders world names))
       (λ location m. ap (nat_eq number) (found_left (λ (x : Mount ℕ). x.filesystem) (λ x at kind. refl) location
       (of_outsiders location m)) ∙ none_among (λ location. nat_eq number (mount_at nat_eq world location).filesystem)
@@ -532,16 +543,16 @@ module _ {world : World ℕ} {names : List TaskName} (apart : IsApart world name
   attaching_leaves_apart = record {
     sees = sees;
     others = record {
-      tasks = apart.tasks;
+      tasks = it.apart.tasks;
       events = events;
       locations =
           list_all_from_among (λ location. not (is_own_mount nat_eq world names (mount_at nat_eq left location)))
           (locations (outsiders world names))
           (λ location m. ap (λ o. not (holds_of (is_own_namespace nat_eq world names) o))
           (found_left (λ (x : Mount ℕ). x.namespace) (λ x at kind. refl) location (of_outsiders location m))
-          ∙ among_from_list_all (λ place. not (is_own_mount nat_eq world names (mount_at nat_eq world place)))
-          (locations (outsiders world names)) apart.locations location m);
-      free = free_with world left names more grown fewer none_there;
+          ∙ among_from_list_all (λ at. not (is_own_mount nat_eq world names (mount_at nat_eq world at)))
+          (locations (outsiders world names)) it.apart.locations location m);
+      free = free_with world left names it.more it.grown fewer it.none_there;
     };
     unraised = λ number m. refl;
   }

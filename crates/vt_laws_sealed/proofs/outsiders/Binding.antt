@@ -9,7 +9,7 @@ use Rattle.vt_laws_worlds.proofs.worlds.FitPermitsNamed.{all_permits_fit}
 use Rattle.vt_laws_later_calls.specs.Ends.{sets_type, takes_uses}
 use Rattle.vt_laws_sealed.specs.Part.Seals.{IsApart}
 use Rattle.vt_laws_sealed.proofs.outsiders.AttachedGroups.{OriginOf}
-use Rattle.vt_laws_sealed.proofs.outsiders.Attaching.{attaching_leaves_apart}
+use Rattle.vt_laws_sealed.proofs.outsiders.Attaching.{AttachesApart, attaching_leaves_apart}
 use Rattle.vt_laws_sealed.proofs.outsiders.Filesystems.{larger_overlays, larger_sees}
 use Rattle.vt_laws_sealed.proofs.outsiders.OtherMounts.{IsIn, child_in, is_other, namespace_outside}
 use Rattle.vt_laws_sealed.proofs.outsiders.OwnTasks.{caller_outside, nothing_is_swept}
@@ -76,11 +76,30 @@ module _ {world : World ℕ} {fresh : Fresh ℕ} {names : List TaskName} {name :
       (ap mounts_overlay for.2) judged).names in
       let outside = namespace_outside world names apart task
       (caller_outside outsider) in
+      let attaches : AttachesApart world names fresh = record {
+        attaching = record {
+          apart = apart;
+          serves = outsider.serves;
+          filesystems = world.filesystems;
+          supply = fresh;
+          supplied = λ k. (k, refl);
+          place = place;
+          mounts = bind_tree nat_eq world source recursive;
+          origins = bind_origins apart task.namespace outside fresh source named.1 recursive;
+          moves = false;
+        };
+        sees_base = (leaves_apart_itself outsider.it).sees;
+        more = [];
+        grown = sym (append-nil (overlays world));
+        none_there = λ merged m number free. absurd m;
+        namespace = task.namespace;
+        outside = outside;
+        placed = named.2.own;
+        in_place = λ moving. absurd cc;
+      } in
       subst (λ w. LeavesApart world w names []) (sym (nothing_is_swept outsider (ToBind source place recursive) judged
-      (ap takes_uses for.2) (ap sets_type for.2) refl)) (attaching_leaves_apart apart outsider.serves (leaves_apart_itself outsider.it).sees [] (sym (append-nil (overlays world)))
-      (λ merged m number free. absurd m) fresh (λ k. (k, refl)) place outside named.2.own
-      (bind_tree nat_eq world source recursive) (bind_origins apart task.namespace outside fresh source named.1
-      recursive) false (λ moving. absurd (true≢false (sym moving))))
+      (ap takes_uses for.2) (ap sets_type for.2) refl))
+      (attaching_leaves_apart attaches)
 
   -- A new mount: mount(2) of a tmpfs
   pub plain_leaves : (place : Location ℕ) (flags : MountFlags) → judge_in nat_eq fresh world task call ≡ Ok
@@ -95,10 +114,29 @@ module _ {world : World ℕ} {fresh : Fresh ℕ} {names : List TaskName} {name :
       let outside = namespace_outside world names apart task
       (caller_outside outsider) in
       let added : Filesystem ℕ = plain_filesystem nat_eq fresh in
+      let attaches : AttachesApart world names fresh = record {
+        attaching = record {
+          apart = apart;
+          serves = outsider.serves;
+          filesystems = world.filesystems ++ added ∷ [];
+          supply = odds fresh;
+          supplied = λ k. (2 * k + 1, refl);
+          place = place;
+          mounts = new_mount added.number added.files.tree.root flags ∷ [];
+          origins = λ origin m. ⊎_elim
+              (λ e. inr (ap (λ (x : Mount ℕ). x.propagation) e, 0, ap (λ (x : Mount ℕ). x.filesystem) e))
+              (λ none. absurd none) m;
+          moves = false;
+        };
+        sees_base = larger_sees apart fresh outsider.serves added 0 refl;
+        more = [];
+        grown = larger_overlays apart fresh outsider.serves added 0 refl refl ∙ sym (append-nil (overlays world));
+        none_there = λ merged m number free. absurd m;
+        namespace = task.namespace;
+        outside = outside;
+        placed = named.own;
+        in_place = λ moving. absurd cc;
+      } in
       subst (λ w. LeavesApart world w names []) (sym (nothing_is_swept outsider (ToMountPlain place flags) judged
-      (ap takes_uses for.1) (ap sets_type for.1) refl)) (attaching_leaves_apart apart outsider.serves (larger_sees apart fresh outsider.serves added 0 refl) []
-      (larger_overlays apart fresh outsider.serves added 0 refl refl ∙ sym (append-nil (overlays world)))
-      (λ merged m number free. absurd m) (odds fresh) (λ k. (2 * k + 1, refl)) place outside named.own
-      (new_mount added.number added.files.tree.root flags ∷ []) (λ origin m. ⊎_elim
-      (λ e. inr (ap (λ (x : Mount ℕ). x.propagation) e, 0, ap (λ (x : Mount ℕ). x.filesystem) e)) (λ none. absurd none)
-      m) false (λ moving. absurd (true≢false (sym moving))))
+      (ap takes_uses for.1) (ap sets_type for.1) refl))
+      (attaching_leaves_apart attaches)

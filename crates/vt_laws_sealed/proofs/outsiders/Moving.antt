@@ -7,7 +7,7 @@ use Rattle.vt_laws_rules.proofs.given.GivenPermits.{permits_are_for_their_calls}
 use Rattle.vt_laws_worlds.proofs.worlds.CallsKept.{name_found}
 use Rattle.vt_laws_worlds.proofs.worlds.FitPermitsNamed.{all_permits_fit}
 use Rattle.vt_laws_sealed.specs.Part.Seals.{IsApart}
-use Rattle.vt_laws_sealed.proofs.outsiders.Attaching.{attaching_leaves_apart}
+use Rattle.vt_laws_sealed.proofs.outsiders.Attaching.{AttachesApart, attaching_leaves_apart}
 use Rattle.vt_laws_sealed.proofs.outsiders.ChangingFiles.{call_swept}
 use Rattle.vt_laws_sealed.proofs.outsiders.OtherMounts.{IsIn, is_other, namespace_outside, tree_in}
 use Rattle.vt_laws_sealed.proofs.outsiders.OwnTasks.{caller_outside}
@@ -38,10 +38,27 @@ module _ {world : World ℕ} {fresh : Fresh ℕ} {names : List TaskName} {name :
       judged).names in
       let outside = namespace_outside world names set_apart task
       (caller_outside outsider) in
-      call_swept outsider (ToMove number place) judged no_overlay [] (attaching_leaves_apart set_apart
-      outsider.serves (leaves_apart_itself outsider.it).sees [] (sym (append-nil (overlays world)))
-      (λ merged m n free. absurd m) fresh (λ k. (k, refl)) place outside named.destination.own
-      (moved_tree nat_eq world number) (λ origin m.
-      let is = moved_in world names set_apart task.namespace number named.own origin m in
-      inl (origin, is_other world names outside origin is.0 is.1, refl, refl)) true
-      (λ moving origin m. moved_in world names set_apart task.namespace number named.own origin m))
+      let attaches : AttachesApart world names fresh = record {
+        attaching = record {
+          apart = set_apart;
+          serves = outsider.serves;
+          filesystems = world.filesystems;
+          supply = fresh;
+          supplied = λ k. (k, refl);
+          place = place;
+          mounts = moved_tree nat_eq world number;
+          origins = λ origin m.
+              let is = moved_in world names set_apart task.namespace number named.own origin m in
+              inl (origin, is_other world names outside origin is.0 is.1, refl, refl);
+          moves = true;
+        };
+        sees_base = (leaves_apart_itself outsider.it).sees;
+        more = [];
+        grown = sym (append-nil (overlays world));
+        none_there = λ merged m number free. absurd m;
+        namespace = task.namespace;
+        outside = outside;
+        placed = named.destination.own;
+        in_place = λ moving origin m. moved_in world names set_apart task.namespace number named.own origin m;
+      } in
+      call_swept outsider (ToMove number place) judged no_overlay [] (attaching_leaves_apart attaches)

@@ -12,7 +12,7 @@ use Rattle.vt_laws_trees.proofs.calls.ways.WaysEnds.{source_ways_are_searched}
 use Rattle.vt_laws_worlds.proofs.worlds.CallsKept.{name_found}
 use Rattle.vt_laws_worlds.proofs.worlds.FitPermits.{own_if}
 use Rattle.vt_laws_later_calls.specs.Ends.{sets_type, takes_uses}
-use Rattle.vt_laws_sealed.proofs.outsiders.Attaching.{attaching_leaves_apart}
+use Rattle.vt_laws_sealed.proofs.outsiders.Attaching.{AttachesApart, attaching_leaves_apart}
 use Rattle.vt_laws_sealed.proofs.outsiders.Entering.{ground_outside, task_there}
 use Rattle.vt_laws_sealed.proofs.outsiders.Filesystems.{larger_sees, larger_with_overlay}
 use Rattle.vt_laws_sealed.proofs.outsiders.OtherMounts.{namespace_outside}
@@ -142,15 +142,33 @@ module _ {world : World ℕ} {fresh : Fresh ℕ} {names : List TaskName} {name :
       (calls_are_granted nat_eq (looks_of nat_eq world) (overfills nat_eq fresh world task) task call
       (ToMountOverlay place overlay flags) judged) place overlay flags refl in
       let added : Filesystem ℕ = overlay_filesystem nat_eq (evens fresh) world overlay in
+      let attaches : AttachesApart world names fresh = record {
+        attaching = record {
+          apart = set_apart;
+          serves = outsider.serves;
+          filesystems = world.filesystems ++ added ∷ [];
+          supply = odds fresh;
+          supplied = λ k. (2 * k + 1, refl);
+          place = place;
+          mounts = new_mount added.number added.files.tree.root flags ∷ [];
+          origins = λ origin m. ⊎_elim
+              (λ e. inr (ap (λ (x : Mount ℕ). x.propagation) e, 0, ap (λ (x : Mount ℕ). x.filesystem) e))
+              (λ none. absurd none) m;
+          moves = false;
+        };
+        sees_base = larger_sees set_apart fresh outsider.serves added 0 refl;
+        more = added ∷ [];
+        grown = larger_with_overlay set_apart fresh outsider.serves added 0 refl refl;
+        none_there = λ merged m number free. ⊎_elim (λ e. ap (has_layer_on nat_eq number) e ∙ none_from_among
+            (λ (layer : Layer ℕ). nat_eq number layer.filesystem) (layers_of overlay)
+            (λ layer n. false_from_ne_true (nat_eq number layer.filesystem) (λ at. true≢false (sym free
+            ∙ ap (no_outsider_on nat_eq world names) (eqb-true number layer.filesystem at) ∙ others.1 layer n))))
+            (λ none. absurd none) m;
+        namespace = task.namespace;
+        outside = namespace_outside world names set_apart task (caller_outside outsider);
+        placed = others.0;
+        in_place = λ moving. absurd cc;
+      } in
       subst (λ w. LeavesApart world w names []) (sym (nothing_is_swept outsider (ToMountOverlay place overlay flags)
-      judged (ap takes_uses for.2) (ap sets_type for.2) refl)) (attaching_leaves_apart set_apart outsider.serves (larger_sees set_apart fresh outsider.serves added 0 refl) (added ∷ [])
-      (larger_with_overlay set_apart fresh outsider.serves added 0 refl refl)
-      (λ merged m number free. ⊎_elim (λ e. ap (has_layer_on nat_eq number) e ∙ none_from_among
-      (λ (layer : Layer ℕ). nat_eq number layer.filesystem) (layers_of overlay)
-      (λ layer n. false_from_ne_true (nat_eq number layer.filesystem) (λ at. true≢false
-      (sym free ∙ ap (no_outsider_on nat_eq world names) (eqb-true number layer.filesystem at) ∙ others.1 layer n))))
-      (λ none. absurd none) m) (odds fresh) (λ k. (2 * k + 1, refl)) place
-      (namespace_outside world names set_apart task (caller_outside outsider)) others.0
-      (new_mount added.number added.files.tree.root flags ∷ []) (λ origin m. ⊎_elim
-      (λ e. inr (ap (λ (x : Mount ℕ). x.propagation) e, 0, ap (λ (x : Mount ℕ). x.filesystem) e)) (λ none. absurd none)
-      m) false (λ moving. absurd (true≢false (sym moving))))
+      judged (ap takes_uses for.2) (ap sets_type for.2) refl))
+      (attaching_leaves_apart attaches)

@@ -1,7 +1,7 @@
 -- Whether a mount in the first namespace has room: it comes to the shared mount, and to its peer in the other
 -- namespace.
 use Rattle.std.proofs.Common.{arith, ◌≡◌, refl, sym, ap, subst, ◌∙◌, true≢false, ℕ, suc, nat_eq, nat_lt, eqb-true, Bool, true, false, cond, not, ◌&&◌, ◌||◌, ◌+◌, ◌*◌, List, [], ◌∷◌, ◌++◌, Option, None, Some, Ok, filter, is_some, length, map, codes, option_to_list}
-use Rattle.vt_spec.proofs.Common.{Among, Directory, Filesystem, IsWorld, Location, Mount, Namespace, Task, World, among-append_right, and_parts, chain_ends, chain_goes_on, child_at, common_steps, entries_in, entry_named, execute_right, filesystem_numbered, groups_up, holds_of, is_among, is_directory_node, is_directory_under, is_removed, is_removed_at, list_all, list_any, looks_of, most_mounts, most_symlinks, mount_in, mount_numbered, new_mount_rules, node_allows, node_at, or-false, parts_of, receivers_of, receives, root_attr, root_of, source_of, stands_at, takes_part, task_called, topmost}
+use Rattle.vt_spec.proofs.Common.{Among, Directory, Filesystem, IsWorld, Location, Mount, Namespace, Task, World, among-append_right, and_parts, chain_ends, chain_goes_on, child_at, common_steps, filesystem_numbered, groups_up, holds_of, is_among, is_directory_node, is_directory_under, is_removed, is_removed_at, list_all, list_any, looks_of, most_mounts, most_symlinks, mount_numbered, new_mount_rules, node_at, or-false, parts_of, receivers_of, receives, root_attr, root_of, source_of, stands_at, takes_part, task_called, topmost}
 use Rattle.vt_laws_mounts.specs.LettingGo.Ends.{is_in, mount_count}
 use Rattle.vt_laws_mounts.proofs.letting_go.Lists.{any-map, nothing_passes, among_from_list_all, find_none}
 use Rattle.vt_laws_mounts.proofs.mounts.MountsPlaces.{stands_there}

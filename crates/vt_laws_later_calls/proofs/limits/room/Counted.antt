@@ -1,5 +1,5 @@
 -- What is attached fills namespaces by its parts in them.
-use Rattle.std.proofs.Common.{◌≡◌, sym, ap, subst, ◌∙◌, ⊎_elim, ℕ, nat_eq, nat_lt, true, false, List, [], ◌∷◌, length, arith, ◌+◌, ◌*◌, ◌-◌}
+use Rattle.std.proofs.Common.{◌≡◌, ap, ◌∙◌, ⊎_elim, ℕ, nat_eq, nat_lt, true, false, List, [], ◌∷◌, length, arith, ◌+◌, ◌*◌, ◌-◌}
 use Rattle.vt_spec.proofs.Common.{Among, Copies, Filesystem, Fresh, IsWorld, Location, Mount, MountFlags, World, attached_by, bind_tree, copies_from, evens, has_too_many, list_any, most_mounts, mount_numbered, mounted, new_mount, odds, overlay_filesystem, parts_of, plain_filesystem, tree_among, with_new_filesystem}
 use Rattle.vt_laws_mounts.specs.LettingGo.Ends.{mount_count}
 use Rattle.vt_laws_mounts.proofs.Counting.{added_counted, moved_all}

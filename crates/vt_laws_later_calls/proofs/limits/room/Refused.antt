@@ -1,5 +1,5 @@
 -- An attachment without room is refused by M9, and one with room is granted, where no other rule refuses it.
-use Rattle.std.proofs.Common.{arith, ◌≡◌, refl, sym, ap, subst, ◌∙◌, true≢false, ℕ, nat_eq, Bool, true, false, [], ◌∷◌, ◌++◌, Some, Result, Ok, Err, length, drop, take}
+use Rattle.std.proofs.Common.{arith, ◌≡◌, refl, ap, subst, ◌∙◌, ℕ, nat_eq, Bool, true, false, [], ◌∷◌, ◌++◌, Some, Result, Ok, Err, length, drop, take}
 use Rattle.vt_spec.proofs.Common.{Bind, Call, Done, Fresh, Here, Judgement, MountPlain, MoveMount, Permit, Rules, Task, TaskName, ToBind, ToMountPlain, ToMove, World, and_then, answer-finished_by, apply, attach_permit, bind_permit, bind_rules, bind_tree, common_steps, denial, judge_in, looks_of, mount_plain_permit, move_permit, move_rules, new_mount_rules, only_looks, overfills, policy, task_called, unless, walk_end}
 use Rattle.vt_spec.specs.declared.errors.Deny.{Deny}
 use Rattle.vt_spec.specs.declared.errors.Rule.TheVariants.{K1, M9}

@@ -69,8 +69,8 @@ module _ (world : World ℕ) (names : List TaskName) (h : Filesystem ℕ → Fil
 
   unused_found : (k : ℕ) → is_among nat_eq k used_now ≡ false
       → filesystem_numbered nat_eq now k ≡ filesystem_numbered nat_eq world k
-  unused_found k e = found world names h numbered (λ (f : Filesystem ℕ). f) k
-      (λ x there m. kept x (ap (λ n. is_among nat_eq n used_now) (sym (eqb-true k x.number m)) ∙ e))
+  unused_found k e =
+      found world names h numbered (λ (f : Filesystem ℕ). f) k (λ x there m. kept x (cc (eqb-true k x.number m)))
 
   same_used : used_filesystems nat_eq now names ≡ used_now
   same_used = used_later world names h numbered changing

@@ -24,7 +24,7 @@ use Rattle.vt_laws_members.proofs.changes.tasks.Rights.{raised_is}
 
 pub no_overlay : (o : Option (Overlay ℕ)) → is_some o ≡ false → o ≡ None
 no_overlay None e = refl
-no_overlay (Some overlay) e = absurd (true≢false e)
+no_overlay (Some overlay) e = cc
 
 module _ {world : World ℕ} {names : List TaskName} {name : TaskName} {call : Call} {task : Task ℕ}
     (lasts : IsLastingCall world names name call task) (location : Location ℕ) (change : Change ℕ) (is : IsEdit change)
@@ -76,11 +76,10 @@ module _ {world : World ℕ} {names : List TaskName} {name : TaskName} {call : C
 
   parts_alike : part_of nat_eq left_here names ≡ part_of nat_eq left_there names
   parts_alike = part_left old files world name names (old_used world names lasts.is number used)
-      (one_in_world world names lasts.is number used)
-      ∙ (λ i. record (with_filesystems (sym (part_again world names lasts.is) i)
-      (both old files)) { tasks = tasks_alike i }) ∙ sym (part_left old files part name names
-      (ap (is_among nat_eq old.number) (same_used world names)
-      ∙ (old_used world names lasts.is number used)) (one_in_part world names lasts.is number used))
+      (one_in_world world names lasts.is number used) ∙ (λ i. record (with_filesystems
+      (sym (part_again world names lasts.is) i) (both old files)) { tasks = tasks_alike i }) ∙
+      sym (part_left old files part name names (cc (same_used world names, old_used world names lasts.is number used))
+      (one_in_part world names lasts.is number used))
 
   pub edit_ends : (fresh other : Fresh ℕ) → ran name call world fresh (Some task)
       ≡ run_by lasts.it world fresh task (Ok (ToChange location change))
@@ -88,14 +87,20 @@ module _ {world : World ℕ} {names : List TaskName} {name : TaskName} {call : C
       ≡ run_by lasts.it part other task (Ok (ToChange location change))
       → EndsAlike world names name call fresh other
   edit_ends fresh other one two =
-      let first : policy nat_eq fresh world name call ≡ granted Done left_here =
-      ap (ran name call world fresh) lasts.found ∙ one ∙ changes_so world fresh refl
-      ∙ ap (granted Done) (left_so old files world name
-      (in_use world (all_in_use world lasts.is) (one_in_world world names lasts.is number used))) in
-      let second : policy nat_eq other part name call ≡ granted Done left_there =
-      ap (ran name call part other) (same_caller (sealing_of lasts.it) name lasts.theirs ∙ lasts.found) ∙ two ∙ changes_so part other
-      (sym alike) ∙ ap (granted Done) (left_so old files part name (in_use part (part_in_use (sealing_of lasts.it))
-      (one_in_part world names lasts.is number used))) in
+      let first : policy nat_eq fresh world name call ≡ granted Done left_here = cc (
+        lasts.found,
+        changes_so world fresh refl,
+        left_so old files world name
+            (in_use world (all_in_use world lasts.is) (one_in_world world names lasts.is number used)),
+      ) in
+      let second : policy nat_eq other part name call ≡ granted Done left_there = cc (
+        same_caller (sealing_of lasts.it) name lasts.theirs,
+        lasts.found,
+        changes_so part other (sym alike),
+        left_so old
+            files part name (in_use part (part_in_use (sealing_of lasts.it)) (one_in_part world names lasts.is number used)),
+      )
+      in
       ended_alike names name call first second (rw lasts.stays (record { answer = refl; part = parts_alike }))
 
 -- A call whose walk leads to what it edits
@@ -110,9 +115,9 @@ module _ {world : World ℕ} {names : List TaskName} {name : TaskName} {call : C
   pub walked_edit_ends : EndsAlike world names name call fresh other
   walked_edit_ends =
       let ground = theirs_from world names lasts.is.mounts location.mount edit.0 in
-      edit_ends lasts location change edit.1 plain
-      (theirs_used world names lasts.is location ground) (filesystem_alike world names lasts.is location ground)
-      fresh other (ap (run_by lasts.it world fresh task) granted_so) (ran_there lasts.it fresh other task lasts.found granted_so)
+      edit_ends lasts location change edit.1 plain (theirs_used world names lasts.is location ground)
+      (filesystem_alike world names lasts.is location ground) fresh other (cc)
+      (ran_there lasts.it fresh other task lasts.found granted_so)
 
 pub writes_end_alike : WritesEndAlike
 writes_end_alike world names name path bytes it task found fresh other location change granted_so plain =

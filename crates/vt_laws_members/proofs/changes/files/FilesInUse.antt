@@ -27,11 +27,13 @@ module _ (world : World ℕ) (in_use : AllInUse world) (change : Filesystem ℕ 
 
     filesystems_after : FilesystemsInUse changed
     filesystems_after = list_all_from_among (filesystem_lives nat_eq changed) changed.filesystems
-        (λ x m. let from = among-from_map change world.filesystems x m in
-        ap (filesystem_lives nat_eq changed) from.2
-        ∙ lives_alike world change (λ g n. ChangesFilesystem.number (changes world g n))
-        (λ g n. ChangesFilesystem.layers (changes world g n)) from.0 from.1
-        ∙ among_from_list_all (filesystem_lives nat_eq world) world.filesystems in_use.filesystems from.0 from.1)
+        (λ x m. let from = among-from_map change world.filesystems x m in cc (
+          from.2,
+          lives_alike world change (λ g n. ChangesFilesystem.number (changes world g n))
+              (λ g n. ChangesFilesystem.layers (changes world g n)) from.0 from.1,
+          among_from_list_all
+              (filesystem_lives nat_eq world) world.filesystems in_use.filesystems from.0 from.1,
+        ))
 
     all_stay : in_use_of changed ≡ changed
     all_stay = cc (mounts_stay changed in_use.mounts, filesystems_stay changed filesystems_after)
@@ -60,5 +62,5 @@ module _ (world : World ℕ) {old : Filesystem ℕ} (files : FileTree ℕ) (plai
   tree_changes after f m = by (nat_eq old.number f.number) refl
     where
       by : (b : Bool) → nat_eq old.number f.number ≡ b → ChangesFilesystem after [] f (cond b new f)
-      by true e = subst (λ x. ChangesFilesystem after [] x new) (sym (one f m e)) (of_old after)
+      by true e = rw (one f m e) (of_old after)
       by false e = unchanged after [] f

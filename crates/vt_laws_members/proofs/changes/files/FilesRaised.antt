@@ -43,9 +43,7 @@ module _ (old : Filesystem ℕ) (files : FileTree ℕ) where
 
     pub left_so : AllInUse (with_filesystems world swap)
         → numbers_raised nat_eq world name (old.number ∷ []) (settled nat_eq (with_filesystems world swap)) ≡ left
-    left_so in_use =
-        ap (numbers_raised nat_eq world name (old.number ∷ [])) (nothing_goes (with_filesystems world swap) in_use)
-        ∙ numbers_so
+    left_so in_use = cc (nothing_goes (with_filesystems world swap) in_use, numbers_so)
       where
         numbers_so : numbers_raised nat_eq world name (old.number ∷ []) (with_filesystems world swap) ≡ left
         numbers_so i = record {

@@ -22,7 +22,7 @@ module _ (world : World ℕ) (names : List TaskName) (is : IsWorld nat_eq world)
   old_number = found_numbered number world.filesystems
 
   pub old_used : is_among nat_eq old.number (used_filesystems nat_eq world names) ≡ true
-  old_used = ap (λ n. is_among nat_eq n (used_filesystems nat_eq world names)) old_number ∙ used
+  old_used = cc old_number
 
   pub one_in_world : (x : Filesystem ℕ) → Among x world.filesystems → nat_eq old.number x.number ≡ true → x ≡ old
   one_in_world x m e = sym (found_filesystem world.filesystems is.files.one_filesystem x m)
@@ -38,7 +38,5 @@ module _ (world : World ℕ) (names : List TaskName) (is : IsWorld nat_eq world)
       (shown_how world names from.0 x from.2)
 
   pub there_in_part : Among old world.filesystems → Among old part.filesystems
-  there_in_part there = among-filter_map (part_of_filesystem nat_eq world names) world.filesystems old old there
-      (ap (λ b. cond b (Some old) (when
-      (list_any (λ layer. nat_eq old.number layer.filesystem) (own_lowers nat_eq world names))
-      (part_of_lower nat_eq world names old))) old_used)
+  there_in_part there =
+      among-filter_map (part_of_filesystem nat_eq world names) world.filesystems old old there (cc old_used)

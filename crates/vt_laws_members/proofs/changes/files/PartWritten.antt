@@ -65,4 +65,4 @@ part_writes_end_alike world names name descriptor offset byte bytes it task call
         (writes_theirs (caller_in it called) (byte ∷ bytes) descriptor offset)
 
     judged : judge_in nat_eq fresh world task call ≡ Ok (ToWritePart file at (byte ∷ bytes))
-    judged = granted_so ∙ ap (λ w. Ok (ToWritePart file at w)) theirs.1
+    judged = cc theirs.1

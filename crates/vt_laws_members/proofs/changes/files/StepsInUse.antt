@@ -19,25 +19,26 @@ module _ (w : World ℕ) (in_use : AllInUse w) (step : Filesystem ℕ → Filesy
   none = record { mounts = []; filesystems = []; inodes = []; groups = [] }
 
   stays : in_use_of w ≡ w
-  stays = ap (without_dead_filesystems nat_eq) (mounts_stay w in_use.mounts) ∙ filesystems_stay w in_use.filesystems
+  stays = cc (mounts_stay w in_use.mounts, filesystems_stay w in_use.filesystems)
 
   in_use_before : AllInUseBut none w
   in_use_before = grind (arith, common_steps, mounts_stay, stays)
 
   filesystems_after : FilesystemsInUse changed
   filesystems_after = list_all_from_among (filesystem_lives nat_eq changed) changed.filesystems
-      (λ x m. let from = among-from_map step w.filesystems x m in
-      ap (filesystem_lives nat_eq changed) from.2 ∙ lives_alike w step (λ g n. ChangesFilesystem.number (changes g n))
-      (λ g n. ChangesFilesystem.layers (changes g n)) from.0 from.1
-      ∙ among_from_list_all (filesystem_lives nat_eq w) w.filesystems in_use.filesystems from.0 from.1)
+      (λ x m. let from = among-from_map step w.filesystems x m in cc (
+        from.2,
+        lives_alike w step
+            (λ g n. ChangesFilesystem.number (changes g n)) (λ g n. ChangesFilesystem.layers (changes g n)) from.0 from.1,
+        among_from_list_all (filesystem_lives nat_eq w) w.filesystems in_use.filesystems from.0 from.1,
+      ))
 
   all_stay : in_use_of changed ≡ changed
   all_stay = cc (mounts_stay changed in_use.mounts, filesystems_stay changed filesystems_after)
 
   all_but : AllInUseBut (with_lost none []) changed
-  all_but = all_but_changed w none in_use_before step []
-      (subst (λ v. All (λ f. ChangesFilesystem v [] f (step f)) w.filesystems) (sym all_stay)
-      (all_from_among (λ f. ChangesFilesystem changed [] f (step f)) w.filesystems changes))
+  all_but = all_but_changed w none in_use_before step [] (rw all_stay (all_from_among
+      (λ f. ChangesFilesystem changed [] f (step f)) w.filesystems changes))
 
   pub in_use_stepped : AllInUse changed
   in_use_stepped = grind (arith, common_steps, filesystems_after, all_stay, all_but)

@@ -39,10 +39,10 @@ module _ {world : World ℕ} {names : List TaskName} {name : TaskName} {call : C
   pub spaces_kept : mine.namespace ≡ task.namespace → (n : ℕ)
       → list_any (λ (t : Task ℕ). nat_eq n t.namespace) (map (replaced_if_called mine) (members world names))
       ≡ list_any (λ (t : Task ℕ). nat_eq n t.namespace) (members world names)
-  spaces_kept spaced n = any_mapped (λ (t : Task ℕ). nat_eq n t.namespace) (λ (t : Task ℕ). nat_eq n t.namespace)
-      (replaced_if_called mine) (members world names) (λ t m. ap (nat_eq n) (⊎_elim
-      (λ its. ap (λ (x : Task ℕ). x.namespace) its.0 ∙ spaced ∙ ap (λ (x : Task ℕ). x.namespace) its.1)
-      (λ same. ap (λ (x : Task ℕ). x.namespace) same)
+  spaces_kept spaced n =
+      any_mapped (λ (t : Task ℕ). nat_eq n t.namespace) (λ (t : Task ℕ). nat_eq n t.namespace) (replaced_if_called mine)
+      (members world names) (λ t m. cc (⊎_elim (λ its. ap (λ (x : Task ℕ). x.namespace) its.0 ∙ spaced ∙
+      ap (λ (x : Task ℕ). x.namespace) its.1) (λ same. ap (λ (x : Task ℕ). x.namespace) same)
       (replaced_how t (among-from_filter (is_member_task names) world.tasks t m).0)))
 
 -- the caller after the call
@@ -81,20 +81,18 @@ module _ {world : World ℕ} {names : List TaskName} {name : TaskName} {call : C
 
   pub of_set : (tasks : List (Task ℕ))
       → filter (is_member_task names) (map replaced tasks) ≡ map replaced (filter (is_member_task names) tasks)
-  of_set tasks = filter-map (is_member_task names) replaced tasks
-      (λ t. ap (λ n. is_among same_name n names) (name-replaced_if_called mine t))
+  of_set tasks = filter-map (is_member_task names) replaced tasks (λ t. cc (name-replaced_if_called mine t))
 
   of_others : filter (λ t. not (is_member_task names t)) (map replaced world.tasks) ≡ map replaced
       (outsiders world names)
-  of_others = filter-map (λ t. not (is_member_task names t)) replaced world.tasks
-      (λ t. ap (λ n. not (is_among same_name n names)) (name-replaced_if_called mine t))
+  of_others =
+      filter-map (λ t. not (is_member_task names t)) replaced world.tasks (λ t. cc (name-replaced_if_called mine t))
 
   root_its : (t : Task ℕ) → Among t theirs → (l : Location ℕ)
       → Among l ((replaced t).root ∷ (replaced t).directory ∷ []) → OnTheirs l
-  root_its t m l at = ⊎_elim (λ its. one_of mine stands.root stands.directory
-      (subst (λ (x : Task ℕ). Among l (x.root ∷ x.directory ∷ [])) its.0 at))
-      (λ same. one_of t (root_theirs world names it.is t m) (directory_theirs world names it.is t m)
-      (subst (λ (x : Task ℕ). Among l (x.root ∷ x.directory ∷ [])) same at)) (how t (there t m))
+  root_its t m l at = ⊎_elim (λ its. one_of mine stands.root stands.directory (rw (← its.0) at))
+      (λ same. one_of t (root_theirs world names it.is t m) (directory_theirs world names it.is t m) (rw (← same) at))
+      (how t (there t m))
     where
       one_of : (x : Task ℕ) → OnTheirs x.root → OnTheirs x.directory → Among l (x.root ∷ x.directory ∷ []) → OnTheirs l
       one_of x root directory n = ⊎_elim (λ e. subst OnTheirs (sym e) root)
@@ -103,9 +101,7 @@ module _ {world : World ℕ} {names : List TaskName} {name : TaskName} {call : C
   place_its : (t : Task ℕ) → Among t theirs → (l : Location ℕ) → Among l (locations_of (replaced t))
       → Among l (locations theirs) ⊎ OnTheirs l
   place_its t m l at = ⊎_elim (λ its. ⊎_elim (λ old. inl (among-flat_map locations_of theirs task l member.among old))
-      inr
-      (stands.places l (subst (λ x. Among l (locations_of x)) its.0 at)))
-      (λ same. inl (among-flat_map locations_of theirs t l m (subst (λ x. Among l (locations_of x)) same at)))
+      inr (stands.places l (rw (← its.0) at))) (λ same. inl (among-flat_map locations_of theirs t l m (rw (← same) at)))
       (how t (there t m))
 
   other_its : (t : Task ℕ) → Among t (outsiders world names) → (l : Location ℕ) → Among l (locations_of (replaced t))
@@ -121,30 +117,28 @@ module _ {world : World ℕ} {names : List TaskName} {name : TaskName} {call : C
       → Among l (roots_and_directories (filter (is_member_task names) (map replaced world.tasks))) → OnTheirs l
   roots_left l m =
       let from = among-from_flat_map (λ (t : Task ℕ). t.root ∷ t.directory ∷ []) (map replaced theirs) l
-      (subst (λ ts. Among l (roots_and_directories ts)) (of_set world.tasks) m) in
+      (rw (← of_set world.tasks) m) in
       let t = among-from_map replaced theirs from.0 from.1 in
-      root_its t.0 t.1 l (subst (λ (x : Task ℕ). Among l (x.root ∷ x.directory ∷ [])) t.2 from.2)
+      root_its t.0 t.1 l (rw (← t.2) from.2)
 
   pub places_left : (l : Location ℕ) → Among l (locations (filter (is_member_task names) (map replaced world.tasks)))
       → Among l (locations theirs) ⊎ OnTheirs l
   places_left l m =
-      let from = among-from_flat_map locations_of (map replaced theirs) l
-      (subst (λ ts. Among l (locations ts)) (of_set world.tasks) m) in
+      let from = among-from_flat_map locations_of (map replaced theirs) l (rw (← of_set world.tasks) m) in
       let t = among-from_map replaced theirs from.0 from.1 in
-      place_its t.0 t.1 l (subst (λ x. Among l (locations_of x)) t.2 from.2)
+      place_its t.0 t.1 l (rw (← t.2) from.2)
 
   pub others_left : (l : Location ℕ)
       → Among l (locations (filter (λ t. not (is_member_task names t)) (map replaced world.tasks)))
       → Among l (locations (outsiders world names))
   others_left l m =
-      let from = among-from_flat_map locations_of (map replaced (outsiders world names)) l
-      (subst (λ ts. Among l (locations ts)) of_others m) in
+      let from = among-from_flat_map locations_of (map replaced (outsiders world names)) l (rw (← of_others) m) in
       let t = among-from_map replaced (outsiders world names) from.0 from.1 in
-      other_its t.0 t.1 l (subst (λ x. Among l (locations_of x)) t.2 from.2)
+      other_its t.0 t.1 l (rw (← t.2) from.2)
 
   pub same_set : filter (is_member_task names) (map replaced part.tasks)
       ≡ filter (is_member_task names) (map replaced world.tasks)
-  same_set = of_set part.tasks ∙ ap (map replaced) (same_members world names) ∙ sym (of_set world.tasks)
+  same_set = cc (of_set part.tasks, same_members world names, of_set world.tasks)
 
   pub all_in_set : (t : Task ℕ) → Among t (map replaced part.tasks) → is_member_task names t ≡ true
   all_in_set t m =
@@ -164,7 +158,7 @@ module _ {world : World ℕ} {names : List TaskName} {name : TaskName} {call : C
   moved_alike fresh other stays own one two =
       let_go_alike world names names name call it task called fresh other Done stays (map replaced world.tasks)
       (map replaced part.tasks) one two (record {
-        own = λ n. ap (list_any (λ (t : Task ℕ). nat_eq n t.namespace)) (of_set world.tasks) ∙ own n;
+        own = λ n. cc (of_set world.tasks, own n);
         roots = roots_left;
         places = places_left;
         others = others_left;

@@ -30,8 +30,7 @@ mount_parent b kept m l at point = by m.namespace refl
     below = cc (
       found_itself b.mounts kept.one_number m at,
       namespace_below b m.number l (among_from_all (λ (y : Mount ℕ). Stands nat_eq b y.number) b.mounts
-          kept.standing m at) (ap (λ (y : Mount ℕ). y.mount_point) (found_itself b.mounts kept.one_number m at) ∙
-          point),
+          kept.standing m at) (cc (found_itself b.mounts kept.one_number m at)),
     )
 
     by : (o : Option ℕ) → m.namespace ≡ o
@@ -41,7 +40,7 @@ mount_parent b kept m l at point = by m.namespace refl
     by (Some n) e =
         let up : (mount_numbered nat_eq b l.mount).namespace ≡ Some n = sym below ∙ e in
         ⊎_elim (λ found. (n, e, mount_numbered nat_eq b l.mount, found, sym (number-mount_in b.mounts l.mount), up))
-        (λ none. none_is_some n (sym (ap (λ (y : Mount ℕ). y.namespace) none) ∙ up)) (found_or_none b.mounts l.mount)
+        (λ none. none_is_some n (cc)) (found_or_none b.mounts l.mount)
 
 -- The tasks of a set let locations go.
 module _ {world : World ℕ} {names : List TaskName} (sealing : IsSealed world names) (set : List TaskName) where
@@ -87,8 +86,12 @@ module _ {world : World ℕ} {names : List TaskName} (sealing : IsSealed world n
     pub ground_is : (m : Mount ℕ) → Among m world.mounts → (number : ℕ) → number ≡ m.number
         → IsTheirs world names sealing.is.mounts number → IsGround m
     ground_is m n number e theirs =
-        let same : theirs.0 ≡ m = sym (numbered world names sealing.is.mounts theirs.0 theirs.1)
-        ∙ ap (mount_numbered nat_eq world) (theirs.2 ∙ e) ∙ numbered world names sealing.is.mounts m n in
+        let same : theirs.0 ≡ m = cc (
+          numbered world names sealing.is.mounts theirs.0 theirs.1,
+          theirs.2,
+          numbered world
+              names sealing.is.mounts m n,
+        ) in
         subst IsGround same theirs.3
 
     -- a mount where they stand
@@ -132,10 +135,9 @@ module _ {world : World ℕ} {names : List TaskName} (sealing : IsSealed world n
 
     direct_was : (n : ℕ) → Among n (used_directly nat_eq later set) → Among n (used_directly nat_eq world names)
     direct_was n m = ⊎_elim (λ shown. among-append_left (mounted old) (map shows (locations old)) n
-        (subst (Among n) mounted_same shown)) (λ placed. let l = among-from_map shows (locations new) n placed in
-        ⊎_elim (λ was. among-append_right (mounted old) (map shows (locations old)) n
-        (subst (λ k. Among k (map shows (locations old))) (sym l.2) (among-map shows (locations old) l.0 was)))
-        (λ theirs. subst (λ k. Among k (used_directly nat_eq world names)) (sym l.2)
+        (subst (Among n) mounted_same shown)) (λ placed. let l = among-from_map shows (locations new) n placed in ⊎_elim
+        (λ was. among-append_right (mounted old) (map shows (locations old)) n
+        (rw l.2 (among-map shows (locations old) l.0 was))) (λ theirs. rw l.2
         (theirs_directly world names sealing.is l.0 theirs)) (it.places l.0 l.1))
         (among-append (mounted new) (map shows (locations new)) n m)
 
@@ -144,7 +146,7 @@ module _ {world : World ℕ} {names : List TaskName} (sealing : IsSealed world n
       own = λ n h. sym (it.own n) ∙ h;
       mounts = kept_by;
       located = λ l m. ⊎_elim (located world names l)
-          (λ theirs. ap (λ (k : Mount ℕ). k.filesystem) (same_mount world names sealing.is.mounts l.mount theirs))
+          (λ theirs. cc (same_mount world names sealing.is.mounts l.mount theirs))
           (it.places l m);
       direct = direct_was;
     }

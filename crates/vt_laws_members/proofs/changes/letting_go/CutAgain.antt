@@ -38,14 +38,14 @@ module _ (files : FileTree ℕ) (chosen : List ℕ) (top : ℕ) where
       by : (c : Bool) → is_among nat_eq object (targets_in (cond c (files.tree.node b) None)) ≡ true
           → is_among nat_eq object (targets_in (files.tree.node b)) ≡ true
       by true h = h
-      by false h = absurd (true≢false (sym h))
+      by false h = cc
 
   parent_was : (d b : ℕ) → named_parent nat_eq cut.tree d ≡ Some b → named_parent nat_eq files.tree d ≡ Some b
   parent_was d b = by (is_among nat_eq d chosen) refl (nat_eq d files.tree.root)
     where
       entry : (c : ℕ) (q : Bool) → has_entry_to nat_eq cut.tree c d ≡ q → when q c ≡ Some b
           → when (has_entry_to nat_eq files.tree c d) c ≡ Some b
-      entry c true h e = ap (λ q. when q c) (entry_was c d h) ∙ e
+      entry c true h e = cc (entry_was c d h)
       entry c false h e = none_is_some b e
 
       by : (p : Bool) → is_among nat_eq d chosen ≡ p → (r : Bool)
@@ -56,8 +56,7 @@ module _ (files : FileTree ℕ) (chosen : List ℕ) (top : ℕ) where
       by p f true e = none_is_some b e
       by true f false e = entry (parent_in d (files.tree.node d))
           (has_entry_to nat_eq cut.tree (parent_in d (files.tree.node d)) d) refl e
-      by false f false e = none_is_some b
-          (sym (ap (λ c. when (is_among nat_eq d (targets_in (cond c (files.tree.node d) None))) d) f) ∙ e)
+      by false f false e = none_is_some b (cc)
 
   chain_was : (n d : ℕ) → reaches top n (named_parent nat_eq cut.tree) d ≡ true
       → reaches top n (named_parent nat_eq files.tree) d ≡ true
@@ -70,7 +69,7 @@ module _ (files : FileTree ℕ) (chosen : List ℕ) (top : ℕ) where
           → reaches top n (named_parent nat_eq files.tree) b ≡ true)
           → reaches top (suc n) (named_parent nat_eq files.tree) d ≡ true
       by None e h later = at_head top (named_parent nat_eq files.tree) (suc n) d
-          (⊎_elim (λ same. same) (λ none. absurd (true≢false (sym none))) (or_cases (nat_eq top d) false h))
+          (⊎_elim (λ same. same) (λ none. cc none) (or_cases (nat_eq top d) false h))
       by (Some b) e h later = ap (λ o. is_among nat_eq top
           (elim o [ None ↦ d ∷ [] | Some c ↦ d ∷ chain n (named_parent nat_eq files.tree) c ])) (parent_was d b e)
           ∙ ⊎_elim (or_left (nat_eq top d) (reaches top n (named_parent nat_eq files.tree) b))
@@ -86,9 +85,7 @@ module _ (files : FileTree ℕ) (chosen : List ℕ) (top : ℕ) where
 
   pub under_was : (object : ℕ) → is_among nat_eq object chosen ≡ true → is_under nat_eq cut top object ≡ true
       → is_under nat_eq files top object ≡ true
-  under_was object kept h = by (is_directory_node (files.tree.node object))
-      (sym (ap (λ c. cond (is_directory_node (cond c (files.tree.node object) None))
-      (is_directory_under nat_eq cut top object) (is_file_under nat_eq cut top object)) kept) ∙ h)
+  under_was object kept h = by (is_directory_node (files.tree.node object)) (cc)
     where
       by : (b : Bool) → cond b (is_directory_under nat_eq cut top object) (is_file_under nat_eq cut top object) ≡ true
           → cond b (is_directory_under nat_eq files top object) (is_file_under nat_eq files top object) ≡ true
@@ -179,7 +176,7 @@ module _ (number : ℕ) (lowers : List (Layer ℕ)) where
       where
         none : (n : ℕ) → Among n whole.numbers → is_among nat_eq n chosen ≡ false → (b : Bool) → lies_under whole n ≡ b
             → b ≡ false
-        none n m e true f = absurd (true≢false (sym (has.all n m f) ∙ e))
+        none n m e true f = cc (has.all n m f)
         none n m e false f = refl
 
     left_chosen : (n : ℕ) → is_among nat_eq n left ≡ true → is_among nat_eq n chosen ≡ true

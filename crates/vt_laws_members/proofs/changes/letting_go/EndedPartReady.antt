@@ -61,13 +61,11 @@ module _ {world : World ℕ} {names set : List TaskName} {gone : List ℕ} (it :
   one_living = grind (arith, common_steps, pair-filter, pair-map, shape, part_one_number)
 
   number_kept : (m y : Mount ℕ) → kept m ≡ Some y → y.number ≡ m.number
-  number_kept m y e =
-      ⊎_elim (λ its. ap (λ (q : Mount ℕ). q.number) (sym its)) (λ stub. ap (λ (q : Mount ℕ). q.number) (sym stub.0))
-      (kept_how world names old m y e)
+  number_kept m y e = ⊎_elim (λ its. cc) (λ stub. cc stub.0) (kept_how world names old m y e)
 
   located_so : (l : Location ℕ) → Among l (locations new) → (y : Mount ℕ) × Among y living.mounts × (l.mount ≡ y.number)
   located_so l m =
-      let on = place_shown it l (subst (λ ts. Among l (locations ts)) it.same m) in
+      let on = place_shown it l (rw (← it.same) m) in
       let shown : (y : Mount ℕ) × (kept on.0 ≡ Some y) = (on.3, on.4) in
       let there = among-filter_map kept world.mounts on.0 shown.0 on.1 shown.1 in
       let t = among-from_flat_map locations_of new l m in
@@ -108,16 +106,14 @@ module _ {world : World ℕ} {names set : List TaskName} {gone : List ℕ} (it :
       → (is_own world names new (after z) ≡ true) ⊎ ((after z).namespace ≡ None)
   in_or_out z n =
       let from = among-from_filter_map kept world.mounts z n in
-      ⊎_elim (λ whole. ⊎_elim (own_after z (subst (λ q. Among q world.mounts) whole from.1))
-      (λ none. inr (none_after z none)) (part_mount world names it.is from.0 z from.1 from.2))
-      (λ stub. inr (none_after z (ap (λ (q : Mount ℕ). q.namespace) (sym stub.0))))
+      ⊎_elim (λ whole. ⊎_elim (own_after z (rw (← whole) from.1)) (λ none. inr (none_after z none))
+      (part_mount world names it.is from.0 z from.1 from.2)) (λ stub. inr (none_after z (cc stub.0)))
       (kept_how world names old from.0 z from.2)
 
   pub alone : (number : ℕ) → NoOthers living set number
   alone number = record {
     mounts = λ y n e. let from = was y n in
-        subst (λ (q : Mount ℕ). (is_own world names new q ≡ true) ⊎ (q.namespace ≡ None)) (sym from.2)
-        (in_or_out from.0 from.1);
+        rw from.2 (in_or_out from.0 from.1);
     locations = λ l m e. let t = among-from_flat_map locations_of it.tasks_too l m in among-flat_map locations_of new
         t.0 l (among-filter (is_member_task set) it.tasks_too t.0 t.1
         (leaves.all t.0 t.1)) t.2;

@@ -115,18 +115,16 @@ module _ {world : World ℕ} {names set : List TaskName} {gone : List ℕ} (it :
 
   after_in : (n : ℕ) (m : Mount ℕ) → its_in n (after m) ≡ true → (its_in n m ≡ true)
       × (is_going nat_eq gone m.number ≡ false)
-  after_in n m h = ⊎_elim (λ gone. absurd (true≢false (sym h ∙ ap (holds_of (nat_eq n)) gone.0)))
-      (λ stays. (sym (ap (holds_of (nat_eq n)) stays.0) ∙ h, stays.2)) (placed_so it.regroups t_world world gone m)
+  after_in n m h =
+      ⊎_elim (λ gone. cc gone.0) (λ stays. (cc stays.0, stays.2)) (placed_so it.regroups t_world world gone m)
 
   mounts_after : (n : ℕ) → is_theirs n ≡ true → mounts_of nat_eq u_part n ≡ mounts_of nat_eq u n
   mounts_after n own = settled_mounts v_part n ∙ kept_alike (its_in n) after after_part kept world.mounts
       (λ m at h. let own_one = own_in it.sealing n own m (after_in n m h).0 in (
         own_kept it.sealing m own_one,
         mount_alike it.go it.regroups m (mine m at own_one),
-      )) (λ m y at h e. ⊎_elim (λ whole. ap (λ (q : Mount ℕ). its_in n (after_part q)) (sym whole)
-      ∙ ap (holds_of (nat_eq n)) (space_same it.regroups t_part t_world part world gone m) ∙ h)
-      (λ stub. ap (λ (q : Mount ℕ). its_in n (after_part q)) (sym stub.0)
-      ∙ ap (its_in n) (stub_stays it.regroups t_part part gone m)) (kept_how world names old m y e))
+      )) (λ m y at h e. ⊎_elim (λ whole. cc (space_same it.regroups t_part t_world part world gone m))
+      (λ stub. cc (stub.0, stub_stays it.regroups t_part part gone m)) (kept_how world names old m y e))
       ∙ sym (settled_mounts v n)
 
   -- masters above, before
@@ -141,26 +139,22 @@ module _ {world : World ℕ} {names set : List TaskName} {gone : List ℕ} (it :
   -- the source of a mount of theirs after is heard
   heard_after : (m : Mount ℕ) → Among m owns → is_going nat_eq gone m.number ≡ false → (g : ℕ)
       → source_of (after m).propagation ≡ Some g → Heard g
-  heard_after m n out g e = by it.regroups m.propagation refl
-      (sym (ap source_of (kind_after it.regroups t_world world gone m out)) ∙ e)
+  heard_after m n out g e = by it.regroups m.propagation refl (cc (kind_after it.regroups t_world world gone m out))
     where
       from_heir : (s : ℕ) → Heard s → (o : Option ℕ) → heir nat_eq t_world (Some s) ≡ o
           → source_of (slave_of_heir o) ≡ Some g → Heard g
       from_heir s heard None f h = none_is_some g h
-      from_heir s heard (Some above) f h = subst Heard (same_Some above g h)
-          (up_heard it.sealing s above heard (subst (Among above) (ap (λ i. chain i world.master s)
-          (length-map world.mounts (after_going nat_eq world gone))) (found_among (has_members nat_eq t_world.mounts)
-          (groups_up t_world s) above f)))
+      from_heir s heard (Some above) f h = subst Heard (same_Some above g h) (up_heard it.sealing s above heard
+          (rw (← ap (λ i. chain i world.master s) (length-map world.mounts (after_going nat_eq world gone)))
+          (found_among (has_members nat_eq t_world.mounts) (groups_up t_world s) above f)))
 
       by : (c : Bool) (kind : Propagation ℕ) → m.propagation ≡ kind
           → source_of (cond c (inherited nat_eq t_world m.propagation) m.propagation) ≡ Some g → Heard g
       by false kind f h = heard_by_own it.sealing m n g h
-      by true (Shared s) f h = heard_by_own it.sealing m n g
-          (ap source_of f ∙ sym (ap (λ q. source_of (inherited nat_eq t_world q)) f) ∙ h)
-      by true (Slave s) f h = from_heir s (heard_by_own it.sealing m n s (ap source_of f))
-          (heir nat_eq t_world (Some s)) refl (sym (ap (λ q. source_of (inherited nat_eq t_world q)) f) ∙ h)
-      by true Private f h = none_is_some g (sym (ap (λ q. source_of (inherited nat_eq t_world q)) f) ∙ h)
-      by true Unbindable f h = none_is_some g (sym (ap (λ q. source_of (inherited nat_eq t_world q)) f) ∙ h)
+      by true (Shared s) f h = heard_by_own it.sealing m n g (cc)
+      by true (Slave s) f h = from_heir s (heard_by_own it.sealing m n s (cc)) (heir nat_eq t_world (Some s)) refl (cc)
+      by true Private f h = none_is_some g (cc)
+      by true Unbindable f h = none_is_some g (cc)
 
   -- a member after is in its namespace
   member_placed : (t w : World ℕ) (g : ℕ) (m : Mount ℕ) → is_member_of nat_eq g (ended_mount it.regroups t w gone m)
@@ -226,12 +220,10 @@ module _ {world : World ℕ} {names set : List TaskName} {gone : List ℕ} (it :
     mounts_after n own,
     same_list_alike (same_mount nat_eq part u_part) (same_mount nat_eq world u) (mounts_of nat_eq world n)
         (mounts_of nat_eq u n) (λ x y m l. let first = among-from_filter (its_in n) world.mounts x m in let second =
-        among-from_filter (its_in n) v.mounts y (subst (Among y) (settled_mounts v n) l) in let from = among-from_map
-        after world.mounts y second.0 in let its = after_in n from.0 (ap (its_in n) (sym from.2) ∙ second.1) in
+        among-from_filter (its_in n) v.mounts y (rw (← settled_mounts v n) l) in let from = among-from_map
+        after world.mounts y second.0 in let its = after_in n from.0 (cc (from.2, second.1)) in
         compared x y (above_before x (mine x first.0 (own_in it.sealing n own x first.1)))
-        (subst (λ (q : Mount ℕ). master_above u_part q ≡ master_above u q) (sym from.2)
-        (above_after from.0 (mine from.0 from.1
-        (own_in it.sealing n own from.0 its.0)) its.1))),
+        (cc (from.2, above_after from.0 (mine from.0 from.1 (own_in it.sealing n own from.0 its.0)) its.1))),
   )
     where
       same_ones : Mount ℕ → Mount ℕ → Bool

@@ -74,9 +74,8 @@ module _ {world : World ℕ} {names set : List TaskName} {gone : List ℕ} (it :
         → (is_own world names new y ≡ true) ⊎ (y.namespace ≡ None)
     mounts_own y n e =
         let from = was y n in
-        subst (λ (q : Mount ℕ). (is_own world names new q ≡ true) ⊎ (q.namespace ≡ None)) (sym from.2)
-        (by_mount from.0 from.1
-        (sym (shape from.0).filesystem ∙ ap (λ (q : Mount ℕ). q.filesystem) (sym from.2) ∙ e) from.0.namespace refl)
+        rw from.2 (by_mount from.0 from.1 (sym (shape from.0).filesystem ∙ ap (λ (q : Mount ℕ). q.filesystem)
+        (sym from.2) ∙ e) from.0.namespace refl)
 
     locations_own : (l : Location ℕ) → Among l (all_locations living) → (mount_at nat_eq living l).filesystem ≡ number
         → Among l (locations new)
@@ -89,21 +88,25 @@ module _ {world : World ℕ} {names set : List TaskName} {gone : List ℕ} (it :
         by t n at true member =
             among-flat_map locations_of new t l (among-filter (is_member_task set) it.tasks t n member) at
         by t n at false other =
-            let out = leaves.others l (among-flat_map locations_of (filter (λ y. not (is_member_task set y)) it.tasks)
-            t l (among-filter (λ y. not (is_member_task set y)) it.tasks t n (ap not other)) at) in
+            let out = leaves.others l (among-flat_map locations_of (filter (λ y. not (is_member_task set y)) it.tasks) t
+            l (among-filter (λ y. not (is_member_task set y)) it.tasks t n (cc)) at) in
             let from = among-from_flat_map locations_of (outsiders world names) l out in
             let under = mount_under it.sealing l (among-flat_map locations_of world.tasks from.0 l
             (among-from_filter (λ y. not (is_member_task names y)) world.tasks from.0 from.1).0 from.2) in
             let alive = located_lives under.0 l under.1 m under.2 in
-            let shows : (mount_at nat_eq living l).filesystem ≡ (mount_at nat_eq world l).filesystem =
-            ap (λ i. (mount_numbered nat_eq living i).filesystem) (under.2 ∙ sym (shape under.0).number)
-            ∙ ap (λ (q : Mount ℕ). q.filesystem) (found_itself living.mounts one_living (after under.0) alive)
-            ∙ (shape under.0).filesystem ∙ ap (λ (q : Mount ℕ). q.filesystem)
-            (sym (found_itself world.mounts it.is.mounts.one_number under.0 under.1))
-            ∙ sym (ap (λ i. (mount_numbered nat_eq world i).filesystem) under.2) in
-            absurd (true≢false (sym (eq-eqb number (mount_at nat_eq world l).filesystem (sym (sym shows ∙ e)))
-            ∙ none_among (λ q. nat_eq number (mount_at nat_eq world q).filesystem) (locations (outsiders world names))
-            (nobody_on world names number none).1 l out))
+            let shows : (mount_at nat_eq living l).filesystem ≡ (mount_at nat_eq world l).filesystem = cc (
+              under.2,
+              (shape under.0).number,
+              found_itself living.mounts one_living (after under.0) alive,
+              (shape under.0).filesystem,
+              found_itself world.mounts it.is.mounts.one_number under.0 under.1,
+            ) in
+            cc (
+              eq-eqb number (mount_at nat_eq world l).filesystem (sym (sym shows ∙ e)),
+              none_among
+                  (λ q. nat_eq number (mount_at nat_eq world q).filesystem) (locations (outsiders world names))
+                  (nobody_on world names number none).1 l out,
+            )
 
     pub no_others : NoOthers living set number
     no_others = record { mounts = mounts_own; locations = locations_own }
@@ -149,9 +152,9 @@ module _ {world : World ℕ} {names set : List TaskName} {gone : List ℕ} (it :
       let from = was y n in
       let l = any_among (λ (p : Location ℕ). nat_eq p.mount y.number) (roots_and_directories new) h in
       let ground = root_ground it l.0 l.1 from.0 from.1 (eqb-true l.0.mount from.0.number
-      (ap (nat_eq l.0.mount) (sym (ap (λ (q : Mount ℕ). q.number) from.2 ∙ (shape from.0).number)) ∙ l.2)) in
-      subst (λ (q : Mount ℕ). (is_own world names new q ≡ true) ⊎ (q.mount_point ≡ None)) (sym from.2)
-      (by from.0 from.1 (⊎_elim inl (λ stood. inr stood.0) ground) from.0.namespace refl from.0.mount_point refl)
+      (cc (from.2, (shape from.0).number, l.2))) in
+      rw from.2 (by from.0 from.1 (⊎_elim inl (λ stood. inr stood.0) ground) from.0.namespace refl from.0.mount_point
+      refl)
     where
       by : (m : Mount ℕ) → Among m world.mounts → (is_own world names old m ≡ true) ⊎ (m.namespace ≡ None)
           → (o : Option ℕ) → m.namespace ≡ o → (p : Option (Location ℕ)) → m.mount_point ≡ p

@@ -21,13 +21,12 @@ pub raised_members : (set : List TaskName) (name : TaskName) (list : List (Task 
     → filter (is_member_task set) (map (raised_task name) list)
     ≡ map (raised_task name) (filter (is_member_task set) list)
 raised_members set name list = filter-map (is_member_task set) (raised_task name) list
-    (λ t. ap (λ n. is_among same_name n set) (raised_is name (λ (x : Task ℕ). x.name) (λ x. refl) t))
+    (λ t. cc (raised_is name (λ (x : Task ℕ). x.name) (λ x. refl) t))
 
 -- detached mounts are private
 pub private_in_world : (world : World ℕ) → IsWorld nat_eq world → DetachedArePrivate world
 private_in_world world is m n none = (and_parts (not (is_some m.mount_point)) (is_private m.propagation)
-    (sym (ap (λ o. is_some o || (not (is_some m.mount_point) && is_private m.propagation)) none)
-    ∙ among_from_list_all is_nowhere_or_attached world.mounts is.mounts.nowhere m n)).1
+    (cc (among_from_list_all is_nowhere_or_attached world.mounts is.mounts.nowhere m n))).1
 
 pub private_in_part : (world : World ℕ) (names : List TaskName) → IsWorld nat_eq world
     → DetachedArePrivate (part_of nat_eq world names)
@@ -91,8 +90,7 @@ let_go_alike world names set name call it task called fresh other answer stays t
     left_too = ended in_part (private_in_part world names it.is) name set tasks_too answer
 
     first : policy nat_eq fresh world name call ≡ granted answer left
-    first = ap (ran name call world fresh) called ∙ one
-        ∙ ends_so in_world (private_in_world world it.is) name set tasks answer
+    first = cc (ends_so in_world (private_in_world world it.is) name set tasks answer)
 
     second : policy nat_eq other part name call ≡ granted answer left_too
     second = ap (ran name call part other) (same_caller (sealing_of it) name it.theirs ∙ called) ∙ two

@@ -1,6 +1,6 @@
 -- Each setns(2) ends in the part as in the world: where the caller was the last task of its namespace, that one ends.
 use Rattle.std.proofs.Common.{◌≡◌, refl, sym, ap, subst, ◌∙◌, ◌⊎◌, ⊎_elim, ℕ, nat_eq, Bool, true, false, true≢false, List, [], Option, Some, None, Ok, Err, filter, map, not, ◌||◌, eq-eqb, eqb-true, IfOk, is_ok, unwrap_or}
-use Rattle.vt_spec.proofs.Common.{Among, Done, Exit, Fresh, Judgement, Mount, MountInvariants, Namespace, Setns, Task, TaskName, ToEnterNamespace, World, among-filter, among-from_filter, among-from_map, among-map, among_from_list_all, any_among, any_from_among, entered_at, granted, has_tasks, holds_of, is_going, is_member_task, is_own_namespace, judge_in, list_all, list_all_from_among, list_any, members, namespaces_ended, none_among, none_from_among, not-true, numbers_raised, or_left, or_right, part_of, policy, replaced_if_called, same_name, settled, task_called}
+use Rattle.vt_spec.proofs.Common.{Among, Done, Exit, Fresh, Judgement, Mount, MountInvariants, Namespace, Permit, Setns, Task, TaskName, ToEnterNamespace, World, among-filter, among-from_filter, among-from_map, among-map, among_from_list_all, any_among, any_from_among, entered_at, granted, has_tasks, holds_of, is_going, is_member_task, is_own_namespace, judge_in, list_all, list_all_from_among, list_any, members, namespaces_ended, none_among, none_from_among, not-true, numbers_raised, or_left, or_right, part_of, policy, replaced_if_called, same_name, settled, task_called}
 use Rattle.vt_laws_members.proofs.judging.TheirCalls.{a_member, caller_in, sealing_of}
 use Rattle.vt_laws_mounts.proofs.ends.Ending.{ended_namespaces_keep_mounts}
 use Rattle.vt_laws_worlds.proofs.kept.MountsAlike.{same_mounts}
@@ -8,6 +8,7 @@ use Rattle.vt_laws_sealed.proofs.part.part.PartOfPart.{is_own}
 use Rattle.vt_laws_members.specs.Changes.Changes.{EndAlike, EndsAlike, IsCallOfTheirs, grown}
 use Rattle.vt_laws_members.specs.Changes.LettingGo.{SetnsEndsAlike}
 use Rattle.vt_laws_members.proofs.changes.looks.Told.{ended_alike, ran, same_caller}
+use Rattle.vt_laws_members.proofs.changes.tasks.ByPermit.{by_known}
 use Rattle.vt_laws_members.proofs.changes.tasks.Denied.{denial_ends_alike, ran_there, run_by, unnamed_ends_alike}
 use Rattle.vt_laws_members.proofs.changes.letting_go.Callers.{all_in_set, of_set, others_left, places_left, replaced_apart, roots_left, same_set}
 use Rattle.vt_laws_members.proofs.changes.letting_go.CutNamespace.{in_same, in_space, numbers_in}
@@ -67,7 +68,7 @@ module _ {world : World ℕ} {names : List TaskName} {name called_so : TaskName}
   less : SetIsLess world names it.is names rest
   less = record {
     entered = λ n h. entered_was it task called target target_in n
-        (sym (ap (list_any (in_space_of n)) set_is) ∙ h);
+        (cc set_is);
     roots = roots_left it task called caller
         (stands it task called target target_in);
     places = places_left it task called caller
@@ -94,20 +95,21 @@ module _ {world : World ℕ} {names : List TaskName} {name called_so : TaskName}
       → list_any (in_space_of n) list ≡ true → list_any (in_space_of n) (map moved list) ≡ true
   still_in n apart list within h =
       let at = any_among (in_space_of n) list h in
-      any_from_among (in_space_of n) (map moved list) (moved at.0) (among-map moved list at.0 at.1) (⊎_elim
-      (λ its. absurd (true≢false (sym (eq-eqb k n
-      (ap (λ (x : Task ℕ). x.namespace) its.1 ∙ sym (eqb-true n at.0.namespace at.2))) ∙ apart)))
-      (λ same. ap (in_space_of n) same.0 ∙ at.2) (how at.0 (within at.0 at.1)))
+      any_from_among (in_space_of n) (map moved list) (moved at.0) (among-map moved list at.0 at.1)
+      (⊎_elim (λ its. cc (eq-eqb k n (ap (λ (x : Task ℕ). x.namespace) its.1 ∙ sym (eqb-true n at.0.namespace at.2))))
+      (λ same. cc (same.0, at.2)) (how at.0 (within at.0 at.1)))
 
   none_in : (list : List (Task ℕ)) → ((t : Task ℕ) → Among t list → Among t world.tasks)
       → list_any (in_space_of k) (map moved list) ≡ false
-  none_in list within = none_from_among (in_space_of k) (map moved list) (λ t m.
-      let from = among-from_map moved list t m in
-      ap (in_space_of k) from.2 ∙ ⊎_elim (λ its. ap (in_space_of k) its.0 ∙ away) (λ same. ap (in_space_of k) same.0
-      ∙ none_among (in_space_of k) (filter (λ (t : Task ℕ). not (same_name name t.name)) world.tasks) empty from.0
-      (among-filter (λ (t : Task ℕ). not (same_name name t.name)) world.tasks from.0 (within from.0 from.1)
-      (ap not (ap (λ n. same_name n from.0.name) (name_found world name task called) ∙ same.1))))
-      (how from.0 (within from.0 from.1)))
+  none_in list within =
+      none_from_among (in_space_of k) (map moved list) (λ t m. let from = among-from_map moved list t m in cc (
+        from.2,
+        ⊎_elim (λ its. ap (in_space_of k) its.0 ∙ away) (λ same. ap (in_space_of k) same.0 ∙ none_among
+            (in_space_of k) (filter (λ (t : Task ℕ). not (same_name name t.name)) world.tasks) empty from.0
+            (among-filter (λ (t : Task ℕ). not (same_name name t.name)) world.tasks from.0 (within from.0 from.1)
+            (ap not (ap (λ n. same_name n from.0.name) (name_found world name task called) ∙ same.1))))
+            (how from.0 (within from.0 from.1)),
+      ))
 
   mounts_stay : (m : Mount ℕ) → Among m world.mounts → is_going nat_eq gone m.number ≡ false
       → is_own world names old m ≡ true → is_own world names (filter (is_member_task names) rest) m ≡ true
@@ -116,7 +118,7 @@ module _ {world : World ℕ} {names : List TaskName} {name called_so : TaskName}
       by : (o : Option ℕ) → holds_of (nat_eq k) o ≡ false → holds_of (is_own_namespace nat_eq world names) o ≡ true
           → holds_of (λ n. list_any (in_space_of n) (filter (is_member_task names) rest)) o ≡ true
       by None h own = own
-      by (Some n) h own = ap (list_any (in_space_of n)) set_is ∙ still_in n h old known own
+      by (Some n) h own = cc (set_is, still_in n h old known own)
 
   abbrev flag : Bool
   flag = group_lost world gone
@@ -162,18 +164,17 @@ module _ {world : World ℕ} {names : List TaskName} {name called_so : TaskName}
       flag refl
 
   part_ends : namespaces_ended nat_eq (record part { tasks = rest_too }) ≡ v_part
-  part_ends = ends_so (record part { tasks = rest_too }) k gone
-      (ap (map (λ (m : Mount ℕ). m.number)) (space_in_part (sealing_of it) k theirs_ends))
+  part_ends = ends_so (record part { tasks = rest_too }) k gone (cc (space_in_part (sealing_of it) k theirs_ends))
       (part_listed exits task called) (none_in part.tasks known) (others_live part part.tasks known
       (λ n m. (among-from_filter (λ (s : Namespace ℕ). list_any (in_space_of s.number) old) world.namespaces n m).1))
       flag (sym (flags_same ends.go))
 
   kept : MountInvariants nat_eq v
-  kept = subst (MountInvariants nat_eq) world_ends (ended_namespaces_keep_mounts (record world { tasks = rest })
+  kept = rw (← world_ends) (ended_namespaces_keep_mounts (record world { tasks = rest })
       (same_mounts world (record world { tasks = rest }) refl refl it.is.mounts))
 
   kept_there : MountInvariants nat_eq v_part
-  kept_there = subst (MountInvariants nat_eq) part_ends (ended_namespaces_keep_mounts (record part { tasks = rest_too })
+  kept_there = rw (← part_ends) (ended_namespaces_keep_mounts (record part { tasks = rest_too })
       (same_mounts part (record part { tasks = rest_too }) refl refl (part_mounts (sealing_of it))))
 
   abbrev left_one : World ℕ
@@ -232,23 +233,14 @@ module _ {world : World ℕ} {names : List TaskName} {name called_so : TaskName}
   granted_alike target target_in judged false false e f =
       last_setns_alike it called target target_in e f fresh supply judged
 
-  judged_by : (member : Among task (members world names)) (j : Judgement ℕ)
-      → judge_in nat_eq fresh world task (Setns called_so) ≡ j
-      → IfOk j (Enters (a_member (sealing_of it) member))
-      → EndsAlike world names name (Setns called_so) fresh supply
-  judged_by member (Ok permit) judged its =
+  permitted_alike : (permit : Permit ℕ) → judge_in nat_eq fresh world task (Setns called_so) ≡ Ok permit
+      → Enters (caller_in it called) permit → EndsAlike world names name (Setns called_so) fresh supply
+  permitted_alike permit judged its =
       granted_alike its.0 its.1 (judged ∙ ap Ok its.2) (nat_eq task.namespace its.0.namespace)
       (list_any (λ (t : Task ℕ). nat_eq task.namespace t.namespace) (filter stays world.tasks)) refl refl
-  judged_by member (Err deny) judged its = denial_ends_alike it fresh supply
-      (ap (λ o. is_ok (ran name (Setns called_so) world fresh o).answer) called
-      ∙ ap (λ j. is_ok (run_by it world fresh task j).answer) judged)
 
 pub setns_ends_alike : SetnsEndsAlike
-setns_ends_alike world names name called_so it fresh supply = by (task_called world name) refl
-  where
-    by : (o : Option (Task ℕ)) → task_called world name ≡ o → EndsAlike world names name (Setns called_so) fresh supply
-    by None e = unnamed_ends_alike it fresh supply e
-    by (Some task) e =
-        let member = caller_in it e in
-        judged_by it task e fresh supply member.among (judge_in nat_eq fresh world task (Setns called_so)) refl
-        (enters member called_so (it.among_them called_so refl))
+setns_ends_alike world names name called_so it fresh supply = by_known it fresh supply refl
+    (λ task e. Enters (caller_in it e))
+    (λ task e. enters (caller_in it e) called_so (it.among_them called_so refl))
+    (λ task e permit judged its. permitted_alike it task e fresh supply permit judged its)

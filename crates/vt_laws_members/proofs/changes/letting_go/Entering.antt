@@ -64,7 +64,7 @@ module _ {world : World ℕ} {names : List TaskName} {name called_so : TaskName}
     is = it.is;
     sealed_off = it.sealed_off;
     theirs = it.theirs;
-    among_them = λ member e. absurd (true≢false (ap is_exit e));
+    among_them = λ member e. cc;
   }
 
   member : IsMember world names task
@@ -94,8 +94,8 @@ module _ {world : World ℕ} {names : List TaskName} {name called_so : TaskName}
           → option_map (λ m. topmost nat_eq part.mounts (root_of m)) o
           ≡ option_map (λ m. topmost nat_eq world.mounts (root_of m)) o
       by None e = refl
-      by (Some m) e = ap Some (sym (same_topmost (one member)
-          (other member) task (On member) (alike member).walks (root_of m) (on_root m e)))
+      by (Some m) e =
+          cc (same_topmost (one member) (other member) task (On member) (alike member).walks (root_of m) (on_root m e))
 
   abbrev pub root : Location ℕ
   root = unwrap_or (namespace_root nat_eq world space) task.root
@@ -188,12 +188,9 @@ module _ {world : World ℕ} {names : List TaskName} {name called_so : TaskName}
     entered n list within all h =
         let at = any_among (λ (t : Task ℕ). nat_eq n t.namespace) list h in
         ⊎_elim (λ its. any_from_among (λ (t : Task ℕ). nat_eq n t.namespace) (map replaced list) (replaced other_task)
-        (among-map replaced list other_task (all other_task other_in))
-        (ap (λ (x : Task ℕ). nat_eq n x.namespace) other_same
-        ∙ ap (nat_eq n) (together ∙ ap (λ (x : Task ℕ). x.namespace) its.1) ∙ at.2))
+        (among-map replaced list other_task (all other_task other_in)) (cc (other_same, its.1, at.2)))
         (λ same. any_from_among (λ (t : Task ℕ). nat_eq n t.namespace) (map replaced list) (replaced at.0)
-        (among-map replaced list at.0 at.1) (ap (λ (x : Task ℕ). nat_eq n x.namespace) same ∙ at.2))
-        (replaced_how it task called mine refl at.0 (within at.0 at.1))
+        (among-map replaced list at.0 at.1) (cc at.2)) (replaced_how it task called mine refl at.0 (within at.0 at.1))
 
   -- It stays in its namespace
   pub entered_itself : space ≡ task.namespace → (n : ℕ) (list : List (Task ℕ))
@@ -203,7 +200,9 @@ module _ {world : World ℕ} {names : List TaskName} {name called_so : TaskName}
   entered_itself same_space n list within all h =
       let at = any_among (λ (t : Task ℕ). nat_eq n t.namespace) list h in
       any_from_among (λ (t : Task ℕ). nat_eq n t.namespace) (map replaced list) (replaced at.0)
-      (among-map replaced list at.0 at.1) (ap (nat_eq n)
-      (⊎_elim (λ its. ap (λ (x : Task ℕ). x.namespace) its.0 ∙ same_space ∙ ap (λ (x : Task ℕ). x.namespace) its.1)
-      (λ same. ap (λ (x : Task ℕ). x.namespace) same) (replaced_how it task called mine refl at.0 (within at.0 at.1)))
-      ∙ at.2)
+      (among-map replaced list at.0 at.1) (cc (
+        ⊎_elim (λ its. ap (λ (x : Task ℕ). x.namespace) its.0 ∙ same_space ∙
+            ap (λ (x : Task ℕ). x.namespace) its.1) (λ same. ap (λ (x : Task ℕ). x.namespace) same)
+            (replaced_how it task called mine refl at.0 (within at.0 at.1)),
+        at.2,
+      ))

@@ -141,12 +141,10 @@ module _ {world : World ℕ} {names : List TaskName} {name : TaskName} (it : IsC
           (among_from_list_all (has_tasks nat_eq world) world.namespaces it.is.namespaces.namespaces_live n m))
 
   part_ends : namespaces_ended nat_eq (record part { tasks = rest_too }) ≡ v_part
-  part_ends = ends_so (record part { tasks = rest_too }) k gone
-      (ap (map (λ (m : Mount ℕ). m.number)) (space_in_part (sealing_of it) k theirs_ends)) (part_listed it task called)
-      (none_from_among (λ (t : Task ℕ). nat_eq k t.namespace) rest_too (λ t m.
-      let from = among-from_filter stays_on part.tasks t m in
-      none_among (λ (t : Task ℕ). nat_eq k t.namespace) rest empty t
-      (among-filter stays_on world.tasks t (in_world it task called t from.0) from.1)))
+  part_ends = ends_so (record part { tasks = rest_too }) k gone (cc (space_in_part (sealing_of it) k theirs_ends))
+      (part_listed it task called) (none_from_among (λ (t : Task ℕ). nat_eq k t.namespace) rest_too
+      (λ t m. let from = among-from_filter stays_on part.tasks t m in none_among (λ (t : Task ℕ). nat_eq k t.namespace)
+      rest empty t (among-filter stays_on world.tasks t (in_world it task called t from.0) from.1)))
       (list_all_from_among (λ (n : Namespace ℕ). nat_eq k n.number || has_tasks nat_eq
       (record part { tasks = rest_too }) n) part.namespaces (λ n m. by n m (nat_eq k n.number) refl)) flag
       (sym (flags_same ends.go))
@@ -160,11 +158,11 @@ module _ {world : World ℕ} {names : List TaskName} {name : TaskName} (it : IsC
           world.namespaces n m).1)
 
   kept : MountInvariants nat_eq v
-  kept = subst (MountInvariants nat_eq) world_ends (ended_namespaces_keep_mounts (record world { tasks = rest })
+  kept = rw (← world_ends) (ended_namespaces_keep_mounts (record world { tasks = rest })
       (same_mounts world (record world { tasks = rest }) refl refl it.is.mounts))
 
   kept_there : MountInvariants nat_eq v_part
-  kept_there = subst (MountInvariants nat_eq) part_ends (ended_namespaces_keep_mounts (record part { tasks = rest_too })
+  kept_there = rw (← part_ends) (ended_namespaces_keep_mounts (record part { tasks = rest_too })
       (same_mounts part (record part { tasks = rest_too }) refl refl (part_mounts (sealing_of it))))
 
   parts : part_of nat_eq (numbers_raised nat_eq world name [] (settled nat_eq v)) set

@@ -121,7 +121,7 @@ module _ {world : World ℕ} {names : List TaskName} {name : TaskName} (it : IsC
           (among-filter (λ t. not (is_member_task names t)) world.tasks other there (ap not e))))
 
   other_stays : stays other ≡ true
-  other_stays = ap not differ
+  other_stays = cc
 
   -- a namespace with a task still has one
   entered : (n : ℕ) (list : List (Task ℕ)) → ((t : Task ℕ) → Among t list → Among t world.tasks) → Among other list
@@ -145,10 +145,8 @@ module _ {world : World ℕ} {names : List TaskName} {name : TaskName} (it : IsC
     roots = λ l m.
         let from = among-from_flat_map (λ (t : Task ℕ). t.root ∷ t.directory ∷ []) new l m in
         let t = new_old it task called from.0 from.1 in
-        ⊎_elim (λ e. subst (λ (k : Location ℕ). IsTheirs world names it.is.mounts k.mount) (sym e)
-        (root_theirs world names it.is from.0 t)) (λ rest.
-        ⊎_elim (λ e. subst (λ (k : Location ℕ). IsTheirs world names it.is.mounts k.mount)
-        (sym e) (directory_theirs world names it.is from.0 t)) (λ none. absurd none) rest) from.2;
+        ⊎_elim (λ e. rw e (root_theirs world names it.is from.0 t)) (λ rest.
+        ⊎_elim (λ e. rw e (directory_theirs world names it.is from.0 t)) (λ none. absurd none) rest) from.2;
     places = λ l m. let from = among-from_flat_map locations_of new l m in
         inl (among-flat_map locations_of old from.0 l (new_old it task called from.0 from.1) from.2);
     others = others_left it task called;

@@ -48,7 +48,7 @@ module _ {world : World ℕ} {names : List TaskName} (sealing : IsSealed world n
   pub master_same : (g : ℕ) → IsHeard g → part.master g ≡ world.master g
   master_same g heard =
       let own = own_member world names sealing.is.mounts apart.events g heard.0 heard.1 in
-      ap (λ b. cond b (world.master g) None) (any_from_among (is_member_of nat_eq g) owns own.0 own.1 own.2)
+      cc (any_from_among (is_member_of nat_eq g) owns own.0 own.1 own.2)
 
   pub own_in_part : (m : Mount ℕ) → Among m owns → Among m part.mounts
   own_in_part m n =
@@ -86,6 +86,5 @@ module _ {world : World ℕ} {names : List TaskName} (sealing : IsSealed world n
   pub space_in_part : (n : ℕ) → list_any (λ (t : Task ℕ). nat_eq n t.namespace) old ≡ true
       → mounts_of nat_eq part n ≡ mounts_of nat_eq world n
   space_in_part n own = filter_both (keep world names old) (its_in n) (its_in n) world.mounts
-      (λ m at h. (own_kept m (own_in n own m h), h))
-      (λ m y at h e. ⊎_elim (λ same. ap (its_in n) (sym same) ∙ h) (λ stub. ap (its_in n) (sym stub.0))
+      (λ m at h. (own_kept m (own_in n own m h), h)) (λ m y at h e. ⊎_elim (λ same. cc) (λ stub. cc stub.0)
       (kept_how world names old m y e))

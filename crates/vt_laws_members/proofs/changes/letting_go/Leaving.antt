@@ -17,8 +17,8 @@ filter_mid {A} p q r (x ∷ xs) less = by (r x) refl (q x) (filter_mid p q r xs 
     skip : (c b : Bool) → p x ≡ b → r x ≡ false
         → filter p (filter q xs) ≡ filter p (cond c (x ∷ filter q xs) (filter q xs))
     skip false b e f = refl
-    skip true true e f = absurd (true≢false (sym (less x e) ∙ f))
-    skip true false e f = sym (ap (λ b. cond b (x ∷ filter p (filter q xs)) (filter p (filter q xs))) e)
+    skip true true e f = cc (less x e)
+    skip true false e f = cc
 
     by : (b : Bool) → r x ≡ b → (c : Bool) → filter p (filter q (filter r xs)) ≡ filter p (filter q xs)
         → filter p (filter q (cond b (x ∷ filter r xs) (filter r xs)))
@@ -58,7 +58,7 @@ module _ {world : World ℕ} {names : List TaskName} {name : TaskName} (it : IsC
       let at = any_among (same_name t.name) (left names name Exit) h in
       let from = among-from_filter (λ m. not (same_name name m)) names at.0 at.1 in
       let same = same_task_name t.name at.0 at.2 in
-      (any_from_among (same_name t.name) names at.0 from.0 at.2, ap (λ n. not (same_name name n)) same ∙ from.1)
+      (any_from_among (same_name t.name) names at.0 from.0 at.2, cc from.1)
 
   pub set_from : (t : Task ℕ) → is_member_task names t ≡ true → stays t ≡ true → its t ≡ true
   set_from t h s = grind (arith, common_steps, any_among, any_from_among, among-filter, same_task_name)
@@ -93,7 +93,7 @@ module _ {world : World ℕ} {names : List TaskName} {name : TaskName} (it : IsC
     where
       outside : (t : Task ℕ) → stays t ≡ true → not (its t) ≡ true → (b : Bool) → is_member_task names t ≡ b
           → not b ≡ true
-      outside t s out true e = absurd (true≢false (sym out ∙ ap not (set_from t e s)))
+      outside t s out true e = cc (set_from t e s)
       outside t s out false e = refl
 
   pub same_left : filter its tasks_too ≡ filter its tasks
@@ -110,10 +110,10 @@ module _ {world : World ℕ} {names : List TaskName} {name : TaskName} (it : IsC
   own_part y m n e =
       let from = among-from_filter_map (keep world names old) world.mounts y m in
       ⊎_elim (λ same. (
-        subst (λ k. Among k world.mounts) same from.1,
+        rw (← same) from.1,
         ⊎_elim (λ own. own)
-            (λ none. none_is_some n (sym none ∙ e)) (part_mount world names it.is from.0 y from.1 from.2),
-      )) (λ stub. none_is_some n (ap (λ (k : Mount ℕ). k.namespace) stub.0 ∙ e))
+            (λ none. none_is_some n (cc)) (part_mount world names it.is from.0 y from.1 from.2),
+      )) (λ stub. none_is_some n (cc stub.0))
       (kept_how world names old from.0 y from.2)
 
   pub part_listed : MountsAreListed (record part { tasks = tasks_too })
@@ -126,16 +126,14 @@ module _ {world : World ℕ} {names : List TaskName} {name : TaskName} (it : IsC
       by y m None e = refl
       by y m (Some n) e =
           let own = own_part y m n e in
-          let listed = and_parts (is_listed nat_eq world n) true
-          (sym (ap (λ o. list_all (is_listed nat_eq world) (option_to_list o)) e)
-          ∙ among_from_list_all (λ (k : Mount ℕ). list_all (is_listed nat_eq world) (option_to_list k.namespace))
-          world.mounts it.is.namespaces.mounts_listed y own.0) in
+          let listed = and_parts (is_listed nat_eq world n) true (cc (among_from_list_all
+          (λ (k : Mount ℕ). list_all (is_listed nat_eq world) (option_to_list k.namespace)) world.mounts
+          it.is.namespaces.mounts_listed y own.0)) in
           let number = among-from_map (λ (s : Namespace ℕ). s.number) world.namespaces n
           (among_numbers (map (λ (s : Namespace ℕ). s.number) world.namespaces) n listed.0) in
-          let theirs : list_any (λ (t : Task ℕ). nat_eq n t.namespace) old ≡ true =
-          sym (ap (holds_of (λ i. list_any (λ (t : Task ℕ). nat_eq i t.namespace) old)) e) ∙ own.1 in
-          cc (is_among_numbers (map (λ (s : Namespace ℕ). s.number) part.namespaces) n (subst (λ k. Among k (map (λ
-          (s : Namespace ℕ). s.number) part.namespaces)) (sym number.2) (among-map (λ (s : Namespace ℕ).
-          s.number) part.namespaces number.0 (among-filter (λ (s : Namespace ℕ). list_any (λ (t : Task ℕ). nat_eq
-          s.number t.namespace) old) world.namespaces number.0 number.1 (ap (λ i. list_any (λ (t : Task ℕ).
-          nat_eq i t.namespace) old) (sym number.2) ∙ theirs)))))
+          let theirs : list_any (λ (t : Task ℕ). nat_eq n t.namespace) old ≡ true = cc own.1 in
+          cc (is_among_numbers (map (λ (s : Namespace ℕ). s.number) part.namespaces) n
+          (rw number.2 (among-map (λ (s : Namespace ℕ). s.number) part.namespaces number.0
+          (among-filter (λ (s : Namespace ℕ). list_any (λ (t : Task ℕ). nat_eq s.number t.namespace) old)
+          world.namespaces number.0 number.1 (ap (λ i. list_any (λ (t : Task ℕ). nat_eq i t.namespace) old)
+          (sym number.2) ∙ theirs)))))

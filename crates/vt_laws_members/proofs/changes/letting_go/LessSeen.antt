@@ -72,7 +72,7 @@ module _ {world : World ℕ} {names : List TaskName} (is : IsWorld nat_eq world)
   less_used = cc (
     directly_same,
     flat_map_alike (λ n. change_layers (filesystem_numbered nat_eq part n)) (λ n. change_layers
-        (filesystem_numbered nat_eq world n)) direct (λ n m. ap change_layers (direct_found n m)),
+        (filesystem_numbered nat_eq world n)) direct (λ n m. cc (direct_found n m)),
   )
 
   abbrev lowers_in : World ℕ → ℕ → List (Layer ℕ)
@@ -81,8 +81,7 @@ module _ {world : World ℕ} {names : List TaskName} (is : IsWorld nat_eq world)
   pub less_lowers : own_lowers nat_eq other set ≡ own_lowers nat_eq one set
   less_lowers = cc (
     directly_same,
-    flat_map_alike (lowers_in part) (lowers_in world) direct (λ n m. ap (of_overlay [] (λ (overlay : Overlay ℕ).
-        overlay.lowers)) (direct_found n m)),
+    flat_map_alike (lowers_in part) (lowers_in world) direct (λ n m. cc (direct_found n m)),
   )
 
   abbrev used : List ℕ

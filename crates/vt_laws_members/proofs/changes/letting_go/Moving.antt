@@ -14,6 +14,7 @@ use Rattle.vt_laws_members.specs.Changes.Changes.{EndsAlike}
 use Rattle.vt_laws_members.specs.Changes.LettingGo.{ChdirsEndAlike, ChrootsEndAlike, ClosesEndAlike}
 use Rattle.vt_laws_members.proofs.changes.looks.Granted.{of_rules, of_walk}
 use Rattle.vt_laws_members.proofs.changes.looks.Told.{ran}
+use Rattle.vt_laws_members.proofs.changes.tasks.ByPermit.{by_known}
 use Rattle.vt_laws_members.proofs.changes.tasks.Denied.{denial_ends_alike, ran_there, run_by, unnamed_ends_alike}
 use Rattle.vt_laws_members.proofs.changes.letting_go.Callers.{moved_alike, spaces_kept}
 
@@ -73,7 +74,8 @@ module _ {world : World ℕ} {names : List TaskName} {task : Task ℕ} (member :
       (here.location, refl, on)))
 
 pub closes_end_alike : ClosesEndAlike
-closes_end_alike world names name number it fresh other = by (task_called world name) refl
+closes_end_alike world names name number it fresh other = by_known it fresh other refl (λ task e. Closes number)
+    (λ task e. closes task number) (λ task e permit judged its. granted_so task e (judged ∙ ap Ok its))
   where
     part : World ℕ
     part = part_of nat_eq world names
@@ -102,20 +104,11 @@ closes_end_alike world names name number it fresh other = by (task_called world 
         (record task { descriptors = filter (λ (d : Descriptor ℕ). not (number == d.number)) task.descriptors }) refl
         refl) (ap (run_by it world fresh task) judged) (ran_there it fresh other task e judged)
 
-    judged_by : (task : Task ℕ) → task_called world name ≡ Some task → (j : Judgement ℕ)
-        → judge_in nat_eq fresh world task (Close number) ≡ j → IfOk j (Closes number)
-        → EndsAlike world names name (Close number) fresh other
-    judged_by task e (Ok permit) judged its = granted_so task e (judged ∙ ap Ok its)
-    judged_by task e (Err deny) judged its = denial_ends_alike it fresh other
-        (ap (λ o. is_ok (ran name (Close number) world fresh o).answer) e
-        ∙ ap (λ j. is_ok (run_by it world fresh task j).answer) judged)
-
-    by : (o : Option (Task ℕ)) → task_called world name ≡ o → EndsAlike world names name (Close number) fresh other
-    by None e = unnamed_ends_alike it fresh other e
-    by (Some task) e = judged_by task e (judge_in nat_eq fresh world task (Close number)) refl (closes task number)
-
 pub chdirs_end_alike : ChdirsEndAlike
-chdirs_end_alike world names name path it fresh other = by (task_called world name) refl
+chdirs_end_alike world names name path it fresh other = by_known it fresh other refl
+    (λ task e. SetsDirectory (caller_in it e)) (λ task e. sets_directory (caller_in it e) path)
+    (λ task e permit judged its. granted_so task (caller_in it e) e its.0
+    (theirs_from world names it.is.mounts its.0.mount its.2) (judged ∙ ap Ok its.1))
   where
     part : World ℕ
     part = part_of nat_eq world names
@@ -136,25 +129,11 @@ chdirs_end_alike world names name path it fresh other = by (task_called world na
         (record task { directory = l }) refl refl) (ap (run_by it world fresh task) judged)
         (ran_there it fresh other task e judged)
 
-    judged_by : (task : Task ℕ) (member : IsMember world names task) → task_called world name ≡ Some task
-        → (j : Judgement ℕ) → judge_in nat_eq fresh world task (Chdir path) ≡ j
-        → IfOk j (SetsDirectory member)
-        → EndsAlike world names name (Chdir path) fresh other
-    judged_by task member e (Ok permit) judged its =
-        granted_so task member e its.0 (theirs_from world names it.is.mounts its.0.mount its.2)
-        (judged ∙ ap Ok its.1)
-    judged_by task member e (Err deny) judged its = denial_ends_alike it fresh other
-        (ap (λ o. is_ok (ran name (Chdir path) world fresh o).answer) e
-        ∙ ap (λ j. is_ok (run_by it world fresh task j).answer) judged)
-
-    by : (o : Option (Task ℕ)) → task_called world name ≡ o → EndsAlike world names name (Chdir path) fresh other
-    by None e = unnamed_ends_alike it fresh other e
-    by (Some task) e =
-        let member = caller_in it e in
-        judged_by task member e (judge_in nat_eq fresh world task (Chdir path)) refl (sets_directory member path)
-
 pub chroots_end_alike : ChrootsEndAlike
-chroots_end_alike world names name path it fresh other = by (task_called world name) refl
+chroots_end_alike world names name path it fresh other = by_known it fresh other refl
+    (λ task e. SetsRoot (caller_in it e)) (λ task e. sets_root (caller_in it e) path)
+    (λ task e permit judged its. granted_so task (caller_in it e) e its.0
+    (theirs_from world names it.is.mounts its.0.mount its.2) (judged ∙ ap Ok its.1))
   where
     part : World ℕ
     part = part_of nat_eq world names
@@ -173,20 +152,3 @@ chroots_end_alike world names name path it fresh other = by (task_called world n
               (λ rest. inl (inr rest)) m;
         }) fresh other refl (spaces_kept it task e (record task { root = l }) refl refl)
         (ap (run_by it world fresh task) judged) (ran_there it fresh other task e judged)
-
-    judged_by : (task : Task ℕ) (member : IsMember world names task) → task_called world name ≡ Some task
-        → (j : Judgement ℕ) → judge_in nat_eq fresh world task (Chroot path) ≡ j
-        → IfOk j (SetsRoot member)
-        → EndsAlike world names name (Chroot path) fresh other
-    judged_by task member e (Ok permit) judged its =
-        granted_so task member e its.0 (theirs_from world names it.is.mounts its.0.mount its.2)
-        (judged ∙ ap Ok its.1)
-    judged_by task member e (Err deny) judged its = denial_ends_alike it fresh other
-        (ap (λ o. is_ok (ran name (Chroot path) world fresh o).answer) e
-        ∙ ap (λ j. is_ok (run_by it world fresh task j).answer) judged)
-
-    by : (o : Option (Task ℕ)) → task_called world name ≡ o → EndsAlike world names name (Chroot path) fresh other
-    by None e = unnamed_ends_alike it fresh other e
-    by (Some task) e =
-        let member = caller_in it e in
-        judged_by task member e (judge_in nat_eq fresh world task (Chroot path)) refl (sets_root member path)

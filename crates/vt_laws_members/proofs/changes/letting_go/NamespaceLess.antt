@@ -68,17 +68,19 @@ stands_on world names is m n h =
     let l = any_among (λ (l : Location ℕ). nat_eq l.mount m.number) (roots_and_directories (members world names)) h in
     let t = among-from_flat_map (λ (t : Task ℕ). t.root ∷ t.directory ∷ []) (members world names) l.0 l.1 in
     let on = theirs t.0 t.1 l.0 t.2 in
-    let same : on.0 ≡ m = sym (numbered world names is.mounts on.0 on.1)
-    ∙ ap (mount_numbered nat_eq world) (on.2 ∙ eqb-true l.0.mount m.number l.2) ∙ numbered world names is.mounts m n in
-    subst (λ (k : Mount ℕ). (is_own world names (members world names) k ≡ true) ⊎ (k.namespace ≡ None)) same
-    (⊎_elim inl (λ stood. inr stood.0) on.3)
+    let same : on.0 ≡ m = cc (
+      numbered world names is.mounts on.0 on.1,
+      on.2,
+      eqb-true l.0.mount m.number l.2,
+      numbered
+          world names is.mounts m n,
+    ) in
+    rw (← same) (⊎_elim inl (λ stood. inr stood.0) on.3)
   where
     theirs : (t : Task ℕ) → Among t (members world names) → (l : Location ℕ) → Among l (t.root ∷ t.directory ∷ [])
         → IsTheirs world names is.mounts l.mount
-    theirs t m l at = ⊎_elim (λ e. subst (λ (q : Location ℕ). IsTheirs world names is.mounts q.mount) (sym e)
-        (root_theirs world names is t m)) (λ rest. ⊎_elim
-        (λ e. subst (λ (q : Location ℕ). IsTheirs world names is.mounts q.mount) (sym e)
-        (directory_theirs world names is t m)) (λ none. absurd none) rest) at
+    theirs t m l at = ⊎_elim (λ e. rw e (root_theirs world names is t m)) (λ rest. ⊎_elim
+        (λ e. rw e (directory_theirs world names is t m)) (λ none. absurd none) rest) at
 
 -- A set of tasks that is in no other namespaces than those of before, and at locations of before or where members get
 module _ (world : World ℕ) (names : List TaskName) (is : IsWorld nat_eq world) where
@@ -104,8 +106,8 @@ module _ (world : World ℕ) (names : List TaskName) (is : IsWorld nat_eq world)
     roots = λ l m.
         let t = among-from_flat_map (λ (t : Task ℕ). t.root ∷ t.directory ∷ [])
         (filter (is_member_task set) tasks) l m in
-        ⊎_elim (λ e. subst OnTheirs (sym e) (root_theirs world names is t.0 (fewer t.0 t.1)))
-        (λ rest. ⊎_elim (λ e. subst OnTheirs (sym e) (directory_theirs world names is t.0 (fewer t.0 t.1)))
+        ⊎_elim (λ e. rw e (root_theirs world names is t.0 (fewer t.0 t.1)))
+        (λ rest. ⊎_elim (λ e. rw e (directory_theirs world names is t.0 (fewer t.0 t.1)))
         (λ none. absurd none) rest) t.2;
     places = λ l m. let t = among-from_flat_map locations_of (filter (is_member_task set) tasks) l m in
         inl (among-flat_map locations_of old_ones t.0 l (fewer t.0 t.1) t.2);
@@ -239,11 +241,10 @@ module _ {world : World ℕ} {names set : List TaskName} {gone : List ℕ} (it :
     where
       by : (p : Bool) → owns new (after m) ≡ p → (q : Bool) → stands new (after m) ≡ q
           → (owns new (after m) || stands new (after m)) ≡ false
-      by true f q g = absurd (true≢false (sym (or_left (owns old m) (stands old m) (own_before m f).1) ∙ e))
-      by false f true g = absurd (true≢false (sym (stands_was m n
-          (ap (λ i. list_any (λ (l : Location ℕ). nat_eq l.mount i) (roots_and_directories new))
-          (sym (shape_kept it.regroups t_world world gone m).number) ∙ g)) ∙ e))
-      by false f false g = ap (λ c. c || stands new (after m)) f ∙ g
+      by true f q g = cc (or_left (owns old m) (stands old m) (own_before m f).1)
+      by false f true g = cc (stands_was m n (ap (λ i. list_any (λ (l : Location ℕ). nat_eq l.mount i)
+          (roots_and_directories new)) (sym (shape_kept it.regroups t_world world gone m).number) ∙ g))
+      by false f false g = cc
 
   stub_kept : (m : Mount ℕ) → Among m world.mounts → (owns old m || stands old m) ≡ false
       → keep world names new (after m) ≡ when (at new m) (seen_by_descriptor m)
@@ -264,18 +265,16 @@ module _ {world : World ℕ} {names set : List TaskName} {gone : List ℕ} (it :
 
   no_point : (o : Option (Location ℕ)) → not (is_some o) ≡ true → o ≡ None
   no_point None e = refl
-  no_point (Some l) e = absurd (true≢false (sym e))
+  no_point (Some l) e = cc
 
   private_if : (m : Mount ℕ) → Among m world.mounts → (owns old m || stands old m) ≡ true
       → (owns old m ≡ true) ⊎ ((is_private m.propagation ≡ true) × (m.mount_point ≡ None))
   private_if m n whole = ⊎_elim inl (λ stood. by stood) (or_cases (owns old m) (stands old m) whole)
     where
       by : stands old m ≡ true → (owns old m ≡ true) ⊎ ((is_private m.propagation ≡ true) × (m.mount_point ≡ None))
-      by stood = ⊎_elim inl (λ none.
-          let parts = and_parts (not (is_some m.mount_point)) (is_private m.propagation)
-          (sym (ap (λ o. is_some o || (not (is_some m.mount_point) && is_private m.propagation)) none)
-          ∙ among_from_list_all is_nowhere_or_attached world.mounts it.is.mounts.nowhere m n) in
-          inr (parts.1, no_point m.mount_point parts.0)) (stands_on world names it.is m n stood)
+      by stood = ⊎_elim inl (λ none. let parts = and_parts (not (is_some m.mount_point)) (is_private m.propagation)
+          (cc (among_from_list_all is_nowhere_or_attached world.mounts it.is.mounts.nowhere m n)) in inr
+          (parts.1, no_point m.mount_point parts.0)) (stands_on world names it.is m n stood)
 
   kept_then : (m : Mount ℕ) → Among m world.mounts
       → then_some (keep world names old m) (λ y. keep world names new (after_part y)) ≡ keep world names new (after m)
@@ -286,8 +285,7 @@ module _ {world : World ℕ} {names set : List TaskName} {gone : List ℕ} (it :
           ≡ keep world names new (after m)
       by true e q f r g = cc (whole_alike m n m.namespace refl e (private_if m n e))
       by false e true f r g = cc (stub_whole m n e, stub_kept m n e)
-      by false e false f true g =
-          absurd (⊎_elim (λ whole. true≢false (sym whole ∙ e)) (λ there. true≢false (sym there ∙ f)) (at_was m n g))
+      by false e false f true g = absurd (⊎_elim (λ whole. true≢false (cc)) (λ there. true≢false (cc)) (at_was m n g))
       by false e false f false g = cc (stub_kept m n e)
 
   mounts_less : filter_map (keep world names new) (map after_part part.mounts)
@@ -345,19 +343,14 @@ module _ {world : World ℕ} {names set : List TaskName} {gone : List ℕ} (it :
   shows l = (mount_at nat_eq world l).filesystem
 
   direct_was : (n : ℕ) → Among n (used_directly nat_eq ended set) → Among n (used_directly nat_eq world names)
-  direct_was n m = ⊎_elim
-      (λ shown. let y = among-from_map (λ (m : Mount ℕ). m.filesystem) (own_mounts nat_eq ended set) n shown in
-      let own = among-from_filter (owns new) (map after world.mounts) y.0 y.1 in
-      let from = among-from_map after world.mounts y.0 own.0 in
-      let was = own_before from.0 (ap (owns new) (sym from.2) ∙ own.1) in
-      among-append_left mounted (map shows (locations old)) n (subst (λ i. Among i mounted)
-      (sym (y.2 ∙ ap (λ (x : Mount ℕ). x.filesystem) from.2 ∙ (shape_kept it.regroups t_world world gone
-      from.0).filesystem)) (among-map (λ (m : Mount ℕ). m.filesystem) (own_mounts nat_eq world names) from.0
-      (among-filter (is_own_mount nat_eq world names) world.mounts from.0 from.1 was.1))))
-      (λ placed. let l = among-from_map (λ (l : Location ℕ). (mount_at nat_eq ended l).filesystem) (locations new) n
-      placed in
-      let on = place_shown l.0 l.1 in
-      subst (λ i. Among i (used_directly nat_eq world names)) (sym (l.2 ∙ filesystem_after on.0 on.1 l.0 on.2))
+  direct_was n m = ⊎_elim (λ shown. let y = among-from_map (λ (m : Mount ℕ). m.filesystem) (own_mounts nat_eq ended set)
+      n shown in let own = among-from_filter (owns new) (map after world.mounts) y.0 y.1 in let from = among-from_map
+      after world.mounts y.0 own.0 in let was = own_before from.0 (cc (from.2, own.1)) in among-append_left mounted
+      (map shows (locations old)) n (rw (y.2 ∙ ap (λ (x : Mount ℕ). x.filesystem) from.2 ∙
+      (shape_kept it.regroups t_world world gone from.0).filesystem) (among-map (λ (m : Mount ℕ). m.filesystem)
+      (own_mounts nat_eq world names) from.0 (among-filter (is_own_mount nat_eq world names) world.mounts from.0 from.1
+      was.1)))) (λ placed. let l = among-from_map (λ (l : Location ℕ). (mount_at nat_eq ended l).filesystem)
+      (locations new) n placed in let on = place_shown l.0 l.1 in rw (l.2 ∙ filesystem_after on.0 on.1 l.0 on.2)
       (⊎_elim (λ before. among-append_right mounted (map shows (locations old)) (shows l.0)
       (among-map shows (locations old) l.0 before)) (λ theirs. theirs_directly world names it.is l.0 theirs)
       (it.fewer.places l.0 l.1))) (among-append (map (λ (m : Mount ℕ). m.filesystem) (own_mounts nat_eq ended set))
@@ -370,9 +363,8 @@ module _ {world : World ℕ} {names set : List TaskName} {gone : List ℕ} (it :
       let y = any_among (is_member_of nat_eq group) (own_mounts nat_eq ended set) h in
       let own = among-from_filter (owns new) (map after world.mounts) y.0 y.1 in
       let from = among-from_map after world.mounts y.0 own.0 in
-      let was = own_before from.0 (ap (owns new) (sym from.2) ∙ own.1) in
-      let is_in = member_was it.regroups t_world world gone group from.0
-      (ap (is_member_of nat_eq group) (sym from.2) ∙ y.2) in
+      let was = own_before from.0 (cc (from.2, own.1)) in
+      let is_in = member_was it.regroups t_world world gone group from.0 (cc (from.2, y.2)) in
       master_alike it.go it.regroups group (heard_by_own it.sealing from.0
       (among-filter (is_own_mount nat_eq world names) world.mounts from.0 from.1 was.1) group
       (source_from_group from.0.propagation group (member_group group from.0 is_in)))

@@ -35,11 +35,12 @@ module _ (world : World ℕ) (names : List TaskName) (is : IsWorld nat_eq world)
         → IsCut y.number (own_lowers nat_eq now set) y.files
     cut_in_part y m unused low =
         let from = among-from_filter_map shown world.filesystems y m in
-        ⊎_elim (λ whole. subst (λ (f : Filesystem ℕ). IsCut f.number (own_lowers nat_eq now set) f.files) whole.0
-        (whole_cut world is (own_lowers nat_eq now set) from.0 from.1))
-        (λ lower. subst (λ (f : Filesystem ℕ). IsCut f.number (own_lowers nat_eq now set) f.files) lower.0 (record {
+        ⊎_elim (λ whole. rw (← whole.0) (whole_cut world is (own_lowers nat_eq now set) from.0 from.1))
+        (λ lower. rw (← lower.0) (record {
           whole = from.0.files;
-          chosen = filter (lies_in_own_lower nat_eq world names from.0.number) from.0.files.numbers;
-          has = has_lowers is less from.0 from.1 lower.1 lower.2;
+          chosen = filter
+              (lies_in_own_lower nat_eq world names from.0.number) from.0.files.numbers;
+          has = has_lowers is less from.0
+              from.1 lower.1 lower.2;
           same = refl;
         })) (shown_how world names from.0 y from.2)

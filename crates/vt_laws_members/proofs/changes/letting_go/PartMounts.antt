@@ -15,11 +15,8 @@ module _ (world : World ℕ) (names : List TaskName) where
   -- what is kept has no mount points in common that the mounts had not
   share_less : (x y u z : Mount ℕ) → kept x ≡ Some y → kept u ≡ Some z → share_a_mount_point nat_eq x u ≡ false
       → share_a_mount_point nat_eq y z ≡ false
-  share_less x y u z e f apart_so = ⊎_elim (λ same. ⊎_elim
-      (λ too. ap (λ k. share_a_mount_point nat_eq k z) (sym same) ∙ ap (share_a_mount_point nat_eq x) (sym too)
-      ∙ apart_so) (λ stub. ap (λ (k : Mount ℕ). share_a_mount_point nat_eq y k) (sym stub.0) ∙ none y.mount_point)
-      (kept_how world names (members world names) u z f))
-      (λ stub. ap (λ (k : Mount ℕ). share_a_mount_point nat_eq k z) (sym stub.0))
+  share_less x y u z e f apart_so = ⊎_elim (λ same. ⊎_elim (λ too. cc) (λ stub. cc (stub.0, none y.mount_point))
+      (kept_how world names (members world names) u z f)) (λ stub. cc stub.0)
       (kept_how world names (members world names) x y e)
     where
       none : (o : Option (Location ℕ)) → (is_some o && same_option (same_location nat_eq) o None) ≡ false

@@ -49,13 +49,11 @@ module _ {world : World ℕ} {names set : List TaskName} (left : Retasks world n
   was y n = among-from_filter_map kept world.mounts y (there y n)
 
   number_kept : (m y : Mount ℕ) → kept m ≡ Some y → y.number ≡ m.number
-  number_kept m y e =
-      ⊎_elim (λ its. ap (λ (k : Mount ℕ). k.number) (sym its)) (λ stub. ap (λ (k : Mount ℕ). k.number) (sym stub.0))
-      (kept_how world names old m y e)
+  number_kept m y e = ⊎_elim (λ its. cc) (λ stub. cc stub.0) (kept_how world names old m y e)
 
   attached_lives : (y : Mount ℕ) (n : ℕ) → Among y part.mounts → y.namespace ≡ Some n → Among y living.mounts
   attached_lives y n at e = among-filter (mount_lives nat_eq later_part) part.mounts y at
-      (or_left (is_some y.namespace) (is_located nat_eq later_part y.number) (ap is_some e))
+      (or_left (is_some y.namespace) (is_located nat_eq later_part y.number) (cc))
 
   located_lives : (y : Mount ℕ) (l : Location ℕ) → Among y part.mounts → Among l (all_locations later_part)
       → l.mount ≡ y.number → Among y living.mounts
@@ -65,7 +63,7 @@ module _ {world : World ℕ} {names set : List TaskName} (left : Retasks world n
   located_so : (l : Location ℕ) → Among l (locations (filter (is_member_task set) left.tasks_too))
       → (y : Mount ℕ) × Among y living.mounts × (l.mount ≡ y.number)
   located_so l m =
-      let theirs : Among l (locations new) = subst (λ ts. Among l (locations ts)) left.same m in
+      let theirs : Among l (locations new) = rw (← left.same) m in
       let on = placed_on left.sealing set left.tasks change left.lets l theirs in
       let shows = by on.0 on.1 (left.lets.places l theirs) on.2 in
       let there_too = among-filter_map kept world.mounts on.0 shows.0 on.1 shows.1 in
@@ -107,9 +105,8 @@ module _ {world : World ℕ} {names set : List TaskName} (left : Retasks world n
   parents_so y l n point =
       let from = was y n in
       let whole = whole_point from.0 y l from.1 from.2 point in
-      let up = mount_parent world left.is.mounts y l (subst (λ k. Among k world.mounts) whole.0 from.1) point in
-      let own : is_own world names old up.2 ≡ true =
-      ap (holds_of (λ i. list_any (λ (t : Task ℕ). nat_eq i t.namespace) old)) (up.5 ∙ sym up.1) ∙ whole.1 in
+      let up = mount_parent world left.is.mounts y l (rw (← whole.0) from.1) point in
+      let own : is_own world names old up.2 ≡ true = cc (up.5, up.1, whole.1) in
       (up.0, up.1, up.2, attached_lives up.2 up.0 (own_whole up.2 up.3 own) up.5, up.4, up.5)
 
   -- owned by the set of before, so by that of now

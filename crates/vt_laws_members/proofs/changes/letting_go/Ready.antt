@@ -30,8 +30,7 @@ numbers_kept {A} key k same (x ∷ rest) e =
 -- mounts of a part have numbers of their own
 pub part_numbers : (b : World ℕ) (set : List TaskName) → OneNumberEach b → OneNumberEach (part_of nat_eq b set)
 part_numbers b set one = numbers_kept (λ (m : Mount ℕ). m.number) (keep b set (members b set))
-    (λ x y e. ⊎_elim (λ same. ap (λ (m : Mount ℕ). m.number) (sym same))
-    (λ stub. ap (λ (m : Mount ℕ). m.number) (sym stub.0)) (kept_how b set (members b set) x y e)) b.mounts one
+    (λ x y e. ⊎_elim (λ same. cc same) (λ stub. cc stub.0) (kept_how b set (members b set) x y e)) b.mounts one
 
 -- a tree that has all of a whole one that lies under lower layers
 pub record IsCut (number : ℕ) (lowers : List (Layer ℕ)) (files : FileTree ℕ) : Type 0 where
@@ -105,7 +104,7 @@ module _ (a : World ℕ) (set : List TaskName) (used : List ℕ) (lowers : List 
   mounted_there = map (λ (m : Mount ℕ). m.filesystem) (own_mounts nat_eq a set)
 
   pub mount_is : (m : Mount ℕ) → Among m a.mounts → (l : Location ℕ) → l.mount ≡ m.number → mount_at nat_eq a l ≡ m
-  mount_is m n l e = ap (mount_numbered nat_eq a) e ∙ found_itself a.mounts it.one m n
+  mount_is m n l e = cc (found_itself a.mounts it.one m n)
 
   -- a mount of a filesystem without others is shown, and they use it
   pub seen_alone : (number : ℕ) → NoOthers a set number → (m : Mount ℕ) → Among m a.mounts → m.filesystem ≡ number
@@ -124,25 +123,22 @@ module _ (a : World ℕ) (set : List TaskName) (used : List ℕ) (lowers : List 
       nowhere : m.namespace ≡ None → ((y : Mount ℕ) × (kept m ≡ Some y)) × Among number (used_directly nat_eq a set)
       nowhere d =
           let l = any_among (λ (k : Location ℕ). nat_eq m.number k.mount) (all_locations a)
-          (sym (ap (λ o. is_some o || is_located nat_eq a m.number) d) ∙ it.lives m at) in
+          (cc (it.lives m at)) in
           let same : l.0.mount ≡ m.number = sym (eqb-true m.number l.0.mount l.2) in
-          let on : shows l.0 ≡ number = ap (λ (x : Mount ℕ). x.filesystem) (mount_is m at l.0 same) ∙ e in
+          let on : shows l.0 ≡ number = cc (mount_is m at l.0 same) in
           let its = none.locations l.0 l.1 on in (
             shown_at a set m (any_from_among (λ (k : Location ℕ). nat_eq k.mount m.number)
                 (locations members_of) l.0 its (eq-eqb l.0.mount m.number same)),
             among-append_right mounted_there (map shows (locations members_of)) number
-                (subst (λ k. Among k (map shows (locations members_of))) on
-                (among-map shows (locations members_of) l.0 its)),
+                (rw (← on) (among-map shows (locations members_of) l.0 its)),
           )
 
   -- what they use directly is mounted
   pub direct_mounted : (number : ℕ) → Among number (used_directly nat_eq a set) → is_mounted nat_eq a number ≡ true
-  direct_mounted number m = ⊎_elim
-      (λ shown. let at = among-from_map (λ (x : Mount ℕ). x.filesystem) (own_mounts nat_eq a set) number shown in
-      mounted at.0 (among-from_filter (is_own_mount nat_eq a set) a.mounts at.0 at.1).0 (sym at.2))
-      (λ located. let l = among-from_map shows (locations members_of) number located in
-      let on = it.located l.0 l.1 in
-      mounted on.0 on.1 (ap (λ (x : Mount ℕ). x.filesystem) (sym (mount_is on.0 on.1 l.0 on.2)) ∙ sym l.2))
+  direct_mounted number m = ⊎_elim (λ shown. let at = among-from_map (λ (x : Mount ℕ). x.filesystem)
+      (own_mounts nat_eq a set) number shown in mounted at.0 (among-from_filter (is_own_mount nat_eq a set) a.mounts
+      at.0 at.1).0 (sym at.2)) (λ located. let l = among-from_map shows (locations members_of) number located in let on
+      = it.located l.0 l.1 in mounted on.0 on.1 (cc (mount_is on.0 on.1 l.0 on.2, l.2)))
       (among-append mounted_there (map shows (locations members_of)) number m)
     where
       mounted : (x : Mount ℕ) → Among x a.mounts → x.filesystem ≡ number → is_mounted nat_eq a number ≡ true

@@ -28,7 +28,7 @@ regrouped_so b t = record t { mounts = map (regrouped_mount b t) t.mounts; maste
 
 map_itself : {A : Type 0} (xs : List A) → map (λ x. x) xs ≡ xs
 map_itself [] = refl
-map_itself (x ∷ xs) = ap (λ l. x ∷ l) (map_itself xs)
+map_itself (x ∷ xs) = cc (map_itself xs)
 
 pub regroup_is : (b : Bool) (t : World ℕ) → regrouped_by nat_eq b t ≡ regrouped_so b t
 regroup_is true t = refl
@@ -37,11 +37,11 @@ regroup_is false t = ap (λ l. record t { mounts = l }) (sym (map_itself t.mount
 -- a namespace is theirs, or it is not
 one_side : (p : ℕ → Bool) (o : Option ℕ) → holds_of p o ≡ true → holds_of (λ i. not (p i)) o ≡ true → ⊥
 one_side p None h g = true≢false (sym h)
-one_side p (Some n) h g = true≢false (sym g ∙ ap not h)
+one_side p (Some n) h g = true≢false (cc)
 
 -- a mount without a source has lost no group
 unlost_none : (t : World ℕ) (m : Mount ℕ) → source_of m.propagation ≡ None → lost_a_group nat_eq t m ≡ false
-unlost_none t m e = ap (λ o. is_lost_group nat_eq t o || is_lost_group nat_eq t (then_some o t.master)) e
+unlost_none t m e = cc
 
 -- mounts of theirs that go from a world where they are sealed
 pub record TheirsGo (world : World ℕ) (names : List TaskName) (gone : List ℕ) : Type 0 where
@@ -94,22 +94,18 @@ module _ {world : World ℕ} {names : List TaskName} {gone : List ℕ} (go : The
 
   pub has_same : (g : ℕ) → Heard g → has_members nat_eq left.mounts g ≡ has_members nat_eq left_part.mounts g
   has_same g heard = same_truth (has_members nat_eq left.mounts g) (has_members nat_eq left_part.mounts g)
-      (λ h. let at = any_among (is_member_of nat_eq g) left.mounts h in
-      let from = among-from_map cut world.mounts at.0 at.1 in
-      let its = cut_member world g from.0 (ap (is_member_of nat_eq g) (sym from.2) ∙ at.2) in
-      ⊎_elim (λ own. any_from_among (is_member_of nat_eq g) left_part.mounts (cut_there from.0)
+      (λ h. let at = any_among (is_member_of nat_eq g) left.mounts h in let from = among-from_map cut world.mounts at.0
+      at.1 in let its = cut_member world g from.0 (cc (from.2, at.2)) in ⊎_elim
+      (λ own. any_from_among (is_member_of nat_eq g) left_part.mounts (cut_there from.0)
       (among-map cut_there part.mounts from.0 (own_in_part go.sealing from.0 own))
-      (stays_member part g from.0 its.1 its.0)) (λ other.
-      absurd (none_hears world names go.is.mounts events g from.0 heard.0 other its.0))
-      (sides world names go.is.mounts events from.0 g from.1 (member_group g from.0 its.0)))
-      (λ h. let at = any_among (is_member_of nat_eq g) left_part.mounts h in
-      let from = among-from_map cut_there part.mounts at.0 at.1 in
-      let its = cut_member part g from.0 (ap (is_member_of nat_eq g) (sym from.2) ∙ at.2) in
-      let own = part_source go.sealing from.0 from.1 g
-      (source_from_group from.0.propagation g (member_group g from.0 its.0)) in
-      any_from_among (is_member_of nat_eq g) left.mounts (cut from.0) (among-map cut world.mounts from.0
-      (among-from_filter (is_own_mount nat_eq world names) world.mounts from.0 own).0)
-      (stays_member world g from.0 its.1 its.0))
+      (stays_member part g from.0 its.1 its.0)) (λ other. absurd (none_hears world names go.is.mounts events g from.0
+      heard.0 other its.0)) (sides world names go.is.mounts events from.0 g from.1 (member_group g from.0 its.0)))
+      (λ h. let at = any_among (is_member_of nat_eq g) left_part.mounts h in let from = among-from_map cut_there
+      part.mounts at.0 at.1 in let its = cut_member part g from.0 (cc (from.2, at.2)) in let own = part_source
+      go.sealing from.0 from.1 g (source_from_group from.0.propagation g (member_group g from.0 its.0)) in
+      any_from_among (is_member_of nat_eq g) left.mounts (cut from.0)
+      (among-map cut world.mounts from.0 (among-from_filter (is_own_mount nat_eq world names) world.mounts from.0
+      own).0) (stays_member world g from.0 its.1 its.0))
 
   pub heir_same : (o : Option ℕ) → ((g : ℕ) → o ≡ Some g → Heard g) → heir nat_eq left o ≡ heir nat_eq left_part o
   heir_same None heard = refl
@@ -127,7 +123,7 @@ module _ {world : World ℕ} {names : List TaskName} {gone : List ℕ} (go : The
     where
       by : (kind : Propagation ℕ) → m.propagation ≡ kind → inherited nat_eq left kind ≡ inherited nat_eq left_part kind
       by (Shared g) e = refl
-      by (Slave g) e = cc (heir_same (Some g) (λ h f. heard_by_own go.sealing m n h (ap source_of e ∙ f)))
+      by (Slave g) e = cc (heir_same (Some g) (λ h f. heard_by_own go.sealing m n h (cc)))
       by Private e = refl
       by Unbindable e = refl
 
@@ -192,40 +188,36 @@ module _ {world : World ℕ} {names : List TaskName} {gone : List ℕ} (go : The
 
   pub flags_same : list_any (lost_a_group nat_eq left) left.mounts ≡ list_any
       (lost_a_group nat_eq left_part) left_part.mounts
-  flags_same = same_truth (list_any (lost_a_group nat_eq left) left.mounts)
-      (list_any (lost_a_group nat_eq left_part) left_part.mounts)
-      (λ h. let at = any_among (lost_a_group nat_eq left) left.mounts h in
-      let from = among-from_map cut world.mounts at.0 at.1 in
-      let its = cut_lost left world from.0 (ap (lost_a_group nat_eq left) (sym from.2) ∙ at.2) in
-      forward from.0 from.1 its.0 its.1 from.0.namespace refl)
-      (λ h. let at = any_among (lost_a_group nat_eq left_part) left_part.mounts h in
-      let from = among-from_map cut_there part.mounts at.0 at.1 in
-      let its = cut_lost left_part part from.0 (ap (lost_a_group nat_eq left_part) (sym from.2) ∙ at.2) in
-      back from.0 from.1 its.0 its.1 (source_of from.0.propagation) refl)
+  flags_same =
+      same_truth (list_any (lost_a_group nat_eq left) left.mounts) (list_any (lost_a_group nat_eq left_part)
+      left_part.mounts) (λ h. let at = any_among (lost_a_group nat_eq left) left.mounts h in let from = among-from_map
+      cut world.mounts at.0 at.1 in let its = cut_lost left world from.0 (cc (from.2, at.2)) in forward from.0 from.1
+      its.0 its.1 from.0.namespace refl) (λ h. let at = any_among (lost_a_group nat_eq left_part) left_part.mounts h in
+      let from = among-from_map cut_there part.mounts at.0 at.1 in let its = cut_lost left_part part from.0
+      (cc (from.2, at.2)) in back from.0 from.1 its.0 its.1 (source_of from.0.propagation) refl)
     where
       forward : (m : Mount ℕ) → Among m world.mounts → goes m ≡ false → lost_a_group nat_eq left m ≡ true
           → (o : Option ℕ) → m.namespace ≡ o → list_any (lost_a_group nat_eq left_part) left_part.mounts ≡ true
-      forward m n same lost None e = absurd (true≢false (sym lost ∙ unlost_none left m (private_source m.propagation
-          (and_parts (not (is_some m.mount_point)) (is_private m.propagation)
-          (sym (ap (λ o. is_some o || (not (is_some m.mount_point) && is_private m.propagation)) e)
-          ∙ among_from_list_all is_nowhere_or_attached world.mounts go.is.mounts.nowhere m n)).1)))
+      forward m n same lost None e =
+          cc (unlost_none left m (private_source m.propagation (and_parts (not (is_some m.mount_point))
+          (is_private m.propagation) (sym (ap (λ o. is_some o || (not (is_some m.mount_point) && is_private
+          m.propagation)) e) ∙ among_from_list_all is_nowhere_or_attached world.mounts go.is.mounts.nowhere m n)).1))
       forward m n same lost (Some j) e = which (is_own_namespace nat_eq world names j) refl
         where
           which : (b : Bool) → is_own_namespace nat_eq world names j ≡ b
               → list_any (lost_a_group nat_eq left_part) left_part.mounts ≡ true
           which true own =
-              let mine = among-filter (is_own_mount nat_eq world names) world.mounts m n
-              (ap (holds_of (is_own_namespace nat_eq world names)) e ∙ own) in
+              let mine = among-filter (is_own_mount nat_eq world names) world.mounts m n (cc) in
               any_from_among (lost_a_group nat_eq left_part) left_part.mounts (cut_there m)
               (among-map cut_there part.mounts m (own_in_part go.sealing m mine))
               (stays_lost left_part part m same (sym (lost_same m mine) ∙ lost))
-          which false other = absurd (true≢false (sym lost ∙ other_stays m
-              (among-filter (λ (x : Mount ℕ). holds_of (λ i. not (is_own_namespace nat_eq world names i)) x.namespace)
-              world.mounts m n (ap (holds_of (λ i. not (is_own_namespace nat_eq world names i))) e ∙ ap not other)) n))
+          which false other = cc (other_stays m (among-filter (λ (x : Mount ℕ). holds_of
+              (λ i. not (is_own_namespace nat_eq world names i)) x.namespace) world.mounts m n
+              (ap (holds_of (λ i. not (is_own_namespace nat_eq world names i))) e ∙ ap not other)) n)
 
       back : (y : Mount ℕ) → Among y part.mounts → goes y ≡ false → lost_a_group nat_eq left_part y ≡ true
           → (o : Option ℕ) → source_of y.propagation ≡ o → list_any (lost_a_group nat_eq left) left.mounts ≡ true
-      back y n same lost None e = absurd (true≢false (sym lost ∙ unlost_none left_part y e))
+      back y n same lost None e = cc (unlost_none left_part y e)
       back y n same lost (Some g) e =
           let mine = part_source go.sealing y n g e in
           any_from_among (lost_a_group nat_eq left) left.mounts (cut y)
@@ -267,7 +259,7 @@ module _ {world : World ℕ} {names : List TaskName} {gone : List ℕ} (go : The
       by (Some l) e =
           let own = among-from_filter (is_own_mount nat_eq world names) world.mounts m n in
           let under = parent_theirs world names go.is.mounts m.number l (own_theirs world names go.is m own.0 own.1)
-          (ap (λ (x : Mount ℕ). x.mount_point) (numbered world names go.is.mounts m own.0) ∙ e) in
+          (cc (numbered world names go.is.mounts m own.0)) in
           cc (left_alike l under)
 
   -- a mount of theirs after

@@ -88,7 +88,7 @@ module _ {world : World ℕ} {names : List TaskName} (is : IsWorld nat_eq world)
 
   mounts_now : filter_map (keep world names (members now_part set)) part.mounts
       ≡ filter_map (keep world names theirs) world.mounts
-  mounts_now = ap (λ ts. filter_map (keep world names ts) part.mounts) same ∙ mounts_less
+  mounts_now = cc mounts_less
 
   pub now_less : AreLess world names set now now_part
   now_less = grind (arith, common_steps, mounts_now, masters_same, namespaces_less)

@@ -60,7 +60,7 @@ module _ (v : World ℕ) (set : List TaskName) (used : List ℕ) (lowers : List 
   one_merged = subst OneNumberEach (sym merged_part) one_left
 
   plains : (x : Filesystem ℕ) → x.overlay ≡ None → is_overlay x ≡ false
-  plains x e = ap is_some e
+  plains x e = cc
 
   plain_part : part_of nat_eq (without_dead_inodes nat_eq left) set
       ≡ swept_part set is_plain (part_of nat_eq merged set)

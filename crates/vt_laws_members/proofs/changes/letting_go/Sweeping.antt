@@ -23,10 +23,9 @@ module _ {world : World ℕ} {names : List TaskName} (set : List TaskName) (seal
   stood : (l : Location ℕ) → Among l (roots_and_directories old) → IsTheirs world names sealing.is.mounts l.mount
   stood l m =
       let from = among-from_flat_map (λ (t : Task ℕ). t.root ∷ t.directory ∷ []) old l m in
-      ⊎_elim (λ e. subst (λ (k : Location ℕ). IsTheirs world names sealing.is.mounts k.mount) (sym e)
-      (root_theirs world names sealing.is from.0 from.1)) (λ rest. ⊎_elim
-      (λ e. subst (λ (k : Location ℕ). IsTheirs world names sealing.is.mounts k.mount) (sym e)
-      (directory_theirs world names sealing.is from.0 from.1)) (λ none. absurd none) rest) from.2
+      ⊎_elim (λ e. rw e (root_theirs world names sealing.is from.0 from.1))
+      (λ rest. ⊎_elim (λ e. rw e (directory_theirs world names sealing.is from.0 from.1)) (λ none. absurd none) rest)
+      from.2
 
   lets_go : LetsGo sealing set tasks
   lets_go = record {

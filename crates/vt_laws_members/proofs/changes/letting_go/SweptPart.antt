@@ -169,17 +169,13 @@ module _ {a : World ℕ} {set : List TaskName} {used_now : List ℕ} {lowers : L
     layer_used : (layer : Layer ℕ) → Among layer lowers → nat_eq x.number layer.filesystem ≡ true
         → Among layer.directory all_used
     layer_used layer n on =
-        let of = lower_of a a set (sees_itself a set) layer (subst (Among layer) (sym it.lowers_are) n) in
+        let of = lower_of a a set (sees_itself a set) layer (rw it.lowers_are n) in
         used a x layer.directory (by_layer of.0 layer of.1 of.3 on refl)
 
     shown_named : (object : ℕ) → Among object x.files.numbers → lies_under x.number lowers x.files object ≡ true
         → ((layer : Layer ℕ) × Among layer lowers × (nat_eq x.number layer.filesystem ≡ true)
         × (layer.directory ≡ object)) ⊎ Among object (named_in x.files)
-    shown_named = subst (λ (files : FileTree ℕ). (object : ℕ) → Among object files.numbers
-        → lies_under x.number lowers files object ≡ true
-        → ((layer : Layer ℕ) × Among layer lowers × (nat_eq x.number layer.filesystem ≡ true)
-        × (layer.directory ≡ object)) ⊎ Among object (named_in files)) cut.same
-        (named_there x.number lowers cut.whole cut.chosen cut.has)
+    shown_named = rw (← cut.same) (named_there x.number lowers cut.whole cut.chosen cut.has)
 
     enough : (object : ℕ) → Among object x.files.numbers → lies_under x.number lowers x.files object ≡ true
         → is_among nat_eq object all_used ≡ true
@@ -194,7 +190,7 @@ module _ {a : World ℕ} {set : List TaskName} {used_now : List ℕ} {lowers : L
         (cut_still x.number lowers cut.whole cut.chosen cut.has all_used) enough
 
     plain : x.overlay ≡ None
-    plain = lower_plain it one_in_part x m (ap (λ l. has_lower l x.number) it.lowers_are ∙ low)
+    plain = lower_plain it one_in_part x m (cc it.lowers_are)
 
     lowered_by : (b : Bool) → lowered x.number lowers (only_used_by nat_eq b all_used x).files
         (only_used_by nat_eq b all_used x) ≡ lowered x.number lowers x.files x
@@ -210,7 +206,7 @@ module _ {a : World ℕ} {set : List TaskName} {used_now : List ℕ} {lowers : L
   swept_there = swept_at set chosen part
 
   used_in_part : (n : ℕ) → is_among nat_eq n (used_filesystems nat_eq part set) ≡ uses n
-  used_in_part n = ap (is_among nat_eq n) (same_used a set ∙ it.used_are)
+  used_in_part n = cc (same_used a set, it.used_are)
 
   shown_swept : (x : Filesystem ℕ) → Among x a.filesystems
       → part_of_filesystem nat_eq swept set (sweep x) ≡ option_map swept_there (part_of_filesystem nat_eq a set x)
@@ -246,7 +242,7 @@ module _ {a : World ℕ} {set : List TaskName} {used_now : List ℕ} {lowers : L
   -- where plain trees stay, the world is still such a one
   module _ (plains : (x : Filesystem ℕ) → x.overlay ≡ None → chosen x ≡ false) where
     plain_stays : (x : Filesystem ℕ) → x.overlay ≡ None → sweep x ≡ x
-    plain_stays x e = ap (λ c. only_used nat_eq a c x) (plains x e)
+    plain_stays x e = cc (plains x e)
 
     was : (y : Filesystem ℕ) → Among y swept.filesystems → (x : Filesystem ℕ) × Among x a.filesystems × (y ≡ sweep x)
     was y m = among-from_map sweep a.filesystems y m
@@ -260,12 +256,12 @@ module _ {a : World ℕ} {set : List TaskName} {used_now : List ℕ} {lowers : L
       overlays = λ y m has.
           let from = was y m in
           let none = alone.overlays from.0 from.1
-          (layered_was n from.0 (subst (λ f. has_layer_on nat_eq n f ≡ true) from.2 has)) in
+          (layered_was n from.0 (rw (← from.2) has)) in
           let same : from.0.number ≡ y.number =
-          sym (ap (λ (f : Filesystem ℕ). f.number) from.2 ∙ number-only_used a (chosen from.0) from.0) in
+          cc (from.2, number-only_used a (chosen from.0) from.0) in
           record {
-            mounts = λ k n e. none.mounts k n (e ∙ sym same);
-            locations = λ l n e. none.locations l n (e ∙ sym same);
+            mounts = λ k n e. none.mounts k n (cc);
+            locations = λ l n e. none.locations l n (cc);
           };
     }
 
@@ -273,11 +269,9 @@ module _ {a : World ℕ} {set : List TaskName} {used_now : List ℕ} {lowers : L
         ⊎ AllNamed y
     free_swept y m u =
         let from = was y m in
-        let same : y.number ≡ from.0.number =
-        ap (λ (f : Filesystem ℕ). f.number) from.2 ∙ number-only_used a (chosen from.0) from.0 in
-        ⊎_elim (λ alone. inl (subst (Alone swept set) (sym same) (alone_swept from.0.number alone)))
-        (λ named. inr (subst AllNamed (sym (from.2 ∙ stays from.0 named (chosen from.0))) named))
-        (it.free from.0 from.1 (ap uses (sym same) ∙ u))
+        let same : y.number ≡ from.0.number = cc (from.2, number-only_used a (chosen from.0) from.0) in
+        ⊎_elim (λ alone. inl (rw same (alone_swept from.0.number alone)))
+        (λ named. inr (rw (from.2 ∙ stays from.0 named (chosen from.0)) named)) (it.free from.0 from.1 (cc))
       where
         stays : (x : Filesystem ℕ) → AllNamed x → (c : Bool) → only_used nat_eq a c x ≡ x
         stays x named true = named_stays a x named
@@ -288,12 +282,10 @@ module _ {a : World ℕ} {set : List TaskName} {used_now : List ℕ} {lowers : L
     plain_swept y merged m n has =
         let one = was y m in
         let two = was merged n in
-        let same : y.number ≡ one.0.number =
-        ap (λ (f : Filesystem ℕ). f.number) one.2 ∙ number-only_used a (chosen one.0) one.0 in
-        let flat = it.plain one.0 two.0 one.1 two.1
-        (layered_was one.0.number two.0 (subst (λ f. has_layer_on nat_eq one.0.number f ≡ true) two.2
-        (subst (λ k. has_layer_on nat_eq k merged ≡ true) same has))) in
-        ap (λ (f : Filesystem ℕ). f.overlay) (one.2 ∙ plain_stays one.0 flat) ∙ flat
+        let same : y.number ≡ one.0.number = cc (one.2, number-only_used a (chosen one.0) one.0) in
+        let flat = it.plain one.0 two.0 one.1 two.1 (layered_was one.0.number two.0
+        (rw (← two.2) (subst (λ k. has_layer_on nat_eq k merged ≡ true) same has))) in
+        cc (one.2, plain_stays one.0 flat)
 
     cut_swept : (y : Filesystem ℕ) → Among y swept.filesystems → uses y.number ≡ false
         → has_lower lowers y.number ≡ true → IsCut y.number lowers y.files

@@ -9,7 +9,7 @@ use Rattle.vt_laws_members.proofs.changes.letting_go.Regrouped.{TheirsGo, flags_
 -- all of a list pass
 filter_true : {A : Type 0} (xs : List A) → filter (λ (x : A). true) xs ≡ xs
 filter_true [] = refl
-filter_true (x ∷ xs) = ap (λ l. x ∷ l) (filter_true xs)
+filter_true (x ∷ xs) = cc (filter_true xs)
 
 -- mounts of a world go
 module _ (w : World ℕ) (gone : List ℕ) where
@@ -66,14 +66,11 @@ module _ {world : World ℕ} {names : List TaskName} {gone : List ℕ} (go : The
       others = λ l m. m;
       all = λ t m. (among-from_filter (is_member_task names) world.tasks t m).1;
       still = λ m there out its. its;
-      kept = subst (MountInvariants nat_eq) world_taken kept_world;
-      kept_there = subst (MountInvariants nat_eq) part_taken kept_part;
+      kept = rw (← world_taken) kept_world;
+      kept_there = rw (← part_taken) kept_part;
     }
 
     pub taken_parts : (name : TaskName)
         → part_of nat_eq (numbers_raised nat_eq world name [] (settled nat_eq (taken_away nat_eq world gone))) names
         ≡ part_of nat_eq (numbers_raised nat_eq part name [] (settled nat_eq (taken_away nat_eq part gone))) names
-    taken_parts name =
-        ap (λ w. part_of nat_eq (numbers_raised nat_eq world name [] (settled nat_eq w)) names) world_taken
-        ∙ detached_parts (all_stay (group_lost world gone)) worlds_left name
-        ∙ sym (ap (λ w. part_of nat_eq (numbers_raised nat_eq part name [] (settled nat_eq w)) names) part_taken)
+    taken_parts name = cc (world_taken, detached_parts (all_stay (group_lost world gone)) worlds_left name, part_taken)

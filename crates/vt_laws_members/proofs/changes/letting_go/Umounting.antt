@@ -13,6 +13,7 @@ use Rattle.vt_laws_members.specs.Changes.Changes.{EndAlike, EndsAlike, IsCallOfT
 use Rattle.vt_laws_members.specs.Changes.LettingGo.{UmountsEndAlike}
 use Rattle.vt_laws_members.proofs.changes.looks.Granted.{of_rules, of_walk}
 use Rattle.vt_laws_members.proofs.changes.looks.Told.{ended_alike, ran, same_caller}
+use Rattle.vt_laws_members.proofs.changes.tasks.ByPermit.{by_known}
 use Rattle.vt_laws_members.proofs.changes.tasks.Denied.{denial_ends_alike, ran_there, run_by, unnamed_ends_alike}
 use Rattle.vt_laws_members.proofs.changes.letting_go.Moving.{StandsHere, at_directory, one}
 use Rattle.vt_laws_members.proofs.changes.letting_go.PartMounts.{part_mounts}
@@ -86,19 +87,17 @@ module _ {world : World ℕ} {names : List TaskName} {name : TaskName} {call : C
   theirs = theirs_from world names it.is.mounts number on
 
   is_it : mount_of ≡ theirs.0
-  is_it = ap (mount_numbered nat_eq world) (sym theirs.2) ∙ numbered world names it.is.mounts theirs.0 theirs.1
+  is_it = cc (theirs.2, numbered world names it.is.mounts theirs.0 theirs.1)
 
   mount_there : Among mount_of world.mounts
-  mount_there = subst (λ m. Among m world.mounts) (sym is_it) theirs.1
+  mount_there = rw is_it theirs.1
 
   mount_own : is_own world names (members world names) mount_of ≡ true
-  mount_own = ⊎_elim (λ own. ap (is_own world names (members world names)) is_it ∙ own)
-      (λ stood. absurd (by stood.0 mount_of.mount_point refl has_point)) theirs.3
+  mount_own = ⊎_elim (λ own. cc is_it) (λ stood. absurd (by stood.0 mount_of.mount_point refl has_point)) theirs.3
     where
       by : theirs.0.namespace ≡ None → (o : Option (Location ℕ)) → mount_of.mount_point ≡ o → is_some o ≡ true → ⊥
       by none None e h = true≢false (sym h)
-      by none (Some l) e h = nowhere_stands world names it.is.mounts mount_of l mount_there
-          (ap (λ (m : Mount ℕ). m.namespace) is_it ∙ none) e
+      by none (Some l) e h = nowhere_stands world names it.is.mounts mount_of l mount_there (cc is_it) e
 
   same_going : going nat_eq there (mount_numbered nat_eq there number) ≡ going nat_eq world mount_of
   same_going = grind (
@@ -124,8 +123,7 @@ module _ {world : World ℕ} {names : List TaskName} {name : TaskName} {call : C
   kept_world = unmount_keeps_mounts world number it.is.mounts alone
 
   kept_part : MountInvariants nat_eq (taken_away nat_eq there (going nat_eq world mount_of))
-  kept_part = subst (λ l. MountInvariants nat_eq (taken_away nat_eq there l)) same_going
-      (unmount_keeps_mounts there number (part_mounts (sealing_of it)) alone_there)
+  kept_part = rw (← same_going) (unmount_keeps_mounts there number (part_mounts (sealing_of it)) alone_there)
 
   -- the outcome
   abbrev pub detaches : World ℕ → Outcome ℕ
@@ -135,11 +133,10 @@ module _ {world : World ℕ} {names : List TaskName} {name : TaskName} {call : C
       → ran name call world fresh (Some task) ≡ detaches world → ran name call there other (Some task) ≡ detaches there
       → EndsAlike world names name call fresh other
   detached_alike fresh other stays one two =
-      let first : policy nat_eq fresh world name call ≡ detaches world = ap (ran name call world fresh) called ∙ one in
+      let first : policy nat_eq fresh world name call ≡ detaches world = cc one in
       let second : policy nat_eq other there name call ≡ granted Done (numbers_raised nat_eq there name []
       (settled nat_eq (taken_away nat_eq there (going nat_eq world mount_of)))) =
-      ap (ran name call there other) (same_caller (sealing_of it) name it.theirs ∙ called) ∙ two ∙ ap (λ l. granted Done
-      (numbers_raised nat_eq there name [] (settled nat_eq (taken_away nat_eq there l)))) same_going in
+      cc (same_caller (sealing_of it) name it.theirs, same_going) in
       ended_alike names name call first second (rw stays (record {
         answer = refl;
         part = taken_parts (theirs_go (sealing_of it) mount_of mount_there mount_own) kept_world
@@ -147,22 +144,7 @@ module _ {world : World ℕ} {names : List TaskName} {name : TaskName} {call : C
       }))
 
 pub umounts_end_alike : UmountsEndAlike
-umounts_end_alike world names name path it fresh other = by (task_called world name) refl
-  where
-    judged_by : (task : Task ℕ) (member : IsMember world names task) → task_called world name ≡ Some task
-        → (j : Judgement ℕ) → judge_in nat_eq fresh world task (Umount path) ≡ j
-        → IfOk j (Unmounts member)
-        → EndsAlike world names name (Umount path) fresh other
-    judged_by task member e (Ok permit) judged its =
-        detached_alike it e its.0.mount its.2 its.3 its.4 fresh other refl
-        (ap (run_by it world fresh task) (judged ∙ ap Ok its.1))
-        (ran_there it fresh other task e (judged ∙ ap Ok its.1))
-    judged_by task member e (Err deny) judged its = denial_ends_alike it fresh other
-        (ap (λ o. is_ok (ran name (Umount path) world fresh o).answer) e
-        ∙ ap (λ j. is_ok (run_by it world fresh task j).answer) judged)
-
-    by : (o : Option (Task ℕ)) → task_called world name ≡ o → EndsAlike world names name (Umount path) fresh other
-    by None e = unnamed_ends_alike it fresh other e
-    by (Some task) e =
-        let member = caller_in it e in
-        judged_by task member e (judge_in nat_eq fresh world task (Umount path)) refl (unmounts member path)
+umounts_end_alike world names name path it fresh other = by_known it fresh other refl
+    (λ task e. Unmounts (caller_in it e)) (λ task e. unmounts (caller_in it e) path) (λ task e permit judged its.
+    detached_alike it e its.0.mount its.2 its.3 its.4 fresh other refl
+    (ap (run_by it world fresh task) (judged ∙ ap Ok its.1)) (ran_there it fresh other task e (judged ∙ ap Ok its.1)))

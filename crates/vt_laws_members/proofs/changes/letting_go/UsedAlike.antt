@@ -97,11 +97,11 @@ module _ (b : World ℕ) (x : Filesystem ℕ) (object : ℕ) where
       (among-append_left (named ++ placed) layers object (among-append_left named placed object m)))
   used (by_place l at on e) = in_four (among-append_left (named ++ placed ++ layers) objects object
       (among-append_left (named ++ placed) layers object (among-append_right named placed object
-      (subst (λ k. Among k placed) (sym e) (among-map (λ (p : Location ℕ). p.node) (filter within places) l
+      (rw e (among-map (λ (p : Location ℕ). p.node) (filter within places) l
       (among-filter within places l (to_place l at) (eq-eqb x.number (mount_at nat_eq b l).filesystem (sym on))))))))
   used (by_layer merged layer m n on e) = in_four (among-append_left (named ++ placed ++ layers) objects object
-      (among-append_right (named ++ placed) layers object (subst (λ k. Among k layers) (sym e)
-      (among-map (λ (l : Layer ℕ). l.directory) (filter on_it all_layers) layer (among-filter on_it all_layers layer
+      (among-append_right (named ++ placed) layers object (rw e (among-map (λ (l : Layer ℕ). l.directory)
+      (filter on_it all_layers) layer (among-filter on_it all_layers layer
       (among-flat_map (of_overlay [] layers_of) b.filesystems merged layer m n) on)))))
   used (by_object merged m o) = in_four (among-append_right (named ++ placed ++ layers) objects object
       (among-flat_map (objects_of_overlay nat_eq x.number) b.filesystems merged object m o))
@@ -144,9 +144,7 @@ module _ {a : World ℕ} {set : List TaskName} {used_now : List ℕ} {lowers : L
 
   shown_used : (x : Filesystem ℕ) → Among x a.filesystems → is_among nat_eq x.number
       (used_filesystems nat_eq a set) ≡ true → Among x part.filesystems
-  shown_used x m e = among-filter_map (part_of_filesystem nat_eq a set) a.filesystems x x m
-      (ap (λ b. cond b (Some x) (when (list_any (λ (layer : Layer ℕ). nat_eq x.number layer.filesystem)
-      (own_lowers nat_eq a set)) (part_of_lower nat_eq a set x))) e)
+  shown_used x m e = among-filter_map (part_of_filesystem nat_eq a set) a.filesystems x x m (cc)
 
   -- a mount with a mount point is kept whole, if at all, and is theirs
   with_point : (m y : Mount ℕ) (l : Location ℕ) → Among m a.mounts → kept m ≡ Some y → y.mount_point ≡ Some l
@@ -176,22 +174,23 @@ module _ {a : World ℕ} {set : List TaskName} {used_now : List ℕ} {lowers : L
         let its = alone.itself.locations l m on in
         by_place l (by_task its) (located a set l its ∙ on) e
     to_part (by_place l (by_root m n r) on e) =
-        let shows : m.filesystem ≡ x.number = ap (λ (k : Mount ℕ). k.filesystem)
-        (sym (mount_is a set used_now lowers it m n l (ap (λ (p : Location ℕ). p.mount) r))) ∙ on in
+        let shows : m.filesystem ≡ x.number = cc (mount_is a set used_now lowers it m n l
+        (ap (λ (p : Location ℕ). p.mount) r)) in
         let shown = (seen_alone a set used_now lowers it x.number alone.itself m n shows).0 in
         let same = same_of m shown.0 shown.1 in
         let there = in_part m shown.0 n shown.1 in
-        by_place l (by_root shown.0 there (r ∙ sym same.2)) (ap (λ (k : Mount ℕ). k.filesystem)
-        (at_part shown.0 there l (ap (λ (p : Location ℕ). p.mount) (r ∙ sym same.2))) ∙ same.1 ∙ shows) e
+        by_place l (by_root shown.0 there (r ∙ sym same.2)) (cc (
+          at_part shown.0 there l
+              (ap (λ (p : Location ℕ). p.mount) (r ∙ sym same.2)),
+          same.1,
+        )) e
     to_part (by_place l (by_point m n point) on e) =
         let up = it.parents m l n point in
         let at : mount_at nat_eq a l ≡ up.2 = mount_is a set used_now lowers it up.2 up.3 l up.4 in
-        ⊎_elim (λ own.
-        let child = own_by up.2 m up.0 up.5 up.1 own in
-        by_place l (by_point m (in_part m m n (own_whole m child)) point) (ap (λ (k : Mount ℕ). k.filesystem)
-        (at_part up.2 (in_part up.2 up.2 up.3 (own_whole up.2 own)) l up.4 ∙ sym at) ∙ on) e)
-        (λ nowhere. none_is_some up.0 (sym nowhere ∙ up.5))
-        (alone.itself.mounts up.2 up.3 (ap (λ (k : Mount ℕ). k.filesystem) (sym at) ∙ on))
+        ⊎_elim (λ own. let child = own_by up.2 m up.0 up.5 up.1 own in by_place l
+        (by_point m (in_part m m n (own_whole m child)) point) (cc (at_part up.2
+        (in_part up.2 up.2 up.3 (own_whole up.2 own)) l up.4)) e) (λ nowhere. none_is_some up.0 (cc up.5))
+        (alone.itself.mounts up.2 up.3 (cc))
     to_part (by_layer merged layer m n on e) =
         by_layer merged layer (merged_there merged m (has_layer x.number merged layer n on)) n on e
     to_part (by_object merged m o) =

@@ -94,7 +94,7 @@ module _ {world : World ℕ} {names : List TaskName} (sealing : IsSealed world n
 
   attached_lives : (m : Mount ℕ) (n : ℕ) → Among m world.mounts → m.namespace ≡ Some n → Among m living.mounts
   attached_lives m n at e = among-filter (mount_lives nat_eq later) world.mounts m at
-      (or_left (is_some m.namespace) (is_located nat_eq later m.number) (ap is_some e))
+      (or_left (is_some m.namespace) (is_located nat_eq later m.number) (cc))
 
   located_lives : (m : Mount ℕ) (l : Location ℕ) → Among m world.mounts → Among l (all_locations later)
       → l.mount ≡ m.number → Among m living.mounts
@@ -115,8 +115,7 @@ module _ {world : World ℕ} {names : List TaskName} (sealing : IsSealed world n
           where
             which : (b : Bool) → is_own_namespace nat_eq world names k ≡ b
                 → (is_own world names new m ≡ true) ⊎ (m.namespace ≡ None)
-            which true own = inl (owned_same sealing set tasks change it m
-                ∙ ap (holds_of (is_own_namespace nat_eq world names)) f ∙ own)
+            which true own = inl (cc (owned_same sealing set tasks change it m))
             which false other = absurd (true≢false (sym (eq-eqb number m.filesystem (sym e))
                 ∙ none_among (λ (y : Mount ℕ). nat_eq number y.filesystem) (other_mounts nat_eq world names)
                 (nobody_on world names number none).0 m
@@ -136,21 +135,24 @@ module _ {world : World ℕ} {names : List TaskName} (sealing : IsSealed world n
             among-flat_map locations_of new t l (among-filter (is_member_task set) tasks t n member) at
         by t n at false other =
             let out = it.others l (among-flat_map locations_of (filter (λ y. not (is_member_task set y)) tasks) t l
-            (among-filter (λ y. not (is_member_task set y)) tasks t n (ap not other)) at) in
+            (among-filter (λ y. not (is_member_task set y)) tasks t n (cc)) at) in
             let from = among-from_flat_map locations_of (outsiders world names) l out in
             let under = mount_under sealing l (among-flat_map locations_of world.tasks from.0 l
             (among-from_filter (λ y. not (is_member_task names y)) world.tasks from.0 from.1).0 from.2) in
             let alive = located_lives under.0 l under.1 m under.2 in
-            let same : mount_at nat_eq living l ≡ mount_at nat_eq world l = ap (mount_numbered nat_eq living) under.2
-            ∙ found_itself living.mounts
-            (pair-filter (λ (p q : Mount ℕ). nat_eq p.number q.number) (mount_lives nat_eq later) world.mounts
-            sealing.is.mounts.one_number) under.0 alive ∙ sym (found_itself world.mounts sealing.is.mounts.one_number
-            under.0 under.1)
-            ∙ sym (ap (mount_numbered nat_eq world) under.2) in
-            absurd (true≢false (sym (eq-eqb number (mount_at nat_eq world l).filesystem
-            (sym (ap (λ (k : Mount ℕ). k.filesystem) (sym same) ∙ e)))
-            ∙ none_among (λ k. nat_eq number (mount_at nat_eq world k).filesystem) (locations (outsiders world names))
-            (nobody_on world names number none).1 l out))
+            let same : mount_at nat_eq living l ≡ mount_at nat_eq world l = cc (
+              under.2,
+              found_itself living.mounts (pair-filter (λ (p q : Mount ℕ). nat_eq p.number q.number)
+                  (mount_lives nat_eq later) world.mounts sealing.is.mounts.one_number) under.0 alive,
+              found_itself
+                  world.mounts sealing.is.mounts.one_number under.0 under.1,
+            ) in
+            cc (
+              eq-eqb number (mount_at nat_eq world l).filesystem (sym (ap (λ (k : Mount ℕ). k.filesystem) (sym same) ∙
+                  e)),
+              none_among (λ k. nat_eq number (mount_at nat_eq world k).filesystem)
+                  (locations (outsiders world names)) (nobody_on world names number none).1 l out,
+            )
 
     pub no_others : NoOthers living set number
     no_others = record { mounts = mounts_own; locations = locations_own }

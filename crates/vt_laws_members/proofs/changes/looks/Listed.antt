@@ -29,10 +29,9 @@ module _ (world : World ℕ) (names : List TaskName) (is : IsWorld nat_eq world)
 
   -- the mounts of their namespace
   pub mounts_alike : mounts_of nat_eq part task.namespace ≡ mounts_of nat_eq world task.namespace
-  mounts_alike = filter_kept (keep world names theirs) inside
-      (λ x e. own_whole world names is x (in_own world names is task member x e)) (λ x y e f.
-      ⊎_elim (λ same. ap inside (sym same) ∙ f) (λ stub. ap inside (sym stub.0)) (kept_how world names theirs x y e))
-      world.mounts
+  mounts_alike = filter_kept (keep world names theirs) inside (λ x e. own_whole world names is x
+      (in_own world names is task member x e)) (λ x y e f. ⊎_elim (λ same. cc) (λ stub. cc stub.0)
+      (kept_how world names theirs x y e)) world.mounts
 
   abbrev Listed : List (Mount ℕ)
   Listed = mounts_of nat_eq world task.namespace
@@ -51,15 +50,13 @@ module _ (world : World ℕ) (names : List TaskName) (is : IsWorld nat_eq world)
   groups_alike mount m = by mount.propagation refl
     where
       by : (kind : Propagation ℕ) → mount.propagation ≡ kind → groups_in_type part kind ≡ groups_in_type world kind
-      by (Shared group) e =
-          let own = listed_own mount m in
-          ap (λ o. group ∷ option_to_list o) (master_alike mount own.0 own.1 group e)
+      by (Shared group) e = let own = listed_own mount m in cc (master_alike mount own.0 own.1 group e)
       by (Slave master) e = refl
       by Private e = refl
       by Unbindable e = refl
 
   seen_alike : groups_seen nat_eq part Listed ≡ groups_seen nat_eq world Listed
-  seen_alike = ap (each_once nat_eq) (flat_map_alike (groups_shown part) (groups_shown world) Listed groups_alike)
+  seen_alike = cc (flat_map_alike (groups_shown part) (groups_shown world) Listed groups_alike)
 
   kind_alike : (seen : List ℕ) (mount : Mount ℕ) → Among mount Listed
       → type_line nat_eq part seen mount.propagation ≡ type_line nat_eq world seen mount.propagation
@@ -79,10 +76,11 @@ module _ (world : World ℕ) (names : List TaskName) (is : IsWorld nat_eq world)
   tree_alike mount m =
       let own = listed_own mount m in
       let here : Location ℕ = record { mount = mount.number; node = mount.root } in
-      found world names mount.filesystem
-      (ap (λ (x : Mount ℕ). is_among nat_eq x.filesystem (used_filesystems nat_eq world names))
-      (sym (numbered world names is.mounts mount own.0))
-      ∙ theirs_used world names is here (own_theirs world names is mount own.0 own.1))
+      found world names mount.filesystem (cc (
+        numbered world names is.mounts mount own.0,
+        theirs_used world names is
+            here (own_theirs world names is mount own.0 own.1),
+      ))
 
   spot_alike : (point : Location ℕ) → IsTheirs world names is.mounts point.mount
       → mount_point_spot nat_eq part point ≡ mount_point_spot nat_eq world point
@@ -113,8 +111,8 @@ module _ (world : World ℕ) (names : List TaskName) (is : IsWorld nat_eq world)
       by None e = refl
       by (Some point) e =
           let own = listed_own mount m in
-          cc (spot_alike point (parent_theirs world names is.mounts mount.number point (own_theirs world names is
-          mount own.0 own.1) (ap (λ (x : Mount ℕ). x.mount_point) (numbered world names is.mounts mount own.0) ∙ e)))
+          cc (spot_alike point (parent_theirs world names is.mounts mount.number point
+          (own_theirs world names is mount own.0 own.1) (cc (numbered world names is.mounts mount own.0))))
 
   line_alike : (mount : Mount ℕ) → Among mount Listed
       → mount_line nat_eq part Listed mount ≡ mount_line nat_eq world Listed mount

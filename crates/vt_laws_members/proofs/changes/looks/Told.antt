@@ -43,18 +43,14 @@ module _ {world : World ℕ} {names : List TaskName} (sealing : IsSealed world n
     told : (permit : Permit ℕ) → Looked permit → ToldAlike permit
     told Allowed on = (refl, refl, refl)
     told (ToList directory) on = (
-      ap (λ n. Ok (Names (names_in n))) ((walks (a_member sealing member)).node directory on),
+      cc ((walks (a_member sealing member)).node directory on),
       refl,
       refl,
     )
-    told (ToStat object) on =
-        (ap (λ n. Ok (Told (stat_line n))) ((walks (a_member sealing member)).node object on), refl, refl)
-    told (ToRead file) on =
-        (ap (λ n. Ok (Bytes (bytes_in n))) ((walks (a_member sealing member)).node file on), refl, refl)
-    told (ToReadPart file offset size) on =
-        (ap (λ n. Ok (Bytes (take size (drop offset (bytes_in n))))) (open_file file on), refl, refl)
-    told ToListMounts on =
-        (ap (λ l. Ok (MountList l)) (sym (lines_alike world names sealing.is task member)), refl, refl)
+    told (ToStat object) on = (cc ((walks (a_member sealing member)).node object on), refl, refl)
+    told (ToRead file) on = (cc ((walks (a_member sealing member)).node file on), refl, refl)
+    told (ToReadPart file offset size) on = (cc (open_file file on), refl, refl)
+    told ToListMounts on = (cc (lines_alike world names sealing.is task member), refl, refl)
     told permit on = absurd on
 
     -- an answer that leaves the set
@@ -79,8 +75,7 @@ pub ended_alike : (names : List TaskName) (name : TaskName) (call : Call) {one f
     → one ≡ first → other ≡ second → EndAlike (grown names name call first.answer) first second
     → EndAlike (grown names name call one.answer) one other
 ended_alike names name call {one = one} {second = second} is is_too alike =
-    subst (λ p. EndAlike (grown names name call one.answer) one p) (sym is_too)
-    (subst (λ o. EndAlike (grown names name call o.answer) o second) (sym is) alike)
+    rw is_too (subst (λ o. EndAlike (grown names name call o.answer) o second) (sym is) alike)
 
 pub looks_end_alike : LooksEndAlike
 looks_end_alike world names name call it looks fresh other = by (task_called world name) refl
@@ -92,14 +87,11 @@ looks_end_alike world names name call it looks fresh other = by (task_called wor
         → EndAlike (grown names name call (ran name call world fresh found).answer) (ran name call world fresh found)
         (ran name call part other found) → EndAlike (grown names name call (policy nat_eq fresh world name call).answer)
         (policy nat_eq fresh world name call) (policy nat_eq other part name call)
-    also found e alike = ended_alike names name call (ap (ran name call world fresh) e)
-        (ap (ran name call part other) (same_caller (sealing_of it) name it.theirs ∙ e)) alike
+    also found e alike = ended_alike names name call (cc) (cc (same_caller (sealing_of it) name it.theirs)) alike
 
     looking : (w : World ℕ) (fr : Fresh ℕ) (task : Task ℕ)
         → ran name call w fr (Some task) ≡ call_outcome nat_eq fr w task call
-    looking w fr task =
-        ap (λ b. finished_by nat_eq (b || not (is_ok (call_outcome nat_eq fr w task call).answer)) w name
-        (filesystems_changed_by nat_eq w (judge_in nat_eq fr w task call)) (call_outcome nat_eq fr w task call)) looks
+    looking w fr task = cc
 
     by : (found : Option (Task ℕ)) → task_called world name ≡ found
         → EndAlike (grown names name call (policy nat_eq fresh world name call).answer)
@@ -117,6 +109,6 @@ looks_end_alike world names name call it looks fresh other = by (task_called wor
           among_them = it.among_them;
         }) fresh other in
         also (Some task) e (ended_alike names name call (looking world fresh task)
-        (looking part other task ∙ ap (λ j. after part j (apply nat_eq other part task)) (sym judged))
+        (cc (looking part other task))
         (looks_by (sealing_of it) task member.among fresh other name call granted.1
         (judge_in nat_eq fresh world task call) granted.0))

@@ -50,8 +50,7 @@ module _ {world : World ℕ} {names : List TaskName} (sealing : IsSealed world n
       → master_above later_part y ≡ master_above later y
   masters y m its =
       let from = among-from_map set world.mounts y m in
-      subst (λ x. master_above part x ≡ master_above world x) (sym from.2)
-      (by from.0 from.1 (nat_eq new.number from.0.number) (ap (is_own world names theirs) (sym from.2) ∙ its))
+      rw from.2 (by from.0 from.1 (nat_eq new.number from.0.number) (ap (is_own world names theirs) (sym from.2) ∙ its))
     where
       by : (k : Mount ℕ) → Among k world.mounts → (b : Bool) → is_own world names theirs (cond b new k) ≡ true
           → master_above part (cond b new k) ≡ master_above world (cond b new k)

@@ -12,6 +12,7 @@ use Rattle.vt_laws_members.specs.Changes.Changes.{EndAlike, EndsAlike, IsCallOfT
 use Rattle.vt_laws_members.specs.Changes.MountChanges.{RemountsEndAlike}
 use Rattle.vt_laws_members.proofs.changes.looks.Granted.{of_rules, of_walk}
 use Rattle.vt_laws_members.proofs.changes.looks.Told.{ended_alike, ran, same_caller}
+use Rattle.vt_laws_members.proofs.changes.tasks.ByPermit.{by_known}
 use Rattle.vt_laws_members.proofs.changes.tasks.Denied.{denial_ends_alike, ran_there, run_by, unnamed_ends_alike}
 use Rattle.vt_laws_members.proofs.changes.letting_go.Moving.{StandsHere, at_directory, one}
 use Rattle.vt_laws_members.proofs.changes.letting_go.PartMounts.{part_mounts}
@@ -66,7 +67,7 @@ module _ {world : World ℕ} {names : List TaskName} {name : TaskName} {path : L
   theirs = theirs_from world names it.is.mounts here.mount on
 
   mount_there : Among mount_of world.mounts
-  mount_there = subst (λ m. Among m world.mounts) (sym (its_mount world names it.is.mounts here.mount theirs)) theirs.1
+  mount_there = rw (its_mount world names it.is.mounts here.mount theirs) theirs.1
 
   abbrev now : World ℕ
   now = later (sealing_of it) mount_of mount_there own flags
@@ -95,22 +96,6 @@ module _ {world : World ℕ} {names : List TaskName} {name : TaskName} {path : L
   })
 
 pub remounts_end_alike : RemountsEndAlike
-remounts_end_alike world names name path flags it fresh other = by (task_called world name) refl
-  where
-    judged_by : (task : Task ℕ) (member : IsMember world names task) → task_called world name ≡ Some task
-        → (j : Judgement ℕ) → judge_in nat_eq fresh world task (Remount path flags) ≡ j
-        → IfOk j (SetsFlags member flags)
-        → EndsAlike world names name (Remount path flags) fresh other
-    judged_by task member e (Ok permit) judged its =
-        remount_alike it e fresh other its.0 its.2 its.3 (judged ∙ ap Ok its.1)
-    judged_by task member e (Err deny) judged its =
-        denial_ends_alike it fresh other (ap (λ o. is_ok (ran name (Remount path flags) world fresh o).answer) e
-        ∙ ap (λ j. is_ok (run_by it world fresh task j).answer) judged)
-
-    by : (o : Option (Task ℕ)) → task_called world name ≡ o
-        → EndsAlike world names name (Remount path flags) fresh other
-    by None e = unnamed_ends_alike it fresh other e
-    by (Some task) e =
-        let member = caller_in it e in
-        judged_by task member e (judge_in nat_eq fresh world task (Remount path flags)) refl
-        (sets_flags member flags path)
+remounts_end_alike world names name path flags it fresh other = by_known it fresh other refl
+    (λ task e. SetsFlags (caller_in it e) flags) (λ task e. sets_flags (caller_in it e) flags path)
+    (λ task e permit judged its. remount_alike it e fresh other its.0 its.2 its.3 (judged ∙ ap Ok its.1))

@@ -30,10 +30,9 @@ module _ (world : World ℕ) (old : Filesystem ℕ) {files : FileTree ℕ} (plai
   lost = map (λ inode. (old.number, inode)) unnamed
 
   lost_name : (inode : ℕ) → is_among nat_eq inode unnamed ≡ true → is_inode_among old.number inode lost ≡ true
-  lost_name inode is =
-      any_from_among (λ (loser : Inode). nat_eq old.number loser.0 && nat_eq inode loser.1) lost (old.number, inode)
-      (among-map (λ k. (old.number, k)) unnamed inode (among_numbers unnamed inode is))
-      (ap (λ b. b && nat_eq inode inode) (eq-eqb old.number old.number refl) ∙ eq-eqb inode inode refl)
+  lost_name inode is = any_from_among (λ (loser : Inode). nat_eq old.number loser.0 && nat_eq inode loser.1) lost
+      (old.number, inode) (among-map (λ k. (old.number, k)) unnamed inode (among_numbers unnamed inode is))
+      (cc (eq-eqb old.number old.number refl, eq-eqb inode inode refl))
 
   pub tree_changes : (after : World ℕ) → ChangesFilesystem after lost old (with_files old files)
   tree_changes after =
@@ -59,7 +58,7 @@ module _ {world : World ℕ} {names : List TaskName} {name : TaskName} {call : C
   old = filesystem_at nat_eq world naming.location
 
   itself : task_called world naming.task.name ≡ Some naming.task
-  itself = ap (task_called world) (sym (name_found world name naming.task naming.found)) ∙ naming.found
+  itself = cc (name_found world name naming.task naming.found, naming.found)
 
   asked : AsksWell world naming.location naming.change
   asked = (subst (AsksWellIf world) naming.asks (permits_ask_well world naming.fresh naming.task call naming.permit

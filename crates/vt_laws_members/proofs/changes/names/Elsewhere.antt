@@ -17,15 +17,13 @@ module _ (world : World ℕ) (names : List TaskName) (is : IsWorld nat_eq world)
       above_placed : (mount_at nat_eq world point).namespace ≡ Some n
       above_placed = cc (
         namespace_below world mount.number point (among_from_all (λ (y : Mount ℕ). Stands nat_eq world y.number)
-            world.mounts is.mounts.standing mount m) (ap (λ (y : Mount ℕ). y.mount_point) itself ∙ stands),
+            world.mounts is.mounts.standing mount m) (cc itself),
         itself,
         placed,
       )
 
       above_there : Among (mount_at nat_eq world point) world.mounts
-      above_there = ⊎_elim (λ k. k)
-          (λ none. none_is_some n (sym (ap (λ (y : Mount ℕ). y.namespace) none) ∙ above_placed))
-          (found_or_none world.mounts point.mount)
+      above_there = ⊎_elim (λ k. k) (λ none. none_is_some n (cc above_placed)) (found_or_none world.mounts point.mount)
 
       nobody : list_any (λ (y : Mount ℕ). nat_eq number y.filesystem) (other_mounts nat_eq world names) ≡ false
       nobody = not-true _ (and_parts (not (list_any (λ (y : Mount ℕ). nat_eq number y.filesystem)
@@ -63,7 +61,7 @@ module _ (world : World ℕ) (names : List TaskName) (is : IsWorld nat_eq world)
             → holds_of (λ (point : Location ℕ). nat_eq point.node at.1
             && nat_eq (mount_at nat_eq world point).filesystem at.0) o ≡ true
             → is_own_namespace nat_eq world names n ≡ true
-        by k at theirs None e h = absurd (true≢false (sym h))
+        by k at theirs None e h = cc
         by k at theirs (Some point) e h = own_there at.0 theirs mount k point e
             (eqb-true (mount_at nat_eq world point).filesystem at.0
             (and_parts (nat_eq point.node at.1) (nat_eq (mount_at nat_eq world point).filesystem at.0) h).1) n placed

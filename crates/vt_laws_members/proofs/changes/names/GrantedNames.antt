@@ -63,8 +63,7 @@ module _ {world : World ℕ} {names : List TaskName} {task : Task ℕ} (member :
 
   of : (location : Location ℕ) (change : Change ℕ) → (Names change → On location.mount)
       → AreTheirs (Some (location, change))
-  of location change on made e = subst (λ (m : Location ℕ × Change ℕ). Names m.1 → On m.0.mount)
-      (same_Some (location, change) made e) on
+  of location change on made e = rw (← same_Some (location, change) made e) on
 
   placed : (walk : Result (Place ℕ) (Stop ℕ)) (place : Place ℕ) (change : Change ℕ) → IfOk walk IsPlaced
       → walk ≡ Ok place → AreTheirs (Some (place.parent, change))

@@ -58,10 +58,9 @@ module _ {world : World ℕ} {names : List TaskName} {name : TaskName} {call : C
       → EndsAlike world names name call fresh other
   naming_ends looks stays plain fresh other judged supply supply_too one two =
       tree_ends naming.it fresh other naming.found stays naming.location used naming_alone
-      (changed nat_eq old.files naming.change) (ap (run_by naming.it world fresh naming.task) judged
-      ∙ one ∙ plain_run world name call supply naming.location naming.change old looks refl plain)
-      (ran_there naming.it fresh other naming.task naming.found judged
-      ∙ two ∙ plain_run part name call supply_too naming.location naming.change old looks alike plain)
+      (changed nat_eq old.files naming.change) (cc (plain_run world name call supply naming.location naming.change old
+      looks refl plain)) (ran_there naming.it fresh other naming.task naming.found judged ∙ two ∙ plain_run part name
+      call supply_too naming.location naming.change old looks alike plain)
 
 -- link(2) gives a name
 abbrev IsGiving : Change ℕ → Type 0

@@ -96,6 +96,5 @@ new_opens_end_alike world names name path access how it task found fresh serves 
       where
         kept : (x : Filesystem ℕ) → is_among nat_eq x.number (used_filesystems nat_eq w names) ≡ false → (b : Bool)
             → nat_eq old.number x.number ≡ b → both old files x ≡ x
-        kept x unused true e = absurd (true≢false (sym used_there
-            ∙ ap (λ n. is_among nat_eq n (used_filesystems nat_eq w names)) (eqb-true old.number x.number e) ∙ unused))
+        kept x unused true e = cc (eqb-true old.number x.number e)
         kept x unused false e = both_kept old files x e

@@ -58,15 +58,16 @@ module _ {world : World ℕ} {names : List TaskName} {task : Task ℕ} (member :
   removed_free asked permit (removes_directory path place walk word passed) parent entry directory e =
       let same : object_there place ≡ directory = cc in
       let above : place.parent ≡ parent = cc in
-      subst (IsFree world names task directory) above (subst (λ object. IsFree world names task object place.parent)
-      same (record {
+      rw (← above) (subst (λ object. IsFree world names task object place.parent) same
+      (record {
         on = object_on place (subst (λ r. IfOk r IsPlaced) walk
             (old_agrees judged_alike.walks judged_alike.directory judged_alike.rules.removed path).1);
-        unlocked = (or_parts (is_locked_at nat_eq world (object_there place)) (is_locked_at nat_eq world place.parent)
+        unlocked =
+            (or_parts (is_locked_at nat_eq world (object_there place)) (is_locked_at nat_eq world place.parent)
             passed.1.1.1.1.0).0;
         bare = passed.1.1.1.1.1.0;
-        beside = old_mount world task place (special_word place.last word.0 word.1.0 word.1.1.0)
-            (old_is world task path place walk);
+        beside = old_mount world task place
+            (special_word place.last word.0 word.1.0 word.1.1.0) (old_is world task path place walk);
       }))
   removed_free asked permit other_way parent entry directory e = absurd cc
 
@@ -119,9 +120,8 @@ pub reached_from : {world : World ℕ} {names : List TaskName} {name : TaskName}
     (it : IsCallOfTheirs world names name call) (task : Task ℕ) → task_called world name ≡ Some task
     → (permit : Permit ℕ) → mounts_overlay call ≡ false
     → judge_in nat_eq (unused_numbers world) world task call ≡ Ok permit → NamesWhatIsThere world task permit
-reached_from {world} {names} {name} {call} it task found permit files judged =
-    (all_permits_fit world (unused_numbers world) task call permit it.is (unused_serve world)
-    (ap (task_called world) (sym (name_found world name task found)) ∙ found) files judged).names
+reached_from {world} {names} {name} {call} it task found permit files judged = (all_permits_fit world (unused_numbers
+    world) task call permit it.is (unused_serve world) (cc (name_found world name task found)) files judged).names
 
 module _ {world : World ℕ} {names : List TaskName} {name : TaskName} (task : Task ℕ)
     (found : task_called world name ≡ Some task) (fresh : Fresh ℕ) (serves : Serves nat_eq world fresh) where

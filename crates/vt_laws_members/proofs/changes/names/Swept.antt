@@ -14,5 +14,5 @@ swap_changes w old files lost changes one after f m = by (nat_eq old.number f.nu
   where
     by : (b : Bool) → nat_eq old.number f.number ≡ b
         → ChangesFilesystem after lost f (cond b (with_files old files) f)
-    by true e = subst (λ x. ChangesFilesystem after lost x (with_files old files)) (sym (one f m e)) (changes after)
+    by true e = rw (one f m e) (changes after)
     by false e = unchanged after lost f

@@ -64,7 +64,7 @@ module _ {world : World ℕ} {names : List TaskName} {name : TaskName} {call : C
   -- others have no foothold on it, in the world and in the part
   alone_here : Alone (living it left (swap old files)) names old.number
   alone_here = alone (sealing_of it) names world.tasks world.change left.lets old.number
-      (ap (used_alone nat_eq world names) (old_number world names it.is number used) ∙ alone_before)
+      (cc (old_number world names it.is number used))
 
   alone_there : Alone (living_part it left (swap old files)) names old.number
   alone_there = record {
@@ -75,9 +75,7 @@ module _ {world : World ℕ} {names : List TaskName} {name : TaskName} {call : C
   pub tree_ends : ran name call world fresh (Some task) ≡ with_tree world name old files
       → ran name call part other (Some task) ≡ with_tree part name old files
       → EndsAlike world names name call fresh other
-  tree_ends = stepped_ends it left (swap old files)
-      (changes_theirs all_used old files (one_in_world world names it.is number used) alone_here is_used)
-      (changes_theirs all_used old files
-      (one_in_part world names it.is number used) alone_there is_used) (old.number ∷ [])
-      (λ n m. ⊎_elim (λ e. ap (λ k. is_among nat_eq k all_used) e ∙ is_used) (λ none. absurd none) m) task found fresh
-      other Done stays
+  tree_ends = stepped_ends it left (swap old files) (changes_theirs all_used old files
+      (one_in_world world names it.is number used) alone_here is_used)
+      (changes_theirs all_used old files (one_in_part world names it.is number used) alone_there is_used)
+      (old.number ∷ []) (λ n m. ⊎_elim (λ e. cc is_used) (λ none. absurd none) m) task found fresh other Done stays

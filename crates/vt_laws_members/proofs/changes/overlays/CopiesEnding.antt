@@ -83,14 +83,12 @@ module _ {world : World ℕ} {names : List TaskName} {name : TaskName} {call : C
       of_map : (tasks : List (Task ℕ))
           → raised_members tasks ≡ map (raised_task name) (filter (is_member_task names) tasks)
       of_map tasks = filter-map (is_member_task names) (raised_task name) tasks
-          (λ t. ap (λ n. is_among same_name n names) (raised_is name (λ (x : Task ℕ). x.name) (λ x. refl) t))
+          (λ t. cc (raised_is name (λ (x : Task ℕ). x.name) (λ x. refl) t))
 
   parts_alike : part_of nat_eq (left world) names ≡ part_of nat_eq (left part) names
-  parts_alike =
-      part_of_left world (ones_in_world through) (kept_on through)
-      ∙ (λ i. record (with_filesystems (sym (part_again world names lasts.is) i) both) { tasks = tasks_alike i })
-      ∙ sym (part_of_left part (ones_in_part through)
-      (λ x e. kept_on through x (sym (ap (is_among nat_eq x.number) (same_used world names)) ∙ e)))
+  parts_alike = part_of_left world (ones_in_world through) (kept_on through) ∙
+      (λ i. record (with_filesystems (sym (part_again world names lasts.is) i) both) { tasks = tasks_alike i }) ∙
+      sym (part_of_left part (ones_in_part through) (λ x e. kept_on through x (cc (same_used world names))))
 
   pub copy_ends : ran name call world through.supply (Some task)
       ≡ finished nat_eq world name call (changed_at nat_eq world through.location)
@@ -99,12 +97,16 @@ module _ {world : World ℕ} {names : List TaskName} {name : TaskName} {call : C
       (granted Done (with_change nat_eq through.supply part through.location through.change)) → EndsAlike world names
       name call through.supply through.supply
   copy_ends runs runs_there =
-      let first : policy nat_eq through.supply world name call ≡ granted Done (left world) =
-      ap (ran name call world through.supply) lasts.found
-      ∙ runs ∙ ends_so world (all_in_use world lasts.is) (changes_in_world through copies) (stepped_in_world through)
-      (numbers_in_world through) in
-      let second : policy nat_eq through.supply part name call ≡ granted Done (left part) =
-      ap (ran name call part through.supply) (same_caller (sealing_of lasts.it) name lasts.theirs ∙ lasts.found) ∙ runs_there ∙ ends_so
-      part (part_in_use (sealing_of lasts.it)) (changes_in_part through copies)
-      (stepped_in_part through copies) (numbers_in_part through) in
+      let first : policy nat_eq through.supply world name call ≡ granted Done (left world) = cc (
+        lasts.found,
+        ends_so world (all_in_use world lasts.is) (changes_in_world through copies)
+            (stepped_in_world through) (numbers_in_world through),
+      ) in
+      let second : policy nat_eq through.supply part name call ≡ granted Done (left part) = cc (
+        same_caller (sealing_of lasts.it) name lasts.theirs,
+        lasts.found,
+        ends_so part
+            (part_in_use (sealing_of lasts.it)) (changes_in_part through copies) (stepped_in_part through copies)
+            (numbers_in_part through),
+      ) in
       ended_alike names name call first second (rw lasts.stays (record { answer = refl; part = parts_alike }))

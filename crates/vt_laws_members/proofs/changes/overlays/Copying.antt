@@ -31,7 +31,7 @@ by_no_layer fresh one other merge change copies = grind (arith, common_steps, ot
 
 none_of : (list : List ℕ) → list_all (λ (k : ℕ). false) list ≡ true → list ≡ []
 none_of [] e = refl
-none_of (k ∷ rest) e = absurd (true≢false (sym e))
+none_of (k ∷ rest) e = cc
 
 -- an inode of the filesystem of the upper layer
 abbrev inode_above : Layer ℕ → ℕ → Inode
@@ -39,7 +39,7 @@ inode_above upper inode = (upper.filesystem, inode)
 
 none_above : (upper : Layer ℕ) (list : List ℕ) → list_all (λ (k : ℕ). false) list ≡ true
     → map (inode_above upper) list ≡ []
-none_above upper list e = ap (map (inode_above upper)) (none_of list e)
+none_above upper list e = cc (none_of list e)
 
 -- and no name is lost
 none_lost : (fresh : Fresh ℕ) (world : World ℕ) (location : Location ℕ) (change : Change ℕ) (overlay : Overlay ℕ)
@@ -66,17 +66,14 @@ pub upper_in_use : (w : World ℕ) (names : List TaskName) (number : ℕ) (overl
     → (filesystem_numbered nat_eq w number).overlay ≡ Some overlay → overlay.upper ≡ Some upper
     → Among number (used_directly nat_eq w names)
     → is_among nat_eq upper.filesystem (used_filesystems nat_eq w names) ≡ true
-upper_in_use w names number overlay upper overlaid has direct =
-    is_among_numbers (used_filesystems nat_eq w names) upper.filesystem (among-each_once (used_directly nat_eq w names
-    ++ flat_map (λ n. change_layers (filesystem_numbered nat_eq w n)) (used_directly nat_eq w names)) upper.filesystem
-    (among-append_right (used_directly nat_eq w names)
-    (flat_map (λ n. change_layers (filesystem_numbered nat_eq w n)) (used_directly nat_eq w names)) upper.filesystem
-    (among-flat_map (λ n. change_layers (filesystem_numbered nat_eq w n)) (used_directly nat_eq w names)
-    number upper.filesystem direct
-    (subst (λ o. Among upper.filesystem (overlay_or [] (λ (v : Overlay ℕ). map (λ (l : Layer ℕ). l.filesystem)
-    (option_to_list v.upper ++ option_to_list v.work)) o)) (sym overlaid)
-    (among-map (λ (l : Layer ℕ). l.filesystem) (option_to_list overlay.upper ++ option_to_list overlay.work) upper
-    (among-append_left (option_to_list overlay.upper) (option_to_list overlay.work) upper
+upper_in_use w names number overlay upper overlaid has direct = is_among_numbers (used_filesystems nat_eq w names)
+    upper.filesystem (among-each_once (used_directly nat_eq w names ++ flat_map
+    (λ n. change_layers (filesystem_numbered nat_eq w n)) (used_directly nat_eq w names)) upper.filesystem
+    (among-append_right (used_directly nat_eq w names) (flat_map (λ n. change_layers (filesystem_numbered nat_eq w n))
+    (used_directly nat_eq w names)) upper.filesystem (among-flat_map
+    (λ n. change_layers (filesystem_numbered nat_eq w n)) (used_directly nat_eq w names) number upper.filesystem direct
+    (rw overlaid (among-map (λ (l : Layer ℕ). l.filesystem) (option_to_list overlay.upper ++ option_to_list
+    overlay.work) upper (among-append_left (option_to_list overlay.upper) (option_to_list overlay.work) upper
     (subst (λ o. Among upper (option_to_list o)) (sym has) (inl refl))))))))
 
 -- A change through an overlay of theirs that has an upper layer: by these numbers it can be made.
@@ -153,7 +150,7 @@ module _ {world : World ℕ} {names : List TaskName} (it : OverlayChange world n
 
       other : (b : Bool) → nat_eq layer.number x.number ≡ b
           → of_overlay default what (cond b layer_later x) ≡ of_overlay default what x
-      other true e = ap (of_overlay default what) (sym (ones.one_layer x m e))
+      other true e = cc (ones.one_layer x m e)
       other false e = refl
 
       by : (b : Bool) → nat_eq merged.number x.number ≡ b → of_overlay default what (step x) ≡ of_overlay default what x
@@ -178,9 +175,8 @@ module _ {world : World ℕ} {names : List TaskName} (it : OverlayChange world n
     where
       by : (b : Bool) → nat_eq (filesystem_numbered nat_eq world k).number x.number ≡ b
           → nat_eq (filesystem_numbered nat_eq world k).number x.number ≡ false
-      by true e = absurd (true≢false (sym (old_used world names it.is k used)
-          ∙ ap (λ n. is_among nat_eq n (used_filesystems nat_eq world names))
-          (eqb-true (filesystem_numbered nat_eq world k).number x.number e) ∙ unused))
+      by true e =
+          cc (old_used world names it.is k used, eqb-true (filesystem_numbered nat_eq world k).number x.number e)
       by false e = e
 
   pub unused_kept : (x : Filesystem ℕ) → is_among nat_eq x.number (used_filesystems nat_eq world names) ≡ false
@@ -190,14 +186,12 @@ module _ {world : World ℕ} {names : List TaskName} (it : OverlayChange world n
 
   -- the overlay is there afterwards
   is_later : (w : World ℕ) → Among merged w.filesystems → Among merged_later (with_filesystems w step).filesystems
-  is_later w m = subst (λ f. Among f (with_filesystems w step).filesystems)
-      (becomes it.is it.can) (among-map step w.filesystems merged m)
+  is_later w m = rw (← becomes it.is it.can) (among-map step w.filesystems merged m)
 
   changes_then : Copies it.change → (last : World ℕ) → Among merged_later last.filesystems → (x : Filesystem ℕ)
       → Among x world.filesystems → ChangesFilesystem last [] x (step x)
   changes_then copies last m = among_from_all (λ x. ChangesFilesystem last [] x (step x)) world.filesystems
-      (subst (λ l. All (λ x. ChangesFilesystem last l x (step x)) world.filesystems)
-      (none_lost it.supply world it.location it.change it.overlay it.upper it.is it.can copies)
+      (rw (← none_lost it.supply world it.location it.change it.overlay it.upper it.is it.can copies)
       (all_changed it.is it.can last m))
 
   there : Among merged world.filesystems
@@ -212,11 +206,10 @@ module _ {world : World ℕ} {names : List TaskName} (it : OverlayChange world n
   changes_in_part copies x m =
       let from = among-from_filter_map (part_of_filesystem nat_eq world names) world.filesystems x m in
       ⊎_elim (λ same. changes_then copies (with_filesystems part step)
-      (is_later part (there_in_part world names it.is number merged_used there)) x
-      (subst (λ f. Among f world.filesystems) same.0 from.1))
-      (λ low. subst (ChangesFilesystem (with_filesystems part step) [] x)
-      (sym (unused_kept x (ap (λ (f : Filesystem ℕ). is_among nat_eq f.number (used_filesystems nat_eq world names))
-      (sym low.0) ∙ low.1))) (unchanged (with_filesystems part step) [] x)) (shown_how world names from.0 x from.2)
+      (is_later part (there_in_part world names it.is number merged_used there)) x (rw (← same.0) from.1))
+      (λ low. rw (unused_kept x (ap (λ (f : Filesystem ℕ). is_among nat_eq f.number
+      (used_filesystems nat_eq world names)) (sym low.0) ∙ low.1)) (unchanged (with_filesystems part step) [] x))
+      (shown_how world names from.0 x from.2)
 
   -- the change is made
   pub stepped_in_world : with_change nat_eq it.supply world it.location it.change ≡ with_filesystems world step

@@ -80,7 +80,7 @@ edits_copy : (world : World ℕ) (location : Location ℕ) (change : Change ℕ)
     → is_overlay (filesystem_at nat_eq world location) ≡ true → AsksWell world location change → Copies change
 edits_copy world location (SetBytes file bytes) edit is asked = tt
 edits_copy world location (SetAttr object attr) edit is asked = tt
-edits_copy world location (SetMark directory opaque) edit is asked = absurd (true≢false (sym is ∙ asked))
+edits_copy world location (SetMark directory opaque) edit is asked = cc
 edits_copy world location (CopyUp object) none is asked = absurd none
 edits_copy world location (Make directory name number node) none is asked = absurd none
 edits_copy world location (AddName directory name object) none is asked = absurd none
@@ -101,7 +101,7 @@ module _ {world : World ℕ} {names : List TaskName} {name : TaskName} {call : C
   ground = theirs_from world names lasts.is.mounts location.mount edit.0
 
   itself : task_called world task.name ≡ Some task
-  itself = ap (task_called world) (sym (name_found world name task lasts.found)) ∙ lasts.found
+  itself = cc (name_found world name task lasts.found, lasts.found)
 
   pub walked_copy_ends : EndsAlike world names name call fresh fresh
   walked_copy_ends = through_ends lasts fresh

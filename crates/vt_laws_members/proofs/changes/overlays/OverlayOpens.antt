@@ -94,8 +94,7 @@ module _ {world : World ℕ} {names : List TaskName} {name : TaskName} {path : L
           (opened (with_copy nat_eq b fresh w file) task file wanted)
 
   copied_in_part : is_copied_up nat_eq part file wanted ≡ true
-  copied_in_part = sym (ap (λ (f : Filesystem ℕ). opens_for_writing wanted
-      && overlay_or false (λ overlay. lies_only_in_lowers overlay file.node) f.overlay) alike) ∙ copied
+  copied_in_part = cc alike
 
   pub open_through_ends : EndsAlike world names name call fresh fresh
   open_through_ends = opened_ends it fresh called file ground wanted moved numbers
@@ -108,9 +107,8 @@ module _ {world : World ℕ} {names : List TaskName} {name : TaskName} {path : L
         in_use = in_use_stepped part (part_in_use (sealing_of it)) moved
             (changes_in_part through tt);
         part_moved = part_moved through part (ones_in_part through) (λ x e. kept_on through x
-            (sym (ap (is_among nat_eq x.number) (same_used world names)) ∙ e));
-      }) (ap (run_by it world fresh task) given ∙ run_opened world copied
-      (stepped_in_world through) (numbers_in_world through))
+            (cc (same_used world names)));
+      }) (cc (run_opened world copied (stepped_in_world through) (numbers_in_world through)))
       (ran_there it fresh fresh task called given ∙ run_opened part copied_in_part (stepped_in_part through tt)
       (numbers_in_part through))
 
@@ -122,7 +120,7 @@ overlay_opens_end_alike world names name path access how it task called fresh se
     call = OpenFile path access how
 
     itself : task_called world task.name ≡ Some task
-    itself = ap (task_called world) (sym (name_found world name task called)) ∙ called
+    itself = cc (name_found world name task called)
 
     parts : (opens_for_writing wanted ≡ true)
         × (overlay_or false (λ overlay. lies_only_in_lowers overlay file.node) (filesystem_at nat_eq world file).overlay
@@ -140,7 +138,7 @@ overlay_opens_end_alike world names name path access how it task called fresh se
         access how))
 
     asks : change_asked fresh world (ToOpen file wanted) ≡ Some (file, CopyUp file.node)
-    asks = ap (λ b. when b (file, CopyUp file.node)) copied
+    asks = cc
 
     layered : (overlay : Overlay ℕ) → (filesystem_at nat_eq world file).overlay ≡ Some overlay → (o : Option (Layer ℕ))
         → overlay.upper ≡ o → EndsAlike world names name call fresh fresh

@@ -15,8 +15,7 @@ module _ (top : ℕ) where
 
   -- a longer chain, too
   pub more : (next : ℕ → Option ℕ) (n m d : ℕ) → n ≤ m → reaches n next d ≡ true → reaches m next d ≡ true
-  more next zero m d l h =
-      ⊎_elim (at_head next m d) (λ e. absurd (true≢false (sym e))) (or_cases (nat_eq top d) false h)
+  more next zero m d l h = ⊎_elim (at_head next m d) (λ e. cc) (or_cases (nat_eq top d) false h)
   more next (suc n) zero d l h = absurd (omega (arith, l))
   more next (suc n) (suc m) d l h = by (next d) h (λ b. more next n m b (omega (arith, l)))
     where
@@ -48,7 +47,7 @@ module _ (files : FileTree ℕ) (chosen : List ℕ) (tree : IsTree files.tree) (
   cut = only_among nat_eq chosen files
 
   node_kept : (object : ℕ) → is_among nat_eq object chosen ≡ true → cut.tree.node object ≡ files.tree.node object
-  node_kept object e = ap (λ b. cond b (files.tree.node object) None) e
+  node_kept object e = cc
 
   in_cut : (object : ℕ) → is_some (files.tree.node object) ≡ true → is_among nat_eq object chosen ≡ true
       → Among object cut.numbers
@@ -58,8 +57,7 @@ module _ (files : FileTree ℕ) (chosen : List ℕ) (tree : IsTree files.tree) (
   -- a directory under it is kept
   directory_kept : (d : ℕ) → IsDirectory files.tree d → is_directory_under nat_eq files top d ≡ true
       → is_among nat_eq d chosen ≡ true
-  directory_kept d is h = all d (directory_used files.tree d is)
-      (ap (λ b. cond b (is_directory_under nat_eq files top d) (is_file_under nat_eq files top d)) is ∙ h)
+  directory_kept d is h = all d (directory_used files.tree d is) (cc)
 
   -- what has an entry is a directory
   entered : (b d : ℕ) → has_entry_to nat_eq files.tree b d ≡ true → IsDirectory files.tree b
@@ -74,9 +72,7 @@ module _ (files : FileTree ℕ) (chosen : List ℕ) (tree : IsTree files.tree) (
           → cond p None (when q (parent_in d (files.tree.node d))) ≡ Some b
           → (parent_in d (files.tree.node d) ≡ b) × (has_entry_to nat_eq files.tree b d ≡ true)
       by true q h e = none_is_some b e
-      by false true h e =
-          let same = same_Some (parent_in d (files.tree.node d)) b e in
-          (same, subst (λ n. has_entry_to nat_eq files.tree n d ≡ true) same h)
+      by false true h e = let same = same_Some (parent_in d (files.tree.node d)) b e in (same, rw (← same) h)
       by false false h e = none_is_some b e
 
   parent_kept : (d b : ℕ) → named_parent nat_eq files.tree d ≡ Some b → is_among nat_eq d chosen ≡ true
@@ -85,7 +81,7 @@ module _ (files : FileTree ℕ) (chosen : List ℕ) (tree : IsTree files.tree) (
       let how = parent_how d b e in
       cc (
         node_kept d kept,
-        node_kept (parent_in d (files.tree.node d)) (subst (λ n. is_among nat_eq n chosen ≡ true) (sym how.0) above),
+        node_kept (parent_in d (files.tree.node d)) (rw how.0 above),
       )
 
   abbrev Ways : ℕ → Type 0
@@ -95,36 +91,31 @@ module _ (files : FileTree ℕ) (chosen : List ℕ) (tree : IsTree files.tree) (
   way : (n d : ℕ) → n ≤ length files.numbers → IsDirectory files.tree d
       → reaches top n (named_parent nat_eq files.tree) d ≡ true → Ways d
   way zero d l is h =
-      let at : nat_eq top d ≡ true =
-      ⊎_elim (λ same. same) (λ none. absurd (true≢false (sym none))) (or_cases (nat_eq top d) false h) in
-      ends d (ap (λ c. cond c None (named_parent nat_eq files.tree d)) at)
-      (ap (λ c. cond c None (named_parent nat_eq cut.tree d)) at)
+      let at : nat_eq top d ≡ true = ⊎_elim (λ same. same) (λ none. cc) (or_cases (nat_eq top d) false h) in
+      ends d (cc) (cc)
   way (suc n) d l is h = here (nat_eq top d) refl (λ b directory above. way n b (omega (arith, l)) directory above)
     where
       on : nat_eq top d ≡ false
           → ((b : ℕ) → IsDirectory files.tree b → reaches top n (named_parent nat_eq files.tree) b ≡ true → Ways b)
           → (o : Option ℕ) → named_parent nat_eq files.tree d ≡ o → is_among nat_eq top
           (elim o [ None ↦ d ∷ [] | Some b ↦ d ∷ chain n (named_parent nat_eq files.tree) b ]) ≡ true → Ways d
-      on e rest None f g = absurd (true≢false (sym g ∙ ap (λ b. b || false) e))
+      on e rest None f g = cc
       on e rest (Some b) f g =
           let how = parent_how d b f in
-          let above : reaches top n (named_parent nat_eq files.tree) b ≡ true =
-          ⊎_elim (λ same. absurd (true≢false (sym same ∙ e))) (λ later. later)
+          let above : reaches top n (named_parent nat_eq files.tree) b ≡ true = ⊎_elim (λ same. cc) (λ later. later)
           (or_cases (nat_eq top d) (reaches top n (named_parent nat_eq files.tree) b) g) in
           let directory = entered b d how.1 in
-          let kept = directory_kept d is
-          (more top (named_parent nat_eq files.tree) (suc n) (length files.numbers) d l h) in
-          let kept_above = directory_kept b directory
-          (more top (named_parent nat_eq files.tree) n (length files.numbers) b (omega (arith, l)) above) in
-          goes_on d b (ap (λ c. cond c None (named_parent nat_eq files.tree d)) e ∙ f)
-          (ap (λ c. cond c None (named_parent nat_eq cut.tree d)) e ∙ parent_kept d b f kept kept_above)
-          (in_cut d (directory_used files.tree d is) kept) (rest b directory above)
+          let kept = directory_kept d is (more top (named_parent nat_eq files.tree) (suc n) (length files.numbers) d l
+          h) in
+          let kept_above = directory_kept b directory (more top (named_parent nat_eq files.tree) n
+          (length files.numbers) b (omega (arith, l)) above) in
+          goes_on d b (cc) (cc (parent_kept d b f kept kept_above)) (in_cut d (directory_used files.tree d is) kept)
+          (rest b directory above)
 
       here : (b : Bool) → nat_eq top d ≡ b
           → ((b : ℕ) → IsDirectory files.tree b → reaches top n (named_parent nat_eq files.tree) b ≡ true → Ways b)
           → Ways d
-      here true e rest = ends d (ap (λ c. cond c None (named_parent nat_eq files.tree d)) e)
-          (ap (λ c. cond c None (named_parent nat_eq cut.tree d)) e)
+      here true e rest = ends d (cc) (cc)
       here false e rest = on e rest (named_parent nat_eq files.tree d) refl h
 
   directory_in_cut : (d : ℕ) → IsDirectory files.tree d → is_directory_under nat_eq files top d ≡ true
@@ -135,7 +126,7 @@ module _ (files : FileTree ℕ) (chosen : List ℕ) (tree : IsTree files.tree) (
       cc (
         stops top (named_parent nat_eq cut.tree) (length cut.numbers) d,
         chains_alike (until top (named_parent nat_eq files.tree)) (until top (named_parent nat_eq cut.tree)) (λ k.
-            k) cut.numbers (λ a b e. ap (until top (named_parent nat_eq files.tree)) e) (length files.numbers) (length
+            k) cut.numbers (λ a b e. cc) (length files.numbers) (length
             cut.numbers) d (way (length files.numbers) d (omega arith) is h) (omega (arith, few)) (omega arith),
         stops top (named_parent nat_eq files.tree) (length files.numbers) d,
       )
@@ -152,22 +143,21 @@ module _ (files : FileTree ℕ) (chosen : List ℕ) (tree : IsTree files.tree) (
       by false is h =
           let at = any_among (λ d. has_entry_to nat_eq files.tree d object && is_directory_under nat_eq files top d)
           files.numbers h in
-          let both = and_parts (has_entry_to nat_eq files.tree at.0 object)
-          (is_directory_under nat_eq files top at.0) at.2 in
+          let both = and_parts (has_entry_to nat_eq files.tree at.0 object) (is_directory_under nat_eq files top at.0)
+          at.2 in
           let directory = entered at.0 object both.0 in
           let kept = directory_kept at.0 directory both.1 in
           any_from_among (λ d. has_entry_to nat_eq cut.tree d object && is_directory_under nat_eq cut top d) cut.numbers
           at.0 (in_cut at.0 (directory_used files.tree at.0 directory) kept)
           (and_from (has_entry_to nat_eq cut.tree at.0 object) (is_directory_under nat_eq cut top at.0)
-          (ap (λ (node : Option (Node ℕ)). is_among nat_eq object (targets_in node)) (node_kept at.0 kept) ∙ both.0)
-          (directory_in_cut at.0 directory both.1))
+          (cc (node_kept at.0 kept, both.0)) (directory_in_cut at.0 directory both.1))
 
   -- and what lies below it has a name there
   named_by : (b object : ℕ) → IsDirectory files.tree b → is_among nat_eq b chosen ≡ true
       → has_entry_to nat_eq files.tree b object ≡ true → Among object (named_in cut)
   named_by b object directory kept entry = among-flat_map (λ d. targets_in (cut.tree.node d)) cut.numbers b object
       (in_cut b (directory_used files.tree b directory) kept) (among_numbers (targets_in (cut.tree.node b)) object
-      (ap (λ (node : Option (Node ℕ)). is_among nat_eq object (targets_in node)) (node_kept b kept) ∙ entry))
+      (cc (node_kept b kept)))
 
   pub named_in_cut : (object : ℕ) → nat_eq top object ≡ false → is_under nat_eq files top object ≡ true
       → Among object (named_in cut)
@@ -177,20 +167,18 @@ module _ (files : FileTree ℕ) (chosen : List ℕ) (tree : IsTree files.tree) (
           → is_among nat_eq top
           (elim o [ None ↦ object ∷ [] | Some b ↦ object ∷ chain n (named_parent nat_eq files.tree) b ]) ≡ true
           → Among object (named_in cut)
-      up n less None e g = absurd (true≢false (sym g ∙ ap (λ b. b || false) apart))
+      up n less None e g = cc
       up n less (Some b) e g =
           let how = parent_how object b e in
-          let above : reaches top n (named_parent nat_eq files.tree) b ≡ true =
-          ⊎_elim (λ same. absurd (true≢false (sym same ∙ apart))) (λ later. later)
+          let above : reaches top n (named_parent nat_eq files.tree) b ≡ true = ⊎_elim (λ same. cc) (λ later. later)
           (or_cases (nat_eq top object) (reaches top n (named_parent nat_eq files.tree) b) g) in
           let directory = entered b object how.1 in
-          named_by b object directory
-          (directory_kept b directory (more top (named_parent nat_eq files.tree) n (length files.numbers) b less above))
-          how.1
+          named_by b object directory (directory_kept b directory (more top (named_parent nat_eq files.tree) n
+          (length files.numbers) b less above)) how.1
 
       long : (n : ℕ) → n ≤ length files.numbers → reaches top n (named_parent nat_eq files.tree) object ≡ true
           → Among object (named_in cut)
-      long zero less g = absurd (true≢false (sym g ∙ ap (λ b. b || false) apart))
+      long zero less g = cc
       long (suc n) less g = up n (omega (arith, less)) (named_parent nat_eq files.tree object) refl g
 
       by : (b : Bool) → cond b (is_directory_under nat_eq files top object) (is_file_under nat_eq files top object)

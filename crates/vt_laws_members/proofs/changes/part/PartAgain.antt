@@ -36,8 +36,7 @@ module _ (chosen : List ℕ) (files : FileTree ℕ) (there : (n : ℕ) → is_am
             cc (is_among_numbers cut.numbers n (among-filter (λ k. is_among nat_eq k chosen) files.numbers n (there n
             e) e))
         same n false e =
-            none_kept (is_among nat_eq n cut.numbers) (cond (is_among nat_eq n chosen) (files.tree.node n) None)
-            (ap (λ c. cond c (files.tree.node n) None) e)
+            none_kept (is_among nat_eq n cut.numbers) (cond (is_among nat_eq n chosen) (files.tree.node n) None) (cc)
 
 module _ (world : World ℕ) (names : List TaskName) (is : IsWorld nat_eq world) where
   abbrev part : World ℕ
@@ -59,8 +58,7 @@ module _ (world : World ℕ) (names : List TaskName) (is : IsWorld nat_eq world)
   has_lower number = list_any (λ (layer : Layer ℕ). nat_eq number layer.filesystem) lowers
 
   pub shown_number : (x y : Filesystem ℕ) → shown x ≡ Some y → y.number ≡ x.number
-  shown_number x y e = ⊎_elim (λ same. ap (λ (f : Filesystem ℕ). f.number) (sym same.0))
-      (λ low. ap (λ (f : Filesystem ℕ). f.number) (sym low.0)) (shown_how world names x y e)
+  shown_number x y e = ⊎_elim (λ same. cc same.0) (λ low. cc low.0) (shown_how world names x y e)
 
   -- what the part has of a filesystem is found there
   pub found_in_part : (x y : Filesystem ℕ) → Among x world.filesystems → shown x ≡ Some y
@@ -122,13 +120,12 @@ module _ (world : World ℕ) (names : List TaskName) (is : IsWorld nat_eq world)
     pub in_chosen : (layer : Layer ℕ) → Among layer lowers → nat_eq x.number layer.filesystem ≡ true → (object : ℕ)
         → is_some (x.files.tree.node object) ≡ true → is_under nat_eq x.files layer.directory object ≡ true
         → is_among nat_eq object chosen ≡ true
-    in_chosen layer at on object there under = is_among_numbers chosen object
-        (among-filter (lies_in_own_lower nat_eq world names x.number) x.files.numbers object
-        (among_numbers x.files.numbers object (listed object ∙ there))
+    in_chosen layer at on object there under =
+        is_among_numbers chosen object (among-filter (lies_in_own_lower nat_eq world names x.number) x.files.numbers
+        object (among_numbers x.files.numbers object (listed object ∙ there))
         (any_from_among (lies_in_layer nat_eq world x.number object) lowers layer at
-        (and_from (nat_eq x.number layer.filesystem)
-        (is_under nat_eq (filesystem_numbered nat_eq world x.number).files layer.directory object) on
-        (ap (λ (f : Filesystem ℕ). is_under nat_eq f.files layer.directory object) itself ∙ under))))
+        (and_from (nat_eq x.number layer.filesystem) (is_under nat_eq (filesystem_numbered nat_eq world x.number).files
+        layer.directory object) on (cc itself))))
 
     -- each inode lies in a lower layer of theirs in the part, too
     lies_again : (object : ℕ) → Among object chosen → lies_in_own_lower nat_eq part names x.number object ≡ true
@@ -158,20 +155,17 @@ module _ (world : World ℕ) (names : List TaskName) (is : IsWorld nat_eq world)
 
   shown_again : (x y : Filesystem ℕ) → Among x world.filesystems → shown x ≡ Some y
       → part_of_filesystem nat_eq part names y ≡ Some y
-  shown_again x y m e = ap (λ u. cond (is_among nat_eq y.number u) (Some y)
-      (when (list_any (λ (layer : Layer ℕ). nat_eq y.number layer.filesystem) (own_lowers nat_eq part names))
-      (part_of_lower nat_eq part names y))) (same_used world names)
-      ∙ ap (λ l. cond (is_among nat_eq y.number used) (Some y)
-      (when (list_any (λ (layer : Layer ℕ). nat_eq y.number layer.filesystem) l) (part_of_lower nat_eq part names y)))
-      (same_lowers world names) ∙ ⊎_elim
-      (λ same. ap (λ b. cond b (Some y) (when (has_lower y.number) (part_of_lower nat_eq part names y)))
-      (ap (λ (f : Filesystem ℕ). is_among nat_eq f.number used) (sym same.0) ∙ same.1)) (λ low.
-      ap (λ b. cond b (Some y) (when (has_lower y.number) (part_of_lower nat_eq part names y)))
-      (ap (λ (f : Filesystem ℕ). is_among nat_eq f.number used) (sym low.0) ∙ low.1)
-      ∙ ap (λ b. when b (part_of_lower nat_eq part names y))
-      (ap (λ (f : Filesystem ℕ). has_lower f.number) (sym low.0) ∙ low.2)
-      ∙ ap Some (subst (λ (f : Filesystem ℕ). part_of_lower nat_eq part names f ≡ f) low.0
-      (lower_again x m low.1 low.2))) (shown_how world names x y e)
+  shown_again x y m e = cc (
+    same_used world names,
+    same_lowers world names,
+    ⊎_elim (λ same. ap (λ b. cond b (Some y) (when (has_lower y.number) (part_of_lower nat_eq part names y)))
+        (ap (λ (f : Filesystem ℕ). is_among nat_eq f.number used) (sym same.0) ∙ same.1))
+        (λ low. ap (λ b. cond b (Some y) (when (has_lower y.number) (part_of_lower nat_eq part names y)))
+        (ap (λ (f : Filesystem ℕ). is_among nat_eq f.number used) (sym low.0) ∙ low.1) ∙
+        ap (λ b. when b (part_of_lower nat_eq part names y)) (ap (λ (f : Filesystem ℕ). has_lower f.number) (sym low.0)
+        ∙ low.2) ∙ ap Some (subst (λ (f : Filesystem ℕ). part_of_lower nat_eq part names f ≡ f) low.0
+        (lower_again x m low.1 low.2))) (shown_how world names x y e),
+  )
 
   pub same_shown : filter_map (part_of_filesystem nat_eq part names) part.filesystems ≡ part.filesystems
   same_shown = search world.filesystems (λ x m. m)

@@ -96,11 +96,10 @@ module _ {world : World ℕ} {names : List TaskName} (sealing : IsSealed world n
         let from = among-from_filter (lies_in_own_lower nat_eq world names x.number) x.files.numbers object
         (among_numbers chosen object in_cut.1) in
         let at = any_among (lies_in_layer nat_eq world x.number object) lowers from.1 in
-        let both = and_parts (nat_eq x.number at.0.filesystem)
-        (is_under nat_eq (filesystem_numbered nat_eq world x.number).files at.0.directory object) at.2 in
-        let under : is_under nat_eq x.files at.0.directory object ≡ true =
-        sym (ap (λ (f : Filesystem ℕ). is_under nat_eq f.files at.0.directory object)
-        (itself world names sealing.is x m unused low)) ∙ both.1 in
+        let both = and_parts (nat_eq x.number at.0.filesystem) (is_under nat_eq
+        (filesystem_numbered nat_eq world x.number).files at.0.directory object) at.2 in
+        let under : is_under nat_eq x.files at.0.directory object ≡ true = cc
+        (itself world names sealing.is x m unused low, both.1) in
         by at.0 at.1 both.0 under (nat_eq at.0.directory object) refl
       where
         by : (layer : Layer ℕ) → Among layer lowers → nat_eq x.number layer.filesystem ≡ true
@@ -125,10 +124,12 @@ module _ {world : World ℕ} {names : List TaskName} (sealing : IsSealed world n
   whole : (chosen : Bool) (y : Filesystem ℕ) → Among y part.filesystems → only_used nat_eq part chosen y ≡ y
   whole chosen y n =
       let from = among-from_filter_map (part_of_filesystem nat_eq world names) world.filesystems y n in
-      ⊎_elim (λ same. subst (λ (f : Filesystem ℕ). only_used nat_eq part chosen f ≡ f) same.0
-      (used_whole apart sealing.sealed_off sees (part_one_number world names sealing.is) from.0 from.1
-      same.1 chosen)) (λ low. subst (λ (f : Filesystem ℕ). only_used nat_eq part chosen f ≡ f) low.0
-      (lower_whole from.0 from.1 low.1 low.2 chosen)) (shown_how world names from.0 y from.2)
+      ⊎_elim (λ same. cc (
+        same.0,
+        used_whole apart sealing.sealed_off sees (part_one_number world names sealing.is)
+            from.0 from.1 same.1 chosen,
+      )) (λ low. cc (low.0, lower_whole from.0 from.1 low.1 low.2 chosen))
+      (shown_how world names from.0 y from.2)
 
   inodes_live : (chosen : Filesystem ℕ → Bool) → without_dead_in nat_eq chosen part ≡ part
   inodes_live chosen = ap (λ list. record part { filesystems = list })
@@ -151,15 +152,14 @@ module _ {world : World ℕ} {names : List TaskName} (sealing : IsSealed world n
           cc (any_from_among (is_member_of nat_eq group) part.mounts own.0
           (among-filter_map (keep world names (members world names)) world.mounts own.0 own.0 from.0
           (own_whole world names sealing.is own.0 from.1)) own.2)
-      same group false e =
-          none (has_members nat_eq part.mounts group) (part.master group) (ap (λ b. cond b (world.master group) None) e)
+      same group false e = none (has_members nat_eq part.mounts group) (part.master group) (cc)
 
   pub part_settled : settled nat_eq part ≡ part
   part_settled = grind (arith, common_steps, mounts_live, filesystems_live, inodes_live, groups_live)
 
 -- what a filter leaves passes
 all_left : {A : Type 0} (p : A → Bool) (xs : List A) → filter p xs ≡ xs → list_all p xs ≡ true
-all_left p xs e = list_all_from_among p xs (λ x m. (among-from_filter p xs x (subst (Among x) (sym e) m)).1)
+all_left p xs e = list_all_from_among p xs (λ x m. (among-from_filter p xs x (rw e m)).1)
 
 all_used : (used : List ℕ) (y : Filesystem ℕ) → only_used_of nat_eq used y ≡ y
     → list_all (λ n. is_among nat_eq n used) y.files.numbers ≡ true
@@ -185,10 +185,13 @@ module _ {world : World ℕ} {names : List TaskName} (sealing : IsSealed world n
       by group none true e =
           let own = any_among (is_member_of nat_eq group) (own_mounts nat_eq world names) e in
           let from = among-from_filter (is_own_mount nat_eq world names) world.mounts own.0 own.1 in
-          absurd (true≢false (sym (any_from_among (is_member_of nat_eq group) (part_of nat_eq world names).mounts own.0
-          (among-filter_map (keep world names (members world names)) world.mounts own.0 own.0 from.0
-          (own_whole world names sealing.is own.0 from.1)) own.2) ∙ none))
-      by group none false e = ap (λ b. cond b (world.master group) None) e
+          cc (
+            any_from_among (is_member_of nat_eq group) (part_of nat_eq world names).mounts own.0
+                (among-filter_map (keep world names (members world names)) world.mounts own.0 own.0 from.0
+                (own_whole world names sealing.is own.0 from.1)) own.2,
+            none,
+          )
+      by group none false e = cc
 
 pub part_is_settled : PartIsSettled
 part_is_settled world names is sealed_off = part_settled (sealed_by is sealed_off)

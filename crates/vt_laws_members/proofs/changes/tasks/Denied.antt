@@ -29,8 +29,7 @@ module _ {world : World ℕ} {names : List TaskName} {name : TaskName} {call : C
   pub by_runs : (found : Option (Task ℕ)) → task_called world name ≡ found
       → EndAlike (grown names name call (ran name call world fresh found).answer) (ran name call world fresh found)
       (ran name call part other found) → EndsAlike world names name call fresh other
-  by_runs found e alike = ended_alike names name call (ap (ran name call world fresh) e)
-      (ap (ran name call part other) (same_caller (sealing_of it) name it.theirs ∙ e)) alike
+  by_runs found e alike = ended_alike names name call (cc) (cc (same_caller (sealing_of it) name it.theirs)) alike
 
   pub unnamed_ends_alike : task_called world name ≡ None → EndsAlike world names name call fresh other
   unnamed_ends_alike e = by_runs None e (record { answer = refl; part = sym (part_again world names it.is) })
@@ -48,7 +47,7 @@ module _ {world : World ℕ} {names : List TaskName} {name : TaskName} {call : C
 
   pub ran_there : (task : Task ℕ) → task_called world name ≡ Some task → {j : Judgement ℕ}
       → judge_in nat_eq fresh world task call ≡ j → ran name call part other (Some task) ≡ run_by it part other task j
-  ran_there task e judged = ap (run_by it part other task) (sym (same_judgement task e) ∙ judged)
+  ran_there task e judged = cc (same_judgement task e, judged)
 
   -- a refusal is the end
   refused_by : (w : World ℕ) (supply : Fresh ℕ) (task : Task ℕ) (deny : Deny)

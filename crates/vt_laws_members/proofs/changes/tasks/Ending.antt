@@ -56,10 +56,9 @@ tasks_end_alike world names set name call it task found fresh other answer stays
     let left : World ℕ = record world { tasks = map (raised_task name) tasks; change = raised world.change } in
     let left_too : World ℕ = record part { tasks = map (raised_task name) tasks_too; change = raised part.change } in
     let first : policy nat_eq fresh world name call ≡ granted answer left =
-    ap (ran name call world fresh) found ∙ one ∙ ends_so answer in_world leaves in
+    cc (ends_so answer in_world leaves) in
     let second : policy nat_eq other part name call ≡ granted answer left_too =
-    ap (ran name call part other) (same_caller (sealing_of it) name it.theirs ∙ found) ∙ two
-    ∙ ends_so answer in_part leaves_too in
+    cc (same_caller (sealing_of it) name it.theirs, ends_so answer in_part leaves_too) in
     let parts : part_of nat_eq left set ≡ part_of nat_eq left_too set =
     part_of_ended answer in_world leaves ∙ (λ i. record (sym (part_again world names it.is) i) { tasks = same i })
     ∙ sym (part_of_ended answer in_part leaves_too) in

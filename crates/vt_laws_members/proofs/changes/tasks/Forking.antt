@@ -59,7 +59,7 @@ module _ {world : World ℕ} (names : List TaskName) (name : TaskName) (is : IsW
 
   sift : (xs : List (Task ℕ)) → ((t : Task ℕ) → Among t xs → Among t world.tasks)
       → filter (is_member_task set) (map both xs ++ kid ∷ []) ≡ map both (filter (is_member_task names) xs) ++ kid ∷ []
-  sift [] all = ap (λ b. cond b (kid ∷ []) []) kid_member
+  sift [] all = cc kid_member
   sift (x ∷ xs) all =
       cc (member_alike x (all x (inl refl)), by (is_member_task names x) (sift xs (λ t m. all t (inr m))))
     where
@@ -68,13 +68,13 @@ module _ {world : World ℕ} (names : List TaskName) (name : TaskName) (is : IsW
           → cond b (both x ∷ filter (is_member_task set) (map both xs ++ kid ∷ []))
           (filter (is_member_task set) (map both xs ++ kid ∷ []))
           ≡ map both (cond b (x ∷ filter (is_member_task names) xs) (filter (is_member_task names) xs)) ++ kid ∷ []
-      by true later = ap (λ l. both x ∷ l) later
+      by true later = cc
       by false later = later
 
   pub raised_all : (xs : List (Task ℕ))
       → map (raised_task name) (map replaced xs ++ child ∷ []) ≡ map both xs ++ kid ∷ []
   raised_all [] = refl
-  raised_all (x ∷ xs) = ap (λ l. both x ∷ l) (raised_all xs)
+  raised_all (x ∷ xs) = cc (raised_all xs)
 
   -- in a world with some of these tasks, the caller among them
   module _ (w : World ℕ) (within : (t : Task ℕ) → Among t w.tasks → Among t world.tasks)
@@ -106,10 +106,13 @@ module _ {world : World ℕ} (names : List TaskName) (name : TaskName) (is : IsW
 
     own_same : (n : ℕ) → list_any (λ (t : Task ℕ). nat_eq n t.namespace) (members ended set)
         ≡ list_any (λ (t : Task ℕ). nat_eq n t.namespace) old
-    own_same n = any_new (λ (t : Task ℕ). nat_eq n t.namespace)
-        (λ t m. ap (nat_eq n) (raised_is name (λ (x : Task ℕ). x.namespace) (λ x. refl) (replaced t)
-        ∙ replaced_is (λ (x : Task ℕ). x.namespace) refl t m))
-        (λ h. sym (ap (nat_eq n) (raised_is name (λ (x : Task ℕ). x.namespace) (λ x. refl) child)) ∙ h)
+    own_same n =
+        any_new (λ (t : Task ℕ). nat_eq n t.namespace) (λ t m. cc (
+          raised_is name (λ (x : Task ℕ). x.namespace)
+              (λ x. refl) (replaced t),
+          replaced_is (λ (x : Task ℕ). x.namespace) refl t m,
+        ))
+        (λ h. cc (raised_is name (λ (x : Task ℕ). x.namespace) (λ x. refl) child))
 
     abbrev stands : Task ℕ → List (Location ℕ)
     stands t = t.root ∷ t.directory ∷ []
@@ -136,7 +139,7 @@ module _ {world : World ℕ} (names : List TaskName) (name : TaskName) (is : IsW
             → (a || (b || list_any p (map (λ descriptor. descriptor.location) task.descriptors))) ≡ true
         fewer true b h = refl
         fewer false true h = refl
-        fewer false false h = absurd (true≢false (sym h))
+        fewer false false h = cc
 
     abbrev shows : Location ℕ → ℕ
     shows location = (mount_at nat_eq w location).filesystem

@@ -27,15 +27,14 @@ module _ (world : World ℕ) (tasks : List (Task ℕ)) (change : ℕ) (is : AllI
     found_too : (filesystem object : ℕ) → Among object (located_in nat_eq world filesystem)
         → Among object (located_in nat_eq later filesystem)
     found_too filesystem object m =
-        let from = among-from_map (λ (l : Location ℕ). l.node)
-        (filter (within filesystem) (all_locations world ++ map root_of world.mounts
-        ++ filter_map (λ (mount : Mount ℕ). mount.mount_point) world.mounts)) object m in
-        let in_it = among-from_filter (within filesystem) (all_locations world ++ map root_of world.mounts
-        ++ filter_map (λ (mount : Mount ℕ). mount.mount_point) world.mounts) from.0 from.1 in
-        subst (λ k. Among k (located_in nat_eq later filesystem)) (sym from.2) (among-map (λ (l : Location ℕ). l.node)
-        (filter (within filesystem) (flat_map locations_of tasks ++ map root_of world.mounts
-        ++ filter_map (λ (mount : Mount ℕ). mount.mount_point) world.mounts)) from.0
-        (among-filter (within filesystem) (flat_map locations_of tasks ++ map root_of world.mounts
+        let from = among-from_map (λ (l : Location ℕ). l.node) (filter (within filesystem)
+        (all_locations world ++ map root_of world.mounts ++ filter_map (λ (mount : Mount ℕ). mount.mount_point)
+        world.mounts)) object m in
+        let in_it = among-from_filter (within filesystem) (all_locations world ++ map root_of world.mounts ++ filter_map
+        (λ (mount : Mount ℕ). mount.mount_point) world.mounts) from.0 from.1 in
+        rw from.2 (among-map (λ (l : Location ℕ). l.node) (filter (within filesystem)
+        (flat_map locations_of tasks ++ map root_of world.mounts ++ filter_map (λ (mount : Mount ℕ). mount.mount_point)
+        world.mounts)) from.0 (among-filter (within filesystem) (flat_map locations_of tasks ++ map root_of world.mounts
         ++ filter_map (λ (mount : Mount ℕ). mount.mount_point) world.mounts) from.0 (wider from.0 in_it.0) in_it.1))
       where
         wider : (location : Location ℕ) → Among location (all_locations world ++ map root_of world.mounts

@@ -95,7 +95,7 @@ module _ {world : World ℕ} {names : List TaskName} {name : TaskName} {path : L
 
     members_alike : filter (is_member_task names) (map (raised_task name) (map replaced world.tasks))
         ≡ filter (is_member_task names) (map (raised_task name) (map replaced part.tasks))
-    members_alike = of_map world.tasks ∙ sym (of_map part.tasks ∙ ap (map each) (same_members world names))
+    members_alike = cc (of_map world.tasks, of_map part.tasks, same_members world names)
       where
         each : Task ℕ → Task ℕ
         each t = raised_task name (replaced t)
@@ -119,12 +119,12 @@ module _ {world : World ℕ} {names : List TaskName} {name : TaskName} {path : L
         → ran name call part fresh (Some task) ≡ opened_with part name moved numbers task file wanted
         → EndsAlike world names name call fresh fresh
     opened_ends one two =
-        let first : policy nat_eq fresh world name call ≡ granted (Opened (free_number task)) (later world) =
-        ap (ran name call world fresh) found ∙ one
-        ∙ ends_so world in_world (λ t m. m) (whole_in_world world names it.is file ground)
-        (theirs_directly world names it.is file ground) in
-        let second : policy nat_eq fresh part name call ≡ granted (Opened (free_number task)) (later part) =
-        ap (ran name call part fresh) (same_caller (sealing_of it) name it.theirs ∙ found) ∙ two ∙ ends_so part in_part
-        its (whole_in_part world names it.is file ground)
-        (used_in_part world names it.is file ground) in
+        let first : policy nat_eq fresh world name call ≡ granted (Opened (free_number task)) (later world) = cc
+        (ends_so world in_world (λ t m. m) (whole_in_world world names it.is file ground)
+        (theirs_directly world names it.is file ground)) in
+        let second : policy nat_eq fresh part name call ≡ granted (Opened (free_number task)) (later part) = cc (
+          same_caller (sealing_of it) name it.theirs,
+          ends_so part in_part its
+              (whole_in_part world names it.is file ground) (used_in_part world names it.is file ground),
+        ) in
         ended_alike names name call first second (record { answer = refl; part = parts_alike })

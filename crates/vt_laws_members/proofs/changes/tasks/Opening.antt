@@ -138,8 +138,7 @@ module _ {world : World ℕ} (names : List TaskName) (name : TaskName) (is : IsW
 
   replaced_is : {A : Type 0} (what : Task ℕ → A) → what new ≡ what task → (t : Task ℕ) → Among t world.tasks
       → what (replaced t) ≡ what t
-  replaced_is what same t m =
-      ⊎_elim (λ its. ap what its.0 ∙ same ∙ ap what its.1) (λ other. ap what other) (replaced_how t m)
+  replaced_is what same t m = ⊎_elim (λ its. cc (its.0, its.1)) (λ other. ap what other) (replaced_how t m)
 
   pub both_named : (t : Task ℕ) → (both t).name ≡ t.name
   both_named t = raised_is name (λ (x : Task ℕ). x.name) (λ x. refl) (replaced t) ∙ name-replaced_if_called new t
@@ -160,22 +159,21 @@ module _ {world : World ℕ} (names : List TaskName) (name : TaskName) (is : IsW
   -- its locations
   were_its : (t : Task ℕ) → Among t world.tasks → (location : Location ℕ) → Among location (locations_of (replaced t))
       → (location ≡ file) ⊎ Among location (locations_of t)
-  were_its t m location at = ⊎_elim (λ its.
-      let here : Among location (locations_of new) = subst (λ x. Among location (locations_of x)) its.0 at in
-      ⊎_elim (λ root. inr (subst (λ x. Among location (locations_of x)) its.1 (inl root)))
+  were_its t m location at =
+      ⊎_elim (λ its. let here : Among location (locations_of new) = subst (λ x. Among location (locations_of x)) its.0
+      at in ⊎_elim (λ root. inr (subst (λ x. Among location (locations_of x)) its.1 (inl root)))
       (λ rest. ⊎_elim (λ directory. inr (subst (λ x. Among location (locations_of x)) its.1 (inr (inl directory))))
       (λ open_file. ⊎_elim inl (λ old. inr (subst (λ x. Among location (locations_of x)) its.1 (inr (inr old))))
-      (was_there descriptor task.descriptors location open_file)) rest) here)
-      (λ same. inr (subst (λ x. Among location (locations_of x)) same at)) (replaced_how t m)
+      (was_there descriptor task.descriptors location open_file)) rest) here) (λ same. inr (rw (← same) at))
+      (replaced_how t m)
 
   stay_its : (t : Task ℕ) → Among t world.tasks → (location : Location ℕ) → Among location (locations_of t)
       → Among location (locations_of (replaced t))
-  stay_its t m location at = ⊎_elim (λ its.
-      let here : Among location (locations_of task) = subst (λ x. Among location (locations_of x)) (sym its.1) at in
-      subst (λ x. Among location (locations_of x)) (sym its.0) (⊎_elim (λ root. inl root)
-      (λ rest. ⊎_elim (λ directory. inr (inl directory))
-      (λ old. inr (inr (stays_there descriptor task.descriptors location old))) rest) here))
-      (λ same. subst (λ x. Among location (locations_of x)) (sym same) at) (replaced_how t m)
+  stay_its t m location at = ⊎_elim (λ its. let here : Among location (locations_of task) = subst
+      (λ x. Among location (locations_of x)) (sym its.1) at in subst (λ x. Among location (locations_of x)) (sym its.0)
+      (⊎_elim (λ root. inl root) (λ rest. ⊎_elim (λ directory. inr (inl directory))
+      (λ old. inr (inr (stays_there descriptor task.descriptors location old))) rest) here)) (λ same. rw same at)
+      (replaced_how t m)
 
   -- in a world with some of these tasks, where the file's mount is whole in the part, and its filesystem used
   module _ (w : World ℕ) (within : (t : Task ℕ) → Among t w.tasks → Among t world.tasks)
@@ -220,18 +218,16 @@ module _ {world : World ℕ} (names : List TaskName) (name : TaskName) (is : IsW
     stay : (location : Location ℕ) → Among location (locations old) → Among location (locations (members ended names))
     stay location m =
         let from = among-from_flat_map locations_of old location m in
-        subst (λ l. Among location (locations l)) (sym theirs_too)
-        (among-flat_map locations_of (map both old) (both from.0) location (among-map both old from.0 from.1)
-        (subst (Among location) (sym (raised_is name locations_of (λ x. refl) (replaced from.0)))
-        (stay_its from.0 (within from.0 (there from.0 from.1)) location from.2)))
+        rw theirs_too (among-flat_map locations_of (map both old) (both from.0) location
+        (among-map both old from.0 from.1) (subst (Among location) (sym (raised_is name locations_of (λ x. refl)
+        (replaced from.0))) (stay_its from.0 (within from.0 (there from.0 from.1)) location from.2)))
 
     at_same : (m : Mount ℕ) → Among m w.mounts
         → (is_own w names old m || is_at nat_eq (roots_and_directories old) m) ≡ false
         → is_at nat_eq (locations (members ended names)) m ≡ is_at nat_eq (locations old) m
     at_same m n none = same_truth (is_at nat_eq (locations (members ended names)) m) (is_at nat_eq (locations old) m)
         (λ h. let at = any_among (λ (l : Location ℕ). nat_eq l.mount m.number) (locations (members ended names)) h in
-        ⊎_elim (λ same. absurd (true≢false (sym (whole m n
-        (sym (ap (λ (l : Location ℕ). nat_eq l.mount m.number) same) ∙ at.2)) ∙ none)))
+        ⊎_elim (λ same. cc (whole m n (sym (ap (λ (l : Location ℕ). nat_eq l.mount m.number) same) ∙ at.2)))
         (λ before. any_from_among (λ (l : Location ℕ). nat_eq l.mount m.number) (locations old) at.0 before at.2)
         (were at.0 at.1)) (λ h. let at = any_among (λ (l : Location ℕ). nat_eq l.mount m.number) (locations old) h in
         any_from_among (λ (l : Location ℕ). nat_eq l.mount m.number) (locations (members ended names)) at.0
@@ -264,11 +260,9 @@ module _ {world : World ℕ} (names : List TaskName) (name : TaskName) (is : IsW
     used_still : (n : ℕ) → Among n (mounted ++ map shows (locations old))
         → Among n (mounted ++ map shows (locations (members ended names)))
     used_still n m = ⊎_elim (among-append_left mounted (map shows (locations (members ended names))) n)
-        (λ at. let l = among-from_map shows (locations old) n at in
-        among-append_right mounted (map shows (locations (members ended names))) n
-        (subst (λ k. Among k (map shows (locations (members ended names)))) (sym l.2)
-        (among-map shows (locations (members ended names)) l.0 (stay l.0 l.1))))
-        (among-append mounted (map shows (locations old)) n m)
+        (λ at. let l = among-from_map shows (locations old) n at in among-append_right mounted
+        (map shows (locations (members ended names))) n (rw l.2 (among-map shows (locations (members ended names)) l.0
+        (stay l.0 l.1)))) (among-append mounted (map shows (locations old)) n m)
 
     direct_by : (p : ℕ → Bool) → list_any p (used_directly nat_eq ended names)
         ≡ list_any p (mounted ++ map shows (locations (members ended names)))

@@ -15,7 +15,7 @@ any_both p (x ∷ xs) ys = grind (arith, common_steps, any_both p xs ys)
 pub any_of_each : {A B : Type 0} (p : B → Bool) (g : A → List B) (xs : List A)
     → list_any p (flat_map g xs) ≡ list_any (λ x. list_any p (g x)) xs
 any_of_each p g [] = refl
-any_of_each p g (x ∷ xs) = any_both p (g x) (flat_map g xs) ∙ ap (λ b. list_any p (g x) || b) (any_of_each p g xs)
+any_of_each p g (x ∷ xs) = cc (any_both p (g x) (flat_map g xs), any_of_each p g xs)
 
 module _ (world : World ℕ) (names set : List TaskName) (tasks : List (Task ℕ)) (change : ℕ) where
   abbrev pub later : World ℕ
@@ -61,7 +61,7 @@ module _ (world : World ℕ) (names set : List TaskName) (tasks : List (Task ℕ
     masters_same : (group : ℕ) → cond (list_any (is_member_of nat_eq group) (own_mounts nat_eq later set))
         (world.master group) None
         ≡ cond (list_any (is_member_of nat_eq group) (own_mounts nat_eq world names)) (world.master group) None
-    masters_same group = ap (λ l. cond (list_any (is_member_of nat_eq group) l) (world.master group) None) owned_same
+    masters_same group = cc owned_same
 
     shown_same : (x : Filesystem ℕ) → part_of_filesystem nat_eq later set x ≡ part_of_filesystem nat_eq world names x
     shown_same x i = cond (used_same x.number i) (Some x)

@@ -36,8 +36,7 @@ module _ (world : World ℕ) (names : List TaskName) (f : Task ℕ → Task ℕ)
   there t m = (among-from_filter (is_member_task names) world.tasks t m).0
 
   pub members_changed : members changed names ≡ map f theirs
-  members_changed =
-      filter-map (is_member_task names) f world.tasks (λ t. ap (λ n. is_among same_name n names) (named t))
+  members_changed = filter-map (is_member_task names) f world.tasks (λ t. cc (named t))
 
   pub own_alike : (n : ℕ) → list_any (λ (t : Task ℕ). nat_eq n t.namespace) (members changed names)
       ≡ list_any (λ (t : Task ℕ). nat_eq n t.namespace) theirs
@@ -75,15 +74,16 @@ only_task [] one a b m n e = absurd m
 only_task (first ∷ rest) one a b m n e =
     let parts = or_parts (list_any (λ (x : Task ℕ). same_name first.name x.name) rest)
     (any_pair (λ (x y : Task ℕ). same_name x.name y.name) rest) one in
-    ⊎_elim (λ here. ⊎_elim (λ too. here ∙ sym too)
-    (λ later. absurd (differ b later parts.0 (ap (λ (t : Task ℕ). t.name) (sym here) ∙ e))) n)
-    (λ later. ⊎_elim (λ here. absurd (differ a later parts.0 (ap (λ (t : Task ℕ). t.name) (sym here) ∙ sym e)))
-    (λ too. only_task rest parts.1 a b later too e) n) m
+    ⊎_elim (λ here. ⊎_elim (λ too. cc) (λ later. absurd (differ b later parts.0 (cc))) n)
+    (λ later. ⊎_elim (λ here. absurd (differ a later parts.0 (cc))) (λ too. only_task rest parts.1 a b later too e) n) m
   where
     differ : (t : Task ℕ) → Among t rest → list_any (λ (x : Task ℕ). same_name first.name x.name) rest ≡ false
         → first.name ≡ t.name → ⊥
-    differ t m none same = true≢false (sym (ap (same_name first.name) (sym same) ∙ same_name_itself first.name)
-        ∙ none_among (λ (x : Task ℕ). same_name first.name x.name) rest none t m)
+    differ t m none same = true≢false (cc (
+      same_name_itself first.name,
+      none_among
+          (λ (x : Task ℕ). same_name first.name x.name) rest none t m,
+    ))
 
 -- A task with other rights
 module _ {world : World ℕ} {names : List TaskName} {name : TaskName} {call : Call}
@@ -140,8 +140,7 @@ module _ {world : World ℕ} {names : List TaskName} {name : TaskName} {call : C
   rights_end answer fresh other stays one two =
       tasks_end_alike world names names name call it task found fresh other answer stays (map replaced world.tasks)
       (map replaced part.tasks) one two (leaves world (λ t m. m)) (leaves part in_world)
-      (replaced_members both_named world.tasks ∙ sym (replaced_members both_named part.tasks
-      ∙ ap (map both) (same_members world names)))
+      (cc (replaced_members both_named world.tasks, replaced_members both_named part.tasks, same_members world names))
     where
       replaced_members : ((t : Task ℕ) → (both t).name ≡ t.name) → (tasks : List (Task ℕ))
           → filter (is_member_task names) (map (raised_task name) (map replaced tasks))
@@ -184,12 +183,10 @@ pub idle_end_alike : (world : World ℕ) (names : List TaskName) (name : TaskNam
     → ran name call (part_of nat_eq world names) other (Some task)
     ≡ with_tasks (part_of nat_eq world names) name answer (part_of nat_eq world names).tasks
     → EndsAlike world names name call fresh other
-idle_end_alike world names name call it task found fresh other answer stays one two =
-    rights_end it found task refl refl refl refl answer fresh other stays
-    (one ∙ ap (with_tasks world name answer) (sym (itself_again task world.tasks (λ t m e. alone t m e))))
-    (two ∙ ap (with_tasks (part_of nat_eq world names) name answer)
-    (sym (itself_again task (part_of nat_eq world names).tasks
-    (λ t m e. alone t (among-from_filter (is_member_task names) world.tasks t m).0 e))))
+idle_end_alike world names name call it task found fresh other answer stays one two = rights_end it found task refl refl
+    refl refl answer fresh other stays (cc (itself_again task world.tasks (λ t m e. alone t m e)))
+    (cc (itself_again task (part_of nat_eq world names).tasks (λ t m e. alone t
+    (among-from_filter (is_member_task names) world.tasks t m).0 e)))
   where
     alone : (t : Task ℕ) → Among t world.tasks → t.name ≡ task.name → t ≡ task
     alone t m e = only_task world.tasks it.is.tasks.one_task t task m

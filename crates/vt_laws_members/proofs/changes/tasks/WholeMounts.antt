@@ -23,8 +23,7 @@ module _ (world : World ℕ) (names : List TaskName) (is : IsWorld nat_eq world)
   pub whole_in_world : (m : Mount ℕ) → Among m world.mounts → nat_eq file.mount m.number ≡ true
       → (is_own world names (members world names) m
       || is_at nat_eq (roots_and_directories (members world names)) m) ≡ true
-  whole_in_world m n e = subst (λ x. (is_own world names (members world names) x
-      || is_at nat_eq (roots_and_directories (members world names)) x) ≡ true) (ground_is m n e) whole_is
+  whole_in_world m n e = rw (← ground_is m n e) whole_is
 
   pub whole_in_part : (m : Mount ℕ) → Among m its_part.mounts → nat_eq file.mount m.number ≡ true
       → (is_own its_part names (members its_part names) m
@@ -32,19 +31,17 @@ module _ (world : World ℕ) (names : List TaskName) (is : IsWorld nat_eq world)
   whole_in_part m n e =
       let from = among-from_filter_map (keep world names (members world names)) world.mounts m n in
       let same : from.0.number ≡ m.number = sym (kept_number from.0 m from.2) in
-      let its = whole_in_world from.0 from.1 (ap (nat_eq file.mount) same ∙ e) in
-      let it_is : from.0 ≡ m =
-      same_Some from.0 m (sym (kept_whole world names (members world names) from.0 its) ∙ from.2) in
+      let its = whole_in_world from.0 from.1 (cc) in
+      let it_is : from.0 ≡ m = same_Some from.0 m (sym (kept_whole world names (members world names) from.0 its) ∙
+      from.2) in
       ap (λ tasks. is_own world names tasks m || is_at nat_eq (roots_and_directories tasks) m)
-      (same_members world names) ∙ subst (λ x. (is_own world names (members world names) x
-      || is_at nat_eq (roots_and_directories (members world names)) x) ≡ true) it_is its
+      (same_members world names) ∙ subst (λ x. (is_own world names (members world names) x || is_at nat_eq
+      (roots_and_directories (members world names)) x) ≡ true) it_is its
     where
       kept_number : (x y : Mount ℕ) → keep world names (members world names) x ≡ Some y → y.number ≡ x.number
-      kept_number x y k = ⊎_elim (λ same. ap (λ (z : Mount ℕ). z.number) (sym same))
-          (λ stub. ap (λ (z : Mount ℕ). z.number) (sym stub.0)) (kept_how world names (members world names) x y k)
+      kept_number x y k = ⊎_elim (λ same. cc) (λ stub. cc stub.0) (kept_how world names (members world names) x y k)
 
   pub used_in_part : Among (mount_at nat_eq its_part file).filesystem (used_directly nat_eq its_part names)
-  used_in_part = subst (λ n. Among n (used_directly nat_eq its_part names))
-      (sym (ap (λ (m : Mount ℕ). m.filesystem) (same_mount world names is.mounts file.mount ground)))
+  used_in_part = rw (ap (λ (m : Mount ℕ). m.filesystem) (same_mount world names is.mounts file.mount ground))
       (subst (Among (mount_at nat_eq world file).filesystem) (sym (same_directly world names))
       (theirs_directly world names is file ground))

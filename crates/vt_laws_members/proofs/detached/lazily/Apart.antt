@@ -79,9 +79,11 @@ module _ {world : World ℕ} {names : List TaskName} {gone : List ℕ} (go : The
     master_reached : (m : Mount ℕ) → is_going nat_eq gone m.number ≡ false
         → ((s : ℕ) → source_of m.propagation ≡ Some s → P s) → (g : ℕ) → master_of here (after m).propagation ≡ Some g
         → P g
-    master_reached m stays start g e = from_kind b m.propagation start g
-        (sym (told (cond b (inherited nat_eq t m.propagation) m.propagation))
-        ∙ ap (master_of here) (sym (kind_after m stays)) ∙ e)
+    master_reached m stays start g e = from_kind b m.propagation start g (cc (
+      told (cond b
+          (inherited nat_eq t m.propagation) m.propagation),
+      kind_after m stays,
+    ))
 
   -- In the world
 
@@ -91,14 +93,12 @@ module _ {world : World ℕ} {names : List TaskName} {gone : List ℕ} (go : The
       × (holds_of p x.namespace ≡ true)
   was p y m h =
       let from = among-from_map after world.mounts y m in
-      let placed : holds_of p (after from.0).namespace ≡ true =
-      ap (λ (q : Mount ℕ). holds_of p q.namespace) (sym from.2) ∙ h in
-      ⊎_elim (λ out. absurd (true≢false (sym placed ∙ ap (holds_of p) out.0)))
-      (λ stays. (from.0, from.1, from.2, stays.2, ap (holds_of p) (sym stays.0) ∙ placed))
+      let placed : holds_of p (after from.0).namespace ≡ true = cc from.2 in
+      ⊎_elim (λ out. cc out.0) (λ stays. (from.0, from.1, from.2, stays.2, cc stays.0))
       (placed_so b t world gone from.0)
 
   group_was : (x : Mount ℕ) (g : ℕ) → group_of (after x).propagation ≡ Some g → group_of x.propagation ≡ Some g
-  group_was x g e = member_group g x (member_was b t world gone g x (ap (holds_of (nat_eq g)) e ∙ eq-eqb g g refl))
+  group_was x g e = member_group g x (member_was b t world gone g x (cc (eq-eqb g g refl)))
 
   -- a mount receives nothing from one that is a member of none of these groups
   none_held : (z : Mount ℕ) (o : Option ℕ) → ((g : ℕ) → o ≡ Some g → is_member_of nat_eq g z ≡ true → ⊥)
@@ -124,24 +124,20 @@ module _ {world : World ℕ} {names : List TaskName} {gone : List ℕ} (go : The
       let in_other = among-from_filter (λ (q : Mount ℕ). holds_of IsOther q.namespace) here.mounts z n in
       let x = was (is_own_namespace nat_eq world names) y in_own.0 in_own.1 in
       let u = was IsOther z in_other.0 in_other.1 in
-      let mine : Among x.0 (own_mounts nat_eq world names) =
-      among-filter (is_own_mount nat_eq world names) world.mounts x.0 x.1 x.4 in
-      let other : Among u.0 (other_mounts nat_eq world names) =
-      among-filter (λ (q : Mount ℕ). holds_of IsOther q.namespace) world.mounts u.0 u.1 u.4 in
+      let mine : Among x.0 (own_mounts nat_eq world names) = among-filter (is_own_mount nat_eq world names) world.mounts
+      x.0 x.1 x.4 in
+      let other : Among u.0 (other_mounts nat_eq world names) = among-filter
+      (λ (q : Mount ℕ). holds_of IsOther q.namespace) world.mounts u.0 u.1 u.4 in
       or_from (receives_events_of nat_eq here y z) (receives_events_of nat_eq here z y)
       (hears_not (IsHeard go.sealing) y z (λ g e. heard_by_own go.sealing x.0 mine g
-      (source_from_group x.0.propagation g (group_was x.0 g (ap (λ (q : Mount ℕ). group_of q.propagation) (sym x.2)
-      ∙ e)))) (λ g e. master_reached (IsHeard go.sealing) (above_heard go.sealing) x.0 x.3
-      (heard_by_own go.sealing x.0 mine) g (ap (λ (q : Mount ℕ). master_of here q.propagation) (sym x.2) ∙ e))
-      (λ g heard h. none_hears world names go.is.mounts events g u.0 heard.0 other
-      (member_was b t world gone g u.0 (ap (is_member_of nat_eq g) (sym u.2) ∙ h))))
-      (hears_not (OtherLives world names go.is.mounts events) z y (λ g e. start u.0 u.1 other g
-      (source_from_group u.0.propagation g (group_was u.0 g (ap (λ (q : Mount ℕ). group_of q.propagation) (sym u.2)
-      ∙ e)))) (λ g e. master_reached (OtherLives world names go.is.mounts events)
-      (other_above world names go.is.mounts events) u.0 u.3 (start u.0 u.1 other) g
-      (ap (λ (q : Mount ℕ). master_of here q.propagation) (sym u.2) ∙ e))
-      (λ g lives h. none_other world names go.is.mounts events g x.0 lives.0 mine
-      (member_was b t world gone g x.0 (ap (is_member_of nat_eq g) (sym x.2) ∙ h))))
+      (source_from_group x.0.propagation g (group_was x.0 g (cc x.2))))
+      (λ g e. master_reached (IsHeard go.sealing) (above_heard go.sealing) x.0 x.3 (heard_by_own go.sealing x.0 mine) g
+      (cc x.2)) (λ g heard h. none_hears world names go.is.mounts events g u.0 heard.0 other
+      (member_was b t world gone g u.0 (cc u.2)))) (hears_not (OtherLives world names go.is.mounts events) z y
+      (λ g e. start u.0 u.1 other g (source_from_group u.0.propagation g (group_was u.0 g (cc u.2))))
+      (λ g e. master_reached (OtherLives world names go.is.mounts events) (other_above world names go.is.mounts events)
+      u.0 u.3 (start u.0 u.1 other) g (cc u.2)) (λ g lives h. none_other world names go.is.mounts events g x.0 lives.0
+      mine (member_was b t world gone g x.0 (cc x.2))))
     where
       start : (q : Mount ℕ) → Among q world.mounts → Among q (other_mounts nat_eq world names) → (s : ℕ)
           → source_of q.propagation ≡ Some s → OtherLives world names go.is.mounts events s

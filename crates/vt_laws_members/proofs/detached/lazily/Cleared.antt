@@ -10,7 +10,7 @@ module _ (w : World ℕ) where
   members = has_members nat_eq w.mounts
 
   master_same : (group : ℕ) → members group ≡ true → cleared.master group ≡ w.master group
-  master_same group has = ap (λ b. cond b (w.master group) None) has
+  master_same group has = cc
 
   lives_cleared : (group : ℕ) → Lives members w.master group → Lives members cleared.master group
   lives_cleared group (has_no_master it has e) = has_no_master it has (master_same it has ∙ e)

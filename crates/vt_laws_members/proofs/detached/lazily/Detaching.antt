@@ -18,6 +18,7 @@ use Rattle.vt_laws_members.proofs.changes.letting_go.PartMounts.{part_mounts}
 use Rattle.vt_laws_members.proofs.changes.letting_go.Taken.{taken_parts}
 use Rattle.vt_laws_members.proofs.changes.looks.Told.{ended_alike, ran, same_caller}
 use Rattle.vt_laws_members.proofs.changes.names.NamesEnding.{unused_numbers, unused_serve}
+use Rattle.vt_laws_members.proofs.changes.tasks.ByPermit.{by_permit}
 use Rattle.vt_laws_members.proofs.changes.tasks.Denied.{denial_ends_alike, ran_there, run_by, unnamed_ends_alike}
 use Rattle.vt_laws_members.specs.Detached.Lazily.{LazyUmountsDetachAlike}
 use Rattle.vt_laws_members.proofs.detached.lazily.Order.{same_turns, turns_own}
@@ -26,8 +27,7 @@ use Rattle.vt_laws_members.proofs.changes.letting_go.Regrouped.{TheirsGo}
 
 -- worlds that differ in dead groups are swept to one
 settled_but_groups : (one other : World ℕ) → SameButGroups one other → settled nat_eq one ≡ settled nat_eq other
-settled_but_groups one other same =
-    sym (settled_without_groups one) ∙ ap (settled nat_eq) same ∙ settled_without_groups other
+settled_but_groups one other same = cc (settled_without_groups one, same, settled_without_groups other)
 
 module _ {world : World ℕ} {names : List TaskName} (sealing : IsSealed world names) (name : TaskName) (number : ℕ)
     (there : Among (mount_numbered nat_eq world number) world.mounts)
@@ -51,8 +51,7 @@ module _ {world : World ℕ} {names : List TaskName} (sealing : IsSealed world n
   all_gone : (gone : List ℕ) × TheirsGo world names gone
       × TookAway world (lazily_unmounted nat_eq world number) gone × TookAway part left_there gone
   all_gone = events_alike sealing number turns world part [] (begun world sealing.is.mounts number)
-      (subst (IsUnderWay part in_part number part) same (begun part in_part number))
-      (record { sealing = sealing; own_go = λ m n none. absurd (true≢false (sym none)) })
+      (rw (← same) (begun part in_part number)) (record { sealing = sealing; own_go = λ m n none. cc })
       (took_none world sealing.is.mounts) (took_none part in_part) (turns_own sealing number there own)
 
   abbrev gone : List ℕ
@@ -92,19 +91,15 @@ module _ {world : World ℕ} {names : List TaskName} {name : TaskName} {path : L
 
   -- its mount is in the caller's namespace
   in_callers : (mount_numbered nat_eq world number).namespace ≡ Some task.namespace
-  in_callers =
-      (all_permits_fit world (unused_numbers world) task (Lazy path) (ToUnmountLazily number) it.is (unused_serve world)
-      (ap (task_called world) (sym (name_found world name task found)) ∙ found) refl judged).names.0
+  in_callers = (all_permits_fit world (unused_numbers world) task (Lazy path) (ToUnmountLazily number) it.is
+      (unused_serve world) (cc (name_found world name task found)) refl judged).names.0
 
   is_there : Among (mount_numbered nat_eq world number) world.mounts
-  is_there = ⊎_elim (λ m. m)
-      (λ none. none_is_some task.namespace (sym (ap (λ (m : Mount ℕ). m.namespace) none) ∙ in_callers))
-      (found_or_none world.mounts number)
+  is_there = ⊎_elim (λ m. m) (λ none. none_is_some task.namespace (cc in_callers)) (found_or_none world.mounts number)
 
   is_theirs : is_own world names (members world names) (mount_numbered nat_eq world number) ≡ true
-  is_theirs = in_own world names it.is task (caller_in it found).among
-      (mount_numbered nat_eq world number)
-      (ap (holds_of (nat_eq task.namespace)) in_callers ∙ eq-eqb task.namespace task.namespace refl)
+  is_theirs = in_own world names it.is task (caller_in it found).among (mount_numbered nat_eq world number)
+      (cc (in_callers, eq-eqb task.namespace task.namespace refl))
 
   abbrev outcome : World ℕ → Outcome ℕ
   outcome w = granted Done (numbers_raised nat_eq w name [] (settled nat_eq (lazily_unmounted nat_eq w number)))
@@ -122,19 +117,8 @@ module _ {world : World ℕ} {names : List TaskName} {name : TaskName} {path : L
       })
 
 pub lazy_umounts_detach_alike : LazyUmountsDetachAlike
-lazy_umounts_detach_alike world names name path it fresh other = by (task_called world name) refl
-  where
-    judged_by : (task : Task ℕ) → task_called world name ≡ Some task → (j : Judgement ℕ)
-        → judge_in nat_eq fresh world task (Lazy path) ≡ j → EndsAlike world names name (Lazy path) fresh other
-    judged_by task e (Ok permit) judged =
-        let its = detaches world fresh task path (Lazy path) permit
-        (calls_are_granted nat_eq (looks_of nat_eq world) (overfills nat_eq fresh world task) task (Lazy path) permit
-        judged) refl in
-        granted_ends it fresh other e (judged ∙ ap Ok its.1)
-    judged_by task e (Err deny) judged = denial_ends_alike it fresh other
-        (ap (λ o. is_ok (ran name (Lazy path) world fresh o).answer) e
-        ∙ ap (λ j. is_ok (run_by it world fresh task j).answer) judged)
-
-    by : (o : Option (Task ℕ)) → task_called world name ≡ o → EndsAlike world names name (Lazy path) fresh other
-    by None e = unnamed_ends_alike it fresh other e
-    by (Some task) e = judged_by task e (judge_in nat_eq fresh world task (Lazy path)) refl
+lazy_umounts_detach_alike world names name path it fresh other = by_permit it fresh other refl
+    (λ task e permit judged. let its = detaches world fresh task path (Lazy path) permit
+    (calls_are_granted nat_eq (looks_of nat_eq world) (overfills nat_eq fresh world task) task (Lazy path) permit
+    judged) refl in
+    granted_ends it fresh other e (judged ∙ ap Ok its.1))

@@ -54,8 +54,7 @@ module _ (world : World ℕ) (names : List TaskName) (invariants : MountInvarian
 
   children_alike : (number : ℕ) → On number → children nat_eq part.mounts number ≡ children nat_eq world.mounts number
   children_alike number own = filter_both kept (stands_on nat_eq number) (stands_on nat_eq number) world.mounts
-      (λ x m h. (own_whole x (child_own number x own m h), h)) (λ x y m h e.
-      ⊎_elim (λ same. ap (stands_on nat_eq number) (sym same) ∙ h) (λ stub. ap (stands_on nat_eq number) (sym stub.0))
+      (λ x m h. (own_whole x (child_own number x own m h), h)) (λ x y m h e. ⊎_elim (λ same. cc) (λ stub. cc stub.0)
       (kept_how world names theirs x y e))
 
   -- Receivers
@@ -66,21 +65,17 @@ module _ (world : World ℕ) (names : List TaskName) (invariants : MountInvarian
     where
       side : Among receiver world.mounts → (group : ℕ) → group_of mount.propagation ≡ Some group
           → receives nat_eq world group receiver ≡ true → (o : Option ℕ) → receiver.namespace ≡ o → owns receiver ≡ true
-      side there group e hears None f = absurd (true≢false (sym hears
-          ∙ ap (holds_of (λ source. is_among nat_eq group (groups_up world source)))
-          (alone_source world receiver invariants there f)))
+      side there group e hears None f = cc (alone_source world receiver invariants there f)
       side there group e hears (Some n) f = which (is_own_namespace nat_eq world names n) refl
         where
           which : (b : Bool) → is_own_namespace nat_eq world names n ≡ b → owns receiver ≡ true
-          which true its = ap (holds_of (is_own_namespace nat_eq world names)) f ∙ its
-          which false other = absurd (true≢false
-              (sym hears ∙ no_event_of_theirs_reaches_others world names mount receiver group apart
-              (contains_from_among (own_mounts nat_eq world names) mount
-              (among-filter (is_own_mount nat_eq world names) world.mounts mount m own))
-              (contains_from_among (other_mounts nat_eq world names) receiver
+          which true its = cc
+          which false other =
+              absurd (true≢false (sym hears ∙ no_event_of_theirs_reaches_others world names mount receiver group apart
+              (contains_from_among (own_mounts nat_eq world names) mount (among-filter (is_own_mount nat_eq world names)
+              world.mounts mount m own)) (contains_from_among (other_mounts nat_eq world names) receiver
               (among-filter (λ (x : Mount ℕ). holds_of (λ k. not (is_own_namespace nat_eq world names k)) x.namespace)
-              world.mounts receiver there
-              (ap (holds_of (λ k. not (is_own_namespace nat_eq world names k))) f ∙ ap not other))) e))
+              world.mounts receiver there (cc))) e))
 
       by : (o : Option ℕ) → group_of mount.propagation ≡ o
           → Among receiver (unwrap_or (option_map (receivers nat_eq world) o) [])
@@ -182,8 +177,7 @@ module _ (world : World ℕ) (names : List TaskName) (invariants : MountInvarian
 
       which : (child : Mount ℕ) → child_at nat_eq world.mounts at ≡ Some child → (b : Bool) → when b child ≡ Some gone
           → Among gone world.mounts × (owns gone ≡ true)
-      which child f true e = subst (λ (x : Mount ℕ). Among x world.mounts × (owns x ≡ true)) (same_Some child gone e)
-          (standing_own at child (own_theirs receiver m own) f)
+      which child f true e = rw (← same_Some child gone e) (standing_own at child (own_theirs receiver m own) f)
       which child f false e = none_is_some gone e
 
       by : (o : Option (Mount ℕ)) → child_at nat_eq world.mounts at ≡ o

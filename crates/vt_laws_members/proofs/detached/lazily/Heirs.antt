@@ -13,11 +13,11 @@ module _ {A : Type 0} (next : A → Option A) where
   end_of most a = last_or a (chain most next a)
 
   pub end-more : (most : ℕ) (a b : A) → next a ≡ Some b → end_of (suc most) a ≡ end_of most b
-  end-more most a b e = ap (last_or a) (chain_goes_on next most a b e) ∙ last_of_chain next most b a
+  end-more most a b e = cc (chain_goes_on next most a b e, last_of_chain next most b a)
 
   pub end-here : (most : ℕ) (a : A) → next a ≡ None → end_of most a ≡ a
   end-here zero a e = refl
-  end-here (suc most) a e = ap (last_or a) (chain_ends next most a e)
+  end-here (suc most) a e = cc (chain_ends next most a e)
 
 module _ (master : ℕ → Option ℕ) where
   -- the end of a chain has no master
@@ -32,7 +32,7 @@ module _ (master : ℕ → Option ℕ) where
     where
       by : (o : Option ℕ) → master source ≡ o → is_some o ≡ false → master source ≡ None
       by None f e = f
-      by (Some above) f e = absurd (true≢false e)
+      by (Some above) f e = cc
 
   -- a chain that came to its end goes no further
   chain_same : (n m source : ℕ) → n ≤ m → Ends n source → chain m master source ≡ chain n master source
@@ -57,9 +57,9 @@ module _ (master : ℕ → Option ℕ) where
     one_up n group ends fails = by n ends (master group) refl
       where
         by : (n : ℕ) → Ends n group → (o : Option ℕ) → master group ≡ o → find p (chain n master group) ≡ found_from n o
-        by zero ends None e = ap (λ b. cond b (Some group) None) fails
-        by zero ends (Some next) e = absurd (true≢false (sym (ap is_some e) ∙ ends))
-        by (suc n) ends None e = ap (find p) (chain_ends master n group e) ∙ ap (λ b. cond b (Some group) None) fails
+        by zero ends None e = cc
+        by zero ends (Some next) e = cc
+        by (suc n) ends None e = cc (chain_ends master n group e)
         by (suc n) ends (Some next) e = cc (
           chain_goes_on master n group next e,
           fails,
@@ -103,14 +103,14 @@ module _ (world : World ℕ) where
     group_lives group h =
         let member = any_among (is_member_of nat_eq group) world.mounts h in
         among_from_all (HasLivingGroups nat_eq world) world.mounts live member.0 member.1 group
-        (ap source_of (member_shared group member.0 member.2))
+        (cc (member_shared group member.0 member.2))
 
     -- its masters come to an end within as many steps as there are mounts
     pub living_ends : (group : ℕ) → members group ≡ true → Ends world.master (length world.mounts) group
     living_ends group h =
         let member = any_among (is_member_of nat_eq group) world.mounts h in
         not-true _ (groups_live_at world (tested_live world live) member.0 member.1 group
-        (ap source_of (member_shared group member.0 member.2))).1
+        (cc (member_shared group member.0 member.2))).1
 
 -- where all groups live, nothing is lost
 module _ (world : World ℕ) (live : AllGroupsLive world) where
@@ -124,7 +124,7 @@ module _ (world : World ℕ) (live : AllGroupsLive world) where
           ∙ ap not (live_members world.master (members world) next later)
 
       by : (o : Option ℕ) → source_of mount.propagation ≡ o → lost_a_group nat_eq world mount ≡ false
-      by None e = ap (λ o. is_lost_group nat_eq world o || is_lost_group nat_eq world (then_some o world.master)) e
+      by None e = cc
       by (Some group) e =
           cc (above group (among_from_all (HasLivingGroups nat_eq world) world.mounts live mount m group e))
 

@@ -44,9 +44,8 @@ module _ {world : World ℕ} {names : List TaskName} (sealing : IsSealed world n
       depth_of nat_eq part (mount_numbered nat_eq part k) ≡ depth_of nat_eq world (mount_numbered nat_eq world k)
 
   root_alike : (k : ℕ) → On k → (mount_numbered nat_eq world k).mount_point ≡ None → DeepAlike k
-  root_alike k on e = depth_of_root part (mount_numbered nat_eq part k)
-      (ap (λ (m : Mount ℕ). m.mount_point) (same_mount world names sealing.is.mounts k on) ∙ e) ∙ sym
-      (depth_of_root world (mount_numbered nat_eq world k) e)
+  root_alike k on e = depth_of_root part (mount_numbered nat_eq part k) (cc (same_mount world names sealing.is.mounts k
+      on)) ∙ sym (depth_of_root world (mount_numbered nat_eq world k) e)
 
   deep_alike : (n k : ℕ) → On k → deep k ≤ n → DeepAlike k
   deep_alike zero k on l = by (mount_numbered nat_eq world k).mount_point refl
@@ -63,13 +62,17 @@ module _ {world : World ℕ} {names : List TaskName} (sealing : IsSealed world n
           → ((j : ℕ) → On j → deep j ≤ n → DeepAlike j) → DeepAlike k
       by None e later = root_alike k on e
       by (Some place) e later =
-          let child : deep k ≡ suc (deep place.mount) =
-          rank_child world sealing.is.mounts.one_number sealing.is.mounts.standing k place e in
+          let child : deep k ≡ suc (deep place.mount) = rank_child world sealing.is.mounts.one_number
+          sealing.is.mounts.standing k place e in
           let less : deep place.mount ≤ n = omega (arith, child, l) in
-          depth_of_child part in_part.one_number in_part.standing k place
-          (ap (λ (m : Mount ℕ). m.mount_point) (same_mount world names sealing.is.mounts k on) ∙ e) ∙ ap suc
-          (later place.mount (parent_theirs world names sealing.is.mounts k place on e) less) ∙ sym
-          (depth_of_child world sealing.is.mounts.one_number sealing.is.mounts.standing k place e)
+          cc (
+            depth_of_child part in_part.one_number in_part.standing k place
+                (ap (λ (m : Mount ℕ). m.mount_point) (same_mount world names sealing.is.mounts k on) ∙ e),
+            later place.mount
+                (parent_theirs world names sealing.is.mounts k place on e) less,
+            depth_of_child world
+                sealing.is.mounts.one_number sealing.is.mounts.standing k place e,
+          )
 
   -- a mount of theirs is as deep in the part
   abbrev SameDepth : Mount ℕ → Type 0
@@ -102,22 +105,17 @@ module _ {world : World ℕ} {names : List TaskName} (sealing : IsSealed world n
   sorted_alike (mount ∷ rest) sorted all all_sorted = cc (
     inserted_alike mount (all mount (inl refl)) sorted all_sorted,
     sorted_alike rest (insert_deepest nat_eq world mount sorted) (λ x m. all x (inr m)) (λ x m. ⊎_elim (λ e.
-        subst SameDepth (sym e) (all mount (inl refl))) (all_sorted x) (among_inserted world mount sorted x m)),
+        rw e (all mount (inl refl))) (all_sorted x) (among_inserted world mount sorted x m)),
   )
 
   -- what stands in a tree of theirs is theirs
   tree_own : (n : ℕ) (top x : Mount ℕ) → Among top world.mounts → is_own world names theirs top ≡ true
       → Among x (tree_from nat_eq n world.mounts top) → Among x world.mounts × (is_own world names theirs x ≡ true)
-  tree_own zero top x m own at =
-      ⊎_elim (λ e. subst (λ (y : Mount ℕ). Among y world.mounts × (is_own world names theirs y ≡ true)) (sym e)
-      (m, own)) (λ none. absurd none) at
+  tree_own zero top x m own at = ⊎_elim (λ e. rw e (m, own)) (λ none. absurd none) at
   tree_own (suc n) top x m own at =
-      ⊎_elim (λ e. subst (λ (y : Mount ℕ). Among y world.mounts × (is_own world names theirs y ≡ true)) (sym e)
-      (m, own)) (λ later.
-      let from = among-from_flat_map (tree_from nat_eq n world.mounts)
-      (children nat_eq world.mounts top.number) x later in
-      let child = among-from_filter (stands_on nat_eq top.number) world.mounts from.0 from.1 in
-      tree_own n from.0 x child.0 (child_own world names sealing.is top.number from.0
+      ⊎_elim (λ e. rw e (m, own)) (λ later. let from = among-from_flat_map (tree_from nat_eq n world.mounts)
+      (children nat_eq world.mounts top.number) x later in let child = among-from_filter (stands_on nat_eq top.number)
+      world.mounts from.0 from.1 in tree_own n from.0 x child.0 (child_own world names sealing.is top.number from.0
       (own_theirs world names sealing.is top m own) child.0 child.1) from.2) at
 
   module _ (number : ℕ) (there : Among (mount_numbered nat_eq world number) world.mounts)

@@ -80,28 +80,26 @@ module _ (world : World ℕ) (first second : List ℕ) where
     where
       through : (gone : List ℕ) (goes : Bool) → is_going nat_eq gone place.mount ≡ goes
           → mount_point_of_parent nat_eq world gone place ≡ (if goes then Some below else None)
-      through gone true f = ap (λ b. if b then down place else None) f ∙ e
-      through gone false f = ap (λ b. if b then down place else None) f
+      through gone true f = cc
+      through gone false f = cc
 
       by : (one : Bool) → is_going nat_eq first place.mount ≡ one
           → (other : Bool) → is_going nat_eq second place.mount ≡ other → FallAlike (suc a) (suc b) (suc c) place
       by true f other g = cc (
         end-more falls a place below (through first true f),
         goes,
-        end-more falls_at_once c place below (through (first ++ second) true (goes_at_once place.mount ∙ ap (λ t. t
-            || is_going nat_eq second place.mount) f)),
+        end-more falls_at_once c place below (through (first ++ second) true (cc (goes_at_once place.mount))),
       )
       by false f true g = cc (
         end-here falls (suc a) place (through first false f),
-        end-more falls_then b place (end_of falls (length world.mounts) below) (ap (λ t. if t then (mount_at nat_eq
-            left place).mount_point else None) g ∙ fallen_point place below f e),
+        end-more falls_then b place (end_of falls (length world.mounts) below) (cc (fallen_point place below f e)),
         stays,
         end-more falls_at_once c place below (through (first ++ second) true (goes_at_once place.mount ∙ (λ i. f i
             || g i))),
       )
       by false f false g = cc (
         end-here falls (suc a) place (through first false f),
-        end-here falls_then (suc b) place (ap (λ t. if t then (mount_at nat_eq left place).mount_point else None) g),
+        end-here falls_then (suc b) place (cc),
         end-here falls_at_once (suc c) place (through (first ++ second) false (goes_at_once place.mount ∙ (λ i. f i
             || g i))),
       )
@@ -137,11 +135,10 @@ module _ (world : World ℕ) (first second : List ℕ) where
             let in_first : rank_at below ≤ x.0 = omega (arith, child, more, u) in
             let in_second : rank_at below ≤ y.0 = omega (arith, child, more_then, v) in
             let in_all : rank_at below ≤ z.0 = omega (arith, child, more_at_once, w) in
-            subst (λ k. FallAlike k b c place) (sym u) (subst (λ k. FallAlike (suc x.0) k c place) (sym v)
-            (subst (λ k. FallAlike (suc x.0) (suc y.0) k place) (sym w) (fall_further x.0 y.0 z.0 place below e
-            (later x.0 (suc y.0) z.0 below few_below in_first (omega (arith, in_second)) in_all)
-            (later (length world.mounts) y.0 z.0 below few_below (rank_bounded world one all below.mount)
-            in_second in_all))))
+            rw u (subst (λ k. FallAlike (suc x.0) k c place) (sym v) (subst (λ k. FallAlike (suc x.0) (suc y.0) k place)
+            (sym w) (fall_further x.0 y.0 z.0 place below e (later x.0 (suc y.0) z.0 below few_below in_first
+            (omega (arith, in_second)) in_all) (later (length world.mounts) y.0 z.0 below few_below
+            (rank_bounded world one all below.mount) in_second in_all))))
 
     abbrev points_alike : Option (Location ℕ) → Type 0
     points_alike o =
@@ -153,7 +150,7 @@ module _ (world : World ℕ) (first second : List ℕ) where
     same_points (Some place) =
         let bound = rank_bounded world one all place.mount in
         ap Some (fall_alike (length world.mounts) (length world.mounts) (length left.mounts) (length world.mounts) place
-        bound bound (subst (λ n. rank_at place ≤ n) (sym same_length) bound) bound)
+        bound bound (rw same_length bound) bound)
 
   -- Groups
 
@@ -171,7 +168,7 @@ module _ (world : World ℕ) (first second : List ℕ) where
 
   twice_goes : (mount : Mount ℕ)
       → is_going nat_eq second (after_going nat_eq world first mount).number ≡ is_going nat_eq second mount.number
-  twice_goes mount = ap (is_going nat_eq second) (number-after_going world first mount)
+  twice_goes mount = cc (number-after_going world first mount)
 
   mounts_then : secondly.mounts ≡ map twice world.mounts
   mounts_then = grind (arith, common_steps, mounts-regrouped, map_twice)
@@ -214,19 +211,20 @@ module _ (world : World ℕ) (first second : List ℕ) where
       still false false mount e = e
 
       none : has_members nat_eq firstly.mounts group ≡ false → has_members nat_eq at_once.mounts group ≡ false
-      none e = none_from_among (is_member_of nat_eq group) at_once.mounts (λ x m.
-          let from = among-from_map (after_going nat_eq world (first ++ second)) world.mounts x m in
-          let mount = from.0 in
-          ap (is_member_of nat_eq group) from.2
-          ∙ ap (λ b. holds_of (nat_eq group) (group_if b (mount_point_left nat_eq world (first ++ second)) mount))
-          (goes_at_once mount.number)
-          ∙ still (is_going nat_eq first mount.number) (is_going nat_eq second mount.number) mount
-          (none_among (is_member_of nat_eq group) firstly.mounts e (after_going nat_eq world first mount)
-          (among-map (after_going nat_eq world first) world.mounts mount from.1)))
+      none e = none_from_among (is_member_of nat_eq group) at_once.mounts
+          (λ x m. let from = among-from_map (after_going nat_eq world (first ++ second)) world.mounts x m in let mount =
+          from.0 in cc (
+            from.2,
+            goes_at_once mount.number,
+            still (is_going nat_eq first mount.number)
+                (is_going nat_eq second mount.number) mount (none_among (is_member_of nat_eq group) firstly.mounts e
+                (after_going nat_eq world first mount) (among-map (after_going nat_eq world first) world.mounts mount
+                from.1)),
+          ))
 
       by : (b : Bool) → has_members nat_eq firstly.mounts group ≡ b → has_members nat_eq firstly.mounts group ≡ true
       by true e = e
-      by false e = absurd (true≢false (sym has ∙ none e))
+      by false e = cc (none e)
 
   module _ (live : AllGroupsLive world) where
     live_left : AllGroupsLive left
@@ -236,8 +234,7 @@ module _ (world : World ℕ) (first second : List ℕ) where
     LivesAt group = Lives (has_members nat_eq world.mounts) world.master group
 
     ends_in : (gone : List ℕ) (group : ℕ) → LivesAt group → Ends world.master (length (middle world gone).mounts) group
-    ends_in gone group life =
-        subst (λ n. Ends world.master n group) (sym (length-map world.mounts (after_going nat_eq world gone)))
+    ends_in gone group life = rw (length-map world.mounts (after_going nat_eq world gone))
         (living_ends world live group (live_members world.master (has_members nat_eq world.mounts) group life))
 
     abbrev SameHeir : Option ℕ → Type 0
@@ -264,7 +261,7 @@ module _ (world : World ℕ) (first second : List ℕ) where
           above,
           heir_above at_once group (ends_in (first ++ second) group life) f,
         )
-        by false e true f = absurd (true≢false (sym (members_before group f) ∙ e))
+        by false e true f = cc (members_before group f)
         by false e false f = cc (
           heir_above firstly group (ends_in first group life) e,
           above,
@@ -272,15 +269,15 @@ module _ (world : World ℕ) (first second : List ℕ) where
         )
 
     same_heir : (group : ℕ) → LivesAt group → SameHeir (Some group)
-    same_heir group (has_no_master it has e) = heir_by_master it (has_no_master it has e) (subst SameHeir (sym e) refl)
+    same_heir group (has_no_master it has e) = heir_by_master it (has_no_master it has e) (cc)
     same_heir group (has_master it next has e later) =
-        heir_by_master it (has_master it next has e later) (subst SameHeir (sym e) (same_heir next later))
+        heir_by_master it (has_master it next has e later) (rw e (same_heir next later))
 
     same_kind : (kind : Propagation ℕ) → ((group : ℕ) → source_of kind ≡ Some group → LivesAt group)
         → inherited nat_eq secondly (inherited nat_eq firstly kind) ≡ inherited nat_eq at_once kind
     same_kind (Shared group) lives = refl
     same_kind (Slave master) lives =
-        through (heir nat_eq firstly (Some master)) ∙ ap slave_of_heir (same_heir master (lives master refl))
+        cc (through (heir nat_eq firstly (Some master)), same_heir master (lives master refl))
       where
         through : (o : Option ℕ) → inherited nat_eq secondly (slave_of_heir o) ≡ slave_of_heir (heir nat_eq secondly o)
         through None = refl
@@ -306,16 +303,15 @@ module _ (world : World ℕ) (first second : List ℕ) where
         members_at_first : (b : Bool) → has_members nat_eq world.mounts group ≡ b
             → has_members nat_eq world.mounts group ≡ true
         members_at_first true e = e
-        members_at_first false e = absurd (true≢false (sym has
-            ∙ none_from_among (is_member_of nat_eq group) at_once.mounts (λ x m.
-            let from = among-from_map (after_going nat_eq world (first ++ second)) world.mounts x m in
-            ap (is_member_of nat_eq group) from.2
-            ∙ still (is_going nat_eq (first ++ second) from.0.number) (mount_point_left nat_eq world (first ++ second))
-            from.0 (none_among (is_member_of nat_eq group) world.mounts e from.0 from.1))))
+        members_at_first false e = cc (none_from_among (is_member_of nat_eq group) at_once.mounts
+            (λ x m. let from = among-from_map (after_going nat_eq world (first ++ second)) world.mounts x m in
+            ap (is_member_of nat_eq group) from.2 ∙ still (is_going nat_eq (first ++ second) from.0.number)
+            (mount_point_left nat_eq world (first ++ second)) from.0 (none_among (is_member_of nat_eq group)
+            world.mounts e from.0 from.1)))
 
         above : LivesAt group → SameHeir (world.master group)
-        above (has_no_master it is e) = subst SameHeir (sym e) refl
-        above (has_master it next is e later) = subst SameHeir (sym e) (same_heir next later)
+        above (has_no_master it is e) = cc
+        above (has_master it next is e later) = rw e (same_heir next later)
 
   module _ (kept : MountInvariants nat_eq world) where
     mount_alike : (one other : Bool) (mount : Mount ℕ) → Among mount world.mounts

@@ -21,7 +21,7 @@ use Rattle.vt_laws_sealed.proofs.part.seals.ByPart.{IsSealed}
 
 -- where nothing goes, nothing changes
 none_gone : (w : World ℕ) → MountInvariants nat_eq w → taken_away nat_eq w [] ≡ w
-none_gone w kept = nothing_taken w ∙ ap (λ b. regrouped_by nat_eq b w) (nothing_lost w kept.groups)
+none_gone w kept = cc (nothing_taken w, nothing_lost w kept.groups)
 
 -- worlds that differ in dead groups
 abbrev pub SameButGroups : World ℕ → World ℕ → Type 0
@@ -29,7 +29,7 @@ SameButGroups one other = without_dead_groups nat_eq one ≡ without_dead_groups
 
 pub kept_but_groups : (one other : World ℕ) → SameButGroups one other → MountInvariants nat_eq one
     → MountInvariants nat_eq other
-kept_but_groups one other same kept = keeps_before other (subst (MountInvariants nat_eq) same (cleared_keeps one kept))
+kept_but_groups one other same kept = keeps_before other (rw (← same) (cleared_keeps one kept))
 
 going_but_groups : (one other : World ℕ) → SameButGroups one other → MountInvariants nat_eq one → (mount : Mount ℕ)
     → going nat_eq one mount ≡ going nat_eq other mount
@@ -52,8 +52,7 @@ takes : (start now : World ℕ) (gone : List ℕ) → TookAway start now gone �
     → MountInvariants nat_eq (taken_away nat_eq now list) → TookAway start (taken_away nat_eq now list) (gone ++ list)
 takes start now gone it list kept = record {
   kept = kept;
-  at_once = λ more. taken_twice now list more it.kept ∙ it.at_once (list ++ more)
-      ∙ ap (λ all. without_dead_groups nat_eq (taken_away nat_eq start all)) (sym (append_assoc gone list more));
+  at_once = λ more. cc (taken_twice now list more it.kept, it.at_once (list ++ more), append_assoc gone list more);
 }
 
 module _ {world : World ℕ} {names : List TaskName} (sealing : IsSealed world names) where
@@ -99,8 +98,8 @@ module _ {world : World ℕ} {names : List TaskName} (sealing : IsSealed world n
 
     -- the mount is in both what it is after
     in_there : Among (after mount) there.mounts
-    in_there = subst (λ m. Among m there.mounts) (mount_alike go b mount mine)
-        (among-map after_part part.mounts mount (own_in_part sealing mount mine))
+    in_there =
+        rw (← mount_alike go b mount mine) (among-map after_part part.mounts mount (own_in_part sealing mount mine))
 
     number_after : (after mount).number ≡ mount.number
     number_after = (shape_kept b (left_by world gone) world gone mount).number
@@ -110,25 +109,21 @@ module _ {world : World ℕ} {names : List TaskName} (sealing : IsSealed world n
     found_in w kept m = cc (number_after, found_itself w.mounts kept.one_number (after mount) m)
 
     is_now : mount_numbered nat_eq now mount.number ≡ after mount
-    is_now = found_in now it.kept
-        (subst (λ list. Among (after mount) list) (sym (ap (λ (w : World ℕ). w.mounts) same_here))
-        (among-map after world.mounts mount at))
+    is_now =
+        found_in now it.kept (rw (ap (λ (w : World ℕ). w.mounts) same_here) (among-map after world.mounts mount at))
 
     is_now_there : mount_numbered nat_eq now_part mount.number ≡ after mount
-    is_now_there = found_in now_part it_there.kept
-        (subst (λ list. Among (after mount) list) (sym (ap (λ (w : World ℕ). w.mounts) same_there)) in_there)
+    is_now_there = found_in now_part it_there.kept (rw (ap (λ (w : World ℕ). w.mounts) same_there) in_there)
 
     -- a mount that is attached still is theirs
     own_after : is_some (after mount).namespace ≡ true → is_own world names theirs (after mount) ≡ true
-    own_after h = ⊎_elim (λ out. absurd (true≢false (sym h ∙ ap is_some out.0)))
-        (λ stays. ap (holds_of (λ n. list_any (λ (t : Task ℕ). nat_eq n t.namespace) theirs)) stays.0 ∙ own)
-        (placed_so b (left_by world gone) world gone mount)
+    own_after h = ⊎_elim (λ out. cc out.0) (λ stays. cc stays.0) (placed_so b (left_by world gone) world gone mount)
 
     abbrev list : List ℕ
     list = going nat_eq here (after mount)
 
     list_here : going nat_eq now (mount_numbered nat_eq now mount.number) ≡ list
-    list_here = ap (going nat_eq now) is_now ∙ going_but_groups now here same_here it.kept (after mount)
+    list_here = cc (is_now, going_but_groups now here same_here it.kept (after mount))
 
     list_there : is_some (after mount).namespace ≡ true
         → going nat_eq now_part (mount_numbered nat_eq now_part mount.number) ≡ list
@@ -167,9 +162,7 @@ module _ {world : World ℕ} {names : List TaskName} (sealing : IsSealed world n
         → MountInvariants nat_eq (unmounted_if_there nat_eq now_part mount)
         → (all : List ℕ) × TheirsGo world names all × TookAway world (unmounted_if_there nat_eq now mount) all
         × TookAway part (unmounted_if_there nat_eq now_part mount) all
-    event_alike kept kept_too = by (is_some (after mount).namespace) refl
-        (ap (λ (m : Mount ℕ). is_some m.namespace) is_now) (ap (λ (m : Mount ℕ). is_some m.namespace) is_now_there)
-        kept kept_too
+    event_alike kept kept_too = by (is_some (after mount).namespace) refl (cc is_now) (cc is_now_there) kept kept_too
       where
         by : (c : Bool) → is_some (after mount).namespace ≡ c
             → is_some (mount_numbered nat_eq now mount.number).namespace ≡ is_some (after mount).namespace
@@ -183,22 +176,20 @@ module _ {world : World ℕ} {names : List TaskName} (sealing : IsSealed world n
             all
         by true e f g k l =
             let taken : unmounted_by now (is_some (mount_numbered nat_eq now mount.number).namespace)
-            ≡ taken_away nat_eq now list = ap (unmounted_by now) (f ∙ e) ∙ ap (taken_away nat_eq now) list_here in
+            ≡ taken_away nat_eq now list = cc list_here in
             let taken_too : unmounted_by now_part (is_some (mount_numbered nat_eq now_part mount.number).namespace)
             ≡ taken_away nat_eq now_part list =
-            ap (unmounted_by now_part) (g ∙ e) ∙ ap (taken_away nat_eq now_part) (list_there e) in (
+            cc (list_there e) in (
               gone ++ list,
               own_list e,
-              subst (λ w. TookAway world w (gone ++ list)) (sym taken)
-                  (takes world now gone it list (subst (MountInvariants nat_eq) taken k)),
-              subst (λ w. TookAway part w (gone ++ list)) (sym taken_too)
-                  (takes part now_part gone it_there list (subst (MountInvariants nat_eq) taken_too l)),
+              rw taken (takes world now gone it list (subst (MountInvariants nat_eq) taken k)),
+              rw taken_too (takes part now_part gone it_there list (subst (MountInvariants nat_eq) taken_too l)),
             )
         by false e f g k l = (
           gone,
           go,
-          subst (λ w. TookAway world w gone) (sym (ap (unmounted_by now) (f ∙ e))) it,
-          subst (λ w. TookAway part w gone) (sym (ap (unmounted_by now_part) (g ∙ e))) it_there,
+          rw (ap (unmounted_by now) (f ∙ e)) it,
+          rw (ap (unmounted_by now_part) (g ∙ e)) it_there,
         )
 
   -- All events

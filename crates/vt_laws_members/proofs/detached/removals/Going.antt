@@ -87,12 +87,10 @@ module _ (world : World ℕ) (names : List TaskName) (is : IsWorld nat_eq world)
     not_there x y m h e false f = refl
     not_there x y m h e true f =
         let l = has_point part points y f in
-        absurd (⊎_elim (λ same.
-        let there : Among y world.mounts = subst (λ k. Among k world.mounts) same m in
-        ⊎_elim (λ own. true≢false (sym f ∙ stands_alike y there own points ∙ ap (stands world points) (sym same) ∙ h))
+        absurd (⊎_elim (λ same. let there : Among y world.mounts = subst (λ k. Among k world.mounts) same m in ⊎_elim
+        (λ own. true≢false (sym f ∙ stands_alike y there own points ∙ ap (stands world points) (sym same) ∙ h))
         (λ none. nowhere_stands world names is.mounts y l.0 there none l.1) (part_mount world names is x y m e))
-        (λ stub. none_is_some l.0 (ap (λ (k : Mount ℕ). k.mount_point) stub.0 ∙ l.1))
-        (kept_how world names theirs x y e))
+        (λ stub. none_is_some l.0 (cc (stub.0, l.1))) (kept_how world names theirs x y e))
 
     same_tops : mounts_on nat_eq part gone ≡ tops
     same_tops = ap (λ list. filter (stands part list) part.mounts) same_points

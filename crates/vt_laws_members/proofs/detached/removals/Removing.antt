@@ -60,25 +60,26 @@ module _ {world : World ℕ} {names : List TaskName} {name : TaskName} {call : C
   files = Changes.changed nat_eq old.files it.change
 
   one_filesystem : filesystem_at nat_eq world it.gone ≡ old
-  one_filesystem = ap (λ m. filesystem_numbered nat_eq world (mount_numbered nat_eq world m).filesystem) it.free.beside
+  one_filesystem = cc it.free.beside
 
   on_gone : IsTheirs world names it.is.mounts it.gone.mount
   on_gone = theirs_from world names it.is.mounts it.gone.mount it.free.on
 
   on : IsTheirs world names it.is.mounts it.location.mount
-  on = theirs_from world names it.is.mounts it.location.mount
-      (ap (is_theirs world names) (sym it.free.beside) ∙ it.free.on)
+  on = theirs_from world names it.is.mounts it.location.mount (cc (it.free.beside, it.free.on))
 
   alone : used_alone nat_eq world names (mount_at nat_eq world it.location).filesystem ≡ true
   alone = naming_alone it.naming
 
   only_own : (mount : Mount ℕ) → Among mount (mounts_on nat_eq world it.gone) → (n : ℕ) → mount.namespace ≡ Some n
       → is_own_namespace nat_eq world names n ≡ true
-  only_own = own_here world names it.is it.gone
-      (plain_points world names it.is it.gone (ap (λ (f : Filesystem ℕ). f.overlay) one_filesystem
-      ∙ no_overlay old.overlay plain) (ap (λ (f : Filesystem ℕ). used_alone nat_eq world names f.number) one_filesystem
-      ∙ ap (used_alone nat_eq world names) (found_numbered (mount_at nat_eq world it.location).filesystem
-      world.filesystems) ∙ alone))
+  only_own = own_here world names it.is it.gone (plain_points world names it.is it.gone
+      (cc (one_filesystem, no_overlay old.overlay plain)) (cc (
+        one_filesystem,
+        found_numbered
+            (mount_at nat_eq world it.location).filesystem world.filesystems,
+        alone,
+      )))
 
   abbrev list : List ℕ
   list = going_with world names it.is it.gone on_gone only_own
@@ -96,11 +97,10 @@ module _ {world : World ℕ} {names : List TaskName} {name : TaskName} {call : C
   there = part_after go
 
   same_list : taken_away nat_eq part list ≡ without_mounts_on nat_eq part it.gone
-  same_list = ap (taken_away nat_eq part) (sym (same_going world names it.is it.gone on_gone only_own))
+  same_list = cc (same_going world names it.is it.gone on_gone only_own)
 
   kept_part : MountInvariants nat_eq (taken_away nat_eq part list)
-  kept_part = subst (MountInvariants nat_eq) (sym same_list)
-      (points_keep_mounts part it.gone (part_mounts (sealing_of it.it)))
+  kept_part = rw same_list (points_keep_mounts part it.gone (part_mounts (sealing_of it.it)))
 
   -- the mount of the directory is in the caller's namespace, and stays
   directory_stays : is_own world names (members world names) on.0 ≡ true → is_going nat_eq list on.0.number ≡ false

@@ -61,14 +61,12 @@ module _ {world : World ℕ} {names : List TaskName} {gone : List ℕ} (go : The
     placed = map (λ (l : Location ℕ). (mount_at nat_eq here l).filesystem) (locations theirs)
 
     of_mount : on.0.filesystem ≡ number
-    of_mount = ap (λ (m : Mount ℕ). m.filesystem) (sym (its_mount world names go.is.mounts location.mount on))
+    of_mount = cc (its_mount world names go.is.mounts location.mount on)
 
     by_mount : is_own world names theirs on.0 ≡ true → Among number (used_directly nat_eq here names)
     by_mount own =
-        let own_after : is_own world names theirs (after on.0) ≡ true = ⊎_elim
-        (λ out. absurd (true≢false (sym out.2 ∙ stays own)))
-        (λ its. ap (holds_of (λ n. list_any (λ (t : Task ℕ). nat_eq n t.namespace) theirs)) its.0 ∙ own)
-        (placed_so is_flagged (left_by world gone) world gone on.0) in
+        let own_after : is_own world names theirs (after on.0) ≡ true = ⊎_elim (λ out. cc (out.2, stays own))
+        (λ its. cc its.0) (placed_so is_flagged (left_by world gone) world gone on.0) in
         among-append_left shown placed number (subst (λ n. Among n shown)
         ((shape_kept is_flagged (left_by world gone) world gone on.0).filesystem ∙ of_mount)
         (among-map (λ (m : Mount ℕ). m.filesystem) (own_mounts nat_eq here names) (after on.0)
@@ -80,8 +78,7 @@ module _ {world : World ℕ} {names : List TaskName} {gone : List ℕ} (go : The
     by_task l m e =
         let task = among-from_flat_map (λ (t : Task ℕ). t.root ∷ t.directory ∷ []) theirs l m in
         among-append_right shown placed number (subst (λ n. Among n placed)
-        (filesystem_after (all_stay go is_flagged) on.0 on.1 l e
-        ∙ ap (λ k. (mount_numbered nat_eq world k).filesystem) (e ∙ on.2))
+        (cc (filesystem_after (all_stay go is_flagged) on.0 on.1 l e, on.2))
         (among-map (λ (k : Location ℕ). (mount_at nat_eq here k).filesystem) (locations theirs) l
         (among-flat_map locations_of theirs task.0 l task.1 (⊎_elim (λ root. inl root)
         (λ rest. ⊎_elim (λ directory. inr (inl directory)) (λ none. absurd none) rest) task.2))))

@@ -40,15 +40,14 @@ module _ {world : World ℕ} {names : List TaskName} {gone : List ℕ} (go : The
   is_old = old_number world names go.is number used
 
   old_still : is_among nat_eq old.number used_now ≡ true
-  old_still = ap (λ n. is_among nat_eq n used_now) is_old ∙ still
+  old_still = cc is_old
 
   pub changed_parts : (name : TaskName) → part_of nat_eq (numbers_raised nat_eq world name (old.number ∷ [])
       (settled nat_eq (with_filesystems here (swap old files)))) names ≡ part_of nat_eq (numbers_raised nat_eq part name
       (old.number ∷ []) (settled nat_eq (with_filesystems there (swap old files)))) names
   changed_parts name =
       detached_and_changed go kept_world kept_part (swap old files) (changes_theirs used_now old files
-      (one_in_world world names go.is number used) (alone_here go kept_world kept_part old.number
-      (ap (used_alone nat_eq world names) is_old ∙ alone)) old_still) (changes_theirs used_now old files
-      (one_in_part world names go.is number used) (alone_there go kept_world kept_part old.number) old_still) name
-      (old.number ∷ []) (λ n m. ⊎_elim (λ e. ap (λ k. is_among nat_eq k used_now) e ∙ old_still) (λ none. absurd none)
-      m)
+      (one_in_world world names go.is number used) (alone_here go kept_world kept_part old.number (cc is_old))
+      old_still) (changes_theirs used_now old files (one_in_part world names go.is number used)
+      (alone_there go kept_world kept_part old.number) old_still) name (old.number ∷ [])
+      (λ n m. ⊎_elim (λ e. cc old_still) (λ none. absurd none) m)

@@ -14,7 +14,7 @@ swap_overlaid old files x one = grind (arith, common_steps)
 
 swap_kept : (old : Filesystem ℕ) (files : FileTree ℕ) (x : Filesystem ℕ) → nat_eq old.number x.number ≡ false
     → swap old files x ≡ x
-swap_kept old files x e = ap (λ b. cond b (with_files old files) x) e
+swap_kept old files x e = cc
 
 module _ {a : World ℕ} {set : List TaskName} (used : List ℕ) (old : Filesystem ℕ) (files : FileTree ℕ)
     (one : (x : Filesystem ℕ) → Among x a.filesystems → nat_eq old.number x.number ≡ true → x ≡ old)
@@ -23,21 +23,20 @@ module _ {a : World ℕ} {set : List TaskName} (used : List ℕ) (old : Filesyst
   layered_as x m = swap_overlaid old files x (one x m)
 
   apart : (x : Filesystem ℕ) → is_among nat_eq x.number used ≡ false → nat_eq old.number x.number ≡ false
-  apart x unused = false_from_ne_true (nat_eq old.number x.number) (λ e. true≢false
-      (sym in_use ∙ ap (λ n. is_among nat_eq n used) (eqb-true old.number x.number e) ∙ unused))
+  apart x unused =
+      false_from_ne_true (nat_eq old.number x.number) (λ e. true≢false (cc (eqb-true old.number x.number e)))
 
   moved_or_kept : (x : Filesystem ℕ) (b : Bool) → nat_eq old.number x.number ≡ b
       → (swap old files x ≡ x) ⊎ Alone a set x.number
-  moved_or_kept x true e = inr (subst (Alone a set) (eqb-true old.number x.number e) alone)
+  moved_or_kept x true e = inr (rw (← eqb-true old.number x.number e) alone)
   moved_or_kept x false e = inl (swap_kept old files x e)
 
   pub changes_theirs : ChangesTheirs a set used (swap old files)
   changes_theirs = record {
     numbered = swap_numbered old files;
-    layers = λ x m. ap (overlay_or [] layers_of) (layered_as x m);
-    changing = λ x m. ap (overlay_or [] (λ (overlay : Overlay ℕ). map (λ (layer : Layer ℕ). layer.filesystem)
-        (option_to_list overlay.upper ++ option_to_list overlay.work))) (layered_as x m);
-    lowering = λ x m. ap (overlay_or [] (λ (overlay : Overlay ℕ). overlay.lowers)) (layered_as x m);
+    layers = λ x m. cc (layered_as x m);
+    changing = λ x m. cc (layered_as x m);
+    lowering = λ x m. cc (layered_as x m);
     overlaid = λ x m. ap is_some (layered_as x m);
     kept = λ x unused. swap_kept old files x (apart x unused);
     moved = λ x m. moved_or_kept x (nat_eq old.number x.number) refl;

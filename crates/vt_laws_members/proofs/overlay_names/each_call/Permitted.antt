@@ -17,7 +17,7 @@ use Rattle.vt_laws_members.proofs.changes.tasks.Opening.{opens_end_alike}
 use Rattle.vt_laws_members.proofs.changes.tasks.Rights.{empty_writes_end_alike}
 use Rattle.vt_laws_members.specs.OverlayNames.EachCalls.{EachChmodEndsAlike, EachChownEndsAlike, EachLinkEndsAlike, EachMkdirEndsAlike, EachOpenEndsAlike, EachPartWriteEndsAlike, EachSymlinkEndsAlike, EachUnlinkEndsAlike, EachWriteEndsAlike}
 use Rattle.vt_laws_members.specs.OverlayNames.OverlayNames.{OverlayMakingEndsAlike}
-use Rattle.vt_laws_members.proofs.overlay_names.names.ByPermit.{by_permit}
+use Rattle.vt_laws_members.proofs.changes.tasks.ByPermit.{by_permit}
 use Rattle.vt_laws_members.proofs.overlay_names.names.OverlayEnding.{overlay_links_end_alike, overlay_mkdirs_end_alike, overlay_new_files_end_alike, overlay_symlinks_end_alike, overlay_unlinks_end_alike}
 use Rattle.vt_laws_members.proofs.overlay_names.names.OverlayNewOpens.{overlay_new_opens_end_alike}
 
@@ -166,8 +166,7 @@ each_part_write_ends_alike world names name descriptor offset [] it fresh serves
         → judge_in nat_eq fresh world task (Pwrite descriptor offset []) ≡ Ok permit → WritesPart [] permit
         → EndsAlike world names name (Pwrite descriptor offset []) fresh fresh
     of task called (ToWritePart file at written) judged same =
-        empty_writes_end_alike world names name descriptor offset it task called fresh fresh file at
-        (judged ∙ ap (λ w. Ok (ToWritePart file at w)) same)
+        empty_writes_end_alike world names name descriptor offset it task called fresh fresh file at (cc)
     of task called permit judged none = absurd none
 each_part_write_ends_alike world names name descriptor offset (byte ∷ bytes) it fresh serves =
     fit_ends it fresh refl of

@@ -12,7 +12,7 @@ use Rattle.vt_laws_members.specs.Changes.Changes.{EndsAlike}
 use Rattle.vt_laws_members.proofs.changes.files.FilesEnding.{opaques_end_alike}
 use Rattle.vt_laws_members.proofs.changes.names.NamesEnding.{unused_numbers, unused_serve, whiteouts_end_alike}
 use Rattle.vt_laws_members.specs.OverlayNames.OverlayNames.{AllOpaquesEndAlike, AllWhiteoutsEndAlike}
-use Rattle.vt_laws_members.proofs.overlay_names.names.ByPermit.{by_permit}
+use Rattle.vt_laws_members.proofs.changes.tasks.ByPermit.{by_permit}
 
 -- the permit of setxattr(2) of the mark
 abbrev Marks : Permit ℕ → Type 0
@@ -46,9 +46,8 @@ all_opaques_end_alike world names name path mark it fresh other =
         → EndsAlike world names name call fresh other
     granted_so task called (ToChange location change) marks judged judged_too =
         opaques_end_alike world names name path mark it task called fresh other location change judged
-        (plain_mark world location change marks
-        (permits_ask_well world (unused_numbers world) task call (ToChange location change) it.is (unused_serve world)
-        (ap (task_called world) (sym (name_found world name task called)) ∙ called) judged_too).0)
+        (plain_mark world location change marks (permits_ask_well world (unused_numbers world) task call
+        (ToChange location change) it.is (unused_serve world) (cc (name_found world name task called)) judged_too).0)
     granted_so task called permit none judged judged_too = absurd none
 
 -- the permit of mknod(2) of a whiteout
@@ -75,9 +74,9 @@ all_whiteouts_end_alike world names name path it fresh serves =
         (node : Node ℕ) → is_kind White (kind_of node.content) ≡ true
         → judge_in nat_eq fresh world task call ≡ Ok (ToMake directory entry node) → (b : Bool)
         → is_overlay (filesystem_at nat_eq world directory) ≡ b → EndsAlike world names name call fresh fresh
-    made_so task called directory entry node white judged true is = absurd (true≢false (sym white
-        ∙ (permits_ask_well world fresh task call (ToMake directory entry node) it.is serves
-        (ap (task_called world) (sym (name_found world name task called)) ∙ called) judged).0.1 is))
+    made_so task called directory entry node white judged true is =
+        cc ((permits_ask_well world fresh task call (ToMake directory entry node) it.is serves
+        (ap (task_called world) (sym (name_found world name task called)) ∙ called) judged).0.1 is)
     made_so task called directory entry node white judged false is =
         whiteouts_end_alike world names name path it task called fresh serves directory entry node judged is
 

@@ -13,14 +13,13 @@ ViewsAlike one other = (path : List (List ℕ)) → node_led (view_of one) path 
 module _ (one other : OpenLayer ℕ) (down : one.directory ≡ other.directory) (same : ViewsAlike one other) where
   node_same : (way : List (List ℕ)) (k : ℕ) → led one.tree one.directory way ≡ Some k
       → led other.tree other.directory way ≡ Some k → one.tree.node k ≡ other.tree.node k
-  node_same way k e f = sym (ap (λ o. then_some o one.tree.node) e) ∙ same way ∙ ap (λ o. then_some o other.tree.node) f
+  node_same way k e f = cc (same way)
 
   leads_on : (path way : List (List ℕ)) (k : ℕ) → led one.tree one.directory way ≡ Some k
       → led other.tree other.directory way ≡ Some k → led one.tree k path ≡ led other.tree k path
   leads_on [] way k e f = refl
   leads_on (word ∷ rest) way k e f =
-      ap (λ n. option_and_then (λ next. led one.tree next rest) (entry_named word (entries_in n))) (node_same way k e f)
-      ∙ by (entry_at other.tree k word) refl (leads_on rest (way ++ word ∷ []))
+      cc (node_same way k e f, by (entry_at other.tree k word) refl (leads_on rest (way ++ word ∷ [])))
     where
       by : (o : Option ℕ) → entry_at other.tree k word ≡ o
           → ((next : ℕ) → led one.tree one.directory (way ++ word ∷ []) ≡ Some next
@@ -29,11 +28,10 @@ module _ (one other : OpenLayer ℕ) (down : one.directory ≡ other.directory) 
           → option_and_then (λ next. led one.tree next rest) o ≡ option_and_then (λ next. led other.tree next rest) o
       by None there later = refl
       by (Some next) there later = later next (led-append one.tree one.directory way word k next e
-          (ap (λ n. entry_named word (entries_in n)) (node_same way k e f) ∙ there))
-          (led-append other.tree other.directory way word k next f there)
+          (cc (node_same way k e f))) (led-append other.tree other.directory way word k next f there)
 
   pub leads_alike : (path : List (List ℕ)) → (view_of one).leads path ≡ (view_of other).leads path
-  leads_alike path = leads_on path [] one.directory refl (ap Some (sym down)) ∙ ap (λ d. led other.tree d path) down
+  leads_alike path = cc (leads_on path [] one.directory refl (ap Some (sym down)))
 
   pub cuts_alike : (path : List (List ℕ)) → cuts (view_of one) path ≡ cuts (view_of other) path
   cuts_alike path i = list_any (λ prefix. hides (same prefix i)) (prefixes path)

@@ -28,12 +28,7 @@ pub stepped_run : (before w : World ℕ) (name : TaskName) (call : Call) (supply
     → finished nat_eq before name call (changed_at nat_eq w location)
     (granted Done (with_change nat_eq supply w location change))
     ≡ granted Done (numbers_raised nat_eq before name numbers (settled nat_eq (with_filesystems w step)))
-stepped_run before w name call supply location change step numbers looks made listed =
-    ap (λ b. finished_by nat_eq (b || false) before name (changed_at nat_eq w location)
-    (granted Done (with_change nat_eq supply w location change))) looks
-    ∙ ap (λ l. granted Done (numbers_raised nat_eq before name l
-    (settled nat_eq (with_change nat_eq supply w location change)))) listed
-    ∙ ap (λ v. granted Done (numbers_raised nat_eq before name numbers (settled nat_eq v))) made
+stepped_run before w name call supply location change step numbers looks made listed = cc
 
 -- A granted call by which a name comes or goes through an overlay
 module _ {world : World ℕ} {names : List TaskName} {name : TaskName} {call : Call}
@@ -82,7 +77,7 @@ module _ {world : World ℕ} {names : List TaskName} {name : TaskName} {call : C
       one : ran name call world naming.fresh (Some naming.task)
           ≡ finished nat_eq world name call (changed_at nat_eq world naming.location)
           (granted Done (with_change nat_eq supply world naming.location naming.change))
-      one = ap (run_by naming.it world naming.fresh naming.task) naming.judged ∙ runs
+      one = cc naming.judged
 
       two : ran name call part naming.fresh (Some naming.task)
           ≡ finished nat_eq part name call (changed_at nat_eq part naming.location)

@@ -45,9 +45,11 @@ module _ {world : World ℕ} {names : List TaskName} (sealing : IsSealed world n
   no_layer : wholly_locked nat_eq world names number ≡ true → ⊥
   no_layer locked =
       let how = whole_how sealing number locked in
-      true≢false (sym (ap (λ o. is_some o) overlaid)
-      ∙ ap (λ n. is_overlay (filesystem_numbered nat_eq world n)) how.inside ∙ layer_plain world names sealing.is
-      how.merged (among-from_filter is_overlay world.filesystems how.merged how.overlaid).0 how.layer how.layered)
+      true≢false (cc (
+        how.inside,
+        layer_plain world names sealing.is how.merged
+            (among-from_filter is_overlay world.filesystems how.merged how.overlaid).0 how.layer how.layered,
+      ))
 
   pub merged_alone : used_alone nat_eq world names number ≡ true
   merged_alone = free number (used_directly_used world names number direct) no_layer
@@ -57,8 +59,8 @@ module _ {world : World ℕ} {names : List TaskName} (sealing : IsSealed world n
       → used_alone nat_eq world names upper.filesystem ≡ true
   upper_alone upper has = free upper.filesystem (upper_in_use world names number overlay upper overlaid has direct)
       (not_whole sealing (filesystem_numbered nat_eq world number) (overlay_there world names sealing.is number overlay
-      overlaid) overlaid upper (among-append_left (option_to_list overlay.upper) (option_to_list overlay.work)
-      upper (subst (λ o. Among upper (option_to_list o)) (sym has) (inl refl))))
+      overlaid) overlaid upper (among-append_left (option_to_list overlay.upper) (option_to_list overlay.work) upper
+      (rw has (inl refl))))
 
 -- An overlay with an upper layer, in whose tree a name comes or goes
 module _ {world : World ℕ} {names : List TaskName} {name : TaskName} {call : Call}
@@ -91,8 +93,8 @@ module _ {world : World ℕ} {names : List TaskName} {name : TaskName} {call : C
   two_number = found_numbered through.upper.filesystem world.filesystems
 
   pub one_alone : used_alone nat_eq world names one.number ≡ true
-  one_alone = ap (used_alone nat_eq world names) one_number
-      ∙ merged_alone (sealing_of it) number through.overlay through.can.overlay_there through.direct
+  one_alone =
+      cc (one_number, merged_alone (sealing_of it) number through.overlay through.can.overlay_there through.direct)
 
   pub two_alone : used_alone nat_eq world names two.number ≡ true
   two_alone = ap (used_alone nat_eq world names) two_number
@@ -116,14 +118,13 @@ module _ {world : World ℕ} {names : List TaskName} {name : TaskName} {call : C
         (apart two.number two_used (nat_eq two.number x.number) refl)
       where
         apart : (n : ℕ) → is_among nat_eq n used ≡ true → (b : Bool) → nat_eq n x.number ≡ b → nat_eq n x.number ≡ false
-        apart n is true e =
-            absurd (true≢false (sym is ∙ ap (λ k. is_among nat_eq k used) (eqb-true n x.number e) ∙ unused))
+        apart n is true e = cc (eqb-true n x.number e)
         apart n is false e = e
 
     changes : (x : Filesystem ℕ) → (a : Bool) → nat_eq one.number x.number ≡ a → (b : Bool)
         → nat_eq two.number x.number ≡ b → (moved x ≡ x) ⊎ Alone w names x.number
-    changes x true e b f = inr (subst (Alone w names) (eqb-true one.number x.number e) alone_one)
-    changes x false e true f = inr (subst (Alone w names) (eqb-true two.number x.number f) alone_two)
+    changes x true e b f = inr (rw (← eqb-true one.number x.number e) alone_one)
+    changes x false e true f = inr (rw (← eqb-true two.number x.number f) alone_two)
     changes x false e false f =
         inl (step_kept through x e f)
 
@@ -142,14 +143,11 @@ module _ {world : World ℕ} {names : List TaskName} {name : TaskName} {call : C
   -- lower layers show the same in the part
   lowers_same : AllAlike (map (open_layer nat_eq part) through.overlay.lowers)
       (map (open_layer nat_eq world) through.overlay.lowers)
-  lowers_same = all_alike part world through.overlay.lowers
-      (λ l m. lower_view world names it.is l (among-flat_map (λ n. lowers_in (filesystem_numbered nat_eq world n))
-      (used_directly nat_eq world names) number l through.direct
-      (subst (λ o. Among l (overlay_or [] (λ (v : Overlay ℕ). v.lowers) o)) (sym through.can.overlay_there) m))
-      (layer_directory world names it.is one there l
-      (subst (λ o. Among l (overlay_or [] layers_of o)) (sym through.can.overlay_there)
-      (among-append_right (option_to_list through.overlay.upper ++ option_to_list through.overlay.work)
-      through.overlay.lowers l m))))
+  lowers_same = all_alike part world through.overlay.lowers (λ l m. lower_view world names it.is l
+      (among-flat_map (λ n. lowers_in (filesystem_numbered nat_eq world n)) (used_directly nat_eq world names) number l
+      through.direct (rw through.can.overlay_there m)) (layer_directory world names it.is one there l
+      (rw through.can.overlay_there (among-append_right (option_to_list through.overlay.upper ++ option_to_list
+      through.overlay.work) through.overlay.lowers l m))))
 
   pub changed_in_world : with_change nat_eq through.supply world through.location through.change ≡ with_filesystems
       world moved
@@ -184,8 +182,7 @@ module _ {world : World ℕ} {names : List TaskName} {name : TaskName} {call : C
     later = record world { tasks = left.tasks }
 
     one_used_now : is_among nat_eq one.number (used_filesystems nat_eq later names) ≡ true
-    one_used_now = ap (λ n. is_among nat_eq n (used_filesystems nat_eq later names)) one_number
-        ∙ used_directly_used later names number direct_now
+    one_used_now = cc (one_number, used_directly_used later names number direct_now)
 
     two_used_now : is_among nat_eq two.number (used_filesystems nat_eq later names) ≡ true
     two_used_now = ap (λ n. is_among nat_eq n (used_filesystems nat_eq later names)) two_number
@@ -200,9 +197,8 @@ module _ {world : World ℕ} {names : List TaskName} {name : TaskName} {call : C
     }
 
     numbers_used : (n : ℕ) → Among n numbers → is_among nat_eq n (used_filesystems nat_eq later names) ≡ true
-    numbers_used n m = ⊎_elim (λ e. ap (λ k. is_among nat_eq k (used_filesystems nat_eq later names)) e ∙ one_used_now)
-        (λ rest. ⊎_elim (λ e. ap (λ k. is_among nat_eq k (used_filesystems nat_eq later names)) e ∙ two_used_now)
-        (λ none. absurd none) rest) m
+    numbers_used n m =
+        ⊎_elim (λ e. cc one_used_now) (λ rest. ⊎_elim (λ e. cc two_used_now) (λ none. absurd none) rest) m
 
     pub changed_ends : (task : Task ℕ) → task_called world name ≡ Some task → (fresh : Fresh ℕ)
         (answer : Answer) → grown names name call (Ok answer) ≡ names → ran name call world fresh (Some task)

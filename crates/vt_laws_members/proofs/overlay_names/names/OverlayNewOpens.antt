@@ -58,8 +58,7 @@ module _ {world : World ℕ} {names : List TaskName} {name : TaskName} {call : C
 
   pub lets : LetsGo (sealing_of it) names (map replaced world.tasks)
   lets = record {
-    own = λ n. ap (list_any (λ (t : Task ℕ). nat_eq n t.namespace)) (of_set it task found mine stands world.tasks)
-        ∙ spaces_kept it task found mine refl refl n;
+    own = λ n. cc (of_set it task found mine stands world.tasks, spaces_kept it task found mine refl refl n);
     roots = roots_left it task found mine stands;
     places = places_left it task found mine stands;
     others = others_left it task found mine stands;
@@ -68,20 +67,20 @@ module _ {world : World ℕ} {names : List TaskName} {name : TaskName} {call : C
   -- so the set uses its filesystem
   file_used : Among (mount_at nat_eq world file).filesystem
       (used_directly nat_eq (record world { tasks = map replaced world.tasks }) names)
-  file_used = among-append_right (map (λ mount. mount.filesystem)
-      (own_mounts nat_eq (record world { tasks = map replaced world.tasks }) names))
-      (map shows (locations (members (record world { tasks = map replaced world.tasks }) names))) (shows file)
+  file_used = among-append_right (map (λ mount. mount.filesystem) (own_mounts nat_eq
+      (record world { tasks = map replaced world.tasks }) names)) (map shows
+      (locations (members (record world { tasks = map replaced world.tasks }) names))) (shows file)
       (among-map shows (locations (members (record world { tasks = map replaced world.tasks }) names)) file
-      (subst (λ ts. Among file (locations ts)) (sym (of_set it task found mine stands world.tasks))
-      (among-flat_map locations_of (map replaced theirs) (replaced task) file
-      (among-map replaced theirs task member.among) (subst (λ (t : Task ℕ). Among file (locations_of t))
-      (sym mine_there) (inr (inr (among-map at_file mine.descriptors _ (new_inserted _ task.descriptors))))))))
+      (rw (of_set it task found mine stands world.tasks) (among-flat_map locations_of (map replaced theirs)
+      (replaced task) file (among-map replaced theirs task member.among)
+      (subst (λ (t : Task ℕ). Among file (locations_of t)) (sym mine_there)
+      (inr (inr (among-map at_file mine.descriptors _ (new_inserted _ task.descriptors))))))))
     where
       shows : Location ℕ → ℕ
       shows l = (mount_at nat_eq world l).filesystem
 
       mine_there : replaced task ≡ mine
-      mine_there = ap (λ b. cond b mine task) (same_name_itself task.name)
+      mine_there = cc (same_name_itself task.name)
 
 -- so ends a granted open by which filesystems change
 opened_run : (w : World ℕ) (name : TaskName) (path : List ℕ) (access : Access) (how : Creation) (supply : Fresh ℕ)
@@ -92,11 +91,7 @@ opened_run : (w : World ℕ) (name : TaskName) (path : List ℕ) (access : Acces
     (opened (with_change nat_eq supply w location change) task file wanted)
     ≡ granted (Opened (free_number task)) (numbers_raised nat_eq w name numbers (settled nat_eq (with_filesystems
     (record w { tasks = map (replaced_if_called (with_descriptor task file wanted)) w.tasks }) step)))
-opened_run w name path access how supply location change task file wanted step numbers made listed =
-    ap (λ l. granted (Opened (free_number task)) (numbers_raised nat_eq w name l
-    (settled nat_eq (with_task (with_change nat_eq supply w location change) (with_descriptor task file wanted)))))
-    listed ∙ ap (λ v. granted (Opened (free_number task)) (numbers_raised nat_eq w name numbers
-    (settled nat_eq (with_task v (with_descriptor task file wanted))))) made
+opened_run w name path access how supply location change task file wanted step numbers made listed = cc
 
 pub overlay_new_opens_end_alike : OverlayNewOpensEndAlike
 overlay_new_opens_end_alike world names name path access how it task found fresh serves directory entry node wanted
@@ -118,7 +113,7 @@ overlay_new_opens_end_alike world names name path access how it task found fresh
     file = record { mount = directory.mount; node = evens fresh 0 }
 
     itself : task_called world task.name ≡ Some task
-    itself = ap (task_called world) (sym (name_found world name task found)) ∙ found
+    itself = cc (name_found world name task found)
 
     ground : IsTheirs world names it.is.mounts directory.mount
     ground = naming_theirs (naming_of it task found fresh serves (ToOpenNew directory entry node wanted) judged

@@ -89,14 +89,13 @@ module _ {world : World ℕ} {names : List TaskName} {name : TaskName} {call : C
   supply = numbers_left it.fresh it.permit
 
   one_filesystem : filesystem_at nat_eq world it.gone ≡ merged
-  one_filesystem = ap (λ m. filesystem_numbered nat_eq world (mount_numbered nat_eq world m).filesystem) it.free.beside
+  one_filesystem = cc it.free.beside
 
   on_gone : IsTheirs world names it.is.mounts it.gone.mount
   on_gone = theirs_from world names it.is.mounts it.gone.mount it.free.on
 
   on : IsTheirs world names it.is.mounts it.location.mount
-  on = theirs_from world names it.is.mounts it.location.mount
-      (ap (is_theirs world names) (sym it.free.beside) ∙ it.free.on)
+  on = theirs_from world names it.is.mounts it.location.mount (cc (it.free.beside, it.free.on))
 
   direct : Among (mount_at nat_eq world it.location).filesystem (used_directly nat_eq world names)
   direct = theirs_directly world names it.is it.location on
@@ -121,14 +120,13 @@ module _ {world : World ℕ} {names : List TaskName} {name : TaskName} {call : C
     }
 
     same_list : taken_away nat_eq part list ≡ without_mounts_on nat_eq part it.gone
-    same_list = ap (taken_away nat_eq part) (sym (same_going world names it.is it.gone on_gone only_own))
+    same_list = cc (same_going world names it.is it.gone on_gone only_own)
 
     kept_world : MountInvariants nat_eq (taken_away nat_eq world list)
     kept_world = points_keep_mounts world it.gone it.is.mounts
 
     kept_part : MountInvariants nat_eq (taken_away nat_eq part list)
-    kept_part = subst (MountInvariants nat_eq) (sym same_list)
-        (points_keep_mounts part it.gone (part_mounts (sealing_of it.it)))
+    kept_part = rw same_list (points_keep_mounts part it.gone (part_mounts (sealing_of it.it)))
 
     abbrev here : World ℕ
     here = world_after go
@@ -154,14 +152,12 @@ module _ {world : World ℕ} {names : List TaskName} {name : TaskName} {call : C
     run_here : run_by it.it world it.fresh it.task (Ok it.permit)
         ≡ finished nat_eq world name call (changed_at nat_eq here it.location)
         (granted Done (with_change nat_eq supply here it.location it.change))
-    run_here = runs world ∙ ap (λ w. finished nat_eq world name call (changed_at nat_eq w it.location)
-        (granted Done (with_change nat_eq supply w it.location it.change))) (world_taken go)
+    run_here = cc (runs world, world_taken go)
 
     run_there : run_by it.it part it.fresh it.task (Ok it.permit)
         ≡ finished nat_eq part name call (changed_at nat_eq there it.location)
         (granted Done (with_change nat_eq supply there it.location it.change))
-    run_there = runs part ∙ ap (λ w. finished nat_eq part name call (changed_at nat_eq w it.location)
-        (granted Done (with_change nat_eq supply w it.location it.change))) (sym same_list ∙ part_taken go)
+    run_there = cc (runs part, same_list, part_taken go)
 
     seen : filesystem_at nat_eq here it.location ≡ merged
     seen = seen_here go it.location
@@ -180,13 +176,10 @@ module _ {world : World ℕ} {names : List TaskName} {name : TaskName} {call : C
 
     layered : (o : Option (Layer ℕ)) → overlay.upper ≡ o → EndsAlike world names name call it.fresh it.fresh
     layered None none = ends (numbers_raised nat_eq world name [] (settled nat_eq here))
-        (numbers_raised nat_eq part name [] (settled nat_eq there))
-        (run_here ∙ unwritten_after world here name call supply it.location it.change merged overlay it.looks seen
-        overlaid none) (run_there ∙ unwritten_after part there name call supply it.location it.change merged overlay
-        it.looks seen_too overlaid none) (sym (ap (λ w. part_of nat_eq
-        (numbers_raised nat_eq world name [] (settled nat_eq w)) names) (world_taken go))
-        ∙ taken_parts go kept_world kept_part name ∙ ap (λ w. part_of nat_eq
-        (numbers_raised nat_eq part name [] (settled nat_eq w)) names) (part_taken go))
+        (numbers_raised nat_eq part name [] (settled nat_eq there)) (run_here ∙ unwritten_after world here name call
+        supply it.location it.change merged overlay it.looks seen overlaid none)
+        (run_there ∙ unwritten_after part there name call supply it.location it.change merged overlay it.looks seen_too
+        overlaid none) (cc (world_taken go, taken_parts go kept_world kept_part name, part_taken go))
     layered (Some upper) has =
         ends (numbers_raised nat_eq world name both (settled nat_eq (with_filesystems here step)))
         (numbers_raised nat_eq part name both (settled nat_eq (with_filesystems there step)))
@@ -224,7 +217,7 @@ module _ {world : World ℕ} {names : List TaskName} {name : TaskName} {call : C
           overlay = overlay;
           upper = upper;
           can = permits_can_change world it.fresh it.task call it.permit it.location it.change overlay upper it.is
-              it.serves (ap (task_called world) (sym (name_found world name it.task it.found)) ∙ it.found) it.judged
+              it.serves (cc (name_found world name it.task it.found, it.found)) it.judged
               it.asks overlaid has;
           direct = direct;
           alike = alike;
@@ -243,16 +236,14 @@ module _ {world : World ℕ} {names : List TaskName} {name : TaskName} {call : C
         direct_then = still_direct go it.location on directory_stays
 
         one_used : is_among nat_eq merged.number used_then ≡ true
-        one_used = ap (λ n. is_among nat_eq n used_then) (found_numbered number world.filesystems)
-            ∙ used_directly_used here names number direct_then
+        one_used = cc (found_numbered number world.filesystems, used_directly_used here names number direct_then)
 
         two_used : is_among nat_eq two.number used_then ≡ true
         two_used = ap (λ n. is_among nat_eq n used_then) (found_numbered upper.filesystem world.filesystems)
             ∙ upper_in_use here names number overlay upper overlaid has direct_then
 
         both_used : (n : ℕ) → Among n both → is_among nat_eq n used_then ≡ true
-        both_used n m = ⊎_elim (λ e. ap (λ k. is_among nat_eq k used_then) e ∙ one_used)
-            (λ rest. ⊎_elim (λ e. ap (λ k. is_among nat_eq k used_then) e ∙ two_used) (λ none. absurd none) rest) m
+        both_used n m = ⊎_elim (λ e. cc one_used) (λ rest. ⊎_elim (λ e. cc two_used) (λ none. absurd none) rest) m
 
   pub removal_through_ends : EndsAlike world names name call it.fresh it.fresh
   removal_through_ends = by merged.overlay refl

@@ -27,13 +27,11 @@ module _ {a : World ℕ} {set : List TaskName} {used : List ℕ} {lowers : List 
   was y m = among-from_map step a.filesystems y m
 
   number_was : (y x : Filesystem ℕ) → y ≡ step x → y.number ≡ x.number
-  number_was y x e = ap (λ (f : Filesystem ℕ). f.number) e ∙ theirs.numbered x
+  number_was y x e = cc (theirs.numbered x)
 
   layered_was : (n : ℕ) (x : Filesystem ℕ) → Among x a.filesystems → has_layer_on nat_eq n (step x) ≡ true
       → has_layer_on nat_eq n x ≡ true
-  layered_was n x m h = layers_on a n x
-      ∙ sym (ap (list_any (λ (layer : Layer ℕ). nat_eq n layer.filesystem)) (theirs.layers x m))
-      ∙ sym (layers_on a n (step x)) ∙ h
+  layered_was n x m h = cc (layers_on a n x, theirs.layers x m, layers_on a n (step x))
 
   nobody_still : (n k : ℕ) → n ≡ k → NoOthers a set n → NoOthers later set k
   nobody_still n k same none = grind (arith, common_steps)
@@ -44,8 +42,7 @@ module _ {a : World ℕ} {set : List TaskName} {used : List ℕ} {lowers : List 
     overlays = λ y m has.
         let from = was y m in
         nobody_still from.0.number y.number (sym (number_was y from.0 from.2)) (alone.overlays from.0 from.1
-        (layered_was n from.0 from.1 (subst (λ f. has_layer_on nat_eq n f ≡ true) from.2
-        (subst (λ i. has_layer_on nat_eq i y ≡ true) (sym same) has))));
+        (layered_was n from.0 from.1 (rw (← from.2) (subst (λ i. has_layer_on nat_eq i y ≡ true) (sym same) has))));
   }
 
   plain_still : (y merged : Filesystem ℕ) → Among y later.filesystems → Among merged later.filesystems
@@ -53,10 +50,9 @@ module _ {a : World ℕ} {set : List TaskName} {used : List ℕ} {lowers : List 
   plain_still y merged m n has =
       let one = was y m in
       let two = was merged n in
-      let flat = it.plain one.0 two.0 one.1 two.1
-      (layered_was one.0.number two.0 two.1 (subst (λ f. has_layer_on nat_eq one.0.number f ≡ true) two.2
-      (subst (λ k. has_layer_on nat_eq k merged ≡ true) (number_was y one.0 one.2) has))) in
-      none_from_not_some y.overlay (ap is_overlay one.2 ∙ theirs.overlaid one.0 one.1 ∙ ap is_some flat)
+      let flat = it.plain one.0 two.0 one.1 two.1 (layered_was one.0.number two.0 two.1
+      (rw (← two.2) (subst (λ k. has_layer_on nat_eq k merged ≡ true) (number_was y one.0 one.2) has))) in
+      none_from_not_some y.overlay (cc (one.2, theirs.overlaid one.0 one.1))
 
   free_still : (y : Filesystem ℕ) → Among y later.filesystems → is_among nat_eq y.number used ≡ true
       → Alone later set y.number ⊎ AllNamed y
@@ -73,9 +69,8 @@ module _ {a : World ℕ} {set : List TaskName} {used : List ℕ} {lowers : List 
   cut_still y m unused low =
       let from = was y m in
       let same : from.0.number ≡ y.number = sym (number_was y from.0 from.2) in
-      let none : is_among nat_eq from.0.number used ≡ false = ap (λ n. is_among nat_eq n used) same ∙ unused in
-      subst (λ (f : Filesystem ℕ). IsCut f.number lowers f.files) (sym (from.2 ∙ theirs.kept from.0 none))
-      (it.cut from.0 from.1 none
+      let none : is_among nat_eq from.0.number used ≡ false = cc in
+      rw (from.2 ∙ theirs.kept from.0 none) (it.cut from.0 from.1 none
       (ap (λ n. list_any (λ (layer : Layer ℕ). nat_eq n layer.filesystem) lowers) same ∙ low))
 
   pub stepped_ready : Ready later set used lowers
@@ -89,8 +84,7 @@ module _ {a : World ℕ} {set : List TaskName} {used : List ℕ} {lowers : List 
     stood = it.stood;
     one_filesystem = pair-map (λ (x y : Filesystem ℕ). nat_eq x.number y.number)
         (λ (x y : Filesystem ℕ). nat_eq x.number y.number) step a.filesystems
-        (λ x y m n e. ap (λ k. nat_eq k (step y).number) (theirs.numbered x)
-        ∙ ap (nat_eq x.number) (theirs.numbered y) ∙ e) it.one_filesystem;
+        (λ x y m n e. cc (theirs.numbered x, theirs.numbered y)) it.one_filesystem;
     plain = plain_still;
     free = free_still;
     cut = cut_still;

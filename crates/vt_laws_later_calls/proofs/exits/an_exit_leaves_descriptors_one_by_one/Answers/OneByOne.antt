@@ -1,5 +1,5 @@
 -- Descriptors are closed one after the other, with a sweep after each, and then the task ends.
-use Rattle.std.proofs.Common.{arith, ◌≡◌, refl, sym, ap, subst, ◌∙◌, ℕ, nat_eq, Bool, true, false, cond, not, List, [], ◌∷◌, Option, Some, None, filter, flat_map, map}
+use Rattle.std.proofs.Common.{arith, ◌≡◌, refl, ap, ◌∙◌, ℕ, nat_eq, Bool, true, false, cond, not, List, [], ◌∷◌, Option, Some, None, filter, flat_map, map}
 use Rattle.vt_spec.proofs.Common.{Fresh, Location, MountInvariants, Task, TaskName, ToExit, World, all_locations, apply, common_steps, locations_of, namespaces_ended, replaced_if_called, same_name, same_name_itself, settled, task_called, with_task, without_descriptor}
 use Rattle.vt_laws_mounts.proofs.letting_go.ends.EndsInTurn.{one_sweep_for_exits_with_overlays}
 use Rattle.vt_laws_mounts.proofs.letting_go.leaving.LeftOneByOne.{one_sweep_with_overlays}

@@ -1,6 +1,6 @@
 -- A directory that was renamed is found at its new path, by whoever stands outside of it, and its old path is missing.
-use Rattle.std.proofs.Common.{◌≡◌, refl, sym, ap, subst, ◌∙◌, inl, inr, ◌⊎◌, ⊎_elim, true≢false, ℕ, nat_eq, Bool, true, false, cond, List, Option, Some, None, is_some, map, Ok, Err}
-use Rattle.vt_spec.proofs.Common.{Credentials, Done, Fresh, IsWorld, Location, Ls, Lstat, Names, Node, Place, Rename, Serves, StatLine, Task, TaskName, ToRename, Told, World, denial, directory_walk, entries_in, entry_named, execute_right, files_at, is_directory_at, is_directory_node, is_directory_there, is_one_object, looks_of, may as may_do, mount_at, mount_in, name_of, names_in, new_walk, node_allows, node_at, object_there, old_leaf_walk, place_walk, policy, raised_task, read_right, same_Some, stat_line, stepped, task_called}
+use Rattle.std.proofs.Common.{◌≡◌, refl, sym, ap, subst, ◌∙◌, inl, inr, ◌⊎◌, ⊎_elim, ℕ, nat_eq, Bool, true, false, cond, List, Option, Some, None, is_some, map, Ok, Err}
+use Rattle.vt_spec.proofs.Common.{Credentials, Done, Fresh, IsWorld, Location, Ls, Lstat, Names, Node, Place, Rename, StatLine, Task, TaskName, ToRename, Told, World, denial, directory_walk, execute_right, files_at, is_directory_at, is_directory_node, is_directory_there, is_one_object, looks_of, may as may_do, mount_at, name_of, names_in, new_walk, node_allows, node_at, object_there, old_leaf_walk, place_walk, policy, raised_task, read_right, same_Some, stat_line, stepped, task_called}
 use Rattle.vt_spec.specs.declared.errors.Rule.{Rule}
 use Rattle.vt_spec.specs.declared.errors.Rule.TheVariants.{C1, W4, W6}
 use Rattle.vt_laws_trees.specs.Layers.Layers.Untouched.{IsKept}
@@ -11,7 +11,7 @@ use Rattle.vt_laws_later_calls.specs.LaterNames.{IsAnsweredUnlessBy, RenameDirec
 use Rattle.vt_laws_later_calls.specs.Later.{IsAnswered}
 use Rattle.vt_laws_later_calls.specs.LaterPaths.{IsAnsweredUnless, IsRefused, LooksFrom, reads_all}
 use Rattle.vt_laws_later_calls.proofs.later.AfterRename.{free_left, may, new_left, object_left, old_left, to_shown}
-use Rattle.vt_laws_later_calls.proofs.Granted.{HasSucceeded, permitted}
+use Rattle.vt_laws_later_calls.proofs.Granted.{HasSucceeded, has_succeeded}
 use Rattle.vt_laws_later_calls.proofs.Looked.{list_of, list_refused, lstat_of, lstat_refused, read_all, search_all}
 use Rattle.vt_laws_later_calls.proofs.MadeSeen.{new_parts}
 use Rattle.vt_laws_later_calls.proofs.Readers.{MayLook, all_stands, own_name, raised_credentials, raised_stands, stepped_by}
@@ -224,14 +224,12 @@ module _ {world : World ℕ} {fresh : Fresh ℕ} {name : TaskName} {old new : Li
         by (inr stop) = inr (list_refused later later_fresh reader called new stop.0 stop.2 ∙ ap Err stop.1)
 
 -- what a granted rename of a directory to a free name was permitted, by the task that stands outside
-module _ (old new : List ℕ) {world : World ℕ} {fresh : Fresh ℕ} (name : TaskName) {task : Task ℕ} {from to : Place ℕ}
-    (is : IsWorld nat_eq world) (plain : IsPlain world) (serves : Serves nat_eq world fresh)
-    (called : task_called world name ≡ Some task)
+module _ {old new : List ℕ} {world : World ℕ} {fresh : Fresh ℕ} {name : TaskName} {task : Task ℕ} {from to : Place ℕ}
+    (it : HasSucceeded world fresh name (Rename old new) Done) (called : task_called world name ≡ Some task)
     (from_is : old_leaf_walk nat_eq (looks_of nat_eq world) task old ≡ Ok from)
     (to_is : new_walk nat_eq (looks_of nat_eq world) task new ≡ Ok to)
     (directory : is_directory_there nat_eq (looks_of nat_eq world) from ≡ true) (free : to.object ≡ None)
-    (stands : StandsOutside world task (object_there from))
-    (granted : (policy nat_eq fresh world name (Rename old new)).answer ≡ Ok Done) where
+    (stands : StandsOutside world task (object_there from)) where
   abbrev RenamedTold : Type 0
   RenamedTold = (line : StatLine) × IsAnswered world name (Lstat old) (Told line)
       × IsAnsweredUnless W6 (policy nat_eq fresh world name (Rename old new)).world name (Lstat new) (Told line)
@@ -247,16 +245,6 @@ module _ (old new : List ℕ) {world : World ℕ} {fresh : Fresh ℕ} (name : Ta
       × ((reader : TaskName) (reading : Task ℕ)
       → LooksFrom (policy nat_eq fresh world name (Rename old new)).world task reader reading
       → IsAnsweredUnless W6 (policy nat_eq fresh world name (Rename old new)).world reader (Ls new) (Names names))
-
-  abbrev it : HasSucceeded world fresh name (Rename old new) Done
-  it = record {
-    is = is;
-    plain = plain;
-    serves = serves;
-    other = refl;
-    few = refl;
-    did = permitted world fresh name (Rename old new) Done refl granted;
-  }
 
   task_is : it.did.task ≡ task
   task_is = same_Some it.did.task task (cc it.did.called)
@@ -325,10 +313,9 @@ module _ (old new : List ℕ) {world : World ℕ} {fresh : Fresh ℕ} (name : Ta
 pub rename_directory_then_lstat : RenameDirectoryThenLstat
 rename_directory_then_lstat old new world fresh name task from to is plain serves called from_is to_is directory free
     stands granted =
-    moved_told old new name is plain serves called from_is to_is directory free stands granted
+    moved_told (has_succeeded is plain serves refl refl refl granted) called from_is to_is directory free stands
 
 pub rename_directory_then_list : RenameDirectoryThenList
 rename_directory_then_list old new world fresh name task from to is plain serves called from_is to_is directory free
     stands granted =
-    moved_listed old new name is plain serves called from_is to_is directory free stands
-    granted
+    moved_listed (has_succeeded is plain serves refl refl refl granted) called from_is to_is directory free stands

@@ -1,7 +1,7 @@
 -- An object that was renamed, over another one or not, is found where its new name leads, with what it had; the old
 -- name is missing.
-use Rattle.std.proofs.Common.{◌≡◌, refl, sym, ap, subst, ◌∙◌, inl, inr, ◌⊎◌, ⊎_elim, true≢false, ℕ, nat_eq, Bool, true, false, cond, not, ◌&&◌, List, [], ◌∷◌, Option, Some, None, is_some, Ok, Err, length, map, unwrap_or}
-use Rattle.vt_spec.proofs.Common.{Done, Fresh, IsWorld, LastWord, Location, Looks, Ls, Lstat, Names, Node, Permit, Place, Rename, Task, TaskName, ToRename, Told, World, and_then-Ok, denial, directory_from_entry, ends_in_slash, entries_in, entry_at, entry_named, files_at, holds_of, is_directory, is_directory_at, is_directory_node, is_directory_there, is_mount_point_anywhere, is_one_object, is_special, looks_of, mount_at, name_of, names_in, new_walk, node_allows, node_at, object_there, old_leaf_walk, old_walk, old_word_rules, or_parts, passing, place_walk, policy, read_right, rename_new_walk, rename_permit, rename_rules, renamed_permit, same_Some, same_ok, stat_line, stepped, task_called, walk_end}
+use Rattle.std.proofs.Common.{◌≡◌, refl, sym, ap, subst, ◌∙◌, inl, inr, ◌⊎◌, ⊎_elim, ℕ, nat_eq, Bool, true, false, cond, not, ◌&&◌, List, [], ◌∷◌, Option, Some, None, is_some, Ok, Err, length, unwrap_or}
+use Rattle.vt_spec.proofs.Common.{Done, Fresh, IsWorld, LastWord, Location, Looks, Ls, Lstat, Names, Node, Permit, Place, Rename, Task, TaskName, ToRename, Told, World, and_then-Ok, denial, directory_from_entry, ends_in_slash, entries_in, entry_at, entry_named, files_at, holds_of, is_directory_at, is_directory_node, is_directory_there, is_mount_point_anywhere, is_one_object, is_special, looks_of, mount_at, name_of, names_in, new_walk, node_allows, node_at, object_there, old_leaf_walk, old_walk, old_word_rules, or_parts, passing, place_walk, policy, read_right, rename_new_walk, rename_permit, rename_rules, renamed_permit, same_Some, same_ok, stat_line, stepped, task_called, walk_end}
 use Rattle.vt_spec.specs.declared.errors.Rule.TheVariants.{C1, W3, W6}
 use Rattle.vt_laws_worlds.specs.Permits.Sees.{MayBeRenamed}
 use Rattle.vt_laws_worlds.proofs.permits.sees.SeesNames.{tree_here}

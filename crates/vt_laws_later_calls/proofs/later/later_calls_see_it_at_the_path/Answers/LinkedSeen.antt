@@ -1,6 +1,6 @@
 -- A name more leads to the object of the old one.
 use Rattle.std.proofs.Common.{◌≡◌, ◌≢◌, refl, sym, ap, subst, ◌∙◌, inl, inr, true≢false, ℕ, nat_eq, eqb-true, true, false, List, Some, is_some, Ok, option_to_list, Bool}
-use Rattle.vt_spec.proofs.Common.{Change, Done, Fresh, Here, LinkTo, Location, Looks, Lstat, Permit, Place, Task, TaskName, ToChange, Told, World, apply, changed, directory_used, entries_in, entry_named, files_at, is_directory_at, is_directory_node, is_special, linking, looks_of, name_of, node_at, not-false, place_walk, policy, raised_task, same_Some, stat_line, symlink_walk, task_called, topmost, with_change}
+use Rattle.vt_spec.proofs.Common.{Change, Done, Fresh, Here, LinkTo, Location, Looks, Lstat, Permit, Place, Task, TaskName, ToChange, Told, World, changed, directory_used, entries_in, entry_named, files_at, is_directory_at, is_special, linking, looks_of, name_of, node_at, not-false, place_walk, policy, raised_task, same_Some, stat_line, symlink_walk, task_called, topmost, with_change}
 use Rattle.vt_spec.specs.Machine.Looks as Look
 use Rattle.vt_laws_trees.specs.Calls.Inodes.{change_of}
 use Rattle.vt_laws_worlds.specs.Permits.Sees.{SeesTo}
@@ -10,7 +10,7 @@ use Rattle.vt_laws_trees.specs.Trees.{IsFileTree}
 use Rattle.vt_laws_later_calls.specs.LaterPaths.{LinkThenLstat}
 use Rattle.vt_laws_later_calls.specs.Later.{IsAnswered}
 use Rattle.vt_laws_later_calls.proofs.AfterChange.{ChangesTree, all_stays, later_mounts, spent}
-use Rattle.vt_laws_later_calls.proofs.Granted.{HasSucceeded, permitted}
+use Rattle.vt_laws_later_calls.proofs.Granted.{HasSucceeded, has_succeeded}
 use Rattle.vt_laws_later_calls.proofs.Looked.{lstat_of}
 use Rattle.vt_laws_later_calls.proofs.MadeSeen.{Never, new_leaf_parts, no_slash_there, surely}
 use Rattle.vt_laws_later_calls.proofs.OpenedNew.{given_of}
@@ -145,14 +145,7 @@ link_then_lstat old new world fresh name task is plain serves called granted = (
 )
   where
     it : HasSucceeded world fresh name (LinkTo old new) Done
-    it = record {
-      is = is;
-      plain = plain;
-      serves = serves;
-      other = refl;
-      few = refl;
-      did = permitted world fresh name (LinkTo old new) Done refl granted;
-    }
+    it = has_succeeded is plain serves refl refl refl granted
 
     task_is : it.did.task ≡ task
     task_is = same_Some it.did.task task (sym it.did.called ∙ called)

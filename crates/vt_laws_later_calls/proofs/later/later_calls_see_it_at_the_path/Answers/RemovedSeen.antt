@@ -1,6 +1,6 @@
 -- The name of a directory that was removed is missing.
-use Rattle.std.proofs.Common.{◌≡◌, refl, sym, ap, subst, ◌∙◌, inl, inr, ◌⊎◌, ℕ, nat_eq, true, false, ◌||◌, List, Some, None, is_some, Ok, Err, Bool}
-use Rattle.vt_spec.proofs.Common.{Done, Fresh, IsWorld, Location, Looks, Lstat, Permit, Place, Rmdir, Task, TaskName, ToRemoveDirectory, World, denial, entries_in, entry_named, execute_right, is_directory_at, is_directory_node, is_special, looks_of, may, mount_at, mount_numbered, name_of, node_allows, node_at, object_there, old_walk, place_walk, policy, raised_task, same_Some, special_word, task_called}
+use Rattle.std.proofs.Common.{◌≡◌, refl, sym, ap, subst, ◌∙◌, inl, inr, ◌⊎◌, ℕ, nat_eq, true, false, List, Some, None, is_some, Ok, Err, Bool}
+use Rattle.vt_spec.proofs.Common.{Done, Fresh, IsWorld, Location, Looks, Lstat, Permit, Place, Rmdir, Task, TaskName, ToRemoveDirectory, World, denial, execute_right, is_directory_at, is_special, looks_of, may, mount_at, name_of, node_allows, node_at, object_there, old_walk, place_walk, policy, raised_task, same_Some, special_word, task_called}
 use Rattle.vt_spec.specs.declared.errors.Deny.{Deny}
 use Rattle.vt_spec.specs.declared.errors.Rule.TheVariants.{W4, W6, W8}
 use Rattle.vt_laws_mounts.proofs.mounts.MountsPlaces.{same_location_itself}
@@ -8,7 +8,7 @@ use Rattle.vt_laws_worlds.specs.Worlds.Kept.{IsPlain}
 use Rattle.vt_laws_later_calls.specs.Later.{IsOneInode}
 use Rattle.vt_laws_later_calls.specs.LaterPaths.{RmdirThenLstat}
 use Rattle.vt_laws_later_calls.proofs.later.AfterRemoval.{caller, is_left, mounts_seen, name_left, objects_stay, own_task, rights_left, seen_to}
-use Rattle.vt_laws_later_calls.proofs.Granted.{HasSucceeded, permitted}
+use Rattle.vt_laws_later_calls.proofs.Granted.{HasSucceeded, has_succeeded}
 use Rattle.vt_laws_later_calls.proofs.Looked.{lstat_refused, search_all}
 use Rattle.vt_laws_later_calls.proofs.Readers.{MayLook, all_stands, own_name, raised_credentials, raised_stands, stepped_by}
 use Rattle.vt_laws_later_calls.proofs.later.RemovalFits.{Fits, IsOutside, fits_ways}
@@ -170,14 +170,7 @@ rmdir_then_lstat path world fresh name task place is plain serves called walk gr
 )
   where
     it : HasSucceeded world fresh name (Rmdir path) Done
-    it = record {
-      is = is;
-      plain = plain;
-      serves = serves;
-      other = refl;
-      few = refl;
-      did = permitted world fresh name (Rmdir path) Done refl granted;
-    }
+    it = has_succeeded is plain serves refl refl refl granted
 
     task_is : it.did.task ≡ task
     task_is = same_Some it.did.task task (sym it.did.called ∙ called)

@@ -1,6 +1,6 @@
 -- An object that was renamed is found by its new name, and the old one is missing.
-use Rattle.std.proofs.Common.{◌≡◌, ◌≢◌, refl, sym, ap, subst, ◌∙◌, inl, inr, ◌⊎◌, ⊎_elim, true≢false, ℕ, nat_eq, Bool, true, false, not, ◌&&◌, List, [], ◌∷◌, Option, Some, None, is_some, option_map, Ok, Err, option_to_list, unwrap_or}
-use Rattle.vt_spec.proofs.Common.{Change, Done, Fresh, IsWorld, Location, Looks, Lstat, Move, Permit, Place, Rename, StatLine, Task, TaskName, ToRename, Told, World, and_then-Ok, apply, changed, denial, directory_from_entry, directory_used, entries_in, entry_at, entry_named, execute_right, files_at, holds_of, is_directory_at, is_directory_node, is_directory_there, is_one_object, is_special, looks_of, mount_at, mounter_allows, name_of, new_walk, node_at, object_there, old_leaf_walk, old_walk, old_word_rules, passing, place_walk, policy, raised_task, rename_new_walk, rename_permit, rename_rules, renamed_permit, same_Some, same_ok, stat_line, stepped, task_called, topmost, walk_end, with_change}
+use Rattle.std.proofs.Common.{◌≡◌, ◌≢◌, refl, sym, ap, subst, ◌∙◌, inl, inr, ◌⊎◌, ⊎_elim, true≢false, ℕ, nat_eq, Bool, true, false, not, ◌&&◌, List, [], ◌∷◌, Option, Some, None, is_some, option_map, Ok, Err, unwrap_or}
+use Rattle.vt_spec.proofs.Common.{Change, Done, Fresh, IsWorld, Location, Looks, Lstat, Move, Permit, Place, Rename, StatLine, Task, TaskName, ToRename, Told, World, and_then-Ok, apply, changed, denial, directory_from_entry, directory_used, entries_in, entry_at, entry_named, files_at, holds_of, is_directory_at, is_directory_node, is_directory_there, is_one_object, is_special, looks_of, mount_at, name_of, new_walk, node_at, object_there, old_leaf_walk, old_walk, old_word_rules, passing, place_walk, policy, raised_task, rename_new_walk, rename_permit, rename_rules, renamed_permit, same_Some, same_ok, stat_line, stepped, task_called, topmost, walk_end, with_change}
 use Rattle.vt_spec.specs.declared.errors.Deny.{Deny}
 use Rattle.vt_spec.specs.declared.errors.Rule.TheVariants.{W3, W6}
 use Rattle.vt_laws_trees.specs.Calls.Inodes.{change_of}
@@ -14,7 +14,7 @@ use Rattle.vt_laws_worlds.proofs.worlds.Reached.{IsFound, directory_found, step_
 use Rattle.vt_laws_worlds.proofs.worlds.ReachedWalks.{own_directory_found, root_found}
 use Rattle.vt_laws_later_calls.specs.LaterPaths.{RenameThenLstat}
 use Rattle.vt_laws_later_calls.proofs.AfterChange.{ChangesTree, all_stays, later_mounts, node_changed, spent}
-use Rattle.vt_laws_later_calls.proofs.Granted.{HasSucceeded, permitted}
+use Rattle.vt_laws_later_calls.proofs.Granted.{HasSucceeded, has_succeeded}
 use Rattle.vt_laws_later_calls.proofs.Looked.{lstat_of, lstat_refused}
 use Rattle.vt_laws_later_calls.proofs.MadeSeen.{Never, new_parts, no_slash_there, surely}
 use Rattle.vt_laws_later_calls.proofs.Opened.{walk_ended}
@@ -280,14 +280,7 @@ rename_then_lstat old new world fresh name task from to is plain serves called f
 )
   where
     it : HasSucceeded world fresh name (Rename old new) Done
-    it = record {
-      is = is;
-      plain = plain;
-      serves = serves;
-      other = refl;
-      few = refl;
-      did = permitted world fresh name (Rename old new) Done refl granted;
-    }
+    it = has_succeeded is plain serves refl refl refl granted
 
     task_is : it.did.task ≡ task
     task_is = same_Some it.did.task task (sym it.did.called ∙ called)

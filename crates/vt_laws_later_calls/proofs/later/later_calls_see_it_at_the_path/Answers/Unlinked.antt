@@ -1,6 +1,6 @@
 -- A name that was removed is missing.
 use Rattle.std.proofs.Common.{◌≡◌, refl, sym, ap, subst, ◌∙◌, inl, inr, ℕ, nat_eq, true, false, not, ◌&&◌, List, [], ◌∷◌, Some, None, is_some, Ok, Err, Bool}
-use Rattle.vt_spec.proofs.Common.{changed, Change, Done, Fresh, Looks, Lstat, Permit, Place, Task, TaskName, ToChange, Unlink, World, apply, denial, directory_from_entry, directory_used, entries_in, entry_named, files_at, is_directory_at, is_directory_there, is_special, looks_of, name_of, node_at, object_there, old_walk, place_walk, policy, raised_task, removing, same_Some, task_called}
+use Rattle.vt_spec.proofs.Common.{changed, Change, Done, Fresh, Looks, Lstat, Permit, Place, Task, TaskName, ToChange, Unlink, World, apply, denial, directory_from_entry, directory_used, files_at, is_directory_at, is_directory_there, is_special, looks_of, name_of, node_at, object_there, old_walk, place_walk, policy, raised_task, removing, same_Some, task_called}
 use Rattle.vt_spec.specs.declared.errors.Deny.{Deny}
 use Rattle.vt_spec.specs.declared.errors.Rule.TheVariants.{W3, W6}
 use Rattle.vt_laws_trees.specs.Calls.Inodes.{change_of}
@@ -9,7 +9,7 @@ use Rattle.vt_laws_worlds.proofs.permits.sees.SeesNames.{tree_here}
 use Rattle.vt_laws_worlds.proofs.permits.sees.SeesTasks.{given_permits_are_seen_to}
 use Rattle.vt_laws_trees.specs.Trees.{IsFileTree}
 use Rattle.vt_laws_later_calls.specs.LaterPaths.{UnlinkThenLstat}
-use Rattle.vt_laws_later_calls.proofs.Granted.{HasSucceeded, permitted}
+use Rattle.vt_laws_later_calls.proofs.Granted.{HasSucceeded, has_succeeded}
 use Rattle.vt_laws_later_calls.proofs.Looked.{lstat_refused}
 use Rattle.vt_laws_later_calls.proofs.OpenedNew.{given_of}
 use Rattle.vt_laws_later_calls.proofs.Readers.{MayLook, all_stands, caller, leads, own_name, raised_credentials, raised_stands, seen_there, stepped_by}
@@ -103,7 +103,8 @@ module _ {world : World ℕ} {fresh : Fresh ℕ} {name : TaskName} {path : List 
       (cc (
         seen_there changes stay reading (own_name later reader reading called) stands known,
         name_missing
-            (files_at nat_eq world place.parent) Missing place.parent.node (name_of place.last) (object_there place).node
+            (files_at nat_eq world place.parent) Missing place.parent.node (name_of place.last)
+            (object_there place).node
             seen_to.1.named seen_to.2,
       ))) in
       lstat_refused later later_fresh reader called path stop.0 stop.2 ∙ ap Err stop.1
@@ -120,14 +121,7 @@ unlink_then_lstat path world fresh name task is plain serves called granted = (
 )
   where
     it : HasSucceeded world fresh name (Unlink path) Done
-    it = record {
-      is = is;
-      plain = plain;
-      serves = serves;
-      other = refl;
-      few = refl;
-      did = permitted world fresh name (Unlink path) Done refl granted;
-    }
+    it = has_succeeded is plain serves refl refl refl granted
 
     task_is : it.did.task ≡ task
     task_is = same_Some it.did.task task (sym it.did.called ∙ called)

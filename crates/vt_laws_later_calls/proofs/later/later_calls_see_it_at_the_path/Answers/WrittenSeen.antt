@@ -1,6 +1,6 @@
 -- Bytes that were written at a path are read there.
 use Rattle.std.proofs.Common.{◌≡◌, refl, sym, ap, subst, ◌∙◌, inl, inr, ◌⊎◌, ℕ, nat_eq, Bool, true, false, cond, ◌||◌, List, [], ◌∷◌, length, reverse, Option, Some, None, is_some, ok_or, Ok, Err, nat_lt, arith}
-use Rattle.vt_spec.proofs.Common.{Bytes, Change, Content, Directory, Done, Fresh, IsWorld, Location, Looks, Node, Permit, Place, Read, Regular, SetBytes, Symlink, Task, TaskName, ToChange, Whiteout, World, Write, allows, and_then-Ok, apply, changed, common_steps, denial, ends_in_slash, file_mode, file_walk, file_word_rules, files_at, is_absolute, is_directory_at, is_directory_node, is_kind, is_kind_in, is_special, kind_of, largest_file, looks_of, make_permit, make_rules, new_attr, new_file, node_at, node_with_bytes, object_walk, or_parts, passing, path_text, policy, raised_task, read_right, rewrite_rules, same_Some, same_ok, stepped, symlink_text, task_called, unnumbered, walk_end, walk_start, with_change, words, words_walked, write_permit, written_permit}
+use Rattle.vt_spec.proofs.Common.{Bytes, Change, Content, Directory, Done, Fresh, IsWorld, Location, Looks, Node, Permit, Place, Read, Regular, SetBytes, Symlink, Task, TaskName, ToChange, Whiteout, World, Write, allows, and_then-Ok, changed, common_steps, denial, ends_in_slash, file_mode, file_walk, file_word_rules, files_at, is_absolute, is_directory_at, is_directory_node, is_kind, is_kind_in, is_special, kind_of, largest_file, looks_of, make_permit, make_rules, new_attr, new_file, node_at, node_with_bytes, object_walk, or_parts, passing, path_text, policy, raised_task, read_right, rewrite_rules, same_Some, same_ok, stepped, symlink_text, task_called, unnumbered, walk_end, walk_start, with_change, words, words_walked, write_permit, written_permit}
 use Rattle.vt_spec.specs.declared.attributes.Attr.{Attr}
 use Rattle.vt_spec.specs.declared.attributes.Kind.TheVariants.{File, White}
 use Rattle.vt_spec.specs.declared.errors.Deny.{Deny}
@@ -17,7 +17,7 @@ use Rattle.vt_laws_worlds.proofs.worlds.ReachedWalks.{own_directory_found, root_
 use Rattle.vt_laws_later_calls.specs.LaterPaths.{IsAnsweredUnless, IsSeenByAll, WriteThenRead}
 use Rattle.vt_laws_later_calls.proofs.AfterChange.{ChangesTree, all_stays, later_is, spent}
 use Rattle.vt_laws_later_calls.proofs.AttrSeen.{tree_there}
-use Rattle.vt_laws_later_calls.proofs.Granted.{HasSucceeded, permitted}
+use Rattle.vt_laws_later_calls.proofs.Granted.{HasSucceeded, has_succeeded}
 use Rattle.vt_laws_later_calls.proofs.Looked.{read_all, read_of}
 use Rattle.vt_laws_later_calls.proofs.MadeSeen.{Never, made_leads, maker, new_stepped, node_seen, surely}
 use Rattle.vt_laws_later_calls.proofs.Opened.{walk_ended}
@@ -204,7 +204,8 @@ module _ {world : World ℕ} {fresh : Fresh ℕ} {name : TaskName} {path bytes :
         seen_at changes stay
         reading self stands file.node ∙ all_stays it changes refl
         file.node
-        ∙ changed_node_there (files_at nat_eq world file) file.node (node_with_bytes bytes) ∙ ap (node_with_bytes bytes) old.2 in
+        ∙ changed_node_there (files_at nat_eq world file) file.node (node_with_bytes bytes)
+        ∙ ap (node_with_bytes bytes) old.2 in
         let before : stepped nat_eq (looks_of nat_eq world) it.did.task place.parent place.last ≡ Ok file =
         ap (stepped nat_eq (looks_of nat_eq world) it.did.task place.parent) (named_last place.last named)
         ∙ ap (λ o. ok_or o (denial W6)) (at_file.object_is ∙ object) in
@@ -230,14 +231,7 @@ pub write_then_read : WriteThenRead
 write_then_read path bytes world fresh name task is plain serves called granted = by parts.0.object refl parts.3
   where
     it : HasSucceeded world fresh name (Write path bytes) Done
-    it = record {
-      is = is;
-      plain = plain;
-      serves = serves;
-      other = refl;
-      few = refl;
-      did = permitted world fresh name (Write path bytes) Done refl granted;
-    }
+    it = has_succeeded is plain serves refl refl refl granted
 
     task_is : it.did.task ≡ task
     task_is = same_Some it.did.task task (cc it.did.called)

@@ -1,5 +1,5 @@
 -- A call of theirs that ends in the part as in the world if it is granted does so if it is refused.
-use Rattle.std.proofs.Common.{◌≡◌, refl, ap, ◌∙◌, ℕ, nat_eq, true, false, [], List, Option, Some, None, Ok, Err, ◌||◌, is_ok}
+use Rattle.std.proofs.Common.{◌≡◌, refl, ap, subst, ◌∙◌, ℕ, nat_eq, true, false, [], List, Option, Some, None, Ok, Err, ◌||◌, is_ok, IfOk}
 use Rattle.vt_spec.proofs.Common.{Call, Fresh, Judgement, Permit, Task, TaskName, World, denied, finished_by, judge_in, only_looks, task_called}
 use Rattle.vt_laws_members.specs.Changes.Changes.{EndsAlike, IsCallOfTheirs}
 use Rattle.vt_laws_members.proofs.changes.looks.Told.{ran}
@@ -23,3 +23,13 @@ module _ {world : World ℕ} {names : List TaskName} {name : TaskName} {call : C
       by : (o : Option (Task ℕ)) → task_called world name ≡ o → EndsAlike world names name call fresh other
       by None none = unnamed_ends_alike it fresh other none
       by (Some task) called = judged_by task called (judge_in nat_eq fresh world task call) refl
+
+  -- the same, with what is known of each permit
+  pub by_known : (Known : (task : Task ℕ) → task_called world name ≡ Some task → Permit ℕ → Type 0)
+      → ((task : Task ℕ) (called : task_called world name ≡ Some task)
+      → IfOk (judge_in nat_eq fresh world task call) (Known task called))
+      → ((task : Task ℕ) (called : task_called world name ≡ Some task) (permit : Permit ℕ)
+      → judge_in nat_eq fresh world task call ≡ Ok permit → Known task called permit
+      → EndsAlike world names name call fresh other) → EndsAlike world names name call fresh other
+  by_known Known known granted_so = by_permit (λ task called permit judged.
+      granted_so task called permit judged (subst (λ j. IfOk j (Known task called)) judged (known task called)))
