@@ -2,10 +2,11 @@
 //!
 //! Where mounts move, all memory is reserved before the first change, so that no move has to be taken back. Where none
 //! does, mounts that came are taken out again if an allocation fails.
-ghost use Rattle.std.specs.Prelude.{List, Err, Ok, ◌≡◌, ◌+◌, ◌++◌, ◌∷◌, ◌<◌, ◌≤◌, ◌⊎◌, [], IfErr, IfOk, OnErr, OnOk, length, map, nat_lt, option_to_list, true, vec_capacity, vec_len};
+ghost use Rattle.std.specs.Prelude.{List, Err, Ok, Some, ◌≡◌, ◌+◌, ◌++◌, ◌∷◌, ◌<◌, ◌≤◌, ◌⊎◌, [], IfErr, IfOk, OnErr, OnOk, if◌then◌else◌, length, map, nat_lt, option_to_list, true, vec_capacity, vec_len};
 ghost use Rattle.std.specs.Fn.{FnOnceReturnsAtMut};
 ghost use Rattle.std.specs.List.{list_all};
 ghost use Rattle.indexmap.specs.IndexMap.{spare};
+ghost use Rattle.std.specs.Map.{lookup};
 ghost use Rattle.vt_location.specs.declared.locations.Location.{Location};
 ghost use Rattle.vt_location.specs.declared.numbers.MountId.{MountId};
 ghost use Rattle.vt_location.specs.declared.numbers.NamespaceId.{NamespaceId};
@@ -14,6 +15,7 @@ ghost use Rattle.vt_location.specs.Numbers.{mount_number};
 ghost use Rattle.vt_mount.specs.declared.mounted.Mounted.{Mounted};
 ghost use Rattle.vt_mount.specs.Reserved.{Reserves, mount_points_of, moved_places, namespaces_of};
 ghost use Rattle.vt_mount.specs.Indexed.{IsIndexed};
+ghost use Rattle.vt_mount.specs.Listed.{same_id};
 ghost use Rattle.vt_mount.specs.Moving.{all_moves, is_small, move_of, with_points};
 ghost use Rattle.vt_mount.specs.MountsValue.{ComeAfter, MountEntry, are_ascending, entries_of, in_order, mounts_in, unused_entry, without};
 
@@ -22,25 +24,25 @@ use crate::mounted::Mounted;
 use crate::mounts::Mounts;
 use crate::moving::{Moved, NewPoint, drop_left, move_all, release_moves, reserve_moves};
 use indexmap::IndexMap;
+use indexmap::map::Entry;
 use std::alloc::AllocError;
 use vt_location::{Mount, MountId};
 
 impl Mounts {
     /// Attaches a mount, after all others, with no uses yet: mount(2). Its number is greater than theirs.
-    pub fn attach(&mut self, mount: Mount) -> Result<(), AllocError>
-        requires { list_all (λ entry. nat_lt entry.mount.number (mount_number mount.number)) self.old ≡ true }
-        ensures ok { OnOk result (self.new ≡ self.old ++ unused_entry mount ∷ []) }
+    #[inline(always)]
+    pub fn attach(&mut self, mount: &Mount) -> Result<(), AllocError>
+        requires { list_all (λ entry. nat_lt entry.mount.number (mount_number mount.now.number)) self.old ≡ true }
+        ensures ok { OnOk result (self.new ≡ self.old ++ unused_entry mount.now ∷ []) }
         // taken out again, the mounts are as they were
-        ensures undone { OnOk result (without (mount_number mount.number) self.new ≡ self.old) }
+        ensures undone { OnOk result (without (mount_number mount.now.number) self.new ≡ self.old) }
         ensures err { OnErr result (self.new ≡ self.old) }
     {
-        if self.indexes.add(&mount).is_err()
-            || self
-                .by_number
-                .insert(mount.number, Mounted::unused(mount))
-                .is_err()
+        if self.indexes.add(mount).is_err()
+            || keep(&mut self.by_number, mount.number, Mounted::unused(mount)).is_err()
         {
-            self.indexes.leave(&mount);
+            self.indexes
+                .leave(mount.namespace, mount.mount_point, mount.number);
             return Err(AllocError);
         }
         Ok(())
@@ -53,7 +55,7 @@ impl Mounts {
         ensures err { OnErr result (self.new ≡ self.old) }
     {
         for (index, mount) in new.iter().enumerate() {
-            if self.attach(*mount).is_err() {
+            if self.attach(mount).is_err() {
                 self.withdraw(&new[..index]);
                 return Err(AllocError);
             }
@@ -224,5 +226,25 @@ fn enter(by_number: &mut IndexMap<MountId, Mounted>, indexes: &mut Indexes, moun
 {
     indexes.enter(&mount);
     // It cannot fail: there is room.
-    let _ = by_number.insert(mount.number, Mounted::unused(mount));
+    let _ = by_number.insert(mount.number, Mounted::unused(&mount));
+}
+
+// Keeps a mount under its number. What `insert` returns on failure holds a mount, which would be copied more often.
+#[inline(always)]
+fn keep(
+    by_number: &mut IndexMap<MountId, Mounted>,
+    number: MountId,
+    kept: Mounted,
+) -> Result<(), AllocError>
+    ensures ok { OnOk result ((q : MountId) → lookup (same_id q) by_number.new.entries
+        ≡ (if same_id number q then Some kept else lookup (same_id q) by_number.old.entries)) }
+    ensures err { OnErr result (by_number.new.entries ≡ by_number.old.entries) }
+{
+    match by_number.entry(number)? {
+        Entry::Occupied(entry) => *entry.into_mut() = kept,
+        Entry::Vacant(entry) => {
+            entry.insert(kept);
+        }
+    }
+    Ok(())
 }

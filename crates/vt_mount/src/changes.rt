@@ -1,5 +1,5 @@
 //! Mounts are moved, detached and removed: mount(2), umount(2).
-ghost use Rattle.std.specs.Prelude.{Some, ◌≡◌, filter, find, if◌then◌else◌, is_some, nat_eq, not, option_map, IfSome, OnErr, OnOk};
+ghost use Rattle.std.specs.Prelude.{Some, ◌≡◌, filter, find, if◌then◌else◌, is_some, nat_eq, not, option_and_then, option_map, IfSome, OnErr, OnOk};
 ghost use Rattle.vt_spec.specs.Lists.{holds_of};
 ghost use Rattle.vt_spec.specs.Machine.Mounts.{detached};
 ghost use Rattle.vt_location.specs.Locations.{location_of};
@@ -20,12 +20,14 @@ impl Mounts {
     {
         let kept = self.by_number.swap_remove(&id)?;
         let mount = kept.mount(id);
-        self.indexes.leave(&mount);
+        self.indexes
+            .leave(mount.namespace, mount.mount_point, mount.number);
         Some(mount)
     }
 
     /// Removes a mount that is in no namespace and that nothing uses, and returns it. Mounts on it keep their mount
     /// points. It does not allocate.
+    #[inline(always)]
     pub fn remove_unused(&mut self, id: MountId) -> Option<Mount>
         ensures value { IfSome result (λ mount. find (λ mount. nat_eq (mount_number id) mount.number) (mounts_in self.old)
             ≡ Some (mount_of mount)) }
@@ -36,7 +38,11 @@ impl Mounts {
         if kept.namespace.is_some() || kept.uses > 0 {
             return None;
         }
-        self.remove(id)
+        let mount = kept.mount(id);
+        self.by_number.swap_remove(&id);
+        self.indexes
+            .leave(mount.namespace, mount.mount_point, mount.number);
+        Some(mount)
     }
 
     /// Moves a mount to another mount point: mount(2) with `MS_MOVE`. The order of the mounts stays.
@@ -59,20 +65,22 @@ impl Mounts {
         Ok(())
     }
 
-    /// Detaches a mount: it loses its mount point and its namespace, becomes private, and keeps its uses: umount(2)
-    /// with
-    /// `MNT_DETACH`. It does not allocate.
-    pub fn detach(&mut self, id: MountId)
-        ensures { self.new ≡ changed (mount_number id)
+    /// Detaches a mount: it loses its mount point, which is returned, and its namespace, becomes private, and keeps its
+    /// uses: umount(2) with `MNT_DETACH`. It does not allocate.
+    pub fn detach(&mut self, id: MountId) -> Option<Location>
+        ensures point { option_map location_of result
+            ≡ option_and_then (λ entry. entry.mount.mount_point) (entry_numbered self.old (mount_number id)) }
+        ensures rest { self.new ≡ changed (mount_number id)
             (λ entry. record entry { mount = detached entry.mount }) self.old }
     {
         let Some(kept) = self.by_number.get_mut(&id) else {
-            return;
+            return None;
         };
-        let mount = kept.mount(id);
+        let point = kept.mount_point;
+        self.indexes.leave(kept.namespace, point, id);
         kept.namespace = None;
         kept.mount_point = None;
         kept.propagation = Propagation::Private;
-        self.indexes.leave(&mount);
+        point
     }
 }

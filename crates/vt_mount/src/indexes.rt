@@ -235,24 +235,27 @@ impl Indexes {
         }
     }
 
-    /// Removes a mount from its lists. It does not allocate.
-    pub(crate) fn leave(&mut self, mount: &Mount)
-        ensures namespace { (q : NamespaceId)
-            → listed_in self.new q ≡ taken (is_in q mount.now) mount.now.number (listed_in self.old q) }
-        ensures parent { (q : MountId)
-            → listed_on self.new q ≡ taken (is_on q mount.now) mount.now.number (listed_on self.old q) }
-        ensures place { (q : Location)
-            → listed_at self.new q ≡ taken (is_at q mount.now) mount.now.number (listed_at self.old q) }
+    /// Removes a mount from the lists of its namespace and its mount point. It does not allocate.
+    pub(crate) fn leave(
+        &mut self,
+        namespace: Option<NamespaceId>,
+        place: Option<Location>,
+        mount: MountId,
+    )
+        ensures namespace { (q : NamespaceId) → listed_in self.new q
+            ≡ taken (holds_of (same_namespace q) namespace) mount (listed_in self.old q) }
+        ensures parent { (q : MountId) → listed_on self.new q ≡ taken (stood_on q place) mount (listed_on self.old q) }
+        ensures place { (q : Location) → listed_at self.new q ≡ taken (stood_at q place) mount (listed_at self.old q) }
         ensures inode { (q : NodeRef) → listed_over self.new q
-            ≡ taken (is_over q mount.now) mount.now.number (listed_over self.old q) }
+            ≡ taken (stood_over q place) mount (listed_over self.old q) }
     {
-        if let Some(namespace) = mount.namespace {
-            self.by_namespace.remove(&namespace, mount.number);
+        if let Some(namespace) = namespace {
+            self.by_namespace.remove(&namespace, mount);
         }
-        if let Some(place) = mount.mount_point {
-            self.by_parent.remove(&place.mount, mount.number);
-            self.by_location.remove(&place, mount.number);
-            self.by_inode.remove(&place.node, mount.number);
+        if let Some(place) = place {
+            self.by_parent.remove(&place.mount, mount);
+            self.by_location.remove(&place, mount);
+            self.by_inode.remove(&place.node, mount);
         }
     }
 

@@ -21,8 +21,8 @@ pub(crate) struct Mounted {
 
 impl Mounted {
     /// A mount that nothing uses yet.
-    pub(crate) fn unused(mount: Mount) -> Self
-        ensures mount { mount_kept mount.number result ≡ mount }
+    pub(crate) fn unused(mount: &Mount) -> Self
+        ensures mount { mount_kept mount.now.number result ≡ mount.now }
         ensures uses { result.uses ≡ 0 }
         ensures writers { result.writers ≡ 0 }
     {

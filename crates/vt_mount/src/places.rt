@@ -1,5 +1,5 @@
 //! Which mounts are at a location, on a mount, on an inode and in a namespace.
-ghost use Rattle.std.specs.Prelude.{◌≡◌, ◌&&◌, filter, find, is_some, map, nat_eq, option_map, true};
+ghost use Rattle.std.specs.Prelude.{Some, ◌≡◌, ◌&&◌, filter, find, is_some, map, nat_eq, option_map, true};
 ghost use Rattle.std.specs.List.{list_any};
 ghost use Rattle.vt_spec.specs.Lists.{holds_of};
 ghost use Rattle.vt_spec.specs.Machine.Mounts.{child_at, children, root_of, stands_on, topmost};
@@ -23,6 +23,7 @@ impl Mounts {
     }
 
     /// The children of a mount, in the order of their numbers.
+    #[inline(always)]
     pub fn children(&self, id: MountId) -> &[MountId]
         ensures children { map mount_number result.now
             ≡ map (λ child. child.number) (children nat_eq (mounts_in self.now) (mount_number id)) }
@@ -39,11 +40,25 @@ impl Mounts {
     }
 
     /// The root of the topmost mount over a location, or the location itself.
+    #[inline(always)]
     pub fn topmost(&self, place: Location) -> Location
         ensures { location_of result ≡ topmost nat_eq (mounts_in self.now) (location_of place) }
     {
-        let mut here = place;
-        for _ in 0..self.len() {
+        match self.root_over(place) {
+            Some(root) => self.topmost_over(place, root),
+            None => place,
+        }
+    }
+
+    // The same, where this is the root of the mount at the location. It is a call of its own, so that a walk past no
+    // mount stays small.
+    #[inline(never)]
+    fn topmost_over(&self, place: Location, root: Location) -> Location
+        requires { option_map root_of (child_at nat_eq (mounts_in self.now) (location_of place)) ≡ Some (location_of root) }
+        ensures { location_of result ≡ topmost nat_eq (mounts_in self.now) (location_of place) }
+    {
+        let mut here = root;
+        for _ in 1..self.len() {
             let Some(root) = self.root_over(here) else {
                 return here;
             };
@@ -53,6 +68,7 @@ impl Mounts {
     }
 
     // The root of the mount that stands at a location.
+    #[inline(always)]
     fn root_over(&self, place: Location) -> Option<Location>
         ensures { option_map location_of result
             ≡ option_map root_of (child_at nat_eq (mounts_in self.now) (location_of place)) }

@@ -18,7 +18,7 @@ AreBelow id entries = list_all (λ entry. nat_lt entry.mount.number (counted id.
 
 pub invariant_of-self : goal.invariant_of-self
 invariant_of-self c =
-    let mount = c.args.mount in
+    let mount = c.args.mount.now in
     let es = c.self.inside.by_number.entries in
     let below = subst (AreBelow mount.number) (sym c.self.view_is) c.requires in
     let above = above-entries mount.number (in_order es) below in
@@ -27,7 +27,7 @@ invariant_of-self c =
     let entered = c.add.ensures in
     let fine = c.if-is_err.ensures.value in
     subst (IsIndexed c.add.new.self) (sym (in_order-last mount.number c.unused.result es _ above
-    (not-err c.insert.result c.if-is_err-2.ensures.value c.insert.ensures.updates).0))
+    (not-err c.keep.result c.if-is_err-2.ensures.value c.keep.ensures.ok)))
     (indexed-entered mount c.unused.result (in_order es) c.unused.ensures.mount c.self.inside.indexes c.add.new.self
     (ap has_small_point c.unused.ensures.mount ∙ not-err c.add.result fine entered.slot)
     (λ q. not-err c.add.result fine entered.namespace_ok q ∙ last (is_in q) (is_in q mount) _ (indexed.namespace q))
@@ -41,7 +41,7 @@ restored : (c : goal.After-leave) → c.then-is_err.self-inside.indexes ≡ c.ad
     → c.then-is_err.self-inside.by_number.entries ≡ c.self.inside.by_number.entries
     → IsIndexed c.leave.new.self (in_order c.then-is_err.self-inside.by_number.entries)
 restored c indexes entries =
-    let mount = c.args.mount in
+    let mount = c.args.mount.now in
     let kept = in_order c.self.inside.by_number.entries in
     let rest = c.add.ensures in
     let left = c.leave.ensures in
@@ -60,15 +60,15 @@ invariant_of-self-then-is_err c = elim c.then-is_err.branch [
       (ap (λ inside. inside.by_number.entries) w.self-inside-is)
   | then-is_err-via-else-is_err+then-is_err-2 w ↦ restored c (ap (λ inside. inside.indexes) w.self-inside-is)
       (ap (λ inside. inside.by_number.entries) w.self-inside-is
-      ∙ is-refused w.insert.result w.if-is_err-2.ensures.value w.insert.ensures.err)
+      ∙ is-refused w.keep.result w.if-is_err-2.ensures.value w.keep.ensures.err)
 ]
 
 pub returns-clause-ok : goal.returns-clause-ok
 returns-clause-ok c =
-    let mount = c.args.mount in
+    let mount = c.args.mount.now in
     let es = c.self.inside.by_number.entries in
     kept-last mount.number c.unused.result es _ (subst (AreBelow mount.number) (sym c.self.view_is) c.requires)
-    (not-err c.insert.result c.if-is_err-2.ensures.value c.insert.ensures.updates).0
+    (not-err c.keep.result c.if-is_err-2.ensures.value c.keep.ensures.ok)
     ∙ (λ i. c.self.view_is i ++ record {
       mount = mount_of (c.unused.ensures.mount i);
       uses = c.unused.ensures.uses i;
@@ -77,11 +77,11 @@ returns-clause-ok c =
 
 pub returns-clause-undone : goal.returns-clause-undone
 returns-clause-undone c =
-    let mount = c.args.mount in
+    let mount = c.args.mount.now in
     let es = c.self.inside.by_number.entries in
     ap (without (counted mount.number.count))
     (kept-last mount.number c.unused.result es _ (subst (AreBelow mount.number) (sym c.self.view_is) c.requires)
-    (not-err c.insert.result c.if-is_err-2.ensures.value c.insert.ensures.updates).0
+    (not-err c.keep.result c.if-is_err-2.ensures.value c.keep.ensures.ok)
     ∙ (λ i. c.self.view_is i ++ record {
       mount = mount_of (c.unused.ensures.mount i);
       uses = c.unused.ensures.uses i;

@@ -3,7 +3,7 @@ use Rattle.vt_spec.proofs.Common.{child_at, root_of}
 use Rattle.vt_location.specs.Locations.{location_of}
 use Rattle.vt_mount.specs.MountsValue.{mounts_in}
 use Rattle.vt_mount.proofs.PointLemmas.{end_of}
-use Rattle.vt_mount.proofs.mounts.Mounts.topmost.Given as goal
+use Rattle.vt_mount.proofs.mounts.Mounts.topmost_over.Given as goal
 
 -- what is on top of a location is on top of those above it
 abbrev pub invariant-loop : goal.invariant-loop
